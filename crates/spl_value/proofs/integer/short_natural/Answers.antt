@@ -1,0 +1,9 @@
+use Rattle.std.proofs.Common.{arith}
+use Rattle.spl_value.proofs.Powers.{places}
+use Rattle.spl_value.proofs.integer.short_natural.Goals as goal
+
+pub overflow_mul-n : goal.overflow_mul-n
+overflow_mul-n c = omega (arith, places c.loop-b.b-index (omega arith))
+
+pub overflow_add-n : goal.overflow_add-n
+overflow_add-n c = omega (arith, places c.loop-b.b-index (omega arith), c.from.ensures)

@@ -1,0 +1,20 @@
+//! What flows in a stream: values, items and packets, and the types of values.
+#![tactic(auto)]
+
+mod boxed;
+mod integer;
+mod item;
+mod items;
+mod memory;
+mod packet;
+mod types;
+mod value;
+
+pub use boxed::Boxed;
+pub use integer::{add_integer, is_of_kind, read_integer};
+pub use item::{Evaluated, Fault, FaultKind, Item, copy_item};
+pub use items::Items;
+pub use memory::NoMemory;
+pub use packet::Packet;
+pub use types::{Attribute, Bytes, Ids, Inputs, IntKind, Name, Named, Places, Schema, SplType};
+pub use value::{Pairs, Value, Values, copy_value, copy_values};
