@@ -24,10 +24,11 @@ pub fn is_of_kind(kind: IntKind, n: i128) -> bool
     }
 }
 
-// The number that at most 18 digits spell.
-fn short_natural(digits: &[u8]) -> Option<u64>
+/// The number that at most 18 decimal digits spell; `None` where there is no digit, or another byte.
+pub fn read_natural(digits: &[u8]) -> Option<u64>
     requires { length digits.now ≤ 18 }
-    ensures { result ≡ natural digits.now }
+    ensures value { result ≡ natural digits.now }
+    ensures small { IfSome result (λ n. n < 10 ^ 18) }
 {
     if digits.is_empty() {
         return None;
@@ -73,7 +74,7 @@ fn read_positive(kind: IntKind, digits: &[u8]) -> Option<i128>
     ensures { result ≡ in_kind kind (option_map pos (natural digits.now)) }
 {
     if digits.len() <= 18 {
-        let n = short_natural(digits)?;
+        let n = read_natural(digits)?;
         if_of_kind(kind, i128::from(n))
     } else {
         let n = long_natural(digits)?;
@@ -86,7 +87,7 @@ fn read_negative(kind: IntKind, digits: &[u8]) -> Option<i128>
     ensures { result ≡ in_kind kind (option_map (λ n. neg_ℤ (pos n)) (natural digits.now)) }
 {
     if digits.len() <= 18 {
-        let n = short_natural(digits)?;
+        let n = read_natural(digits)?;
         if_of_kind(kind, -i128::from(n))
     } else {
         let n = long_natural(digits)?;

@@ -11,7 +11,7 @@ mod types;
 mod value;
 
 pub use boxed::Boxed;
-pub use integer::{add_integer, is_of_kind, read_integer};
+pub use integer::{add_integer, is_of_kind, read_integer, read_natural};
 pub use item::{Evaluated, Fault, FaultKind, Item, copy_item};
 pub use items::Items;
 pub use memory::NoMemory;

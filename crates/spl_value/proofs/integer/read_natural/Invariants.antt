@@ -1,7 +1,7 @@
 use Rattle.std.proofs.Common.{◌≡◌, ◌<◌, ◌^◌, take, fold, true}
 use Rattle.std.specs.List.{list_all}
 use Rattle.spl_value.specs.Decimal.{is_digit, digit_step}
-use Rattle.spl_value.proofs.integer.short_natural.Given as goal
+use Rattle.spl_value.proofs.integer.read_natural.Given as goal
 
 abbrev pub invariant-loop-b : goal.invariant-loop-b
 invariant-loop-b l = record {
