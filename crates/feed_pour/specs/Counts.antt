@@ -1,0 +1,54 @@
+-- How the counts of faults of a feed, a pour and a shelf change.
+use Rattle.std.specs.Prelude.{◌≡◌, ◌≢◌, ◌+◌, ◌-◌, ◌^◌, ◌≤◌, ℕ, List, Bool, true, false, min}
+
+-- the count rose, or stands at its type's end
+abbrev pub Rose : ℕ → ℕ → Type 0
+Rose before now = min (before + 1) (2 ^ 64 - 1) ≤ now
+
+-- the count over a call that failed, or not
+abbrev pub Counted : Bool → ℕ → ℕ → Type 0
+Counted true before now = (before ≤ now) × Rose before now
+Counted false before now = now ≡ before
+
+-- what a shelf has counted for a name
+pub record Counts : Type 0 where
+  pub opening : ℕ
+  pub creating : ℕ
+  pub reading : ℕ
+  pub writing : ℕ
+
+-- one count per name
+abbrev pub PerName : Type 0
+PerName = List ℕ → Counts
+
+-- only what is told of this name changes
+abbrev pub OthersStay : {A : Type 0} → (List ℕ → A) → (List ℕ → A) → List ℕ → Type 0
+OthersStay old new name = (n : List ℕ) → n ≢ name → new n ≡ old n
+
+pub record OpeningCounted (failed : Bool) (old new : PerName) (name : List ℕ) : Type 0 where
+  pub others : OthersStay old new name
+  pub count : Counted failed (old name).opening (new name).opening
+  pub creating : (new name).creating ≡ (old name).creating
+  pub reading : (new name).reading ≡ (old name).reading
+  pub writing : (new name).writing ≡ (old name).writing
+
+pub record CreatingCounted (failed : Bool) (old new : PerName) (name : List ℕ) : Type 0 where
+  pub others : OthersStay old new name
+  pub count : Counted failed (old name).creating (new name).creating
+  pub opening : (new name).opening ≡ (old name).opening
+  pub reading : (new name).reading ≡ (old name).reading
+  pub writing : (new name).writing ≡ (old name).writing
+
+pub record ReadingCounted (failed : Bool) (old new : PerName) (name : List ℕ) : Type 0 where
+  pub others : OthersStay old new name
+  pub count : Counted failed (old name).reading (new name).reading
+  pub opening : (new name).opening ≡ (old name).opening
+  pub creating : (new name).creating ≡ (old name).creating
+  pub writing : (new name).writing ≡ (old name).writing
+
+pub record WritingCounted (failed : Bool) (old new : PerName) (name : List ℕ) : Type 0 where
+  pub others : OthersStay old new name
+  pub count : Counted failed (old name).writing (new name).writing
+  pub opening : (new name).opening ≡ (old name).opening
+  pub creating : (new name).creating ≡ (old name).creating
+  pub reading : (new name).reading ≡ (old name).reading

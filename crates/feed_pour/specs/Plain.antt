@@ -1,0 +1,20 @@
+-- The files of a shelf in memory.
+use Rattle.std.specs.Prelude.{ℕ, List, [], Option, Some, None}
+use Rattle.feed_pour.specs.Counts.{Counts}
+use Rattle.spl_value.specs.Script.{Script, End}
+use Rattle.feed_pour.specs.Contents.{Told}
+use Rattle.feed_pour.specs.Table.{under}
+use Rattle.feed_pour.specs.declared.table.Entry.{Entry}
+
+abbrev pub no_counts : Counts
+no_counts = record { opening = 0; creating = 0; reading = 0; writing = 0 }
+
+abbrev pub bytes_or_none : Option (List ℕ) → List ℕ
+bytes_or_none None = []
+bytes_or_none (Some bytes) = bytes
+
+abbrev pub plain_script : List ℕ → Script
+plain_script bytes = record { bytes = bytes; ending = End }
+
+abbrev pub plain_told : List (Entry (List ℕ)) → Told
+plain_told files = record { holds = under files; script = λ n. plain_script (bytes_or_none (under files n)) }

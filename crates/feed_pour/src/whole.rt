@@ -1,0 +1,53 @@
+// All that a feed gives, and all of some bytes into a pour.
+ghost use Rattle.feed_pour.specs.Counts.{Counted};
+ghost use Rattle.feed_pour.specs.Contents.{AllRead, AllPoured, failed_read_all, failed_write};
+
+use crate::{Feed, Pour, PourAnswer};
+use spl_value::Items;
+use std::alloc::Global;
+
+const PIECE: usize = 8192;
+
+#[derive(Debug, Drop)]
+pub enum ReadAll {
+    Whole(Items<u8>),
+    TooLong,
+    Failed,
+    Memory,
+}
+
+/// Reads in pieces of 8,192 bytes up to the end, a fault, or more than `limit` bytes.
+pub fn read_all<F: Feed>(alloc: Global, feed: &mut F, limit: u32) -> ReadAll
+    ensures read { AllRead (F.script feed.old) result limit }
+    ensures cause { Counted (failed_read_all result) (F.faults feed.old) (F.faults feed.new) }
+{
+    let mut bytes = Vec::new(alloc);
+    let mut piece = [0u8; PIECE];
+    'pieces: while bytes.len() <= limit as usize {
+        match feed.read(&mut piece) {
+            Ok(0) => return ReadAll::Whole(Items::from_vec(bytes)),
+            Ok(n) => {
+                if bytes.extend_from_slice(&piece[..n]).is_err() {
+                    return ReadAll::Memory;
+                }
+            }
+            Err(_) => return ReadAll::Failed,
+        }
+    }
+    ReadAll::TooLong
+}
+
+/// Writes all of these bytes.
+pub fn write_all<P: Pour>(pour: &mut P, bytes: &[u8]) -> Result<(), PourAnswer>
+    ensures poured { AllPoured (P.poured pour.old) (P.poured pour.new) result bytes.now }
+    ensures cause { Counted (failed_write result) (P.faults pour.old) (P.faults pour.new) }
+{
+    let mut at = 0;
+    'fronts: while at < bytes.len() {
+        match pour.write(&bytes[at..]) {
+            Ok(n) => at += n,
+            Err(e) => return Err(e),
+        }
+    }
+    Ok(())
+}
