@@ -1,0 +1,190 @@
+-- What an operator's streams are closed by.
+use Rattle.std.proofs.Common.{ℕ, zero, suc, ◌<◌, ◌≤◌, ◌==◌, Bool, true, false, cond, List, [], ◌∷◌, ◌++◌, ◌≡◌, refl, sym, ap, ◌∙◌, append-nil, map, length, Option, Some, None, is_some, ◌⊎◌, inl, inr, arith}
+use Rattle.std.specs.List.{list_any}
+use Rattle.std.proofs.lemmas.Bool.{cond-true, cond-false, cases_eq, or_parts, ne_eqb, eq-eqb}
+use Rattle.spl_value.specs.declared.item.Item.{Item}
+use Rattle.spl_value.specs.declared.item.Item.TheVariants as I
+use Rattle.stream_model.specs.declared.outs.Output.{Output}
+use Rattle.stream_model.specs.Condition.{Condition}
+use Rattle.stream_model.specs.Stream.{Event, came, is_fault, closes, any_closes, is_closed, is_empty}
+use Rattle.stream_model.specs.React.{Operator, Kind, FileSource, Filter, FileSink, Answer, Gives, Faults, body, filter_body, sink_body, passes, react, ended, ended_by, answered, on_each, output, is_waiting, is_last, fault_of}
+use Rattle.stream_model.specs.Stages.{Stage, gives_all, after, on_port}
+use Rattle.stream_model.specs.StageLaws.{on_port-append, gives_all-over, after-over}
+use Rattle.stream_model.specs.Laws.{has_ended, BodyLaw, OutCloses, ClosedGivesClosed}
+use Rattle.stream_model.proofs.Histories.{behind_some}
+
+-- the items of an answer
+abbrev pub given : Answer → List Output
+given (Gives outs) = outs
+given (Faults kind) = []
+
+abbrev pub some_closes : List Output → Bool
+some_closes outs = list_any (λ o. closes o.item) outs
+
+filter_open : (condition : Option Condition) (x : Item) → some_closes (given (filter_body condition x)) ≡ false
+filter_open condition (I.Tuple vs) = go (passes condition vs)
+  where
+    go : (b : Bool) → some_closes (cond b (output 0 (I.Tuple vs) ∷ []) []) ≡ false
+    go true = refl
+    go false = refl
+filter_open condition I.Window = refl
+filter_open condition I.Final = refl
+filter_open condition (I.Bad f) = refl
+
+sink_open : (x : Item) → some_closes (given (sink_body x)) ≡ false
+sink_open (I.Tuple vs) = refl
+sink_open I.Window = refl
+sink_open I.Final = refl
+sink_open (I.Bad f) = refl
+
+given_open : (kind : Kind) (earlier : List Event) (e : Event) → some_closes (given (body kind earlier e)) ≡ false
+given_open (FileSource source) earlier e = refl
+given_open (Filter condition) earlier e = filter_open condition e.item
+given_open (FileSink file) earlier e = sink_open e.item
+
+pub body_law : BodyLaw
+body_law op earlier e outs h = ap (λ a. some_closes (given a)) (sym h) ∙ given_open op.kind earlier e
+
+-- no item on a port closes where no output does
+on_port_open : (p : ℕ) (outs : List Output) → some_closes outs ≡ false → any_closes (on_port p outs) ≡ false
+on_port_open p [] h = refl
+on_port_open p (o ∷ outs) h =
+    let parts = or_parts (closes o.item) (some_closes outs) h in go (o.port == p) parts.0 (on_port_open p outs parts.1)
+  where
+    go : (b : Bool) → closes o.item ≡ false → any_closes (on_port p outs) ≡ false → any_closes (cond b (o.item ∷ on_port p outs) (on_port p outs)) ≡ false
+    go true closed rest = cond-false (closes o.item) true _ closed ∙ rest
+    go false closed rest = rest
+
+-- on a port past those n
+on_port-each-past : (p n : ℕ) (x : Item) → n ≤ p → on_port p (on_each n x) ≡ []
+on_port-each-past p zero x le = refl
+on_port-each-past p (suc n) x le =
+    on_port-append p (on_each n x) (output n x ∷ [])
+    ∙ ap (λ xs. xs ++ on_port p (output n x ∷ [])) (on_port-each-past p n x (omega arith))
+    ∙ cond-false (n == p) (x ∷ []) [] (ne_eqb n p (λ (e : n ≡ p). omega arith))
+
+-- an item on each of n ports stands once on each
+pub on_port-each : (p n : ℕ) (x : Item) → p < n → on_port p (on_each n x) ≡ x ∷ []
+on_port-each p zero x lt = absurd (omega arith)
+on_port-each p (suc n) x lt = on_port-append p (on_each n x) (output n x ∷ []) ∙ go (cases_eq n p) (on_port-each p n x)
+  where
+    go : (n ≡ p) ⊎ (n ≡ p → ⊥) → (p < n → on_port p (on_each n x) ≡ x ∷ []) → on_port p (on_each n x) ++ on_port p (output n x ∷ []) ≡ x ∷ []
+    go (inl e) below =
+        ap (λ xs. xs ++ on_port p (output n x ∷ [])) (on_port-each-past p n x (omega arith)) ∙ cond-true (n == p) (x ∷ []) [] (eq-eqb n p e)
+    go (inr other) below =
+        ap (λ xs. on_port p (on_each n x) ++ xs) (cond-false (n == p) (x ∷ []) [] (ne_eqb n p other))
+        ∙ append-nil (on_port p (on_each n x)) ∙ below (omega arith)
+
+is_closed-append : (xs ys : List Item) → any_closes xs ≡ false → is_closed (xs ++ ys) ≡ is_closed ys
+is_closed-append [] ys h = refl
+is_closed-append (I.Tuple vs ∷ xs) ys h = is_closed-append xs ys h
+is_closed-append (I.Window ∷ xs) ys h = is_closed-append xs ys h
+is_closed-append (I.Final ∷ xs) ys h = cc
+is_closed-append (I.Bad f ∷ xs) ys h = cc
+
+closes-fault : (x : Item) → is_fault x ≡ true → closes x ≡ true
+closes-fault (I.Tuple vs) h = cc
+closes-fault I.Window h = cc
+closes-fault I.Final h = refl
+closes-fault (I.Bad f) h = refl
+
+-- on each port stands that item alone
+is_closed-each : (p n : ℕ) (x : Item) → p < n → closes x ≡ true → is_closed (on_port p (on_each n x)) ≡ true
+is_closed-each p n x lt h = ap is_closed (on_port-each p n x lt) ∙ cond-true (closes x) true false h
+
+-- The item that arrived, whether it is a fault, whether its port waits, whether it is the last, and the body's answer.
+abbrev caused : Operator → Item → Bool → Bool → Bool → Answer → List Output
+caused op x fault waits last a = cond fault (on_each (length op.outs) x) (cond waits [] (answered op last a))
+
+abbrev ends : Operator → Item → Bool → Bool → Bool → Answer → Bool
+ends op x fault waits last a = is_some (cond fault (Some x) (cond waits None (ended_by op last a)))
+
+caused_open : (op : Operator) (p : ℕ) (x : Item) (fault waits last : Bool) (a : Answer) → some_closes (given a) ≡ false
+    → ends op x fault waits last a ≡ false → any_closes (on_port p (caused op x fault waits last a)) ≡ false
+caused_open op p x true waits last a opens q = cc
+caused_open op p x false true last a opens q = refl
+caused_open op p x false false true (Gives outs) opens q = cc
+caused_open op p x false false false (Gives outs) opens q = on_port_open p outs opens
+caused_open op p x false false last (Faults kind) opens q = cc
+
+caused_closed : (op : Operator) (p : ℕ) (x : Item) (fault waits last : Bool) (a : Answer) → some_closes (given a) ≡ false → p < length op.outs
+    → (fault ≡ true → closes x ≡ true) → ends op x fault waits last a ≡ true → is_closed (on_port p (caused op x fault waits last a)) ≡ true
+caused_closed op p x true waits last a opens lt closing q = is_closed-each p (length op.outs) x lt (closing refl)
+caused_closed op p x false true last a opens lt closing q = cc
+caused_closed op p x false false true (Gives outs) opens lt closing q =
+    ap is_closed (on_port-append p outs (on_each (length op.outs) I.Final))
+    ∙ is_closed-append (on_port p outs) (on_port p (on_each (length op.outs) I.Final)) (on_port_open p outs opens)
+    ∙ is_closed-each p (length op.outs) I.Final lt refl
+caused_closed op p x false false false (Gives outs) opens lt closing q = cc
+caused_closed op p x false false last (Faults kind) opens lt closing q = is_closed-each p (length op.outs) (fault_of op kind) lt refl
+
+-- an event that doesn't end the operator closes no stream
+pub react_open : (op : Operator) (p : ℕ) (earlier : List Event) (e : Event) → is_some (ended op earlier e) ≡ false
+    → any_closes (on_port p (react op earlier e)) ≡ false
+react_open op p earlier e =
+    caused_open op p e.item (is_fault e.item) (is_waiting op earlier e) (is_last op earlier e) (body op.kind earlier e) (given_open op.kind earlier e)
+
+-- one that ends it closes each
+pub react_closed : (op : Operator) (p : ℕ) (earlier : List Event) (e : Event) → p < length op.outs → is_some (ended op earlier e) ≡ true
+    → is_closed (on_port p (react op earlier e)) ≡ true
+react_closed op p earlier e lt =
+    caused_closed op p e.item (is_fault e.item) (is_waiting op earlier e) (is_last op earlier e) (body op.kind earlier e) (given_open op.kind earlier e) lt (closes-fault e.item)
+
+closed_step : (op : Operator) (p : ℕ) (seen : List Event) (e : Event) (events : List Event) (b : Bool) → p < length op.outs → is_some (ended op seen e) ≡ b
+    → is_closed (on_port p (gives_all (behind_some op (e ∷ seen) false) events)) ≡ (after (behind_some op (e ∷ seen) false) events).over
+    → is_closed (on_port p (react op seen e ++ gives_all (behind_some op (e ∷ seen) b) events)) ≡ (after (behind_some op (e ∷ seen) b) events).over
+closed_step op p seen e events true lt q rest =
+    ap (λ outs. is_closed (on_port p (react op seen e ++ outs))) (gives_all-over (behind_some op (e ∷ seen) true) events refl)
+    ∙ ap (λ outs. is_closed (on_port p outs)) (append-nil (react op seen e))
+    ∙ react_closed op p seen e lt q
+    ∙ ap (λ (s : Stage). s.over) (sym (after-over (behind_some op (e ∷ seen) true) events refl))
+closed_step op p seen e events false lt q rest =
+    ap is_closed (on_port-append p (react op seen e) (gives_all (behind_some op (e ∷ seen) false) events))
+    ∙ is_closed-append (on_port p (react op seen e)) (on_port p (gives_all (behind_some op (e ∷ seen) false) events)) (react_open op p seen e q)
+    ∙ rest
+
+closed_from : (op : Operator) (p : ℕ) (seen events : List Event) → p < length op.outs
+    → is_closed (on_port p (gives_all (behind_some op seen false) events)) ≡ (after (behind_some op seen false) events).over
+closed_from op p seen [] lt = refl
+closed_from op p seen (e ∷ events) lt = closed_step op p seen e events (is_some (ended op seen e)) lt refl (closed_from op p (e ∷ seen) events lt)
+
+pub out_closes : OutCloses
+out_closes op p events lt = closed_from op p [] events lt
+
+ended_by-last : (op : Operator) (a : Answer) → is_some (ended_by op true a) ≡ true
+ended_by-last op (Gives outs) = refl
+ended_by-last op (Faults kind) = refl
+
+-- the one connection of an operator
+abbrev one_in : ℕ → Kind → ℕ → List ℕ → Operator
+one_in n kind s outs = record { number = n; kind = kind; ins = (s ∷ []) ∷ []; outs = outs }
+
+-- an item that closes ends an operator with one connection
+ended-closing : (n s : ℕ) (kind : Kind) (outs : List ℕ) (seen : List Event) (x : Item) → closes x ≡ true → is_some (ended (one_in n kind s outs) seen (came 0 x)) ≡ true
+ended-closing n s kind outs seen (I.Tuple vs) h = cc
+ended-closing n s kind outs seen I.Window h = cc
+ended-closing n s kind outs seen I.Final h = ended_by-last (one_in n kind s outs) (body kind seen (came 0 I.Final))
+ended-closing n s kind outs seen (I.Bad f) h = refl
+
+over-closed : (n s : ℕ) (kind : Kind) (outs : List ℕ) (seen : List Event) (items : List Item) → is_closed items ≡ true
+    → (after (behind_some (one_in n kind s outs) seen false) (map (came 0) items)).over ≡ true
+over-closed n s kind outs seen [] h = cc
+over-closed n s kind outs seen (x ∷ items) h =
+    go (is_some (ended (one_in n kind s outs) seen (came 0 x))) (closes x) (ended-closing n s kind outs seen x) h
+    (over-closed n s kind outs (came 0 x ∷ seen) items)
+  where
+    go : (b c : Bool) → (c ≡ true → b ≡ true) → cond c (is_empty items) (is_closed items) ≡ true
+        → (is_closed items ≡ true → (after (behind_some (one_in n kind s outs) (came 0 x ∷ seen) false) (map (came 0) items)).over ≡ true)
+        → (after (behind_some (one_in n kind s outs) (came 0 x ∷ seen) b) (map (came 0) items)).over ≡ true
+    go true c f q rest = ap (λ (s : Stage). s.over) (after-over (behind_some (one_in n kind s outs) (came 0 x ∷ seen) true) (map (came 0) items) refl)
+    go false true f q rest = let clash : false ≡ true = f refl in cc
+    go false false f q rest = rest q
+
+pub closed_gives_closed : ClosedGivesClosed
+closed_gives_closed op s p items i lt h =
+    out_closes op p (map (came 0) items) lt
+    ∙ ap (λ (one : Operator). has_ended one (map (came 0) items)) (parts i)
+    ∙ over-closed op.number s op.kind op.outs [] items h
+  where
+    parts : op.ins ≡ (s ∷ []) ∷ [] → op ≡ one_in op.number op.kind s op.outs
+    parts e = rw (← e)

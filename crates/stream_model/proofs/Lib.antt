@@ -1,0 +1,4 @@
+pub mod Histories
+pub mod Closings
+pub mod Growing
+pub mod Graphs

@@ -1,0 +1,65 @@
+-- What the definitions of streams, operators and graphs come to.
+use Rattle.std.specs.Prelude.{ℕ, ◌<◌, ◌==◌, Bool, true, false, List, [], ◌∷◌, ◌++◌, ◌≡◌, map, length, Some, position}
+use Rattle.std.specs.List.{list_any}
+use Rattle.spl_value.specs.declared.item.Item.{Item}
+use Rattle.stream_model.specs.declared.outs.Output.{Output}
+use Rattle.stream_model.specs.Stream.{Event, came, closes, is_closed, IsPrefix}
+use Rattle.stream_model.specs.React.{Operator, react, body, Gives}
+use Rattle.stream_model.specs.Stages.{start, after, out, on_port, chain}
+use Rattle.stream_model.specs.Meaning.{Graph, Lists, Entries, meaning, makes, connections, in_topo}
+
+-- the history after a list of events, behind an older one
+abbrev pub behind : List Event → List Event → List Event
+behind seen [] = seen
+behind seen (e ∷ es) = behind (e ∷ seen) es
+
+abbrev pub has_ended : Operator → List Event → Bool
+has_ended op events = (after (start op) events).over
+
+-- while the operator hasn't ended, one event more adds what it causes behind all before it, and afterwards nothing
+abbrev pub HistoryLaw : Type 0
+HistoryLaw = (op : Operator) (p : ℕ) (events : List Event) (e : Event) →
+    (has_ended op events ≡ false → out op p (events ++ e ∷ []) ≡ out op p events ++ on_port p (react op (behind [] events) e))
+    × (has_ended op events ≡ true → out op p (events ++ e ∷ []) ≡ out op p events)
+
+-- more events give more
+abbrev pub OutGrows : Type 0
+OutGrows = (op : Operator) (p : ℕ) (some all : List Event) → IsPrefix some all → IsPrefix (out op p some) (out op p all)
+
+abbrev pub ChainGrows : Type 0
+ChainGrows = (ops : List Operator) (some all : List Item) → IsPrefix some all → IsPrefix (chain ops some) (chain ops all)
+
+-- what is given on an output port is closed exactly where the operator has ended
+abbrev pub OutCloses : Type 0
+OutCloses = (op : Operator) (p : ℕ) (events : List Event) → p < length op.outs → is_closed (out op p events) ≡ has_ended op events
+
+-- a closed stream ends an operator that reads it by its one connection, so what that gives is closed
+abbrev pub ClosedGivesClosed : Type 0
+ClosedGivesClosed = (op : Operator) (s p : ℕ) (items : List Item) → op.ins ≡ (s ∷ []) ∷ [] → p < length op.outs → is_closed items ≡ true
+    → is_closed (out op p (map (came 0) items)) ≡ true
+
+-- a body gives neither a final marker nor a fault
+abbrev pub BodyLaw : Type 0
+BodyLaw = (op : Operator) (earlier : List Event) (e : Event) (outs : List Output) → body op.kind earlier e ≡ Gives outs
+    → list_any (λ o. closes o.item) outs ≡ false
+
+abbrev pub makes_stream : Operator → ℕ → Bool
+makes_stream op s = list_any (λ o. o == s) op.outs
+
+abbrev pub reads_stream : Operator → ℕ → Bool
+reads_stream op s = list_any (λ i. i == s) (connections op)
+
+-- one of the operators makes the stream
+abbrev pub is_made : List Operator → ℕ → Bool
+is_made ops s = list_any (λ op. makes_stream op s) ops
+
+-- no stream is made by two operators, and none is read by its maker or by an operator before it
+pub record IsOrdered (ops : List Operator) : Type 0 where
+  pub once : (before after : List Operator) (op : Operator) (s : ℕ) → ops ≡ before ++ op ∷ after → makes_stream op s ≡ true → is_made after s ≡ false
+  pub forward : (before after : List Operator) (op : Operator) (s : ℕ) → ops ≡ before ++ op ∷ after → reads_stream op s ≡ true → is_made (op ∷ after) s ≡ false
+
+-- in an ordered graph the stream at each port of an operator is what the operator makes of the streams of the graph
+abbrev pub GraphLaw : Type 0
+GraphLaw = (g : Graph) (rows : Lists) (entries : Entries) (before after : List Operator) (op : Operator) (p s : ℕ) →
+    IsOrdered (in_topo g) → in_topo g ≡ before ++ op ∷ after → position (λ o. o == s) op.outs ≡ Some p
+    → (meaning g rows entries).streams s ≡ makes op p (meaning g rows entries).streams rows entries

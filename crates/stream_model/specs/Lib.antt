@@ -1,0 +1,10 @@
+pub mod Stream
+pub mod Condition
+pub mod React
+pub mod Stages
+pub mod Meaning
+pub mod Fields
+pub mod Rows
+pub mod Laws
+pub mod StageLaws
+pub mod PathLaws

@@ -1,0 +1,97 @@
+-- What a graph of operators means on one thread: the events of every operator and the list of every stream.
+use Prim.Native.Nat.{zero, suc}
+use Rattle.std.specs.Prelude.{ℕ, ◌==◌, List, [], ◌∷◌, map, reverse, position, slice_get, if◌then◌else◌, Option, Some, None}
+use Rattle.std.specs.List.{concat, filter_map}
+use Rattle.std.specs.Option.{option_map_or}
+use Rattle.spl_value.specs.declared.item.Item.{Item}
+use Rattle.stream_model.specs.Stream.{Event, came}
+use Rattle.stream_model.specs.React.{Operator, Kind, FileSource, Filter, FileSink}
+use Rattle.stream_model.specs.Stages.{out}
+use Rattle.stream_model.specs.Rows.{text_of}
+
+-- the operators in order of declaration, and their numbers in topological order
+pub record Graph : Type 0 where
+  pub ops : List Operator
+  pub topo : List ℕ
+
+-- a list for each input, by its number
+abbrev pub Lists : Type 0
+Lists = ℕ → List Item
+
+-- the lists with another one for an input
+abbrev pub with_list : Lists → ℕ → List Item → Lists
+with_list lists i items j = if j == i then items else lists j
+
+-- an event of the first item of an input's list, and what comes behind it
+abbrev pub taking : ℕ → List Item → (List Item → List Event) → List Event
+taking i [] behind = []
+taking i (x ∷ items) behind = came i x ∷ behind items
+
+-- the events that the entries of a record take, each the next item of the list that it names, as far as each named list has one
+abbrev pub arrive : Lists → List ℕ → List Event
+arrive lists [] = []
+arrive lists (i ∷ entries) = taking i (lists i) (λ items. arrive (with_list lists i items) entries)
+
+-- the stream of each input
+abbrev pub connections : Operator → List ℕ
+connections op = concat op.ins
+
+-- the list of the stream at each input; none past the last one
+abbrev pub lists_at : Lists → List ℕ → Lists
+lists_at streams [] i = []
+lists_at streams (s ∷ ss) zero = streams s
+lists_at streams (s ∷ ss) (suc i) = lists_at streams ss i
+
+-- the events of these connections: the one stream, or the arrival of several under a record
+abbrev pub events_at : Lists → List ℕ → List ℕ → List Event
+events_at streams [] entries = []
+events_at streams (s ∷ []) entries = map (came 0) (streams s)
+events_at streams (s ∷ t ∷ ss) entries = arrive (lists_at streams (s ∷ t ∷ ss)) entries
+
+abbrev pub events_of : Operator → Lists → List ℕ → List Event
+events_of op streams entries = events_at streams (connections op) entries
+
+-- what an operator makes on a port: a source its rows, another what it gives for its events
+abbrev pub made_by : Kind → Operator → ℕ → List Event → List Item → List Item
+made_by (FileSource source) op p events rows = rows
+made_by (Filter condition) op p events rows = out op p events
+made_by (FileSink file) op p events rows = out op p events
+
+-- what the operator makes of the streams, its rows and its record
+abbrev pub makes : Operator → ℕ → Lists → Lists → (ℕ → List ℕ) → List Item
+makes op p streams rows entries = made_by op.kind op p (events_of op streams (entries op.number)) (rows op.number)
+
+abbrev pub at_port : Option ℕ → List Item → (ℕ → List Item) → List Item
+at_port None none some = none
+at_port (Some p) none some = some p
+
+-- the list of each stream, made by operators whose last is first
+abbrev pub streams_of : List Operator → Lists → (ℕ → List ℕ) → Lists
+streams_of [] rows entries s = []
+streams_of (op ∷ earlier) rows entries s =
+    at_port (position (λ o. o == s) op.outs) (streams_of earlier rows entries s) (λ p. makes op p (streams_of earlier rows entries) rows entries)
+
+abbrev pub Entries : Type 0
+Entries = ℕ → List ℕ
+
+pub record Meaning : Type 0 where
+  pub streams : ℕ → List Item
+  pub events : ℕ → List Event
+
+abbrev pub in_topo : Graph → List Operator
+in_topo g = filter_map (slice_get g.ops) g.topo
+
+abbrev pub events_of_number : Graph → Lists → Entries → ℕ → List Event
+events_of_number g streams entries n = option_map_or (λ op. events_of op streams (entries n)) (slice_get g.ops n) []
+
+-- The meaning of a graph for the rows of each source and the arrival record of each operator with several connections,
+-- both by the operator's number.
+abbrev pub meaning : Graph → Lists → Entries → Meaning
+meaning g rows entries = record {
+  streams = streams_of (reverse (in_topo g)) rows entries;
+  events = events_of_number g (streams_of (reverse (in_topo g)) rows entries) entries;
+}
+
+-- the text that a sink writes for its events, up to its end
+abbrev pub text : Operator → List Event → List ℕ
+text sink events = text_of (out sink 0 events)

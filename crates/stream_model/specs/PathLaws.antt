@@ -1,0 +1,89 @@
+-- What a filter and a sink with one connection give for a stream, item by item.
+use Rattle.std.specs.Prelude.{ℕ, Bool, true, false, cond, List, [], ◌∷◌, ◌++◌, ◌≡◌, map, Option, if◌then◌else◌}
+use Rattle.std.proofs.Common.{refl, ap, ◌∙◌}
+use Rattle.std.proofs.lemmas.Grind.{flat_map-append}
+use Rattle.spl_value.specs.declared.item.Item.{Item}
+use Rattle.spl_value.specs.declared.item.Item.TheVariants as I
+use Rattle.stream_model.specs.declared.outs.Output.{Output}
+use Rattle.stream_model.specs.Condition.{Condition}
+use Rattle.stream_model.specs.Stream.{Event, came}
+use Rattle.stream_model.specs.React.{Operator, Kind, Filter, FileSink, passes}
+use Rattle.stream_model.specs.Stages.{Stage, gives_all, on_port, out}
+use Rattle.stream_model.specs.Meaning.{text}
+use Rattle.stream_model.specs.Rows.{item_text, text_of}
+use Rattle.stream_model.specs.StageLaws.{gives_all-over}
+
+-- what passes a condition: its tuples and the window markers, up to a final marker or a fault, which is the last
+abbrev pub passed : Option Condition → List Item → List Item
+passed condition [] = []
+passed condition (I.Tuple vs ∷ items) = if passes condition vs then I.Tuple vs ∷ passed condition items else passed condition items
+passed condition (I.Window ∷ items) = I.Window ∷ passed condition items
+passed condition (I.Final ∷ items) = I.Final ∷ []
+passed condition (I.Bad f ∷ items) = I.Bad f ∷ []
+
+-- what a sink writes of a stream: its tuples up to a final marker or a fault
+abbrev pub written : List Item → List Item
+written [] = []
+written (I.Tuple vs ∷ items) = I.Tuple vs ∷ written items
+written (I.Window ∷ items) = written items
+written (I.Final ∷ items) = []
+written (I.Bad f ∷ items) = []
+
+-- an operator of this kind with one connection, and where it stands behind these events
+abbrev operator : ℕ → Kind → ℕ → List ℕ → Operator
+operator n kind s outs = record { number = n; kind = kind; ins = (s ∷ []) ∷ []; outs = outs }
+
+abbrev behind : Operator → List Event → Bool → Stage
+behind op seen over = record { op = op; seen = seen; over = over }
+
+-- that an operator is one of those
+operator-parts : (op : Operator) (kind : Kind) (s : ℕ) (outs : List ℕ) → op.kind ≡ kind → op.ins ≡ (s ∷ []) ∷ [] → op.outs ≡ outs → op ≡ operator op.number kind s outs
+operator-parts op kind s outs k i o = rw (← k, ← i, ← o)
+
+filter_from : (n s t : ℕ) (condition : Option Condition) (seen : List Event) (items : List Item)
+    → on_port 0 (gives_all (behind (operator n (Filter condition) s (t ∷ [])) seen false) (map (came 0) items)) ≡ passed condition items
+filter_from n s t condition seen [] = refl
+filter_from n s t condition seen (I.Tuple vs ∷ items) = go (passes condition vs) _ _ (filter_from n s t condition (came 0 (I.Tuple vs) ∷ seen) items)
+  where
+    go : (b : Bool) (outs : List Output) (rest : List Item) → on_port 0 outs ≡ rest
+        → on_port 0 (cond b (record { port = 0; item = I.Tuple vs } ∷ []) [] ++ outs) ≡ cond b (I.Tuple vs ∷ rest) rest
+    go true outs rest e = ap (λ xs. I.Tuple vs ∷ xs) e
+    go false outs rest e = e
+filter_from n s t condition seen (I.Window ∷ items) = ap (λ xs. I.Window ∷ xs) (filter_from n s t condition (came 0 I.Window ∷ seen) items)
+filter_from n s t condition seen (I.Final ∷ items) =
+    ap (λ outs. I.Final ∷ on_port 0 outs) (gives_all-over (behind (operator n (Filter condition) s (t ∷ [])) (came 0 I.Final ∷ seen) true) (map (came 0) items) refl)
+filter_from n s t condition seen (I.Bad f ∷ items) =
+    ap (λ outs. I.Bad f ∷ on_port 0 outs) (gives_all-over (behind (operator n (Filter condition) s (t ∷ [])) (came 0 (I.Bad f) ∷ seen) true) (map (came 0) items) refl)
+
+-- what a filter gives for a stream
+pub filter_out : (op : Operator) (condition : Option Condition) (s t : ℕ) (items : List Item)
+    → op.kind ≡ Filter condition → op.ins ≡ (s ∷ []) ∷ [] → op.outs ≡ t ∷ [] → out op 0 (map (came 0) items) ≡ passed condition items
+filter_out op condition s t items k i o =
+    ap (λ (one : Operator). out one 0 (map (came 0) items)) (operator-parts op (Filter condition) s (t ∷ []) k i o)
+    ∙ filter_from op.number s t condition [] items
+
+sink_from : (n s : ℕ) (file : List ℕ) (seen : List Event) (items : List Item)
+    → on_port 0 (gives_all (behind (operator n (FileSink file) s []) seen false) (map (came 0) items)) ≡ written items
+sink_from n s file seen [] = refl
+sink_from n s file seen (I.Tuple vs ∷ items) = ap (λ xs. I.Tuple vs ∷ xs) (sink_from n s file (came 0 (I.Tuple vs) ∷ seen) items)
+sink_from n s file seen (I.Window ∷ items) = sink_from n s file (came 0 I.Window ∷ seen) items
+sink_from n s file seen (I.Final ∷ items) =
+    ap (on_port 0) (gives_all-over (behind (operator n (FileSink file) s []) (came 0 I.Final ∷ seen) true) (map (came 0) items) refl)
+sink_from n s file seen (I.Bad f ∷ items) =
+    ap (on_port 0) (gives_all-over (behind (operator n (FileSink file) s []) (came 0 (I.Bad f) ∷ seen) true) (map (came 0) items) refl)
+
+-- what a sink gives to its writer for a stream
+pub sink_out : (op : Operator) (file : List ℕ) (s : ℕ) (items : List Item)
+    → op.kind ≡ FileSink file → op.ins ≡ (s ∷ []) ∷ [] → op.outs ≡ [] → out op 0 (map (came 0) items) ≡ written items
+sink_out op file s items k i o =
+    ap (λ (one : Operator). out one 0 (map (came 0) items)) (operator-parts op (FileSink file) s [] k i o)
+    ∙ sink_from op.number s file [] items
+
+-- the text that a sink writes for a stream
+pub sink_text : (op : Operator) (file : List ℕ) (s : ℕ) (items : List Item)
+    → op.kind ≡ FileSink file → op.ins ≡ (s ∷ []) ∷ [] → op.outs ≡ [] → text op (map (came 0) items) ≡ text_of (written items)
+sink_text op file s items k i o = ap text_of (sink_out op file s items k i o)
+
+-- the text of two lists of items is the first one's and then the second one's
+pub text_of-append : (first second : List Item) → text_of (first ++ second) ≡ text_of first ++ text_of second
+text_of-append first second = flat_map-append item_text first second

@@ -1,0 +1,45 @@
+-- What a stage gives for a list of events, by the list's parts.
+use Rattle.std.specs.Prelude.{ℕ, ◌==◌, Bool, true, false, cond, List, [], ◌∷◌, ◌++◌, ◌≡◌}
+use Rattle.std.proofs.Common.{refl, sym, ap, ◌∙◌, append_assoc}
+use Rattle.std.proofs.lemmas.Bool.{cond-true}
+use Rattle.spl_value.specs.declared.item.Item.{Item}
+use Rattle.stream_model.specs.declared.outs.Output.{Output}
+use Rattle.stream_model.specs.Stream.{Event}
+use Rattle.stream_model.specs.Stages.{Stage, gives, next, gives_all, after, on_port}
+
+-- events in two lists: what the first gives, and what the second gives behind it
+pub gives_all-append : (s : Stage) (first second : List Event) → gives_all s (first ++ second) ≡ gives_all s first ++ gives_all (after s first) second
+gives_all-append s [] second = refl
+gives_all-append s (e ∷ first) second =
+    ap (λ outs. gives s e ++ outs) (gives_all-append (next s e) first second)
+    ∙ sym (append_assoc (gives s e) (gives_all (next s e) first) (gives_all (after (next s e) first) second))
+
+-- the stage behind two lists of events
+pub after-append : (s : Stage) (first second : List Event) → after s (first ++ second) ≡ after (after s first) second
+after-append s [] second = refl
+after-append s (e ∷ first) second = after-append (next s e) first second
+
+onto : (b : Bool) (x : Item) (xs ys all : List Item) → all ≡ xs ++ ys → cond b (x ∷ all) all ≡ cond b (x ∷ xs) xs ++ ys
+onto true x xs ys all e = ap (λ zs. x ∷ zs) e
+onto false x xs ys all e = e
+
+-- the items on a port, of two lists of outputs
+pub on_port-append : (p : ℕ) (first second : List Output) → on_port p (first ++ second) ≡ on_port p first ++ on_port p second
+on_port-append p [] second = refl
+on_port-append p (o ∷ first) second = onto (o.port == p) o.item (on_port p first) (on_port p second) (on_port p (first ++ second)) (on_port-append p first second)
+
+next-over : (s : Stage) (e : Event) → s.over ≡ true → next s e ≡ s
+next-over s e q = cond-true s.over s _ q
+
+-- an operator that is over gives nothing more
+pub gives_all-over : (s : Stage) (events : List Event) → s.over ≡ true → gives_all s events ≡ []
+gives_all-over s [] q = refl
+gives_all-over s (e ∷ events) q =
+    ap (λ outs. outs ++ gives_all (next s e) events) (cond-true s.over [] _ q)
+    ∙ ap (λ (t : Stage). gives_all t events) (next-over s e q)
+    ∙ gives_all-over s events q
+
+-- and stands where it stood
+pub after-over : (s : Stage) (events : List Event) → s.over ≡ true → after s events ≡ s
+after-over s [] q = refl
+after-over s (e ∷ events) q = ap (λ (t : Stage). after t events) (next-over s e q) ∙ after-over s events q

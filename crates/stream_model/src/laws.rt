@@ -1,0 +1,58 @@
+//! What the definitions come to.
+ghost use Rattle.std.specs.Prelude.{◌≡◌, [], ◌∷◌, codes, pos, negsuc, true, false};
+ghost use Rattle.spl_value.specs.Script.{End, Failed};
+ghost use Rattle.spl_value.specs.declared.item.Item.TheVariants as I;
+ghost use Rattle.spl_value.specs.declared.item.FaultKind.TheVariants as K;
+ghost use Rattle.spl_value.specs.declared.types.IntKind.TheVariants as N;
+ghost use Rattle.spl_value.specs.declared.types.SplType.TheVariants as T;
+ghost use Rattle.spl_value.specs.declared.value.Value.TheVariants as V;
+ghost use Rattle.stream_model.specs.Laws.{HistoryLaw, OutGrows, ChainGrows, OutCloses, ClosedGivesClosed, BodyLaw, GraphLaw};
+ghost use Rattle.stream_model.specs.Rows.{rows};
+
+/// One event more gives its reaction behind the history of all before it.
+pub fn history_law()
+    ensures { HistoryLaw }
+{}
+
+/// A longer list of events gives a longer stream, and a closed stream a closed one.
+pub fn order_law()
+    ensures out { OutGrows }
+    ensures chain { ChainGrows }
+    ensures closes { OutCloses }
+    ensures closed { ClosedGivesClosed }
+{}
+
+/// No kind of operator gives a final marker or a fault by its body.
+pub fn kinds_law()
+    ensures { BodyLaw }
+{}
+
+/// The streams of an ordered graph are what its operators make of them.
+pub fn graph_law()
+    ensures { GraphLaw }
+{}
+
+/// Rows of some files.
+pub fn rows_on_literals()
+    ensures plain { rows (record { op = 0; schema = record { name = codes "k"; kind = T.Text } ∷ record { name = codes "n"; kind = T.Int N.I8 } ∷ []; strict = true; limit = 100 })
+        (codes "a,7\n\nb,-128") End
+        ≡ I.Tuple (V.Text (codes "a") ∷ V.Int (pos 7) ∷ []) ∷ I.Tuple (V.Text (codes "b") ∷ V.Int (negsuc 127) ∷ []) ∷ I.Window ∷ I.Final ∷ [] }
+    ensures quoted { rows (record { op = 0; schema = record { name = codes "k"; kind = T.Text } ∷ []; strict = false; limit = 100 })
+        (codes "\"a,b\"\r\n\"x\n") End
+        ≡ I.Tuple (V.Text (codes "a,b") ∷ []) ∷ I.Tuple (V.Text (codes "x") ∷ []) ∷ I.Window ∷ I.Final ∷ [] }
+    ensures bad { rows (record { op = 3; schema = record { name = codes "n"; kind = T.Int N.I8 } ∷ []; strict = true; limit = 100 })
+        (codes "1\n128\n2\n") End
+        ≡ I.Tuple (V.Int (pos 1) ∷ []) ∷ I.Bad (record { op = 3; kind = K.BadRow; line = 2 }) ∷ [] }
+    ensures dropped { rows (record { op = 3; schema = record { name = codes "n"; kind = T.Int N.I8 } ∷ []; strict = false; limit = 100 })
+        (codes "1\n128\n2\n") End
+        ≡ I.Tuple (V.Int (pos 1) ∷ []) ∷ I.Tuple (V.Int (pos 2) ∷ []) ∷ I.Window ∷ I.Final ∷ [] }
+    ensures limited { rows (record { op = 3; schema = record { name = codes "n"; kind = T.Int N.I8 } ∷ []; strict = true; limit = 3 })
+        (codes "1\n2\n") End
+        ≡ I.Tuple (V.Int (pos 1) ∷ []) ∷ I.Bad (record { op = 3; kind = K.LongFile; line = 2 }) ∷ [] }
+    ensures failed { rows (record { op = 3; schema = record { name = codes "n"; kind = T.Int N.I8 } ∷ []; strict = true; limit = 9 })
+        (codes "1\n2") Failed
+        ≡ I.Tuple (V.Int (pos 1) ∷ []) ∷ I.Bad (record { op = 3; kind = K.ReadFailed; line = 2 }) ∷ [] }
+    ensures marked { rows (record { op = 3; schema = record { name = codes "n"; kind = T.Int N.I8 } ∷ []; strict = true; limit = 99 })
+        (239 ∷ 187 ∷ 191 ∷ codes "5\r") End
+        ≡ I.Tuple (V.Int (pos 5) ∷ []) ∷ I.Window ∷ I.Final ∷ [] }
+{}

@@ -1,0 +1,14 @@
+//! What a graph of operators means on one thread.
+#![tactic(auto)]
+
+mod comparison;
+mod laws;
+mod outs;
+mod record;
+
+pub use comparison::Comparison;
+pub use laws::{graph_law, history_law, kinds_law, order_law, rows_on_literals};
+pub use outs::{Output, Outs};
+pub use record::{
+    ArrivalList, ArrivalLists, Arrivals, ChannelCount, ChannelCounts, Counts, SinkCount, SinkCounts,
+};
