@@ -1,6 +1,5 @@
 -- A condition on a tuple: an attribute compared with a literal.
-use Rattle.std.specs.Prelude.{ℕ, ℤ, Bool, true, false, List, Option, Some, None}
-use Rattle.std.specs.Prelude.{slice_get}
+use Rattle.std.specs.Prelude.{ℤ, Bool, true, false, List, Option, Some, None, slice_get}
 use Rattle.std.specs.Ordering.{int_cmp}
 use Rattle.std.specs.declared.cmp.Ordering.{Ordering}
 use Rattle.std.specs.declared.cmp.Ordering.TheVariants as R
@@ -8,6 +7,7 @@ use Rattle.spl_value.specs.declared.value.Value.{Value}
 use Rattle.spl_value.specs.declared.value.Value.TheOpen as O
 use Rattle.spl_value.specs.declared.value.Value.TheOpen.{Value-F}
 use Rattle.spl_value.specs.declared.value.Value.TheViews.{out-Value}
+use Rattle.stream_model.specs.declared.condition.Condition.{Condition}
 use Rattle.stream_model.specs.declared.comparison.Comparison.{Comparison}
 use Rattle.stream_model.specs.declared.comparison.Comparison.TheVariants as C
 
@@ -31,11 +31,6 @@ meets C.Equal R.Greater = false
 meets C.NotEqual R.Less = true
 meets C.NotEqual R.Equal = false
 meets C.NotEqual R.Greater = true
-
-pub record Condition : Type 0 where
-  pub place : ℕ
-  pub comparison : Comparison
-  pub literal : ℤ
 
 -- the number of an integer value
 abbrev pub number_in : {A : Type 0} → Value-F A → Option ℤ

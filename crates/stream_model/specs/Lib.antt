@@ -7,4 +7,5 @@ pub mod Fields
 pub mod Rows
 pub mod Laws
 pub mod StageLaws
+pub mod OrderLaws
 pub mod PathLaws

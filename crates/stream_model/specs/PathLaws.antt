@@ -1,15 +1,18 @@
--- What a filter and a sink with one connection give for a stream, item by item.
+-- What a filter and a sink with one connection give for a stream, item by item; and the path from a source through a filter
+-- to a sink.
 use Rattle.std.specs.Prelude.{ℕ, Bool, true, false, cond, List, [], ◌∷◌, ◌++◌, ◌≡◌, map, Option, if◌then◌else◌}
 use Rattle.std.proofs.Common.{refl, ap, ◌∙◌}
 use Rattle.std.proofs.lemmas.Grind.{flat_map-append}
 use Rattle.spl_value.specs.declared.item.Item.{Item}
 use Rattle.spl_value.specs.declared.item.Item.TheVariants as I
 use Rattle.stream_model.specs.declared.outs.Output.{Output}
-use Rattle.stream_model.specs.Condition.{Condition}
-use Rattle.stream_model.specs.Stream.{Event, came}
-use Rattle.stream_model.specs.React.{Operator, Kind, Filter, FileSink, passes}
+use Rattle.stream_model.specs.declared.condition.Condition.{Condition}
+use Rattle.stream_model.specs.Stream.{Event, came, any_closes}
+use Rattle.stream_model.specs.React.{Operator, Kind, Source, FileSource, Filter, FileSink, passes}
 use Rattle.stream_model.specs.Stages.{Stage, gives_all, on_port, out}
-use Rattle.stream_model.specs.Meaning.{text}
+use Rattle.stream_model.specs.Meaning.{Graph, Lists, Entries, meaning, text}
+use Rattle.stream_model.specs.Laws.{is_made, IsOrdered}
+use Rattle.stream_model.specs.OrderLaws.{IsOrdered-nil, IsOrdered-cons, at_only}
 use Rattle.stream_model.specs.Rows.{item_text, text_of}
 use Rattle.stream_model.specs.StageLaws.{gives_all-over}
 
@@ -28,6 +31,28 @@ written (I.Tuple vs ∷ items) = I.Tuple vs ∷ written items
 written (I.Window ∷ items) = written items
 written (I.Final ∷ items) = []
 written (I.Bad f ∷ items) = []
+
+-- behind a list with no item that closes
+pub passed-append : (condition : Option Condition) (first second : List Item) → any_closes first ≡ false
+    → passed condition (first ++ second) ≡ passed condition first ++ passed condition second
+passed-append condition [] second h = refl
+passed-append condition (I.Tuple vs ∷ first) second h = go (passes condition vs) (passed-append condition first second h)
+  where
+    go : (b : Bool) → passed condition (first ++ second) ≡ passed condition first ++ passed condition second
+        → cond b (I.Tuple vs ∷ passed condition (first ++ second)) (passed condition (first ++ second))
+        ≡ cond b (I.Tuple vs ∷ passed condition first) (passed condition first) ++ passed condition second
+    go true e = ap (λ xs. I.Tuple vs ∷ xs) e
+    go false e = e
+passed-append condition (I.Window ∷ first) second h = ap (λ xs. I.Window ∷ xs) (passed-append condition first second h)
+passed-append condition (I.Final ∷ first) second h = cc
+passed-append condition (I.Bad f ∷ first) second h = cc
+
+pub written-append : (first second : List Item) → any_closes first ≡ false → written (first ++ second) ≡ written first ++ written second
+written-append [] second h = refl
+written-append (I.Tuple vs ∷ first) second h = ap (λ xs. I.Tuple vs ∷ xs) (written-append first second h)
+written-append (I.Window ∷ first) second h = written-append first second h
+written-append (I.Final ∷ first) second h = cc
+written-append (I.Bad f ∷ first) second h = cc
 
 -- an operator of this kind with one connection, and where it stands behind these events
 abbrev operator : ℕ → Kind → ℕ → List ℕ → Operator
@@ -87,3 +112,40 @@ sink_text op file s items k i o = ap text_of (sink_out op file s items k i o)
 -- the text of two lists of items is the first one's and then the second one's
 pub text_of-append : (first second : List Item) → text_of (first ++ second) ≡ text_of first ++ text_of second
 text_of-append first second = flat_map-append item_text first second
+
+-- a source of stream 0, a filter that reads it and makes stream 1, and a sink that reads that
+abbrev pub path_source : Source → Operator
+path_source source = record { number = 0; kind = FileSource source; ins = []; outs = 0 ∷ [] }
+
+abbrev pub path_filter : Option Condition → Operator
+path_filter condition = record { number = 1; kind = Filter condition; ins = (0 ∷ []) ∷ []; outs = 1 ∷ [] }
+
+abbrev pub path_sink : List ℕ → Operator
+path_sink file = record { number = 2; kind = FileSink file; ins = (1 ∷ []) ∷ []; outs = [] }
+
+abbrev pub path : Source → Option Condition → List ℕ → List Operator
+path source condition file = path_source source ∷ path_filter condition ∷ path_sink file ∷ []
+
+abbrev pub path_graph : Source → Option Condition → List ℕ → Graph
+path_graph source condition file = record { ops = path source condition file; topo = 0 ∷ 1 ∷ 2 ∷ [] }
+
+-- each operator reads only what an earlier one makes
+pub path_is_ordered : (source : Source) (condition : Option Condition) (file : List ℕ) → IsOrdered (path source condition file)
+path_is_ordered source condition file =
+    IsOrdered-cons (path_source source) (path_filter condition ∷ path_sink file ∷ [])
+    (at_only 0 (λ s. is_made (path_filter condition ∷ path_sink file ∷ []) s ≡ false) refl) (λ s r. cc)
+    (IsOrdered-cons (path_filter condition) (path_sink file ∷ [])
+    (λ s m. refl) (at_only 0 (λ s. is_made (path_filter condition ∷ path_sink file ∷ []) s ≡ false) refl)
+    (IsOrdered-cons (path_sink file) [] (λ s m. cc) (λ s r. refl) IsOrdered-nil))
+
+-- the stream behind the filter is what passes of the source's rows
+pub path_filtered : (source : Source) (condition : Option Condition) (file : List ℕ) (rows : Lists) (entries : Entries)
+    → (meaning (path_graph source condition file) rows entries).streams 1 ≡ passed condition (rows 0)
+path_filtered source condition file rows entries = filter_out (path_filter condition) condition 0 1 (rows 0) refl refl refl
+
+-- the text that the sink writes is that of the rows that pass
+pub path_text : (source : Source) (condition : Option Condition) (file : List ℕ) (rows : Lists) (entries : Entries)
+    → text (path_sink file) ((meaning (path_graph source condition file) rows entries).events 2) ≡ text_of (written (passed condition (rows 0)))
+path_text source condition file rows entries =
+    ap (λ items. text (path_sink file) (map (came 0) items)) (path_filtered source condition file rows entries)
+    ∙ sink_text (path_sink file) file 1 (passed condition (rows 0)) refl refl refl

@@ -8,7 +8,8 @@ use Rattle.spl_value.specs.declared.item.FaultKind.{FaultKind}
 use Rattle.spl_value.specs.declared.types.Named.{Named}
 use Rattle.spl_value.specs.declared.types.SplType.{SplType}
 use Rattle.stream_model.specs.declared.outs.Output.{Output}
-use Rattle.stream_model.specs.Condition.{Condition, holds}
+use Rattle.stream_model.specs.declared.condition.Condition.{Condition}
+use Rattle.stream_model.specs.Condition.{holds}
 use Rattle.stream_model.specs.Stream.{Event, is_final, is_fault}
 
 -- the file of a source, the attributes of its rows, and whether a bad row is a fault

@@ -1,12 +1,14 @@
 //! What the definitions come to.
-ghost use Rattle.std.specs.Prelude.{◌≡◌, [], ◌∷◌, codes, pos, negsuc, true, false};
+ghost use Rattle.std.specs.Prelude.{◌≡◌, ℕ, List, [], ◌∷◌, Option, codes, pos, negsuc, true, false};
 ghost use Rattle.spl_value.specs.Script.{End, Failed};
 ghost use Rattle.spl_value.specs.declared.item.Item.TheVariants as I;
 ghost use Rattle.spl_value.specs.declared.item.FaultKind.TheVariants as K;
 ghost use Rattle.spl_value.specs.declared.types.IntKind.TheVariants as N;
 ghost use Rattle.spl_value.specs.declared.types.SplType.TheVariants as T;
 ghost use Rattle.spl_value.specs.declared.value.Value.TheVariants as V;
-ghost use Rattle.stream_model.specs.Laws.{HistoryLaw, OutGrows, ChainGrows, OutCloses, ClosedGivesClosed, BodyLaw, GraphLaw};
+ghost use Rattle.stream_model.specs.Laws.{HistoryLaw, OutGrows, ChainGrows, OutCloses, ClosedGivesClosed, BodyLaw, GraphLaw, IsOrdered};
+ghost use Rattle.stream_model.specs.React.{Source, FileSource, Filter, FileSink};
+ghost use Rattle.stream_model.specs.declared.condition.Condition.{Condition};
 ghost use Rattle.stream_model.specs.Rows.{rows};
 
 /// One event more gives its reaction behind the history of all before it.
@@ -30,6 +32,14 @@ pub fn kinds_law()
 /// The streams of an ordered graph are what its operators make of them.
 pub fn graph_law()
     ensures { GraphLaw }
+{}
+
+/// A source, a filter behind it and a sink behind that are ordered.
+pub fn chain_is_ordered()
+    ensures { (source : Source) (condition : Option Condition) (file : List ℕ) → IsOrdered (
+        record { number = 0; kind = FileSource source; ins = []; outs = 0 ∷ [] }
+        ∷ record { number = 1; kind = Filter condition; ins = (0 ∷ []) ∷ []; outs = 1 ∷ [] }
+        ∷ record { number = 2; kind = FileSink file; ins = (1 ∷ []) ∷ []; outs = [] } ∷ []) }
 {}
 
 /// Rows of some files.

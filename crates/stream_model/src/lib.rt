@@ -2,12 +2,14 @@
 #![tactic(auto)]
 
 mod comparison;
+mod condition;
 mod laws;
 mod outs;
 mod record;
 
 pub use comparison::Comparison;
-pub use laws::{graph_law, history_law, kinds_law, order_law, rows_on_literals};
+pub use condition::Condition;
+pub use laws::{chain_is_ordered, graph_law, history_law, kinds_law, order_law, rows_on_literals};
 pub use outs::{Output, Outs};
 pub use record::{
     ArrivalList, ArrivalLists, Arrivals, ChannelCount, ChannelCounts, Counts, SinkCount, SinkCounts,
