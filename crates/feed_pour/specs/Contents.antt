@@ -42,6 +42,12 @@ Poured (Some old) now (Ok n) from = now ≡ Some (old ++ take n from)
 Poured (Some old) now (Err P.Failed) from = (n : ℕ) × (n ≤ length from) × (now ≡ Some (old ++ take n from))
 Poured (Some old) now (Err P.Memory) from = now ≡ Some old
 
+-- a write that takes all of its bytes, or none of them
+abbrev pub PouredWhole : Option (List ℕ) → Option (List ℕ) → Result ℕ PourAnswer → List ℕ → Type 0
+PouredWhole None now r from = ⊤
+PouredWhole (Some old) now (Ok n) from = (n ≡ length from) × (now ≡ Some (old ++ from))
+PouredWhole (Some old) now (Err e) from = now ≡ Some old
+
 -- the answers as tests
 abbrev pub failed_read : {T : Type 0} → Result T Failed → Bool
 failed_read (Ok n) = false

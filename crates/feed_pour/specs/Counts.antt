@@ -17,6 +17,10 @@ pub record Counts : Type 0 where
   pub reading : ℕ
   pub writing : ℕ
 
+-- no fault
+abbrev pub no_counts : Counts
+no_counts = record { opening = 0; creating = 0; reading = 0; writing = 0 }
+
 -- one count per name
 abbrev pub PerName : Type 0
 PerName = List ℕ → Counts

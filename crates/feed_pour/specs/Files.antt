@@ -1,12 +1,12 @@
 -- The counts that stand in a table of names.
 use Rattle.std.specs.Prelude.{ℕ, List, Option, Some, None, IsSome}
-use Rattle.feed_pour.specs.Counts.{Counts}
+use Rattle.feed_pour.specs.Counts.{Counts, no_counts}
 use Rattle.feed_pour.specs.Table.{under}
 use Rattle.feed_pour.specs.declared.table.Entry.{Entry}
 use Rattle.feed_pour.specs.declared.tallies.Tallies.{Tallies}
 
 abbrev pub counts_of : Option Tallies → Counts
-counts_of None = record { opening = 0; creating = 0; reading = 0; writing = 0 }
+counts_of None = no_counts
 counts_of (Some t) = record { opening = t.opening; creating = t.creating; reading = t.reading; writing = t.writing }
 
 -- the counts of each name

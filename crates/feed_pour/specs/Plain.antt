@@ -1,14 +1,11 @@
 -- The files of a shelf in memory.
 use Rattle.std.specs.Prelude.{ℕ, List, [], Option, Some, None}
-use Rattle.feed_pour.specs.Counts.{Counts}
 use Rattle.spl_value.specs.Script.{Script, End}
 use Rattle.feed_pour.specs.Contents.{Told}
 use Rattle.feed_pour.specs.Table.{under}
 use Rattle.feed_pour.specs.declared.table.Entry.{Entry}
 
-abbrev pub no_counts : Counts
-no_counts = record { opening = 0; creating = 0; reading = 0; writing = 0 }
-
+-- a list, or the empty one where there is none
 abbrev pub bytes_or_none : Option (List ℕ) → List ℕ
 bytes_or_none None = []
 bytes_or_none (Some bytes) = bytes

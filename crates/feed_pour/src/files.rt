@@ -1,9 +1,14 @@
-// The shelf over the system's files. It tells nothing of what they hold.
-ghost use Rattle.std.specs.Prelude.{◌≡◌, ◌<◌, ◌^◌, None};
-ghost use Rattle.feed_pour.specs.Files.{counts_in, knows};
+// The shelf over the system's files, and a pour over any writer. They tell nothing of what files hold.
+ghost use Rattle.std.specs.Prelude.{◌≡◌, ◌≤◌, ◌<◌, ◌^◌, [], length, take, true, Some, None, OnOk};
+ghost use Rattle.std.specs.Io.KnownBytes.{Keeps, Appends};
+ghost use Rattle.feed_pour.specs.Contents.{failed_read};
+ghost use Rattle.feed_pour.specs.Counts.{Counted};
+ghost use Rattle.feed_pour.specs.Files.{counts_in, counts_of, knows};
 
 use crate::table::Entry;
-use crate::tallies::{Tallies, know, raise_creating, raise_opening, raise_reading, raise_writing};
+use crate::tallies::{
+    Tallies, know, raise_creating, raise_opening, raise_reading, raise_writing, tallies_of,
+};
 use crate::{Failed, Feed, Opened, Pour, PourAnswer, Shelf};
 use spl_value::Name;
 use std::alloc::Global;
@@ -11,6 +16,7 @@ use std::io::{Read, Write};
 use std::rt::Files;
 use std::{fs, str};
 
+/// A feed over an open file.
 #[derive(Drop)]
 pub struct FileFeed<F> {
     file: F,
@@ -36,38 +42,86 @@ impl<F: Read> Feed for FileFeed<F> {
     }
 }
 
+// How many bytes a pour gathers before it writes them.
+const BUFFER: usize = 65536;
+
+/// A pour over an open file. It gathers bytes, and writes them out where its buffer is full and
+/// where the shelf finishes it. A write that fails leaves the bytes that were not written in the
+/// buffer, so that none is lost and none is written twice.
 #[derive(Drop)]
 pub struct FilePour<F> {
     file: F,
+    buffer: Vec<u8>,
+    // How many bytes of the buffer are written.
+    written: usize,
     faults: u64,
+    ghost within: { written ≤ length buffer.items },
     ghost counted: { faults < 2 ^ 64 },
 }
 
-impl<F> FilePour<F> {
-    pub fn new(file: F) -> FilePour<F>
-        ensures { result.faults ≡ 0 }
+// Writes until all is written, a write fails, or one takes nothing. Answers how many were written.
+fn write_front<F: Write>(file: &mut F, bytes: &[u8]) -> usize
+    ensures within { result ≤ length bytes.now }
+    ensures bytes { Appends (F.contents file.old) (F.contents file.new) (take result bytes.now) }
+{
+    let mut written = 0;
+    'fronts: while written < bytes.len() {
+        match file.write(&bytes[written..]) {
+            Ok(n) if n != 0 => written += n,
+            _ => return written,
+        }
+    }
+    written
+}
+
+impl<F: Write> FilePour<F> {
+    ghost use Rattle.feed_pour.specs.Buffered.{file_poured};
+
+    fn fault(&mut self) -> Failed
+        ensures cause { Counted true self.old.faults self.new.faults }
+        ensures bytes { file_poured F.contents self.new ≡ file_poured F.contents self.old }
     {
-        FilePour { file, faults: 0 }
+        self.faults = self.faults.saturating_add(1);
+        Failed
+    }
+
+    // Writes the buffer out.
+    fn empty_buffer(&mut self) -> Result<(), Failed>
+        ensures cause { Counted (failed_read result) self.old.faults self.new.faults }
+        ensures bytes { Keeps (file_poured F.contents self.old) (file_poured F.contents self.new) }
+        ensures empty { OnOk result (self.new.buffer.items ≡ []) }
+    {
+        self.written += write_front(&mut self.file, &self.buffer[self.written..]);
+        if self.written < self.buffer.len() {
+            return Err(self.fault());
+        }
+        self.buffer.clear();
+        self.written = 0;
+        Ok(())
     }
 }
 
 impl<F: Write> Pour for FilePour<F> {
-    ghost poured = { λ _. None };
+    ghost use Rattle.feed_pour.specs.Buffered.{file_poured};
 
-    ghost faults = { λ f. f.faults };
+    ghost poured = { λ p. file_poured F.contents p };
 
-    // A device that takes none counts as a fault.
+    ghost faults = { λ p. p.faults };
+
     fn write(&mut self, from: &[u8]) -> Result<usize, PourAnswer> {
-        match self.file.write(from) {
-            Ok(n) if n != 0 => Ok(n),
-            _ => {
-                self.faults = self.faults.saturating_add(1);
-                Err(PourAnswer::Failed)
-            }
+        if self.buffer.len() >= BUFFER && self.empty_buffer().is_err() {
+            return Err(PourAnswer::Failed);
+        }
+        let n = from.len().min(BUFFER - self.buffer.len());
+        match self.buffer.extend_from_slice(&from[..n]) {
+            Ok(()) => Ok(n),
+            Err(_) => Err(PourAnswer::Memory),
         }
     }
 }
 
+/// The system's files by name, in the folder that the program runs in. A name that isn't UTF-8
+/// counts as a fault of opening or creating.
 #[derive(Drop)]
 pub struct FileShelf<R: Files + Drop> {
     rt: R,
@@ -75,13 +129,24 @@ pub struct FileShelf<R: Files + Drop> {
     tallies: Vec<Entry<Tallies>>,
 }
 
-impl<R: Files + Drop> FileShelf<R> {
+impl<R: Files + Drop> FileShelf<R>
+where
+    R::File: Send,
+{
+    /// A shelf that was asked for no name yet.
     pub fn new(rt: R, alloc: Global) -> FileShelf<R> {
         FileShelf {
             rt,
             alloc,
             tallies: Vec::new(alloc),
         }
+    }
+
+    /// The four counts of a name, 0 for one that the shelf was never asked for.
+    pub fn tallies(&self, name: &Name) -> Tallies
+        ensures { counts_of (Some result) ≡ counts_in self.now.tallies.items name.now }
+    {
+        tallies_of(self.tallies.as_slice(), name)
     }
 }
 
@@ -114,13 +179,22 @@ where
         Opened::Failed
     }
 
+    // The entry and the buffer are made first, so that want of memory leaves the files alone.
     fn create(&mut self, name: &Name) -> Opened<FilePour<R::File>> {
         if know(self.alloc, &mut self.tallies, name).is_err() {
             return Opened::Memory;
         }
+        let Ok(buffer) = Vec::with_capacity(self.alloc, BUFFER) else {
+            return Opened::Memory;
+        };
         if let Ok(path) = str::from_utf8(name.as_slice()) {
             if let Ok(file) = fs::create(&self.rt, path) {
-                return Opened::Ok(FilePour { file, faults: 0 });
+                return Opened::Ok(FilePour {
+                    file,
+                    buffer,
+                    written: 0,
+                    faults: 0,
+                });
             }
         }
         raise_creating(self.alloc, &mut self.tallies, name);
@@ -134,7 +208,8 @@ where
     }
 
     fn finish(&mut self, name: &Name, out: FilePour<R::File>) -> Result<(), Failed> {
-        if out.faults != 0 {
+        let mut out = out;
+        if out.empty_buffer().is_err() || out.faults != 0 || out.file.flush().is_err() {
             raise_writing(self.alloc, &mut self.tallies, name);
             return Err(Failed);
         }

@@ -1,22 +1,27 @@
 //! What a program reads from and writes to, as traits.
 #![tactic(auto)]
 
+mod calls;
 mod files;
 mod memory;
+mod memory_shelf;
 mod named;
 mod outside;
 mod plain;
 mod starters;
+mod stdout;
 mod table;
 mod tallies;
 mod whole;
 
+pub use calls::Calls;
 pub use files::{FileFeed, FilePour, FileShelf};
-pub use memory::{MemoryFeed, MemoryPour, MemoryShelf, Tally};
+pub use memory::{MemoryFeed, MemoryPour};
+pub use memory_shelf::MemoryShelf;
 pub use named::{Fetched, fetch};
 pub use outside::{Failed, Feed, Opened, Pour, PourAnswer, Shelf};
-pub use plain::{PlainFeed, PlainPour, PlainShelf, place};
+pub use plain::{PlainFeed, PlainPour, PlainShelf};
 pub use starters::{AllStart, Gate, NotThese, OpenGate, Starter};
-pub use table::{Entry, find, put};
-pub use tallies::{Tallies, know};
+pub use stdout::StdoutPour;
+pub use tallies::Tallies;
 pub use whole::{ReadAll, read_all, write_all};

@@ -1,14 +1,18 @@
 // A shelf in memory whose calls never fail. A name that is not there reads as an empty file.
-ghost use Rattle.std.specs.Prelude.{◌≡◌, ◌≤◌, ◌-◌, Some, IfOk, IsSome, length, take, drop, min, ⊤};
-ghost use Rattle.feed_pour.specs.Plain.{no_counts, bytes_or_none, plain_script, plain_told};
-ghost use Rattle.feed_pour.specs.Table.{under};
+ghost use Rattle.std.specs.Prelude.{◌≡◌, ◌<◌, ◌≤◌, ◌-◌, ◌^◌, [], Some, None, ℕ, List, IfOk, IfSome, IsSome, OnOk, OnErr, length, take, drop, min, ⊤};
+ghost use Rattle.std.specs.Io.{ReadsAtMost};
+ghost use Rattle.std.specs.Option.{option_copied};
+ghost use Rattle.feed_pour.specs.Contents.{PieceGiven, LeftTaken, Poured, PouredWhole, failed_read, failed_write};
+ghost use Rattle.feed_pour.specs.Counts.{Counted, no_counts};
+ghost use Rattle.feed_pour.specs.Plain.{bytes_or_none, plain_script, plain_told};
+ghost use Rattle.feed_pour.specs.Table.{under, Puts};
 
 use crate::table::{Entry, find, put};
 use crate::{Failed, Feed, Opened, Pour, PourAnswer, Shelf};
-use spl_value::{Items, Name};
-use std::alloc::{AllocError, Global};
+use spl_value::{Bytes, Items, Name, NoMemory};
+use std::alloc::Global;
 
-/// Copies as many bytes as fit, from a place on.
+/// Copies as many bytes as fit, from a place on, and answers how many.
 pub fn place(bytes: &[u8], at: usize, into: &mut [u8]) -> usize
     requires { at ≤ length bytes.now }
     ensures count { result ≡ min (length into.old) (length bytes.now - at) }
@@ -19,11 +23,21 @@ pub fn place(bytes: &[u8], at: usize, into: &mut [u8]) -> usize
     n
 }
 
+/// A feed of bytes in memory. Each read places as many bytes as fit, and none fails.
 #[derive(Debug, Drop)]
 pub struct PlainFeed {
-    bytes: Items<u8>,
+    bytes: Bytes,
     at: usize,
     ghost within: { at ≤ length bytes },
+}
+
+impl PlainFeed {
+    pub fn new(bytes: Bytes) -> PlainFeed
+        ensures script { ⟦<PlainFeed as Feed>⟧.script result ≡ Some (plain_script bytes) }
+        ensures left { ⟦<PlainFeed as Feed>⟧.left result ≡ Some bytes }
+    {
+        PlainFeed { bytes, at: 0 }
+    }
 }
 
 impl Feed for PlainFeed {
@@ -33,16 +47,43 @@ impl Feed for PlainFeed {
 
     ghost faults = { λ _. 0 };
 
-    fn read(&mut self, into: &mut [u8]) -> Result<usize, Failed> {
+    fn read(&mut self, into: &mut [u8]) -> Result<usize, Failed>
+        requires { 0 < length into.old }
+        ensures bound { ReadsAtMost result into.new }
+        ensures piece { PieceGiven (⟦<PlainFeed as Feed>⟧.script self.old) (⟦<PlainFeed as Feed>⟧.script self.new) result into.new }
+        ensures taken { LeftTaken (⟦<PlainFeed as Feed>⟧.left self.old) (⟦<PlainFeed as Feed>⟧.left self.new) result into.new }
+
+        // As many bytes as fit, with no fault.
+        ensures fits { IfSome (⟦<PlainFeed as Feed>⟧.left self.old) (λ left. result ≡ Ok (min (length into.old) (length left))) }
+    {
         let n = place(self.bytes.as_slice(), self.at, into);
         self.at += n;
         Ok(n)
     }
 }
 
+/// A pour into memory. A write takes all of its bytes, and none fails.
 #[derive(Debug, Drop)]
 pub struct PlainPour {
     poured: Vec<u8>,
+}
+
+impl PlainPour {
+    /// An empty pour. It keeps the allocator.
+    pub fn new(alloc: Global) -> PlainPour
+        ensures { ⟦<PlainPour as Pour>⟧.poured result ≡ Some [] }
+    {
+        PlainPour {
+            poured: Vec::new(alloc),
+        }
+    }
+
+    /// The bytes that were poured.
+    pub fn bytes(&self) -> &[u8]
+        ensures { ⟦<PlainPour as Pour>⟧.poured self.now ≡ Some result.now }
+    {
+        self.poured.as_slice()
+    }
 }
 
 impl Pour for PlainPour {
@@ -50,7 +91,15 @@ impl Pour for PlainPour {
 
     ghost faults = { λ _. 0 };
 
-    fn write(&mut self, from: &[u8]) -> Result<usize, PourAnswer> {
+    fn write(&mut self, from: &[u8]) -> Result<usize, PourAnswer>
+        requires { 0 < length from.now }
+        ensures some { IfOk result (λ n. (0 < n) × (n ≤ length from.now)) }
+        ensures poured { Poured (⟦<PlainPour as Pour>⟧.poured self.old) (⟦<PlainPour as Pour>⟧.poured self.new) result from.now }
+        ensures cause { Counted (failed_write result) 0 0 }
+
+        // All of the bytes, or none.
+        ensures whole { PouredWhole (⟦<PlainPour as Pour>⟧.poured self.old) (⟦<PlainPour as Pour>⟧.poured self.new) result from.now }
+    {
         match self.poured.extend_from_slice(from) {
             Ok(()) => Ok(from.len()),
             Err(_) => Err(PourAnswer::Memory),
@@ -58,28 +107,51 @@ impl Pour for PlainPour {
     }
 }
 
+/// Files in memory. No call fails, so that all counts are 0, but memory may be wanting.
 #[derive(Debug, Drop)]
 pub struct PlainShelf {
     alloc: Global,
-    files: Vec<Entry<Items<u8>>>,
+    files: Vec<Entry<Bytes>>,
 }
 
 impl PlainShelf {
-    pub fn new(alloc: Global, files: Vec<Entry<Items<u8>>>) -> PlainShelf {
-        PlainShelf { alloc, files }
+    ghost use Rattle.feed_pour.specs.PlainFiles.{plain_files};
+
+    /// A shelf with no file.
+    pub fn new(alloc: Global) -> PlainShelf
+        ensures { (n : List ℕ) → plain_files result n ≡ None }
+    {
+        PlainShelf {
+            alloc,
+            files: Vec::new(alloc),
+        }
+    }
+
+    /// Lets a name hold these bytes.
+    pub fn put_file(&mut self, name: &Name, bytes: Bytes) -> Result<(), NoMemory>
+        ensures ok { OnOk result (Puts (plain_files self.old) (plain_files self.new) name.now bytes) }
+        ensures err { OnErr result ((n : List ℕ) → plain_files self.new n ≡ plain_files self.old n) }
+    {
+        Ok(put(self.alloc, &mut self.files, name, bytes)?)
+    }
+
+    /// What a name holds, where it holds anything.
+    pub fn file(&self, name: &Name) -> Option<&[u8]>
+        ensures { option_copied result ≡ plain_files self.now name.now }
+    {
+        match find(self.files.as_slice(), name) {
+            None => None,
+            Some(bytes) => Some(bytes.as_slice()),
+        }
     }
 }
 
-fn copy_under(
-    alloc: Global,
-    files: &[Entry<Items<u8>>],
-    name: &Name,
-) -> Result<Items<u8>, AllocError>
+fn copy_under(alloc: Global, files: &[Entry<Bytes>], name: &Name) -> Result<Bytes, NoMemory>
     ensures { IfOk result (λ bytes. bytes ≡ bytes_or_none (under files.now name.now)) }
 {
     match find(files, name) {
         None => Ok(Items::new(alloc)),
-        Some(bytes) => Items::from_slice(alloc, bytes.as_slice()),
+        Some(bytes) => Ok(Items::from_slice(alloc, bytes.as_slice())?),
     }
 }
 
@@ -99,16 +171,14 @@ impl Shelf for PlainShelf {
     fn open_in(&mut self, name: &Name) -> Opened<PlainFeed> {
         match copy_under(self.alloc, self.files.as_slice(), name) {
             Err(_) => Opened::Memory,
-            Ok(bytes) => Opened::Ok(PlainFeed { bytes, at: 0 }),
+            Ok(bytes) => Opened::Ok(PlainFeed::new(bytes)),
         }
     }
 
     fn create(&mut self, name: &Name) -> Opened<PlainPour> {
         match put(self.alloc, &mut self.files, name, Items::new(self.alloc)) {
             Err(_) => Opened::Memory,
-            Ok(()) => Opened::Ok(PlainPour {
-                poured: Vec::new(self.alloc),
-            }),
+            Ok(()) => Opened::Ok(PlainPour::new(self.alloc)),
         }
     }
 

@@ -23,7 +23,8 @@ const NONE: Tallies = Tallies {
     writing: 0,
 };
 
-fn tallies_of(table: &[Entry<Tallies>], name: &Name) -> Tallies
+/// The counts of a name, 0 where it has no entry.
+pub fn tallies_of(table: &[Entry<Tallies>], name: &Name) -> Tallies
     ensures { counts_of (Some result) ≡ counts_in table.now name.now }
 {
     match find(table, name) {

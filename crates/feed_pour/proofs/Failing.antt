@@ -1,12 +1,13 @@
 -- The next call that is to fail, and the script before it.
-use Rattle.std.proofs.Common.{◌≡◌, ℕ, ◌+◌, ◌-◌, ◌*◌, ◌<◌, ◌≤◌, min, List, [], ◌∷◌, ◌++◌, length, take, drop, get_or, Bool, true, false, ◌||◌, ◌==◌, if◌then◌else◌, nat_lt, Option, Some, None, refl, sym, ◌∙◌, ap, suc, inl, inr, arith, length-drop, subst}
+use Rattle.std.proofs.Common.{◌≡◌, ℕ, ◌+◌, ◌-◌, ◌*◌, ◌^◌, ◌<◌, ◌≤◌, min, List, [], ◌∷◌, ◌++◌, length, take, drop, get_or, Bool, true, false, ◌||◌, ◌==◌, if◌then◌else◌, nat_lt, Option, Some, None, refl, sym, ◌∙◌, ap, suc, inl, inr, arith, length-drop, subst}
 use Rattle.std.proofs.lemmas.List.{take-append-drop, drop_all, take_all, drop-drop}
 use Rattle.std.proofs.Math.Seq.{take-add}
 use Rattle.std.specs.List.{list_any}
 use Rattle.spl_value.specs.Script.{Script, End}
 use Rattle.spl_value.specs.Script as S
 use Rattle.feed_pour.specs.Contents.{Gave}
-use Rattle.feed_pour.specs.Memory.{sooner, next_failing, script_up_to, script_of, CallCounted}
+use Rattle.feed_pour.specs.Failing.{sooner, next_failing, is_to_fail, CallCounted}
+use Rattle.feed_pour.specs.Memory.{script_up_to, script_of}
 
 none_at : (t : Bool) (c k : ℕ) (ks : List ℕ) → nat_lt c k ≡ t → k ≤ c → next_failing c ks ≡ None → (if t then sooner k (next_failing c ks) else next_failing c ks) ≡ None
 none_at true c k ks is le ih = absurd (grind arith)
@@ -162,18 +163,40 @@ gave_by c d f left piece n (inr (is, none)) e same =
     subst (λ (o : Option ℕ). Gave (script_up_to c o left) (Some (script_up_to d None (drop n left))) n piece) (sym none) h in
     subst (λ (o : Option ℕ). Gave (script_of c f left) (Some (script_up_to d o (drop n left))) n piece) none' h2
 
-pub gave_script : (c d at n len : ℕ) (f bytes placed piece : List ℕ) → CallCounted false c d f → placed ≡ bytes → len ≡ 8192 →
+gave_at : (c d at n len : ℕ) (f bytes placed piece : List ℕ) → CallCounted false c d f → placed ≡ bytes → len ≡ 8192 →
     n ≡ min len (length placed - at) → take n piece ≡ take n (drop at placed) →
     Gave (script_of c f (drop at bytes)) (Some (script_of d f (drop (at + n) bytes))) n piece
-gave_script c d at n len f bytes placed piece counted is piece_len e same =
+gave_at c d at n len f bytes placed piece counted is piece_len e same =
     let e' : n ≡ min 8192 (length (drop at bytes)) =
     e ∙ ap (λ (x : List ℕ). min len (length x - at)) is ∙ ap (λ (m : ℕ). min m (length bytes - at)) piece_len ∙ ap (min 8192) (sym (length-drop at bytes)) in
     subst (λ (x : List ℕ). Gave (script_of c f (drop at bytes)) (Some (script_of d f x)) n piece) (drop-drop n at bytes)
     (gave_by c d f (drop at bytes) piece n counted e' (same ∙ ap (λ (x : List ℕ). take n (drop at x)) is))
 
-pub counted_hit : (r : Bool) (c : ℕ) (f : List ℕ) → r ≡ list_any (λ j. j == c + 1) f → CallCounted r c (c + 1) f
+-- the list of the numbers stays over the call
+pub gave_script : (c d at n len : ℕ) (f g bytes placed piece : List ℕ) → CallCounted false c d f → g ≡ f → placed ≡ bytes → len ≡ 8192 →
+    n ≡ min len (length placed - at) → take n piece ≡ take n (drop at placed) →
+    Gave (script_of c f (drop at bytes)) (Some (script_of d g (drop (at + n) bytes))) n piece
+gave_script c d at n len f g bytes placed piece counted stays is piece_len e same =
+    subst (λ (x : List ℕ). Gave (script_of c f (drop at bytes)) (Some (script_of d x (drop (at + n) bytes))) n piece) (sym stays)
+    (gave_at c d at n len f bytes placed piece counted is piece_len e same)
+
+counted_hit : (r : Bool) (c : ℕ) (f : List ℕ) → r ≡ is_to_fail (c + 1) f → CallCounted r c (c + 1) f
 counted_hit true c f e = hit c f (sym e)
 counted_hit false c f e = inl (refl, miss c f (sym e))
 
-pub counted_spent : (c : ℕ) (f : List ℕ) → ((i : ℕ) → get_or f i 0 ≤ c) → CallCounted false c c f
-counted_spent c f below = inr (refl, none_left c f below)
+pub counted_next : (r : Bool) (c : ℕ) (f : List ℕ) → c < 2 ^ 64 - 1 → r ≡ is_to_fail (c + 1) f → CallCounted r c (min (c + 1) (2 ^ 64 - 1)) f
+counted_next r c f below e =
+    let next : c + 1 ≡ min (c + 1) (2 ^ 64 - 1) = omega arith in
+    subst (λ (d : ℕ). CallCounted r c d f) next (counted_hit r c f e)
+
+pub none_is : (c : ℕ) (f : List ℕ) → ((i : ℕ) → get_or f i 0 ≤ c) → is_to_fail (c + 1) f ≡ false
+none_is c [] below = refl
+none_is c (k ∷ ks) below =
+    let first : (k == c + 1) ≡ false = (let h = below 0 in grind arith) in
+    ap (λ (b : Bool). b || is_to_fail (c + 1) ks) first ∙ none_is c ks (λ i. below (suc i))
+
+pub counted_spent : (c d : ℕ) (f : List ℕ) → d ≡ c → ((i : ℕ) → get_or f i 0 ≤ c) → CallCounted false c d f
+counted_spent c d f same below = inr (same, none_left c f below)
+
+pub not_lt : (a b : ℕ) → b ≤ a → nat_lt a b ≡ false
+not_lt a b le = grind arith
