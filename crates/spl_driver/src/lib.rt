@@ -1,0 +1,4 @@
+//! The runs of a program.
+#![tactic(auto)]
+
+mod row;
