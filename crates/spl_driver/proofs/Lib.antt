@@ -1,1 +1,4 @@
 pub mod RowSteps
+pub mod NumberLines
+pub mod FirstLine
+pub mod NumberRows

@@ -2,3 +2,4 @@
 #![tactic(auto)]
 
 mod row;
+mod source;

@@ -1,0 +1,85 @@
+-- The stream of a file whose lines are numbers.
+use Rattle.std.specs.Prelude.{◌+◌, ◌-◌, ◌≤◌, is_some, IfOk, IfSome, Result, Ok, Err}
+use Rattle.std.proofs.Common.{◌≡◌, ◌==◌, ◌^◌, ◌∷◌, ◌∙◌, [], ℕ, ℤ, suc, List, Option, Some, None, true, refl, sym, ap, length, inl, inr, arith}
+use Rattle.std.specs.List.{list_all}
+use Rattle.std.proofs.lemmas.Bool.{cases_Bool, and_parts}
+use Rattle.spl_value.specs.Decimal.{integer_of}
+use Rattle.spl_value.specs.Script.{End}
+use Rattle.spl_value.specs.declared.item.Item.{Item}
+use Rattle.spl_value.specs.declared.memory.NoMemory.{NoMemory}
+use Rattle.spl_value.specs.declared.types.IntKind.TheVariants.{I64}
+use Rattle.stream_model.specs.Rows.{pieces, onto_first, items_from, rows}
+use Rattle.spl_driver.specs.Source.{is_number_line, is_number_file, are_numbers, lines_among, lines_of, line_number, price_setting, row_in_front, number_rows}
+use Rattle.spl_driver.proofs.FirstLine.{some_pieces}
+use Rattle.spl_driver.proofs.NumberLines.{has_number, piece_row}
+
+-- how many bytes the pieces have, with the line feeds between them
+abbrev size : List (List ℕ) → ℕ
+size [] = 0
+size (piece ∷ []) = length piece
+size (piece ∷ next ∷ rest) = length piece + 1 + size (next ∷ rest)
+
+size_onto : (b : ℕ) (piece : List ℕ) (others : List (List ℕ)) → size (onto_first b (piece ∷ others)) ≡ suc (size (piece ∷ others))
+size_onto b piece [] = refl
+size_onto b piece (next ∷ rest) = omega arith
+
+size_is : (bytes : List ℕ) → size (pieces bytes) ≡ length bytes
+size_is [] = refl
+size_is (b ∷ bytes) =
+    let p = some_pieces bytes in
+    let known : size (p.first ∷ p.others) ≡ length bytes = ap size (sym p.are) ∙ size_is bytes in
+    elim (cases_Bool (b == 10)) [
+      | inl feed ↦ rw (feed, p.are) (omega (arith, known))
+      | inr other ↦ rw (other, p.are) (size_onto b p.first p.others ∙ ap suc known)
+    ]
+
+number_is : (line : List ℕ) (n : ℤ) → is_number_line line ≡ true → integer_of I64 line ≡ Some n → line_number line ≡ Some n
+number_is line n t e = rw t e
+
+-- pieces that are all numbers give their rows
+pieces_rows : (piece : List ℕ) (others : List (List ℕ)) (line left : ℕ) → are_numbers (piece ∷ others) ≡ true → size (piece ∷ others) ≤ left
+    → number_rows (lines_among (piece ∷ others)) ≡ Some (items_from price_setting End line left (piece ∷ others))
+pieces_rows [] [] line left all within = refl
+pieces_rows (b ∷ bytes) [] line left all within =
+    let t = (and_parts (is_number_line (b ∷ bytes)) true all).0 in
+    let n = has_number (b ∷ bytes) t in
+    rw (number_is (b ∷ bytes) n.0 t n.1, piece_row line (length (b ∷ bytes)) left (b ∷ bytes) n.0 _ t n.1 within) refl
+pieces_rows piece (next ∷ rest) line left all within =
+    let t = and_parts (is_number_line piece) (are_numbers (next ∷ rest)) all in
+    let n = has_number piece t.0 in
+    let more = pieces_rows next rest (line + 1) (left - (length piece + 1)) t.1 (omega arith) in
+    rw (number_is piece n.0 t.0 n.1, more, piece_row line (length piece + 1) left piece n.0 _ t.0 n.1 (omega arith)) refl
+
+some_in_front : (n : ℤ) (more : Option (List Item)) → is_some (row_in_front (Some n) more) ≡ is_some more
+some_in_front n None = refl
+some_in_front n (Some items) = refl
+
+-- there are rows where all lines are numbers
+rows_form : (lines : List (List ℕ)) → is_some (number_rows lines) ≡ list_all is_number_line lines
+rows_form [] = refl
+rows_form (line ∷ lines) = elim (cases_Bool (is_number_line line)) [
+  | inl is_one ↦
+      let n = has_number line is_one in
+      rw (number_is line n.0 is_one n.1, is_one) (some_in_front n.0 (number_rows lines) ∙ rows_form lines)
+  | inr not_one ↦ rw not_one refl
+]
+
+file_rows : (bytes : List ℕ) → length bytes ≤ 2 ^ 40 → is_number_file bytes ≡ true → number_rows (lines_of bytes) ≡ Some (rows price_setting bytes End)
+file_rows bytes small all =
+    let p = some_pieces bytes in
+    let bound : size (pieces bytes) ≤ 2 ^ 40 = rw size_is small in
+    rw p.are (pieces_rows p.first p.others 1 (2 ^ 40) (rw p.are at all) (rw p.are at bound))
+
+pub form_of : (result : Result (Option (List Item)) NoMemory) (bytes : List ℕ) → IfOk result (λ stream. stream ≡ number_rows (lines_of bytes))
+    → IfOk result (λ stream. is_some stream ≡ is_number_file bytes)
+form_of (Ok stream) bytes e = ap is_some e ∙ rows_form (lines_of bytes)
+form_of (Err failed) bytes e = tt
+
+pub stream_of : (result : Result (Option (List Item)) NoMemory) (bytes : List ℕ) → length bytes ≤ 2 ^ 40 → IfOk result (λ stream. stream ≡ number_rows (lines_of bytes))
+    → IfOk result (λ stream. IfSome stream (λ items. items ≡ rows price_setting bytes End))
+stream_of (Ok None) bytes small e = tt
+stream_of (Ok (Some items)) bytes small e =
+    let form : true ≡ is_number_file bytes = ap is_some e ∙ rows_form (lines_of bytes) in
+    let same = file_rows bytes small (sym form) in
+    cc
+stream_of (Err failed) bytes small e = tt

@@ -1,0 +1,15 @@
+use Rattle.std.proofs.Common.{◌≡◌, ◌++◌, length, List, Option, Some, None}
+use Rattle.spl_value.specs.declared.item.Item.{Item}
+use Rattle.spl_driver.specs.Source.{number_rows, lines_of}
+use Rattle.spl_driver.proofs.source.number_rows.Given as goal
+
+-- items in front of a stream
+abbrev with_front : List Item → Option (List Item) → Option (List Item)
+with_front items None = None
+with_front items (Some more) = Some (items ++ more)
+
+abbrev pub invariant-lines : goal.invariant-lines
+invariant-lines l = with_front l.items.items (number_rows (lines_of l.rest)) ≡ number_rows (lines_of l.bytes)
+
+abbrev pub decreases-lines : goal.decreases-lines
+decreases-lines l = length l.rest

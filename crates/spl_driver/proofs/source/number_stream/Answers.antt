@@ -1,0 +1,8 @@
+use Rattle.spl_driver.proofs.NumberRows.{form_of, stream_of}
+use Rattle.spl_driver.proofs.source.number_stream.Goals as goal
+
+pub returns-clause-form : goal.returns-clause-form
+returns-clause-form c = form_of c.number_rows.result c.args.bytes.now c.number_rows.ensures
+
+pub returns-clause-stream : goal.returns-clause-stream
+returns-clause-stream c = stream_of c.number_rows.result c.args.bytes.now c.requires c.number_rows.ensures
