@@ -29,3 +29,37 @@ impl Comparison {
         }
     }
 }
+
+#[cfg(test)]
+mod tests {
+    use super::*;
+
+    #[test]
+    fn holds_by_order(rt: HostRuntime) {
+        let table = [
+            (Comparison::Less, true, false, false),
+            (Comparison::AtMost, true, true, false),
+            (Comparison::Greater, false, false, true),
+            (Comparison::AtLeast, false, true, true),
+            (Comparison::Equal, false, true, false),
+            (Comparison::NotEqual, true, false, true),
+        ];
+        for (comparison, below, equal, above) in table {
+            assert_eq!(rt;
+                comparison.holds(4i128.cmp(&5)),
+                below,
+                "{comparison:?} below"
+            );
+            assert_eq!(rt;
+                comparison.holds(5i128.cmp(&5)),
+                equal,
+                "{comparison:?} equal"
+            );
+            assert_eq!(rt;
+                comparison.holds(6i128.cmp(&5)),
+                above,
+                "{comparison:?} above"
+            );
+        }
+    }
+}
