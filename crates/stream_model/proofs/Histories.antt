@@ -1,11 +1,11 @@
 -- One event more.
-use Rattle.std.proofs.Common.{ℕ, Bool, true, false, List, [], ◌∷◌, ◌++◌, ◌≡◌, refl, ap, ◌∙◌, append-nil, is_some}
+use Rattle.std.proofs.Common.{ℕ, Bool, true, false, List, [], ◌∷◌, ◌++◌, ◌≡◌, refl, ap, ◌∙◌, append-nil, is_some, cond, if◌then◌else◌}
 use Rattle.std.proofs.lemmas.Bool.{cond-true, cond-false}
 use Rattle.stream_model.specs.Stream.{Event}
 use Rattle.stream_model.specs.React.{Operator, react, ended}
-use Rattle.stream_model.specs.Stages.{Stage, start, gives, gives_all, after, on_port, out}
-use Rattle.stream_model.specs.StageLaws.{gives_all-append, on_port-append, after-over}
-use Rattle.stream_model.specs.Laws.{behind, HistoryLaw}
+use Rattle.stream_model.specs.Stages.{Stage, start, gives, next, gives_all, after, on_port, out}
+use Rattle.stream_model.specs.StageLaws.{gives_all-append, after-append, on_port-append, after-over}
+use Rattle.stream_model.specs.Laws.{behind, HistoryLaw, EndLaw}
 
 pub out-more : (op : Operator) (p : ℕ) (events : List Event) (e : Event)
     → out op p (events ++ e ∷ []) ≡ out op p events ++ on_port p (gives (after (start op) events) e)
@@ -43,3 +43,23 @@ history_law op p events e = (
   λ q. out-more op p events e ∙ ap (λ outs. out op p events ++ on_port p outs) (cond-true (after (start op) events).over [] _ q)
       ∙ append-nil (out op p events),
 )
+
+next-over : (s : Stage) (e : Event) → (next s e).over ≡ (if s.over then true else is_some (ended s.op s.seen e))
+next-over s e = go s.over refl
+  where
+    go : (b : Bool) → s.over ≡ b → (cond b s (record { op = s.op; seen = e ∷ s.seen; over = is_some (ended s.op s.seen e) })).over ≡ cond b true (is_some (ended s.op s.seen e))
+    go true q = q
+    go false q = refl
+
+pub end_law : EndLaw
+end_law op events e =
+    ap (λ (s : Stage). s.over) (after-append (start op) events (e ∷ []))
+    ∙ next-over (after (start op) events) e
+    ∙ go (after (start op) events).over refl
+  where
+    go : (b : Bool) → (after (start op) events).over ≡ b
+        → cond b true (is_some (ended (after (start op) events).op (after (start op) events).seen e)) ≡ cond b true (is_some (ended op (behind [] events) e))
+    go true q = refl
+    go false q =
+        ap (λ (o : Operator). is_some (ended o (after (start op) events).seen e)) (after-op op [] events false)
+        ∙ ap (λ (seen : List Event). is_some (ended op seen e)) (after-seen op [] events q)

@@ -2,3 +2,4 @@ pub mod Histories
 pub mod Closings
 pub mod Growing
 pub mod Graphs
+pub mod RowsEnd

@@ -1,11 +1,13 @@
 -- What the definitions of streams, operators and graphs come to.
-use Rattle.std.specs.Prelude.{ℕ, ◌<◌, ◌==◌, Bool, true, false, List, [], ◌∷◌, ◌++◌, ◌≡◌, map, length, Some, position}
+use Rattle.std.specs.Prelude.{ℕ, ◌<◌, ◌==◌, Bool, true, false, List, [], ◌∷◌, ◌++◌, ◌≡◌, map, length, Some, position, is_some, if◌then◌else◌}
 use Rattle.std.specs.List.{list_any}
 use Rattle.spl_value.specs.declared.item.Item.{Item}
 use Rattle.stream_model.specs.declared.outs.Output.{Output}
 use Rattle.stream_model.specs.Stream.{Event, came, closes, is_closed, IsPrefix}
-use Rattle.stream_model.specs.React.{Operator, react, body, Gives}
+use Rattle.stream_model.specs.React.{Operator, react, body, ended, Gives}
 use Rattle.stream_model.specs.Stages.{start, after, out, on_port, chain}
+use Rattle.spl_value.specs.Script.{Ending}
+use Rattle.stream_model.specs.Rows.{Setting, rows}
 use Rattle.stream_model.specs.Meaning.{Graph, Lists, Entries, meaning, makes, connections, in_topo}
 
 -- the history after a list of events, behind an older one
@@ -21,6 +23,11 @@ abbrev pub HistoryLaw : Type 0
 HistoryLaw = (op : Operator) (p : ℕ) (events : List Event) (e : Event) →
     (has_ended op events ≡ false → out op p (events ++ e ∷ []) ≡ out op p events ++ on_port p (react op (behind [] events) e))
     × (has_ended op events ≡ true → out op p (events ++ e ∷ []) ≡ out op p events)
+
+-- an operator that hasn't ended ends with an event that ends it behind all before it, and stays ended
+abbrev pub EndLaw : Type 0
+EndLaw = (op : Operator) (events : List Event) (e : Event) →
+    has_ended op (events ++ e ∷ []) ≡ (if has_ended op events then true else is_some (ended op (behind [] events) e))
 
 -- more events give more
 abbrev pub OutGrows : Type 0
@@ -63,3 +70,7 @@ abbrev pub GraphLaw : Type 0
 GraphLaw = (g : Graph) (rows : Lists) (entries : Entries) (before after : List Operator) (op : Operator) (p s : ℕ) →
     IsOrdered (in_topo g) → in_topo g ≡ before ++ op ∷ after → position (λ o. o == s) op.outs ≡ Some p
     → (meaning g rows entries).streams s ≡ makes op p (meaning g rows entries).streams rows entries
+
+-- the rows of a file end with a final marker or a fault, and nothing follows it
+abbrev pub RowsClose : Type 0
+RowsClose = (o : Setting) (bytes : List ℕ) (ending : Ending) → is_closed (rows o bytes ending) ≡ true

@@ -1,19 +1,20 @@
 //! What the definitions come to.
-ghost use Rattle.std.specs.Prelude.{◌≡◌, ℕ, List, [], ◌∷◌, Option, codes, pos, negsuc, true, false};
+ghost use Rattle.std.specs.Prelude.{◌≡◌, ℕ, List, [], ◌∷◌, Option, Some, None, codes, pos, negsuc, true, false};
 ghost use Rattle.spl_value.specs.Script.{End, Failed};
 ghost use Rattle.spl_value.specs.declared.item.Item.TheVariants as I;
 ghost use Rattle.spl_value.specs.declared.item.FaultKind.TheVariants as K;
 ghost use Rattle.spl_value.specs.declared.types.IntKind.TheVariants as N;
 ghost use Rattle.spl_value.specs.declared.types.SplType.TheVariants as T;
 ghost use Rattle.spl_value.specs.declared.value.Value.TheVariants as V;
-ghost use Rattle.stream_model.specs.Laws.{HistoryLaw, OutGrows, ChainGrows, OutCloses, ClosedGivesClosed, BodyLaw, GraphLaw, IsOrdered};
+ghost use Rattle.stream_model.specs.Laws.{HistoryLaw, EndLaw, OutGrows, ChainGrows, OutCloses, ClosedGivesClosed, BodyLaw, GraphLaw, IsOrdered, RowsClose};
 ghost use Rattle.stream_model.specs.React.{Source, FileSource, Filter, FileSink};
 ghost use Rattle.stream_model.specs.declared.condition.Condition.{Condition};
-ghost use Rattle.stream_model.specs.Rows.{rows};
+ghost use Rattle.stream_model.specs.Rows.{rows, too_long, text_of};
 
-/// One event more gives its reaction behind the history of all before it.
+/// One event more gives its reaction behind the history of all before it, and may end the operator.
 pub fn history_law()
-    ensures { HistoryLaw }
+    ensures history { HistoryLaw }
+    ensures ends { EndLaw }
 {}
 
 /// A longer list of events gives a longer stream, and a closed stream a closed one.
@@ -42,6 +43,11 @@ pub fn chain_is_ordered()
         ∷ record { number = 2; kind = FileSink file; ins = (1 ∷ []) ∷ []; outs = [] } ∷ []) }
 {}
 
+/// The stream of a source is closed.
+pub fn rows_law()
+    ensures { RowsClose }
+{}
+
 /// Rows of some files.
 pub fn rows_on_literals()
     ensures plain { rows (record { op = 0; schema = record { name = codes "k"; kind = T.Text } ∷ record { name = codes "n"; kind = T.Int N.I8 } ∷ []; strict = true; limit = 100 })
@@ -65,4 +71,18 @@ pub fn rows_on_literals()
     ensures marked { rows (record { op = 3; schema = record { name = codes "n"; kind = T.Int N.I8 } ∷ []; strict = true; limit = 99 })
         (239 ∷ 187 ∷ 191 ∷ codes "5\r") End
         ≡ I.Tuple (V.Int (pos 5) ∷ []) ∷ I.Window ∷ I.Final ∷ [] }
+    ensures flags { rows (record { op = 3; schema = record { name = codes "b"; kind = T.Bool } ∷ []; strict = true; limit = 99 })
+        (codes "true\nfalse\nTrue\n") End
+        ≡ I.Tuple (V.Bool true ∷ []) ∷ I.Tuple (V.Bool false ∷ []) ∷ I.Bad (record { op = 3; kind = K.BadRow; line = 3 }) ∷ [] }
+    ensures longest { too_long 65536 65537 65537 ≡ None }
+    ensures long_row { too_long 65537 65538 65536 ≡ Some K.LongRow }
+    ensures long_file { too_long 65537 65538 65535 ≡ Some K.LongFile }
+{}
+
+/// The text of some streams.
+pub fn text_on_literals()
+    ensures kinds { text_of (I.Tuple (V.Text (codes "a") ∷ V.Int (negsuc 127) ∷ V.Bool true ∷ []) ∷ I.Window ∷ I.Final ∷ [])
+        ≡ codes "a,-128,true\n" }
+    ensures quoted { text_of (I.Tuple (V.Text (codes "a,\"b\"") ∷ []) ∷ I.Tuple (V.Text [] ∷ []) ∷ I.Tuple (V.Int (pos 7) ∷ []) ∷ [])
+        ≡ codes "\"a,\"\"b\"\"\"\n\"\"\n7\n" }
 {}

@@ -9,7 +9,10 @@ mod record;
 
 pub use comparison::Comparison;
 pub use condition::Condition;
-pub use laws::{chain_is_ordered, graph_law, history_law, kinds_law, order_law, rows_on_literals};
+pub use laws::{
+    chain_is_ordered, graph_law, history_law, kinds_law, order_law, rows_law, rows_on_literals,
+    text_on_literals,
+};
 pub use outs::{Output, Outs};
 pub use record::{
     ArrivalList, ArrivalLists, Arrivals, ChannelCount, ChannelCounts, Counts, SinkCount, SinkCounts,

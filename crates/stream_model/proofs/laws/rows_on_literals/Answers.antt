@@ -29,3 +29,7 @@ returns-clause-failed c = simp T.outs-Int
 pub returns-clause-marked : goal.returns-clause-marked
 unfolding csv_on_literals
 returns-clause-marked c = simp T.outs-Int
+
+pub returns-clause-flags : goal.returns-clause-flags
+unfolding csv_on_literals
+returns-clause-flags c = simp T.outs-Bool

@@ -1,0 +1,5 @@
+use Rattle.stream_model.proofs.RowsEnd.{rows_close}
+use Rattle.stream_model.proofs.laws.rows_law.Goals as goal
+
+pub returns : goal.returns
+returns c = rows_close
