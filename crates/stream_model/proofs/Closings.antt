@@ -9,9 +9,8 @@ use Rattle.stream_model.specs.declared.condition.Condition.{Condition}
 use Rattle.stream_model.specs.Stream.{Event, came, is_fault, closes, any_closes, is_closed, is_empty}
 use Rattle.stream_model.specs.React.{Operator, Kind, FileSource, Filter, FileSink, Answer, Gives, Faults, body, filter_body, sink_body, passes, react, ended, ended_by, answered, on_each, output, is_waiting, is_last, fault_of}
 use Rattle.stream_model.specs.Stages.{Stage, gives_all, after, on_port}
-use Rattle.stream_model.specs.StageLaws.{on_port-append, gives_all-over, after-over}
+use Rattle.stream_model.specs.StageLaws.{stage_at, one_in, one_in-parts, on_port-append, gives_all-over, after-over}
 use Rattle.stream_model.specs.Laws.{has_ended, BodyLaw, OutCloses, ClosedGivesClosed}
-use Rattle.stream_model.proofs.Histories.{behind_some}
 
 -- the items of an answer
 abbrev pub given : Answer → List Output
@@ -131,20 +130,20 @@ react_closed op p earlier e lt =
     caused_closed op p e.item (is_fault e.item) (is_waiting op earlier e) (is_last op earlier e) (body op.kind earlier e) (given_open op.kind earlier e) lt (closes-fault e.item)
 
 closed_step : (op : Operator) (p : ℕ) (seen : List Event) (e : Event) (events : List Event) (b : Bool) → p < length op.outs → is_some (ended op seen e) ≡ b
-    → is_closed (on_port p (gives_all (behind_some op (e ∷ seen) false) events)) ≡ (after (behind_some op (e ∷ seen) false) events).over
-    → is_closed (on_port p (react op seen e ++ gives_all (behind_some op (e ∷ seen) b) events)) ≡ (after (behind_some op (e ∷ seen) b) events).over
+    → is_closed (on_port p (gives_all (stage_at op (e ∷ seen) false) events)) ≡ (after (stage_at op (e ∷ seen) false) events).over
+    → is_closed (on_port p (react op seen e ++ gives_all (stage_at op (e ∷ seen) b) events)) ≡ (after (stage_at op (e ∷ seen) b) events).over
 closed_step op p seen e events true lt q rest =
-    ap (λ outs. is_closed (on_port p (react op seen e ++ outs))) (gives_all-over (behind_some op (e ∷ seen) true) events refl)
+    ap (λ outs. is_closed (on_port p (react op seen e ++ outs))) (gives_all-over (stage_at op (e ∷ seen) true) events refl)
     ∙ ap (λ outs. is_closed (on_port p outs)) (append-nil (react op seen e))
     ∙ react_closed op p seen e lt q
-    ∙ ap (λ (s : Stage). s.over) (sym (after-over (behind_some op (e ∷ seen) true) events refl))
+    ∙ ap (λ (s : Stage). s.over) (sym (after-over (stage_at op (e ∷ seen) true) events refl))
 closed_step op p seen e events false lt q rest =
-    ap is_closed (on_port-append p (react op seen e) (gives_all (behind_some op (e ∷ seen) false) events))
-    ∙ is_closed-append (on_port p (react op seen e)) (on_port p (gives_all (behind_some op (e ∷ seen) false) events)) (react_open op p seen e q)
+    ap is_closed (on_port-append p (react op seen e) (gives_all (stage_at op (e ∷ seen) false) events))
+    ∙ is_closed-append (on_port p (react op seen e)) (on_port p (gives_all (stage_at op (e ∷ seen) false) events)) (react_open op p seen e q)
     ∙ rest
 
 closed_from : (op : Operator) (p : ℕ) (seen events : List Event) → p < length op.outs
-    → is_closed (on_port p (gives_all (behind_some op seen false) events)) ≡ (after (behind_some op seen false) events).over
+    → is_closed (on_port p (gives_all (stage_at op seen false) events)) ≡ (after (stage_at op seen false) events).over
 closed_from op p seen [] lt = refl
 closed_from op p seen (e ∷ events) lt = closed_step op p seen e events (is_some (ended op seen e)) lt refl (closed_from op p (e ∷ seen) events lt)
 
@@ -155,10 +154,6 @@ ended_by-last : (op : Operator) (a : Answer) → is_some (ended_by op true a) �
 ended_by-last op (Gives outs) = refl
 ended_by-last op (Faults kind) = refl
 
--- the one connection of an operator
-abbrev one_in : ℕ → Kind → ℕ → List ℕ → Operator
-one_in n kind s outs = record { number = n; kind = kind; ins = (s ∷ []) ∷ []; outs = outs }
-
 -- an item that closes ends an operator with one connection
 ended-closing : (n s : ℕ) (kind : Kind) (outs : List ℕ) (seen : List Event) (x : Item) → closes x ≡ true → is_some (ended (one_in n kind s outs) seen (came 0 x)) ≡ true
 ended-closing n s kind outs seen (I.Tuple vs) h = cc
@@ -167,24 +162,21 @@ ended-closing n s kind outs seen I.Final h = ended_by-last (one_in n kind s outs
 ended-closing n s kind outs seen (I.Bad f) h = refl
 
 over-closed : (n s : ℕ) (kind : Kind) (outs : List ℕ) (seen : List Event) (items : List Item) → is_closed items ≡ true
-    → (after (behind_some (one_in n kind s outs) seen false) (map (came 0) items)).over ≡ true
+    → (after (stage_at (one_in n kind s outs) seen false) (map (came 0) items)).over ≡ true
 over-closed n s kind outs seen [] h = cc
 over-closed n s kind outs seen (x ∷ items) h =
     go (is_some (ended (one_in n kind s outs) seen (came 0 x))) (closes x) (ended-closing n s kind outs seen x) h
     (over-closed n s kind outs (came 0 x ∷ seen) items)
   where
     go : (b c : Bool) → (c ≡ true → b ≡ true) → cond c (is_empty items) (is_closed items) ≡ true
-        → (is_closed items ≡ true → (after (behind_some (one_in n kind s outs) (came 0 x ∷ seen) false) (map (came 0) items)).over ≡ true)
-        → (after (behind_some (one_in n kind s outs) (came 0 x ∷ seen) b) (map (came 0) items)).over ≡ true
-    go true c f q rest = ap (λ (s : Stage). s.over) (after-over (behind_some (one_in n kind s outs) (came 0 x ∷ seen) true) (map (came 0) items) refl)
+        → (is_closed items ≡ true → (after (stage_at (one_in n kind s outs) (came 0 x ∷ seen) false) (map (came 0) items)).over ≡ true)
+        → (after (stage_at (one_in n kind s outs) (came 0 x ∷ seen) b) (map (came 0) items)).over ≡ true
+    go true c f q rest = ap (λ (s : Stage). s.over) (after-over (stage_at (one_in n kind s outs) (came 0 x ∷ seen) true) (map (came 0) items) refl)
     go false true f q rest = let clash : false ≡ true = f refl in cc
     go false false f q rest = rest q
 
 pub closed_gives_closed : ClosedGivesClosed
 closed_gives_closed op s p items i lt h =
     out_closes op p (map (came 0) items) lt
-    ∙ ap (λ (one : Operator). has_ended one (map (came 0) items)) (parts i)
+    ∙ ap (λ (one : Operator). has_ended one (map (came 0) items)) (one_in-parts op op.kind s op.outs refl i refl)
     ∙ over-closed op.number s op.kind op.outs [] items h
-  where
-    parts : op.ins ≡ (s ∷ []) ∷ [] → op ≡ one_in op.number op.kind s op.outs
-    parts e = rw (← e)

@@ -4,7 +4,7 @@ use Rattle.std.proofs.lemmas.Bool.{cond-true, cond-false}
 use Rattle.stream_model.specs.Stream.{Event}
 use Rattle.stream_model.specs.React.{Operator, react, ended}
 use Rattle.stream_model.specs.Stages.{Stage, start, gives, next, gives_all, after, on_port, out}
-use Rattle.stream_model.specs.StageLaws.{gives_all-append, after-append, on_port-append, after-over}
+use Rattle.stream_model.specs.StageLaws.{stage_at, gives_all-append, after-append, on_port-append, after-over}
 use Rattle.stream_model.specs.Laws.{behind, HistoryLaw, EndLaw}
 
 pub out-more : (op : Operator) (p : ℕ) (events : List Event) (e : Event)
@@ -13,25 +13,21 @@ out-more op p events e =
     ap (on_port p) (gives_all-append (start op) events (e ∷ []) ∙ ap (λ outs. gives_all (start op) events ++ outs) (append-nil (gives (after (start op) events) e)))
     ∙ on_port-append p (gives_all (start op) events) (gives (after (start op) events) e)
 
--- a stage behind some events, over or not
-abbrev pub behind_some : Operator → List Event → Bool → Stage
-behind_some op seen over = record { op = op; seen = seen; over = over }
-
-after-op : (op : Operator) (seen events : List Event) (over : Bool) → (after (behind_some op seen over) events).op ≡ op
+after-op : (op : Operator) (seen events : List Event) (over : Bool) → (after (stage_at op seen over) events).op ≡ op
 after-op op seen [] over = refl
 after-op op seen (e ∷ events) true = after-op op seen events true
 after-op op seen (e ∷ events) false = after-op op (e ∷ seen) events (is_some (ended op seen e))
 
 -- a stage that isn't over has seen all events
-after-seen : (op : Operator) (seen events : List Event) → (after (behind_some op seen false) events).over ≡ false
-    → (after (behind_some op seen false) events).seen ≡ behind seen events
+after-seen : (op : Operator) (seen events : List Event) → (after (stage_at op seen false) events).over ≡ false
+    → (after (stage_at op seen false) events).seen ≡ behind seen events
 after-seen op seen [] q = refl
 after-seen op seen (e ∷ events) q = go (is_some (ended op seen e)) q (after-seen op (e ∷ seen) events)
   where
-    go : (b : Bool) → (after (behind_some op (e ∷ seen) b) events).over ≡ false
-        → ((after (behind_some op (e ∷ seen) false) events).over ≡ false → (after (behind_some op (e ∷ seen) false) events).seen ≡ behind (e ∷ seen) events)
-        → (after (behind_some op (e ∷ seen) b) events).seen ≡ behind (e ∷ seen) events
-    go true q rest = let z = after-over (behind_some op (e ∷ seen) true) events refl in let w = ap (λ (s : Stage). s.over) z in absurd (cc)
+    go : (b : Bool) → (after (stage_at op (e ∷ seen) b) events).over ≡ false
+        → ((after (stage_at op (e ∷ seen) false) events).over ≡ false → (after (stage_at op (e ∷ seen) false) events).seen ≡ behind (e ∷ seen) events)
+        → (after (stage_at op (e ∷ seen) b) events).seen ≡ behind (e ∷ seen) events
+    go true q rest = let z = after-over (stage_at op (e ∷ seen) true) events refl in let w = ap (λ (s : Stage). s.over) z in absurd (cc)
     go false q rest = rest q
 
 pub history_law : HistoryLaw

@@ -8,13 +8,13 @@ use Rattle.spl_value.specs.declared.item.Item.TheVariants as I
 use Rattle.stream_model.specs.declared.outs.Output.{Output}
 use Rattle.stream_model.specs.declared.condition.Condition.{Condition}
 use Rattle.stream_model.specs.Stream.{Event, came, any_closes}
-use Rattle.stream_model.specs.React.{Operator, Kind, Source, FileSource, Filter, FileSink, passes}
-use Rattle.stream_model.specs.Stages.{Stage, gives_all, on_port, out}
+use Rattle.stream_model.specs.React.{Operator, Source, FileSource, Filter, FileSink, passes}
+use Rattle.stream_model.specs.Stages.{gives_all, on_port, out}
 use Rattle.stream_model.specs.Meaning.{Graph, Lists, Entries, meaning, text}
 use Rattle.stream_model.specs.Laws.{is_made, IsOrdered}
 use Rattle.stream_model.specs.OrderLaws.{IsOrdered-nil, IsOrdered-cons, at_only}
 use Rattle.stream_model.specs.Rows.{item_text, text_of}
-use Rattle.stream_model.specs.StageLaws.{gives_all-over}
+use Rattle.stream_model.specs.StageLaws.{stage_at, one_in, one_in-parts, gives_all-over}
 
 -- what passes a condition: its tuples and the window markers, up to a final marker or a fault, which is the last
 abbrev pub passed : Option Condition → List Item → List Item
@@ -54,19 +54,8 @@ written-append (I.Window ∷ first) second h = written-append first second h
 written-append (I.Final ∷ first) second h = cc
 written-append (I.Bad f ∷ first) second h = cc
 
--- an operator of this kind with one connection, and where it stands behind these events
-abbrev operator : ℕ → Kind → ℕ → List ℕ → Operator
-operator n kind s outs = record { number = n; kind = kind; ins = (s ∷ []) ∷ []; outs = outs }
-
-abbrev behind : Operator → List Event → Bool → Stage
-behind op seen over = record { op = op; seen = seen; over = over }
-
--- that an operator is one of those
-operator-parts : (op : Operator) (kind : Kind) (s : ℕ) (outs : List ℕ) → op.kind ≡ kind → op.ins ≡ (s ∷ []) ∷ [] → op.outs ≡ outs → op ≡ operator op.number kind s outs
-operator-parts op kind s outs k i o = rw (← k, ← i, ← o)
-
 filter_from : (n s t : ℕ) (condition : Option Condition) (seen : List Event) (items : List Item)
-    → on_port 0 (gives_all (behind (operator n (Filter condition) s (t ∷ [])) seen false) (map (came 0) items)) ≡ passed condition items
+    → on_port 0 (gives_all (stage_at (one_in n (Filter condition) s (t ∷ [])) seen false) (map (came 0) items)) ≡ passed condition items
 filter_from n s t condition seen [] = refl
 filter_from n s t condition seen (I.Tuple vs ∷ items) = go (passes condition vs) _ _ (filter_from n s t condition (came 0 (I.Tuple vs) ∷ seen) items)
   where
@@ -76,32 +65,32 @@ filter_from n s t condition seen (I.Tuple vs ∷ items) = go (passes condition v
     go false outs rest e = e
 filter_from n s t condition seen (I.Window ∷ items) = ap (λ xs. I.Window ∷ xs) (filter_from n s t condition (came 0 I.Window ∷ seen) items)
 filter_from n s t condition seen (I.Final ∷ items) =
-    ap (λ outs. I.Final ∷ on_port 0 outs) (gives_all-over (behind (operator n (Filter condition) s (t ∷ [])) (came 0 I.Final ∷ seen) true) (map (came 0) items) refl)
+    ap (λ outs. I.Final ∷ on_port 0 outs) (gives_all-over (stage_at (one_in n (Filter condition) s (t ∷ [])) (came 0 I.Final ∷ seen) true) (map (came 0) items) refl)
 filter_from n s t condition seen (I.Bad f ∷ items) =
-    ap (λ outs. I.Bad f ∷ on_port 0 outs) (gives_all-over (behind (operator n (Filter condition) s (t ∷ [])) (came 0 (I.Bad f) ∷ seen) true) (map (came 0) items) refl)
+    ap (λ outs. I.Bad f ∷ on_port 0 outs) (gives_all-over (stage_at (one_in n (Filter condition) s (t ∷ [])) (came 0 (I.Bad f) ∷ seen) true) (map (came 0) items) refl)
 
 -- what a filter gives for a stream
 pub filter_out : (op : Operator) (condition : Option Condition) (s t : ℕ) (items : List Item)
     → op.kind ≡ Filter condition → op.ins ≡ (s ∷ []) ∷ [] → op.outs ≡ t ∷ [] → out op 0 (map (came 0) items) ≡ passed condition items
 filter_out op condition s t items k i o =
-    ap (λ (one : Operator). out one 0 (map (came 0) items)) (operator-parts op (Filter condition) s (t ∷ []) k i o)
+    ap (λ (one : Operator). out one 0 (map (came 0) items)) (one_in-parts op (Filter condition) s (t ∷ []) k i o)
     ∙ filter_from op.number s t condition [] items
 
 sink_from : (n s : ℕ) (file : List ℕ) (seen : List Event) (items : List Item)
-    → on_port 0 (gives_all (behind (operator n (FileSink file) s []) seen false) (map (came 0) items)) ≡ written items
+    → on_port 0 (gives_all (stage_at (one_in n (FileSink file) s []) seen false) (map (came 0) items)) ≡ written items
 sink_from n s file seen [] = refl
 sink_from n s file seen (I.Tuple vs ∷ items) = ap (λ xs. I.Tuple vs ∷ xs) (sink_from n s file (came 0 (I.Tuple vs) ∷ seen) items)
 sink_from n s file seen (I.Window ∷ items) = sink_from n s file (came 0 I.Window ∷ seen) items
 sink_from n s file seen (I.Final ∷ items) =
-    ap (on_port 0) (gives_all-over (behind (operator n (FileSink file) s []) (came 0 I.Final ∷ seen) true) (map (came 0) items) refl)
+    ap (on_port 0) (gives_all-over (stage_at (one_in n (FileSink file) s []) (came 0 I.Final ∷ seen) true) (map (came 0) items) refl)
 sink_from n s file seen (I.Bad f ∷ items) =
-    ap (on_port 0) (gives_all-over (behind (operator n (FileSink file) s []) (came 0 (I.Bad f) ∷ seen) true) (map (came 0) items) refl)
+    ap (on_port 0) (gives_all-over (stage_at (one_in n (FileSink file) s []) (came 0 (I.Bad f) ∷ seen) true) (map (came 0) items) refl)
 
 -- what a sink gives to its writer for a stream
 pub sink_out : (op : Operator) (file : List ℕ) (s : ℕ) (items : List Item)
     → op.kind ≡ FileSink file → op.ins ≡ (s ∷ []) ∷ [] → op.outs ≡ [] → out op 0 (map (came 0) items) ≡ written items
 sink_out op file s items k i o =
-    ap (λ (one : Operator). out one 0 (map (came 0) items)) (operator-parts op (FileSink file) s [] k i o)
+    ap (λ (one : Operator). out one 0 (map (came 0) items)) (one_in-parts op (FileSink file) s [] k i o)
     ∙ sink_from op.number s file [] items
 
 -- the text that a sink writes for a stream

@@ -5,7 +5,20 @@ use Rattle.std.proofs.lemmas.Bool.{cond-true}
 use Rattle.spl_value.specs.declared.item.Item.{Item}
 use Rattle.stream_model.specs.declared.outs.Output.{Output}
 use Rattle.stream_model.specs.Stream.{Event}
+use Rattle.stream_model.specs.React.{Operator, Kind}
 use Rattle.stream_model.specs.Stages.{Stage, gives, next, gives_all, after, on_port}
+
+-- an operator behind these events, the newest first, over or not
+abbrev pub stage_at : Operator → List Event → Bool → Stage
+stage_at op seen over = record { op = op; seen = seen; over = over }
+
+-- an operator of a kind with one connection
+abbrev pub one_in : ℕ → Kind → ℕ → List ℕ → Operator
+one_in number kind s outs = record { number = number; kind = kind; ins = (s ∷ []) ∷ []; outs = outs }
+
+-- its parts are all of it
+pub one_in-parts : (op : Operator) (kind : Kind) (s : ℕ) (outs : List ℕ) → op.kind ≡ kind → op.ins ≡ (s ∷ []) ∷ [] → op.outs ≡ outs → op ≡ one_in op.number kind s outs
+one_in-parts op kind s outs k i o = rw (← k, ← i, ← o)
 
 -- events in two lists: what the first gives, and what the second gives behind it
 pub gives_all-append : (s : Stage) (first second : List Event) → gives_all s (first ++ second) ≡ gives_all s first ++ gives_all (after s first) second
