@@ -1,8 +1,8 @@
 // The shelf over the system's files, and a pour over any writer. They tell nothing of what files hold.
-ghost use Rattle.std.specs.Prelude.{◌≡◌, ◌≤◌, ◌<◌, ◌^◌, [], length, take, true, Some, None, OnOk};
+ghost use Rattle.std.specs.Prelude.{ℕ, List, ◌≡◌, ◌≤◌, ◌<◌, ◌^◌, [], length, take, true, Some, None, OnOk};
 ghost use Rattle.std.specs.Io.KnownBytes.{Keeps, Appends};
 ghost use Rattle.feed_pour.specs.Contents.{failed_read};
-ghost use Rattle.feed_pour.specs.Counts.{Counted};
+ghost use Rattle.feed_pour.specs.Counts.{Counted, no_counts};
 ghost use Rattle.feed_pour.specs.Files.{counts_in, counts_of, knows};
 
 use crate::table::Entry;
@@ -134,7 +134,9 @@ where
     R::File: Send,
 {
     /// A shelf that was asked for no name yet.
-    pub fn new(rt: R, alloc: Global) -> FileShelf<R> {
+    pub fn new(rt: R, alloc: Global) -> FileShelf<R>
+        ensures { (n : List ℕ) → ⟦<FileShelf<R> as Shelf>⟧.counts result n ≡ no_counts }
+    {
         FileShelf {
             rt,
             alloc,
@@ -144,7 +146,7 @@ where
 
     /// The four counts of a name, 0 for one that the shelf was never asked for.
     pub fn tallies(&self, name: &Name) -> Tallies
-        ensures { counts_of (Some result) ≡ counts_in self.now.tallies.items name.now }
+        ensures { counts_of (Some result) ≡ ⟦<FileShelf<R> as Shelf>⟧.counts self.now name.now }
     {
         tallies_of(self.tallies.as_slice(), name)
     }

@@ -1,4 +1,7 @@
-//! What a program reads from and writes to, as traits.
+//! What a program reads from and writes to, as traits: a source of bytes, a sink of bytes, and a
+//! shelf of named files. They stand over memory, with failing calls or without, and over the
+//! system's files. `Starter` and `Gate` let a caller choose the groups that get a worker, and see
+//! each put.
 #![tactic(auto)]
 
 mod calls;
@@ -12,6 +15,8 @@ mod starters;
 mod stdout;
 mod table;
 mod tallies;
+#[cfg(test)]
+mod tests;
 mod whole;
 
 pub use calls::Calls;

@@ -7,16 +7,21 @@ use crate::{Opened, ReadAll, Shelf, read_all};
 use spl_value::{Bytes, Name};
 use std::alloc::Global;
 
+/// What a file of a shelf gave.
 #[derive(Debug, Drop)]
 pub enum Fetched {
+    /// All of its bytes.
     Whole(Bytes),
+    /// It gives more bytes than the limit.
     TooLong,
+    /// It can't be opened.
     OpenFailed,
+    /// A read failed, within the limit.
     ReadFailed,
     Memory,
 }
 
-/// Reads the file of this name, up to a limit.
+/// Reads the file of this name, up to a limit of bytes, and gives its feed back.
 pub fn fetch<H: Shelf>(alloc: Global, shelf: &mut H, name: &Name, limit: u32) -> Fetched
     ensures read { IfSome (H.told shelf.old) (λ t. FetchedOf (t.script name.now) result limit) }
     ensures told { WhereTold (H.told shelf.old) (H.told shelf.new) TellsSame }

@@ -7,23 +7,30 @@ ghost use Rattle.feed_pour.specs.Contents.{PieceGiven, LeftTaken, Poured, failed
 
 use spl_value::Name;
 
-/// The device failed.
+/// The device failed. The object that answers it counted the fault.
 #[derive(Clone, Copy, Debug, PartialEq, Eq)]
 pub struct Failed;
 
+/// Why a write poured less than it was given.
 #[derive(Clone, Copy, Debug, PartialEq, Eq)]
 pub enum PourAnswer {
+    /// The device failed, and the pour counted the fault. A front of the bytes may be poured.
     Failed,
+    /// No memory was left. Nothing was poured.
     Memory,
 }
 
+/// What a shelf answers where it is asked to open or to create a file.
 #[derive(Debug, Drop)]
 pub enum Opened<T> {
     Ok(T),
+    /// The device failed, and the shelf counted the fault under the name.
     Failed,
+    /// No memory was left. The shelf is unchanged.
     Memory,
 }
 
+/// A source of bytes.
 pub trait Feed {
     /// What reads in pieces of 8,192 bytes give, where it is told.
     ghost script: { Self → Option Script };
@@ -31,9 +38,10 @@ pub trait Feed {
     /// The bytes that are left, where they are told.
     ghost left: { Self → Option (List ℕ) };
 
-    /// How often a read has failed.
+    /// How many reads failed, up to 2^64 - 1.
     ghost faults: { Self → ℕ };
 
+    /// Places bytes at the front of `into`, and answers how many. 0 is the end of the file.
     fn read(&mut self, into: &mut [u8]) -> Result<usize, Failed>
         requires { 0 < length into.old }
         ensures bound { ReadsAtMost result into.new }
@@ -43,13 +51,16 @@ pub trait Feed {
         ensures counted { faults self.new < 2 ^ 64 };
 }
 
+/// A sink of bytes.
 pub trait Pour {
     /// The bytes that were poured, where they are told.
     ghost poured: { Self → Option (List ℕ) };
 
-    /// How often a write has failed.
+    /// How many writes failed, up to 2^64 - 1.
     ghost faults: { Self → ℕ };
 
+    /// Pours a front of `from`, and answers how many bytes it has, at least one. A device that
+    /// takes none has failed.
     fn write(&mut self, from: &[u8]) -> Result<usize, PourAnswer>
         requires { 0 < length from.now }
         ensures some { IfOk result (λ n. (0 < n) × (n ≤ length from.now)) }
@@ -58,22 +69,26 @@ pub trait Pour {
         ensures counted { faults self.new < 2 ^ 64 };
 }
 
+/// Files by name. Each feed and each pour that a shelf gave is given back to it under its name, by
+/// `close_in` and `finish`.
 pub trait Shelf {
     type Reader: Feed + Send + Drop;
 
     type Writer: Pour + Send + Drop;
 
-    /// The counts of each name.
+    /// The counts of faults of each name: of opening, creating, reading and writing.
     ghost counts: { Self → List ℕ → Counts };
 
-    /// The files and the scripts, where they are told.
+    /// What each name holds and the script of a feed that is opened on it, where they are told.
     ghost told: { Self → Option Told };
 
-    /// The names that a feed was opened for, and those that were created.
+    /// The names that a feed was opened for.
     ghost opened: { Self → List ℕ → Type 0 };
 
+    /// The names that a pour was created for.
     ghost created: { Self → List ℕ → Type 0 };
 
+    /// A feed of what the name holds. It fails where the name can't be opened.
     fn open_in(&mut self, name: &Name) -> Opened<Self::Reader>
         ensures cause { OpeningCounted (failed_open result) (counts self.old) (counts self.new) name.now }
         ensures told { WhereTold (told self.old) (told self.new) TellsSame }
@@ -83,6 +98,8 @@ pub trait Shelf {
         ensures keeps { KeepsNames (opened self.old) (opened self.new) }
         ensures keeps_created { KeepsNames (created self.old) (created self.new) };
 
+    /// Makes the name empty, and gives a pour into it. It fails where the name can't be created,
+    /// and the name then holds what it held.
     fn create(&mut self, name: &Name) -> Opened<Self::Writer>
         ensures cause { CreatingCounted (failed_open result) (counts self.old) (counts self.new) name.now }
         ensures told { WhereTold (told self.old) (told self.new) (Created (is_opened result) name.now) }
@@ -92,6 +109,7 @@ pub trait Shelf {
         ensures keeps { KeepsNames (opened self.old) (opened self.new) }
         ensures keeps_created { KeepsNames (created self.old) (created self.new) };
 
+    /// Takes a feed of this name back. A feed that has failed counts as one fault of reading.
     fn close_in(&mut self, name: &Name, feed: Self::Reader)
         requires { opened self.old name.now }
         ensures cause { ReadingCounted (nat_lt 0 (Self.Reader.faults feed)) (counts self.old) (counts self.new) name.now }
@@ -99,6 +117,9 @@ pub trait Shelf {
         ensures keeps { KeepsNames (opened self.old) (opened self.new) }
         ensures keeps_created { KeepsNames (created self.old) (created self.new) };
 
+    /// Takes a pour of this name back, and lets the name hold what was poured. It fails where a
+    /// write of the pour failed, and where finishing itself fails. The name then holds a prefix of
+    /// what was poured.
     fn finish(&mut self, name: &Name, out: Self::Writer) -> Result<(), Failed>
         requires { created self.old name.now }
         ensures cause { WritingCounted (failed_read result) (counts self.old) (counts self.new) name.now }

@@ -19,6 +19,14 @@ impl<W: Write> StdoutPour<W> {
     {
         StdoutPour { writer, faults: 0 }
     }
+
+    /// Gives the writer back.
+    pub fn into_writer(self) -> W
+        ensures { W.contents result ≡ ⟦<StdoutPour<W> as Pour>⟧.poured self }
+    {
+        let StdoutPour { writer, faults: _ } = self;
+        writer
+    }
 }
 
 impl<W: Write> Pour for StdoutPour<W> {

@@ -3,15 +3,19 @@ ghost use Rattle.feed_pour.specs.Counts.{Counted};
 ghost use Rattle.feed_pour.specs.Contents.{AllRead, AllPoured, failed_read_all, failed_write};
 
 use crate::{Feed, Pour, PourAnswer};
-use spl_value::Items;
+use spl_value::{Bytes, Items};
 use std::alloc::Global;
 
 const PIECE: usize = 8192;
 
+/// What reading a feed to its end gave.
 #[derive(Debug, Drop)]
 pub enum ReadAll {
-    Whole(Items<u8>),
+    /// All of its bytes.
+    Whole(Bytes),
+    /// It gives more bytes than the limit.
     TooLong,
+    /// A read failed, within the limit.
     Failed,
     Memory,
 }
@@ -37,7 +41,7 @@ pub fn read_all<F: Feed>(alloc: Global, feed: &mut F, limit: u32) -> ReadAll
     ReadAll::TooLong
 }
 
-/// Writes all of these bytes.
+/// Pours all of these bytes. After an `Err` a front of them is poured, which may be empty.
 pub fn write_all<P: Pour>(pour: &mut P, bytes: &[u8]) -> Result<(), PourAnswer>
     ensures poured { AllPoured (P.poured pour.old) (P.poured pour.new) result bytes.now }
     ensures cause { Counted (failed_write result) (P.faults pour.old) (P.faults pour.new) }
