@@ -95,6 +95,12 @@ is_opened (O.Ok x) = true
 is_opened O.Failed = false
 is_opened O.Memory = false
 
+-- an answer that is not for want of memory is a failure exactly where this says so
+abbrev pub FailsWhere : {T : Type 0} → Bool → Opened T → Type 0
+FailsWhere fails (O.Ok x) = fails ≡ false
+FailsWhere fails O.Failed = fails ≡ true
+FailsWhere fails O.Memory = ⊤
+
 -- a name once known stays known
 abbrev pub KeepsNames : (List ℕ → Type 0) → (List ℕ → Type 0) → Type 0
 KeepsNames old new = (n : List ℕ) → old n → new n

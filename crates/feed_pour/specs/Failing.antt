@@ -2,6 +2,8 @@
 use Rattle.std.specs.Prelude.{◌≡◌, ◌+◌, ℕ, List, [], ◌∷◌, Bool, true, false, if◌then◌else◌, nat_lt, min, ◌==◌, Option, Some, None, ◌⊎◌}
 use Rattle.std.specs.List.{list_any}
 use Rattle.std.specs.Prelude.{◌^◌, ◌-◌, Result, Ok, Err}
+use Rattle.feed_pour.specs.declared.outside.Opened.{Opened}
+use Rattle.feed_pour.specs.declared.outside.Opened.TheVariants as O
 use Rattle.feed_pour.specs.declared.outside.PourAnswer.{PourAnswer}
 use Rattle.feed_pour.specs.declared.outside.PourAnswer.TheVariants as P
 
@@ -33,3 +35,9 @@ abbrev pub writes_after : Result ℕ PourAnswer → ℕ → ℕ
 writes_after (Ok n) made = one_more made
 writes_after (Err P.Failed) made = one_more made
 writes_after (Err P.Memory) made = made
+
+-- how many calls of a shelf there were after this one; one that found no memory is none
+abbrev pub calls_after : {T : Type 0} → Opened T → ℕ → ℕ
+calls_after (O.Ok x) made = one_more made
+calls_after O.Failed made = one_more made
+calls_after O.Memory made = made

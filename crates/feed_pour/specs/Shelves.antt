@@ -1,6 +1,7 @@
 -- What a shelf in memory keeps: the files, the counts, and the numbers of the calls that are to fail.
-use Rattle.std.specs.Prelude.{◌≡◌, ℕ, List, [], Option, None}
+use Rattle.std.specs.Prelude.{◌≡◌, ◌+◌, ℕ, List, [], Option, Some, None, Bool, true, false, ◌||◌}
 use Rattle.feed_pour.specs.Counts.{Counts, OthersStay, no_counts}
+use Rattle.feed_pour.specs.Failing.{is_to_fail}
 use Rattle.feed_pour.specs.Files.{counts_in}
 use Rattle.feed_pour.specs.Plain.{bytes_or_none}
 use Rattle.feed_pour.specs.Table.{under, Puts}
@@ -88,3 +89,21 @@ pub record CallsSet (old new : MemoryShelf) (numbers : List ℕ) : Type 0 where
   pub reads : Stays (reads_to_fail old) (reads_to_fail new)
   pub writes : Stays (writes_to_fail old) (writes_to_fail new)
   pub made : calls_made new ≡ calls_made old
+
+-- the next of the shelf's own calls is to fail
+abbrev pub call_fails : MemoryShelf → Bool
+call_fails shelf = is_to_fail (calls_made shelf + 1) (calls_to_fail shelf)
+
+abbrev pub is_absent : Option (List ℕ) → Bool
+is_absent None = true
+is_absent (Some bytes) = false
+
+-- opening this name fails: the call is to fail, or the name is absent
+abbrev pub opening_fails : MemoryShelf → List ℕ → Bool
+opening_fails shelf name = call_fails shelf || is_absent (files_of shelf name)
+
+-- the numbers of all calls that are to fail stay
+pub record SameNumbers (old new : MemoryShelf) : Type 0 where
+  pub reads : Stays (reads_to_fail old) (reads_to_fail new)
+  pub writes : Stays (writes_to_fail old) (writes_to_fail new)
+  pub calls : calls_to_fail new ≡ calls_to_fail old

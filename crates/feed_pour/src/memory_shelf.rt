@@ -1,7 +1,9 @@
 // A shelf in memory. Some of its own calls, and of its feeds' and pours', may be told to fail.
-ghost use Rattle.std.specs.Prelude.{◌≡◌, ℕ, List, [], Some, None, IfOk, IsSome, OnOk, OnErr};
+ghost use Rattle.std.specs.Prelude.{◌≡◌, ◌<◌, ◌||◌, nat_lt, [], Some, IfOk, IfSome, IsErr, IsSome, OnOk, OnErr};
 ghost use Rattle.std.specs.Option.{option_copied};
-ghost use Rattle.feed_pour.specs.Counts.{no_counts};
+ghost use Rattle.feed_pour.specs.Contents.{Created, FailsWhere, Finished, IfOpened, KeepsNames, TellsSame, WhereTold, failed_open, failed_read, is_opened};
+ghost use Rattle.feed_pour.specs.Counts.{CreatingCounted, OpeningCounted, WritingCounted};
+ghost use Rattle.feed_pour.specs.Failing.{calls_after, one_more};
 ghost use Rattle.feed_pour.specs.Files.{counts_in, counts_of, knows};
 ghost use Rattle.feed_pour.specs.Memory.{memory_told};
 ghost use Rattle.feed_pour.specs.Plain.{bytes_or_none};
@@ -12,7 +14,7 @@ use crate::table::{Entry, find, put};
 use crate::tallies::{
     Tallies, know, raise_creating, raise_opening, raise_reading, raise_writing, tallies_of,
 };
-use crate::{Failed, MemoryFeed, MemoryPour, Opened, Shelf};
+use crate::{Failed, Feed, MemoryFeed, MemoryPour, Opened, Pour, Shelf};
 use spl_value::{Bytes, Items, Name, NoMemory};
 use std::alloc::Global;
 
@@ -122,6 +124,8 @@ impl MemoryShelf {
 }
 
 impl Shelf for MemoryShelf {
+    ghost use Rattle.feed_pour.specs.Shelves.{SameNumbers, call_fails, calls_made, files_of, opening_fails, reads_to_fail, writes_to_fail};
+
     type Reader = MemoryFeed;
 
     type Writer = MemoryPour;
@@ -134,7 +138,23 @@ impl Shelf for MemoryShelf {
 
     ghost created = { λ s n. knows s.tallies.items n × IsSome (under s.files.items n) };
 
-    fn open_in(&mut self, name: &Name) -> Opened<MemoryFeed> {
+    fn open_in(&mut self, name: &Name) -> Opened<MemoryFeed>
+        ensures cause { OpeningCounted (failed_open result) (⟦<MemoryShelf as Shelf>⟧.counts self.old) (⟦<MemoryShelf as Shelf>⟧.counts self.new) name.now }
+        ensures told { WhereTold (⟦<MemoryShelf as Shelf>⟧.told self.old) (⟦<MemoryShelf as Shelf>⟧.told self.new) TellsSame }
+        ensures feed { IfOpened result (λ feed. ⟦<MemoryFeed as Feed>⟧.faults feed ≡ 0) }
+        ensures script { IfOpened result (λ feed. IfSome (⟦<MemoryShelf as Shelf>⟧.told self.old) (λ t. ⟦<MemoryFeed as Feed>⟧.script feed ≡ Some (t.script name.now))) }
+        ensures opened { IfOpened result (λ _. ⟦<MemoryShelf as Shelf>⟧.opened self.new name.now) }
+        ensures keeps { KeepsNames (⟦<MemoryShelf as Shelf>⟧.opened self.old) (⟦<MemoryShelf as Shelf>⟧.opened self.new) }
+        ensures keeps_created { KeepsNames (⟦<MemoryShelf as Shelf>⟧.created self.old) (⟦<MemoryShelf as Shelf>⟧.created self.new) }
+
+        // Where it fails, and what the feed is given.
+        ensures fails { FailsWhere (opening_fails self.old name.now) result }
+        ensures left { IfOpened result (λ feed. ⟦<MemoryFeed as Feed>⟧.left feed ≡ files_of self.old name.now) }
+        ensures reads { IfOpened result (λ feed. feed.calls.failing ≡ reads_to_fail self.old name.now) }
+        ensures unread { IfOpened result (λ feed. feed.calls.made ≡ 0) }
+        ensures made { calls_made self.new ≡ calls_after result (calls_made self.old) }
+        ensures numbers { SameNumbers self.old self.new }
+    {
         if know(self.alloc, &mut self.tallies, name).is_err() {
             return Opened::Memory;
         }
@@ -154,7 +174,22 @@ impl Shelf for MemoryShelf {
         Opened::Failed
     }
 
-    fn create(&mut self, name: &Name) -> Opened<MemoryPour> {
+    fn create(&mut self, name: &Name) -> Opened<MemoryPour>
+        ensures cause { CreatingCounted (failed_open result) (⟦<MemoryShelf as Shelf>⟧.counts self.old) (⟦<MemoryShelf as Shelf>⟧.counts self.new) name.now }
+        ensures told { WhereTold (⟦<MemoryShelf as Shelf>⟧.told self.old) (⟦<MemoryShelf as Shelf>⟧.told self.new) (Created (is_opened result) name.now) }
+        ensures pour { IfOpened result (λ pour. ⟦<MemoryPour as Pour>⟧.faults pour ≡ 0) }
+        ensures poured { IfOpened result (λ pour. IfSome (⟦<MemoryShelf as Shelf>⟧.told self.old) (λ t. ⟦<MemoryPour as Pour>⟧.poured pour ≡ Some [])) }
+        ensures created { IfOpened result (λ _. ⟦<MemoryShelf as Shelf>⟧.created self.new name.now) }
+        ensures keeps { KeepsNames (⟦<MemoryShelf as Shelf>⟧.opened self.old) (⟦<MemoryShelf as Shelf>⟧.opened self.new) }
+        ensures keeps_created { KeepsNames (⟦<MemoryShelf as Shelf>⟧.created self.old) (⟦<MemoryShelf as Shelf>⟧.created self.new) }
+
+        // Where it fails, and what the pour is given.
+        ensures fails { FailsWhere (call_fails self.old) result }
+        ensures writes { IfOpened result (λ pour. pour.calls.failing ≡ writes_to_fail self.old name.now) }
+        ensures unwritten { IfOpened result (λ pour. pour.calls.made ≡ 0) }
+        ensures made { calls_made self.new ≡ calls_after result (calls_made self.old) }
+        ensures numbers { SameNumbers self.old self.new }
+    {
         if know(self.alloc, &mut self.tallies, name).is_err() {
             return Opened::Memory;
         }
@@ -179,7 +214,20 @@ impl Shelf for MemoryShelf {
         }
     }
 
-    fn finish(&mut self, name: &Name, out: MemoryPour) -> Result<(), Failed> {
+    fn finish(&mut self, name: &Name, out: MemoryPour) -> Result<(), Failed>
+        requires { ⟦<MemoryShelf as Shelf>⟧.created self.old name.now }
+        ensures cause { WritingCounted (failed_read result) (⟦<MemoryShelf as Shelf>⟧.counts self.old) (⟦<MemoryShelf as Shelf>⟧.counts self.new) name.now }
+        ensures fault { 0 < ⟦<MemoryPour as Pour>⟧.faults out → IsErr result }
+        ensures told { WhereTold (⟦<MemoryShelf as Shelf>⟧.told self.old) (⟦<MemoryShelf as Shelf>⟧.told self.new) (Finished (failed_read result) name.now (⟦<MemoryPour as Pour>⟧.poured out)) }
+        ensures keeps { KeepsNames (⟦<MemoryShelf as Shelf>⟧.opened self.old) (⟦<MemoryShelf as Shelf>⟧.opened self.new) }
+        ensures keeps_created { KeepsNames (⟦<MemoryShelf as Shelf>⟧.created self.old) (⟦<MemoryShelf as Shelf>⟧.created self.new) }
+
+        // Where it fails, and what the name holds then too.
+        ensures fails { failed_read result ≡ (call_fails self.old || nat_lt 0 (⟦<MemoryPour as Pour>⟧.faults out)) }
+        ensures whole { files_of self.new name.now ≡ ⟦<MemoryPour as Pour>⟧.poured out }
+        ensures made { calls_made self.new ≡ one_more (calls_made self.old) }
+        ensures numbers { SameNumbers self.old self.new }
+    {
         let faults = out.calls.faults;
         let _ = put(self.alloc, &mut self.files, name, out.into_bytes());
         if self.calls.count() || faults != 0 {
