@@ -133,6 +133,13 @@ AllRead (Some script) R.TooLong limit = limit < length script.bytes
 AllRead (Some script) R.Failed limit = (script.ending ≡ S.Failed) × (length script.bytes ≤ limit)
 AllRead (Some script) R.Memory limit = ⊤
 
+-- what was read to its end has at most so many bytes
+abbrev pub ReadWithin : ReadAll → ℕ → Type 0
+ReadWithin (R.Whole bytes) limit = length bytes ≤ limit
+ReadWithin R.TooLong limit = ⊤
+ReadWithin R.Failed limit = ⊤
+ReadWithin R.Memory limit = ⊤
+
 abbrev pub failed_read_all : ReadAll → Bool
 failed_read_all (R.Whole bytes) = false
 failed_read_all R.TooLong = false

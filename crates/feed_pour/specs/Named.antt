@@ -14,6 +14,14 @@ FetchedOf script F.OpenFailed limit = ⊤
 FetchedOf script F.ReadFailed limit = (script.ending ≡ S.Failed) × (length script.bytes ≤ limit)
 FetchedOf script F.Memory limit = ⊤
 
+-- what was fetched has at most so many bytes
+abbrev pub FetchedWithin : Fetched → ℕ → Type 0
+FetchedWithin (F.Whole bytes) limit = length bytes ≤ limit
+FetchedWithin F.TooLong limit = ⊤
+FetchedWithin F.OpenFailed limit = ⊤
+FetchedWithin F.ReadFailed limit = ⊤
+FetchedWithin F.Memory limit = ⊤
+
 abbrev pub open_failed : Fetched → Bool
 open_failed (F.Whole bytes) = false
 open_failed F.TooLong = false

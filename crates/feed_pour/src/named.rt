@@ -1,7 +1,7 @@
 // A named file of a shelf, read as a whole. The feed is given back.
 ghost use Rattle.std.specs.Prelude.{IfSome};
 ghost use Rattle.feed_pour.specs.Contents.{WhereTold, TellsSame};
-ghost use Rattle.feed_pour.specs.Named.{FetchedOf, FetchCounted};
+ghost use Rattle.feed_pour.specs.Named.{FetchedOf, FetchedWithin, FetchCounted};
 
 use crate::{Opened, ReadAll, Shelf, read_all};
 use spl_value::{Bytes, Name};
@@ -23,6 +23,7 @@ pub enum Fetched {
 
 /// Reads the file of this name, up to a limit of bytes, and gives its feed back.
 pub fn fetch<H: Shelf>(alloc: Global, shelf: &mut H, name: &Name, limit: u32) -> Fetched
+    ensures within { FetchedWithin result limit }
     ensures read { IfSome (H.told shelf.old) (λ t. FetchedOf (t.script name.now) result limit) }
     ensures told { WhereTold (H.told shelf.old) (H.told shelf.new) TellsSame }
     ensures cause { FetchCounted result (H.counts shelf.old) (H.counts shelf.new) name.now }

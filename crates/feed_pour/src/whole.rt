@@ -1,6 +1,6 @@
 // All that a feed gives, and all of some bytes into a pour.
 ghost use Rattle.feed_pour.specs.Counts.{Counted};
-ghost use Rattle.feed_pour.specs.Contents.{AllRead, AllPoured, failed_read_all, failed_write};
+ghost use Rattle.feed_pour.specs.Contents.{AllRead, ReadWithin, AllPoured, failed_read_all, failed_write};
 
 use crate::{Feed, Pour, PourAnswer};
 use spl_value::{Bytes, Items};
@@ -23,6 +23,7 @@ pub enum ReadAll {
 /// Reads in pieces of 8,192 bytes up to the end, a fault, or more than `limit` bytes.
 pub fn read_all<F: Feed>(alloc: Global, feed: &mut F, limit: u32) -> ReadAll
     ensures read { AllRead (F.script feed.old) result limit }
+    ensures within { ReadWithin result limit }
     ensures cause { Counted (failed_read_all result) (F.faults feed.old) (F.faults feed.new) }
 {
     let mut bytes = Vec::new(alloc);

@@ -2,4 +2,3 @@ pub mod Histories
 pub mod Closings
 pub mod Growing
 pub mod Graphs
-pub mod RowsEnd

@@ -5,6 +5,7 @@ pub mod Stages
 pub mod Meaning
 pub mod Fields
 pub mod Rows
+pub mod RowsLaws
 pub mod PlainLines
 pub mod Laws
 pub mod StageLaws

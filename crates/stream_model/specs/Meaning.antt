@@ -1,13 +1,14 @@
 -- What a graph of operators means on one thread: the events of every operator and the list of every stream.
 use Prim.Native.Nat.{zero, suc}
-use Rattle.std.specs.Prelude.{ℕ, ◌==◌, List, [], ◌∷◌, map, reverse, position, slice_get, if◌then◌else◌, Option, Some, None}
+use Rattle.std.specs.Prelude.{ℕ, ◌^◌, ◌==◌, List, [], ◌∷◌, map, reverse, position, slice_get, if◌then◌else◌, Option, Some, None}
 use Rattle.std.specs.List.{concat, filter_map}
 use Rattle.std.specs.Option.{option_map_or}
 use Rattle.spl_value.specs.declared.item.Item.{Item}
 use Rattle.stream_model.specs.Stream.{Event, came}
-use Rattle.stream_model.specs.React.{Operator, Kind, FileSource, Filter, FileSink}
+use Rattle.spl_value.specs.Script.{Script}
+use Rattle.stream_model.specs.React.{Operator, Kind, Source, FileSource, Filter, FileSink}
 use Rattle.stream_model.specs.Stages.{out}
-use Rattle.stream_model.specs.Rows.{text_of}
+use Rattle.stream_model.specs.Rows.{Setting, rows, text_of}
 
 -- the operators in order of declaration, and their numbers in topological order
 pub record Graph : Type 0 where
@@ -91,6 +92,14 @@ meaning g rows entries = record {
   streams = streams_of (reverse (in_topo g)) rows entries;
   events = events_of_number g (streams_of (reverse (in_topo g)) rows entries) entries;
 }
+
+-- a source's file has at most 2^40 bytes
+abbrev pub setting_of : ℕ → Source → Setting
+setting_of n source = record { op = n; schema = source.schema; strict = source.strict; limit = 2 ^ 40 }
+
+-- the stream of the source with this number, for what its reader gives
+abbrev pub rows_of : ℕ → Source → Script → List Item
+rows_of n source script = rows (setting_of n source) script.bytes script.ending
 
 -- the text that a sink writes for its events, up to its end
 abbrev pub text : Operator → List Event → List ℕ

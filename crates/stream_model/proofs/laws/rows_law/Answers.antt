@@ -1,4 +1,4 @@
-use Rattle.stream_model.proofs.RowsEnd.{rows_close}
+use Rattle.stream_model.specs.RowsLaws.{rows_close}
 use Rattle.stream_model.proofs.laws.rows_law.Goals as goal
 
 pub returns : goal.returns
