@@ -1,4 +1,9 @@
 pub mod RowSteps
-pub mod NumberLines
+pub mod SinkSteps
+pub mod Quiet
+pub mod Preparing
 pub mod FirstLine
+pub mod NumberLines
 pub mod NumberRows
+pub mod Standing
+pub mod Completing

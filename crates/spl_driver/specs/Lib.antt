@@ -1,1 +1,5 @@
 pub mod Source
+pub mod Program
+pub mod Request
+pub mod Answer
+pub mod Steps

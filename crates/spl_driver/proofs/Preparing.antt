@@ -1,0 +1,102 @@
+-- What the program and its source come to.
+use Rattle.std.proofs.Common.{◌≡◌, ℕ, ◌≤◌, List, [], ◌∷◌, length, Bool, true, false, refl, ◌∙◌, ap, subst, inl, ◌⊎◌, Option, Some, None, arith, if◌then◌else◌, cond, nat_lt}
+use Rattle.std.specs.Prelude.{IfSome, ◌||◌, codes}
+use Rattle.std.specs.Str.{bytes_eq}
+use Rattle.spl_value.specs.Script.{Script, End}
+use Rattle.feed_pour.specs.Counts.{Counts, PerName, Rose}
+use Rattle.feed_pour.specs.Contents.{Told, WhereTold, TellsSame}
+use Rattle.feed_pour.specs.Named.{FetchedOf}
+use Rattle.feed_pour.specs.declared.named.Fetched.TheVariants as F
+use Rattle.stream_model.specs.declared.condition.Condition.{Condition}
+use Rattle.stream_model.specs.declared.record.Arrivals.{Arrivals}
+use Rattle.stream_model.specs.Meaning.{Graph, meaning}
+use Rattle.spl_driver.specs.Program.{program_form, accepted, graph_with, graph_of}
+use Rattle.spl_driver.specs.Request.{opens, is_named, graph_or_none}
+use Rattle.spl_driver.specs.Answer.{Outcome, NotBuilt, Runs, reading, with_source, with_graph, outcome, rows_told, entries_in, accepted_in, graph_in, DeviceFailed, NoCountChanged, form_graph}
+use Rattle.spl_driver.specs.Steps.{PreparedOf, PrepareCounted, SourceOf, SourceCounted}
+use Rattle.spl_driver.specs.declared.request.Request.TheVariants.{Run}
+use Rattle.spl_driver.specs.declared.prepare.Prepared.{Prepared}
+use Rattle.spl_driver.specs.declared.prepare.Prepared.TheVariants as P
+
+abbrev SOURCE : List ℕ
+SOURCE = codes "t.csv"
+
+not_below : (m n : ℕ) → n ≤ m → nat_lt m n ≡ false
+not_below m n le = grind arith
+
+pub reading_whole : (s : Script) (bytes : List ℕ) (next : List ℕ → Outcome) → s ≡ record { bytes = bytes; ending = End } → length bytes ≤ 1048576 → reading s next ≡ next bytes
+reading_whole s bytes next e small = ap (λ (x : Script). reading x next) e
+    ∙ ap (λ (b : Bool). if b then NotBuilt else next bytes) (not_below 1048576 (length bytes) small)
+
+pub accepted_whole : (s : Script) (bytes : List ℕ) → s ≡ record { bytes = bytes; ending = End } → length bytes ≤ 1048576 → accepted_in s ≡ accepted bytes
+accepted_whole s bytes e small = ap accepted_in e ∙ ap (λ (b : Bool). cond {A = Option Graph} b None (accepted bytes)) (not_below 1048576 (length bytes) small)
+
+outcome_behind : (t : Told) (p bytes : List ℕ) (arrivals : Arrivals) → FetchedOf (t.script p) (F.Whole bytes) 1048576
+    → outcome (Some (Run p)) t arrivals ≡ with_graph (accepted bytes) t arrivals.lists
+outcome_behind t p bytes arrivals h = reading_whole (t.script p) bytes (λ b. with_graph (accepted b) t arrivals.lists) h.0 h.1
+
+pub made_of_no_form : (told : Option Told) (p bytes : List ℕ) → IfSome told (λ t. FetchedOf (t.script p) (F.Whole bytes) 1048576)
+    → program_form bytes ≡ None → IfSome told (λ t. (arrivals : Arrivals) → outcome (Some (Run p)) t arrivals ≡ NotBuilt)
+made_of_no_form None p bytes h none = tt
+made_of_no_form (Some t) p bytes h none = λ arrivals.
+    outcome_behind t p bytes arrivals h ∙ ap (λ (x : Option Condition). with_graph (graph_with x) t arrivals.lists) none
+
+-- what a request of a program with this condition comes to behind the source's script
+outcome_of_form : (t : Told) (p bytes : List ℕ) (c : Condition) (arrivals : Arrivals) → FetchedOf (t.script p) (F.Whole bytes) 1048576 → program_form bytes ≡ Some c
+    → outcome (Some (Run p)) t arrivals ≡ with_source (t.script SOURCE) (Runs (graph_of c) (meaning (graph_of c) (rows_told (graph_of c) t) (entries_in arrivals.lists)))
+outcome_of_form t p bytes c arrivals h form =
+    outcome_behind t p bytes arrivals h ∙ ap (λ (x : Option Condition). with_graph (graph_with x) t arrivals.lists) form
+
+graph_of_form : (t : Told) (p bytes : List ℕ) (c : Condition) → FetchedOf (t.script p) (F.Whole bytes) 1048576 → program_form bytes ≡ Some c
+    → accepted_in (t.script p) ≡ Some (graph_of c)
+graph_of_form t p bytes c h form = accepted_whole (t.script p) bytes h.0 h.1 ∙ ap graph_with form
+
+or-true : (b : Bool) → (b || true) ≡ true
+or-true true = refl
+or-true false = refl
+
+-- a failed open or read of the source
+source_failed : (p source : List ℕ) (g : Graph) (old mid new : PerName) → source ≡ SOURCE → opens (Some (Run p)) g ≡ p ∷ SOURCE ∷ [] → NoCountChanged old mid
+    → Rose (mid source).opening (new source).opening ⊎ Rose (mid source).reading (new source).reading → DeviceFailed (Some (Run p)) g old new
+source_failed p source g old mid new at names same rose =
+    let here = subst (λ (n : List ℕ). Rose (mid n).opening (new n).opening ⊎ Rose (mid n).reading (new n).reading) at rose in
+    let now = subst (λ (c : Counts). Rose c.opening (new SOURCE).opening ⊎ Rose c.reading (new SOURCE).reading) (same SOURCE) here in
+    inl (SOURCE, ap (λ (ns : List (List ℕ)). is_named ns SOURCE) names ∙ or-true (bytes_eq p SOURCE), now)
+
+made_at : (t : Told) (p bytes : List ℕ) (c : Condition) (r : Prepared) (source : List ℕ) (old mid new : PerName) → source ≡ SOURCE
+    → FetchedOf (t.script p) (F.Whole bytes) 1048576 → program_form bytes ≡ Some c → SourceOf r c (t.script SOURCE) → NoCountChanged old mid → SourceCounted r source mid new
+    → PreparedOf r p old new t
+made_at t p bytes c (P.Stream items) source old mid new at h form made same counted = (
+  c,
+  record {
+    graph = graph_of_form t p bytes c h form;
+    runs = λ arrivals. outcome_of_form t p bytes c arrivals h form ∙ made.0 _;
+    items = made.1;
+  },
+)
+made_at t p bytes c P.NotBuilt source old mid new at h form made same counted = λ arrivals. outcome_of_form t p bytes c arrivals h form ∙ made _
+made_at t p bytes c P.Device source old mid new at h form made same counted =
+    source_failed p source (graph_in (Some (Run p)) t) old mid new at (ap (λ (x : Option Graph). opens (Some (Run p)) (graph_or_none x)) (graph_of_form t p bytes c h form)) same counted
+made_at t p bytes c P.NoMemory source old mid new at h form made same counted = tt
+
+pub made_of_form : (told mid : Option Told) (p bytes source : List ℕ) (c : Condition) (r : Prepared) (old between new : PerName) → source ≡ SOURCE
+    → IfSome told (λ t. FetchedOf (t.script p) (F.Whole bytes) 1048576) → program_form bytes ≡ Some c
+    → WhereTold told mid TellsSame → IfSome mid (λ t. SourceOf r c (t.script source)) → NoCountChanged old between → SourceCounted r source between new
+    → IfSome told (PreparedOf r p old new)
+made_of_form None mid p bytes source c r old between new at h form same made quiet counted = tt
+made_of_form (Some t) None p bytes source c r old between new at h form same made quiet counted = absurd same
+made_of_form (Some t) (Some u) p bytes source c r old between new at h form same made quiet counted =
+    let script : u.script source ≡ t.script SOURCE = same.script source ∙ ap t.script at in
+    made_at t p bytes c r source old between new at h form (subst (λ (s : Script). SourceOf r c s) script made) quiet counted
+
+pub told_twice : (old mid new : Option Told) → WhereTold old mid TellsSame → WhereTold mid new TellsSame → WhereTold old new TellsSame
+told_twice None mid new a b = tt
+told_twice (Some x) None new a b = absurd a
+told_twice (Some x) (Some y) None a b = absurd b
+told_twice (Some x) (Some y) (Some z) a b = record { holds = λ n. b.holds n ∙ a.holds n; script = λ n. b.script n ∙ a.script n }
+
+pub counted_behind : (r : Prepared) (p source : List ℕ) (old mid new : PerName) → source ≡ SOURCE → NoCountChanged old mid → SourceCounted r source mid new → PrepareCounted r p old new
+counted_behind (P.Stream items) p source old mid new at a b = λ n. b n ∙ a n
+counted_behind P.NotBuilt p source old mid new at a b = λ n. b n ∙ a n
+counted_behind P.NoMemory p source old mid new at a b = tt
+counted_behind P.Device p source old mid new at a b = source_failed p source form_graph old mid new at refl a b

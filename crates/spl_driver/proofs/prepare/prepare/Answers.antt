@@ -1,0 +1,24 @@
+use Rattle.std.proofs.Common.{refl, rules}
+use Rattle.spl_driver.proofs.Quiet.{quiet_fetch}
+use Rattle.spl_driver.proofs.Preparing.{made_of_no_form, made_of_form, told_twice, counted_behind}
+use Rattle.spl_driver.proofs.prepare.prepare.Goals as goal
+
+pub returns-in-TooLong-clause-cause : goal.returns-in-TooLong-clause-cause
+returns-in-TooLong-clause-cause g c = quiet_fetch _ _ _ _ refl refl c.in-TooLong.ensures.cause
+
+pub returns-in-None-clause-made : goal.returns-in-None-clause-made
+returns-in-None-clause-made g c = made_of_no_form _ c.args.program.now c.in-Whole.bytes c.in-Whole.ensures.read (search rules)
+
+pub returns-in-None-clause-cause : goal.returns-in-None-clause-cause
+returns-in-None-clause-cause g c = quiet_fetch _ _ _ _ refl refl c.in-Whole.ensures.cause
+
+pub returns-clause-made : goal.returns-clause-made
+returns-clause-made g c = made_of_form _ _ c.args.program.now c.in-Whole.bytes c.args.source.now c.in-Some.condition c.prepare_source.result _ _ _ c.requires
+    c.in-Whole.ensures.read (search rules) c.in-Whole.ensures.told c.prepare_source.ensures.made
+    (quiet_fetch _ _ _ _ refl refl c.in-Whole.ensures.cause) c.prepare_source.ensures.cause
+
+pub returns-clause-told : goal.returns-clause-told
+returns-clause-told g c = told_twice _ _ _ c.in-Whole.ensures.told c.prepare_source.ensures.told
+
+pub returns-clause-cause : goal.returns-clause-cause
+returns-clause-cause g c = counted_behind _ c.args.program.now c.args.source.now _ _ _ c.requires (quiet_fetch _ _ _ _ refl refl c.in-Whole.ensures.cause) c.prepare_source.ensures.cause

@@ -1,0 +1,223 @@
+-- What a request comes to, which answer it gets, and what stands behind each answer.
+use Rattle.std.specs.Prelude.{◌≡◌, ◌-◌, ◌^◌, ◌⊎◌, ◌==◌, min, ℕ, pos, List, [], ◌∷◌, ◌++◌, map, length, take, Bool, true, false, if◌then◌else◌, nat_lt, Option, Some, None, ⊤, codes, slice_get}
+use Rattle.std.specs.List.{filter_map}
+use Rattle.std.specs.Option.{option_map_or}
+use Rattle.spl_value.specs.Script.{Script, Ending}
+use Rattle.spl_value.specs.Script as script
+use Rattle.spl_value.specs.declared.item.Item.{Item}
+use Rattle.feed_pour.specs.Counts.{PerName, Rose}
+use Rattle.feed_pour.specs.Contents.{Told}
+use Rattle.stream_model.specs.declared.comparison.Comparison.TheVariants as K
+use Rattle.stream_model.specs.declared.record.ArrivalList.{ArrivalList}
+use Rattle.stream_model.specs.declared.record.Arrivals.{Arrivals}
+use Rattle.stream_model.specs.declared.record.Counts.{Counts}
+use Rattle.stream_model.specs.declared.record.SinkCount.{SinkCount}
+use Rattle.stream_model.specs.React.{Kind, Operator, FileSource, Filter, FileSink}
+use Rattle.stream_model.specs.Stages.{out}
+use Rattle.stream_model.specs.Meaning.{Graph, Meaning, meaning, connections, rows_of, text}
+use Rattle.spl_driver.specs.Program.{accepted, graph_of}
+use Rattle.spl_driver.specs.Request.{opens, creates, is_named, source_files, graph_or_none}
+use Rattle.spl_driver.specs.Source.{is_number_file}
+use Rattle.spl_driver.specs.declared.request.Request.{Request}
+use Rattle.spl_driver.specs.declared.request.Request.TheVariants.{Run}
+use Rattle.spl_driver.specs.declared.cause.Cause.{Cause}
+use Rattle.spl_driver.specs.declared.cause.Cause.TheVariants as C
+use Rattle.spl_driver.specs.declared.cause.Ended.{Ended}
+
+-- ---- what a request comes to
+
+-- the rows of an operator's file, where it is a source, from what the shelf tells
+abbrev pub rows_by : Told → ℕ → Kind → List Item
+rows_by told n (FileSource source) = rows_of n source (told.script source.file)
+rows_by told n (Filter condition) = []
+rows_by told n (FileSink file) = []
+
+abbrev pub rows_told : Graph → Told → ℕ → List Item
+rows_told g told n = option_map_or (λ op. rows_by told n op.kind) (slice_get g.ops n) []
+
+-- an operator's list in an arrival record
+abbrev pub entries_in : List ArrivalList → ℕ → List ℕ
+entries_in [] n = []
+entries_in (l ∷ lists) n = if l.op == n then l.inputs else entries_in lists n
+
+-- the numbers of the operators with several connections
+abbrev pub has_several : List ℕ → Bool
+has_several [] = false
+has_several (s ∷ []) = false
+has_several (s ∷ t ∷ ss) = true
+
+abbrev pub if_several : Operator → Option ℕ
+if_several op = if has_several (connections op) then Some op.number else None
+
+abbrev pub several : Graph → List ℕ
+several g = filter_map if_several g.ops
+
+-- What a request comes to with ample memory and devices that give what the shelf tells: it isn't built, a file that it
+-- reads ends in a fault, or a graph runs and has this meaning.
+pub data Outcome : Type 0 where
+  NotBuilt : Outcome
+  Unreadable : Outcome
+  Runs : (graph : Graph) (meaning : Meaning) → Outcome
+
+abbrev pub at_end : Ending → Outcome → Outcome
+at_end script.End next = next
+at_end script.Failed next = Unreadable
+
+-- a file of at most 1,048,576 bytes that is read to its end
+abbrev pub reading : Script → (List ℕ → Outcome) → Outcome
+reading script next = if nat_lt 1048576 (length script.bytes) then NotBuilt else at_end script.ending (next script.bytes)
+
+-- a source that holds whole numbers, one a line
+abbrev pub with_source : Script → Outcome → Outcome
+with_source script next = reading script (λ bytes. if is_number_file bytes then next else NotBuilt)
+
+abbrev pub with_sources : List (List ℕ) → Told → Outcome → Outcome
+with_sources [] told next = next
+with_sources (file ∷ files) told next = with_source (told.script file) (with_sources files told next)
+
+abbrev pub with_graph : Option Graph → Told → List ArrivalList → Outcome
+with_graph None told lists = NotBuilt
+with_graph (Some g) told lists = with_sources (source_files g) told (Runs g (meaning g (rows_told g told) (entries_in lists)))
+
+abbrev pub outcome : Option Request → Told → Arrivals → Outcome
+outcome None told arrivals = NotBuilt
+outcome (Some (Run program)) told arrivals = reading (told.script program) (λ bytes. with_graph (accepted bytes) told arrivals.lists)
+
+-- the program's graph, which has no operators where the program isn't accepted
+abbrev pub accepted_in : Script → Option Graph
+accepted_in script = if nat_lt 1048576 (length script.bytes) then None else accepted script.bytes
+
+abbrev pub graph_in : Option Request → Told → Graph
+graph_in None told = graph_or_none None
+graph_in (Some (Run program)) told = graph_or_none (accepted_in (told.script program))
+
+-- ---- what stands behind each answer
+
+-- a fact of each sink and its file
+abbrev pub AtSink : (Operator → List ℕ → Type 0) → Kind → Operator → Type 0
+AtSink P (FileSource source) op = ⊤
+AtSink P (Filter condition) op = ⊤
+AtSink P (FileSink file) op = P op file
+
+abbrev pub EachSink : (Operator → List ℕ → Type 0) → List Operator → Type 0
+EachSink P [] = ⊤
+EachSink P (op ∷ ops) = AtSink P op.kind op × EachSink P ops
+
+-- the text of a sink in the meaning
+abbrev pub sink_text : Meaning → Operator → List ℕ
+sink_text m op = text op (m.events op.number)
+
+abbrev pub HoldsText : Meaning → Told → Operator → List ℕ → Type 0
+HoldsText m new op file = new.holds file ≡ Some (sink_text m op)
+
+-- the file is as it was, or holds a prefix of the sink's text
+abbrev pub HoldsPrefix : Meaning → Told → Told → Operator → List ℕ → Type 0
+HoldsPrefix m old new op file = (new.holds file ≡ old.holds file) ⊎ ((n : ℕ) × (new.holds file ≡ Some (take n (sink_text m op))))
+
+abbrev pub tuples_of : Meaning → Operator → ℕ
+tuples_of m op = min (length (out op 0 (m.events op.number))) (2 ^ 64 - 1)
+
+abbrev pub sink_count : Meaning → Kind → Operator → Option SinkCount
+sink_count m (FileSource source) op = None
+sink_count m (Filter condition) op = None
+sink_count m (FileSink file) op = Some (record { op = op.number; tuples = tuples_of m op })
+
+-- the counts of a run without replicas: the tuples of each sink, in the order of the operators
+abbrev pub counts_of : Graph → Meaning → Counts
+counts_of g m = record { channels = []; sinks = filter_map (λ op. sink_count m op.kind op) g.ops }
+
+-- The run of this graph with this meaning was carried out: each sink's file holds its text, the counts are the meaning's,
+-- and the record has a list for each operator with several connections.
+pub record CarriedOut (g : Graph) (m : Meaning) (ended : Ended) (new : Told) : Type 0 where
+  pub texts : EachSink (HoldsText m new) g.ops
+  pub counts : ended.counts ≡ counts_of g m
+  pub lists : map (λ l. l.op) ended.arrivals.lists ≡ several g
+
+abbrev pub SameFiles : Told → Told → Type 0
+SameFiles old new = (n : List ℕ) → new.holds n ≡ old.holds n
+
+-- no sink was created, or those that were hold a prefix of their text
+abbrev pub Begun : Outcome → Told → Told → Type 0
+Begun NotBuilt old new = SameFiles old new
+Begun Unreadable old new = SameFiles old new
+Begun (Runs g m) old new = EachSink (HoldsPrefix m old new) g.ops
+
+-- each cause, by what the request comes to
+abbrev pub Stands : Cause → Outcome → Ended → Told → Told → Type 0
+Stands C.Done result ended old new = (g : Graph) × (m : Meaning) × (result ≡ Runs g m) × CarriedOut g m ended new
+Stands C.NotBuilt result ended old new = (result ≡ NotBuilt) × SameFiles old new
+Stands C.Device result ended old new = Begun result old new
+Stands C.NoMemory result ended old new = Begun result old new
+
+-- the count of opening or reading of one of the first names rose, or of creating or writing of one of the second
+abbrev pub OpenFailed : List (List ℕ) → PerName → PerName → Type 0
+OpenFailed names old new = (n : List ℕ) × (is_named names n ≡ true) × (Rose (old n).opening (new n).opening ⊎ Rose (old n).reading (new n).reading)
+
+abbrev pub CreateFailed : List (List ℕ) → PerName → PerName → Type 0
+CreateFailed names old new = (n : List ℕ) × (is_named names n ≡ true) × (Rose (old n).creating (new n).creating ⊎ Rose (old n).writing (new n).writing)
+
+abbrev pub DeviceFailed : Option Request → Graph → PerName → PerName → Type 0
+DeviceFailed request g old new = OpenFailed (opens request g) old new ⊎ CreateFailed (creates request g) old new
+
+-- the answer to a request at a shelf that tells its files
+pub record Answered (request : Option Request) (ended : Ended) (counts now : PerName) (old new : Told) : Type 0 where
+  pub stands : Stands ended.cause (outcome request old ended.arrivals) ended old new
+  pub others : (n : List ℕ) → is_named (creates request (graph_in request old)) n ≡ false → new.holds n ≡ old.holds n
+  pub device : ended.cause ≡ C.Device → DeviceFailed request (graph_in request old) counts now
+
+-- ---- what the counts alone show
+
+abbrev pub NoCountChanged : PerName → PerName → Type 0
+NoCountChanged old new = (n : List ℕ) → new n ≡ old n
+
+-- all graphs of the form open and create the same files
+abbrev pub form_graph : Graph
+form_graph = graph_of (record { place = 0; comparison = K.Less; literal = pos 0 })
+
+abbrev pub Shown : Cause → Option Request → PerName → PerName → Type 0
+Shown C.Done request old new = NoCountChanged old new
+Shown C.NotBuilt request old new = NoCountChanged old new
+Shown C.Device request old new = DeviceFailed request form_graph old new
+Shown C.NoMemory request old new = ⊤
+
+-- ---- statuses and texts
+
+abbrev pub status_of : Cause → ℕ
+status_of C.Done = 0
+status_of C.NoMemory = 9
+status_of C.NotBuilt = 13
+status_of C.Device = 14
+
+abbrev pub text_of_cause : Cause → List ℕ
+text_of_cause C.Done = []
+text_of_cause C.NoMemory = codes "no memory\n"
+text_of_cause C.NotBuilt = codes "not built\n"
+text_of_cause C.Device = codes "device failed\n"
+
+-- these bytes were poured, or a front of them where the pour's count rose
+abbrev pub PouredText : List ℕ → List ℕ → Option (List ℕ) → Type 0 → Type 0
+PouredText bytes old now Failed = (now ≡ Some (old ++ bytes)) ⊎ (Failed × ((n : ℕ) × (now ≡ Some (old ++ take n bytes))))
+
+-- the cause's text was poured; nothing is said of want of memory
+abbrev pub Said : Cause → Option (List ℕ) → Option (List ℕ) → Type 0 → Type 0
+Said cause None now Failed = ⊤
+Said C.NoMemory (Some old) now Failed = ⊤
+Said C.Done (Some old) now Failed = PouredText (text_of_cause C.Done) old now Failed
+Said C.NotBuilt (Some old) now Failed = PouredText (text_of_cause C.NotBuilt) old now Failed
+Said C.Device (Some old) now Failed = PouredText (text_of_cause C.Device) old now Failed
+
+-- ---- completeness
+
+abbrev pub IsOr : Cause → Cause → Type 0
+IsOr expected cause = (cause ≡ expected) ⊎ (cause ≡ C.NoMemory)
+
+-- where no device failed, what the request comes to is the answer, or memory was wanting
+abbrev pub IsComplete : Outcome → Type 0 → Cause → Type 0
+IsComplete NotBuilt Failed cause = (Failed → ⊥) → IsOr C.NotBuilt cause
+IsComplete Unreadable Failed cause = IsOr C.Device cause
+IsComplete (Runs g m) Failed cause = (Failed → ⊥) → IsOr C.Done cause
+
+-- without a request nothing is touched
+pub record Untouched (cause : Cause) (old new : PerName) : Type 0 where
+  pub answer : IsOr C.NotBuilt cause
+  pub counts : NoCountChanged old new

@@ -1,0 +1,66 @@
+//! The program and its source made ready: the stream that comes to the sink.
+ghost use Rattle.std.specs.Prelude.{◌≡◌, IfSome, codes};
+ghost use Rattle.feed_pour.specs.Contents.{WhereTold, TellsSame};
+ghost use Rattle.spl_driver.specs.Steps.{PreparedOf, PrepareCounted, SourceOf, SourceCounted};
+
+use crate::filter::filtered;
+use crate::program::read_program;
+use crate::source::number_stream;
+use feed_pour::{Fetched, Shelf, fetch};
+use spl_value::{Item, Items, Name};
+use std::alloc::Global;
+use stream_model::Condition;
+
+/// The most bytes of a program and of a source.
+const LIMIT: u32 = 1_048_576;
+
+/// What the program and its source come to.
+#[derive(Debug, Drop)]
+pub enum Prepared {
+    /// The stream that the sink writes.
+    Stream(Items<Item>),
+    NotBuilt,
+    Device,
+    NoMemory,
+}
+
+// Reads the source, and filters its stream.
+fn prepare_source<H: Shelf>(
+    alloc: Global,
+    shelf: &mut H,
+    condition: &Condition,
+    source: &Name,
+) -> Prepared
+    ensures made { IfSome (H.told shelf.old) (λ t. SourceOf result condition.now (t.script source.now)) }
+    ensures told { WhereTold (H.told shelf.old) (H.told shelf.new) TellsSame }
+    ensures cause { SourceCounted result source.now (H.counts shelf.old) (H.counts shelf.new) }
+{
+    match fetch(alloc, shelf, source, LIMIT) {
+        Fetched::OpenFailed | Fetched::ReadFailed => Prepared::Device,
+        Fetched::Memory => Prepared::NoMemory,
+        Fetched::TooLong => Prepared::NotBuilt,
+        Fetched::Whole(bytes) => match number_stream(alloc, bytes.as_slice()) {
+            Err(_) => Prepared::NoMemory,
+            Ok(None) => Prepared::NotBuilt,
+            Ok(Some(items)) => Prepared::Stream(filtered(condition, items)),
+        },
+    }
+}
+
+/// Reads the program and its source, and filters the source's stream.
+pub fn prepare<H: Shelf>(alloc: Global, shelf: &mut H, program: &Name, source: &Name) -> Prepared
+    requires { source.now ≡ codes "t.csv" }
+    ensures made { IfSome (H.told shelf.old) (PreparedOf result program.now (H.counts shelf.old) (H.counts shelf.new)) }
+    ensures told { WhereTold (H.told shelf.old) (H.told shelf.new) TellsSame }
+    ensures cause { PrepareCounted result program.now (H.counts shelf.old) (H.counts shelf.new) }
+{
+    match fetch(alloc, shelf, program, LIMIT) {
+        Fetched::OpenFailed | Fetched::ReadFailed => Prepared::Device,
+        Fetched::Memory => Prepared::NoMemory,
+        Fetched::TooLong => Prepared::NotBuilt,
+        Fetched::Whole(bytes) => match read_program(bytes.as_slice()) {
+            None => Prepared::NotBuilt,
+            Some(condition) => prepare_source(alloc, shelf, &condition, source),
+        },
+    }
+}
