@@ -7,7 +7,7 @@ use Rattle.spl_value.specs.declared.item.Item.TheVariants as I
 use Rattle.stream_model.specs.declared.outs.Output.{Output}
 use Rattle.stream_model.specs.declared.condition.Condition.{Condition}
 use Rattle.stream_model.specs.Stream.{Event, came, is_fault, closes, any_closes, is_closed, is_empty}
-use Rattle.stream_model.specs.React.{Operator, Kind, FileSource, Filter, FileSink, Answer, Gives, Faults, body, filter_body, sink_body, passes, react, ended, ended_by, answered, on_each, output, is_waiting, is_last, fault_of}
+use Rattle.stream_model.specs.React.{Operator, Kind, FileSource, Filter, FileSink, Answer, Gives, Faults, body, body_of, filter_body, sink_body, passes, react, ended, ended_by, answered, on_each, output, is_waiting, is_last, fault_of}
 use Rattle.stream_model.specs.Stages.{Stage, gives_all, after, on_port}
 use Rattle.stream_model.specs.StageLaws.{stage_at, one_in, one_in-parts, on_port-append, gives_all-over, after-over}
 use Rattle.stream_model.specs.Laws.{has_ended, BodyLaw, OutCloses, ClosedGivesClosed}
@@ -36,13 +36,16 @@ sink_open I.Window = refl
 sink_open I.Final = refl
 sink_open (I.Bad f) = refl
 
-given_open : (kind : Kind) (earlier : List Event) (e : Event) → some_closes (given (body kind earlier e)) ≡ false
-given_open (FileSource source) earlier e = refl
-given_open (Filter condition) earlier e = filter_open condition e.item
-given_open (FileSink file) earlier e = sink_open e.item
+given_open-of : (kind : Kind) (op : Operator) (earlier : List Event) (e : Event) → some_closes (given (body_of kind op earlier e)) ≡ false
+given_open-of (FileSource source) op earlier e = refl
+given_open-of (Filter condition) op earlier e = filter_open condition e.item
+given_open-of (FileSink file) op earlier e = sink_open e.item
+
+given_open : (op : Operator) (earlier : List Event) (e : Event) → some_closes (given (body op earlier e)) ≡ false
+given_open op earlier e = given_open-of op.kind op earlier e
 
 pub body_law : BodyLaw
-body_law op earlier e outs h = ap (λ a. some_closes (given a)) (sym h) ∙ given_open op.kind earlier e
+body_law op earlier e outs h = ap (λ a. some_closes (given a)) (sym h) ∙ given_open op earlier e
 
 -- no item on a port closes where no output does
 on_port_open : (p : ℕ) (outs : List Output) → some_closes outs ≡ false → any_closes (on_port p outs) ≡ false
@@ -121,13 +124,13 @@ caused_closed op p x false false last (Faults kind) opens lt closing q = is_clos
 pub react_open : (op : Operator) (p : ℕ) (earlier : List Event) (e : Event) → is_some (ended op earlier e) ≡ false
     → any_closes (on_port p (react op earlier e)) ≡ false
 react_open op p earlier e =
-    caused_open op p e.item (is_fault e.item) (is_waiting op earlier e) (is_last op earlier e) (body op.kind earlier e) (given_open op.kind earlier e)
+    caused_open op p e.item (is_fault e.item) (is_waiting op earlier e) (is_last op earlier e) (body op earlier e) (given_open op earlier e)
 
 -- one that ends it closes each
 pub react_closed : (op : Operator) (p : ℕ) (earlier : List Event) (e : Event) → p < length op.outs → is_some (ended op earlier e) ≡ true
     → is_closed (on_port p (react op earlier e)) ≡ true
 react_closed op p earlier e lt =
-    caused_closed op p e.item (is_fault e.item) (is_waiting op earlier e) (is_last op earlier e) (body op.kind earlier e) (given_open op.kind earlier e) lt (closes-fault e.item)
+    caused_closed op p e.item (is_fault e.item) (is_waiting op earlier e) (is_last op earlier e) (body op earlier e) (given_open op earlier e) lt (closes-fault e.item)
 
 closed_step : (op : Operator) (p : ℕ) (seen : List Event) (e : Event) (events : List Event) (b : Bool) → p < length op.outs → is_some (ended op seen e) ≡ b
     → is_closed (on_port p (gives_all (stage_at op (e ∷ seen) false) events)) ≡ (after (stage_at op (e ∷ seen) false) events).over
@@ -158,7 +161,7 @@ ended_by-last op (Faults kind) = refl
 ended-closing : (n s : ℕ) (kind : Kind) (outs : List ℕ) (seen : List Event) (x : Item) → closes x ≡ true → is_some (ended (one_in n kind s outs) seen (came 0 x)) ≡ true
 ended-closing n s kind outs seen (I.Tuple vs) h = cc
 ended-closing n s kind outs seen I.Window h = cc
-ended-closing n s kind outs seen I.Final h = ended_by-last (one_in n kind s outs) (body kind seen (came 0 I.Final))
+ended-closing n s kind outs seen I.Final h = ended_by-last (one_in n kind s outs) (body (one_in n kind s outs) seen (came 0 I.Final))
 ended-closing n s kind outs seen (I.Bad f) h = refl
 
 over-closed : (n s : ℕ) (kind : Kind) (outs : List ℕ) (seen : List Event) (items : List Item) → is_closed items ≡ true

@@ -47,7 +47,7 @@ ClosedGivesClosed = (op : Operator) (s p : ℕ) (items : List Item) → op.ins �
 
 -- a body gives neither a final marker nor a fault
 abbrev pub BodyLaw : Type 0
-BodyLaw = (op : Operator) (earlier : List Event) (e : Event) (outs : List Output) → body op.kind earlier e ≡ Gives outs
+BodyLaw = (op : Operator) (earlier : List Event) (e : Event) (outs : List Output) → body op earlier e ≡ Gives outs
     → list_any (λ o. closes o.item) outs ≡ false
 
 abbrev pub makes_stream : Operator → ℕ → Bool

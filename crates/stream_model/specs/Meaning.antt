@@ -6,7 +6,7 @@ use Rattle.std.specs.Option.{option_map_or}
 use Rattle.spl_value.specs.declared.item.Item.{Item}
 use Rattle.stream_model.specs.Stream.{Event, came}
 use Rattle.spl_value.specs.Script.{Script}
-use Rattle.stream_model.specs.React.{Operator, Kind, Source, FileSource, Filter, FileSink}
+use Rattle.stream_model.specs.React.{Operator, Kind, Source, FileSource}
 use Rattle.stream_model.specs.Stages.{out}
 use Rattle.stream_model.specs.Rows.{Setting, rows, text_of}
 
@@ -55,8 +55,7 @@ events_of op streams entries = events_at streams (connections op) entries
 -- what an operator makes on a port: a source its rows, another what it gives for its events
 abbrev pub made_by : Kind → Operator → ℕ → List Event → List Item → List Item
 made_by (FileSource source) op p events rows = rows
-made_by (Filter condition) op p events rows = out op p events
-made_by (FileSink file) op p events rows = out op p events
+made_by _ op p events rows = out op p events
 
 -- what the operator makes of the streams, its rows and its record
 abbrev pub makes : Operator → ℕ → Lists → Lists → (ℕ → List ℕ) → List Item

@@ -96,11 +96,15 @@ sink_body I.Window = Gives []
 sink_body I.Final = Gives []
 sink_body (I.Bad f) = Gives []
 
--- what the kind of operator makes of a tuple, of a window marker, or of the end of a port by its final marker
-abbrev pub body : Kind → List Event → Event → Answer
-body (FileSource source) earlier event = Gives []
-body (Filter condition) earlier event = filter_body condition event.item
-body (FileSink file) earlier event = sink_body event.item
+-- what an operator of this kind makes of a tuple, of a window marker, or of the end of a port by its final marker
+abbrev pub body_of : Kind → Operator → List Event → Event → Answer
+body_of (FileSource source) op earlier event = Gives []
+body_of (Filter condition) op earlier event = filter_body condition event.item
+body_of (FileSink file) op earlier event = sink_body event.item
+
+-- what the operator makes of it
+abbrev pub body : Operator → List Event → Event → Answer
+body op earlier event = body_of op.kind op earlier event
 
 -- a fault of the operator itself
 abbrev pub fault_of : Operator → FaultKind → Item
@@ -125,7 +129,7 @@ abbrev pub react : Operator → List Event → Event → List Output
 react op earlier event =
     if is_fault event.item then on_each (length op.outs) event.item
     else if is_waiting op earlier event then []
-    else answered op (is_last op earlier event) (body op.kind earlier event)
+    else answered op (is_last op earlier event) (body op earlier event)
 
 -- the fault or the final marker with which the body's answer ends the operator
 abbrev pub ended_by : Operator → Bool → Answer → Option Item
@@ -137,4 +141,4 @@ abbrev pub ended : Operator → List Event → Event → Option Item
 ended op earlier event =
     if is_fault event.item then Some event.item
     else if is_waiting op earlier event then None
-    else ended_by op (is_last op earlier event) (body op.kind earlier event)
+    else ended_by op (is_last op earlier event) (body op earlier event)
