@@ -10,7 +10,7 @@ use Rattle.stream_model.specs.Stream.{Event, came, is_fault, closes, any_closes,
 use Rattle.stream_model.specs.React.{Operator, Kind, FileSource, Filter, FileSink, Answer, Gives, Faults, body, body_of, filter_body, sink_body, passes, react, ended, ended_by, answered, on_each, output, is_waiting, is_last, fault_of}
 use Rattle.stream_model.specs.Stages.{Stage, gives_all, after, on_port}
 use Rattle.stream_model.specs.StageLaws.{stage_at, one_in, one_in-parts, on_port-append, gives_all-over, after-over}
-use Rattle.stream_model.specs.Laws.{has_ended, BodyLaw, OutCloses, ClosedGivesClosed}
+use Rattle.stream_model.specs.Laws.{has_ended, BodyLaw, OutCloses, ClosedEnds, ClosedGivesClosed}
 
 -- the items of an answer
 abbrev pub given : Answer → List Output
@@ -178,8 +178,10 @@ over-closed n s kind outs seen (x ∷ items) h =
     go false true f q rest = let clash : false ≡ true = f refl in cc
     go false false f q rest = rest q
 
-pub closed_gives_closed : ClosedGivesClosed
-closed_gives_closed op s p items i lt h =
-    out_closes op p (map (came 0) items) lt
-    ∙ ap (λ (one : Operator). has_ended one (map (came 0) items)) (one_in-parts op op.kind s op.outs refl i refl)
+pub closed_ends : ClosedEnds
+closed_ends op s items i h =
+    ap (λ (one : Operator). has_ended one (map (came 0) items)) (one_in-parts op op.kind s op.outs refl i refl)
     ∙ over-closed op.number s op.kind op.outs [] items h
+
+pub closed_gives_closed : ClosedGivesClosed
+closed_gives_closed op s p items i lt h = out_closes op p (map (came 0) items) lt ∙ closed_ends op s items i h

@@ -40,7 +40,11 @@ ChainGrows = (ops : List Operator) (some all : List Item) → IsPrefix some all 
 abbrev pub OutCloses : Type 0
 OutCloses = (op : Operator) (p : ℕ) (events : List Event) → p < length op.outs → is_closed (out op p events) ≡ has_ended op events
 
--- a closed stream ends an operator that reads it by its one connection, so what that gives is closed
+-- a closed stream ends an operator that reads it by its one connection
+abbrev pub ClosedEnds : Type 0
+ClosedEnds = (op : Operator) (s : ℕ) (items : List Item) → op.ins ≡ (s ∷ []) ∷ [] → is_closed items ≡ true → has_ended op (map (came 0) items) ≡ true
+
+-- so what it gives on an output port is closed
 abbrev pub ClosedGivesClosed : Type 0
 ClosedGivesClosed = (op : Operator) (s p : ℕ) (items : List Item) → op.ins ≡ (s ∷ []) ∷ [] → p < length op.outs → is_closed items ≡ true
     → is_closed (out op p (map (came 0) items)) ≡ true

@@ -6,7 +6,7 @@ ghost use Rattle.spl_value.specs.declared.item.FaultKind.TheVariants as K;
 ghost use Rattle.spl_value.specs.declared.types.IntKind.TheVariants as N;
 ghost use Rattle.spl_value.specs.declared.types.SplType.TheVariants as T;
 ghost use Rattle.spl_value.specs.declared.value.Value.TheVariants as V;
-ghost use Rattle.stream_model.specs.Laws.{HistoryLaw, EndLaw, OutGrows, ChainGrows, OutCloses, ClosedGivesClosed, BodyLaw, GraphLaw, IsOrdered, RowsClose};
+ghost use Rattle.stream_model.specs.Laws.{HistoryLaw, EndLaw, OutGrows, ChainGrows, OutCloses, ClosedEnds, ClosedGivesClosed, BodyLaw, GraphLaw, IsOrdered, RowsClose};
 ghost use Rattle.stream_model.specs.React.{Source, FileSource, Filter, FileSink};
 ghost use Rattle.stream_model.specs.declared.condition.Condition.{Condition};
 ghost use Rattle.stream_model.specs.Rows.{rows, too_long, text_of};
@@ -17,11 +17,12 @@ pub fn history_law()
     ensures ends { EndLaw }
 {}
 
-/// A longer list of events gives a longer stream, and a closed stream a closed one.
+/// A longer list of events gives a longer stream. A closed stream ends the operator that reads it alone, and gives a closed one.
 pub fn order_law()
     ensures out { OutGrows }
     ensures chain { ChainGrows }
     ensures closes { OutCloses }
+    ensures ended { ClosedEnds }
     ensures closed { ClosedGivesClosed }
 {}
 
