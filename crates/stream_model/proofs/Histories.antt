@@ -1,11 +1,15 @@
 -- One event more.
-use Rattle.std.proofs.Common.{ℕ, Bool, true, false, List, [], ◌∷◌, ◌++◌, ◌≡◌, refl, ap, ◌∙◌, append-nil, is_some, cond, if◌then◌else◌}
+use Rattle.std.proofs.Common.{ℕ, Bool, true, false, List, [], ◌∷◌, ◌++◌, ◌≡◌, refl, sym, ap, ◌∙◌, append-nil, append_assoc, reverse, is_some, cond, if◌then◌else◌}
 use Rattle.std.proofs.lemmas.Bool.{cond-true, cond-false}
+use Rattle.std.proofs.lemmas.List.{reverse-append}
 use Rattle.stream_model.specs.Stream.{Event}
 use Rattle.stream_model.specs.React.{Operator, react, ended}
 use Rattle.stream_model.specs.Stages.{Stage, start, gives, next, gives_all, after, on_port, out}
 use Rattle.stream_model.specs.StageLaws.{stage_at, gives_all-append, after-append, on_port-append, after-over}
-use Rattle.stream_model.specs.Laws.{behind, HistoryLaw, EndLaw}
+use Rattle.stream_model.specs.Laws.{StartLaw, HistoryLaw, EndLaw}
+
+pub start_law : StartLaw
+start_law op = (λ p. refl, refl)
 
 pub out-more : (op : Operator) (p : ℕ) (events : List Event) (e : Event)
     → out op p (events ++ e ∷ []) ≡ out op p events ++ on_port p (gives (after (start op) events) e)
@@ -20,13 +24,16 @@ after-op op seen (e ∷ events) false = after-op op (e ∷ seen) events (is_some
 
 -- a stage that isn't over has seen all events
 after-seen : (op : Operator) (seen events : List Event) → (after (stage_at op seen false) events).over ≡ false
-    → (after (stage_at op seen false) events).seen ≡ behind seen events
+    → (after (stage_at op seen false) events).seen ≡ reverse events ++ seen
 after-seen op seen [] q = refl
-after-seen op seen (e ∷ events) q = go (is_some (ended op seen e)) q (after-seen op (e ∷ seen) events)
+after-seen op seen (e ∷ events) q =
+    go (is_some (ended op seen e)) q (after-seen op (e ∷ seen) events)
+    ∙ sym (append_assoc (reverse events) (e ∷ []) seen)
+    ∙ ap (λ xs. xs ++ seen) (sym (reverse-append (e ∷ []) events))
   where
     go : (b : Bool) → (after (stage_at op (e ∷ seen) b) events).over ≡ false
-        → ((after (stage_at op (e ∷ seen) false) events).over ≡ false → (after (stage_at op (e ∷ seen) false) events).seen ≡ behind (e ∷ seen) events)
-        → (after (stage_at op (e ∷ seen) b) events).seen ≡ behind (e ∷ seen) events
+        → ((after (stage_at op (e ∷ seen) false) events).over ≡ false → (after (stage_at op (e ∷ seen) false) events).seen ≡ reverse events ++ e ∷ seen)
+        → (after (stage_at op (e ∷ seen) b) events).seen ≡ reverse events ++ e ∷ seen
     go true q rest = let z = after-over (stage_at op (e ∷ seen) true) events refl in let w = ap (λ (s : Stage). s.over) z in absurd (cc)
     go false q rest = rest q
 
@@ -35,7 +42,7 @@ history_law op p events e = (
   λ q. out-more op p events e ∙ ap (λ outs. out op p events ++ on_port p outs)
       (cond-false (after (start op) events).over [] _ q
       ∙ ap (λ (o : Operator). react o (after (start op) events).seen e) (after-op op [] events false)
-      ∙ ap (λ (seen : List Event). react op seen e) (after-seen op [] events q)),
+      ∙ ap (λ (seen : List Event). react op seen e) (after-seen op [] events q ∙ append-nil (reverse events))),
   λ q. out-more op p events e ∙ ap (λ outs. out op p events ++ on_port p outs) (cond-true (after (start op) events).over [] _ q)
       ∙ append-nil (out op p events),
 )
@@ -54,8 +61,8 @@ end_law op events e =
     ∙ go (after (start op) events).over refl
   where
     go : (b : Bool) → (after (start op) events).over ≡ b
-        → cond b true (is_some (ended (after (start op) events).op (after (start op) events).seen e)) ≡ cond b true (is_some (ended op (behind [] events) e))
+        → cond b true (is_some (ended (after (start op) events).op (after (start op) events).seen e)) ≡ cond b true (is_some (ended op (reverse events) e))
     go true q = refl
     go false q =
         ap (λ (o : Operator). is_some (ended o (after (start op) events).seen e)) (after-op op [] events false)
-        ∙ ap (λ (seen : List Event). is_some (ended op seen e)) (after-seen op [] events q)
+        ∙ ap (λ (seen : List Event). is_some (ended op seen e)) (after-seen op [] events q ∙ append-nil (reverse events))

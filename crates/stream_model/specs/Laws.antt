@@ -1,5 +1,5 @@
 -- What the definitions of streams, operators and graphs come to.
-use Rattle.std.specs.Prelude.{ℕ, ◌<◌, ◌==◌, Bool, true, false, List, [], ◌∷◌, ◌++◌, ◌≡◌, map, length, Some, position, is_some, if◌then◌else◌}
+use Rattle.std.specs.Prelude.{ℕ, ◌<◌, ◌==◌, Bool, true, false, List, [], ◌∷◌, ◌++◌, ◌≡◌, map, length, reverse, Some, position, is_some, if◌then◌else◌}
 use Rattle.std.specs.List.{list_any}
 use Rattle.spl_value.specs.declared.item.Item.{Item}
 use Rattle.stream_model.specs.declared.outs.Output.{Output}
@@ -10,24 +10,23 @@ use Rattle.spl_value.specs.Script.{Ending}
 use Rattle.stream_model.specs.Rows.{Setting, rows}
 use Rattle.stream_model.specs.Meaning.{Graph, Lists, Entries, meaning, makes, connections, in_topo}
 
--- the history after a list of events, behind an older one
-abbrev pub behind : List Event → List Event → List Event
-behind seen [] = seen
-behind seen (e ∷ es) = behind (e ∷ seen) es
-
 abbrev pub has_ended : Operator → List Event → Bool
 has_ended op events = (after (start op) events).over
+
+-- with no event, nothing is given and the operator hasn't ended
+abbrev pub StartLaw : Type 0
+StartLaw = (op : Operator) → ((p : ℕ) → out op p [] ≡ []) × (has_ended op [] ≡ false)
 
 -- while the operator hasn't ended, one event more adds what it causes behind all before it, and afterwards nothing
 abbrev pub HistoryLaw : Type 0
 HistoryLaw = (op : Operator) (p : ℕ) (events : List Event) (e : Event) →
-    (has_ended op events ≡ false → out op p (events ++ e ∷ []) ≡ out op p events ++ on_port p (react op (behind [] events) e))
+    (has_ended op events ≡ false → out op p (events ++ e ∷ []) ≡ out op p events ++ on_port p (react op (reverse events) e))
     × (has_ended op events ≡ true → out op p (events ++ e ∷ []) ≡ out op p events)
 
 -- an operator that hasn't ended ends with an event that ends it behind all before it, and stays ended
 abbrev pub EndLaw : Type 0
 EndLaw = (op : Operator) (events : List Event) (e : Event) →
-    has_ended op (events ++ e ∷ []) ≡ (if has_ended op events then true else is_some (ended op (behind [] events) e))
+    has_ended op (events ++ e ∷ []) ≡ (if has_ended op events then true else is_some (ended op (reverse events) e))
 
 -- more events give more
 abbrev pub OutGrows : Type 0

@@ -1,5 +1,8 @@
-use Rattle.stream_model.proofs.Histories.{history_law, end_law}
+use Rattle.stream_model.proofs.Histories.{start_law, history_law, end_law}
 use Rattle.stream_model.proofs.laws.history_law.Goals as goal
+
+pub returns-clause-start : goal.returns-clause-start
+returns-clause-start c = start_law
 
 pub returns-clause-history : goal.returns-clause-history
 returns-clause-history c = history_law
