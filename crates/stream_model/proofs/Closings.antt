@@ -10,7 +10,7 @@ use Rattle.stream_model.specs.Stream.{Event, came, is_fault, closes, any_closes,
 use Rattle.stream_model.specs.React.{Operator, Kind, FileSource, Filter, FileSink, Answer, Gives, Faults, body, body_of, filter_body, sink_body, passes, react, ended, ended_by, answered, on_each, output, is_waiting, is_last, fault_of}
 use Rattle.stream_model.specs.Stages.{Stage, gives_all, after, on_port}
 use Rattle.stream_model.specs.StageLaws.{stage_at, one_in, one_in-parts, on_port-append, gives_all-over, after-over}
-use Rattle.stream_model.specs.Laws.{has_ended, BodyLaw, OutCloses, ClosedEnds, ClosedGivesClosed}
+use Rattle.stream_model.specs.Laws.{has_ended, BodyLaw, EndGivesLaw, OutCloses, ClosedEnds, ClosedGivesClosed}
 
 -- the items of an answer
 abbrev pub given : Answer → List Output
@@ -131,6 +131,31 @@ pub react_closed : (op : Operator) (p : ℕ) (earlier : List Event) (e : Event) 
     → is_closed (on_port p (react op earlier e)) ≡ true
 react_closed op p earlier e lt =
     caused_closed op p e.item (is_fault e.item) (is_waiting op earlier e) (is_last op earlier e) (body op earlier e) (given_open op earlier e) lt (closes-fault e.item)
+
+-- the last item on a port, with none before it that closes
+abbrev EndsIn : List Item → Item → Type 0
+EndsIn items x = (front : List Item) × (items ≡ front ++ x ∷ []) × (any_closes front ≡ false)
+
+caused_ends : (op : Operator) (p : ℕ) (e x : Item) (fault waits last : Bool) (a : Answer) → some_closes (given a) ≡ false → p < length op.outs
+    → cond fault (Some e) (cond waits None (ended_by op last a)) ≡ Some x → EndsIn (on_port p (caused op e fault waits last a)) x
+caused_ends op p e x true waits last a opens lt q = let same : e ≡ x = cc in ([], on_port-each p (length op.outs) e lt ∙ ap (λ y. y ∷ []) same, refl)
+caused_ends op p e x false true last a opens lt q = absurd (cc)
+caused_ends op p e x false false true (Gives outs) opens lt q =
+    let same : I.Final ≡ x = cc in (
+      on_port p outs,
+      on_port-append p outs (on_each (length op.outs) I.Final)
+          ∙ ap (λ xs. on_port p outs ++ xs) (on_port-each p (length op.outs) I.Final lt ∙ ap (λ y. y ∷ []) same),
+      on_port_open p outs opens,
+    )
+caused_ends op p e x false false false (Gives outs) opens lt q = absurd (cc)
+caused_ends op p e x false false last (Faults kind) opens lt q =
+    let same : fault_of op kind ≡ x = cc in ([], on_port-each p (length op.outs) (fault_of op kind) lt ∙ ap (λ y. y ∷ []) same, refl)
+
+pub end_gives_law : EndGivesLaw
+end_gives_law op p earlier e lt = (
+  λ x q. caused_ends op p e.item x (is_fault e.item) (is_waiting op earlier e) (is_last op earlier e) (body op earlier e) (given_open op earlier e) lt q,
+  λ q. react_open op p earlier e (ap is_some q),
+)
 
 closed_step : (op : Operator) (p : ℕ) (seen : List Event) (e : Event) (events : List Event) (b : Bool) → p < length op.outs → is_some (ended op seen e) ≡ b
     → is_closed (on_port p (gives_all (stage_at op (e ∷ seen) false) events)) ≡ (after (stage_at op (e ∷ seen) false) events).over

@@ -1,4 +1,5 @@
 pub mod Histories
 pub mod Closings
+pub mod Waiting
 pub mod Growing
 pub mod Graphs

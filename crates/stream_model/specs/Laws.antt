@@ -1,10 +1,11 @@
 -- What the definitions of streams, operators and graphs come to.
-use Rattle.std.specs.Prelude.{ℕ, ◌<◌, ◌==◌, Bool, true, false, List, [], ◌∷◌, ◌++◌, ◌≡◌, map, length, reverse, Some, position, is_some, if◌then◌else◌}
-use Rattle.std.specs.List.{list_any}
+use Rattle.std.specs.Prelude.{ℕ, ◌+◌, ◌<◌, ◌==◌, ◌&&◌, Bool, true, false, List, [], ◌∷◌, ◌++◌, ◌≡◌, map, length, reverse, slice_get, Some, None, position, is_some, if◌then◌else◌}
+use Rattle.std.specs.List.{concat, list_any}
 use Rattle.spl_value.specs.declared.item.Item.{Item}
+use Rattle.spl_value.specs.declared.item.Item.TheVariants as I
 use Rattle.stream_model.specs.declared.outs.Output.{Output}
-use Rattle.stream_model.specs.Stream.{Event, came, closes, is_closed, IsPrefix}
-use Rattle.stream_model.specs.React.{Operator, react, body, ended, Gives}
+use Rattle.stream_model.specs.Stream.{Event, came, is_final, closes, any_closes, is_closed, IsPrefix}
+use Rattle.stream_model.specs.React.{Operator, ports, react, body, ended, Gives}
 use Rattle.stream_model.specs.Stages.{start, after, out, on_port, chain}
 use Rattle.spl_value.specs.Script.{Ending}
 use Rattle.stream_model.specs.Rows.{Setting, rows}
@@ -27,6 +28,24 @@ HistoryLaw = (op : Operator) (p : ℕ) (events : List Event) (e : Event) →
 abbrev pub EndLaw : Type 0
 EndLaw = (op : Operator) (events : List Event) (e : Event) →
     has_ended op (events ++ e ∷ []) ≡ (if has_ended op events then true else is_some (ended op (reverse events) e))
+
+-- where an operator ends at an event, the item with which it ends is the last that the event gives on each output port, and
+-- no other one closes; where it doesn't end, none does
+abbrev pub EndGivesLaw : Type 0
+EndGivesLaw = (op : Operator) (p : ℕ) (earlier : List Event) (e : Event) → p < length op.outs →
+    ((x : Item) → ended op earlier e ≡ Some x → (front : List Item) × (on_port p (react op earlier e) ≡ front ++ x ∷ []) × (any_closes front ≡ false))
+    × (ended op earlier e ≡ None → any_closes (on_port p (react op earlier e)) ≡ false)
+
+-- a final marker on an input gives nothing and doesn't end the operator while another input of the same port has had none
+abbrev pub WaitLaw : Type 0
+WaitLaw = (op : Operator) (i j p : ℕ) (earlier : List Event) → slice_get (ports op) i ≡ Some p → slice_get (ports op) j ≡ Some p
+    → (i ≡ j → ⊥) → list_any (λ e. (e.input == j) && is_final e.item) earlier ≡ false
+    → (react op earlier (came i I.Final) ≡ []) × (ended op earlier (came i I.Final) ≡ None)
+
+-- the inputs are numbered by port and then by place within the port: the port of an input is the number of the ports before it
+abbrev pub PortsLaw : Type 0
+PortsLaw = (op : Operator) (before after : List (List ℕ)) (streams : List ℕ) (k : ℕ) → op.ins ≡ before ++ streams ∷ after → k < length streams
+    → slice_get (ports op) (length (concat before) + k) ≡ Some (length before)
 
 -- more events give more
 abbrev pub OutGrows : Type 0

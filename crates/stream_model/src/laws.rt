@@ -6,16 +6,20 @@ ghost use Rattle.spl_value.specs.declared.item.FaultKind.TheVariants as K;
 ghost use Rattle.spl_value.specs.declared.types.IntKind.TheVariants as N;
 ghost use Rattle.spl_value.specs.declared.types.SplType.TheVariants as T;
 ghost use Rattle.spl_value.specs.declared.value.Value.TheVariants as V;
-ghost use Rattle.stream_model.specs.Laws.{StartLaw, HistoryLaw, EndLaw, OutGrows, ChainGrows, OutCloses, ClosedEnds, ClosedGivesClosed, BodyLaw, GraphLaw, IsOrdered, RowsClose};
+ghost use Rattle.stream_model.specs.Laws.{StartLaw, HistoryLaw, EndLaw, EndGivesLaw, WaitLaw, PortsLaw, OutGrows, ChainGrows, OutCloses, ClosedEnds, ClosedGivesClosed, BodyLaw, GraphLaw, IsOrdered, RowsClose};
 ghost use Rattle.stream_model.specs.React.{Source, FileSource, Filter, FileSink};
 ghost use Rattle.stream_model.specs.declared.condition.Condition.{Condition};
 ghost use Rattle.stream_model.specs.Rows.{rows, too_long, text_of};
 
 /// No event gives nothing. One event more gives its reaction behind the history of all before it, and may end the operator.
+/// Where it does, that is its last item on each output port. A port waits for the final marker of each of its inputs.
 pub fn history_law()
     ensures start { StartLaw }
     ensures history { HistoryLaw }
     ensures ends { EndLaw }
+    ensures last { EndGivesLaw }
+    ensures waits { WaitLaw }
+    ensures inputs { PortsLaw }
 {}
 
 /// A longer list of events gives a longer stream. A closed stream ends the operator that reads it alone, and gives a closed one.

@@ -1,4 +1,6 @@
 use Rattle.stream_model.proofs.Histories.{start_law, history_law, end_law}
+use Rattle.stream_model.proofs.Closings.{end_gives_law}
+use Rattle.stream_model.proofs.Waiting.{wait_law, ports_law}
 use Rattle.stream_model.proofs.laws.history_law.Goals as goal
 
 pub returns-clause-start : goal.returns-clause-start
@@ -9,3 +11,12 @@ returns-clause-history c = history_law
 
 pub returns-clause-ends : goal.returns-clause-ends
 returns-clause-ends c = end_law
+
+pub returns-clause-last : goal.returns-clause-last
+returns-clause-last c = end_gives_law
+
+pub returns-clause-waits : goal.returns-clause-waits
+returns-clause-waits c = wait_law
+
+pub returns-clause-inputs : goal.returns-clause-inputs
+returns-clause-inputs c = ports_law
