@@ -1,6 +1,6 @@
 -- What an operator's streams are closed by.
 use Rattle.std.proofs.Common.{ℕ, zero, suc, ◌<◌, ◌≤◌, ◌==◌, Bool, true, false, cond, List, [], ◌∷◌, ◌++◌, ◌≡◌, refl, sym, ap, ◌∙◌, append-nil, map, length, Option, Some, None, is_some, ◌⊎◌, inl, inr, arith}
-use Rattle.std.specs.List.{list_any}
+use Rattle.std.specs.List.{list_all, list_any}
 use Rattle.std.proofs.lemmas.Bool.{cond-true, cond-false, cases_eq, or_parts, ne_eqb, eq-eqb}
 use Rattle.spl_value.specs.declared.item.Item.{Item}
 use Rattle.spl_value.specs.declared.item.Item.TheVariants as I
@@ -10,7 +10,7 @@ use Rattle.stream_model.specs.Stream.{Event, came, is_fault, closes, any_closes,
 use Rattle.stream_model.specs.React.{Operator, Kind, FileSource, Filter, FileSink, Answer, Gives, Faults, body, body_of, filter_body, sink_body, passes, react, ended, ended_by, answered, on_each, output, is_waiting, is_last, fault_of}
 use Rattle.stream_model.specs.Stages.{Stage, gives_all, after, on_port}
 use Rattle.stream_model.specs.StageLaws.{stage_at, one_in, one_in-parts, on_port-append, gives_all-over, after-over}
-use Rattle.stream_model.specs.Laws.{has_ended, BodyLaw, EndGivesLaw, OutCloses, ClosedEnds, ClosedGivesClosed}
+use Rattle.stream_model.specs.Laws.{has_ended, BodyLaw, BodyPorts, EndGivesLaw, OutCloses, ClosedEnds, ClosedGivesClosed}
 
 -- the items of an answer
 abbrev pub given : Answer → List Output
@@ -46,6 +46,30 @@ given_open op earlier e = given_open-of op.kind op earlier e
 
 pub body_law : BodyLaw
 body_law op earlier e outs h = ap (λ a. some_closes (given a)) (sym h) ∙ given_open op earlier e
+
+filter_first : (condition : Option Condition) (x : Item) → list_all (λ o. o.port == 0) (given (filter_body condition x)) ≡ true
+filter_first condition (I.Tuple vs) = go (passes condition vs)
+  where
+    go : (b : Bool) → list_all (λ o. o.port == 0) (cond b (output 0 (I.Tuple vs) ∷ []) []) ≡ true
+    go true = refl
+    go false = refl
+filter_first condition I.Window = refl
+filter_first condition I.Final = refl
+filter_first condition (I.Bad f) = refl
+
+sink_first : (x : Item) → list_all (λ o. o.port == 0) (given (sink_body x)) ≡ true
+sink_first (I.Tuple vs) = refl
+sink_first I.Window = refl
+sink_first I.Final = refl
+sink_first (I.Bad f) = refl
+
+given_first : (kind : Kind) (op : Operator) (earlier : List Event) (e : Event) → list_all (λ o. o.port == 0) (given (body_of kind op earlier e)) ≡ true
+given_first (FileSource source) op earlier e = refl
+given_first (Filter condition) op earlier e = filter_first condition e.item
+given_first (FileSink file) op earlier e = sink_first e.item
+
+pub body_ports : BodyPorts
+body_ports op earlier e outs h = ap (λ a. list_all (λ o. o.port == 0) (given a)) (sym h) ∙ given_first op.kind op earlier e
 
 -- no item on a port closes where no output does
 on_port_open : (p : ℕ) (outs : List Output) → some_closes outs ≡ false → any_closes (on_port p outs) ≡ false

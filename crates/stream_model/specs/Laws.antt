@@ -1,6 +1,6 @@
 -- What the definitions of streams, operators and graphs come to.
 use Rattle.std.specs.Prelude.{ℕ, ◌+◌, ◌<◌, ◌==◌, ◌&&◌, Bool, true, false, List, [], ◌∷◌, ◌++◌, ◌≡◌, map, length, reverse, slice_get, Some, None, position, is_some, if◌then◌else◌}
-use Rattle.std.specs.List.{concat, list_any}
+use Rattle.std.specs.List.{concat, list_all, list_any}
 use Rattle.spl_value.specs.declared.item.Item.{Item}
 use Rattle.spl_value.specs.declared.item.Item.TheVariants as I
 use Rattle.stream_model.specs.declared.outs.Output.{Output}
@@ -71,6 +71,11 @@ ClosedGivesClosed = (op : Operator) (s p : ℕ) (items : List Item) → op.ins �
 abbrev pub BodyLaw : Type 0
 BodyLaw = (op : Operator) (earlier : List Event) (e : Event) (outs : List Output) → body op earlier e ≡ Gives outs
     → list_any (λ o. closes o.item) outs ≡ false
+
+-- the body of a source, of a filter and of a sink, whose writer stands as port 0, gives on port 0 alone
+abbrev pub BodyPorts : Type 0
+BodyPorts = (op : Operator) (earlier : List Event) (e : Event) (outs : List Output) → body op earlier e ≡ Gives outs
+    → list_all (λ o. o.port == 0) outs ≡ true
 
 abbrev pub makes_stream : Operator → ℕ → Bool
 makes_stream op s = list_any (λ o. o == s) op.outs

@@ -6,7 +6,7 @@ ghost use Rattle.spl_value.specs.declared.item.FaultKind.TheVariants as K;
 ghost use Rattle.spl_value.specs.declared.types.IntKind.TheVariants as N;
 ghost use Rattle.spl_value.specs.declared.types.SplType.TheVariants as T;
 ghost use Rattle.spl_value.specs.declared.value.Value.TheVariants as V;
-ghost use Rattle.stream_model.specs.Laws.{StartLaw, HistoryLaw, EndLaw, EndGivesLaw, WaitLaw, PortsLaw, OutGrows, ChainGrows, OutCloses, ClosedEnds, ClosedGivesClosed, BodyLaw, GraphLaw, IsOrdered, RowsClose};
+ghost use Rattle.stream_model.specs.Laws.{StartLaw, HistoryLaw, EndLaw, EndGivesLaw, WaitLaw, PortsLaw, OutGrows, ChainGrows, OutCloses, ClosedEnds, ClosedGivesClosed, BodyLaw, BodyPorts, GraphLaw, IsOrdered, RowsClose};
 ghost use Rattle.stream_model.specs.React.{Source, FileSource, Filter, FileSink};
 ghost use Rattle.stream_model.specs.declared.condition.Condition.{Condition};
 ghost use Rattle.stream_model.specs.Rows.{rows, too_long, text_of};
@@ -31,9 +31,10 @@ pub fn order_law()
     ensures closed { ClosedGivesClosed }
 {}
 
-/// No kind of operator gives a final marker or a fault by its body.
+/// No kind of operator gives a final marker or a fault by its body, or an item on a port past its own.
 pub fn kinds_law()
-    ensures { BodyLaw }
+    ensures items { BodyLaw }
+    ensures ports { BodyPorts }
 {}
 
 /// The streams of an ordered graph are what its operators make of them.
