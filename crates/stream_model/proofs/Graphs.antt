@@ -1,15 +1,16 @@
 -- The streams of an ordered graph.
 use Prim.Native.Nat.{zero, suc}
-use Rattle.std.proofs.Common.{ℕ, ◌+◌, ◌==◌, nat_lt, Bool, true, false, cond, not, ◌||◌, List, [], ◌∷◌, ◌++◌, ◌≡◌, refl, sym, ap, ◌∙◌, append_assoc, map, length, reverse, Some, None, position, inl, inr, arith}
-use Rattle.std.specs.List.{list_any, position_or_len}
+use Rattle.std.proofs.Common.{ℕ, ◌+◌, ◌==◌, nat_lt, Bool, true, false, cond, not, ◌||◌, List, [], ◌∷◌, ◌++◌, ◌≡◌, refl, sym, ap, ◌∙◌, append_assoc, map, length, reverse, slice_get, Option, Some, None, position, inl, inr, arith}
+use Rattle.std.specs.List.{cons_option, filter_map, list_any, position_or_len}
+use Rattle.std.specs.Option.{option_map_or}
 use Rattle.std.proofs.Math.Path.{fun_ext}
 use Rattle.std.proofs.lemmas.Bool.{cond-false, cases_Bool, or_parts, or_left, or_right, or_from, eq-eqb, le-ltb}
 use Rattle.std.proofs.lemmas.List.{reverse-append}
 use Rattle.std.proofs.lemmas.List.Folds.{list_any-append}
 use Rattle.stream_model.specs.Stream.{Event, came}
 use Rattle.stream_model.specs.React.{Operator}
-use Rattle.stream_model.specs.Meaning.{Lists, Entries, arrive, lists_at, connections, events_at, made_by, makes, at_port, streams_of, in_topo}
-use Rattle.stream_model.specs.Laws.{makes_stream, reads_stream, is_made, GraphLaw}
+use Rattle.stream_model.specs.Meaning.{Lists, Entries, arrive, lists_at, connections, events_at, events_of, meaning, made_by, makes, at_port, streams_of, in_topo}
+use Rattle.stream_model.specs.Laws.{makes_stream, reads_stream, is_made, GraphLaw, EventsLaw, TopoEventsLaw}
 
 -- where nothing passes, there is no position
 position_or_len-none : (test : ℕ → Bool) (xs : List ℕ) → list_any test xs ≡ false → position_or_len test xs ≡ length xs
@@ -99,3 +100,25 @@ graph_law g rows entries before after op p s ordered split at =
     let turned : reverse (in_topo g) ≡ reverse after ++ op ∷ reverse before = ap reverse split ∙ reverse-around before after op in
     rw turned (streams_of-at before after op p s rows entries
     (λ t h. ordered.once before after op t split h) (λ t h. ordered.forward before after op t split h) at)
+
+pub events_law : EventsLaw
+events_law g rows entries op n numbered at =
+    let same : slice_get g.ops op.number ≡ Some op = ap (slice_get g.ops) (numbered n op at) ∙ at in
+    ap (λ found. option_map_or (λ (o : Operator). events_of o (meaning g rows entries).streams (entries op.number)) found []) same
+
+-- where an operator of the topological order stands among the operators
+number_of : (at : ℕ → Option Operator) (numbers : List ℕ) (before after : List Operator) (op : Operator) → filter_map at numbers ≡ before ++ op ∷ after
+    → (n : ℕ) × (at n ≡ Some op)
+number_of at [] [] after op e = absurd (cc)
+number_of at [] (b ∷ before) after op e = absurd (cc)
+number_of at (n ∷ numbers) before after op e = go (at n) refl before (λ bs. number_of at numbers bs after op) e
+  where
+    go : (found : Option Operator) → at n ≡ found → (bs : List Operator) → ((bs : List Operator) → filter_map at numbers ≡ bs ++ op ∷ after → (m : ℕ) × (at m ≡ Some op))
+        → cons_option found (filter_map at numbers) ≡ bs ++ op ∷ after → (m : ℕ) × (at m ≡ Some op)
+    go None q bs rest e = rest bs e
+    go (Some x) q [] rest e = let same : x ≡ op = cc in (n, q ∙ ap (λ (o : Operator). Some o) same)
+    go (Some x) q (b ∷ bs) rest e = let others : filter_map at numbers ≡ bs ++ op ∷ after = cc in rest bs others
+
+pub topo_events_law : TopoEventsLaw
+topo_events_law g rows entries before after op numbered split =
+    let found = number_of (slice_get g.ops) g.topo before after op split in events_law g rows entries op found.0 numbered found.1

@@ -9,7 +9,7 @@ use Rattle.stream_model.specs.React.{Operator, ports, react, body, ended, Gives}
 use Rattle.stream_model.specs.Stages.{start, after, out, on_port, chain}
 use Rattle.spl_value.specs.Script.{Ending}
 use Rattle.stream_model.specs.Rows.{Setting, rows}
-use Rattle.stream_model.specs.Meaning.{Graph, Lists, Entries, meaning, makes, connections, in_topo}
+use Rattle.stream_model.specs.Meaning.{Graph, Lists, Entries, meaning, makes, connections, events_of, in_topo}
 
 abbrev pub has_ended : Operator → List Event → Bool
 has_ended op events = (after (start op) events).over
@@ -97,6 +97,21 @@ abbrev pub GraphLaw : Type 0
 GraphLaw = (g : Graph) (rows : Lists) (entries : Entries) (before after : List Operator) (op : Operator) (p s : ℕ) →
     IsOrdered (in_topo g) → in_topo g ≡ before ++ op ∷ after → position (λ o. o == s) op.outs ≡ Some p
     → (meaning g rows entries).streams s ≡ makes op p (meaning g rows entries).streams rows entries
+
+-- the number of each operator is its place in the order of declaration
+abbrev pub IsNumbered : Graph → Type 0
+IsNumbered g = (n : ℕ) (op : Operator) → slice_get g.ops n ≡ Some op → op.number ≡ n
+
+-- then the events of an operator are those of the streams of the graph at its inputs, under the operator's own record
+abbrev pub EventsLaw : Type 0
+EventsLaw = (g : Graph) (rows : Lists) (entries : Entries) (op : Operator) (n : ℕ) → IsNumbered g → slice_get g.ops n ≡ Some op
+    → (meaning g rows entries).events op.number ≡ events_of op (meaning g rows entries).streams (entries op.number)
+
+-- so they are of one that stands in the topological order
+abbrev pub TopoEventsLaw : Type 0
+TopoEventsLaw = (g : Graph) (rows : Lists) (entries : Entries) (before after : List Operator) (op : Operator) →
+    IsNumbered g → in_topo g ≡ before ++ op ∷ after
+    → (meaning g rows entries).events op.number ≡ events_of op (meaning g rows entries).streams (entries op.number)
 
 -- the rows of a file end with a final marker or a fault, and nothing follows it
 abbrev pub RowsClose : Type 0

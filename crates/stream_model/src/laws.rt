@@ -6,7 +6,7 @@ ghost use Rattle.spl_value.specs.declared.item.FaultKind.TheVariants as K;
 ghost use Rattle.spl_value.specs.declared.types.IntKind.TheVariants as N;
 ghost use Rattle.spl_value.specs.declared.types.SplType.TheVariants as T;
 ghost use Rattle.spl_value.specs.declared.value.Value.TheVariants as V;
-ghost use Rattle.stream_model.specs.Laws.{StartLaw, HistoryLaw, EndLaw, EndGivesLaw, WaitLaw, PortsLaw, OutGrows, ChainGrows, OutCloses, ClosedEnds, ClosedGivesClosed, BodyLaw, BodyPorts, GraphLaw, IsOrdered, RowsClose};
+ghost use Rattle.stream_model.specs.Laws.{StartLaw, HistoryLaw, EndLaw, EndGivesLaw, WaitLaw, PortsLaw, OutGrows, ChainGrows, OutCloses, ClosedEnds, ClosedGivesClosed, BodyLaw, BodyPorts, GraphLaw, EventsLaw, TopoEventsLaw, IsOrdered, RowsClose};
 ghost use Rattle.stream_model.specs.React.{Source, FileSource, Filter, FileSink};
 ghost use Rattle.stream_model.specs.declared.condition.Condition.{Condition};
 ghost use Rattle.stream_model.specs.Rows.{rows, too_long, text_of};
@@ -37,9 +37,11 @@ pub fn kinds_law()
     ensures ports { BodyPorts }
 {}
 
-/// The streams of an ordered graph are what its operators make of them.
+/// The streams of an ordered graph are what its operators make of them, and the events of each operator are those of its inputs.
 pub fn graph_law()
-    ensures { GraphLaw }
+    ensures streams { GraphLaw }
+    ensures events { EventsLaw }
+    ensures in_order { TopoEventsLaw }
 {}
 
 /// A source, a filter behind it and a sink behind that are ordered.
