@@ -3,3 +3,4 @@ pub mod Closings
 pub mod Waiting
 pub mod Growing
 pub mod Graphs
+pub mod FileRows

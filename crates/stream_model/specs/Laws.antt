@@ -1,14 +1,16 @@
 -- What the definitions of streams, operators and graphs come to.
-use Rattle.std.specs.Prelude.{ℕ, ◌+◌, ◌<◌, ◌==◌, ◌&&◌, Bool, true, false, List, [], ◌∷◌, ◌++◌, ◌≡◌, map, length, reverse, slice_get, Some, None, position, is_some, if◌then◌else◌}
-use Rattle.std.specs.List.{concat, list_all, list_any}
+use Rattle.std.specs.Prelude.{ℕ, ◌+◌, ◌<◌, ◌≤◌, ◌==◌, ◌&&◌, Bool, true, false, List, [], ◌∷◌, ◌++◌, ◌≡◌, map, length, reverse, slice_get, Option, Some, None, position, is_some, if◌then◌else◌}
+use Rattle.std.specs.List.{concat, count_by, filter_map, flat_map, list_all, list_any, All}
 use Rattle.spl_value.specs.declared.item.Item.{Item}
 use Rattle.spl_value.specs.declared.item.Item.TheVariants as I
+use Rattle.spl_value.specs.declared.item.FaultKind.TheVariants as K
+use Rattle.spl_value.specs.declared.value.Value.{Value}
 use Rattle.stream_model.specs.declared.outs.Output.{Output}
 use Rattle.stream_model.specs.Stream.{Event, came, is_final, closes, any_closes, is_closed, IsPrefix}
 use Rattle.stream_model.specs.React.{Operator, ports, react, body, ended, Gives}
 use Rattle.stream_model.specs.Stages.{start, after, out, on_port, chain}
-use Rattle.spl_value.specs.Script.{Ending}
-use Rattle.stream_model.specs.Rows.{Setting, rows}
+use Rattle.spl_value.specs.Script.{Ending, End, Failed}
+use Rattle.stream_model.specs.Rows.{Setting, Given, Row, Nothing, Bad, pieces, line_gives, rows}
 use Rattle.stream_model.specs.Meaning.{Graph, Lists, Entries, meaning, makes, connections, events_of, in_topo}
 
 abbrev pub has_ended : Operator → List Event → Bool
@@ -116,3 +118,65 @@ TopoEventsLaw = (g : Graph) (rows : Lists) (entries : Entries) (before after : L
 -- the rows of a file end with a final marker or a fault, and nothing follows it
 abbrev pub RowsClose : Type 0
 RowsClose = (o : Setting) (bytes : List ℕ) (ending : Ending) → is_closed (rows o bytes ending) ≡ true
+
+-- all pieces but the last
+abbrev pub but_last : List (List ℕ) → List (List ℕ)
+but_last [] = []
+but_last (piece ∷ []) = []
+but_last (piece ∷ next ∷ rest) = piece ∷ but_last (next ∷ rest)
+
+abbrev pub unless_empty : List ℕ → List (List ℕ)
+unless_empty [] = []
+unless_empty (b ∷ bytes) = (b ∷ bytes) ∷ []
+
+-- all pieces but a last one that is empty
+abbrev pub but_empty_last : List (List ℕ) → List (List ℕ)
+but_empty_last [] = []
+but_empty_last (piece ∷ []) = unless_empty piece
+but_empty_last (piece ∷ next ∷ rest) = piece ∷ but_empty_last (next ∷ rest)
+
+-- the lines of a file, and those of them that a line feed ends
+abbrev pub lines : List ℕ → List (List ℕ)
+lines bytes = but_empty_last (pieces bytes)
+
+abbrev pub ended_lines : List ℕ → List (List ℕ)
+ended_lines bytes = but_last (pieces bytes)
+
+-- the values of a row
+abbrev pub row_of : Given → Option (List Value)
+row_of (Row values) = Some values
+row_of Nothing = None
+row_of Bad = None
+
+abbrev pub is_bad : Given → Bool
+is_bad (Row values) = false
+is_bad Nothing = false
+is_bad Bad = true
+
+-- the tuples of those lines that give a row, in their order
+abbrev pub tuples : Setting → List (List ℕ) → List Item
+tuples o all = map I.Tuple (filter_map (λ line. row_of (line_gives o.schema line)) all)
+
+-- a bad line is a fault, and one of these lines is bad
+abbrev pub any_bad : Setting → List (List ℕ) → Bool
+any_bad o all = o.strict && list_any (λ line. is_bad (line_gives o.schema line)) all
+
+-- no line has more than 65,536 bytes, and the file has no more than its limit
+pub record IsWithin (o : Setting) (bytes : List ℕ) : Type 0 where
+  pub each : All (λ piece. length piece ≤ 65536) (pieces bytes)
+  pub file : length bytes ≤ o.limit
+
+-- lines with a line feed behind each, and a last piece with none, are the pieces of the whole
+abbrev pub PiecesLaw : Type 0
+PiecesLaw = (ended : List (List ℕ)) (last : List ℕ) → All (λ line. list_any (λ b. b == 10) line ≡ false) (ended ++ last ∷ [])
+    → pieces (flat_map (λ line. line ++ 10 ∷ []) ended ++ last) ≡ ended ++ last ∷ []
+
+-- a file with no fault gives a tuple for each row, in the order of the lines, and then a window marker and the final marker
+abbrev pub RowsLaw : Type 0
+RowsLaw = (o : Setting) (bytes : List ℕ) → IsWithin o bytes → any_bad o (lines bytes) ≡ false
+    → rows o bytes End ≡ tuples o (lines bytes) ++ I.Window ∷ I.Final ∷ []
+
+-- where a read failed behind such bytes, the rows of the lines that a line feed ends, and then the fault, at the next line
+abbrev pub FailedRowsLaw : Type 0
+FailedRowsLaw = (o : Setting) (bytes : List ℕ) → IsWithin o bytes → any_bad o (ended_lines bytes) ≡ false
+    → rows o bytes Failed ≡ tuples o (ended_lines bytes) ++ I.Bad (record { op = o.op; kind = K.ReadFailed; line = 1 + count_by (λ b. b == 10) bytes }) ∷ []

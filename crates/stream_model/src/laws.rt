@@ -6,7 +6,7 @@ ghost use Rattle.spl_value.specs.declared.item.FaultKind.TheVariants as K;
 ghost use Rattle.spl_value.specs.declared.types.IntKind.TheVariants as N;
 ghost use Rattle.spl_value.specs.declared.types.SplType.TheVariants as T;
 ghost use Rattle.spl_value.specs.declared.value.Value.TheVariants as V;
-ghost use Rattle.stream_model.specs.Laws.{StartLaw, HistoryLaw, EndLaw, EndGivesLaw, WaitLaw, PortsLaw, OutGrows, ChainGrows, OutCloses, ClosedEnds, ClosedGivesClosed, BodyLaw, BodyPorts, GraphLaw, EventsLaw, TopoEventsLaw, IsOrdered, RowsClose};
+ghost use Rattle.stream_model.specs.Laws.{StartLaw, HistoryLaw, EndLaw, EndGivesLaw, WaitLaw, PortsLaw, OutGrows, ChainGrows, OutCloses, ClosedEnds, ClosedGivesClosed, BodyLaw, BodyPorts, GraphLaw, EventsLaw, TopoEventsLaw, IsOrdered, RowsClose, PiecesLaw, RowsLaw, FailedRowsLaw};
 ghost use Rattle.stream_model.specs.React.{Source, FileSource, Filter, FileSink};
 ghost use Rattle.stream_model.specs.declared.condition.Condition.{Condition};
 ghost use Rattle.stream_model.specs.Rows.{rows, too_long, text_of};
@@ -52,9 +52,12 @@ pub fn chain_is_ordered()
         ∷ record { number = 2; kind = FileSink file; ins = (1 ∷ []) ∷ []; outs = [] } ∷ []) }
 {}
 
-/// The stream of a source is closed.
+/// The stream of a source is closed. Where there is no fault it is the rows of the file's lines.
 pub fn rows_law()
-    ensures { RowsClose }
+    ensures closes { RowsClose }
+    ensures lines { PiecesLaw }
+    ensures all { RowsLaw }
+    ensures failed { FailedRowsLaw }
 {}
 
 /// Rows of some files.
@@ -77,6 +80,12 @@ pub fn rows_on_literals()
     ensures failed { rows (record { op = 3; schema = record { name = codes "n"; kind = T.Int N.I8 } ∷ []; strict = true; limit = 9 })
         (codes "1\n2") Failed
         ≡ I.Tuple (V.Int (pos 1) ∷ []) ∷ I.Bad (record { op = 3; kind = K.ReadFailed; line = 2 }) ∷ [] }
+    ensures failed_later { rows (record { op = 3; schema = record { name = codes "n"; kind = T.Int N.I8 } ∷ []; strict = true; limit = 9 })
+        (codes "20\n30\n") Failed
+        ≡ I.Tuple (V.Int (pos 20) ∷ []) ∷ I.Tuple (V.Int (pos 30) ∷ []) ∷ I.Bad (record { op = 3; kind = K.ReadFailed; line = 3 }) ∷ [] }
+    ensures first_bad { rows (record { op = 3; schema = record { name = codes "n"; kind = T.Int N.I8 } ∷ []; strict = true; limit = 9 })
+        (codes "x\n20\n") End
+        ≡ I.Bad (record { op = 3; kind = K.BadRow; line = 1 }) ∷ [] }
     ensures marked { rows (record { op = 3; schema = record { name = codes "n"; kind = T.Int N.I8 } ∷ []; strict = true; limit = 99 })
         (239 ∷ 187 ∷ 191 ∷ codes "5\r") End
         ≡ I.Tuple (V.Int (pos 5) ∷ []) ∷ I.Window ∷ I.Final ∷ [] }

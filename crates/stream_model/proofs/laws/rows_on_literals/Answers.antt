@@ -26,6 +26,14 @@ pub returns-clause-failed : goal.returns-clause-failed
 unfolding csv_on_literals
 returns-clause-failed c = simp T.outs-Int
 
+pub returns-clause-failed_later : goal.returns-clause-failed_later
+unfolding csv_on_literals
+returns-clause-failed_later c = simp T.outs-Int
+
+pub returns-clause-first_bad : goal.returns-clause-first_bad
+unfolding csv_on_literals
+returns-clause-first_bad c = simp T.outs-Int
+
 pub returns-clause-marked : goal.returns-clause-marked
 unfolding csv_on_literals
 returns-clause-marked c = simp T.outs-Int
