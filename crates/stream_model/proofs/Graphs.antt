@@ -9,7 +9,7 @@ use Rattle.std.proofs.lemmas.List.{reverse-append}
 use Rattle.std.proofs.lemmas.List.Folds.{list_any-append}
 use Rattle.stream_model.specs.Stream.{Event, came}
 use Rattle.stream_model.specs.React.{Operator}
-use Rattle.stream_model.specs.Meaning.{Lists, Entries, arrive, lists_at, connections, events_at, events_of, meaning, made_by, makes, at_port, streams_of, in_topo}
+use Rattle.stream_model.specs.Meaning.{Lists, Entries, arrive, lists_at, connections, events_at, events_of, meaning, made_by, makes, streams_of, in_topo}
 use Rattle.stream_model.specs.Laws.{makes_stream, reads_stream, is_made, GraphLaw, EventsLaw, TopoEventsLaw}
 
 -- where nothing passes, there is no position
@@ -40,7 +40,7 @@ list_any-reverse test (x ∷ xs) h =
 streams_of-step : (op : Operator) (earlier : List Operator) (rows : Lists) (entries : Entries) (s : ℕ) → makes_stream op s ≡ false
     → streams_of (op ∷ earlier) rows entries s ≡ streams_of earlier rows entries s
 streams_of-step op earlier rows entries s h =
-    ap (λ at. at_port at (streams_of earlier rows entries s) (λ p. makes op p (streams_of earlier rows entries) rows entries)) (position-none (λ o. o == s) op.outs h)
+    ap (λ at. option_map_or (λ p. makes op p (streams_of earlier rows entries) rows entries) at (streams_of earlier rows entries s)) (position-none (λ o. o == s) op.outs h)
 
 streams_of-append : (later earlier : List Operator) (rows : Lists) (entries : Entries) (s : ℕ) → is_made later s ≡ false
     → streams_of (later ++ earlier) rows entries s ≡ streams_of earlier rows entries s
@@ -89,7 +89,7 @@ streams_of-at : (before after : List Operator) (op : Operator) (p s : ℕ) (rows
 streams_of-at before after op p s rows entries once forward at =
     streams_of-append (reverse after) (op ∷ reverse before) rows entries s
     (list_any-reverse (λ o. makes_stream o s) after (once s (position-some (λ o. o == s) op.outs p at)))
-    ∙ ap (λ found. at_port found (streams_of (reverse before) rows entries s) (λ q. makes op q (streams_of (reverse before) rows entries) rows entries)) at
+    ∙ ap (λ found. option_map_or (λ q. makes op q (streams_of (reverse before) rows entries) rows entries) found (streams_of (reverse before) rows entries s)) at
     ∙ sym (makes-same op p (streams_of (reverse after ++ op ∷ reverse before) rows entries) (streams_of (reverse before) rows entries) rows entries
     (λ t h. let parts = or_parts (makes_stream op t) (is_made after t) (forward t h) in
     streams_of-append (reverse after) (op ∷ reverse before) rows entries t (list_any-reverse (λ o. makes_stream o t) after parts.1)

@@ -1,6 +1,6 @@
 -- What a graph of operators means on one thread: the events of every operator and the list of every stream.
 use Prim.Native.Nat.{zero, suc}
-use Rattle.std.specs.Prelude.{ℕ, ◌^◌, ◌==◌, List, [], ◌∷◌, map, reverse, position, slice_get, if◌then◌else◌, Option, Some, None}
+use Rattle.std.specs.Prelude.{ℕ, ◌^◌, ◌==◌, List, [], ◌∷◌, map, reverse, position, slice_get, if◌then◌else◌}
 use Rattle.std.specs.List.{concat, filter_map}
 use Rattle.std.specs.Option.{option_map_or}
 use Rattle.spl_value.specs.declared.item.Item.{Item}
@@ -18,6 +18,10 @@ pub record Graph : Type 0 where
 -- a list for each input, by its number
 abbrev pub Lists : Type 0
 Lists = ℕ → List Item
+
+-- the entries of each operator's record, by its number: inputs, in the order in which items came on them
+abbrev pub Entries : Type 0
+Entries = ℕ → List ℕ
 
 -- the lists with another one for an input
 abbrev pub with_list : Lists → ℕ → List Item → Lists
@@ -58,21 +62,14 @@ made_by (FileSource source) op p events rows = rows
 made_by _ op p events rows = out op p events
 
 -- what the operator makes of the streams, its rows and its record
-abbrev pub makes : Operator → ℕ → Lists → Lists → (ℕ → List ℕ) → List Item
+abbrev pub makes : Operator → ℕ → Lists → Lists → Entries → List Item
 makes op p streams rows entries = made_by op.kind op p (events_of op streams (entries op.number)) (rows op.number)
 
-abbrev pub at_port : Option ℕ → List Item → (ℕ → List Item) → List Item
-at_port None none some = none
-at_port (Some p) none some = some p
-
 -- the list of each stream, made by operators whose last is first
-abbrev pub streams_of : List Operator → Lists → (ℕ → List ℕ) → Lists
+abbrev pub streams_of : List Operator → Lists → Entries → Lists
 streams_of [] rows entries s = []
 streams_of (op ∷ earlier) rows entries s =
-    at_port (position (λ o. o == s) op.outs) (streams_of earlier rows entries s) (λ p. makes op p (streams_of earlier rows entries) rows entries)
-
-abbrev pub Entries : Type 0
-Entries = ℕ → List ℕ
+    option_map_or (λ p. makes op p (streams_of earlier rows entries) rows entries) (position (λ o. o == s) op.outs) (streams_of earlier rows entries s)
 
 pub record Meaning : Type 0 where
   pub streams : ℕ → List Item

@@ -32,7 +32,7 @@ abbrev pub is_closed : List Item → Bool
 is_closed [] = false
 is_closed (x ∷ xs) = if closes x then is_empty xs else is_closed xs
 
--- the list, with some more behind it
+-- the second list is the first with some more behind it
 abbrev pub IsPrefix : {A : Type 0} → List A → List A → Type 0
 IsPrefix {A = A} front whole = (rest : List A) × (front ++ rest ≡ whole)
 
