@@ -4,13 +4,14 @@ use Rattle.std.specs.List.{list_all, list_any}
 use Rattle.std.proofs.lemmas.Bool.{cond-true, cond-false, cases_eq, or_parts, ne_eqb, eq-eqb}
 use Rattle.spl_value.specs.declared.item.Item.{Item}
 use Rattle.spl_value.specs.declared.item.Item.TheVariants as I
+use Rattle.spl_value.specs.declared.item.FaultKind.{FaultKind}
 use Rattle.stream_model.specs.declared.outs.Output.{Output}
 use Rattle.stream_model.specs.declared.condition.Condition.{Condition}
 use Rattle.stream_model.specs.Stream.{Event, came, is_fault, closes, any_closes, is_closed, is_empty}
 use Rattle.stream_model.specs.React.{Operator, Kind, FileSource, Filter, FileSink, Answer, Gives, Faults, body, body_of, filter_body, sink_body, passes, react, ended, ended_by, answered, on_each, output, is_waiting, is_last, fault_of}
 use Rattle.stream_model.specs.Stages.{Stage, gives_all, after, on_port}
 use Rattle.stream_model.specs.StageLaws.{stage_at, one_in, one_in-parts, on_port-append, gives_all-over, after-over}
-use Rattle.stream_model.specs.Laws.{has_ended, BodyLaw, BodyPorts, EndGivesLaw, OutCloses, ClosedEnds, ClosedGivesClosed}
+use Rattle.stream_model.specs.Laws.{has_ended, BodyLaw, BodyPorts, EndItemLaw, EndGivesLaw, OutCloses, ClosedEnds, ClosedGivesClosed}
 
 -- the items of an answer
 abbrev pub given : Answer → List Output
@@ -155,6 +156,18 @@ pub react_closed : (op : Operator) (p : ℕ) (earlier : List Event) (e : Event) 
     → is_closed (on_port p (react op earlier e)) ≡ true
 react_closed op p earlier e lt =
     caused_closed op p e.item (is_fault e.item) (is_waiting op earlier e) (is_last op earlier e) (body op earlier e) (given_open op earlier e) lt (closes-fault e.item)
+
+pub end_item_law : EndItemLaw
+end_item_law op earlier e x q = go (is_fault e.item) (is_waiting op earlier e) (is_last op earlier e) (body op earlier e) refl refl q
+  where
+    go : (fault waits last : Bool) (a : Answer) → is_fault e.item ≡ fault → body op earlier e ≡ a
+        → cond fault (Some e.item) (cond waits None (ended_by op last a)) ≡ Some x
+        → (x ≡ I.Final) ⊎ (((x ≡ e.item) × (is_fault x ≡ true)) ⊎ ((kind : FaultKind) × (body op earlier e ≡ Faults kind) × (x ≡ fault_of op kind)))
+    go true waits last a f b q = let same : x ≡ e.item = cc in inr (inl (same, ap is_fault same ∙ f))
+    go false true last a f b q = absurd (cc)
+    go false false true (Gives outs) f b q = let same : x ≡ I.Final = cc in inl same
+    go false false false (Gives outs) f b q = absurd (cc)
+    go false false last (Faults kind) f b q = let same : x ≡ fault_of op kind = cc in inr (inr (kind, b, same))
 
 -- the last item on a port, with none before it that closes
 abbrev EndsIn : List Item → Item → Type 0

@@ -1,13 +1,14 @@
 -- What the definitions of streams, operators and graphs come to.
-use Rattle.std.specs.Prelude.{ℕ, ◌+◌, ◌<◌, ◌≤◌, ◌==◌, ◌&&◌, Bool, true, false, List, [], ◌∷◌, ◌++◌, ◌≡◌, map, length, reverse, slice_get, Option, Some, None, position, is_some, if◌then◌else◌}
+use Rattle.std.specs.Prelude.{ℕ, ◌+◌, ◌<◌, ◌≤◌, ◌==◌, ◌&&◌, Bool, true, false, List, [], ◌∷◌, ◌++◌, ◌≡◌, ◌⊎◌, map, length, reverse, slice_get, Option, Some, None, position, is_some, if◌then◌else◌}
 use Rattle.std.specs.List.{concat, count_by, filter_map, flat_map, list_all, list_any, All}
 use Rattle.spl_value.specs.declared.item.Item.{Item}
 use Rattle.spl_value.specs.declared.item.Item.TheVariants as I
+use Rattle.spl_value.specs.declared.item.FaultKind.{FaultKind}
 use Rattle.spl_value.specs.declared.item.FaultKind.TheVariants as K
 use Rattle.spl_value.specs.declared.value.Value.{Value}
 use Rattle.stream_model.specs.declared.outs.Output.{Output}
-use Rattle.stream_model.specs.Stream.{Event, came, is_final, closes, any_closes, is_closed, IsPrefix}
-use Rattle.stream_model.specs.React.{Operator, ports, react, body, ended, Gives}
+use Rattle.stream_model.specs.Stream.{Event, came, is_final, is_fault, closes, any_closes, is_closed, IsPrefix}
+use Rattle.stream_model.specs.React.{Operator, ports, react, body, ended, Gives, Faults}
 use Rattle.stream_model.specs.Stages.{start, after, out, on_port, chain}
 use Rattle.spl_value.specs.Script.{Ending, End, Failed}
 use Rattle.stream_model.specs.Rows.{Setting, Given, Row, Nothing, Bad, pieces, line_gives, rows}
@@ -30,6 +31,13 @@ HistoryLaw = (op : Operator) (p : ℕ) (events : List Event) (e : Event) →
 abbrev pub EndLaw : Type 0
 EndLaw = (op : Operator) (events : List Event) (e : Event) →
     has_ended op (events ++ e ∷ []) ≡ (if has_ended op events then true else is_some (ended op (reverse events) e))
+
+-- an operator ends with a final marker, with a fault that came, or with its body's own fault
+abbrev pub EndItemLaw : Type 0
+EndItemLaw = (op : Operator) (earlier : List Event) (e : Event) (x : Item) → ended op earlier e ≡ Some x →
+    (x ≡ I.Final)
+    ⊎ (((x ≡ e.item) × (is_fault x ≡ true))
+    ⊎ ((kind : FaultKind) × (body op earlier e ≡ Faults kind) × (x ≡ I.Bad (record { op = op.number; kind = kind; line = 0 }))))
 
 -- where an operator ends at an event, the item with which it ends is the last that the event gives on each output port, and
 -- no other one closes; where it doesn't end, none does

@@ -6,23 +6,26 @@ ghost use Rattle.spl_value.specs.declared.item.FaultKind.TheVariants as K;
 ghost use Rattle.spl_value.specs.declared.types.IntKind.TheVariants as N;
 ghost use Rattle.spl_value.specs.declared.types.SplType.TheVariants as T;
 ghost use Rattle.spl_value.specs.declared.value.Value.TheVariants as V;
-ghost use Rattle.stream_model.specs.Laws.{StartLaw, HistoryLaw, EndLaw, EndGivesLaw, WaitLaw, PortsLaw, OutGrows, ChainGrows, OutCloses, ClosedEnds, ClosedGivesClosed, BodyLaw, BodyPorts, GraphLaw, EventsLaw, TopoEventsLaw, IsOrdered, RowsClose, PiecesLaw, RowsLaw, FailedRowsLaw};
+ghost use Rattle.stream_model.specs.Laws.{StartLaw, HistoryLaw, EndLaw, EndItemLaw, EndGivesLaw, WaitLaw, PortsLaw, OutGrows, ChainGrows, OutCloses, ClosedEnds, ClosedGivesClosed, BodyLaw, BodyPorts, GraphLaw, EventsLaw, TopoEventsLaw, IsOrdered, RowsClose, PiecesLaw, RowsLaw, FailedRowsLaw};
 ghost use Rattle.stream_model.specs.React.{Source, FileSource, Filter, FileSink};
 ghost use Rattle.stream_model.specs.declared.condition.Condition.{Condition};
 ghost use Rattle.stream_model.specs.Rows.{rows, too_long, text_of};
 
-/// No event gives nothing. One event more gives its reaction behind the history of all before it, and may end the operator.
-/// Where it does, that is its last item on each output port. A port waits for the final marker of each of its inputs.
+/// No event gives nothing. One event more gives its reaction behind the history of all before it,
+/// and may end the operator, whose last item on each output port then says how. A port waits for
+/// the final marker of each of its inputs.
 pub fn history_law()
     ensures start { StartLaw }
     ensures history { HistoryLaw }
     ensures ends { EndLaw }
+    ensures by { EndItemLaw }
     ensures last { EndGivesLaw }
     ensures waits { WaitLaw }
     ensures inputs { PortsLaw }
 {}
 
-/// A longer list of events gives a longer stream. A closed stream ends the operator that reads it alone, and gives a closed one.
+/// A longer list of events gives a longer stream. A closed stream ends the operator that reads it
+/// alone, and gives a closed one.
 pub fn order_law()
     ensures out { OutGrows }
     ensures chain { ChainGrows }
@@ -31,13 +34,15 @@ pub fn order_law()
     ensures closed { ClosedGivesClosed }
 {}
 
-/// No kind of operator gives a final marker or a fault by its body, or an item on a port past its own.
+/// No kind of operator gives a final marker or a fault by its body, or an item on a port past its
+/// own.
 pub fn kinds_law()
     ensures items { BodyLaw }
     ensures ports { BodyPorts }
 {}
 
-/// The streams of an ordered graph are what its operators make of them, and the events of each operator are those of its inputs.
+/// The streams of an ordered graph are what its operators make of them, and the events of each
+/// operator are those of its inputs.
 pub fn graph_law()
     ensures streams { GraphLaw }
     ensures events { EventsLaw }
