@@ -4,7 +4,7 @@ use Rattle.spl_value.specs.Script.{Script, End}
 use Rattle.spl_value.specs.Script as S
 use Rattle.feed_pour.specs.Contents.{Told}
 use Rattle.feed_pour.specs.Failing.{next_failing}
-use Rattle.feed_pour.specs.Plain.{bytes_or_none}
+use Rattle.feed_pour.specs.Plain.{or_empty}
 use Rattle.feed_pour.specs.Table.{under}
 use Rattle.feed_pour.specs.declared.table.Entry.{Entry}
 
@@ -20,4 +20,4 @@ abbrev pub script_of : ℕ → List ℕ → List ℕ → Script
 script_of calls failing left = script_up_to calls (next_failing calls failing) left
 
 abbrev pub memory_told : List (Entry (List ℕ)) → List (Entry (List ℕ)) → Told
-memory_told files failing = record { holds = under files; script = λ n. script_of 0 (bytes_or_none (under failing n)) (bytes_or_none (under files n)) }
+memory_told files failing = record { holds = under files; script = λ n. script_of 0 (or_empty (under failing n)) (or_empty (under files n)) }

@@ -6,12 +6,12 @@ use Rattle.feed_pour.specs.Table.{under}
 use Rattle.feed_pour.specs.declared.table.Entry.{Entry}
 
 -- a list, or the empty one where there is none
-abbrev pub bytes_or_none : Option (List ℕ) → List ℕ
-bytes_or_none None = []
-bytes_or_none (Some bytes) = bytes
+abbrev pub or_empty : Option (List ℕ) → List ℕ
+or_empty None = []
+or_empty (Some bytes) = bytes
 
 abbrev pub plain_script : List ℕ → Script
 plain_script bytes = record { bytes = bytes; ending = End }
 
 abbrev pub plain_told : List (Entry (List ℕ)) → Told
-plain_told files = record { holds = under files; script = λ n. plain_script (bytes_or_none (under files n)) }
+plain_told files = record { holds = under files; script = λ n. plain_script (or_empty (under files n)) }

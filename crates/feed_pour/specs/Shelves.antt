@@ -3,7 +3,7 @@ use Rattle.std.specs.Prelude.{◌≡◌, ◌+◌, ℕ, List, [], Option, Some, N
 use Rattle.feed_pour.specs.Counts.{Counts, OthersStay, no_counts}
 use Rattle.feed_pour.specs.Failing.{is_to_fail}
 use Rattle.feed_pour.specs.Files.{counts_in}
-use Rattle.feed_pour.specs.Plain.{bytes_or_none}
+use Rattle.feed_pour.specs.Plain.{or_empty}
 use Rattle.feed_pour.specs.Table.{under, Puts}
 use Rattle.feed_pour.specs.declared.memory_shelf.MemoryShelf.{MemoryShelf}
 
@@ -13,11 +13,11 @@ files_of shelf = under shelf.files.items
 
 -- the numbers of the reads that are to fail, of a feed of each name
 abbrev pub reads_to_fail : MemoryShelf → List ℕ → List ℕ
-reads_to_fail shelf name = bytes_or_none (under shelf.failing_reads.items name)
+reads_to_fail shelf name = or_empty (under shelf.failing_reads.items name)
 
 -- the numbers of the writes that are to fail, of a pour of each name
 abbrev pub writes_to_fail : MemoryShelf → List ℕ → List ℕ
-writes_to_fail shelf name = bytes_or_none (under shelf.failing_writes.items name)
+writes_to_fail shelf name = or_empty (under shelf.failing_writes.items name)
 
 -- the numbers of the shelf's own calls that are to fail
 abbrev pub calls_to_fail : MemoryShelf → List ℕ

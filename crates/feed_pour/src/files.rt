@@ -1,5 +1,5 @@
 // The shelf over the system's files, and a pour over any writer. They tell nothing of what files hold.
-ghost use Rattle.std.specs.Prelude.{ℕ, List, ◌≡◌, ◌≤◌, ◌<◌, ◌^◌, [], length, take, true, Some, None, OnOk};
+ghost use Rattle.std.specs.Prelude.{ℕ, List, ◌≡◌, ◌≤◌, ◌<◌, ◌^◌, [], length, take, true, Some, None, OnOk, IsErr};
 ghost use Rattle.std.specs.Io.KnownBytes.{Keeps, Appends};
 ghost use Rattle.feed_pour.specs.Contents.{failed_read};
 ghost use Rattle.feed_pour.specs.Counts.{Counted, no_counts};
@@ -89,6 +89,7 @@ impl<F: Write> FilePour<F> {
     fn empty_buffer(&mut self) -> Result<(), Failed>
         ensures cause { Counted (failed_read result) self.old.faults self.new.faults }
         ensures bytes { Keeps (file_poured F.contents self.old) (file_poured F.contents self.new) }
+        ensures whole { OnOk result (Keeps (file_poured F.contents self.old) (F.contents self.new.file)) }
         ensures empty { OnOk result (self.new.buffer.items ≡ []) }
     {
         self.written += write_front(&mut self.file, &self.buffer[self.written..]);
@@ -97,6 +98,17 @@ impl<F: Write> FilePour<F> {
         }
         self.buffer.clear();
         self.written = 0;
+        Ok(())
+    }
+
+    // Writes out what is left. It fails too where a write has failed before.
+    fn close(&mut self) -> Result<(), Failed>
+        ensures fault { 0 < self.old.faults → IsErr result }
+        ensures whole { OnOk result (Keeps (file_poured F.contents self.old) (F.contents self.new.file)) }
+    {
+        if self.empty_buffer().is_err() || self.faults != 0 || self.file.flush().is_err() {
+            return Err(Failed);
+        }
         Ok(())
     }
 }
@@ -211,7 +223,7 @@ where
 
     fn finish(&mut self, name: &Name, out: FilePour<R::File>) -> Result<(), Failed> {
         let mut out = out;
-        if out.empty_buffer().is_err() || out.faults != 0 || out.file.flush().is_err() {
+        if out.close().is_err() {
             raise_writing(self.alloc, &mut self.tallies, name);
             return Err(Failed);
         }

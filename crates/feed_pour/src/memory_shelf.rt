@@ -6,7 +6,7 @@ ghost use Rattle.feed_pour.specs.Counts.{CreatingCounted, OpeningCounted, Writin
 ghost use Rattle.feed_pour.specs.Failing.{calls_after, one_more};
 ghost use Rattle.feed_pour.specs.Files.{counts_in, counts_of, knows};
 ghost use Rattle.feed_pour.specs.Memory.{memory_told};
-ghost use Rattle.feed_pour.specs.Plain.{bytes_or_none};
+ghost use Rattle.feed_pour.specs.Plain.{or_empty};
 ghost use Rattle.feed_pour.specs.Table.{under};
 
 use crate::calls::Calls;
@@ -35,7 +35,7 @@ fn numbers_under(
     numbers: &[Entry<Items<u64>>],
     name: &Name,
 ) -> Result<Items<u64>, NoMemory>
-    ensures { IfOk result (λ found. found ≡ bytes_or_none (under numbers.now name.now)) }
+    ensures { IfOk result (λ found. found ≡ or_empty (under numbers.now name.now)) }
 {
     match find(numbers, name) {
         None => Ok(Items::new(alloc)),

@@ -4,7 +4,7 @@ ghost use Rattle.std.specs.Io.{ReadsAtMost};
 ghost use Rattle.std.specs.Option.{option_copied};
 ghost use Rattle.feed_pour.specs.Contents.{PieceGiven, LeftTaken, Poured, PouredWhole, failed_read, failed_write};
 ghost use Rattle.feed_pour.specs.Counts.{Counted, no_counts};
-ghost use Rattle.feed_pour.specs.Plain.{bytes_or_none, plain_script, plain_told};
+ghost use Rattle.feed_pour.specs.Plain.{or_empty, plain_script, plain_told};
 ghost use Rattle.feed_pour.specs.Table.{under, Puts};
 
 use crate::table::{Entry, find, put};
@@ -147,7 +147,7 @@ impl PlainShelf {
 }
 
 fn copy_under(alloc: Global, files: &[Entry<Bytes>], name: &Name) -> Result<Bytes, NoMemory>
-    ensures { IfOk result (λ bytes. bytes ≡ bytes_or_none (under files.now name.now)) }
+    ensures { IfOk result (λ bytes. bytes ≡ or_empty (under files.now name.now)) }
 {
     match find(files, name) {
         None => Ok(Items::new(alloc)),
