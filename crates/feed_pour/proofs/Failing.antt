@@ -18,7 +18,7 @@ none_left c [] below = refl
 none_left c (k ∷ ks) below = none_at (nat_lt c k) c k ks refl (below 0) (none_left c ks (λ i. below (suc i)))
 
 -- what is found is above
-abbrev Above : ℕ → Option ℕ → Type 0
+abbrev pub Above : ℕ → Option ℕ → Type 0
 Above c None = Unit {0}
 Above c (Some k) = c < k
 
@@ -30,7 +30,7 @@ above_at : (t : Bool) (c k : ℕ) (ks : List ℕ) → nat_lt c k ≡ t → Above
 above_at true c k ks is ih = sooner_above c k (next_failing c ks) (grind arith) ih
 above_at false c k ks is ih = ih
 
-above : (c : ℕ) (f : List ℕ) → Above c (next_failing c f)
+pub above : (c : ℕ) (f : List ℕ) → Above c (next_failing c f)
 above c [] = tt
 above c (k ∷ ks) = above_at (nat_lt c k) c k ks refl (above c ks)
 

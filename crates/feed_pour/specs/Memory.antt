@@ -1,9 +1,9 @@
 -- The script of a feed in memory some of whose calls are to fail.
-use Rattle.std.specs.Prelude.{◌+◌, ◌-◌, ◌*◌, ℕ, List, length, take, if◌then◌else◌, nat_lt, Option, Some, None}
+use Rattle.std.specs.Prelude.{◌≡◌, ◌≤◌, ◌<◌, ◌+◌, ◌-◌, ◌*◌, ℕ, List, length, take, true, if◌then◌else◌, nat_lt, Option, Some, None}
 use Rattle.spl_value.specs.Script.{Script, End}
 use Rattle.spl_value.specs.Script as S
 use Rattle.feed_pour.specs.Contents.{Told}
-use Rattle.feed_pour.specs.Failing.{next_failing}
+use Rattle.feed_pour.specs.Failing.{is_to_fail, next_failing}
 use Rattle.feed_pour.specs.Plain.{or_empty}
 use Rattle.feed_pour.specs.Table.{under}
 use Rattle.feed_pour.specs.declared.table.Entry.{Entry}
@@ -21,3 +21,17 @@ script_of calls failing left = script_up_to calls (next_failing calls failing) l
 
 abbrev pub memory_told : List (Entry (List ℕ)) → List (Entry (List ℕ)) → Told
 memory_told files failing = record { holds = under files; script = λ n. script_of 0 (or_empty (under failing n)) (or_empty (under files n)) }
+
+-- the first of the calls that are to fail
+pub record FirstToFail (failing : List ℕ) (call : ℕ) : Type 0 where
+  pub listed : is_to_fail call failing ≡ true
+  pub counted : 0 < call
+  pub first : (k : ℕ) → is_to_fail k failing ≡ true → 0 < k → call ≤ k
+
+-- reads in pieces of 8,192 come to the file's end before this call: it has fewer pieces than calls before it
+abbrev pub IsBehindEnd : List ℕ → ℕ → Type 0
+IsBehindEnd bytes call = length bytes + 8192 ≤ (call - 1) * 8192
+
+-- what those reads give before this call, which fails
+abbrev pub cut_before : ℕ → List ℕ → Script
+cut_before call bytes = record { bytes = take ((call - 1) * 8192) bytes; ending = S.Failed }

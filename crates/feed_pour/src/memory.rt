@@ -1,10 +1,11 @@
 // A feed and a pour in memory, some of whose calls may be told to fail.
-ghost use Rattle.std.specs.Prelude.{◌≡◌, ◌≤◌, ◌+◌, ◌^◌, ◌<◌, [], Some, length, drop, min, IfOk, IfSome};
+ghost use Rattle.std.specs.Prelude.{ℕ, true, ◌≡◌, ◌≤◌, ◌+◌, ◌^◌, ◌<◌, [], Some, length, drop, min, IfOk, IfSome};
 ghost use Rattle.std.specs.Io.{ReadsAtMost};
 ghost use Rattle.feed_pour.specs.Failing.{is_to_fail, one_more, writes_after};
 ghost use Rattle.feed_pour.specs.Counts.{Counted};
 ghost use Rattle.feed_pour.specs.Contents.{PieceGiven, LeftTaken, Poured, PouredWhole, failed_read, failed_write};
-ghost use Rattle.feed_pour.specs.Memory.{script_of};
+ghost use Rattle.feed_pour.specs.Memory.{FirstToFail, IsBehindEnd, cut_before, script_of};
+ghost use Rattle.feed_pour.specs.Plain.{plain_script};
 
 use crate::calls::Calls;
 use crate::plain::place;
@@ -26,6 +27,8 @@ impl MemoryFeed {
     /// A feed of these bytes, whose reads of these numbers are to fail.
     pub fn new(bytes: Bytes, failing: Items<u64>) -> MemoryFeed
         ensures script { ⟦<MemoryFeed as Feed>⟧.script result ≡ Some (script_of 0 failing bytes) }
+        ensures whole { ((k : ℕ) → is_to_fail k failing ≡ true → 0 < k → IsBehindEnd bytes k) → ⟦<MemoryFeed as Feed>⟧.script result ≡ Some (plain_script bytes) }
+        ensures cut { (k : ℕ) → FirstToFail failing k → (IsBehindEnd bytes k → ⊥) → ⟦<MemoryFeed as Feed>⟧.script result ≡ Some (cut_before k bytes) }
         ensures left { ⟦<MemoryFeed as Feed>⟧.left result ≡ Some bytes }
         ensures faults { ⟦<MemoryFeed as Feed>⟧.faults result ≡ 0 }
         ensures failing { result.calls.failing ≡ failing }

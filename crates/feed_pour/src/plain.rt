@@ -2,8 +2,8 @@
 ghost use Rattle.std.specs.Prelude.{◌≡◌, ◌<◌, ◌≤◌, ◌-◌, ◌^◌, [], Some, None, ℕ, List, IfOk, IfSome, IsSome, OnOk, OnErr, length, take, drop, min, ⊤};
 ghost use Rattle.std.specs.Io.{ReadsAtMost};
 ghost use Rattle.std.specs.Option.{option_copied};
-ghost use Rattle.feed_pour.specs.Contents.{PieceGiven, LeftTaken, Poured, PouredWhole, failed_read, failed_write};
-ghost use Rattle.feed_pour.specs.Counts.{Counted, no_counts};
+ghost use Rattle.feed_pour.specs.Contents.{IfOpened, KeepsNames, LeftTaken, PieceGiven, Poured, PouredWhole, TellsSame, WhereTold, failed_open, failed_write};
+ghost use Rattle.feed_pour.specs.Counts.{Counted, OpeningCounted, no_counts};
 ghost use Rattle.feed_pour.specs.Plain.{or_empty, plain_script, plain_told};
 ghost use Rattle.feed_pour.specs.Table.{under, Puts};
 
@@ -156,6 +156,8 @@ fn copy_under(alloc: Global, files: &[Entry<Bytes>], name: &Name) -> Result<Byte
 }
 
 impl Shelf for PlainShelf {
+    ghost use Rattle.feed_pour.specs.PlainFiles.{plain_files};
+
     type Reader = PlainFeed;
 
     type Writer = PlainPour;
@@ -168,7 +170,19 @@ impl Shelf for PlainShelf {
 
     ghost created = { λ s n. IsSome (under s.files.items n) };
 
-    fn open_in(&mut self, name: &Name) -> Opened<PlainFeed> {
+    fn open_in(&mut self, name: &Name) -> Opened<PlainFeed>
+        ensures cause { OpeningCounted (failed_open result) (⟦<PlainShelf as Shelf>⟧.counts self.old) (⟦<PlainShelf as Shelf>⟧.counts self.new) name.now }
+        ensures told { WhereTold (⟦<PlainShelf as Shelf>⟧.told self.old) (⟦<PlainShelf as Shelf>⟧.told self.new) TellsSame }
+        ensures feed { IfOpened result (λ feed. ⟦<PlainFeed as Feed>⟧.faults feed ≡ 0) }
+        ensures script { IfOpened result (λ feed. IfSome (⟦<PlainShelf as Shelf>⟧.told self.old) (λ t. ⟦<PlainFeed as Feed>⟧.script feed ≡ Some (t.script name.now))) }
+        ensures opened { IfOpened result (λ _. ⟦<PlainShelf as Shelf>⟧.opened self.new name.now) }
+        ensures keeps { KeepsNames (⟦<PlainShelf as Shelf>⟧.opened self.old) (⟦<PlainShelf as Shelf>⟧.opened self.new) }
+        ensures keeps_created { KeepsNames (⟦<PlainShelf as Shelf>⟧.created self.old) (⟦<PlainShelf as Shelf>⟧.created self.new) }
+
+        // A name that isn't there reads as an empty file.
+        ensures left { IfOpened result (λ feed. ⟦<PlainFeed as Feed>⟧.left feed ≡ Some (or_empty (plain_files self.old name.now))) }
+        ensures files { (n : List ℕ) → plain_files self.new n ≡ plain_files self.old n }
+    {
         match copy_under(self.alloc, self.files.as_slice(), name) {
             Err(_) => Opened::Memory,
             Ok(bytes) => Opened::Ok(PlainFeed::new(bytes)),
