@@ -1,4 +1,4 @@
-// The shelf over the system's files, and a pour over any writer. They tell nothing of what files hold.
+// The shelf over the system's files. It tells nothing of what they hold.
 ghost use Rattle.std.specs.Prelude.{ℕ, List, ◌≡◌, ◌≤◌, ◌<◌, ◌^◌, [], length, take, true, Some, None, OnOk, IsErr};
 ghost use Rattle.std.specs.Io.KnownBytes.{Keeps, Appends};
 ghost use Rattle.feed_pour.specs.Contents.{failed_read};
@@ -16,7 +16,7 @@ use std::io::{Read, Write};
 use std::rt::Files;
 use std::{fs, str};
 
-/// A feed over an open file.
+/// A feed over an open file. It tells what is left where the file says so, and the system's files don't.
 #[derive(Drop)]
 pub struct FileFeed<F> {
     file: F,
@@ -27,7 +27,7 @@ pub struct FileFeed<F> {
 impl<F: Read> Feed for FileFeed<F> {
     ghost script = { λ _. None };
 
-    ghost left = { λ _. None };
+    ghost left = { λ f. F.remaining f.file };
 
     ghost faults = { λ f. f.faults };
 
