@@ -18,6 +18,7 @@ pub record Gave (script : Script) (now : Option Script) (n : ℕ) (piece : List 
   pub left : 0 < n → now ≡ Some (record { bytes = rest; ending = script.ending })
   pub over : n ≡ 0 → script ≡ record { bytes = []; ending = End }
 
+-- a read into a piece of 8,192 bytes: it fails only where none is left and the script ends so
 abbrev pub PieceGiven : Option Script → Option Script → Result ℕ Failed → List ℕ → Type 0
 PieceGiven None now r piece = ⊤
 PieceGiven (Some script) now (Ok n) piece = Gave script now n piece
@@ -30,6 +31,7 @@ pub record Took (before : List ℕ) (now : Option (List ℕ)) (n : ℕ) (piece :
   pub left : now ≡ Some rest
   pub over : n ≡ 0 → before ≡ []
 
+-- a read takes what it places from what is left; one that fails takes nothing
 abbrev pub LeftTaken : Option (List ℕ) → Option (List ℕ) → Result ℕ Failed → List ℕ → Type 0
 LeftTaken None now r piece = ⊤
 LeftTaken (Some left) now (Ok n) piece = Took left now n piece
@@ -90,6 +92,7 @@ IfOpened (O.Ok x) P = P x
 IfOpened O.Failed P = ⊤
 IfOpened O.Memory P = ⊤
 
+-- whether there is an opened one
 abbrev pub is_opened : {T : Type 0} → Opened T → Bool
 is_opened (O.Ok x) = true
 is_opened O.Failed = false
@@ -121,6 +124,7 @@ HeldAfter failed None holds = ⊤
 HeldAfter false (Some poured) holds = holds ≡ Some poured
 HeldAfter true (Some poured) holds = (n : ℕ) × (holds ≡ Some (take n poured))
 
+-- a finished name, and what is told of the others stays
 pub record Finished (failed : Bool) (name : List ℕ) (poured : Option (List ℕ)) (old : Told) (new : Told) : Type 0 where
   pub others : TellsOthers old new name
   pub holds : HeldAfter failed poured (new.holds name)
@@ -140,6 +144,7 @@ ReadWithin R.TooLong limit = ⊤
 ReadWithin R.Failed limit = ⊤
 ReadWithin R.Memory limit = ⊤
 
+-- whether a read failed
 abbrev pub failed_read_all : ReadAll → Bool
 failed_read_all (R.Whole bytes) = false
 failed_read_all R.TooLong = false
@@ -152,6 +157,7 @@ pub record Behind (script : Script) (taken : List ℕ) (now : Option Script) : T
   pub front : script.bytes ≡ taken ++ rest
   pub left : now ≡ Some (record { bytes = rest; ending = script.ending })
 
+-- where a script is told, this is what these bytes left of it
 abbrev pub LeftBehind : Option Script → List ℕ → Option Script → Type 0
 LeftBehind None taken now = ⊤
 LeftBehind (Some script) taken now = Behind script taken now

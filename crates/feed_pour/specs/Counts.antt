@@ -29,6 +29,7 @@ PerName = List ℕ → Counts
 abbrev pub OthersStay : {A : Type 0} → (List ℕ → A) → (List ℕ → A) → List ℕ → Type 0
 OthersStay old new name = (n : List ℕ) → n ≢ name → new n ≡ old n
 
+-- a try to open counts under opening of its name where it failed, and nowhere else
 pub record OpeningCounted (failed : Bool) (old new : PerName) (name : List ℕ) : Type 0 where
   pub others : OthersStay old new name
   pub count : Counted failed (old name).opening (new name).opening
@@ -36,6 +37,7 @@ pub record OpeningCounted (failed : Bool) (old new : PerName) (name : List ℕ) 
   pub reading : (new name).reading ≡ (old name).reading
   pub writing : (new name).writing ≡ (old name).writing
 
+-- a try to create counts under creating of its name where it failed, and nowhere else
 pub record CreatingCounted (failed : Bool) (old new : PerName) (name : List ℕ) : Type 0 where
   pub others : OthersStay old new name
   pub count : Counted failed (old name).creating (new name).creating
@@ -43,6 +45,7 @@ pub record CreatingCounted (failed : Bool) (old new : PerName) (name : List ℕ)
   pub reading : (new name).reading ≡ (old name).reading
   pub writing : (new name).writing ≡ (old name).writing
 
+-- a feed given back counts under reading of its name where it failed, and nowhere else
 pub record ReadingCounted (failed : Bool) (old new : PerName) (name : List ℕ) : Type 0 where
   pub others : OthersStay old new name
   pub count : Counted failed (old name).reading (new name).reading
@@ -50,6 +53,7 @@ pub record ReadingCounted (failed : Bool) (old new : PerName) (name : List ℕ) 
   pub creating : (new name).creating ≡ (old name).creating
   pub writing : (new name).writing ≡ (old name).writing
 
+-- a pour given back counts under writing of its name where it failed, and nowhere else
 pub record WritingCounted (failed : Bool) (old new : PerName) (name : List ℕ) : Type 0 where
   pub others : OthersStay old new name
   pub count : Counted failed (old name).writing (new name).writing

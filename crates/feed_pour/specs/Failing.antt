@@ -1,7 +1,6 @@
 -- Which calls of an object in memory are to fail. They are numbered from 1.
-use Rattle.std.specs.Prelude.{◌≡◌, ◌+◌, ℕ, List, [], ◌∷◌, Bool, true, false, if◌then◌else◌, nat_lt, min, ◌==◌, Option, Some, None, ◌⊎◌}
+use Rattle.std.specs.Prelude.{◌≡◌, ◌+◌, ℕ, List, [], ◌∷◌, Bool, true, false, if◌then◌else◌, nat_lt, min, ◌==◌, Option, Some, None, ◌⊎◌, ◌^◌, ◌-◌, Result, Ok, Err}
 use Rattle.std.specs.List.{list_any}
-use Rattle.std.specs.Prelude.{◌^◌, ◌-◌, Result, Ok, Err}
 use Rattle.feed_pour.specs.declared.outside.Opened.{Opened}
 use Rattle.feed_pour.specs.declared.outside.Opened.TheVariants as O
 use Rattle.feed_pour.specs.declared.outside.PourAnswer.{PourAnswer}
@@ -11,6 +10,7 @@ use Rattle.feed_pour.specs.declared.outside.PourAnswer.TheVariants as P
 abbrev pub is_to_fail : ℕ → List ℕ → Bool
 is_to_fail number failing = list_any (λ k. k == number) failing
 
+-- the smaller of a number and one that there may be
 abbrev pub sooner : ℕ → Option ℕ → Option ℕ
 sooner k None = Some k
 sooner k (Some j) = Some (min k j)

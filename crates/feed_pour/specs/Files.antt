@@ -5,6 +5,7 @@ use Rattle.feed_pour.specs.Table.{under}
 use Rattle.feed_pour.specs.declared.table.Entry.{Entry}
 use Rattle.feed_pour.specs.declared.tallies.Tallies.{Tallies}
 
+-- the counts of an entry, 0 where there is none
 abbrev pub counts_of : Option Tallies → Counts
 counts_of None = no_counts
 counts_of (Some t) = record { opening = t.opening; creating = t.creating; reading = t.reading; writing = t.writing }
@@ -13,5 +14,6 @@ counts_of (Some t) = record { opening = t.opening; creating = t.creating; readin
 abbrev pub counts_in : List (Entry Tallies) → List ℕ → Counts
 counts_in table name = counts_of (under table name)
 
+-- the name has an entry
 abbrev pub knows : List (Entry Tallies) → List ℕ → Type 0
 knows table name = IsSome (under table name)

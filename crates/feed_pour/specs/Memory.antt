@@ -16,9 +16,11 @@ script_up_to calls (Some k) left =
     then record { bytes = take ((k - (calls + 1)) * 8192) left; ending = S.Failed }
     else record { bytes = left; ending = End }
 
+-- the script of a feed with these calls behind it and these bytes before it
 abbrev pub script_of : ℕ → List ℕ → List ℕ → Script
 script_of calls failing left = script_up_to calls (next_failing calls failing) left
 
+-- what a shelf in memory tells, by its files and the numbers of the reads that are to fail
 abbrev pub memory_told : List (Entry (List ℕ)) → List (Entry (List ℕ)) → Told
 memory_told files failing = record { holds = under files; script = λ n. script_of 0 (or_empty (under failing n)) (or_empty (under files n)) }
 

@@ -22,6 +22,7 @@ FetchedWithin F.OpenFailed limit = ⊤
 FetchedWithin F.ReadFailed limit = ⊤
 FetchedWithin F.Memory limit = ⊤
 
+-- the answers as tests
 abbrev pub open_failed : Fetched → Bool
 open_failed (F.Whole bytes) = false
 open_failed F.TooLong = false
@@ -36,6 +37,7 @@ read_failed F.OpenFailed = false
 read_failed F.ReadFailed = true
 read_failed F.Memory = false
 
+-- a fetch counts a failed opening or a failed read of its name, and nothing else
 pub record FetchCounted (r : Fetched) (old new : List ℕ → Counts) (name : List ℕ) : Type 0 where
   pub others : OthersStay old new name
   pub opening : Counted (open_failed r) (old name).opening (new name).opening

@@ -10,8 +10,10 @@ abbrev pub or_empty : Option (List ℕ) → List ℕ
 or_empty None = []
 or_empty (Some bytes) = bytes
 
+-- a feed without faults gives all and then the end
 abbrev pub plain_script : List ℕ → Script
 plain_script bytes = record { bytes = bytes; ending = End }
 
+-- what a shelf without faults tells
 abbrev pub plain_told : List (Entry (List ℕ)) → Told
 plain_told files = record { holds = under files; script = λ n. plain_script (or_empty (under files n)) }

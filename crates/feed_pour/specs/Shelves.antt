@@ -27,6 +27,7 @@ calls_to_fail shelf = shelf.calls.failing
 abbrev pub calls_made : MemoryShelf → ℕ
 calls_made shelf = shelf.calls.made
 
+-- the four counts of each name
 abbrev pub counts_kept : MemoryShelf → List ℕ → Counts
 counts_kept shelf = counts_in shelf.tallies.items
 
@@ -94,6 +95,7 @@ pub record CallsSet (old new : MemoryShelf) (numbers : List ℕ) : Type 0 where
 abbrev pub call_fails : MemoryShelf → Bool
 call_fails shelf = is_to_fail (calls_made shelf + 1) (calls_to_fail shelf)
 
+-- the name holds nothing
 abbrev pub is_absent : Option (List ℕ) → Bool
 is_absent None = true
 is_absent (Some bytes) = false

@@ -4,6 +4,7 @@ use Rattle.std.specs.Str.{bytes_eq}
 use Rattle.feed_pour.specs.declared.table.Entry.{Entry}
 use Rattle.feed_pour.specs.Counts.{OthersStay}
 
+-- the first value under the name
 abbrev pub under : {T : Type 0} → List (Entry T) → List ℕ → Option T
 under [] name = None
 under (entry ∷ rest) name = if bytes_eq entry.name name then Some entry.value else under rest name

@@ -5,6 +5,7 @@ ghost use Rattle.feed_pour.specs.Counts.{Counted};
 
 use spl_value::Items;
 
+/// The calls of a feed, a pour or a shelf in memory.
 #[derive(Debug, Drop)]
 pub struct Calls {
     /// The numbers of the calls that are to fail.
@@ -31,6 +32,7 @@ fn next_fails(made: u64, failing: &[u64]) -> bool
 }
 
 impl Calls {
+    /// No call yet.
     pub fn new(failing: Items<u64>) -> Calls
         ensures failing { result.failing ≡ failing }
         ensures made { result.made ≡ 0 }

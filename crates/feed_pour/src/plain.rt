@@ -32,6 +32,7 @@ pub struct PlainFeed {
 }
 
 impl PlainFeed {
+    /// A feed of these bytes.
     pub fn new(bytes: Bytes) -> PlainFeed
         ensures script { ⟦<PlainFeed as Feed>⟧.script result ≡ Some (plain_script bytes) }
         ensures left { ⟦<PlainFeed as Feed>⟧.left result ≡ Some bytes }

@@ -13,6 +13,7 @@ pub struct StdoutPour<W> {
 }
 
 impl<W: Write> StdoutPour<W> {
+    /// A pour over this writer.
     pub fn new(writer: W) -> StdoutPour<W>
         ensures faults { ⟦<StdoutPour<W> as Pour>⟧.faults result ≡ 0 }
         ensures poured { ⟦<StdoutPour<W> as Pour>⟧.poured result ≡ W.contents writer }

@@ -7,6 +7,7 @@ ghost use Rattle.feed_pour.specs.Table.{under, Puts};
 use spl_value::{Items, Name};
 use std::alloc::{AllocError, Global};
 
+/// A value and the name that it stands under.
 #[derive(Debug, Drop)]
 pub struct Entry<T> {
     pub name: Name,

@@ -8,6 +8,8 @@ use crate::table::{Entry, find, put};
 use spl_value::Name;
 use std::alloc::{AllocError, Global};
 
+/// How often a name failed to open, to be created, to be read and to be written. Each count stands
+/// still at 2^64 - 1.
 #[derive(Clone, Copy, Debug, PartialEq, Eq)]
 pub struct Tallies {
     pub opening: u64,
@@ -43,6 +45,7 @@ pub fn know(alloc: Global, table: &mut Vec<Entry<Tallies>>, name: &Name) -> Resu
     put(alloc, table, name, now)
 }
 
+/// Counts a fault of opening under a name that has an entry.
 pub fn raise_opening(alloc: Global, table: &mut Vec<Entry<Tallies>>, name: &Name)
     requires { knows table.old.items name.now }
     ensures cause { OpeningCounted true (counts_in table.old.items) (counts_in table.new.items) name.now }
@@ -53,6 +56,7 @@ pub fn raise_opening(alloc: Global, table: &mut Vec<Entry<Tallies>>, name: &Name
     let _ = put(alloc, table, name, now);
 }
 
+/// Counts a fault of creating under a name that has an entry.
 pub fn raise_creating(alloc: Global, table: &mut Vec<Entry<Tallies>>, name: &Name)
     requires { knows table.old.items name.now }
     ensures cause { CreatingCounted true (counts_in table.old.items) (counts_in table.new.items) name.now }
@@ -63,6 +67,7 @@ pub fn raise_creating(alloc: Global, table: &mut Vec<Entry<Tallies>>, name: &Nam
     let _ = put(alloc, table, name, now);
 }
 
+/// Counts a fault of reading under a name that has an entry.
 pub fn raise_reading(alloc: Global, table: &mut Vec<Entry<Tallies>>, name: &Name)
     requires { knows table.old.items name.now }
     ensures cause { ReadingCounted true (counts_in table.old.items) (counts_in table.new.items) name.now }
@@ -73,6 +78,7 @@ pub fn raise_reading(alloc: Global, table: &mut Vec<Entry<Tallies>>, name: &Name
     let _ = put(alloc, table, name, now);
 }
 
+/// Counts a fault of writing under a name that has an entry.
 pub fn raise_writing(alloc: Global, table: &mut Vec<Entry<Tallies>>, name: &Name)
     requires { knows table.old.items name.now }
     ensures cause { WritingCounted true (counts_in table.old.items) (counts_in table.new.items) name.now }
