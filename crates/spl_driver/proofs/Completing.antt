@@ -10,7 +10,7 @@ use Rattle.spl_driver.specs.declared.request.Request.{Request}
 use Rattle.spl_driver.specs.declared.cause.Cause.{Cause}
 use Rattle.spl_driver.specs.declared.cause.Cause.TheVariants as C
 use Rattle.spl_driver.specs.declared.cause.Ended.{Ended}
-use Rattle.spl_driver.specs.Answer.{Outcome, NotBuilt, Unreadable, Runs, AtSink, EachSink, HoldsText, HoldsPrefix, Begun, Stands, Answered, DeviceFailed, graph_in, outcome, IsOr, IsComplete, Untouched, Shown, sink_text}
+use Rattle.spl_driver.specs.Answer.{CreatedLast, Outcome, NotBuilt, Unreadable, Runs, AtSink, EachSink, HoldsText, HoldsPrefix, Begun, Stands, Answered, DeviceFailed, graph_in, outcome, IsOr, IsComplete, Untouched, Shown, sink_text}
 use Rattle.spl_driver.proofs.Standing.{same_begun}
 
 front_at : (m : Meaning) (old new : Told) (kind : Kind) (op : Operator) → AtSink (HoldsText m new) kind op → AtSink (HoldsPrefix m old new) kind op
@@ -55,6 +55,8 @@ answered_said (Some t) (Some u) request ended r status counts later e h = record
   stands = stands_said (outcome request t ended.arrivals) ended r status t u e h.stands;
   others = h.others;
   device = device_said ended.cause r (DeviceFailed request (graph_in request t) counts later) e h.device;
+  created = device_said ended.cause r (CreatedLast request (graph_in request t) counts later t u) e h.created;
+  reads = h.reads;
 }
 
 pub shown_said : (c r : Cause) (request : Option Request) (old new : PerName) → (r ≡ c) ⊎ (r ≡ C.NoMemory) → Shown c request old new → Shown r request old new

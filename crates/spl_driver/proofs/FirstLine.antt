@@ -5,7 +5,8 @@ use Rattle.std.proofs.lemmas.Bool.{cases_Bool}
 use Rattle.std.proofs.lemmas.List.{take_all, drop_all}
 use Rattle.std.specs.List.{prefix_len}
 use Rattle.stream_model.specs.Rows.{pieces, onto_first}
-use Rattle.spl_driver.specs.Source.{lines_among, lines_of}
+use Rattle.spl_driver.specs.Lines.{lines_of}
+use Rattle.spl_driver.specs.Source.{lines_among}
 
 abbrev is_feed : ℕ → Bool
 is_feed b = b == 10

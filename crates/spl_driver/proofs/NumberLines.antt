@@ -11,7 +11,8 @@ use Rattle.spl_value.specs.declared.types.SplType.TheVariants as S
 use Rattle.spl_value.specs.declared.value.Value.TheVariants as V
 use Rattle.stream_model.specs.Rows.{Row, line_gives, too_long, checked_items}
 use Rattle.stream_model.specs.PlainLines.{is_mark, is_comma, may_be_marked, no_bom, plain_records, one_field}
-use Rattle.spl_driver.specs.Source.{are_few_digits, is_number_line, price_schema, price_setting, number_row}
+use Rattle.spl_driver.specs.Lines.{number_row}
+use Rattle.spl_driver.specs.Source.{are_few_digits, is_number_line, price_schema, price_setting}
 
 record FewDigits (bytes : List ℕ) : Type 0 where
   pub some : 1 ≤ length bytes

@@ -9,7 +9,8 @@ use Rattle.spl_value.specs.declared.item.Item.{Item}
 use Rattle.spl_value.specs.declared.memory.NoMemory.{NoMemory}
 use Rattle.spl_value.specs.declared.types.IntKind.TheVariants.{I64}
 use Rattle.stream_model.specs.Rows.{pieces, onto_first, items_from, rows}
-use Rattle.spl_driver.specs.Source.{is_number_line, is_number_file, are_numbers, lines_among, lines_of, line_number, price_setting, row_in_front, number_rows}
+use Rattle.spl_driver.specs.Lines.{lines_of, line_number, row_in_front, number_rows}
+use Rattle.spl_driver.specs.Source.{is_number_line, is_number_file, are_numbers, lines_among, price_setting}
 use Rattle.spl_driver.proofs.FirstLine.{some_pieces}
 use Rattle.spl_driver.proofs.NumberLines.{has_number, piece_row}
 

@@ -1,18 +1,21 @@
 -- What the program and its source come to.
-use Rattle.std.proofs.Common.{◌≡◌, ℕ, ◌≤◌, List, [], ◌∷◌, length, Bool, true, false, refl, ◌∙◌, ap, subst, inl, ◌⊎◌, Option, Some, None, arith, if◌then◌else◌, cond, nat_lt}
-use Rattle.std.specs.Prelude.{IfSome, ◌||◌, codes}
+use Rattle.std.proofs.Common.{◌≡◌, ℕ, ◌<◌, ◌≤◌, List, [], ◌∷◌, length, Bool, true, false, refl, sym, ◌∙◌, ap, subst, inl, inr, ◌⊎◌, Option, Some, None, arith, if◌then◌else◌, cond, nat_le}
+use Rattle.std.specs.Prelude.{IfSome, ◌||◌, ◌&&◌, ◌≢◌, codes}
 use Rattle.std.specs.Str.{bytes_eq}
 use Rattle.spl_value.specs.Script.{Script, End}
-use Rattle.feed_pour.specs.Counts.{Counts, PerName, Rose}
+use Rattle.feed_pour.specs.Counts.{Counts, PerName, Rose, Counted}
 use Rattle.feed_pour.specs.Contents.{Told, WhereTold, TellsSame}
-use Rattle.feed_pour.specs.Named.{FetchedOf}
+use Rattle.feed_pour.specs.Named.{FetchedOf, FetchCounted, read_failed}
+use Rattle.feed_pour.specs.declared.named.Fetched.{Fetched}
+use Rattle.spl_driver.proofs.Quiet.{same_or_not}
 use Rattle.feed_pour.specs.declared.named.Fetched.TheVariants as F
 use Rattle.stream_model.specs.declared.condition.Condition.{Condition}
 use Rattle.stream_model.specs.declared.record.Arrivals.{Arrivals}
 use Rattle.stream_model.specs.Meaning.{Graph, meaning}
 use Rattle.spl_driver.specs.Program.{program_form, accepted, graph_with, graph_of}
 use Rattle.spl_driver.specs.Request.{opens, is_named, graph_or_none}
-use Rattle.spl_driver.specs.Answer.{Outcome, NotBuilt, Runs, reading, with_source, with_graph, outcome, rows_told, entries_in, accepted_in, graph_in, DeviceFailed, NoCountChanged, form_graph}
+use Rattle.spl_driver.specs.Source.{is_number_file}
+use Rattle.spl_driver.specs.Answer.{Outcome, NotBuilt, Unreadable, Runs, is_failed, has_fault, holds_numbers, with_sources, with_graph, outcome, rows_told, entries_in, accepted_in, graph_in, DeviceFailed, NoCountChanged, ReadsFailed, form_graph}
 use Rattle.spl_driver.specs.Steps.{PreparedOf, PrepareCounted, SourceOf, SourceCounted}
 use Rattle.spl_driver.specs.declared.request.Request.TheVariants.{Run}
 use Rattle.spl_driver.specs.declared.prepare.Prepared.{Prepared}
@@ -21,19 +24,57 @@ use Rattle.spl_driver.specs.declared.prepare.Prepared.TheVariants as P
 abbrev SOURCE : List ℕ
 SOURCE = codes "t.csv"
 
-not_below : (m n : ℕ) → n ≤ m → nat_lt m n ≡ false
-not_below m n le = grind arith
+within : (n : ℕ) → n ≤ 1048576 → nat_le n 1048576 ≡ true
+within n le = grind arith
 
-pub reading_whole : (s : Script) (bytes : List ℕ) (next : List ℕ → Outcome) → s ≡ record { bytes = bytes; ending = End } → length bytes ≤ 1048576 → reading s next ≡ next bytes
-reading_whole s bytes next e small = ap (λ (x : Script). reading x next) e
-    ∙ ap (λ (b : Bool). if b then NotBuilt else next bytes) (not_below 1048576 (length bytes) small)
+beyond : (n : ℕ) → 1048576 < n → nat_le n 1048576 ≡ false
+beyond n lt = grind arith
+
+-- a whole file has no fault
+no_fault : (s : Script) (bytes : List ℕ) → s ≡ record { bytes = bytes; ending = End } → length bytes ≤ 1048576 → has_fault s ≡ false
+no_fault s bytes e small = ap has_fault e ∙ ap (λ (b : Bool). b && false) (within (length bytes) small)
+
+-- neither has one that is longer
+long_fault : (s : Script) → 1048576 < length s.bytes → has_fault s ≡ false
+long_fault s long = ap (λ (b : Bool). b && is_failed s.ending) (beyond (length s.bytes) long)
 
 pub accepted_whole : (s : Script) (bytes : List ℕ) → s ≡ record { bytes = bytes; ending = End } → length bytes ≤ 1048576 → accepted_in s ≡ accepted bytes
-accepted_whole s bytes e small = ap accepted_in e ∙ ap (λ (b : Bool). cond {A = Option Graph} b None (accepted bytes)) (not_below 1048576 (length bytes) small)
+accepted_whole s bytes e small = ap accepted_in e ∙ ap (λ (b : Bool). cond {A = Option Graph} b (accepted bytes) None) (within (length bytes) small)
+
+accepted_long : (s : Script) → 1048576 < length s.bytes → accepted_in s ≡ None
+accepted_long s long = ap (λ (b : Bool). cond {A = Option Graph} b (accepted s.bytes) None) (beyond (length s.bytes) long)
+
+-- what a source comes to that is read to its end, or is longer
+pub source_whole : (s : Script) (bytes : List ℕ) (b : Bool) (next : Outcome) → FetchedOf s (F.Whole bytes) 1048576 → is_number_file bytes ≡ b
+    → with_sources (s ∷ []) next ≡ (if b then next else NotBuilt)
+source_whole s bytes b next h is =
+    ap (λ (f : Bool). if f || false then Unreadable else if holds_numbers s && true then next else NotBuilt) (no_fault s bytes h.0 h.1)
+    ∙ ap (λ (x : Script). if holds_numbers x && true then next else NotBuilt) h.0
+    ∙ ap (λ (w : Bool). if (w && is_number_file bytes) && true then next else NotBuilt) (within (length bytes) h.1)
+    ∙ ap (λ (f : Bool). if f && true then next else NotBuilt) is
+    ∙ go b
+  where
+    go : (f : Bool) → cond {A = Outcome} (f && true) next NotBuilt ≡ cond f next NotBuilt
+    go true = refl
+    go false = refl
+
+pub source_long : (s : Script) (next : Outcome) → 1048576 < length s.bytes → with_sources (s ∷ []) next ≡ NotBuilt
+source_long s next long =
+    ap (λ (f : Bool). if f || false then Unreadable else if holds_numbers s && true then next else NotBuilt) (long_fault s long)
+    ∙ ap (λ (w : Bool). if (w && is_number_file s.bytes) && true then next else NotBuilt) (beyond (length s.bytes) long)
 
 outcome_behind : (t : Told) (p bytes : List ℕ) (arrivals : Arrivals) → FetchedOf (t.script p) (F.Whole bytes) 1048576
     → outcome (Some (Run p)) t arrivals ≡ with_graph (accepted bytes) t arrivals.lists
-outcome_behind t p bytes arrivals h = reading_whole (t.script p) bytes (λ b. with_graph (accepted b) t arrivals.lists) h.0 h.1
+outcome_behind t p bytes arrivals h =
+    ap (λ (f : Bool). if f then Unreadable else with_graph (accepted_in (t.script p)) t arrivals.lists) (no_fault (t.script p) bytes h.0 h.1)
+    ∙ ap (λ (g : Option Graph). with_graph g t arrivals.lists) (accepted_whole (t.script p) bytes h.0 h.1)
+
+pub made_too_long : (told : Option Told) (p : List ℕ) → IfSome told (λ t. FetchedOf (t.script p) F.TooLong 1048576)
+    → IfSome told (λ t. (arrivals : Arrivals) → outcome (Some (Run p)) t arrivals ≡ NotBuilt)
+made_too_long None p h = tt
+made_too_long (Some t) p h = λ arrivals.
+    ap (λ (f : Bool). if f then Unreadable else with_graph (accepted_in (t.script p)) t arrivals.lists) (long_fault (t.script p) h)
+    ∙ ap (λ (g : Option Graph). with_graph g t arrivals.lists) (accepted_long (t.script p) h)
 
 pub made_of_no_form : (told : Option Told) (p bytes : List ℕ) → IfSome told (λ t. FetchedOf (t.script p) (F.Whole bytes) 1048576)
     → program_form bytes ≡ None → IfSome told (λ t. (arrivals : Arrivals) → outcome (Some (Run p)) t arrivals ≡ NotBuilt)
@@ -43,7 +84,7 @@ made_of_no_form (Some t) p bytes h none = λ arrivals.
 
 -- what a request of a program with this condition comes to behind the source's script
 outcome_of_form : (t : Told) (p bytes : List ℕ) (c : Condition) (arrivals : Arrivals) → FetchedOf (t.script p) (F.Whole bytes) 1048576 → program_form bytes ≡ Some c
-    → outcome (Some (Run p)) t arrivals ≡ with_source (t.script SOURCE) (Runs (graph_of c) (meaning (graph_of c) (rows_told (graph_of c) t) (entries_in arrivals.lists)))
+    → outcome (Some (Run p)) t arrivals ≡ with_sources (t.script SOURCE ∷ []) (Runs (graph_of c) (meaning (graph_of c) (rows_told (graph_of c) t) (entries_in arrivals.lists)))
 outcome_of_form t p bytes c arrivals h form =
     outcome_behind t p bytes arrivals h ∙ ap (λ (x : Option Condition). with_graph (graph_with x) t arrivals.lists) form
 
@@ -76,7 +117,7 @@ made_at t p bytes c (P.Stream items) source old mid new at h form made same coun
 )
 made_at t p bytes c P.NotBuilt source old mid new at h form made same counted = λ arrivals. outcome_of_form t p bytes c arrivals h form ∙ made _
 made_at t p bytes c P.Device source old mid new at h form made same counted =
-    source_failed p source (graph_in (Some (Run p)) t) old mid new at (ap (λ (x : Option Graph). opens (Some (Run p)) (graph_or_none x)) (graph_of_form t p bytes c h form)) same counted
+    source_failed p source (graph_in (Some (Run p)) t) old mid new at (ap (λ (x : Option Graph). opens (Some (Run p)) (graph_or_none x)) (graph_of_form t p bytes c h form)) same counted.0
 made_at t p bytes c P.NoMemory source old mid new at h form made same counted = tt
 
 pub made_of_form : (told mid : Option Told) (p bytes source : List ℕ) (c : Condition) (r : Prepared) (old between new : PerName) → source ≡ SOURCE
@@ -99,4 +140,34 @@ pub counted_behind : (r : Prepared) (p source : List ℕ) (old mid new : PerName
 counted_behind (P.Stream items) p source old mid new at a b = λ n. b n ∙ a n
 counted_behind P.NotBuilt p source old mid new at a b = λ n. b n ∙ a n
 counted_behind P.NoMemory p source old mid new at a b = tt
-counted_behind P.Device p source old mid new at a b = source_failed p source form_graph old mid new at refl a b
+counted_behind P.Device p source old mid new at a b = (source_failed p source form_graph old mid new at refl a b.0, (source, λ n other. b.1 n other ∙ a n))
+
+-- ---- counts of reading that rise
+
+reads_by : (r : Fetched) (old new : Counts) (s : Script) → Counted (read_failed r) old.reading new.reading → FetchedOf s r 1048576 → new.reading ≢ old.reading → has_fault s ≡ true
+reads_by (F.Whole bytes) old new s counted h differs = absurd (differs counted)
+reads_by F.TooLong old new s counted h differs = absurd (differs counted)
+reads_by F.OpenFailed old new s counted h differs = absurd (differs counted)
+reads_by F.Memory old new s counted h differs = absurd (differs counted)
+reads_by F.ReadFailed old new s counted h differs =
+    ap (λ (b : Bool). b && is_failed s.ending) (within (length s.bytes) h.1) ∙ ap is_failed h.0
+
+reads_at : (r : Fetched) (name : List ℕ) (old new : PerName) (t : Told) → FetchCounted r old new name → FetchedOf (t.script name) r 1048576 → ReadsFailed old new t
+reads_at r name old new t counted h n differs = elim (same_or_not n name) as (λ _. has_fault (t.script n) ≡ true) [
+  | inl e ↦ ap (λ (m : List ℕ). has_fault (t.script m)) e
+      ∙ reads_by r (old name) (new name) (t.script name) counted.reading h (subst (λ (m : List ℕ). (new m).reading ≢ (old m).reading) e differs)
+  | inr other ↦ absurd (differs (ap (λ c. c.reading) (counted.others n other)))
+]
+
+pub fetch_reads : (told : Option Told) (r : Fetched) (name : List ℕ) (old new : PerName) → FetchCounted r old new name
+    → IfSome told (λ t. FetchedOf (t.script name) r 1048576) → IfSome told (ReadsFailed old new)
+fetch_reads None r name old new counted h = tt
+fetch_reads (Some t) r name old new counted h = reads_at r name old new t counted h
+
+-- behind reads that raised no count, of a shelf that tells the same
+pub reads_behind : (told mid : Option Told) (old between new : PerName) → WhereTold told mid TellsSame → NoCountChanged old between → IfSome mid (ReadsFailed between new)
+    → IfSome told (ReadsFailed old new)
+reads_behind None mid old between new same quiet h = tt
+reads_behind (Some t) None old between new same quiet h = absurd same
+reads_behind (Some t) (Some u) old between new same quiet h = λ n differs.
+    sym (ap has_fault (same.script n)) ∙ h n (λ e. differs (e ∙ ap (λ c. c.reading) (quiet n)))

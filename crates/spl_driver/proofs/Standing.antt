@@ -19,8 +19,8 @@ use Rattle.stream_model.specs.RowsLaws.{rows_close}
 use Rattle.stream_model.specs.PathLaws.{passed, written, path_sink, path_graph, path_filtered, sink_out}
 use Rattle.spl_driver.specs.Program.{graph_of, price_source}
 use Rattle.spl_driver.specs.Request.{creates, is_named, graph_or_none}
-use Rattle.spl_driver.specs.Answer.{Outcome, NotBuilt, Unreadable, Runs, outcome, rows_told, entries_in, graph_in, AtSink, EachSink, HoldsPrefix, SameFiles, Begun, Stands, CarriedOut, Answered, DeviceFailed, NoCountChanged, Shown, form_graph, sink_text, tuples_of, counts_of}
-use Rattle.spl_driver.proofs.Quiet.{quiet_twice, quiet_sink}
+use Rattle.spl_driver.specs.Answer.{CreateFailed, CreatedLast, ReadsFailed, Outcome, NotBuilt, Unreadable, Runs, outcome, rows_told, entries_in, graph_in, AtSink, EachSink, HoldsPrefix, SameFiles, Begun, Stands, CarriedOut, Answered, DeviceFailed, NoCountChanged, Shown, form_graph, sink_text, tuples_of, counts_of}
+use Rattle.spl_driver.proofs.Quiet.{same_or_not, quiet_twice, quiet_sink}
 use Rattle.spl_driver.specs.Steps.{HeldAfter, keeps, is_tuple, Prepares, PreparedOf, SunkAs, SinkCounted, SunkCount, EndsAs, counts_with}
 use Rattle.spl_driver.specs.declared.request.Request.{Request}
 use Rattle.spl_driver.specs.declared.request.Request.TheVariants.{Run}
@@ -49,37 +49,50 @@ same_begun (Runs g m) old new same = prefixes m old new g.ops same
 
 -- an answer of want of memory or of a device, where no file changed
 pub same_answer : (told now : Option Told) (request : Option Request) (cause : Cause) (ended : Ended) (counts later : PerName)
-    → ended.cause ≡ cause → cause ≡ C.NoMemory → WhereTold told now TellsSame → WhereTold told now (Answered request ended counts later)
-same_answer None now request cause ended counts later is wanting same = tt
-same_answer (Some t) None request cause ended counts later is wanting same = same
-same_answer (Some t) (Some u) request cause ended counts later is wanting same = record {
+    → ended.cause ≡ cause → cause ≡ C.NoMemory → WhereTold told now TellsSame → IfSome told (ReadsFailed counts later) → WhereTold told now (Answered request ended counts later)
+same_answer None now request cause ended counts later is wanting same reads = tt
+same_answer (Some t) None request cause ended counts later is wanting same reads = same
+same_answer (Some t) (Some u) request cause ended counts later is wanting same reads = record {
   stands = subst (λ (c : Cause). Stands c (outcome request t ended.arrivals) ended t u) (sym (is ∙ wanting)) (same_begun (outcome request t ended.arrivals) t u same.holds);
   others = λ n named. same.holds n;
   device = λ device. absurd (let e : C.NoMemory ≡ C.Device = sym (is ∙ wanting) ∙ device in cc);
+  created = λ device none. same.holds;
+  reads = reads;
 }
+
+-- no count changed
+pub reads_same : (told : Option Told) (counts : PerName) → IfSome told (ReadsFailed counts counts)
+reads_same None counts = tt
+reads_same (Some t) counts = λ n differs. absurd (differs refl)
 
 pub told_same : (told : Option Told) → WhereTold told told TellsSame
 told_same None = tt
 told_same (Some t) = record { holds = λ n. refl; script = λ n. refl }
 
 pub not_built_answer : (told now : Option Told) (request : Option Request) (ended : Ended) (counts later : PerName) → ended.cause ≡ C.NotBuilt
-    → IfSome told (λ t. (arrivals : Arrivals) → outcome request t arrivals ≡ NotBuilt) → WhereTold told now TellsSame → WhereTold told now (Answered request ended counts later)
-not_built_answer None now request ended counts later is made same = tt
-not_built_answer (Some t) None request ended counts later is made same = same
-not_built_answer (Some t) (Some u) request ended counts later is made same = record {
+    → IfSome told (λ t. (arrivals : Arrivals) → outcome request t arrivals ≡ NotBuilt) → WhereTold told now TellsSame → IfSome told (ReadsFailed counts later)
+    → WhereTold told now (Answered request ended counts later)
+not_built_answer None now request ended counts later is made same reads = tt
+not_built_answer (Some t) None request ended counts later is made same reads = same
+not_built_answer (Some t) (Some u) request ended counts later is made same reads = record {
   stands = subst (λ (c : Cause). Stands c (outcome request t ended.arrivals) ended t u) (sym is) (made ended.arrivals, same.holds);
   others = λ n named. same.holds n;
   device = λ device. absurd (let e : C.NotBuilt ≡ C.Device = sym is ∙ device in cc);
+  created = λ device none. same.holds;
+  reads = reads;
 }
 
 pub device_answer : (told now : Option Told) (request : Option Request) (ended : Ended) (counts later : PerName) → ended.cause ≡ C.Device
-    → IfSome told (λ t. DeviceFailed request (graph_in request t) counts later) → WhereTold told now TellsSame → WhereTold told now (Answered request ended counts later)
-device_answer None now request ended counts later is made same = tt
-device_answer (Some t) None request ended counts later is made same = same
-device_answer (Some t) (Some u) request ended counts later is made same = record {
+    → IfSome told (λ t. DeviceFailed request (graph_in request t) counts later) → WhereTold told now TellsSame → IfSome told (ReadsFailed counts later)
+    → WhereTold told now (Answered request ended counts later)
+device_answer None now request ended counts later is made same reads = tt
+device_answer (Some t) None request ended counts later is made same reads = same
+device_answer (Some t) (Some u) request ended counts later is made same reads = record {
   stands = subst (λ (c : Cause). Stands c (outcome request t ended.arrivals) ended t u) (sym is) (same_begun (outcome request t ended.arrivals) t u same.holds);
   others = λ n named. same.holds n;
   device = λ device. made;
+  created = λ device none. same.holds;
+  reads = reads;
 }
 
 -- ---- the sink's text and its rows
@@ -224,6 +237,15 @@ stands_after r t u p c ended given prepares h count ends lists =
     go S.WriteFailed h count is = stands_as C.Device _ ended t u is (begun S.WriteFailed t u c ended.arrivals given prepares.items h)
     go S.Memory h count is = stands_as C.NoMemory _ ended t u is (begun S.Memory t u c ended.arrivals given prepares.items h)
 
+-- the count of creating or writing of the sink rose
+create_failed : (p : List ℕ) (g : Graph) (old mid new : PerName) → creates (Some (Run p)) g ≡ SINK ∷ [] → NoCountChanged old mid
+    → Rose (mid SINK).creating (new SINK).creating ⊎ Rose (mid SINK).writing (new SINK).writing → CreateFailed (creates (Some (Run p)) g) old new
+create_failed p g old mid new names same rose = (
+  SINK,
+  ap (λ (ns : List (List ℕ)). is_named ns SINK) names,
+  subst (λ (c : Counts). Rose c.creating (new SINK).creating ⊎ Rose c.writing (new SINK).writing) (same SINK) rose,
+)
+
 -- a failed create or write of the sink
 sink_failed : (p : List ℕ) (g : Graph) (old mid new : PerName) → creates (Some (Run p)) g ≡ SINK ∷ [] → NoCountChanged old mid
     → Rose (mid SINK).creating (new SINK).creating ⊎ Rose (mid SINK).writing (new SINK).writing → DeviceFailed (Some (Run p)) g old new
@@ -242,6 +264,21 @@ failed_after (S.Done n) p g ended old mid new names same h (inr is) device = abs
 failed_after S.CreateFailed p g ended old mid new names same h is device = sink_failed p g old mid new names same (inl h.cause.0.1)
 failed_after S.WriteFailed p g ended old mid new names same h is device = sink_failed p g old mid new names same (inr h.cause.1.1)
 failed_after S.Memory p g ended old mid new names same h is device = absurd (let e : C.NoMemory ≡ C.Device = sym is ∙ device in cc)
+
+created_after : (r : Sunk) (p : List ℕ) (g : Graph) (ended : Ended) (old mid new : PerName) (t u : Told) → creates (Some (Run p)) g ≡ SINK ∷ [] → NoCountChanged old mid
+    → SinkCounted r mid new SINK → EndsAs r ended → ended.cause ≡ C.Device → CreatedLast (Some (Run p)) g old new t u
+created_after (S.Done n) p g ended old mid new t u names same h (inl (is, counts)) device = absurd (let e : C.Done ≡ C.Device = sym is ∙ device in cc)
+created_after (S.Done n) p g ended old mid new t u names same h (inr is) device = absurd (let e : C.NoMemory ≡ C.Device = sym is ∙ device in cc)
+created_after S.CreateFailed p g ended old mid new t u names same h is device = λ none. absurd (none (create_failed p g old mid new names same (inl h.cause.0.1)))
+created_after S.WriteFailed p g ended old mid new t u names same h is device = λ none. absurd (none (create_failed p g old mid new names same (inr h.cause.1.1)))
+created_after S.Memory p g ended old mid new t u names same h is device = absurd (let e : C.NoMemory ≡ C.Device = sym is ∙ device in cc)
+
+-- the sink is only written
+reads_after : (r : Sunk) (t : Told) (old mid new : PerName) → NoCountChanged old mid → SinkCounted r mid new SINK → ReadsFailed old new t
+reads_after r t old mid new same h n differs = absurd (differs (elim (same_or_not n SINK) as (λ _. (new n).reading ≡ (old n).reading) [
+  | inl e ↦ ap (λ (m : List ℕ). (new m).reading) e ∙ h.reading ∙ ap (λ c. c.reading) (same SINK) ∙ sym (ap (λ (m : List ℕ). (old m).reading) e)
+  | inr other ↦ ap (λ c. c.reading) (h.others n other) ∙ ap (λ c. c.reading) (same n)
+]))
 
 others_after : (r : Sunk) (p given : List ℕ) (t u : Told) (g : Graph) → creates (Some (Run p)) g ≡ SINK ∷ [] → SunkAs r SINK given t u
     → (n : List ℕ) → is_named (creates (Some (Run p)) g) n ≡ false → u.holds n ≡ t.holds n
@@ -265,10 +302,13 @@ sunk_answer (Some t) (Some b) (Some u) p sink r ended given old mid new at made 
     let c = made.0 in
     let sunk = from_start r (text_of given) t b u same (subst (λ (n : List ℕ). SunkAs r n (text_of given) b u) at h) in
     let names : creates (Some (Run p)) (graph_in (Some (Run p)) t) ≡ SINK ∷ [] = ap (λ (x : Option Graph). creates (Some (Run p)) (graph_or_none x)) made.1.graph in
+    let counted' = subst (SinkCounted r mid new) at counted in
     record {
       stands = stands_after r t u p c ended given made.1 sunk count ends lists;
       others = others_after r p (text_of given) t u (graph_in (Some (Run p)) t) names sunk;
-      device = failed_after r p (graph_in (Some (Run p)) t) ended old mid new names quiet (subst (SinkCounted r mid new) at counted) ends;
+      device = failed_after r p (graph_in (Some (Run p)) t) ended old mid new names quiet counted' ends;
+      created = created_after r p (graph_in (Some (Run p)) t) ended old mid new t u names quiet counted' ends;
+      reads = reads_after r t old mid new quiet counted';
     }
 
 pub sunk_shown : (p sink : List ℕ) (r : Sunk) (ended : Ended) (old mid new : PerName) → sink ≡ SINK → NoCountChanged old mid → SinkCounted r mid new sink
@@ -281,6 +321,6 @@ sunk_shown p sink r ended old mid new at quiet counted ends = go r (subst (λ (n
     go : (s : Sunk) → SinkCounted s mid new SINK → EndsAs s ended → Shown ended.cause (Some (Run p)) old new
     go (S.Done n) h (inl (is, counts)) = shown_as C.Done is (quiet_twice old mid new quiet (quiet_sink mid new SINK n h))
     go (S.Done n) h (inr is) = shown_as C.NoMemory is tt
-    go S.CreateFailed h is = shown_as C.Device is (sink_failed p form_graph old mid new refl quiet (inl h.cause.0.1))
-    go S.WriteFailed h is = shown_as C.Device is (sink_failed p form_graph old mid new refl quiet (inr h.cause.1.1))
+    go S.CreateFailed h is = shown_as C.Device is (sink_failed p form_graph old mid new refl quiet (inl h.cause.0.1), (SINK, λ n other. h.others n other ∙ quiet n))
+    go S.WriteFailed h is = shown_as C.Device is (sink_failed p form_graph old mid new refl quiet (inr h.cause.1.1), (SINK, λ n other. h.others n other ∙ quiet n))
     go S.Memory h is = shown_as C.NoMemory is tt

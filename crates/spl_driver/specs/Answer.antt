@@ -1,11 +1,11 @@
 -- What a request comes to, which answer it gets, and what stands behind each answer.
-use Rattle.std.specs.Prelude.{◌≡◌, ◌-◌, ◌^◌, ◌⊎◌, ◌==◌, min, ℕ, pos, List, [], ◌∷◌, ◌++◌, map, length, take, Bool, true, false, if◌then◌else◌, nat_lt, Option, Some, None, ⊤, codes, slice_get}
-use Rattle.std.specs.List.{filter_map}
+use Rattle.std.specs.Prelude.{◌≡◌, ◌≢◌, ◌-◌, ◌^◌, ◌⊎◌, ◌==◌, min, ℕ, pos, List, [], ◌∷◌, ◌++◌, map, length, take, Bool, true, false, if◌then◌else◌, nat_le, ◌&&◌, Option, Some, None, ⊤, codes, slice_get}
+use Rattle.std.specs.List.{filter_map, list_any, list_all}
 use Rattle.std.specs.Option.{option_map_or}
 use Rattle.spl_value.specs.Script.{Script, Ending}
 use Rattle.spl_value.specs.Script as script
 use Rattle.spl_value.specs.declared.item.Item.{Item}
-use Rattle.feed_pour.specs.Counts.{PerName, Rose}
+use Rattle.feed_pour.specs.Counts.{PerName, Rose, OthersStay}
 use Rattle.feed_pour.specs.Contents.{Told}
 use Rattle.stream_model.specs.declared.comparison.Comparison.TheVariants as K
 use Rattle.stream_model.specs.declared.record.ArrivalList.{ArrivalList}
@@ -59,34 +59,40 @@ pub data Outcome : Type 0 where
   Unreadable : Outcome
   Runs : (graph : Graph) (meaning : Meaning) → Outcome
 
-abbrev pub at_end : Ending → Outcome → Outcome
-at_end script.End next = next
-at_end script.Failed next = Unreadable
+abbrev pub is_failed : Ending → Bool
+is_failed script.End = false
+is_failed script.Failed = true
 
--- a file of at most 1,048,576 bytes that is read to its end
-abbrev pub reading : Script → (List ℕ → Outcome) → Outcome
-reading script next = if nat_lt 1048576 (length script.bytes) then NotBuilt else at_end script.ending (next script.bytes)
+-- a file has at most 1,048,576 bytes
+abbrev pub is_within : Script → Bool
+is_within script = nat_le (length script.bytes) 1048576
 
--- a source that holds whole numbers, one a line
-abbrev pub with_source : Script → Outcome → Outcome
-with_source script next = reading script (λ bytes. if is_number_file bytes then next else NotBuilt)
+-- a read of the file fails before it is known to be longer
+abbrev pub has_fault : Script → Bool
+has_fault script = is_within script && is_failed script.ending
 
-abbrev pub with_sources : List (List ℕ) → Told → Outcome → Outcome
-with_sources [] told next = next
-with_sources (file ∷ files) told next = with_source (told.script file) (with_sources files told next)
+-- the file holds whole numbers, one a line
+abbrev pub holds_numbers : Script → Bool
+holds_numbers script = is_within script && is_number_file script.bytes
+
+-- all sources are read before their bytes are looked at
+abbrev pub with_sources : List Script → Outcome → Outcome
+with_sources sources next = if list_any has_fault sources then Unreadable else if list_all holds_numbers sources then next else NotBuilt
+
+-- the graph of the program in a file, where it is accepted
+abbrev pub accepted_in : Script → Option Graph
+accepted_in script = if is_within script then accepted script.bytes else None
 
 abbrev pub with_graph : Option Graph → Told → List ArrivalList → Outcome
 with_graph None told lists = NotBuilt
-with_graph (Some g) told lists = with_sources (source_files g) told (Runs g (meaning g (rows_told g told) (entries_in lists)))
+with_graph (Some g) told lists = with_sources (map told.script (source_files g)) (Runs g (meaning g (rows_told g told) (entries_in lists)))
 
 abbrev pub outcome : Option Request → Told → Arrivals → Outcome
 outcome None told arrivals = NotBuilt
-outcome (Some (Run program)) told arrivals = reading (told.script program) (λ bytes. with_graph (accepted bytes) told arrivals.lists)
+outcome (Some (Run program)) told arrivals =
+    if has_fault (told.script program) then Unreadable else with_graph (accepted_in (told.script program)) told arrivals.lists
 
--- the program's graph, which has no operators where the program isn't accepted
-abbrev pub accepted_in : Script → Option Graph
-accepted_in script = if nat_lt 1048576 (length script.bytes) then None else accepted script.bytes
-
+-- the request's graph, which has no operators where the program isn't accepted
 abbrev pub graph_in : Option Request → Told → Graph
 graph_in None told = graph_or_none None
 graph_in (Some (Run program)) told = graph_or_none (accepted_in (told.script program))
@@ -159,11 +165,21 @@ CreateFailed names old new = (n : List ℕ) × (is_named names n ≡ true) × (R
 abbrev pub DeviceFailed : Option Request → Graph → PerName → PerName → Type 0
 DeviceFailed request g old new = OpenFailed (opens request g) old new ⊎ CreateFailed (creates request g) old new
 
+-- no file was created before a device failed that isn't one of the files that are created
+abbrev pub CreatedLast : Option Request → Graph → PerName → PerName → Told → Told → Type 0
+CreatedLast request g counts now old new = (CreateFailed (creates request g) counts now → ⊥) → SameFiles old new
+
+-- a count of reading rises only at a file whose reader fails within its first 1,048,576 bytes
+abbrev pub ReadsFailed : PerName → PerName → Told → Type 0
+ReadsFailed counts now old = (n : List ℕ) → (now n).reading ≢ (counts n).reading → has_fault (old.script n) ≡ true
+
 -- the answer to a request at a shelf that tells its files
 pub record Answered (request : Option Request) (ended : Ended) (counts now : PerName) (old new : Told) : Type 0 where
   pub stands : Stands ended.cause (outcome request old ended.arrivals) ended old new
   pub others : (n : List ℕ) → is_named (creates request (graph_in request old)) n ≡ false → new.holds n ≡ old.holds n
   pub device : ended.cause ≡ C.Device → DeviceFailed request (graph_in request old) counts now
+  pub created : ended.cause ≡ C.Device → CreatedLast request (graph_in request old) counts now old new
+  pub reads : ReadsFailed counts now old
 
 -- ---- what the counts alone show
 
@@ -174,10 +190,14 @@ NoCountChanged old new = (n : List ℕ) → new n ≡ old n
 abbrev pub form_graph : Graph
 form_graph = graph_of (record { place = 0; comparison = K.Less; literal = pos 0 })
 
+-- the counts of one name alone changed
+abbrev pub OneFailed : PerName → PerName → Type 0
+OneFailed old new = (n : List ℕ) × OthersStay old new n
+
 abbrev pub Shown : Cause → Option Request → PerName → PerName → Type 0
 Shown C.Done request old new = NoCountChanged old new
 Shown C.NotBuilt request old new = NoCountChanged old new
-Shown C.Device request old new = DeviceFailed request form_graph old new
+Shown C.Device request old new = DeviceFailed request form_graph old new × OneFailed old new
 Shown C.NoMemory request old new = ⊤
 
 -- ---- statuses and texts

@@ -1,4 +1,5 @@
 pub mod Source
+pub mod Lines
 pub mod Program
 pub mod Request
 pub mod Answer

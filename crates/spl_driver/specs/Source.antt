@@ -1,15 +1,12 @@
--- The stream of a file of whole numbers, one a line.
-use Rattle.std.specs.Prelude.{ℕ, ℤ, ◌^◌, ◌==◌, ◌&&◌, nat_le, Bool, true, false, List, [], ◌∷◌, length, Option, Some, None, if◌then◌else◌, codes}
+-- A source's file of whole numbers, one a line.
+use Rattle.std.specs.Prelude.{ℕ, ◌^◌, ◌==◌, ◌&&◌, nat_le, Bool, true, false, List, [], ◌∷◌, length, if◌then◌else◌, codes}
 use Rattle.std.specs.List.{list_all}
-use Rattle.spl_value.specs.Decimal.{is_digit, integer_of}
-use Rattle.spl_value.specs.declared.item.Item.{Item}
-use Rattle.spl_value.specs.declared.item.Item.TheVariants as I
+use Rattle.spl_value.specs.Decimal.{is_digit}
 use Rattle.spl_value.specs.declared.types.IntKind.TheVariants.{I64}
 use Rattle.spl_value.specs.declared.types.Named.{Named}
 use Rattle.spl_value.specs.declared.types.SplType.{SplType}
 use Rattle.spl_value.specs.declared.types.SplType.TheVariants as T
-use Rattle.spl_value.specs.declared.value.Value.TheVariants as V
-use Rattle.stream_model.specs.Rows.{Setting, pieces, closing}
+use Rattle.stream_model.specs.Rows.{Setting, pieces}
 
 -- 1 to 18 digits
 abbrev pub are_few_digits : List ℕ → Bool
@@ -46,26 +43,3 @@ price_schema = record { name = codes "price"; kind = T.Int I64 } ∷ []
 -- the rows of operator 0, whose bad rows are faults
 abbrev pub price_setting : Setting
 price_setting = record { op = 0; schema = price_schema; strict = true; limit = 2 ^ 40 }
-
--- the lines of a file
-abbrev pub lines_of : List ℕ → List (List ℕ)
-lines_of bytes = lines_among (pieces bytes)
-
--- the number of a line that is one
-abbrev pub line_number : List ℕ → Option ℤ
-line_number line = if is_number_line line then integer_of I64 line else None
-
--- a number as a tuple
-abbrev pub number_row : ℤ → Item
-number_row n = I.Tuple (V.Int n ∷ [])
-
--- a number's tuple in front of a stream
-abbrev pub row_in_front : Option ℤ → Option (List Item) → Option (List Item)
-row_in_front None more = None
-row_in_front (Some n) None = None
-row_in_front (Some n) (Some items) = Some (number_row n ∷ items)
-
--- the tuples of lines that are all numbers, and the markers behind them
-abbrev pub number_rows : List (List ℕ) → Option (List Item)
-number_rows [] = Some closing
-number_rows (line ∷ lines) = row_in_front (line_number line) (number_rows lines)

@@ -12,7 +12,7 @@ use Rattle.stream_model.specs.declared.record.Arrivals.{Arrivals}
 use Rattle.stream_model.specs.Condition.{holds}
 use Rattle.stream_model.specs.Meaning.{meaning, rows_of}
 use Rattle.spl_driver.specs.Program.{graph_of, price_source}
-use Rattle.spl_driver.specs.Answer.{Outcome, NotBuilt, Runs, outcome, with_source, rows_told, entries_in, accepted_in, graph_in, form_graph, DeviceFailed, NoCountChanged}
+use Rattle.spl_driver.specs.Answer.{Outcome, NotBuilt, Runs, outcome, with_sources, rows_told, entries_in, accepted_in, graph_in, form_graph, DeviceFailed, OneFailed, NoCountChanged}
 use Rattle.spl_driver.specs.declared.cause.Cause.TheVariants as C
 use Rattle.spl_driver.specs.declared.cause.Ended.{Ended}
 use Rattle.spl_driver.specs.declared.request.Request.TheVariants.{Run}
@@ -85,20 +85,20 @@ PreparedOf P.NoMemory program old new t = ⊤
 abbrev pub PrepareCounted : Prepared → List ℕ → PerName → PerName → Type 0
 PrepareCounted (P.Stream items) program old new = NoCountChanged old new
 PrepareCounted P.NotBuilt program old new = NoCountChanged old new
-PrepareCounted P.Device program old new = DeviceFailed (Some (Run program)) form_graph old new
+PrepareCounted P.Device program old new = DeviceFailed (Some (Run program)) form_graph old new × OneFailed old new
 PrepareCounted P.NoMemory program old new = ⊤
 
 -- what a source's script comes to behind a condition
 abbrev pub SourceOf : Prepared → Condition → Script → Type 0
-SourceOf (P.Stream items) c script = ((next : Outcome) → with_source script next ≡ next) × (items ≡ filter (keeps c) (rows_of 0 price_source script))
-SourceOf P.NotBuilt c script = (next : Outcome) → with_source script next ≡ NotBuilt
+SourceOf (P.Stream items) c script = ((next : Outcome) → with_sources (script ∷ []) next ≡ next) × (items ≡ filter (keeps c) (rows_of 0 price_source script))
+SourceOf P.NotBuilt c script = (next : Outcome) → with_sources (script ∷ []) next ≡ NotBuilt
 SourceOf P.Device c script = ⊤
 SourceOf P.NoMemory c script = ⊤
 
 abbrev pub SourceCounted : Prepared → List ℕ → PerName → PerName → Type 0
 SourceCounted (P.Stream items) source old new = NoCountChanged old new
 SourceCounted P.NotBuilt source old new = NoCountChanged old new
-SourceCounted P.Device source old new = Rose (old source).opening (new source).opening ⊎ Rose (old source).reading (new source).reading
+SourceCounted P.Device source old new = (Rose (old source).opening (new source).opening ⊎ Rose (old source).reading (new source).reading) × OthersStay old new source
 SourceCounted P.NoMemory source old new = ⊤
 
 -- the counts of a run whose sink wrote so many rows

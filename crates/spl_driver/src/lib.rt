@@ -10,6 +10,8 @@ mod row;
 mod run;
 mod sink;
 mod source;
+#[cfg(test)]
+mod tests;
 mod top;
 
 pub use cause::{Cause, Ended};

@@ -1,6 +1,7 @@
 //! The program and its source made ready: the stream that comes to the sink.
 ghost use Rattle.std.specs.Prelude.{◌≡◌, IfSome, codes};
 ghost use Rattle.feed_pour.specs.Contents.{WhereTold, TellsSame};
+ghost use Rattle.spl_driver.specs.Answer.{ReadsFailed};
 ghost use Rattle.spl_driver.specs.Steps.{PreparedOf, PrepareCounted, SourceOf, SourceCounted};
 
 use crate::filter::filtered;
@@ -33,6 +34,7 @@ fn prepare_source<H: Shelf>(
 ) -> Prepared
     ensures made { IfSome (H.told shelf.old) (λ t. SourceOf result condition.now (t.script source.now)) }
     ensures told { WhereTold (H.told shelf.old) (H.told shelf.new) TellsSame }
+    ensures reads { IfSome (H.told shelf.old) (ReadsFailed (H.counts shelf.old) (H.counts shelf.new)) }
     ensures cause { SourceCounted result source.now (H.counts shelf.old) (H.counts shelf.new) }
 {
     match fetch(alloc, shelf, source, LIMIT) {
@@ -52,6 +54,7 @@ pub fn prepare<H: Shelf>(alloc: Global, shelf: &mut H, program: &Name, source: &
     requires { source.now ≡ codes "t.csv" }
     ensures made { IfSome (H.told shelf.old) (PreparedOf result program.now (H.counts shelf.old) (H.counts shelf.new)) }
     ensures told { WhereTold (H.told shelf.old) (H.told shelf.new) TellsSame }
+    ensures reads { IfSome (H.told shelf.old) (ReadsFailed (H.counts shelf.old) (H.counts shelf.new)) }
     ensures cause { PrepareCounted result program.now (H.counts shelf.old) (H.counts shelf.new) }
 {
     match fetch(alloc, shelf, program, LIMIT) {

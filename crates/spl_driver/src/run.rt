@@ -81,6 +81,7 @@ fn ended_with(alloc: Global, sunk: Sunk) -> Ended
 pub fn run<H: Shelf>(alloc: Global, shelf: &mut H, program: &Name) -> Ended
     ensures answered { WhereTold (H.told shelf.old) (H.told shelf.new) (Answered (Some (Request.Run program.now)) result (H.counts shelf.old) (H.counts shelf.new)) }
     ensures shown { Shown result.cause (Some (Request.Run program.now)) (H.counts shelf.old) (H.counts shelf.new) }
+    ensures lists { result.arrivals.lists ≡ [] }
 {
     let Ok(source) = Items::from_slice(alloc, b"t.csv") else {
         return ended(alloc, Cause::NoMemory);

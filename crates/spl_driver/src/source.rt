@@ -2,7 +2,8 @@
 ghost use Rattle.std.specs.Prelude.{◌≡◌, ◌<◌, ◌≤◌, ◌^◌, ◌∷◌, ◌==◌, length, position, is_some, IfOk, IfSome};
 ghost use Rattle.spl_value.specs.Script.{End};
 ghost use Rattle.stream_model.specs.Rows.{rows};
-ghost use Rattle.spl_driver.specs.Source.{is_number_file, price_setting, lines_of, line_number, number_row, number_rows};
+ghost use Rattle.spl_driver.specs.Lines.{lines_of, line_number, number_row, number_rows};
+ghost use Rattle.spl_driver.specs.Source.{is_number_file, price_setting};
 
 use spl_value::{IntKind, Item, Items, NoMemory, Value, read_integer};
 use std::alloc::Global;

@@ -1,5 +1,5 @@
 //! The top call: from the words of the command line to the exit status.
-ghost use Rattle.std.specs.Prelude.{◌≡◌, ◌⊎◌, IfSome, None};
+ghost use Rattle.std.specs.Prelude.{◌≡◌, ◌⊎◌, [], IfSome, None};
 ghost use Rattle.feed_pour.specs.Counts.{Rose};
 ghost use Rattle.feed_pour.specs.Contents.{WhereTold};
 ghost use Rattle.spl_driver.specs.Request.{request_of};
@@ -18,6 +18,7 @@ fn answer<H: Shelf>(alloc: Global, words: &[String], shelf: &mut H) -> Ended
     ensures answered { WhereTold (H.told shelf.old) (H.told shelf.new) (Answered (request_of words.now) result (H.counts shelf.old) (H.counts shelf.new)) }
     ensures shown { Shown result.cause (request_of words.now) (H.counts shelf.old) (H.counts shelf.new) }
     ensures words { request_of words.now ≡ None → Untouched result.cause (H.counts shelf.old) (H.counts shelf.new) }
+    ensures lists { result.arrivals.lists ≡ [] }
 {
     match read_request(alloc, words) {
         Err(_) => ended(alloc, Cause::NoMemory),
@@ -77,6 +78,9 @@ pub fn spl<W: Threads + Wait + Sync, H: Shelf, S: Starter, G: Gate, P: Pour>(
     ensures done { result.cause ≡ Cause.Done → NoCountChanged (H.counts shelf.old) (H.counts shelf.new) × (P.faults out.new ≡ P.faults out.old) }
 
     ensures said { Said result.cause (P.poured out.old) (P.poured out.new) (Rose (P.faults out.old) (P.faults out.new)) }
+
+    // No operator has several connections.
+    ensures arrivals { result.arrivals.lists ≡ [] }
 
     // The words alone decide that there is no request.
     ensures words { request_of words.now ≡ None → Untouched result.cause (H.counts shelf.old) (H.counts shelf.new) }

@@ -1,7 +1,10 @@
 use Rattle.std.proofs.Common.{refl, rules}
 use Rattle.spl_driver.proofs.Quiet.{quiet_fetch}
-use Rattle.spl_driver.proofs.Preparing.{made_of_no_form, made_of_form, told_twice, counted_behind}
+use Rattle.spl_driver.proofs.Preparing.{made_too_long, made_of_no_form, made_of_form, told_twice, counted_behind, reads_behind}
 use Rattle.spl_driver.proofs.prepare.prepare.Goals as goal
+
+pub returns-in-TooLong-clause-made : goal.returns-in-TooLong-clause-made
+returns-in-TooLong-clause-made g c = made_too_long _ c.args.program.now c.in-TooLong.ensures.read
 
 pub returns-in-TooLong-clause-cause : goal.returns-in-TooLong-clause-cause
 returns-in-TooLong-clause-cause g c = quiet_fetch _ _ _ _ refl refl c.in-TooLong.ensures.cause
@@ -22,3 +25,9 @@ returns-clause-told g c = told_twice _ _ _ c.in-Whole.ensures.told c.prepare_sou
 
 pub returns-clause-cause : goal.returns-clause-cause
 returns-clause-cause g c = counted_behind _ c.args.program.now c.args.source.now _ _ _ c.requires (quiet_fetch _ _ _ _ refl refl c.in-Whole.ensures.cause) c.prepare_source.ensures.cause
+
+pub returns-in-OpenFailed-clause-cause : goal.returns-in-OpenFailed-clause-cause
+returns-in-OpenFailed-clause-cause g c = (search rules, (c.args.program.now, c.fetch.ensures.cause.others))
+
+pub returns-clause-reads : goal.returns-clause-reads
+returns-clause-reads g c = reads_behind _ _ ((g.H.Shelf).counts c.args.shelf.now) ((g.H.Shelf).counts c.fetch.new.shelf) ((g.H.Shelf).counts c.prepare_source.new.shelf) c.in-Whole.ensures.told (quiet_fetch _ _ _ _ refl refl c.in-Whole.ensures.cause) c.prepare_source.ensures.reads

@@ -1,6 +1,6 @@
 use Rattle.std.proofs.Common.{◌∙◌, sym, ap, ◌+◌, length, List, ℕ, ◌∷◌, arith, take}
 use Rattle.std.proofs.lemmas.List.{drop_all}
-use Rattle.spl_driver.specs.Source.{lines_of}
+use Rattle.spl_driver.specs.Lines.{lines_of}
 use Rattle.spl_driver.proofs.FirstLine.{lines_none, lines_some, rest_of}
 use Rattle.spl_driver.proofs.source.first_line.Goals as goal
 

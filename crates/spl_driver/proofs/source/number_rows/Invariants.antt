@@ -1,6 +1,6 @@
 use Rattle.std.proofs.Common.{◌≡◌, ◌++◌, length, List, Option, Some, None}
 use Rattle.spl_value.specs.declared.item.Item.{Item}
-use Rattle.spl_driver.specs.Source.{number_rows, lines_of}
+use Rattle.spl_driver.specs.Lines.{number_rows, lines_of}
 use Rattle.spl_driver.proofs.source.number_rows.Given as goal
 
 -- items in front of a stream
