@@ -9,10 +9,15 @@ use std::{env, io};
 // The status where there is no memory for the words of the command line.
 const NO_MEMORY: u8 = 9;
 
-// The words behind the program's name.
+// The words behind the program's name; none where some word is no text, so that they are no request.
 fn words(rt: &HostRuntime) -> io::Result<Vec<String>> {
     let mut words = Vec::new(rt.alloc());
-    for word in env::args(rt)?.skip(1) {
+    let all = match env::args(rt) {
+        Ok(all) => all,
+        Err(error) if error.kind() == io::ErrorKind::InvalidData => return Ok(words),
+        Err(error) => return Err(error),
+    };
+    for word in all.skip(1) {
         words.push(word)?;
     }
     Ok(words)
