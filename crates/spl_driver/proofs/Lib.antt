@@ -7,3 +7,4 @@ pub mod NumberLines
 pub mod NumberRows
 pub mod Standing
 pub mod Completing
+pub mod ProgramForms

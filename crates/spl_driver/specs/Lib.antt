@@ -1,6 +1,7 @@
 pub mod Source
 pub mod Lines
 pub mod Program
+pub mod ProgramLaws
 pub mod Request
 pub mod Answer
 pub mod Steps

@@ -15,6 +15,7 @@ mod tests;
 mod top;
 
 pub use cause::{Cause, Ended};
+pub use program::program_law;
 pub use top::spl;
 
 /// What stands in front of the comparison in a program of the form.

@@ -1,6 +1,8 @@
 //! The one form of the program.
-ghost use Rattle.std.specs.Prelude.{◌≡◌, ◌++◌, ◌∷◌, [], MatchOption, None, Some};
-ghost use Rattle.spl_driver.specs.Program.{program_form, symbol, compared, condition_of, literal_of, middle_of, behind_front};
+ghost use Rattle.std.specs.Prelude.{◌≡◌, ◌++◌, ◌∷◌, [], codes, MatchOption, None, Some};
+ghost use Rattle.stream_model.specs.declared.comparison.Comparison.TheVariants as C;
+ghost use Rattle.spl_driver.specs.Program.{program_form, program_text, symbol, compared, condition_of, literal_of, middle_of, behind_front};
+ghost use Rattle.spl_driver.specs.ProgramLaws.{TextReads, TextOnly, program_of_ten};
 
 use crate::{BACK, FRONT};
 use spl_value::read_natural;
@@ -77,3 +79,10 @@ pub fn read_program(bytes: &[u8]) -> Option<Condition>
         Some(middle) => condition(middle),
     }
 }
+
+/// A program is of the form exactly where it is the text with some comparison and 1 to 18 digits.
+pub fn program_law()
+    ensures read { TextReads }
+    ensures only { TextOnly }
+    ensures example { program_text C.Greater (codes "10") ≡ program_of_ten }
+{}
