@@ -1,5 +1,5 @@
--- How the counts of faults of a feed, a pour and a shelf change.
-use Rattle.std.specs.Prelude.{◌≡◌, ◌≢◌, ◌+◌, ◌-◌, ◌^◌, ◌≤◌, ℕ, List, Bool, true, false, min}
+-- How the counts of faults of a feed, a pour and a shelf change, and how many feeds and pours a shelf has lent.
+use Rattle.std.specs.Prelude.{◌≡◌, ◌≢◌, ◌+◌, ◌-◌, ◌^◌, ◌≤◌, ◌<◌, ℕ, List, Bool, true, false, min}
 
 -- the count rose, or stands at its type's end
 abbrev pub Rose : ℕ → ℕ → Type 0
@@ -60,3 +60,12 @@ pub record WritingCounted (failed : Bool) (old new : PerName) (name : List ℕ) 
   pub opening : (new name).opening ≡ (old name).opening
   pub creating : (new name).creating ≡ (old name).creating
   pub reading : (new name).reading ≡ (old name).reading
+
+-- how many are lent, over a call that lends one more or none; of one more than 2^64 - 1 nothing is said
+abbrev pub Lends : Bool → ℕ → ℕ → Type 0
+Lends true before now = before < 2 ^ 64 - 1 → now ≡ before + 1
+Lends false before now = now ≡ before
+
+-- how many are lent, over a call that takes one back
+abbrev pub Returns : ℕ → ℕ → Type 0
+Returns before now = 0 < before → before ≡ now + 1

@@ -27,6 +27,10 @@ calls_to_fail shelf = shelf.calls.failing
 abbrev pub calls_made : MemoryShelf → ℕ
 calls_made shelf = shelf.calls.made
 
+-- how many feeds and pours are lent, up to 2^64 - 1
+abbrev pub lent_now : MemoryShelf → ℕ
+lent_now shelf = shelf.lent
+
 -- the four counts of each name
 abbrev pub counts_kept : MemoryShelf → List ℕ → Counts
 counts_kept shelf = counts_in shelf.tallies.items
@@ -43,6 +47,7 @@ pub record IsNew (shelf : MemoryShelf) : Type 0 where
   pub writes : (n : List ℕ) → writes_to_fail shelf n ≡ []
   pub calls : calls_to_fail shelf ≡ []
   pub made : calls_made shelf ≡ 0
+  pub lent : lent_now shelf ≡ 0
 
 -- nothing changed
 pub record SameShelf (old new : MemoryShelf) : Type 0 where
@@ -52,6 +57,7 @@ pub record SameShelf (old new : MemoryShelf) : Type 0 where
   pub writes : Stays (writes_to_fail old) (writes_to_fail new)
   pub calls : calls_to_fail new ≡ calls_to_fail old
   pub made : calls_made new ≡ calls_made old
+  pub lent : lent_now new ≡ lent_now old
 
 -- a name holds these bytes, and nothing else changed
 pub record FilePut (old new : MemoryShelf) (name bytes : List ℕ) : Type 0 where
@@ -61,6 +67,7 @@ pub record FilePut (old new : MemoryShelf) (name bytes : List ℕ) : Type 0 wher
   pub writes : Stays (writes_to_fail old) (writes_to_fail new)
   pub calls : calls_to_fail new ≡ calls_to_fail old
   pub made : calls_made new ≡ calls_made old
+  pub lent : lent_now new ≡ lent_now old
 
 -- the numbers of a name's failing reads were set, and nothing else changed
 pub record ReadsSet (old new : MemoryShelf) (name numbers : List ℕ) : Type 0 where
@@ -71,6 +78,7 @@ pub record ReadsSet (old new : MemoryShelf) (name numbers : List ℕ) : Type 0 w
   pub writes : Stays (writes_to_fail old) (writes_to_fail new)
   pub calls : calls_to_fail new ≡ calls_to_fail old
   pub made : calls_made new ≡ calls_made old
+  pub lent : lent_now new ≡ lent_now old
 
 -- the numbers of a name's failing writes were set, and nothing else changed
 pub record WritesSet (old new : MemoryShelf) (name numbers : List ℕ) : Type 0 where
@@ -81,6 +89,7 @@ pub record WritesSet (old new : MemoryShelf) (name numbers : List ℕ) : Type 0 
   pub reads : Stays (reads_to_fail old) (reads_to_fail new)
   pub calls : calls_to_fail new ≡ calls_to_fail old
   pub made : calls_made new ≡ calls_made old
+  pub lent : lent_now new ≡ lent_now old
 
 -- the numbers of the shelf's own failing calls were set, and nothing else changed
 pub record CallsSet (old new : MemoryShelf) (numbers : List ℕ) : Type 0 where
@@ -90,6 +99,7 @@ pub record CallsSet (old new : MemoryShelf) (numbers : List ℕ) : Type 0 where
   pub reads : Stays (reads_to_fail old) (reads_to_fail new)
   pub writes : Stays (writes_to_fail old) (writes_to_fail new)
   pub made : calls_made new ≡ calls_made old
+  pub lent : lent_now new ≡ lent_now old
 
 -- the next of the shelf's own calls is to fail
 abbrev pub call_fails : MemoryShelf → Bool

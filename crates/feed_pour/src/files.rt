@@ -139,6 +139,8 @@ pub struct FileShelf<R: Files + Drop> {
     rt: R,
     alloc: Global,
     tallies: Vec<Entry<Tallies>>,
+    // How many feeds and pours are lent, up to 2^64 - 1.
+    lent: u64,
 }
 
 impl<R: Files + Drop> FileShelf<R>
@@ -147,12 +149,14 @@ where
 {
     /// A shelf that was asked for no name yet.
     pub fn new(rt: R, alloc: Global) -> FileShelf<R>
-        ensures { (n : List ℕ) → ⟦<FileShelf<R> as Shelf>⟧.counts result n ≡ no_counts }
+        ensures counts { (n : List ℕ) → ⟦<FileShelf<R> as Shelf>⟧.counts result n ≡ no_counts }
+        ensures lent { ⟦<FileShelf<R> as Shelf>⟧.lent result ≡ 0 }
     {
         FileShelf {
             rt,
             alloc,
             tallies: Vec::new(alloc),
+            lent: 0,
         }
     }
 
@@ -180,12 +184,15 @@ where
 
     ghost created = { λ s. knows s.tallies.items };
 
+    ghost lent = { λ s. s.lent };
+
     fn open_in(&mut self, name: &Name) -> Opened<FileFeed<R::File>> {
         if know(self.alloc, &mut self.tallies, name).is_err() {
             return Opened::Memory;
         }
         if let Ok(path) = str::from_utf8(name.as_slice()) {
             if let Ok(file) = fs::open(&self.rt, path) {
+                self.lent = self.lent.saturating_add(1);
                 return Opened::Ok(FileFeed { file, faults: 0 });
             }
         }
@@ -203,6 +210,7 @@ where
         };
         if let Ok(path) = str::from_utf8(name.as_slice()) {
             if let Ok(file) = fs::create(&self.rt, path) {
+                self.lent = self.lent.saturating_add(1);
                 return Opened::Ok(FilePour {
                     file,
                     buffer,
@@ -216,12 +224,14 @@ where
     }
 
     fn close_in(&mut self, name: &Name, feed: FileFeed<R::File>) {
+        self.lent = self.lent.saturating_sub(1);
         if feed.faults != 0 {
             raise_reading(self.alloc, &mut self.tallies, name);
         }
     }
 
     fn finish(&mut self, name: &Name, out: FilePour<R::File>) -> Result<(), Failed> {
+        self.lent = self.lent.saturating_sub(1);
         let mut out = out;
         if out.close().is_err() {
             raise_writing(self.alloc, &mut self.tallies, name);

@@ -2,7 +2,7 @@
 ghost use Rattle.std.specs.Prelude.{◌≡◌, ◌<◌, ◌||◌, nat_lt, [], Some, IfOk, IfSome, IsErr, IsSome, OnOk, OnErr};
 ghost use Rattle.std.specs.Option.{option_copied};
 ghost use Rattle.feed_pour.specs.Contents.{Created, FailsWhere, Finished, IfOpened, KeepsNames, TellsSame, WhereTold, failed_open, failed_read, is_opened};
-ghost use Rattle.feed_pour.specs.Counts.{CreatingCounted, OpeningCounted, WritingCounted};
+ghost use Rattle.feed_pour.specs.Counts.{CreatingCounted, Lends, OpeningCounted, Returns, WritingCounted};
 ghost use Rattle.feed_pour.specs.Failing.{calls_after, one_more};
 ghost use Rattle.feed_pour.specs.Files.{counts_in, counts_of, knows};
 ghost use Rattle.feed_pour.specs.Memory.{memory_told};
@@ -28,6 +28,8 @@ pub struct MemoryShelf {
     failing_reads: Vec<Entry<Items<u64>>>,
     failing_writes: Vec<Entry<Items<u64>>>,
     calls: Calls,
+    // How many feeds and pours are lent, up to 2^64 - 1.
+    lent: u64,
 }
 
 fn numbers_under(
@@ -70,6 +72,7 @@ impl MemoryShelf {
             failing_reads: Vec::new(alloc),
             failing_writes: Vec::new(alloc),
             calls: Calls::new(Items::new(alloc)),
+            lent: 0,
         }
     }
 
@@ -138,6 +141,8 @@ impl Shelf for MemoryShelf {
 
     ghost created = { λ s n. knows s.tallies.items n × IsSome (under s.files.items n) };
 
+    ghost lent = { λ s. s.lent };
+
     fn open_in(&mut self, name: &Name) -> Opened<MemoryFeed>
         ensures cause { OpeningCounted (failed_open result) (⟦<MemoryShelf as Shelf>⟧.counts self.old) (⟦<MemoryShelf as Shelf>⟧.counts self.new) name.now }
         ensures told { WhereTold (⟦<MemoryShelf as Shelf>⟧.told self.old) (⟦<MemoryShelf as Shelf>⟧.told self.new) TellsSame }
@@ -146,6 +151,7 @@ impl Shelf for MemoryShelf {
         ensures opened { IfOpened result (λ _. ⟦<MemoryShelf as Shelf>⟧.opened self.new name.now) }
         ensures keeps { KeepsNames (⟦<MemoryShelf as Shelf>⟧.opened self.old) (⟦<MemoryShelf as Shelf>⟧.opened self.new) }
         ensures keeps_created { KeepsNames (⟦<MemoryShelf as Shelf>⟧.created self.old) (⟦<MemoryShelf as Shelf>⟧.created self.new) }
+        ensures lent { Lends (is_opened result) (⟦<MemoryShelf as Shelf>⟧.lent self.old) (⟦<MemoryShelf as Shelf>⟧.lent self.new) }
 
         // Where it fails, and what the feed is given.
         ensures fails { FailsWhere (opening_fails self.old name.now) result }
@@ -167,6 +173,7 @@ impl Shelf for MemoryShelf {
         let fails = self.calls.count();
         if let Some(bytes) = found {
             if !fails {
+                self.lent = self.lent.saturating_add(1);
                 return Opened::Ok(MemoryFeed::new(bytes, failing));
             }
         }
@@ -182,6 +189,7 @@ impl Shelf for MemoryShelf {
         ensures created { IfOpened result (λ _. ⟦<MemoryShelf as Shelf>⟧.created self.new name.now) }
         ensures keeps { KeepsNames (⟦<MemoryShelf as Shelf>⟧.opened self.old) (⟦<MemoryShelf as Shelf>⟧.opened self.new) }
         ensures keeps_created { KeepsNames (⟦<MemoryShelf as Shelf>⟧.created self.old) (⟦<MemoryShelf as Shelf>⟧.created self.new) }
+        ensures lent { Lends (is_opened result) (⟦<MemoryShelf as Shelf>⟧.lent self.old) (⟦<MemoryShelf as Shelf>⟧.lent self.new) }
 
         // Where it fails, and what the pour is given.
         ensures fails { FailsWhere (call_fails self.old) result }
@@ -205,10 +213,12 @@ impl Shelf for MemoryShelf {
             return Opened::Memory;
         }
         self.calls.count();
+        self.lent = self.lent.saturating_add(1);
         Opened::Ok(MemoryPour::new(self.alloc, failing))
     }
 
     fn close_in(&mut self, name: &Name, feed: MemoryFeed) {
+        self.lent = self.lent.saturating_sub(1);
         if feed.calls.faults != 0 {
             raise_reading(self.alloc, &mut self.tallies, name);
         }
@@ -221,6 +231,7 @@ impl Shelf for MemoryShelf {
         ensures told { WhereTold (⟦<MemoryShelf as Shelf>⟧.told self.old) (⟦<MemoryShelf as Shelf>⟧.told self.new) (Finished (failed_read result) name.now (⟦<MemoryPour as Pour>⟧.poured out)) }
         ensures keeps { KeepsNames (⟦<MemoryShelf as Shelf>⟧.opened self.old) (⟦<MemoryShelf as Shelf>⟧.opened self.new) }
         ensures keeps_created { KeepsNames (⟦<MemoryShelf as Shelf>⟧.created self.old) (⟦<MemoryShelf as Shelf>⟧.created self.new) }
+        ensures lent { Returns (⟦<MemoryShelf as Shelf>⟧.lent self.old) (⟦<MemoryShelf as Shelf>⟧.lent self.new) }
 
         // Where it fails, and what the name holds then too.
         ensures fails { failed_read result ≡ (call_fails self.old || nat_lt 0 (⟦<MemoryPour as Pour>⟧.faults out)) }
@@ -228,6 +239,7 @@ impl Shelf for MemoryShelf {
         ensures made { calls_made self.new ≡ one_more (calls_made self.old) }
         ensures numbers { SameNumbers self.old self.new }
     {
+        self.lent = self.lent.saturating_sub(1);
         let faults = out.calls.faults;
         let _ = put(self.alloc, &mut self.files, name, out.into_bytes());
         if self.calls.count() || faults != 0 {

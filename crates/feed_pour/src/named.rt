@@ -1,5 +1,5 @@
 // A named file of a shelf, read as a whole. The feed is given back.
-ghost use Rattle.std.specs.Prelude.{IfSome};
+ghost use Rattle.std.specs.Prelude.{◌≡◌, ◌<◌, ◌-◌, ◌^◌, IfSome};
 ghost use Rattle.feed_pour.specs.Contents.{WhereTold, TellsSame};
 ghost use Rattle.feed_pour.specs.Named.{FetchedOf, FetchedWithin, FetchCounted};
 
@@ -27,6 +27,7 @@ pub fn fetch<H: Shelf>(alloc: Global, shelf: &mut H, name: &Name, limit: u32) ->
     ensures read { IfSome (H.told shelf.old) (λ t. FetchedOf (t.script name.now) result limit) }
     ensures told { WhereTold (H.told shelf.old) (H.told shelf.new) TellsSame }
     ensures cause { FetchCounted result (H.counts shelf.old) (H.counts shelf.new) name.now }
+    ensures lent { H.lent shelf.old < 2 ^ 64 - 1 → H.lent shelf.new ≡ H.lent shelf.old }
 {
     match shelf.open_in(name) {
         Opened::Failed => Fetched::OpenFailed,

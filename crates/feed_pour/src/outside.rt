@@ -2,7 +2,7 @@
 ghost use Rattle.std.specs.Prelude.{◌≡◌, ◌<◌, ◌≤◌, ◌^◌, ℕ, List, [], length, Option, Some, IfOk, IfSome, IsErr, nat_lt};
 ghost use Rattle.std.specs.Io.{ReadsAtMost};
 ghost use Rattle.spl_value.specs.Script.{Script};
-ghost use Rattle.feed_pour.specs.Counts.{Counts, Counted, OpeningCounted, CreatingCounted, ReadingCounted, WritingCounted};
+ghost use Rattle.feed_pour.specs.Counts.{Counts, Counted, OpeningCounted, CreatingCounted, ReadingCounted, WritingCounted, Lends, Returns};
 ghost use Rattle.feed_pour.specs.Contents.{PieceGiven, LeftTaken, Poured, failed_read, failed_write, failed_open, Told, WhereTold, TellsSame, IfOpened, is_opened, KeepsNames, Created, Finished};
 
 use spl_value::Name;
@@ -88,6 +88,9 @@ pub trait Shelf {
     /// The names that a pour was created for.
     ghost created: { Self → List ℕ → Type 0 };
 
+    /// How many feeds and pours are lent: opened or created, and not given back.
+    ghost lent: { Self → ℕ };
+
     /// A feed of what the name holds. It fails where the name can't be opened.
     fn open_in(&mut self, name: &Name) -> Opened<Self::Reader>
         ensures cause { OpeningCounted (failed_open result) (counts self.old) (counts self.new) name.now }
@@ -96,7 +99,8 @@ pub trait Shelf {
         ensures script { IfOpened result (λ feed. IfSome (told self.old) (λ t. Self.Reader.script feed ≡ Some (t.script name.now))) }
         ensures opened { IfOpened result (λ _. opened self.new name.now) }
         ensures keeps { KeepsNames (opened self.old) (opened self.new) }
-        ensures keeps_created { KeepsNames (created self.old) (created self.new) };
+        ensures keeps_created { KeepsNames (created self.old) (created self.new) }
+        ensures lent { Lends (is_opened result) (lent self.old) (lent self.new) };
 
     /// Makes the name empty, and gives a pour into it. It fails where the name can't be created,
     /// and the name then holds what it held.
@@ -107,7 +111,8 @@ pub trait Shelf {
         ensures poured { IfOpened result (λ pour. IfSome (told self.old) (λ t. Self.Writer.poured pour ≡ Some [])) }
         ensures created { IfOpened result (λ _. created self.new name.now) }
         ensures keeps { KeepsNames (opened self.old) (opened self.new) }
-        ensures keeps_created { KeepsNames (created self.old) (created self.new) };
+        ensures keeps_created { KeepsNames (created self.old) (created self.new) }
+        ensures lent { Lends (is_opened result) (lent self.old) (lent self.new) };
 
     /// Takes a feed of this name back. A feed that has failed counts as one fault of reading.
     fn close_in(&mut self, name: &Name, feed: Self::Reader)
@@ -115,7 +120,8 @@ pub trait Shelf {
         ensures cause { ReadingCounted (nat_lt 0 (Self.Reader.faults feed)) (counts self.old) (counts self.new) name.now }
         ensures told { WhereTold (told self.old) (told self.new) TellsSame }
         ensures keeps { KeepsNames (opened self.old) (opened self.new) }
-        ensures keeps_created { KeepsNames (created self.old) (created self.new) };
+        ensures keeps_created { KeepsNames (created self.old) (created self.new) }
+        ensures lent { Returns (lent self.old) (lent self.new) };
 
     /// Takes a pour of this name back, and lets the name hold what was poured. It fails where a
     /// write of the pour failed, and where finishing itself fails. The name then holds a prefix of
@@ -126,5 +132,6 @@ pub trait Shelf {
         ensures fault { 0 < Self.Writer.faults out → IsErr result }
         ensures told { WhereTold (told self.old) (told self.new) (Finished (failed_read result) name.now (Self.Writer.poured out)) }
         ensures keeps { KeepsNames (opened self.old) (opened self.new) }
-        ensures keeps_created { KeepsNames (created self.old) (created self.new) };
+        ensures keeps_created { KeepsNames (created self.old) (created self.new) }
+        ensures lent { Returns (lent self.old) (lent self.new) };
 }

@@ -2,8 +2,8 @@
 ghost use Rattle.std.specs.Prelude.{◌≡◌, ◌<◌, ◌≤◌, ◌-◌, ◌^◌, [], Some, None, ℕ, List, IfOk, IfSome, IsSome, OnOk, OnErr, length, take, drop, min, ⊤};
 ghost use Rattle.std.specs.Io.{ReadsAtMost};
 ghost use Rattle.std.specs.Option.{option_copied};
-ghost use Rattle.feed_pour.specs.Contents.{IfOpened, KeepsNames, LeftTaken, PieceGiven, Poured, PouredWhole, TellsSame, WhereTold, failed_open, failed_write};
-ghost use Rattle.feed_pour.specs.Counts.{Counted, OpeningCounted, no_counts};
+ghost use Rattle.feed_pour.specs.Contents.{IfOpened, KeepsNames, LeftTaken, PieceGiven, Poured, PouredWhole, TellsSame, WhereTold, failed_open, failed_write, is_opened};
+ghost use Rattle.feed_pour.specs.Counts.{Counted, Lends, OpeningCounted, no_counts};
 ghost use Rattle.feed_pour.specs.Plain.{or_empty, plain_script, plain_told};
 ghost use Rattle.feed_pour.specs.Table.{under, Puts};
 
@@ -113,6 +113,8 @@ impl Pour for PlainPour {
 pub struct PlainShelf {
     alloc: Global,
     files: Vec<Entry<Bytes>>,
+    // How many feeds and pours are lent, up to 2^64 - 1.
+    lent: u64,
 }
 
 impl PlainShelf {
@@ -120,11 +122,13 @@ impl PlainShelf {
 
     /// A shelf with no file.
     pub fn new(alloc: Global) -> PlainShelf
-        ensures { (n : List ℕ) → plain_files result n ≡ None }
+        ensures files { (n : List ℕ) → plain_files result n ≡ None }
+        ensures lent { ⟦<PlainShelf as Shelf>⟧.lent result ≡ 0 }
     {
         PlainShelf {
             alloc,
             files: Vec::new(alloc),
+            lent: 0,
         }
     }
 
@@ -132,6 +136,7 @@ impl PlainShelf {
     pub fn put_file(&mut self, name: &Name, bytes: Bytes) -> Result<(), NoMemory>
         ensures ok { OnOk result (Puts (plain_files self.old) (plain_files self.new) name.now bytes) }
         ensures err { OnErr result ((n : List ℕ) → plain_files self.new n ≡ plain_files self.old n) }
+        ensures lent { ⟦<PlainShelf as Shelf>⟧.lent self.new ≡ ⟦<PlainShelf as Shelf>⟧.lent self.old }
     {
         Ok(put(self.alloc, &mut self.files, name, bytes)?)
     }
@@ -171,6 +176,8 @@ impl Shelf for PlainShelf {
 
     ghost created = { λ s n. IsSome (under s.files.items n) };
 
+    ghost lent = { λ s. s.lent };
+
     fn open_in(&mut self, name: &Name) -> Opened<PlainFeed>
         ensures cause { OpeningCounted (failed_open result) (⟦<PlainShelf as Shelf>⟧.counts self.old) (⟦<PlainShelf as Shelf>⟧.counts self.new) name.now }
         ensures told { WhereTold (⟦<PlainShelf as Shelf>⟧.told self.old) (⟦<PlainShelf as Shelf>⟧.told self.new) TellsSame }
@@ -179,6 +186,7 @@ impl Shelf for PlainShelf {
         ensures opened { IfOpened result (λ _. ⟦<PlainShelf as Shelf>⟧.opened self.new name.now) }
         ensures keeps { KeepsNames (⟦<PlainShelf as Shelf>⟧.opened self.old) (⟦<PlainShelf as Shelf>⟧.opened self.new) }
         ensures keeps_created { KeepsNames (⟦<PlainShelf as Shelf>⟧.created self.old) (⟦<PlainShelf as Shelf>⟧.created self.new) }
+        ensures lent { Lends (is_opened result) (⟦<PlainShelf as Shelf>⟧.lent self.old) (⟦<PlainShelf as Shelf>⟧.lent self.new) }
 
         // A name that isn't there reads as an empty file.
         ensures left { IfOpened result (λ feed. ⟦<PlainFeed as Feed>⟧.left feed ≡ Some (or_empty (plain_files self.old name.now))) }
@@ -186,20 +194,29 @@ impl Shelf for PlainShelf {
     {
         match copy_under(self.alloc, self.files.as_slice(), name) {
             Err(_) => Opened::Memory,
-            Ok(bytes) => Opened::Ok(PlainFeed::new(bytes)),
+            Ok(bytes) => {
+                self.lent = self.lent.saturating_add(1);
+                Opened::Ok(PlainFeed::new(bytes))
+            }
         }
     }
 
     fn create(&mut self, name: &Name) -> Opened<PlainPour> {
         match put(self.alloc, &mut self.files, name, Items::new(self.alloc)) {
             Err(_) => Opened::Memory,
-            Ok(()) => Opened::Ok(PlainPour::new(self.alloc)),
+            Ok(()) => {
+                self.lent = self.lent.saturating_add(1);
+                Opened::Ok(PlainPour::new(self.alloc))
+            }
         }
     }
 
-    fn close_in(&mut self, _name: &Name, _feed: PlainFeed) {}
+    fn close_in(&mut self, _name: &Name, _feed: PlainFeed) {
+        self.lent = self.lent.saturating_sub(1);
+    }
 
     fn finish(&mut self, name: &Name, out: PlainPour) -> Result<(), Failed> {
+        self.lent = self.lent.saturating_sub(1);
         let PlainPour { poured } = out;
         let _ = put(self.alloc, &mut self.files, name, Items::from_vec(poured));
         Ok(())
