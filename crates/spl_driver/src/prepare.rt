@@ -1,5 +1,5 @@
 //! The program and its source made ready: the stream that comes to the sink.
-ghost use Rattle.std.specs.Prelude.{◌≡◌, IfSome, codes};
+ghost use Rattle.std.specs.Prelude.{◌≡◌, ◌<◌, ◌-◌, ◌^◌, IfSome, codes};
 ghost use Rattle.feed_pour.specs.Contents.{WhereTold, TellsSame};
 ghost use Rattle.spl_driver.specs.Answer.{ReadsFailed};
 ghost use Rattle.spl_driver.specs.Steps.{PreparedOf, PrepareCounted, SourceOf, SourceCounted};
@@ -36,6 +36,7 @@ fn prepare_source<H: Shelf>(
     ensures told { WhereTold (H.told shelf.old) (H.told shelf.new) TellsSame }
     ensures reads { IfSome (H.told shelf.old) (ReadsFailed (H.counts shelf.old) (H.counts shelf.new)) }
     ensures cause { SourceCounted result source.now (H.counts shelf.old) (H.counts shelf.new) }
+    ensures lent { H.lent shelf.old < 2 ^ 64 - 1 → H.lent shelf.new ≡ H.lent shelf.old }
 {
     match fetch(alloc, shelf, source, LIMIT) {
         Fetched::OpenFailed | Fetched::ReadFailed => Prepared::Device,
@@ -56,6 +57,7 @@ pub fn prepare<H: Shelf>(alloc: Global, shelf: &mut H, program: &Name, source: &
     ensures told { WhereTold (H.told shelf.old) (H.told shelf.new) TellsSame }
     ensures reads { IfSome (H.told shelf.old) (ReadsFailed (H.counts shelf.old) (H.counts shelf.new)) }
     ensures cause { PrepareCounted result program.now (H.counts shelf.old) (H.counts shelf.new) }
+    ensures lent { H.lent shelf.old < 2 ^ 64 - 1 → H.lent shelf.new ≡ H.lent shelf.old }
 {
     match fetch(alloc, shelf, program, LIMIT) {
         Fetched::OpenFailed | Fetched::ReadFailed => Prepared::Device,

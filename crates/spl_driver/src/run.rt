@@ -1,5 +1,5 @@
 //! A run of a program, from its file to its sink's.
-ghost use Rattle.std.specs.Prelude.{◌≡◌, [], IfOk, Some};
+ghost use Rattle.std.specs.Prelude.{◌≡◌, ◌<◌, ◌-◌, ◌^◌, [], IfOk, Some};
 ghost use Rattle.feed_pour.specs.Contents.{WhereTold};
 ghost use Rattle.spl_driver.specs.Answer.{Answered, Shown, status_of};
 ghost use Rattle.spl_driver.specs.Steps.{EndsAs, counts_with};
@@ -82,6 +82,7 @@ pub fn run<H: Shelf>(alloc: Global, shelf: &mut H, program: &Name) -> Ended
     ensures answered { WhereTold (H.told shelf.old) (H.told shelf.new) (Answered (Some (Request.Run program.now)) result (H.counts shelf.old) (H.counts shelf.new)) }
     ensures shown { Shown result.cause (Some (Request.Run program.now)) (H.counts shelf.old) (H.counts shelf.new) }
     ensures lists { result.arrivals.lists ≡ [] }
+    ensures lent { H.lent shelf.old < 2 ^ 64 - 1 → H.lent shelf.new ≡ H.lent shelf.old }
 {
     let Ok(source) = Items::from_slice(alloc, b"t.csv") else {
         return ended(alloc, Cause::NoMemory);

@@ -1,5 +1,5 @@
 //! The rows of a stream as a file.
-ghost use Rattle.std.specs.Prelude.{◌≡◌, IfOk, count_by};
+ghost use Rattle.std.specs.Prelude.{◌≡◌, ◌<◌, ◌-◌, ◌^◌, IfOk, count_by};
 ghost use Rattle.feed_pour.specs.Counts.{Counted};
 ghost use Rattle.feed_pour.specs.Contents.{AllPoured, failed_write, WhereTold};
 ghost use Rattle.stream_model.specs.Rows.{item_text, text_of};
@@ -56,6 +56,7 @@ pub fn write_sink<H: Shelf>(alloc: Global, shelf: &mut H, name: &Name, items: &[
     ensures told { WhereTold (H.told shelf.old) (H.told shelf.new) (SunkAs result name.now (text_of items.now)) }
     ensures count { SunkCount result items.now }
     ensures cause { SinkCounted result (H.counts shelf.old) (H.counts shelf.new) name.now }
+    ensures lent { H.lent shelf.old < 2 ^ 64 - 1 → H.lent shelf.new ≡ H.lent shelf.old }
 {
     match shelf.create(name) {
         Opened::Failed => Sunk::CreateFailed,

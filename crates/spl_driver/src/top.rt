@@ -1,5 +1,5 @@
 //! The top call: from the words of the command line to the exit status.
-ghost use Rattle.std.specs.Prelude.{◌≡◌, ◌⊎◌, [], IfSome, None};
+ghost use Rattle.std.specs.Prelude.{◌≡◌, ◌⊎◌, ◌<◌, ◌-◌, ◌^◌, [], IfSome, None};
 ghost use Rattle.feed_pour.specs.Counts.{Rose};
 ghost use Rattle.feed_pour.specs.Contents.{WhereTold};
 ghost use Rattle.spl_driver.specs.Request.{request_of};
@@ -19,6 +19,7 @@ fn answer<H: Shelf>(alloc: Global, words: &[String], shelf: &mut H) -> Ended
     ensures shown { Shown result.cause (request_of words.now) (H.counts shelf.old) (H.counts shelf.new) }
     ensures words { request_of words.now ≡ None → Untouched result.cause (H.counts shelf.old) (H.counts shelf.new) }
     ensures lists { result.arrivals.lists ≡ [] }
+    ensures lent { H.lent shelf.old < 2 ^ 64 - 1 → H.lent shelf.new ≡ H.lent shelf.old }
 {
     match read_request(alloc, words) {
         Err(_) => ended(alloc, Cause::NoMemory),
@@ -78,6 +79,9 @@ pub fn spl<W: Threads + Wait + Sync, H: Shelf, S: Starter, G: Gate, P: Pour>(
     ensures done { result.cause ≡ Cause.Done → NoCountChanged (H.counts shelf.old) (H.counts shelf.new) × (P.faults out.new ≡ P.faults out.old) }
 
     ensures said { Said result.cause (P.poured out.old) (P.poured out.new) (Rose (P.faults out.old) (P.faults out.new)) }
+
+    // Every feed and every pour is given back.
+    ensures lent { H.lent shelf.old < 2 ^ 64 - 1 → H.lent shelf.new ≡ H.lent shelf.old }
 
     // No operator has several connections.
     ensures arrivals { result.arrivals.lists ≡ [] }
