@@ -1,6 +1,6 @@
 -- The stream of a file whose lines are numbers.
 use Rattle.std.specs.Prelude.{◌+◌, ◌-◌, ◌≤◌, is_some, IfOk, IfSome, Result, Ok, Err}
-use Rattle.std.proofs.Common.{◌≡◌, ◌==◌, ◌^◌, ◌∷◌, ◌∙◌, [], ℕ, ℤ, suc, List, Option, Some, None, true, refl, sym, ap, length, inl, inr, arith}
+use Rattle.std.proofs.Common.{◌≡◌, ◌==◌, ◌^◌, ◌∷◌, ◌∙◌, [], ℕ, ℤ, suc, List, Bool, Option, Some, None, true, refl, sym, ap, length, inl, inr, arith}
 use Rattle.std.specs.List.{list_all}
 use Rattle.std.proofs.lemmas.Bool.{cases_Bool, and_parts}
 use Rattle.spl_value.specs.Decimal.{integer_of}
@@ -9,10 +9,15 @@ use Rattle.spl_value.specs.declared.item.Item.{Item}
 use Rattle.spl_value.specs.declared.memory.NoMemory.{NoMemory}
 use Rattle.spl_value.specs.declared.types.IntKind.TheVariants.{I64}
 use Rattle.stream_model.specs.Rows.{pieces, onto_first, items_from, rows}
-use Rattle.spl_driver.specs.Lines.{lines_of, line_number, row_in_front, number_rows}
-use Rattle.spl_driver.specs.Source.{is_number_line, is_number_file, are_numbers, lines_among, price_setting}
+use Rattle.spl_driver.specs.Lines.{line_number, row_in_front, number_rows}
+use Rattle.spl_driver.specs.Source.{is_number_line, is_number_file, price_setting}
 use Rattle.spl_driver.proofs.FirstLine.{some_pieces}
 use Rattle.spl_driver.proofs.NumberLines.{has_number, piece_row}
+use Rattle.stream_model.specs.Laws.{but_empty_last, lines}
+
+-- the lines among these pieces are numbers
+abbrev are_numbers : List (List ℕ) → Bool
+are_numbers all = list_all is_number_line (but_empty_last all)
 
 -- how many bytes the pieces have, with the line feeds between them
 abbrev size : List (List ℕ) → ℕ
@@ -39,7 +44,7 @@ number_is line n t e = rw t e
 
 -- pieces that are all numbers give their rows
 pieces_rows : (piece : List ℕ) (others : List (List ℕ)) (line left : ℕ) → are_numbers (piece ∷ others) ≡ true → size (piece ∷ others) ≤ left
-    → number_rows (lines_among (piece ∷ others)) ≡ Some (items_from price_setting End line left (piece ∷ others))
+    → number_rows (but_empty_last (piece ∷ others)) ≡ Some (items_from price_setting End line left (piece ∷ others))
 pieces_rows [] [] line left all within = refl
 pieces_rows (b ∷ bytes) [] line left all within =
     let t = (and_parts (is_number_line (b ∷ bytes)) true all).0 in
@@ -65,22 +70,22 @@ rows_form (line ∷ lines) = elim (cases_Bool (is_number_line line)) [
   | inr not_one ↦ rw not_one refl
 ]
 
-file_rows : (bytes : List ℕ) → length bytes ≤ 2 ^ 40 → is_number_file bytes ≡ true → number_rows (lines_of bytes) ≡ Some (rows price_setting bytes End)
+file_rows : (bytes : List ℕ) → length bytes ≤ 2 ^ 40 → is_number_file bytes ≡ true → number_rows (lines bytes) ≡ Some (rows price_setting bytes End)
 file_rows bytes small all =
     let p = some_pieces bytes in
     let bound : size (pieces bytes) ≤ 2 ^ 40 = rw size_is small in
     rw p.are (pieces_rows p.first p.others 1 (2 ^ 40) (rw p.are at all) (rw p.are at bound))
 
-pub form_of : (result : Result (Option (List Item)) NoMemory) (bytes : List ℕ) → IfOk result (λ stream. stream ≡ number_rows (lines_of bytes))
+pub form_of : (result : Result (Option (List Item)) NoMemory) (bytes : List ℕ) → IfOk result (λ stream. stream ≡ number_rows (lines bytes))
     → IfOk result (λ stream. is_some stream ≡ is_number_file bytes)
-form_of (Ok stream) bytes e = ap is_some e ∙ rows_form (lines_of bytes)
+form_of (Ok stream) bytes e = ap is_some e ∙ rows_form (lines bytes)
 form_of (Err failed) bytes e = tt
 
-pub stream_of : (result : Result (Option (List Item)) NoMemory) (bytes : List ℕ) → length bytes ≤ 2 ^ 40 → IfOk result (λ stream. stream ≡ number_rows (lines_of bytes))
+pub stream_of : (result : Result (Option (List Item)) NoMemory) (bytes : List ℕ) → length bytes ≤ 2 ^ 40 → IfOk result (λ stream. stream ≡ number_rows (lines bytes))
     → IfOk result (λ stream. IfSome stream (λ items. items ≡ rows price_setting bytes End))
 stream_of (Ok None) bytes small e = tt
 stream_of (Ok (Some items)) bytes small e =
-    let form : true ≡ is_number_file bytes = ap is_some e ∙ rows_form (lines_of bytes) in
+    let form : true ≡ is_number_file bytes = ap is_some e ∙ rows_form (lines bytes) in
     let same = file_rows bytes small (sym form) in
     cc
 stream_of (Err failed) bytes small e = tt

@@ -169,7 +169,7 @@ DeviceFailed request g old new = OpenFailed (opens request g) old new ⊎ Create
 abbrev pub CreatedLast : Option Request → Graph → PerName → PerName → Told → Told → Type 0
 CreatedLast request g counts now old new = (CreateFailed (creates request g) counts now → ⊥) → SameFiles old new
 
--- a count of reading rises only at a file whose reader fails within its first 1,048,576 bytes
+-- a count of reading changes only at a file whose reader fails within its first 1,048,576 bytes
 abbrev pub ReadsFailed : PerName → PerName → Told → Type 0
 ReadsFailed counts now old = (n : List ℕ) → (now n).reading ≢ (counts n).reading → has_fault (old.script n) ≡ true
 

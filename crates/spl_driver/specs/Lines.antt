@@ -5,12 +5,8 @@ use Rattle.spl_value.specs.declared.item.Item.{Item}
 use Rattle.spl_value.specs.declared.item.Item.TheVariants as I
 use Rattle.spl_value.specs.declared.types.IntKind.TheVariants.{I64}
 use Rattle.spl_value.specs.declared.value.Value.TheVariants as V
-use Rattle.stream_model.specs.Rows.{pieces, closing}
-use Rattle.spl_driver.specs.Source.{lines_among, is_number_line}
-
--- the lines of a file
-abbrev pub lines_of : List ℕ → List (List ℕ)
-lines_of bytes = lines_among (pieces bytes)
+use Rattle.stream_model.specs.Rows.{closing}
+use Rattle.spl_driver.specs.Source.{is_number_line}
 
 -- the number of a line that is one
 abbrev pub line_number : List ℕ → Option ℤ

@@ -6,7 +6,8 @@ use Rattle.spl_value.specs.declared.types.IntKind.TheVariants.{I64}
 use Rattle.spl_value.specs.declared.types.Named.{Named}
 use Rattle.spl_value.specs.declared.types.SplType.{SplType}
 use Rattle.spl_value.specs.declared.types.SplType.TheVariants as T
-use Rattle.stream_model.specs.Rows.{Setting, pieces}
+use Rattle.stream_model.specs.Rows.{Setting}
+use Rattle.stream_model.specs.Laws.{lines}
 
 -- 1 to 18 digits
 abbrev pub are_few_digits : List ℕ → Bool
@@ -17,24 +18,9 @@ abbrev pub is_number_line : List ℕ → Bool
 is_number_line [] = false
 is_number_line (b ∷ bytes) = if b == 45 then are_few_digits bytes else are_few_digits (b ∷ bytes)
 
--- the last piece is a line where it isn't empty
-abbrev pub last_line : List ℕ → List (List ℕ)
-last_line [] = []
-last_line (b ∷ bytes) = (b ∷ bytes) ∷ []
-
--- the lines of a file's pieces
-abbrev pub lines_among : List (List ℕ) → List (List ℕ)
-lines_among [] = []
-lines_among (piece ∷ []) = last_line piece
-lines_among (piece ∷ next ∷ rest) = piece ∷ lines_among (next ∷ rest)
-
--- every line, and a last piece that is not empty, is such a number
-abbrev pub are_numbers : List (List ℕ) → Bool
-are_numbers pieces = list_all is_number_line (lines_among pieces)
-
--- every line of the file is a number of 1 to 18 digits
+-- every line of the file, and a last piece that isn't empty, is such a number
 abbrev pub is_number_file : List ℕ → Bool
-is_number_file bytes = are_numbers (pieces bytes)
+is_number_file bytes = list_all is_number_line (lines bytes)
 
 -- one attribute, `price`, of type int64
 abbrev pub price_schema : List (Named SplType)

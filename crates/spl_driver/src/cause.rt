@@ -7,7 +7,7 @@ pub enum Cause {
     Done,
     /// The words, the program or the bytes of its source aren't of a form that is built.
     NotBuilt,
-    /// A file couldn't be opened, read, created or written.
+    /// A file couldn't be opened, read, created, written or finished.
     Device,
     /// There was no memory.
     NoMemory,

@@ -2,8 +2,9 @@
 ghost use Rattle.std.specs.Prelude.{◌≡◌, ◌<◌, ◌≤◌, ◌^◌, ◌∷◌, ◌==◌, length, position, is_some, IfOk, IfSome};
 ghost use Rattle.spl_value.specs.Script.{End};
 ghost use Rattle.stream_model.specs.Rows.{rows};
-ghost use Rattle.spl_driver.specs.Lines.{lines_of, line_number, number_row, number_rows};
+ghost use Rattle.spl_driver.specs.Lines.{line_number, number_row, number_rows};
 ghost use Rattle.spl_driver.specs.Source.{is_number_file, price_setting};
+ghost use Rattle.stream_model.specs.Laws.{lines};
 
 use spl_value::{IntKind, Item, Items, NoMemory, Value, read_integer};
 use std::alloc::Global;
@@ -33,7 +34,7 @@ fn feed_place(bytes: &[u8]) -> Option<usize>
 // The first line, and what stands behind it.
 fn first_line(bytes: &[u8]) -> (&[u8], &[u8])
     requires { 0 < length bytes.now }
-    ensures lines { lines_of bytes.now ≡ result.0.now ∷ lines_of result.1.now }
+    ensures lines { lines bytes.now ≡ result.0.now ∷ lines result.1.now }
     ensures shorter { length result.1.now < length bytes.now }
 {
     match feed_place(bytes) {
@@ -53,7 +54,7 @@ fn number_row(alloc: Global, n: i128) -> Result<Item, NoMemory>
 
 // The tuples of lines that are all numbers, and the markers behind them.
 fn number_rows(alloc: Global, bytes: &[u8]) -> Result<Option<Items<Item>>, NoMemory>
-    ensures { IfOk result (λ stream. stream ≡ number_rows (lines_of bytes.now)) }
+    ensures { IfOk result (λ stream. stream ≡ number_rows (lines bytes.now)) }
 {
     let mut items = Vec::new(alloc);
     let mut rest = bytes;

@@ -1,7 +1,8 @@
 use Rattle.std.proofs.Common.{◌≡◌, ◌++◌, length, List, Option, Some, None}
 use Rattle.spl_value.specs.declared.item.Item.{Item}
-use Rattle.spl_driver.specs.Lines.{number_rows, lines_of}
+use Rattle.spl_driver.specs.Lines.{number_rows}
 use Rattle.spl_driver.proofs.source.number_rows.Given as goal
+use Rattle.stream_model.specs.Laws.{lines}
 
 -- items in front of a stream
 abbrev with_front : List Item → Option (List Item) → Option (List Item)
@@ -9,7 +10,7 @@ with_front items None = None
 with_front items (Some more) = Some (items ++ more)
 
 abbrev pub invariant-lines : goal.invariant-lines
-invariant-lines l = with_front l.items.items (number_rows (lines_of l.rest)) ≡ number_rows (lines_of l.bytes)
+invariant-lines l = with_front l.items.items (number_rows (lines l.rest)) ≡ number_rows (lines l.bytes)
 
 abbrev pub decreases-lines : goal.decreases-lines
 decreases-lines l = length l.rest
