@@ -7,6 +7,8 @@ mod item;
 mod items;
 mod memory;
 mod packet;
+#[cfg(test)]
+mod tests;
 mod types;
 mod value;
 
