@@ -1,7 +1,7 @@
 -- What a filter and a sink with one connection give for a stream, item by item; and the path from a source through a filter
 -- to a sink.
 use Rattle.std.specs.Prelude.{ℕ, Bool, true, false, cond, List, [], ◌∷◌, ◌++◌, ◌≡◌, map, Option, if◌then◌else◌}
-use Rattle.std.proofs.Common.{refl, ap, ◌∙◌}
+use Rattle.std.proofs.Common.{refl, sym, ap, ◌∙◌, suc, zero}
 use Rattle.std.proofs.lemmas.Grind.{flat_map-append}
 use Rattle.spl_value.specs.declared.item.Item.{Item}
 use Rattle.spl_value.specs.declared.item.Item.TheVariants as I
@@ -11,7 +11,7 @@ use Rattle.stream_model.specs.Stream.{Event, came, any_closes}
 use Rattle.stream_model.specs.React.{Operator, Source, FileSource, Filter, FileSink, passes}
 use Rattle.stream_model.specs.Stages.{gives_all, on_port, out}
 use Rattle.stream_model.specs.Meaning.{Graph, Lists, Entries, meaning, text}
-use Rattle.stream_model.specs.Laws.{is_made, IsOrdered}
+use Rattle.stream_model.specs.Laws.{is_made, IsOrdered, IsNumbered}
 use Rattle.stream_model.specs.OrderLaws.{IsOrdered-nil, IsOrdered-cons, at_only}
 use Rattle.stream_model.specs.Rows.{item_text, text_of}
 use Rattle.stream_model.specs.StageLaws.{stage_at, one_in, one_in-parts, gives_all-over}
@@ -126,6 +126,13 @@ path_is_ordered source condition file =
     (IsOrdered-cons (path_filter condition) (path_sink file ∷ [])
     (λ s m. refl) (at_only 0 (λ s. is_made (path_filter condition ∷ path_sink file ∷ []) s ≡ false) refl)
     (IsOrdered-cons (path_sink file) [] (λ s m. cc) (λ s r. refl) IsOrdered-nil))
+
+-- the operators are numbered in the order of declaration
+pub path_is_numbered : (source : Source) (condition : Option Condition) (file : List ℕ) → IsNumbered (path_graph source condition file)
+path_is_numbered source condition file zero op e = let same : path_source source ≡ op = cc in ap (λ (o : Operator). o.number) (sym same)
+path_is_numbered source condition file (suc zero) op e = let same : path_filter condition ≡ op = cc in ap (λ (o : Operator). o.number) (sym same)
+path_is_numbered source condition file (suc (suc zero)) op e = let same : path_sink file ≡ op = cc in ap (λ (o : Operator). o.number) (sym same)
+path_is_numbered source condition file (suc (suc (suc n))) op e = absurd cc
 
 -- the stream behind the filter is what passes of the source's rows
 pub path_filtered : (source : Source) (condition : Option Condition) (file : List ℕ) (rows : Lists) (entries : Entries)

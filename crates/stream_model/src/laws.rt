@@ -1,15 +1,16 @@
 //! What the definitions come to.
-ghost use Rattle.std.specs.Prelude.{◌≡◌, ℕ, List, [], ◌∷◌, Option, Some, None, codes, pos, negsuc, true, false};
+ghost use Rattle.std.specs.Prelude.{◌≡◌, ◌≤◌, ℕ, List, [], ◌∷◌, Option, Some, None, codes, pos, negsuc, true, false};
 ghost use Rattle.spl_value.specs.Script.{End, Failed};
 ghost use Rattle.spl_value.specs.declared.item.Item.TheVariants as I;
 ghost use Rattle.spl_value.specs.declared.item.FaultKind.TheVariants as K;
 ghost use Rattle.spl_value.specs.declared.types.IntKind.TheVariants as N;
 ghost use Rattle.spl_value.specs.declared.types.SplType.TheVariants as T;
 ghost use Rattle.spl_value.specs.declared.value.Value.TheVariants as V;
-ghost use Rattle.stream_model.specs.Laws.{StartLaw, HistoryLaw, EndLaw, EndItemLaw, EndGivesLaw, WaitLaw, PortsLaw, OutGrows, ChainGrows, OutCloses, ClosedEnds, ClosedGivesClosed, BodyLaw, BodyPorts, GraphLaw, EventsLaw, TopoEventsLaw, IsOrdered, RowsClose, PiecesLaw, RowsLaw, FailedRowsLaw};
+ghost use Rattle.stream_model.specs.Laws.{StartLaw, HistoryLaw, EndLaw, EndItemLaw, EndGivesLaw, WaitLaw, PortsLaw, OutGrows, ChainGrows, OutCloses, ClosedEnds, ClosedGivesClosed, BodyLaw, BodyPorts, GraphLaw, EventsLaw, TopoEventsLaw, IsOrdered, IsNumbered, IsWithin, RowsClose, PiecesLaw, RowsLaw, FailedRowsLaw};
 ghost use Rattle.stream_model.specs.React.{Source, FileSource, Filter, FileSink};
 ghost use Rattle.stream_model.specs.declared.condition.Condition.{Condition};
-ghost use Rattle.stream_model.specs.Rows.{rows, too_long, text_of};
+ghost use Rattle.stream_model.specs.PathLaws.{path_graph};
+ghost use Rattle.stream_model.specs.Rows.{Setting, rows, too_long, text_of};
 
 /// No event gives nothing. One event more gives its reaction behind the history of all before it,
 /// and may end the operator, whose last item on each output port then says how. A port waits for
@@ -49,12 +50,13 @@ pub fn graph_law()
     ensures in_order { TopoEventsLaw }
 {}
 
-/// A source, a filter behind it and a sink behind that are ordered.
+/// A source, a filter behind it and a sink behind that are ordered, and numbered in their order.
 pub fn chain_is_ordered()
-    ensures { (source : Source) (condition : Option Condition) (file : List ℕ) → IsOrdered (
+    ensures ordered { (source : Source) (condition : Option Condition) (file : List ℕ) → IsOrdered (
         record { number = 0; kind = FileSource source; ins = []; outs = 0 ∷ [] }
         ∷ record { number = 1; kind = Filter condition; ins = (0 ∷ []) ∷ []; outs = 1 ∷ [] }
         ∷ record { number = 2; kind = FileSink file; ins = (1 ∷ []) ∷ []; outs = [] } ∷ []) }
+    ensures numbered { (source : Source) (condition : Option Condition) (file : List ℕ) → IsNumbered (path_graph source condition file) }
 {}
 
 /// The stream of a source is closed. Where there is no fault it is the rows of the file's lines.
@@ -63,6 +65,7 @@ pub fn rows_law()
     ensures lines { PiecesLaw }
     ensures all { RowsLaw }
     ensures failed { FailedRowsLaw }
+    ensures within { (o : Setting) → 6 ≤ o.limit → IsWithin o (codes "20\n30\n") }
 {}
 
 /// Rows of some files.
