@@ -89,7 +89,8 @@ impl<F: Write> FilePour<F> {
     fn empty_buffer(&mut self) -> Result<(), Failed>
         ensures cause { Counted (failed_read result) self.old.faults self.new.faults }
         ensures bytes { Keeps (file_poured F.contents self.old) (file_poured F.contents self.new) }
-        ensures whole { OnOk result (Keeps (file_poured F.contents self.old) (F.contents self.new.file)) }
+        ensures whole { OnOk result
+            (Keeps (file_poured F.contents self.old) (F.contents self.new.file)) }
         ensures empty { OnOk result (self.new.buffer.items ≡ []) }
     {
         self.written += write_front(&mut self.file, &self.buffer[self.written..]);
@@ -104,7 +105,8 @@ impl<F: Write> FilePour<F> {
     // Writes out what is left. It fails too where a write has failed before.
     fn close(&mut self) -> Result<(), Failed>
         ensures fault { 0 < self.old.faults → IsErr result }
-        ensures whole { OnOk result (Keeps (file_poured F.contents self.old) (F.contents self.new.file)) }
+        ensures whole { OnOk result
+            (Keeps (file_poured F.contents self.old) (F.contents self.new.file)) }
     {
         if self.empty_buffer().is_err() || self.faults != 0 || self.file.flush().is_err() {
             return Err(Failed);

@@ -27,8 +27,10 @@ impl MemoryFeed {
     /// A feed of these bytes, whose reads of these numbers are to fail.
     pub fn new(bytes: Bytes, failing: Items<u64>) -> MemoryFeed
         ensures script { ⟦<MemoryFeed as Feed>⟧.script result ≡ Some (script_of 0 failing bytes) }
-        ensures whole { ((k : ℕ) → is_to_fail k failing ≡ true → 0 < k → IsBehindEnd bytes k) → ⟦<MemoryFeed as Feed>⟧.script result ≡ Some (plain_script bytes) }
-        ensures cut { (k : ℕ) → FirstToFail failing k → (IsBehindEnd bytes k → ⊥) → ⟦<MemoryFeed as Feed>⟧.script result ≡ Some (cut_before k bytes) }
+        ensures whole { ((k : ℕ) → is_to_fail k failing ≡ true → 0 < k → IsBehindEnd bytes k)
+            → ⟦<MemoryFeed as Feed>⟧.script result ≡ Some (plain_script bytes) }
+        ensures cut { (k : ℕ) → FirstToFail failing k → (IsBehindEnd bytes k → ⊥)
+            → ⟦<MemoryFeed as Feed>⟧.script result ≡ Some (cut_before k bytes) }
         ensures left { ⟦<MemoryFeed as Feed>⟧.left result ≡ Some bytes }
         ensures faults { ⟦<MemoryFeed as Feed>⟧.faults result ≡ 0 }
         ensures failing { result.calls.failing ≡ failing }
@@ -52,14 +54,21 @@ impl Feed for MemoryFeed {
     fn read(&mut self, into: &mut [u8]) -> Result<usize, Failed>
         requires { 0 < length into.old }
         ensures bound { ReadsAtMost result into.new }
-        ensures piece { length into.old ≡ 8192 → PieceGiven (⟦<MemoryFeed as Feed>⟧.script self.old) (⟦<MemoryFeed as Feed>⟧.script self.new) result into.new }
-        ensures taken { LeftTaken (⟦<MemoryFeed as Feed>⟧.left self.old) (⟦<MemoryFeed as Feed>⟧.left self.new) result into.new }
-        ensures cause { Counted (failed_read result) (⟦<MemoryFeed as Feed>⟧.faults self.old) (⟦<MemoryFeed as Feed>⟧.faults self.new) }
+        ensures piece { length into.old ≡ 8192
+            → PieceGiven (⟦<MemoryFeed as Feed>⟧.script self.old)
+            (⟦<MemoryFeed as Feed>⟧.script self.new) result into.new }
+        ensures taken { LeftTaken (⟦<MemoryFeed as Feed>⟧.left self.old)
+            (⟦<MemoryFeed as Feed>⟧.left self.new) result into.new }
+        ensures cause { Counted (failed_read result) (⟦<MemoryFeed as Feed>⟧.faults self.old)
+            (⟦<MemoryFeed as Feed>⟧.faults self.new) }
         ensures counted { ⟦<MemoryFeed as Feed>⟧.faults self.new < 2 ^ 64 }
 
         // As many bytes as fit, and which calls fail.
-        ensures fits { IfOk result (λ n. IfSome (⟦<MemoryFeed as Feed>⟧.left self.old) (λ left. n ≡ min (length into.old) (length left))) }
-        ensures fails { failed_read result ≡ is_to_fail (self.old.calls.made + 1) self.old.calls.failing }
+        ensures fits { IfOk result
+            (λ n. IfSome (⟦<MemoryFeed as Feed>⟧.left self.old)
+            (λ left. n ≡ min (length into.old) (length left))) }
+        ensures fails { failed_read result ≡ is_to_fail (self.old.calls.made + 1)
+            self.old.calls.failing }
         ensures made { self.new.calls.made ≡ one_more self.old.calls.made }
         ensures failing { self.new.calls.failing ≡ self.old.calls.failing }
     {
@@ -118,13 +127,17 @@ impl Pour for MemoryPour {
     fn write(&mut self, from: &[u8]) -> Result<usize, PourAnswer>
         requires { 0 < length from.now }
         ensures some { IfOk result (λ n. (0 < n) × (n ≤ length from.now)) }
-        ensures poured { Poured (⟦<MemoryPour as Pour>⟧.poured self.old) (⟦<MemoryPour as Pour>⟧.poured self.new) result from.now }
-        ensures cause { Counted (failed_write result) (⟦<MemoryPour as Pour>⟧.faults self.old) (⟦<MemoryPour as Pour>⟧.faults self.new) }
+        ensures poured { Poured (⟦<MemoryPour as Pour>⟧.poured self.old)
+            (⟦<MemoryPour as Pour>⟧.poured self.new) result from.now }
+        ensures cause { Counted (failed_write result) (⟦<MemoryPour as Pour>⟧.faults self.old)
+            (⟦<MemoryPour as Pour>⟧.faults self.new) }
         ensures counted { ⟦<MemoryPour as Pour>⟧.faults self.new < 2 ^ 64 }
 
         // All of the bytes or none, and which calls fail.
-        ensures whole { PouredWhole (⟦<MemoryPour as Pour>⟧.poured self.old) (⟦<MemoryPour as Pour>⟧.poured self.new) result from.now }
-        ensures fails { failed_write result ≡ is_to_fail (self.old.calls.made + 1) self.old.calls.failing }
+        ensures whole { PouredWhole (⟦<MemoryPour as Pour>⟧.poured self.old)
+            (⟦<MemoryPour as Pour>⟧.poured self.new) result from.now }
+        ensures fails { failed_write result ≡ is_to_fail (self.old.calls.made + 1)
+            self.old.calls.failing }
         ensures made { self.new.calls.made ≡ writes_after result self.old.calls.made }
         ensures failing { self.new.calls.failing ≡ self.old.calls.failing }
     {

@@ -144,19 +144,29 @@ impl Shelf for MemoryShelf {
     ghost lent = { λ s. s.lent };
 
     fn open_in(&mut self, name: &Name) -> Opened<MemoryFeed>
-        ensures cause { OpeningCounted (failed_open result) (⟦<MemoryShelf as Shelf>⟧.counts self.old) (⟦<MemoryShelf as Shelf>⟧.counts self.new) name.now }
-        ensures told { WhereTold (⟦<MemoryShelf as Shelf>⟧.told self.old) (⟦<MemoryShelf as Shelf>⟧.told self.new) TellsSame }
+        ensures cause { OpeningCounted (failed_open result)
+            (⟦<MemoryShelf as Shelf>⟧.counts self.old) (⟦<MemoryShelf as Shelf>⟧.counts self.new)
+            name.now }
+        ensures told { WhereTold (⟦<MemoryShelf as Shelf>⟧.told self.old)
+            (⟦<MemoryShelf as Shelf>⟧.told self.new) TellsSame }
         ensures feed { IfOpened result (λ feed. ⟦<MemoryFeed as Feed>⟧.faults feed ≡ 0) }
-        ensures script { IfOpened result (λ feed. IfSome (⟦<MemoryShelf as Shelf>⟧.told self.old) (λ t. ⟦<MemoryFeed as Feed>⟧.script feed ≡ Some (t.script name.now))) }
+        ensures script { IfOpened result
+            (λ feed. IfSome (⟦<MemoryShelf as Shelf>⟧.told self.old)
+            (λ t. ⟦<MemoryFeed as Feed>⟧.script feed ≡ Some (t.script name.now))) }
         ensures opened { IfOpened result (λ _. ⟦<MemoryShelf as Shelf>⟧.opened self.new name.now) }
-        ensures keeps { KeepsNames (⟦<MemoryShelf as Shelf>⟧.opened self.old) (⟦<MemoryShelf as Shelf>⟧.opened self.new) }
-        ensures keeps_created { KeepsNames (⟦<MemoryShelf as Shelf>⟧.created self.old) (⟦<MemoryShelf as Shelf>⟧.created self.new) }
-        ensures lent { Lends (is_opened result) (⟦<MemoryShelf as Shelf>⟧.lent self.old) (⟦<MemoryShelf as Shelf>⟧.lent self.new) }
+        ensures keeps { KeepsNames (⟦<MemoryShelf as Shelf>⟧.opened self.old)
+            (⟦<MemoryShelf as Shelf>⟧.opened self.new) }
+        ensures keeps_created { KeepsNames (⟦<MemoryShelf as Shelf>⟧.created self.old)
+            (⟦<MemoryShelf as Shelf>⟧.created self.new) }
+        ensures lent { Lends (is_opened result) (⟦<MemoryShelf as Shelf>⟧.lent self.old)
+            (⟦<MemoryShelf as Shelf>⟧.lent self.new) }
 
         // Where it fails, and what the feed is given.
         ensures fails { FailsWhere (opening_fails self.old name.now) result }
-        ensures left { IfOpened result (λ feed. ⟦<MemoryFeed as Feed>⟧.left feed ≡ files_of self.old name.now) }
-        ensures reads { IfOpened result (λ feed. feed.calls.failing ≡ reads_to_fail self.old name.now) }
+        ensures left { IfOpened result
+            (λ feed. ⟦<MemoryFeed as Feed>⟧.left feed ≡ files_of self.old name.now) }
+        ensures reads { IfOpened result
+            (λ feed. feed.calls.failing ≡ reads_to_fail self.old name.now) }
         ensures unread { IfOpened result (λ feed. feed.calls.made ≡ 0) }
         ensures made { calls_made self.new ≡ calls_after result (calls_made self.old) }
         ensures numbers { SameNumbers self.old self.new }
@@ -182,18 +192,28 @@ impl Shelf for MemoryShelf {
     }
 
     fn create(&mut self, name: &Name) -> Opened<MemoryPour>
-        ensures cause { CreatingCounted (failed_open result) (⟦<MemoryShelf as Shelf>⟧.counts self.old) (⟦<MemoryShelf as Shelf>⟧.counts self.new) name.now }
-        ensures told { WhereTold (⟦<MemoryShelf as Shelf>⟧.told self.old) (⟦<MemoryShelf as Shelf>⟧.told self.new) (Created (is_opened result) name.now) }
+        ensures cause { CreatingCounted (failed_open result)
+            (⟦<MemoryShelf as Shelf>⟧.counts self.old) (⟦<MemoryShelf as Shelf>⟧.counts self.new)
+            name.now }
+        ensures told { WhereTold (⟦<MemoryShelf as Shelf>⟧.told self.old)
+            (⟦<MemoryShelf as Shelf>⟧.told self.new) (Created (is_opened result) name.now) }
         ensures pour { IfOpened result (λ pour. ⟦<MemoryPour as Pour>⟧.faults pour ≡ 0) }
-        ensures poured { IfOpened result (λ pour. IfSome (⟦<MemoryShelf as Shelf>⟧.told self.old) (λ t. ⟦<MemoryPour as Pour>⟧.poured pour ≡ Some [])) }
-        ensures created { IfOpened result (λ _. ⟦<MemoryShelf as Shelf>⟧.created self.new name.now) }
-        ensures keeps { KeepsNames (⟦<MemoryShelf as Shelf>⟧.opened self.old) (⟦<MemoryShelf as Shelf>⟧.opened self.new) }
-        ensures keeps_created { KeepsNames (⟦<MemoryShelf as Shelf>⟧.created self.old) (⟦<MemoryShelf as Shelf>⟧.created self.new) }
-        ensures lent { Lends (is_opened result) (⟦<MemoryShelf as Shelf>⟧.lent self.old) (⟦<MemoryShelf as Shelf>⟧.lent self.new) }
+        ensures poured { IfOpened result
+            (λ pour. IfSome (⟦<MemoryShelf as Shelf>⟧.told self.old)
+            (λ t. ⟦<MemoryPour as Pour>⟧.poured pour ≡ Some [])) }
+        ensures created { IfOpened result
+            (λ _. ⟦<MemoryShelf as Shelf>⟧.created self.new name.now) }
+        ensures keeps { KeepsNames (⟦<MemoryShelf as Shelf>⟧.opened self.old)
+            (⟦<MemoryShelf as Shelf>⟧.opened self.new) }
+        ensures keeps_created { KeepsNames (⟦<MemoryShelf as Shelf>⟧.created self.old)
+            (⟦<MemoryShelf as Shelf>⟧.created self.new) }
+        ensures lent { Lends (is_opened result) (⟦<MemoryShelf as Shelf>⟧.lent self.old)
+            (⟦<MemoryShelf as Shelf>⟧.lent self.new) }
 
         // Where it fails, and what the pour is given.
         ensures fails { FailsWhere (call_fails self.old) result }
-        ensures writes { IfOpened result (λ pour. pour.calls.failing ≡ writes_to_fail self.old name.now) }
+        ensures writes { IfOpened result
+            (λ pour. pour.calls.failing ≡ writes_to_fail self.old name.now) }
         ensures unwritten { IfOpened result (λ pour. pour.calls.made ≡ 0) }
         ensures made { calls_made self.new ≡ calls_after result (calls_made self.old) }
         ensures numbers { SameNumbers self.old self.new }
@@ -226,15 +246,23 @@ impl Shelf for MemoryShelf {
 
     fn finish(&mut self, name: &Name, out: MemoryPour) -> Result<(), Failed>
         requires { ⟦<MemoryShelf as Shelf>⟧.created self.old name.now }
-        ensures cause { WritingCounted (failed_read result) (⟦<MemoryShelf as Shelf>⟧.counts self.old) (⟦<MemoryShelf as Shelf>⟧.counts self.new) name.now }
+        ensures cause { WritingCounted (failed_read result)
+            (⟦<MemoryShelf as Shelf>⟧.counts self.old) (⟦<MemoryShelf as Shelf>⟧.counts self.new)
+            name.now }
         ensures fault { 0 < ⟦<MemoryPour as Pour>⟧.faults out → IsErr result }
-        ensures told { WhereTold (⟦<MemoryShelf as Shelf>⟧.told self.old) (⟦<MemoryShelf as Shelf>⟧.told self.new) (Finished (failed_read result) name.now (⟦<MemoryPour as Pour>⟧.poured out)) }
-        ensures keeps { KeepsNames (⟦<MemoryShelf as Shelf>⟧.opened self.old) (⟦<MemoryShelf as Shelf>⟧.opened self.new) }
-        ensures keeps_created { KeepsNames (⟦<MemoryShelf as Shelf>⟧.created self.old) (⟦<MemoryShelf as Shelf>⟧.created self.new) }
-        ensures lent { Returns (⟦<MemoryShelf as Shelf>⟧.lent self.old) (⟦<MemoryShelf as Shelf>⟧.lent self.new) }
+        ensures told { WhereTold (⟦<MemoryShelf as Shelf>⟧.told self.old)
+            (⟦<MemoryShelf as Shelf>⟧.told self.new)
+            (Finished (failed_read result) name.now (⟦<MemoryPour as Pour>⟧.poured out)) }
+        ensures keeps { KeepsNames (⟦<MemoryShelf as Shelf>⟧.opened self.old)
+            (⟦<MemoryShelf as Shelf>⟧.opened self.new) }
+        ensures keeps_created { KeepsNames (⟦<MemoryShelf as Shelf>⟧.created self.old)
+            (⟦<MemoryShelf as Shelf>⟧.created self.new) }
+        ensures lent { Returns (⟦<MemoryShelf as Shelf>⟧.lent self.old)
+            (⟦<MemoryShelf as Shelf>⟧.lent self.new) }
 
         // Where it fails, and what the name holds then too.
-        ensures fails { failed_read result ≡ (call_fails self.old || nat_lt 0 (⟦<MemoryPour as Pour>⟧.faults out)) }
+        ensures fails { failed_read result ≡
+            (call_fails self.old || nat_lt 0 (⟦<MemoryPour as Pour>⟧.faults out)) }
         ensures whole { files_of self.new name.now ≡ ⟦<MemoryPour as Pour>⟧.poured out }
         ensures made { calls_made self.new ≡ one_more (calls_made self.old) }
         ensures numbers { SameNumbers self.old self.new }

@@ -45,7 +45,8 @@ pub trait Feed {
     fn read(&mut self, into: &mut [u8]) -> Result<usize, Failed>
         requires { 0 < length into.old }
         ensures bound { ReadsAtMost result into.new }
-        ensures piece { length into.old ≡ 8192 → PieceGiven (script self.old) (script self.new) result into.new }
+        ensures piece { length into.old ≡ 8192
+            → PieceGiven (script self.old) (script self.new) result into.new }
         ensures taken { LeftTaken (left self.old) (left self.new) result into.new }
         ensures cause { Counted (failed_read result) (faults self.old) (faults self.new) }
         ensures counted { faults self.new < 2 ^ 64 };
@@ -93,10 +94,13 @@ pub trait Shelf {
 
     /// A feed of what the name holds. It fails where the name can't be opened.
     fn open_in(&mut self, name: &Name) -> Opened<Self::Reader>
-        ensures cause { OpeningCounted (failed_open result) (counts self.old) (counts self.new) name.now }
+        ensures cause { OpeningCounted (failed_open result) (counts self.old) (counts self.new)
+            name.now }
         ensures told { WhereTold (told self.old) (told self.new) TellsSame }
         ensures feed { IfOpened result (λ feed. Self.Reader.faults feed ≡ 0) }
-        ensures script { IfOpened result (λ feed. IfSome (told self.old) (λ t. Self.Reader.script feed ≡ Some (t.script name.now))) }
+        ensures script { IfOpened result
+            (λ feed. IfSome (told self.old)
+            (λ t. Self.Reader.script feed ≡ Some (t.script name.now))) }
         ensures opened { IfOpened result (λ _. opened self.new name.now) }
         ensures keeps { KeepsNames (opened self.old) (opened self.new) }
         ensures keeps_created { KeepsNames (created self.old) (created self.new) }
@@ -105,10 +109,13 @@ pub trait Shelf {
     /// Makes the name empty, and gives a pour into it. It fails where the name can't be created,
     /// and the name then holds what it held.
     fn create(&mut self, name: &Name) -> Opened<Self::Writer>
-        ensures cause { CreatingCounted (failed_open result) (counts self.old) (counts self.new) name.now }
-        ensures told { WhereTold (told self.old) (told self.new) (Created (is_opened result) name.now) }
+        ensures cause { CreatingCounted (failed_open result) (counts self.old) (counts self.new)
+            name.now }
+        ensures told { WhereTold (told self.old) (told self.new)
+            (Created (is_opened result) name.now) }
         ensures pour { IfOpened result (λ pour. Self.Writer.faults pour ≡ 0) }
-        ensures poured { IfOpened result (λ pour. IfSome (told self.old) (λ t. Self.Writer.poured pour ≡ Some [])) }
+        ensures poured { IfOpened result
+            (λ pour. IfSome (told self.old) (λ t. Self.Writer.poured pour ≡ Some [])) }
         ensures created { IfOpened result (λ _. created self.new name.now) }
         ensures keeps { KeepsNames (opened self.old) (opened self.new) }
         ensures keeps_created { KeepsNames (created self.old) (created self.new) }
@@ -117,7 +124,8 @@ pub trait Shelf {
     /// Takes a feed of this name back. A feed that has failed counts as one fault of reading.
     fn close_in(&mut self, name: &Name, feed: Self::Reader)
         requires { opened self.old name.now }
-        ensures cause { ReadingCounted (nat_lt 0 (Self.Reader.faults feed)) (counts self.old) (counts self.new) name.now }
+        ensures cause { ReadingCounted (nat_lt 0 (Self.Reader.faults feed)) (counts self.old)
+            (counts self.new) name.now }
         ensures told { WhereTold (told self.old) (told self.new) TellsSame }
         ensures keeps { KeepsNames (opened self.old) (opened self.new) }
         ensures keeps_created { KeepsNames (created self.old) (created self.new) }
@@ -128,9 +136,11 @@ pub trait Shelf {
     /// what was poured.
     fn finish(&mut self, name: &Name, out: Self::Writer) -> Result<(), Failed>
         requires { created self.old name.now }
-        ensures cause { WritingCounted (failed_read result) (counts self.old) (counts self.new) name.now }
+        ensures cause { WritingCounted (failed_read result) (counts self.old) (counts self.new)
+            name.now }
         ensures fault { 0 < Self.Writer.faults out → IsErr result }
-        ensures told { WhereTold (told self.old) (told self.new) (Finished (failed_read result) name.now (Self.Writer.poured out)) }
+        ensures told { WhereTold (told self.old) (told self.new)
+            (Finished (failed_read result) name.now (Self.Writer.poured out)) }
         ensures keeps { KeepsNames (opened self.old) (opened self.new) }
         ensures keeps_created { KeepsNames (created self.old) (created self.new) }
         ensures lent { Returns (lent self.old) (lent self.new) };

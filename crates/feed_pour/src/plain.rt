@@ -51,11 +51,14 @@ impl Feed for PlainFeed {
     fn read(&mut self, into: &mut [u8]) -> Result<usize, Failed>
         requires { 0 < length into.old }
         ensures bound { ReadsAtMost result into.new }
-        ensures piece { PieceGiven (⟦<PlainFeed as Feed>⟧.script self.old) (⟦<PlainFeed as Feed>⟧.script self.new) result into.new }
-        ensures taken { LeftTaken (⟦<PlainFeed as Feed>⟧.left self.old) (⟦<PlainFeed as Feed>⟧.left self.new) result into.new }
+        ensures piece { PieceGiven (⟦<PlainFeed as Feed>⟧.script self.old)
+            (⟦<PlainFeed as Feed>⟧.script self.new) result into.new }
+        ensures taken { LeftTaken (⟦<PlainFeed as Feed>⟧.left self.old)
+            (⟦<PlainFeed as Feed>⟧.left self.new) result into.new }
 
         // As many bytes as fit, with no fault.
-        ensures fits { IfSome (⟦<PlainFeed as Feed>⟧.left self.old) (λ left. result ≡ Ok (min (length into.old) (length left))) }
+        ensures fits { IfSome (⟦<PlainFeed as Feed>⟧.left self.old)
+            (λ left. result ≡ Ok (min (length into.old) (length left))) }
     {
         let n = place(self.bytes.as_slice(), self.at, into);
         self.at += n;
@@ -95,11 +98,13 @@ impl Pour for PlainPour {
     fn write(&mut self, from: &[u8]) -> Result<usize, PourAnswer>
         requires { 0 < length from.now }
         ensures some { IfOk result (λ n. (0 < n) × (n ≤ length from.now)) }
-        ensures poured { Poured (⟦<PlainPour as Pour>⟧.poured self.old) (⟦<PlainPour as Pour>⟧.poured self.new) result from.now }
+        ensures poured { Poured (⟦<PlainPour as Pour>⟧.poured self.old)
+            (⟦<PlainPour as Pour>⟧.poured self.new) result from.now }
         ensures cause { Counted (failed_write result) 0 0 }
 
         // All of the bytes, or none.
-        ensures whole { PouredWhole (⟦<PlainPour as Pour>⟧.poured self.old) (⟦<PlainPour as Pour>⟧.poured self.new) result from.now }
+        ensures whole { PouredWhole (⟦<PlainPour as Pour>⟧.poured self.old)
+            (⟦<PlainPour as Pour>⟧.poured self.new) result from.now }
     {
         match self.poured.extend_from_slice(from) {
             Ok(()) => Ok(from.len()),
@@ -134,9 +139,12 @@ impl PlainShelf {
 
     /// Lets a name hold these bytes.
     pub fn put_file(&mut self, name: &Name, bytes: Bytes) -> Result<(), NoMemory>
-        ensures ok { OnOk result (Puts (plain_files self.old) (plain_files self.new) name.now bytes) }
-        ensures err { OnErr result ((n : List ℕ) → plain_files self.new n ≡ plain_files self.old n) }
-        ensures lent { ⟦<PlainShelf as Shelf>⟧.lent self.new ≡ ⟦<PlainShelf as Shelf>⟧.lent self.old }
+        ensures ok { OnOk result
+            (Puts (plain_files self.old) (plain_files self.new) name.now bytes) }
+        ensures err { OnErr result
+            ((n : List ℕ) → plain_files self.new n ≡ plain_files self.old n) }
+        ensures lent { ⟦<PlainShelf as Shelf>⟧.lent self.new ≡ ⟦<PlainShelf as Shelf>⟧.lent
+            self.old }
     {
         Ok(put(self.alloc, &mut self.files, name, bytes)?)
     }
@@ -179,17 +187,27 @@ impl Shelf for PlainShelf {
     ghost lent = { λ s. s.lent };
 
     fn open_in(&mut self, name: &Name) -> Opened<PlainFeed>
-        ensures cause { OpeningCounted (failed_open result) (⟦<PlainShelf as Shelf>⟧.counts self.old) (⟦<PlainShelf as Shelf>⟧.counts self.new) name.now }
-        ensures told { WhereTold (⟦<PlainShelf as Shelf>⟧.told self.old) (⟦<PlainShelf as Shelf>⟧.told self.new) TellsSame }
+        ensures cause { OpeningCounted (failed_open result)
+            (⟦<PlainShelf as Shelf>⟧.counts self.old) (⟦<PlainShelf as Shelf>⟧.counts self.new)
+            name.now }
+        ensures told { WhereTold (⟦<PlainShelf as Shelf>⟧.told self.old)
+            (⟦<PlainShelf as Shelf>⟧.told self.new) TellsSame }
         ensures feed { IfOpened result (λ feed. ⟦<PlainFeed as Feed>⟧.faults feed ≡ 0) }
-        ensures script { IfOpened result (λ feed. IfSome (⟦<PlainShelf as Shelf>⟧.told self.old) (λ t. ⟦<PlainFeed as Feed>⟧.script feed ≡ Some (t.script name.now))) }
+        ensures script { IfOpened result
+            (λ feed. IfSome (⟦<PlainShelf as Shelf>⟧.told self.old)
+            (λ t. ⟦<PlainFeed as Feed>⟧.script feed ≡ Some (t.script name.now))) }
         ensures opened { IfOpened result (λ _. ⟦<PlainShelf as Shelf>⟧.opened self.new name.now) }
-        ensures keeps { KeepsNames (⟦<PlainShelf as Shelf>⟧.opened self.old) (⟦<PlainShelf as Shelf>⟧.opened self.new) }
-        ensures keeps_created { KeepsNames (⟦<PlainShelf as Shelf>⟧.created self.old) (⟦<PlainShelf as Shelf>⟧.created self.new) }
-        ensures lent { Lends (is_opened result) (⟦<PlainShelf as Shelf>⟧.lent self.old) (⟦<PlainShelf as Shelf>⟧.lent self.new) }
+        ensures keeps { KeepsNames (⟦<PlainShelf as Shelf>⟧.opened self.old)
+            (⟦<PlainShelf as Shelf>⟧.opened self.new) }
+        ensures keeps_created { KeepsNames (⟦<PlainShelf as Shelf>⟧.created self.old)
+            (⟦<PlainShelf as Shelf>⟧.created self.new) }
+        ensures lent { Lends (is_opened result) (⟦<PlainShelf as Shelf>⟧.lent self.old)
+            (⟦<PlainShelf as Shelf>⟧.lent self.new) }
 
         // A name that isn't there reads as an empty file.
-        ensures left { IfOpened result (λ feed. ⟦<PlainFeed as Feed>⟧.left feed ≡ Some (or_empty (plain_files self.old name.now))) }
+        ensures left { IfOpened result
+            (λ feed. ⟦<PlainFeed as Feed>⟧.left feed ≡ Some
+            (or_empty (plain_files self.old name.now))) }
         ensures files { (n : List ℕ) → plain_files self.new n ≡ plain_files self.old n }
     {
         match copy_under(self.alloc, self.files.as_slice(), name) {

@@ -48,7 +48,8 @@ pub fn know(alloc: Global, table: &mut Vec<Entry<Tallies>>, name: &Name) -> Resu
 /// Counts a fault of opening under a name that has an entry.
 pub fn raise_opening(alloc: Global, table: &mut Vec<Entry<Tallies>>, name: &Name)
     requires { knows table.old.items name.now }
-    ensures cause { OpeningCounted true (counts_in table.old.items) (counts_in table.new.items) name.now }
+    ensures cause { OpeningCounted true (counts_in table.old.items) (counts_in table.new.items)
+        name.now }
     ensures keeps { KeepsNames (knows table.old.items) (knows table.new.items) }
 {
     let mut now = tallies_of(table.as_slice(), name);
@@ -59,7 +60,8 @@ pub fn raise_opening(alloc: Global, table: &mut Vec<Entry<Tallies>>, name: &Name
 /// Counts a fault of creating under a name that has an entry.
 pub fn raise_creating(alloc: Global, table: &mut Vec<Entry<Tallies>>, name: &Name)
     requires { knows table.old.items name.now }
-    ensures cause { CreatingCounted true (counts_in table.old.items) (counts_in table.new.items) name.now }
+    ensures cause { CreatingCounted true (counts_in table.old.items) (counts_in table.new.items)
+        name.now }
     ensures keeps { KeepsNames (knows table.old.items) (knows table.new.items) }
 {
     let mut now = tallies_of(table.as_slice(), name);
@@ -70,7 +72,8 @@ pub fn raise_creating(alloc: Global, table: &mut Vec<Entry<Tallies>>, name: &Nam
 /// Counts a fault of reading under a name that has an entry.
 pub fn raise_reading(alloc: Global, table: &mut Vec<Entry<Tallies>>, name: &Name)
     requires { knows table.old.items name.now }
-    ensures cause { ReadingCounted true (counts_in table.old.items) (counts_in table.new.items) name.now }
+    ensures cause { ReadingCounted true (counts_in table.old.items) (counts_in table.new.items)
+        name.now }
     ensures keeps { KeepsNames (knows table.old.items) (knows table.new.items) }
 {
     let mut now = tallies_of(table.as_slice(), name);
@@ -81,7 +84,8 @@ pub fn raise_reading(alloc: Global, table: &mut Vec<Entry<Tallies>>, name: &Name
 /// Counts a fault of writing under a name that has an entry.
 pub fn raise_writing(alloc: Global, table: &mut Vec<Entry<Tallies>>, name: &Name)
     requires { knows table.old.items name.now }
-    ensures cause { WritingCounted true (counts_in table.old.items) (counts_in table.new.items) name.now }
+    ensures cause { WritingCounted true (counts_in table.old.items) (counts_in table.new.items)
+        name.now }
     ensures keeps { KeepsNames (knows table.old.items) (knows table.new.items) }
 {
     let mut now = tallies_of(table.as_slice(), name);

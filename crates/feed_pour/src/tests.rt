@@ -171,6 +171,21 @@ fn files_are_written_and_read(rt: HostRuntime) -> Result<(), Fail> {
     Ok(())
 }
 
+// The system's device that takes no byte: a few bytes wait in the buffer until the pour is finished,
+// and more than it holds are written before.
+#[test]
+fn a_full_device_fails(rt: HostRuntime) -> Result<(), Fail> {
+    let alloc = rt.alloc();
+    let name = bytes(alloc, "/dev/full")?;
+    let mut shelf = FileShelf::new(rt.clone()?, alloc);
+    assert!(rt; !is_written(&mut shelf, &name, b"1\n"));
+    assert_eq!(rt; shelf.tallies(&name), counts(0, 0, 0, 1));
+    let more = rows(alloc)?;
+    assert!(rt; !is_written(&mut shelf, &name, more.as_slice()));
+    assert_eq!(rt; shelf.tallies(&name), counts(0, 0, 0, 2));
+    Ok(())
+}
+
 // 200,000 bytes, in rows of ten.
 fn rows(alloc: Global) -> Result<Vec<u8>, AllocError> {
     let mut rows = Vec::new(alloc);

@@ -32,9 +32,11 @@ fn prepare_source<H: Shelf>(
     condition: &Condition,
     source: &Name,
 ) -> Prepared
-    ensures made { IfSome (H.told shelf.old) (λ t. SourceOf result condition.now (t.script source.now)) }
+    ensures made { IfSome (H.told shelf.old)
+        (λ t. SourceOf result condition.now (t.script source.now)) }
     ensures told { WhereTold (H.told shelf.old) (H.told shelf.new) TellsSame }
-    ensures reads { IfSome (H.told shelf.old) (ReadsFailed (H.counts shelf.old) (H.counts shelf.new)) }
+    ensures reads { IfSome (H.told shelf.old)
+        (ReadsFailed (H.counts shelf.old) (H.counts shelf.new)) }
     ensures cause { SourceCounted result source.now (H.counts shelf.old) (H.counts shelf.new) }
     ensures lent { H.lent shelf.old < 2 ^ 64 - 1 → H.lent shelf.new ≡ H.lent shelf.old }
 {
@@ -53,9 +55,11 @@ fn prepare_source<H: Shelf>(
 /// Reads the program and its source, and filters the source's stream.
 pub fn prepare<H: Shelf>(alloc: Global, shelf: &mut H, program: &Name, source: &Name) -> Prepared
     requires { source.now ≡ codes "t.csv" }
-    ensures made { IfSome (H.told shelf.old) (PreparedOf result program.now (H.counts shelf.old) (H.counts shelf.new)) }
+    ensures made { IfSome (H.told shelf.old)
+        (PreparedOf result program.now (H.counts shelf.old) (H.counts shelf.new)) }
     ensures told { WhereTold (H.told shelf.old) (H.told shelf.new) TellsSame }
-    ensures reads { IfSome (H.told shelf.old) (ReadsFailed (H.counts shelf.old) (H.counts shelf.new)) }
+    ensures reads { IfSome (H.told shelf.old)
+        (ReadsFailed (H.counts shelf.old) (H.counts shelf.new)) }
     ensures cause { PrepareCounted result program.now (H.counts shelf.old) (H.counts shelf.new) }
     ensures lent { H.lent shelf.old < 2 ^ 64 - 1 → H.lent shelf.new ≡ H.lent shelf.old }
 {

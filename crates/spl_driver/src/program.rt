@@ -10,7 +10,8 @@ use stream_model::{Comparison, Condition};
 
 // What stands between the two fixed parts.
 fn middle(bytes: &[u8]) -> Option<&[u8]>
-    ensures { MatchOption result (middle_of (behind_front FRONT.now bytes.now) ≡ None) (λ m. middle_of (behind_front FRONT.now bytes.now) ≡ Some m.now) }
+    ensures { MatchOption result (middle_of (behind_front FRONT.now bytes.now) ≡ None)
+        (λ m. middle_of (behind_front FRONT.now bytes.now) ≡ Some m.now) }
 {
     match bytes.strip_prefix(FRONT) {
         None => None,

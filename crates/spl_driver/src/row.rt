@@ -49,7 +49,8 @@ fn add_field(row: &mut Vec<u8>, field: &[u8]) -> Result<(), NoMemory>
 
 // Adds a value's field.
 fn add_value(row: &mut Vec<u8>, value: &Value) -> Result<(), NoMemory>
-    ensures { OnOk result (row.new.items ≡ row.old.items ++ field_text default_writer (field_of value.now)) }
+    ensures { OnOk result (row.new.items ≡ row.old.items ++ field_text default_writer
+        (field_of value.now)) }
 {
     match value {
         Value::Int(n) => {

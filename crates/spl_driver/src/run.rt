@@ -79,8 +79,11 @@ fn ended_with(alloc: Global, sunk: Sunk) -> Ended
 
 /// Runs the program in the file of this name: reads it and its source, and writes its sink.
 pub fn run<H: Shelf>(alloc: Global, shelf: &mut H, program: &Name) -> Ended
-    ensures answered { WhereTold (H.told shelf.old) (H.told shelf.new) (Answered (Some (Request.Run program.now)) result (H.counts shelf.old) (H.counts shelf.new)) }
-    ensures shown { Shown result.cause (Some (Request.Run program.now)) (H.counts shelf.old) (H.counts shelf.new) }
+    ensures answered { WhereTold (H.told shelf.old) (H.told shelf.new)
+        (Answered (Some (Request.Run program.now)) result (H.counts shelf.old)
+        (H.counts shelf.new)) }
+    ensures shown { Shown result.cause (Some (Request.Run program.now)) (H.counts shelf.old)
+        (H.counts shelf.new) }
     ensures lists { result.arrivals.lists ≡ [] }
     ensures lent { H.lent shelf.old < 2 ^ 64 - 1 → H.lent shelf.new ≡ H.lent shelf.old }
 {

@@ -22,7 +22,8 @@ pub enum Sunk {
 
 // Pours a tuple's row. The buffer's bytes are lost.
 fn put_row<P: Pour>(row: &mut Vec<u8>, pour: &mut P, tuple: &Values) -> Result<(), PourAnswer>
-    ensures poured { AllPoured (P.poured pour.old) (P.poured pour.new) result (item_text (I.Tuple tuple.now)) }
+    ensures poured { AllPoured (P.poured pour.old) (P.poured pour.new) result
+        (item_text (I.Tuple tuple.now)) }
     ensures cause { Counted (failed_write result) (P.faults pour.old) (P.faults pour.new) }
 {
     row.clear();
@@ -53,7 +54,8 @@ fn write_rows<P: Pour>(alloc: Global, pour: &mut P, items: &[Item]) -> Result<u6
 
 /// Creates the file of this name, writes the rows of a stream's tuples, and finishes it.
 pub fn write_sink<H: Shelf>(alloc: Global, shelf: &mut H, name: &Name, items: &[Item]) -> Sunk
-    ensures told { WhereTold (H.told shelf.old) (H.told shelf.new) (SunkAs result name.now (text_of items.now)) }
+    ensures told { WhereTold (H.told shelf.old) (H.told shelf.new)
+        (SunkAs result name.now (text_of items.now)) }
     ensures count { SunkCount result items.now }
     ensures cause { SinkCounted result (H.counts shelf.old) (H.counts shelf.new) name.now }
     ensures lent { H.lent shelf.old < 2 ^ 64 - 1 → H.lent shelf.new ≡ H.lent shelf.old }

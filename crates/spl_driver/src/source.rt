@@ -76,7 +76,8 @@ fn number_rows(alloc: Global, bytes: &[u8]) -> Result<Option<Items<Item>>, NoMem
 pub fn number_stream(alloc: Global, bytes: &[u8]) -> Result<Option<Items<Item>>, NoMemory>
     requires { length bytes.now ≤ 2 ^ 40 }
     ensures form { IfOk result (λ stream. is_some stream ≡ is_number_file bytes.now) }
-    ensures stream { IfOk result (λ stream. IfSome stream (λ items. items ≡ rows price_setting bytes.now End)) }
+    ensures stream { IfOk result
+        (λ stream. IfSome stream (λ items. items ≡ rows price_setting bytes.now End)) }
 {
     number_rows(alloc, bytes)
 }

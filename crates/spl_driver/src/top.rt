@@ -15,9 +15,12 @@ use std::thread::Threads;
 
 // Does what the words ask.
 fn answer<H: Shelf>(alloc: Global, words: &[String], shelf: &mut H) -> Ended
-    ensures answered { WhereTold (H.told shelf.old) (H.told shelf.new) (Answered (request_of words.now) result (H.counts shelf.old) (H.counts shelf.new)) }
-    ensures shown { Shown result.cause (request_of words.now) (H.counts shelf.old) (H.counts shelf.new) }
-    ensures words { request_of words.now ≡ None → Untouched result.cause (H.counts shelf.old) (H.counts shelf.new) }
+    ensures answered { WhereTold (H.told shelf.old) (H.told shelf.new)
+        (Answered (request_of words.now) result (H.counts shelf.old) (H.counts shelf.new)) }
+    ensures shown { Shown result.cause (request_of words.now) (H.counts shelf.old)
+        (H.counts shelf.new) }
+    ensures words { request_of words.now ≡ None
+        → Untouched result.cause (H.counts shelf.old) (H.counts shelf.new) }
     ensures lists { result.arrivals.lists ≡ [] }
     ensures lent { H.lent shelf.old < 2 ^ 64 - 1 → H.lent shelf.new ≡ H.lent shelf.old }
 {
@@ -43,7 +46,8 @@ fn text(cause: Cause) -> &'static [u8]
 // Tells the cause. A failed write of it changes nothing.
 fn say<P: Pour>(cause: Cause, out: &mut P) -> Cause
     ensures cause { (result ≡ cause) ⊎ (result ≡ Cause.NoMemory) }
-    ensures said { Said result (P.poured out.old) (P.poured out.new) (Rose (P.faults out.old) (P.faults out.new)) }
+    ensures said { Said result (P.poured out.old) (P.poured out.new)
+        (Rose (P.faults out.old) (P.faults out.new)) }
     ensures quiet { result ≡ Cause.Done → P.faults out.new ≡ P.faults out.old }
 {
     if cause == Cause::Done {
@@ -75,10 +79,14 @@ pub fn spl<W: Threads + Wait + Sync, H: Shelf, S: Starter, G: Gate, P: Pour>(
         (Answered (request_of words.now) result (H.counts shelf.old) (H.counts shelf.new)) }
 
     // What the counts alone show, also where the shelf tells nothing.
-    ensures shown { Shown result.cause (request_of words.now) (H.counts shelf.old) (H.counts shelf.new) }
-    ensures done { result.cause ≡ Cause.Done → NoCountChanged (H.counts shelf.old) (H.counts shelf.new) × (P.faults out.new ≡ P.faults out.old) }
+    ensures shown { Shown result.cause (request_of words.now) (H.counts shelf.old)
+        (H.counts shelf.new) }
+    ensures done { result.cause ≡ Cause.Done
+        → NoCountChanged (H.counts shelf.old) (H.counts shelf.new)
+        × (P.faults out.new ≡ P.faults out.old) }
 
-    ensures said { Said result.cause (P.poured out.old) (P.poured out.new) (Rose (P.faults out.old) (P.faults out.new)) }
+    ensures said { Said result.cause (P.poured out.old) (P.poured out.new)
+        (Rose (P.faults out.old) (P.faults out.new)) }
 
     // Every feed and every pour is given back.
     ensures lent { H.lent shelf.old < 2 ^ 64 - 1 → H.lent shelf.new ≡ H.lent shelf.old }
@@ -87,7 +95,8 @@ pub fn spl<W: Threads + Wait + Sync, H: Shelf, S: Starter, G: Gate, P: Pour>(
     ensures arrivals { result.arrivals.lists ≡ [] }
 
     // The words alone decide that there is no request.
-    ensures words { request_of words.now ≡ None → Untouched result.cause (H.counts shelf.old) (H.counts shelf.new) }
+    ensures words { request_of words.now ≡ None
+        → Untouched result.cause (H.counts shelf.old) (H.counts shelf.new) }
 
     // Where no device fails, what the request comes to is the answer, unless memory is wanting.
     ensures complete { IfSome (H.told shelf.old) (λ t. IsComplete (outcome (request_of words.now) t result.arrivals)

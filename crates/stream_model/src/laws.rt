@@ -56,7 +56,8 @@ pub fn chain_is_ordered()
         record { number = 0; kind = FileSource source; ins = []; outs = 0 ∷ [] }
         ∷ record { number = 1; kind = Filter condition; ins = (0 ∷ []) ∷ []; outs = 1 ∷ [] }
         ∷ record { number = 2; kind = FileSink file; ins = (1 ∷ []) ∷ []; outs = [] } ∷ []) }
-    ensures numbered { (source : Source) (condition : Option Condition) (file : List ℕ) → IsNumbered (path_graph source condition file) }
+    ensures numbered { (source : Source) (condition : Option Condition) (file : List ℕ)
+        → IsNumbered (path_graph source condition file) }
 {}
 
 /// The stream of a source is closed. Where there is no fault it is the rows of the file's lines.
