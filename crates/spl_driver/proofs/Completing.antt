@@ -10,7 +10,7 @@ use Rattle.spl_driver.specs.declared.request.Request.{Request}
 use Rattle.spl_driver.specs.declared.cause.Cause.{Cause}
 use Rattle.spl_driver.specs.declared.cause.Cause.TheVariants as C
 use Rattle.spl_driver.specs.declared.cause.Ended.{Ended}
-use Rattle.spl_driver.specs.Answer.{CreatedLast, Outcome, NotBuilt, Unreadable, Runs, AtSink, EachSink, HoldsText, HoldsPrefix, Begun, Stands, Answered, DeviceFailed, graph_in, outcome, IsOr, IsComplete, Untouched, Shown, sink_text}
+use Rattle.spl_driver.specs.Answer.{CreatedLast, Outcome, NotBuilt, Unreadable, Runs, AtSink, EachSink, HoldsText, HoldsPrefix, Begun, Stands, Answered, DeviceFailed, graph_in, outcome, IsComplete, sink_text}
 use Rattle.spl_driver.proofs.Standing.{same_begun}
 
 front_at : (m : Meaning) (old new : Told) (kind : Kind) (op : Operator) → AtSink (HoldsText m new) kind op → AtSink (HoldsPrefix m old new) kind op
@@ -58,14 +58,6 @@ answered_said (Some t) (Some u) request ended r status counts later e h = record
   created = device_said ended.cause r (CreatedLast request (graph_in request t) counts later t u) e h.created;
   reads = h.reads;
 }
-
-pub shown_said : (c r : Cause) (request : Option Request) (old new : PerName) → (r ≡ c) ⊎ (r ≡ C.NoMemory) → Shown c request old new → Shown r request old new
-shown_said c r request old new (inl e) h = subst (λ (x : Cause). Shown x request old new) (sym e) h
-shown_said c r request old new (inr e) h = subst (λ (x : Cause). Shown x request old new) (sym e) tt
-
-pub untouched_said : (c r : Cause) (old new : PerName) → (r ≡ c) ⊎ (r ≡ C.NoMemory) → Untouched c old new → Untouched r old new
-untouched_said c r old new (inl e) h = record { answer = subst (λ (x : Cause). IsOr C.NotBuilt x) (sym e) h.answer; counts = h.counts }
-untouched_said c r old new (inr e) h = record { answer = inr e; counts = h.counts }
 
 complete_at : (cause : Cause) (result : Outcome) (Failed : Type 0) (ended : Ended) (old new : Told) → Stands cause result ended old new → (cause ≡ C.Device → Failed) → IsComplete result Failed cause
 complete_at C.Done NotBuilt Failed ended old new (g, m, is, run) device = absurd (let e : NotBuilt ≡ Runs g m = is in cc)

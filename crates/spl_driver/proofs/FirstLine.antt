@@ -6,6 +6,7 @@ use Rattle.std.proofs.lemmas.List.{take_all, drop_all}
 use Rattle.std.specs.List.{prefix_len}
 use Rattle.stream_model.specs.Rows.{pieces, onto_first}
 use Rattle.stream_model.specs.Laws.{but_empty_last, lines}
+use Rattle.stream_model.specs.RowsLaws.{some_pieces}
 
 abbrev is_feed : ℕ → Bool
 is_feed b = b == 10
@@ -20,20 +21,6 @@ onto_lines b [] = refl
 onto_lines b ([] ∷ []) = refl
 onto_lines b ((c ∷ piece) ∷ []) = refl
 onto_lines b (piece ∷ next ∷ rest) = refl
-
-pub record Pieces (bytes : List ℕ) : Type 0 where
-  pub first : List ℕ
-  pub others : List (List ℕ)
-  pub are : pieces bytes ≡ first ∷ others
-
-pub some_pieces : (bytes : List ℕ) → Pieces bytes
-some_pieces [] = record { first = []; others = []; are = refl }
-some_pieces (b ∷ bytes) =
-    let p = some_pieces bytes in
-    elim (cases_Bool (b == 10)) [
-      | inl feed ↦ record { first = []; others = pieces bytes; are = rw feed refl }
-      | inr other ↦ record { first = b ∷ p.first; others = p.others; are = rw (other, p.are) refl }
-    ]
 
 feed_line : (bytes : List ℕ) → but_empty_last ([] ∷ pieces bytes) ≡ [] ∷ lines bytes
 feed_line bytes = let p = some_pieces bytes in rw p.are refl

@@ -9,11 +9,11 @@ use Rattle.spl_value.specs.declared.item.Item.{Item}
 use Rattle.spl_value.specs.declared.memory.NoMemory.{NoMemory}
 use Rattle.spl_value.specs.declared.types.IntKind.TheVariants.{I64}
 use Rattle.stream_model.specs.Rows.{pieces, onto_first, items_from, rows}
+use Rattle.stream_model.specs.RowsLaws.{some_pieces}
+use Rattle.stream_model.specs.Laws.{but_empty_last, lines}
 use Rattle.spl_driver.specs.Lines.{line_number, row_in_front, number_rows}
 use Rattle.spl_driver.specs.Source.{is_number_line, is_number_file, price_setting}
-use Rattle.spl_driver.proofs.FirstLine.{some_pieces}
 use Rattle.spl_driver.proofs.NumberLines.{has_number, piece_row}
-use Rattle.stream_model.specs.Laws.{but_empty_last, lines}
 
 -- the lines among these pieces are numbers
 abbrev are_numbers : List (List ℕ) → Bool

@@ -1,20 +1,13 @@
 -- The rows' text while a sink is written.
-use Rattle.std.proofs.Common.{◌≡◌, ℕ, ◌+◌, ◌<◌, ◌≤◌, List, [], ◌∷◌, ◌++◌, length, take, drop, get_or, refl, sym, ap, ◌∙◌, append_assoc, arith, Option, Some, None, Err, length-append}
-use Rattle.std.proofs.lemmas.List.{take_more, take-append-drop, take-append-le}
-use Rattle.std.proofs.lemmas.Grind.{flat_map-append}
+use Rattle.std.proofs.Common.{◌≡◌, ℕ, ◌+◌, ◌<◌, ◌≤◌, List, [], ◌∷◌, ◌++◌, length, take, drop, get_or, sym, ap, ◌∙◌, append_assoc, arith, Option, Some, None, Err, length-append}
+use Rattle.std.proofs.lemmas.List.{append-nil, take_more, take-append-drop, take-append-le}
 use Rattle.std.proofs.Math.Seq.{take-append-add}
 use Rattle.spl_value.specs.declared.item.Item.{Item}
 use Rattle.feed_pour.specs.declared.outside.PourAnswer.{PourAnswer}
 use Rattle.feed_pour.specs.Contents.{PouredSoFar, AllPoured}
 use Rattle.stream_model.specs.Rows.{item_text, text_of}
+use Rattle.stream_model.specs.PathLaws.{text_of-append}
 use Rattle.spl_driver.specs.Steps.{RowsPoured}
-
-pub text_of-append : (xs ys : List Item) → text_of (xs ++ ys) ≡ text_of xs ++ text_of ys
-text_of-append xs ys = flat_map-append item_text xs ys
-
-append-nil : (xs : List ℕ) → xs ++ [] ≡ xs
-append-nil [] = refl
-append-nil (x ∷ xs) = ap (λ (t : List ℕ). x ∷ t) (append-nil xs)
 
 -- the text of the rows before place i, of the row there, and of the rows behind it
 text_cut : (items : List Item) (i : ℕ) (x : Item) → i < length items → x ≡ get_or items i x

@@ -10,13 +10,13 @@ use Rattle.feed_pour.specs.Counts.{Counts, PerName, Rose}
 use Rattle.feed_pour.specs.Contents.{Told, WhereTold, TellsSame}
 use Rattle.stream_model.specs.declared.condition.Condition.{Condition}
 use Rattle.stream_model.specs.declared.record.Arrivals.{Arrivals}
-use Rattle.stream_model.specs.Stream.{came, is_closed}
-use Rattle.stream_model.specs.React.{Kind, Operator, Source, FileSource, Filter, FileSink}
+use Rattle.stream_model.specs.Stream.{is_closed}
+use Rattle.stream_model.specs.React.{Kind, Operator, FileSource, Filter, FileSink}
 use Rattle.stream_model.specs.Stages.{out}
-use Rattle.stream_model.specs.Meaning.{Graph, Meaning, Lists, Entries, meaning, setting_of}
+use Rattle.stream_model.specs.Meaning.{Graph, Meaning, meaning, setting_of}
 use Rattle.stream_model.specs.Rows.{item_text, text_of}
 use Rattle.stream_model.specs.RowsLaws.{rows_close}
-use Rattle.stream_model.specs.PathLaws.{passed, written, path_sink, path_graph, path_filtered, sink_out}
+use Rattle.stream_model.specs.PathLaws.{passed, written, path_sink, path_written}
 use Rattle.spl_driver.specs.Program.{graph_of, price_source}
 use Rattle.spl_driver.specs.Request.{creates, is_named, graph_or_none}
 use Rattle.spl_driver.specs.Answer.{CreateFailed, CreatedLast, ReadsFailed, Outcome, NotBuilt, Unreadable, Runs, outcome, rows_told, entries_in, graph_in, AtSink, EachSink, HoldsPrefix, SameFiles, Begun, Stands, CarriedOut, Answered, DeviceFailed, NoCountChanged, Shown, form_graph, sink_text, tuples_of, counts_of}
@@ -152,12 +152,6 @@ meaning_of c t arrivals = meaning (graph_of c) (rows_told (graph_of c) t) (entri
 source_closed : (t : Told) (c : Condition) → is_closed (rows_told (graph_of c) t 0) ≡ true
 source_closed t c = rows_close (setting_of 0 price_source) (t.script price_source.file).bytes (t.script price_source.file).ending
 
-path_written : (source : Source) (condition : Option Condition) (file : List ℕ) (rows : Lists) (entries : Entries)
-    → out (path_sink file) 0 ((meaning (path_graph source condition file) rows entries).events 2) ≡ written (passed condition (rows 0))
-path_written source condition file rows entries =
-    ap (λ items. out (path_sink file) 0 (map (came 0) items)) (path_filtered source condition file rows entries)
-    ∙ sink_out (path_sink file) file 1 (passed condition (rows 0)) refl refl refl
-
 sink_given : (t : Told) (c : Condition) (arrivals : Arrivals) (given : List Item) → given ≡ filter (keeps c) (rows_told (graph_of c) t 0)
     → is_closed (rows_told (graph_of c) t 0) ≡ true → out (path_sink (codes "o.csv")) 0 ((meaning_of c t arrivals).events 2) ≡ written given
 sink_given t c arrivals given is closed =
@@ -249,12 +243,7 @@ create_failed p g old mid new names same rose = (
 -- a failed create or write of the sink
 sink_failed : (p : List ℕ) (g : Graph) (old mid new : PerName) → creates (Some (Run p)) g ≡ SINK ∷ [] → NoCountChanged old mid
     → Rose (mid SINK).creating (new SINK).creating ⊎ Rose (mid SINK).writing (new SINK).writing → DeviceFailed (Some (Run p)) g old new
-sink_failed p g old mid new names same rose =
-    inr (
-      SINK,
-      ap (λ (ns : List (List ℕ)). is_named ns SINK) names,
-      subst (λ (c : Counts). Rose c.creating (new SINK).creating ⊎ Rose c.writing (new SINK).writing) (same SINK) rose,
-    )
+sink_failed p g old mid new names same rose = inr (create_failed p g old mid new names same rose)
 
 -- where a device failed behind the reading, it was the sink's
 failed_after : (r : Sunk) (p : List ℕ) (g : Graph) (ended : Ended) (old mid new : PerName) → creates (Some (Run p)) g ≡ SINK ∷ [] → NoCountChanged old mid

@@ -7,7 +7,7 @@ use Rattle.spl_value.specs.declared.item.Item.{Item}
 use Rattle.spl_value.specs.declared.item.Item.TheVariants as I
 use Rattle.stream_model.specs.declared.outs.Output.{Output}
 use Rattle.stream_model.specs.declared.condition.Condition.{Condition}
-use Rattle.stream_model.specs.Stream.{Event, came, any_closes}
+use Rattle.stream_model.specs.Stream.{Event, came}
 use Rattle.stream_model.specs.React.{Operator, Source, FileSource, Filter, FileSink, passes}
 use Rattle.stream_model.specs.Stages.{gives_all, on_port, out}
 use Rattle.stream_model.specs.Meaning.{Graph, Lists, Entries, meaning, text}
@@ -31,28 +31,6 @@ written (I.Tuple vs ∷ items) = I.Tuple vs ∷ written items
 written (I.Window ∷ items) = written items
 written (I.Final ∷ items) = []
 written (I.Bad f ∷ items) = []
-
--- behind a list with no item that closes
-pub passed-append : (condition : Option Condition) (first second : List Item) → any_closes first ≡ false
-    → passed condition (first ++ second) ≡ passed condition first ++ passed condition second
-passed-append condition [] second h = refl
-passed-append condition (I.Tuple vs ∷ first) second h = go (passes condition vs) (passed-append condition first second h)
-  where
-    go : (b : Bool) → passed condition (first ++ second) ≡ passed condition first ++ passed condition second
-        → cond b (I.Tuple vs ∷ passed condition (first ++ second)) (passed condition (first ++ second))
-        ≡ cond b (I.Tuple vs ∷ passed condition first) (passed condition first) ++ passed condition second
-    go true e = ap (λ xs. I.Tuple vs ∷ xs) e
-    go false e = e
-passed-append condition (I.Window ∷ first) second h = ap (λ xs. I.Window ∷ xs) (passed-append condition first second h)
-passed-append condition (I.Final ∷ first) second h = cc
-passed-append condition (I.Bad f ∷ first) second h = cc
-
-pub written-append : (first second : List Item) → any_closes first ≡ false → written (first ++ second) ≡ written first ++ written second
-written-append [] second h = refl
-written-append (I.Tuple vs ∷ first) second h = ap (λ xs. I.Tuple vs ∷ xs) (written-append first second h)
-written-append (I.Window ∷ first) second h = written-append first second h
-written-append (I.Final ∷ first) second h = cc
-written-append (I.Bad f ∷ first) second h = cc
 
 filter_from : (n s t : ℕ) (condition : Option Condition) (seen : List Event) (items : List Item)
     → on_port 0 (gives_all (stage_at (one_in n (Filter condition) s (t ∷ [])) seen false) (map (came 0) items)) ≡ passed condition items
@@ -92,11 +70,6 @@ pub sink_out : (op : Operator) (file : List ℕ) (s : ℕ) (items : List Item)
 sink_out op file s items k i o =
     ap (λ (one : Operator). out one 0 (map (came 0) items)) (one_in-parts op (FileSink file) s [] k i o)
     ∙ sink_from op.number s file [] items
-
--- the text that a sink writes for a stream
-pub sink_text : (op : Operator) (file : List ℕ) (s : ℕ) (items : List Item)
-    → op.kind ≡ FileSink file → op.ins ≡ (s ∷ []) ∷ [] → op.outs ≡ [] → text op (map (came 0) items) ≡ text_of (written items)
-sink_text op file s items k i o = ap text_of (sink_out op file s items k i o)
 
 -- the text of two lists of items is the first one's and then the second one's
 pub text_of-append : (first second : List Item) → text_of (first ++ second) ≡ text_of first ++ text_of second
@@ -139,9 +112,14 @@ pub path_filtered : (source : Source) (condition : Option Condition) (file : Lis
     → (meaning (path_graph source condition file) rows entries).streams 1 ≡ passed condition (rows 0)
 path_filtered source condition file rows entries = filter_out (path_filter condition) condition 0 1 (rows 0) refl refl refl
 
+-- the sink writes the rows that pass
+pub path_written : (source : Source) (condition : Option Condition) (file : List ℕ) (rows : Lists) (entries : Entries)
+    → out (path_sink file) 0 ((meaning (path_graph source condition file) rows entries).events 2) ≡ written (passed condition (rows 0))
+path_written source condition file rows entries =
+    ap (λ items. out (path_sink file) 0 (map (came 0) items)) (path_filtered source condition file rows entries)
+    ∙ sink_out (path_sink file) file 1 (passed condition (rows 0)) refl refl refl
+
 -- the text that the sink writes is that of the rows that pass
 pub path_text : (source : Source) (condition : Option Condition) (file : List ℕ) (rows : Lists) (entries : Entries)
     → text (path_sink file) ((meaning (path_graph source condition file) rows entries).events 2) ≡ text_of (written (passed condition (rows 0)))
-path_text source condition file rows entries =
-    ap (λ items. text (path_sink file) (map (came 0) items)) (path_filtered source condition file rows entries)
-    ∙ sink_text (path_sink file) file 1 (passed condition (rows 0)) refl refl refl
+path_text source condition file rows entries = ap text_of (path_written source condition file rows entries)

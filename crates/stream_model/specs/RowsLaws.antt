@@ -38,22 +38,24 @@ items_from-closed o ending line left bytes (next ∷ rest) =
     (items_from-closed o ending (line + 1) (left - (length bytes + 1)) next rest)
 
 -- there is always a piece
-abbrev IsSome : List (List ℕ) → Type 0
-IsSome all = (first : List ℕ) × (rest : List (List ℕ)) × (all ≡ first ∷ rest)
+pub record Pieces (all : List (List ℕ)) : Type 0 where
+  pub first : List ℕ
+  pub others : List (List ℕ)
+  pub are : all ≡ first ∷ others
 
-onto_first-some : (b : ℕ) (all : List (List ℕ)) → IsSome (onto_first b all)
-onto_first-some b [] = (b ∷ [], [], refl)
-onto_first-some b (piece ∷ more) = (b ∷ piece, more, refl)
+onto_first-pieces : (b : ℕ) (all : List (List ℕ)) → Pieces (onto_first b all)
+onto_first-pieces b [] = record { first = b ∷ []; others = []; are = refl }
+onto_first-pieces b (piece ∷ more) = record { first = b ∷ piece; others = more; are = refl }
 
-pieces-some : (bytes : List ℕ) → IsSome (pieces bytes)
-pieces-some [] = ([], [], refl)
-pieces-some (b ∷ bytes) = go (b == 10)
+pub some_pieces : (bytes : List ℕ) → Pieces (pieces bytes)
+some_pieces [] = record { first = []; others = []; are = refl }
+some_pieces (b ∷ bytes) = go (b == 10)
   where
-    go : (feed : Bool) → IsSome (cond feed ([] ∷ pieces bytes) (onto_first b (pieces bytes)))
-    go true = ([], pieces bytes, refl)
-    go false = onto_first-some b (pieces bytes)
+    go : (feed : Bool) → Pieces (cond feed ([] ∷ pieces bytes) (onto_first b (pieces bytes)))
+    go true = record { first = []; others = pieces bytes; are = refl }
+    go false = onto_first-pieces b (pieces bytes)
 
 pub rows_close : RowsClose
 rows_close o bytes ending =
-    let some = pieces-some bytes in
-    ap (λ (all : List (List ℕ)). is_closed (items_from o ending 1 o.limit all)) some.2 ∙ items_from-closed o ending 1 o.limit some.0 some.1
+    let p = some_pieces bytes in
+    ap (λ (all : List (List ℕ)). is_closed (items_from o ending 1 o.limit all)) p.are ∙ items_from-closed o ending 1 o.limit p.first p.others
