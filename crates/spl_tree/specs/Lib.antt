@@ -1,0 +1,11 @@
+pub mod Bytes
+pub mod Words
+pub mod Tokens
+pub mod Weights
+pub mod Laws
+pub mod TokenLaws
+pub mod WordLaws
+pub mod WeightLaws
+pub mod GapLaws
+pub mod FrontLaws
+pub mod CutLaws

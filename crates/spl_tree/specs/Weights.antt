@@ -1,0 +1,93 @@
+-- The weights of tokens: how many brackets and operators are open at each.
+use Rattle.std.specs.Prelude.{ℕ, ◌+◌, nat_lt, Bool, true, false, List, [], ◌∷◌, position, Option}
+use Rattle.spl_tree.specs.declared.token.Token.{Token}
+use Rattle.spl_tree.specs.declared.token.TokenKind.{TokenKind}
+use Rattle.spl_tree.specs.declared.token.TokenKind.TheVariants as T
+use Rattle.spl_tree.specs.declared.keyword.Keyword.{Keyword}
+use Rattle.spl_tree.specs.declared.keyword.Keyword.TheVariants as K
+use Rattle.spl_tree.specs.declared.symbol.Symbol.{Symbol}
+use Rattle.spl_tree.specs.declared.symbol.Symbol.TheVariants as S
+
+-- what a token does to the weight
+pub data Effect : Type 0 where
+  Nothing : Effect
+  Adds : Effect
+  Opens : Effect
+  Closes : (brace : Bool) → Effect
+  Separates : Effect
+
+abbrev pub symbol_effect : Symbol → Effect
+symbol_effect S.LeftParen = Opens
+symbol_effect S.LeftBracket = Opens
+symbol_effect S.LeftBrace = Opens
+symbol_effect S.RightParen = Closes false
+symbol_effect S.RightBracket = Closes false
+symbol_effect S.RightBrace = Closes true
+symbol_effect S.Comma = Separates
+symbol_effect S.Semicolon = Separates
+symbol_effect _ = Adds
+
+-- of the reserved words `in` alone adds, as the operator that it is
+abbrev pub keyword_effect : Keyword → Effect
+keyword_effect K.In = Adds
+keyword_effect _ = Nothing
+
+abbrev pub effect : TokenKind → Effect
+effect (T.Symbol s) = symbol_effect s
+effect (T.Keyword k) = keyword_effect k
+effect _ = Nothing
+
+abbrev pub adds : Effect → Bool
+adds Adds = true
+adds _ = false
+
+-- whether the token at the front adds to the weight
+abbrev pub next_adds : List Token → Bool
+next_adds [] = false
+next_adds (t ∷ ts) = adds (effect t.kind)
+
+-- the weight before each bracket that is open, the innermost first
+abbrev pub Opened : Type 0
+Opened = List ℕ
+
+-- the start of the level inside these brackets
+abbrev pub level_start : Opened → ℕ
+level_start [] = 0
+level_start (before ∷ outer) = before + 1
+
+-- a weight, and the brackets that are open there
+pub record Weighing : Type 0 where
+  pub weight : ℕ
+  pub opened : Opened
+
+-- a closing bracket without an opening one changes nothing; behind a closing brace that no token
+-- follows which adds, the weight is the start of the level that the brace stands in, and else it is
+-- what it was before the opening bracket
+abbrev pub after_closing : (brace next_adds : Bool) → Weighing → Opened → Weighing
+after_closing brace next_adds d [] = d
+after_closing true false d (before ∷ outer) = record { weight = level_start outer; opened = outer }
+after_closing _ _ d (before ∷ outer) = record { weight = before; opened = outer }
+
+abbrev pub after_token : Effect → (next_adds : Bool) → Weighing → Weighing
+after_token Nothing next_adds d = d
+after_token Adds next_adds d = record { weight = d.weight + 1; opened = d.opened }
+after_token Opens next_adds d = record { weight = d.weight + 1; opened = d.weight ∷ d.opened }
+after_token Separates next_adds d = record { weight = level_start d.opened; opened = d.opened }
+after_token (Closes brace) next_adds d = after_closing brace next_adds d d.opened
+
+-- the weight of each token, behind tokens that lead to a depth
+abbrev pub weights_from : Weighing → List Token → List ℕ
+weights_from d [] = []
+weights_from d (t ∷ ts) = let e = after_token (effect t.kind) (next_adds ts) d in e.weight ∷ weights_from e ts
+
+-- the weight of each token
+abbrev pub weights : List Token → List ℕ
+weights ts = weights_from (record { weight = 0; opened = [] }) ts
+
+-- the most that a token may weigh
+abbrev pub most_weight : ℕ
+most_weight = 200
+
+-- the first token that weighs more, by its place in the list, from 0
+abbrev pub too_deep_at : List Token → Option ℕ
+too_deep_at ts = position (λ w. nat_lt most_weight w) (weights ts)

@@ -1,0 +1,126 @@
+use crate::Number;
+use spl_value::{Boxed, Bytes, IntKind, Items, Name};
+
+/// Something, with the place of its first byte in the program.
+#[derive(Debug, PartialEq, Eq, Drop)]
+pub struct Placed<T> {
+    pub at: u32,
+    pub what: T,
+}
+
+/// An expression, at its first token.
+pub type Expr = Placed<ExprKind>;
+
+pub type Exprs = Items<Expr>;
+
+/// The entries of a map literal: key and value.
+pub type Entries = Items<(Expr, Expr)>;
+
+pub type Fields = Items<Field<Expr>>;
+
+pub type Prefixes = Items<Prefix>;
+
+pub type Steps = Items<Step<Expr>>;
+
+/// What an expression is.
+#[derive(Debug, PartialEq, Eq, Drop)]
+pub enum ExprKind {
+    Name(Name),
+    /// A `$` parameter of a composite. The name is without the `$`.
+    Dollar(Name),
+    Number(Number),
+    Text(Bytes),
+    Bool(bool),
+    /// An expression in parentheses.
+    Group(Boxed<Expr>),
+    List(Exprs),
+    Map(Entries),
+    Tuple(Fields),
+    /// A call of the function of that name, with its arguments.
+    Call(Name, Exprs),
+    /// A primary expression, and the members and elements that are taken of it in turn.
+    Select(Boxed<Expr>, Steps),
+    /// Prefix operators and casts, the outermost first, and their operand.
+    Unary(Prefixes, Boxed<Expr>),
+    Binary(BinaryOperator, Boxed<Expr>, Boxed<Expr>),
+    /// `condition ? first : second`.
+    Conditional(Boxed<Expr>, Boxed<Expr>, Boxed<Expr>),
+}
+
+/// A field of a tuple literal: its name, and the expression of its value.
+#[derive(Debug, PartialEq, Eq, Drop)]
+pub struct Field<E> {
+    pub name: Placed<Name>,
+    pub value: E,
+}
+
+/// A step behind a primary expression.
+#[derive(Debug, PartialEq, Eq, Drop)]
+pub enum Step<E> {
+    /// `.name`: the place is that of the name.
+    Member(Placed<Name>),
+    /// `[index]`
+    Index(E),
+}
+
+/// A prefix operator or a cast, at its first token.
+pub type Prefix = Placed<PrefixOperator>;
+
+#[derive(Clone, Copy, Debug, PartialEq, Eq)]
+pub enum PrefixOperator {
+    /// `!`
+    Not,
+    /// `-`
+    Negate,
+    /// `~`
+    Complement,
+    /// `(T)`
+    Cast(CastTarget),
+}
+
+/// A type that an expression can be cast to.
+#[derive(Clone, Copy, Debug, PartialEq, Eq)]
+pub enum CastTarget {
+    Int(IntKind),
+    /// `rstring`
+    Text,
+}
+
+/// An operator between two operands. Those that bind tighter come first.
+#[derive(Clone, Copy, Debug, PartialEq, Eq)]
+pub enum BinaryOperator {
+    /// `*`
+    Multiply,
+    /// `/`
+    Divide,
+    /// `%`
+    Remainder,
+    /// `+`
+    Add,
+    /// `-`
+    Subtract,
+    /// `<`
+    Less,
+    /// `<=`
+    LessOrEqual,
+    /// `>`
+    Greater,
+    /// `>=`
+    GreaterOrEqual,
+    /// `in`
+    In,
+    /// `==`
+    Equal,
+    /// `!=`
+    NotEqual,
+    /// `&`
+    BitAnd,
+    /// `^`
+    BitXor,
+    /// `|`
+    BitOr,
+    /// `&&`
+    And,
+    /// `||`
+    Or,
+}

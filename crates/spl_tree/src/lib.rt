@@ -1,0 +1,17 @@
+//! What the text of a program is: its tokens, and the trees that they spell.
+#![tactic(auto)]
+
+mod expression;
+mod keyword;
+mod laws;
+mod symbol;
+mod token;
+
+pub use expression::{
+    BinaryOperator, CastTarget, Entries, Expr, ExprKind, Exprs, Field, Fields, Placed, Prefix,
+    PrefixOperator, Prefixes, Step, Steps,
+};
+pub use keyword::{KEYWORDS, Keyword, LeftOut};
+pub use laws::{texts_law, tokens_law, tokens_on_literals, weights_law, weights_on_literals};
+pub use symbol::Symbol;
+pub use token::{LexicalError, MOST_BYTES, Number, Token, TokenKind, TokenList, Tokens};

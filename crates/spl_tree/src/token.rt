@@ -1,0 +1,59 @@
+use crate::{Keyword, Symbol};
+use spl_value::{Bytes, IntKind, Items, Name};
+
+/// The most bytes that a program has.
+pub const MOST_BYTES: u32 = 1_048_576;
+
+/// What a number literal says: its type, and its value, which is in the type's range.
+#[derive(Clone, Copy, Debug, PartialEq, Eq)]
+pub struct Number {
+    pub kind: IntKind,
+    pub value: u64,
+}
+
+/// What a token is.
+#[derive(Debug, PartialEq, Eq, Drop)]
+pub enum TokenKind {
+    /// A word that isn't reserved.
+    Word(Name),
+    /// `$` and a word, reserved or not: the bytes of the word.
+    Dollar(Name),
+    Number(Number),
+    /// A text literal: its bytes, each escape as the byte that it stands for.
+    Text(Bytes),
+    Keyword(Keyword),
+    Symbol(Symbol),
+}
+
+/// A token, with the place of its first byte and the place behind its last.
+#[derive(Debug, PartialEq, Eq, Drop)]
+pub struct Token {
+    pub kind: TokenKind,
+    pub start: u32,
+    pub end: u32,
+}
+
+/// Tokens in the order of their places.
+pub type TokenList = Items<Token>;
+
+/// The tokens of a program, and the number of its bytes, which is the place of its end.
+#[derive(Debug, PartialEq, Eq, Drop)]
+pub struct Tokens {
+    pub list: TokenList,
+    pub length: u32,
+}
+
+/// Why bytes are no tokens.
+#[derive(Clone, Copy, Debug, PartialEq, Eq)]
+pub enum LexicalError {
+    /// A byte begins no token, or a backslash begins no escape.
+    BadByte,
+    /// A text isn't closed on its line.
+    OpenText,
+    /// `/*` isn't closed.
+    OpenComment,
+    /// A number exceeds its type, or a letter, a digit or `_` stands right behind it.
+    BadNumber,
+    /// There are more bytes than a program may have.
+    TooLong,
+}
