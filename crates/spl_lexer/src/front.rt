@@ -1,0 +1,79 @@
+//! What stands at the front of bytes.
+ghost use Rattle.std.specs.Prelude.{◌≡◌, ◌<◌, ◌≤◌, ◌∷◌, length, true, IfOk};
+ghost use Rattle.spl_tree.specs.Tokens.{front};
+ghost use Rattle.spl_tree.specs.TokenLaws.{Fits};
+ghost use Rattle.spl_lexer.specs.Ahead.{front_of};
+
+use crate::bytes::{is_blank, is_digit, is_letter, is_quote, starts_with};
+use crate::lengths::{comment_length, line_length};
+use crate::numbers::number;
+use crate::symbols::symbol;
+use crate::texts::text;
+use crate::words::{dollar, word};
+use spl_tree::{LexicalError, TokenKind};
+use spl_value::NoMemory;
+use std::alloc::Global;
+
+/// What stands at the front of bytes, with lengths and places in bytes from the front on.
+#[derive(Debug, Drop)]
+pub(crate) enum Ahead {
+    /// A token of so many bytes.
+    Token(TokenKind, usize),
+    /// So many bytes that separate tokens.
+    Gap(usize),
+    /// Nothing that may stand there: why, and where.
+    Refused(LexicalError, usize),
+}
+
+/// What stands at the front of bytes, which aren't empty.
+#[tactic(auto, using(crate::proofs::Found::fits_found))]
+pub(crate) fn front(alloc: Global, bytes: &[u8]) -> Result<Ahead, NoMemory>
+    requires { 0 < length bytes.now }
+    ensures value { IfOk result (λ ahead. front_of ahead ≡ front bytes.now) }
+    ensures fits { IfOk result (λ ahead. Fits (length bytes.now) (front_of ahead)) }
+{
+    let ahead = by_first_byte(alloc, bytes)?;
+    Ok(ahead)
+}
+
+#[tactic(auto, using(crate::proofs::Found::blank_found, crate::proofs::Found::line_found, crate::proofs::Found::comment_found))]
+fn by_first_byte(alloc: Global, bytes: &[u8]) -> Result<Ahead, NoMemory>
+    requires { 0 < length bytes.now }
+    ensures { IfOk result (λ ahead. front_of ahead ≡ front bytes.now) }
+{
+    let b = bytes[0];
+    if is_blank(b) {
+        return Ok(Ahead::Gap(1));
+    }
+    if is_letter(b) {
+        return word(alloc, bytes);
+    }
+    if is_digit(b) {
+        return Ok(number(bytes));
+    }
+    let rest = &bytes[1..];
+    if b == b'$' {
+        return dollar(alloc, rest);
+    }
+    if is_quote(b) {
+        return text(alloc, b, rest);
+    }
+    if b == b'/' && starts_with(rest, b'/') {
+        return Ok(Ahead::Gap(line_length(&rest[1..]) + 2));
+    }
+    if b == b'/' && starts_with(rest, b'*') {
+        return Ok(comment(&rest[1..]));
+    }
+    Ok(symbol(bytes))
+}
+
+// Behind `/*`.
+#[tactic(auto, using(crate::proofs::Fronts::comment_is))]
+fn comment(bytes: &[u8]) -> Ahead
+    ensures { front_of result ≡ front (47 ∷ 42 ∷ bytes.now) }
+{
+    match comment_length(bytes) {
+        Some(n) => Ahead::Gap(n + 2),
+        None => Ahead::Refused(LexicalError::OpenComment, 0),
+    }
+}
