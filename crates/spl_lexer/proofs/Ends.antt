@@ -32,14 +32,12 @@ count_on : (i : ℕ) (o : Option ℕ) → option_map (λ n. n + i) (option_map s
 count_on i None = refl
 count_on i (Some n) = let e : suc n + i ≡ n + (i + 1) = omega arith in ap (λ (m : ℕ). Some m) e
 
+-- a count behind none
 pub none_before : (o : Option ℕ) → option_map (λ n. n + 0) o ≡ o
 none_before None = refl
 none_before (Some n) = let e : n + 0 ≡ n = omega arith in ap (λ (m : ℕ). Some m) e
 
 module _ (bs : List ℕ) (i : ℕ) (lt : i < length bs) where
-  b : ℕ
-  b = get_or bs i 0
-
   pub comment_on : (star : Bool) → (star && (get_or bs i 0 == 47)) ≡ false
       → option_map (λ n. n + i) (close_behind star (drop i bs)) ≡ option_map (λ n. n + (i + 1)) (close_behind (get_or bs i 0 == 42) (drop (i + 1) bs))
   comment_on star h = ap (option_map (λ n. n + i)) (at_drop_more (close_behind star) bs i 0 lt ∙ rw h refl) ∙ count_on i (close_behind (get_or bs i 0 == 42) (drop (i + 1) bs))

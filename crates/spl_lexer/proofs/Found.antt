@@ -1,7 +1,6 @@
 -- What the code finds at the front, in the terms of its calls.
-use Rattle.std.proofs.Common.{ℕ, ◌≡◌, ◌∙◌, ◌+◌, ◌-◌, suc, fold, Bool, cond, Result, refl, ◌<◌, ◌==◌, ◌&&◌, not, true, false, List, [], ◌∷◌, length, get_or, take, drop, Option, Some, None, sym, ap, subst, arith}
+use Rattle.std.proofs.Common.{ℕ, ◌≡◌, ◌∙◌, ◌+◌, ◌-◌, fold, Bool, cond, Result, ◌<◌, ◌==◌, ◌&&◌, not, true, false, List, [], ◌∷◌, length, get_or, take, drop, Option, Some, None, sym, ap, subst, arith}
 use Rattle.std.proofs.lemmas.Bool.{eqb-true}
-use Rattle.std.proofs.lemmas.Bool.Decides.{nat_tests}
 use Rattle.std.specs.List.{list_all, prefix_len}
 use Rattle.spl_value.specs.declared.types.IntKind.{IntKind}
 use Rattle.spl_value.specs.Decimal.{is_digit, digit_step}
@@ -12,6 +11,7 @@ use Rattle.spl_tree.specs.Words.{keyword_of}
 use Rattle.spl_tree.specs.Tokens.{Front, Take, Pass, Refuse, front, as_front, word_kind, number_kind, text_kind, unescaped}
 use Rattle.spl_tree.specs.declared.token.LexicalError.TheVariants as E
 use Rattle.spl_tree.specs.TokenLaws.{Fits, front_fits}
+use Rattle.spl_tree.specs.GapLaws.{take-prefix_len}
 use Rattle.spl_lexer.specs.Ahead.{suffix_ahead, text_length, text_ahead, symbol_ahead, double_of}
 use Rattle.spl_lexer.proofs.Fronts.{blank_front, line_front, word_front, number_front, text_front, symbol_front}
 
@@ -54,7 +54,7 @@ pub comment_found : (bs : List ℕ) (f : Front) → 0 < length bs → get_or bs 
     → f ≡ front (47 ∷ 42 ∷ drop 1 (drop 1 bs)) → f ≡ front bs
 comment_found bs f some h k e = e ∙ sym (ap front (two bs 47 42 some h k))
 
--- it fits in the bytes
+-- what stands at the front fits in the bytes
 pub fits_found : (bs : List ℕ) (f : Front) → 0 < length bs → f ≡ front bs → Fits (length bs) f
 fits_found bs f some e = subst (Fits (length bs)) (sym e) (front_fits bs some)
 
@@ -67,16 +67,8 @@ symbol_found [] some blank letter digit dollar quote line block = absurd (omega 
 symbol_found (b ∷ bs) some blank letter digit dollar quote line block = sym (symbol_front b bs blank letter digit dollar quote line block)
 
 -- the digits at the front
-prefix_len-all : (p : ℕ → Bool) (bs : List ℕ) → list_all p (take (prefix_len p bs) bs) ≡ true
-prefix_len-all p [] = refl
-prefix_len-all p (b ∷ bs) = by (p b) refl (prefix_len-all p bs)
-  where
-    by : (t : Bool) → p b ≡ t → list_all p (take (prefix_len p bs) bs) ≡ true → list_all p (take (cond t (1 + prefix_len p bs) 0) (b ∷ bs)) ≡ true
-    by true e h = let one : 1 + prefix_len p bs ≡ suc (prefix_len p bs) = omega arith in rw (one, e) h
-    by false e h = refl
-
 pub digits_found : (bs : List ℕ) (n : ℕ) → n ≡ prefix_len is_digit bs → list_all is_digit (take n bs) ≡ true
-digits_found bs n e = ap (λ m. list_all is_digit (take m bs)) e ∙ prefix_len-all is_digit bs
+digits_found bs n e = ap (λ m. list_all is_digit (take m bs)) e ∙ take-prefix_len is_digit bs
 
 -- what is found behind a number's digits and letters
 abbrev Number : List ℕ → Bool → ℕ → ℕ → IntKind → Front
@@ -106,14 +98,3 @@ open_found quote bs h e = ap (text_ahead bs) e ∙ sym (text_front quote bs h)
 pub text_found : (quote : ℕ) (bs : List ℕ) (n : ℕ) (read : Result (List ℕ) ℕ) → is_quote quote ≡ true → Some n ≡ text_length quote false bs
     → read ≡ unescaped 1 (take (n - 1) bs) → as_front (n + 1) (text_kind read) ≡ front (quote ∷ bs)
 text_found quote bs n read h e is = ap (λ r. as_front (n + 1) (text_kind r)) is ∙ ap (text_ahead bs) e ∙ sym (text_front quote bs h)
-
--- tests that fail
-pub not_equal : (a b : ℕ) → (a ≡ b → ⊥) → (a == b) ≡ false
-not_equal a b h = grind (arith, nat_tests)
-
-pub first_fails : (a b : Bool) → a ≡ false → (a && b) ≡ false
-first_fails a b h = rw h refl
-
-pub second_fails : (a b : Bool) → b ≡ false → (a && b) ≡ false
-second_fails true b h = h
-second_fails false b h = refl

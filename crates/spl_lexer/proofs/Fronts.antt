@@ -14,9 +14,9 @@ use Rattle.spl_tree.specs.declared.token.LexicalError.TheVariants as E
 use Rattle.spl_tree.specs.Bytes.{is_blank, is_letter, is_word_byte, is_quote, begins}
 use Rattle.spl_tree.specs.Words.{symbol_of, keyword_of}
 use Rattle.spl_tree.specs.Tokens.{Take, Pass, Refuse, front, as_front, is_formed, kind_of, longest_front, word_kind, number_kind, symbol_kind, digits, suffix, suffix_kind, comment_length, comment_front}
+use Rattle.spl_tree.specs.FrontLaws.{longest_front-is}
 use Rattle.spl_lexer.specs.Ahead.{text_length, suffix_ahead, text_ahead, symbol_ahead, single_ahead, double_of}
-use Rattle.spl_lexer.proofs.Longest.{longest_is, IsDense, dense, front_at, front_token, front_none}
-pub use Rattle.spl_lexer.proofs.Reach.{text_length_within}
+use Rattle.spl_lexer.proofs.Longest.{IsDense, dense, front_at, front_token, front_none}
 use Rattle.spl_lexer.proofs.Reach.{list_all-take, prefix_len-first, word_first, is_word-take, is_word-none, suffix-take, digits-take, IsLongest, suffix_ahead-longest, is_length, text_length_within, ends_text-take, between_quotes-take, symbol_beyond_two, symbol_beyond_one, double_of-some}
 
 -- Kinds of bytes
@@ -169,7 +169,7 @@ number_front bs h = number_taken end bs h some ends ∙ ap (λ k. if begins is_w
     beyond m more most = rw (suffix-take m bs) (whole.beyond (m - n) (omega arith) (omega (arith, within, length-drop n bs)))
 
     ends : longest_front (length bs) bs ≡ end
-    ends = longest_is bs end some (omega (arith, within, whole.within, length-drop n bs)) (number_formed end bs h some ∙ ap (λ k. is_some k) here)
+    ends = longest_front-is (length bs) end bs (omega (arith, within, whole.within, length-drop n bs)) (number_formed end bs h some ∙ ap (λ k. is_some k) here)
         (λ m more most. number_formed m bs h (omega arith) ∙ ap (λ k. is_some k) (beyond m more most))
 
     kind : kind_of (take end bs) ≡ number_kind (fold digit_step 0 (take n bs)) (Some s.0)

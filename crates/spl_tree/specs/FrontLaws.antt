@@ -99,7 +99,7 @@ front_stands (b ∷ bs) some =
 -- The other way round: a token is what the front says
 
 -- the longest front is the one that has the form of a token and that no longer one has
-longest_front-is : (n m : ℕ) (bs : List ℕ) → m ≤ n → is_formed (take m bs) ≡ true → ((j : ℕ) → m < j → j ≤ n → is_formed (take j bs) ≡ false)
+pub longest_front-is : (n m : ℕ) (bs : List ℕ) → m ≤ n → is_formed (take m bs) ≡ true → ((j : ℕ) → m < j → j ≤ n → is_formed (take j bs) ≡ false)
     → longest_front n bs ≡ m
 longest_front-is n m bs le formed more = elim (cases_order (longest_front n bs) m) [
   | inl same ↦ same

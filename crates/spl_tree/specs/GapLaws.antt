@@ -14,7 +14,7 @@ begins-is n (b ∷ bs) e = ap (λ c. c ∷ bs) (eqb-true b n e)
 -- The bytes at the front that pass a test
 
 -- all of them pass
-take-prefix_len : (p : ℕ → Bool) (bs : List ℕ) → list_all p (take (prefix_len p bs) bs) ≡ true
+pub take-prefix_len : (p : ℕ → Bool) (bs : List ℕ) → list_all p (take (prefix_len p bs) bs) ≡ true
 take-prefix_len p [] = refl
 take-prefix_len p (b ∷ bs) = by (p b) refl (take-prefix_len p bs)
   where
