@@ -36,7 +36,7 @@ pub(crate) fn front(alloc: Global, bytes: &[u8]) -> Result<Ahead, NoMemory>
     Ok(ahead)
 }
 
-#[tactic(auto, using(crate::proofs::Found::blank_found, crate::proofs::Found::line_found, crate::proofs::Found::comment_found))]
+#[tactic(auto, using(crate::proofs::Found::blank_found, crate::proofs::Found::comment_found))]
 fn by_first_byte(alloc: Global, bytes: &[u8]) -> Result<Ahead, NoMemory>
     requires { 0 < length bytes.now }
     ensures { IfOk result (λ ahead. front_of ahead ≡ front bytes.now) }

@@ -75,7 +75,7 @@ fn of_kind(kind: IntKind, digits: &[u8], end: usize) -> Ahead
 }
 
 /// The number at the front, which a digit begins.
-#[tactic(auto, using(crate::proofs::Found::digits_found, crate::proofs::Found::number_found, crate::proofs::Found::run_on_found))]
+#[tactic(auto, using(crate::proofs::Found::digits_found))]
 pub(crate) fn number(bytes: &[u8]) -> Ahead
     requires { begins is_digit bytes.now ≡ true }
     ensures { front_of result ≡ front bytes.now }

@@ -33,7 +33,7 @@ fn escape(b: u8) -> Option<u8>
 }
 
 // The bytes between the quotes of a text, which begin at place 1.
-#[tactic(auto, using(crate::proofs::Escapes::behind_none, crate::proofs::Escapes::plain_step, crate::proofs::Escapes::backslash_step, crate::proofs::Escapes::escape_step, crate::proofs::Escapes::bad_step, crate::proofs::Escapes::all_come, crate::proofs::Escapes::bad_end))]
+#[tactic(auto, using(crate::proofs::Escapes::behind_none, crate::proofs::Escapes::bad_step, crate::proofs::Escapes::all_come, crate::proofs::Escapes::bad_end))]
 fn unescape(alloc: Global, bytes: &[u8]) -> Result<Unescaped, NoMemory>
     ensures { IfOk result (λ found. unescaped_of found ≡ unescaped 1 bytes.now) }
 {
@@ -59,7 +59,7 @@ fn unescape(alloc: Global, bytes: &[u8]) -> Result<Unescaped, NoMemory>
 }
 
 /// The text behind this quote.
-#[tactic(auto, using(crate::proofs::Found::open_found, crate::proofs::Found::text_found))]
+#[tactic(auto, using(crate::proofs::Found::open_found))]
 pub(crate) fn text(alloc: Global, quote: u8, bytes: &[u8]) -> Result<Ahead, NoMemory>
     requires { is_quote quote ≡ true }
     ensures { IfOk result (λ ahead. front_of ahead ≡ front (quote ∷ bytes.now)) }

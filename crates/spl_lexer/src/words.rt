@@ -33,7 +33,7 @@ fn keyword_of(word: &[u8]) -> Option<Keyword>
 }
 
 /// The word at the front, which a letter begins.
-#[tactic(auto, using(crate::proofs::Found::keyword_found, crate::proofs::Found::name_found))]
+#[tactic(auto, using(crate::proofs::Found::name_found))]
 pub(crate) fn word(alloc: Global, bytes: &[u8]) -> Result<Ahead, NoMemory>
     requires { begins is_letter bytes.now ≡ true }
     ensures { IfOk result (λ ahead. front_of ahead ≡ front bytes.now) }
