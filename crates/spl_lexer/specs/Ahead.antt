@@ -59,15 +59,17 @@ abbrev pub text_ahead : List ℕ → Option ℕ → Front
 text_ahead bs None = Refuse E.OpenText 0
 text_ahead bs (Some n) = as_front (n + 1) (text_kind (unescaped 1 (take (n - 1) bs)))
 
--- a symbol of two bytes, or else one of one byte
+-- a symbol of one byte, or a byte that begins no token
 abbrev pub single_ahead : Option Symbol → Front
 single_ahead None = Refuse E.BadByte 0
 single_ahead (Some s) = Take (T.Symbol s) 1
 
+-- a symbol of two bytes, or else one of one byte
 abbrev pub symbol_ahead : List ℕ → Option Symbol → Front
 symbol_ahead bs None = single_ahead (symbol_of (take 1 bs))
 symbol_ahead bs (Some s) = Take (T.Symbol s) 2
 
+-- the symbol that the first two bytes are
 abbrev pub double_of : List ℕ → Option Symbol
 double_of [] = None
 double_of (b ∷ []) = None

@@ -60,7 +60,7 @@ Fits most (Take k n) = (0 < n) × (n ≤ most)
 Fits most (Pass n) = (0 < n) × (n ≤ most)
 Fits most (Refuse e i) = i ≤ most
 
--- bytes, or a refusal at a place that isn't past so many
+-- a token, or a refusal at a place that isn't past so many
 abbrev Within : ℕ → Result TokenKind Refusal → Type 0
 Within most r = IfErr r (λ refusal. refusal.1 ≤ most)
 

@@ -75,7 +75,7 @@ after_token Opens next_adds d = record { weight = d.weight + 1; opened = d.weigh
 after_token Separates next_adds d = record { weight = level_start d.opened; opened = d.opened }
 after_token (Closes brace) next_adds d = after_closing brace next_adds d d.opened
 
--- the weight of each token, behind tokens that lead to a depth
+-- the weight of each token, behind tokens that lead to a weight with its open brackets
 abbrev pub weights_from : Weighing → List Token → List ℕ
 weights_from d [] = []
 weights_from d (t ∷ ts) = let e = after_token (effect t.kind) (next_adds ts) d in e.weight ∷ weights_from e ts
