@@ -2,6 +2,8 @@ pub mod Bytes
 pub mod Words
 pub mod Tokens
 pub mod Weights
+pub mod Operators
+pub mod Grammar
 pub mod Laws
 pub mod TokenLaws
 pub mod WordLaws
