@@ -1,0 +1,5 @@
+pub mod Derive
+pub mod Front
+pub mod LineSteps
+pub mod Weighing
+pub mod Parsed

@@ -1,0 +1,5 @@
+use Rattle.expr_parser.specs.Expressions.{one_tree}
+use Rattle.expr_parser.proofs.laws.expressions_law.Goals as goal
+
+pub returns : goal.returns
+returns c = record { one = λ e f a d g. one_tree d g }

@@ -1,0 +1,14 @@
+-- What tests of the first token say.
+use Rattle.std.specs.Prelude.{◌≡◌, Bool, true, List, ◌∷◌}
+use Rattle.spl_tree.specs.declared.token.Token.{Token}
+
+-- the tokens are this one, which passes, and those behind it
+pub record Taken (p : Token → Bool) (ts : List Token) (t : Token) (rest : List Token) : Type 0 where
+  pub here : ts ≡ t ∷ rest
+  pub passes : p t ≡ true
+
+-- some token is taken that makes this of itself
+pub record TakenAs {A : Type 0} (p : Token → Bool) (made : Token → A) (ts : List Token) (x : A) (rest : List Token) : Type 0 where
+  pub token : Token
+  pub taken : Taken p ts token rest
+  pub is : x ≡ made token

@@ -1,0 +1,53 @@
+//! Expressions of a program.
+ghost use Rattle.std.specs.Prelude.{◌≡◌, ◌≤◌, length};
+ghost use Rattle.expr_parser.specs.Parses.{place_of, Parses};
+
+use crate::answer::{ParsedExpr, SyntaxAnswer};
+use crate::reading::expr;
+use crate::stop::Stop;
+use crate::weight::too_deep;
+use spl_tree::Tokens;
+use std::alloc::Global;
+
+/// How deep expressions may nest in one another: deeper than the weights of ordinary programs allow.
+/// The stack is memory.
+const MOST_NESTED: u32 = 256;
+
+/// The byte at which that token of the list begins, or the program's end where there is none.
+fn place(tokens: &Tokens, at: usize) -> u32
+    ensures { result ≡ place_of tokens.now at }
+{
+    match tokens.list.get(at) {
+        Some(token) => token.start,
+        None => tokens.length,
+    }
+}
+
+/// The expression that begins at the token `from` of the list, and the place in the list of the
+/// token behind it.
+///
+/// As many tokens are taken as can begin an expression. Where they are none themselves, the answer
+/// is `Unexpected`, at the token behind them or at the program's end. Before all, the answer is
+/// `TooDeep` where a token of the list weighs too much, at the first that does. `Memory` also
+/// stands for what nests too deep for the stack.
+pub fn parse_expr(alloc: Global, tokens: &Tokens, from: u32) -> Result<ParsedExpr, SyntaxAnswer>
+    requires few { length tokens.now.list ≤ 1048576 }
+    requires within { from ≤ length tokens.now.list }
+    ensures { Parses tokens.now from result }
+{
+    let list = tokens.list.as_slice();
+    if let Some(at) = too_deep(alloc, list)? {
+        return Err(SyntaxAnswer::TooDeep(place(tokens, at)));
+    }
+    match expr(alloc, MOST_NESTED, &list[from as usize..]) {
+        Ok((expr, _, rest)) => {
+            let next = (list.len() - rest.len()) as u32;
+            Ok(ParsedExpr { expr, next })
+        }
+        Err(Stop::At(rest)) => {
+            let at = place(tokens, list.len() - rest.len());
+            Err(SyntaxAnswer::Unexpected(at))
+        }
+        Err(Stop::Memory) => Err(SyntaxAnswer::Memory),
+    }
+}
