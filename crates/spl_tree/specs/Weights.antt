@@ -1,5 +1,6 @@
 -- The weights of tokens: how many brackets and operators are open at each.
-use Rattle.std.specs.Prelude.{ℕ, ◌+◌, nat_lt, Bool, true, false, List, [], ◌∷◌, position, Option}
+use Rattle.std.specs.Prelude.{ℕ, ◌+◌, nat_lt, Bool, true, false, List, [], ◌∷◌, drop, position, Option}
+use Rattle.std.specs.List.{position_from}
 use Rattle.spl_tree.specs.declared.token.Token.{Token}
 use Rattle.spl_tree.specs.declared.token.TokenKind.{TokenKind}
 use Rattle.spl_tree.specs.declared.token.TokenKind.TheVariants as T
@@ -91,3 +92,8 @@ most_weight = 200
 -- the first token that weighs more, by its place in the list, from 0
 abbrev pub too_deep_at : List Token → Option ℕ
 too_deep_at ts = position (λ w. nat_lt most_weight w) (weights ts)
+
+-- the first one from a place on that weighs more, by its place in the list, from 0; it is weighed with all tokens
+-- before it
+abbrev pub too_deep_from : ℕ → List Token → Option ℕ
+too_deep_from from ts = position_from (λ w. nat_lt most_weight w) from (drop from (weights ts))
