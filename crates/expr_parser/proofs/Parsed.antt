@@ -5,7 +5,7 @@ use Rattle.std.proofs.lemmas.List.{take_rest, drop-drop}
 use Rattle.spl_tree.specs.declared.token.Token.{Token}
 use Rattle.spl_tree.specs.declared.token.Tokens.{Tokens}
 use Rattle.spl_tree.specs.Grammar.{Expr, Spells}
-use Rattle.spl_tree.specs.Weights.{too_deep_at}
+use Rattle.spl_tree.specs.Weights.{too_deep_from}
 use Rattle.expr_parser.specs.Rules.{Took, Refused, Reads}
 use Rattle.expr_parser.specs.Lines.{Whole, rule}
 use Rattle.expr_parser.specs.Phrases.{IsPhrase, IsUnexpected}
@@ -40,7 +40,7 @@ module _ (tokens : Tokens) (from : ℕ) (list rest : List Token) (same : list �
     pub took_within : length rest ≤ length list
     took_within = let w = took_ends.within in omega (arith, ap length same)
 
-    pub parsed : too_deep_at tokens.list ≡ None → IsParsed tokens from (record { expr = e; next = length list - length rest })
+    pub parsed : too_deep_from from tokens.list ≡ None → IsParsed tokens from (record { expr = e; next = length list - length rest })
     parsed shallow =
         let n = ap length same in
         let w = took_ends.within in
@@ -61,7 +61,7 @@ module _ (tokens : Tokens) (from : ℕ) (list rest : List Token) (same : list �
     pub refused_within : length rest ≤ length list
     refused_within = let w = refused_ends.within in omega (arith, ap length same)
 
-    pub refused : (at : ℕ) → too_deep_at tokens.list ≡ None → at ≡ place_of tokens (length list - length rest) → IsUnexpectedAt tokens from at
+    pub refused : (at : ℕ) → too_deep_from from tokens.list ≡ None → at ≡ place_of tokens (length list - length rest) → IsUnexpectedAt tokens from at
     refused at shallow place =
         let n = ap length same in
         let w = refused_ends.within in

@@ -1,34 +1,94 @@
 -- One token more is weighed.
-use Rattle.std.proofs.Common.{◌≡◌, ◌∙◌, ℕ, ◌+◌, ◌-◌, ◌<◌, nat_lt, Bool, true, false, List, ◌∷◌, length, take, drop, get_or, Option, Some, cond, sym, ap}
+use Rattle.std.proofs.Common.{◌≡◌, ◌∙◌, ℕ, ◌+◌, ◌-◌, ◌<◌, ◌≤◌, nat_lt, Bool, true, false, List, [], ◌∷◌, length, take, drop, map, get_or, Some, None, cond, refl, sym, ap, arith, lt-ltb, le-ltb, ltb-true, ltb-false}
 use Rattle.std.specs.List.{position_from}
-use Rattle.std.proofs.lemmas.List.{take_rest, at_drop_more}
+use Rattle.std.proofs.lemmas.List.{take_rest, at_drop_more, at_drop_all, drop-drop}
 use Rattle.spl_tree.specs.declared.token.Token.{Token}
-use Rattle.spl_tree.specs.Weights.{Effect, effect, next_adds, Weighing, after_token, weights_from, most_weight}
+use Rattle.spl_tree.specs.Weights.{Effect, Nothing, Adds, Opens, Separates, Closes, effect, next_adds, Opened, level_start, Weighing, after_closing, after_token, weights_from, weights, most_weight}
+use Rattle.expr_parser.specs.declared.weight.Weighing as code
+use Rattle.expr_parser.specs.Weighed.{weighing_of, kept_weight, kept, kept_start, kept_closing, kept_after, Leads}
 
 -- a token of that weight is too deep
 abbrev pub too_heavy : ℕ → Bool
 too_heavy w = nat_lt most_weight w
 
--- the first token from a place on that is too deep, where the tokens before it lead to this
-abbrev pub heavy_from : ℕ → Weighing → List Token → Option ℕ
-heavy_from i d ts = position_from too_heavy i (weights_from d (drop i ts))
+-- what is kept of one more
+kept_more : (w : ℕ) → kept_weight (kept_weight w + 1) ≡ kept_weight (w + 1)
+kept_more w = omega arith
 
-module _ (ts : List Token) (i : ℕ) (t : Token) (lt : i < length ts) (is : t ≡ get_or ts i t) (d e : Weighing) (k : Effect) (adds : Bool)
-    (kind : k ≡ effect t.kind) (next : adds ≡ next_adds (take (length ts - (i + 1)) (drop (i + 1) ts))) (after : e ≡ after_token k adds d) where
-  weighs : heavy_from i d ts ≡ cond (too_heavy e.weight) (Some i) (heavy_from (i + 1) e ts)
-  weighs =
-      let rest = drop (i + 1) ts in
-      let more = next ∙ ap next_adds (take_rest ts (i + 1)) in
-      let same : e ≡ after_token (effect t.kind) (next_adds rest) d =
-      after ∙ ap (λ (k : Effect). after_token k adds d) kind ∙ ap (λ (b : Bool). after_token (effect t.kind) b d) more in
-      at_drop_more (λ us. position_from too_heavy i (weights_from d us)) ts i t lt
-      ∙ ap (λ (u : Token). position_from too_heavy i (weights_from d (u ∷ rest))) (sym is)
-      ∙ ap (λ (w : Weighing). cond (too_heavy w.weight) (Some i) (heavy_from (i + 1) w ts)) (sym same)
+-- what is kept is too deep where the weight is
+kept_heavy : (w : ℕ) → too_heavy (kept_weight w) ≡ too_heavy w
+kept_heavy w = by_heavy w (too_heavy w) refl where
+  by_heavy : (w : ℕ) (heavy : Bool) → too_heavy w ≡ heavy → too_heavy (kept_weight w) ≡ too_heavy w
+  by_heavy w true is = let over = ltb-true most_weight w is in lt-ltb most_weight (kept_weight w) (omega arith) ∙ sym is
+  by_heavy w false is = let under = ltb-false most_weight w is in le-ltb most_weight (kept_weight w) (omega arith) ∙ sym is
+
+start_kept : (o : Opened) → kept_start (map kept_weight o) ≡ kept_weight (level_start o)
+start_kept [] = refl
+start_kept (before ∷ outer) = kept_more before
+
+closing_kept : (brace next_adds : Bool) (d : Weighing) (o : Opened) → kept_closing brace next_adds (kept d) (map kept_weight o) ≡ kept (after_closing brace next_adds d o)
+closing_kept brace next_adds d [] = refl
+closing_kept true false d (before ∷ outer) = ap (λ w. record { weight = w; opened = map kept_weight outer }) (start_kept outer)
+closing_kept true true d (before ∷ outer) = refl
+closing_kept false next_adds d (before ∷ outer) = refl
+
+-- what is kept behind a token is kept of the weight there
+after_kept : (k : Effect) (next_adds : Bool) (d : Weighing) → kept_after k next_adds (kept d) ≡ kept (after_token k next_adds d)
+after_kept Nothing next_adds d = refl
+after_kept Adds next_adds d = ap (λ w. record { weight = w; opened = map kept_weight d.opened }) (kept_more d.weight)
+after_kept Opens next_adds d = ap (λ w. record { weight = w; opened = map kept_weight (d.weight ∷ d.opened) }) (kept_more d.weight)
+after_kept Separates next_adds d = ap (λ w. record { weight = w; opened = map kept_weight d.opened }) (start_kept d.opened)
+after_kept (Closes brace) next_adds d = closing_kept brace next_adds d d.opened
+
+module _ (ts : List Token) (i : ℕ) (t : Token) (lt : i < length ts) (is : t ≡ get_or ts i t) (w u : code.Weighing) (k : Effect) (adds : Bool)
+    (kind : k ≡ effect t.kind) (next : adds ≡ next_adds (take (length ts - (i + 1)) (drop (i + 1) ts)))
+    (after : weighing_of u ≡ kept_after k adds (weighing_of w)) (leads : Leads ts i w) where
+  abbrev behind : List Token
+  behind = drop (i + 1) ts
+
+  abbrev now : Weighing
+  now = after_token (effect t.kind) (next_adds behind) leads.weighing
+
+  now_kept : weighing_of u ≡ kept now
+  now_kept =
+      after ∙ ap (λ (k : Effect). kept_after k adds (weighing_of w)) kind
+      ∙ ap (λ (b : Bool). kept_after (effect t.kind) b (weighing_of w)) (next ∙ ap next_adds (take_rest ts (i + 1)))
+      ∙ ap (λ (d : Weighing). kept_after (effect t.kind) (next_adds behind) d) leads.is
+      ∙ after_kept (effect t.kind) (next_adds behind) leads.weighing
+
+  here : drop i (weights ts) ≡ now.weight ∷ weights_from now behind
+  here =
+      sym leads.on ∙ at_drop_more (λ us. weights_from leads.weighing us) ts i t lt
+      ∙ ap (λ (u : Token). weights_from leads.weighing (u ∷ behind)) (sym is)
+
+  later : drop (i + 1) (weights ts) ≡ weights_from now behind
+  later = sym (drop-drop 1 i (weights ts)) ∙ ap (drop 1) here
+
+  pub leads_on : Leads ts (i + 1) u
+  leads_on = record { weighing = now; is = now_kept; on = sym later }
+
+  same_heavy : too_heavy u.weight ≡ too_heavy now.weight
+  same_heavy = ap (λ (d : Weighing). too_heavy d.weight) now_kept ∙ kept_heavy now.weight
+
+  first : position_from too_heavy i (drop i (weights ts)) ≡ cond (too_heavy now.weight) (Some i) (position_from too_heavy (i + 1) (drop (i + 1) (weights ts)))
+  first =
+      ap (position_from too_heavy i) here
+      ∙ ap (λ ws. cond (too_heavy now.weight) (Some i) (position_from too_heavy (i + 1) ws)) (sym later)
 
   -- a token that isn't too deep
-  pub weighs_light : too_heavy e.weight ≡ false → heavy_from i d ts ≡ heavy_from (i + 1) e ts
-  weighs_light small = weighs ∙ ap (λ (b : Bool). cond b (Some i) (heavy_from (i + 1) e ts)) small
+  pub weighs_light : too_heavy u.weight ≡ false → position_from too_heavy i (drop i (weights ts)) ≡ position_from too_heavy (i + 1) (drop (i + 1) (weights ts))
+  weighs_light small =
+      first ∙ ap (λ (b : Bool). cond b (Some i) (position_from too_heavy (i + 1) (drop (i + 1) (weights ts)))) (sym same_heavy ∙ small)
 
   -- one that is
-  pub weighs_heavy : too_heavy e.weight ≡ true → heavy_from i d ts ≡ Some i
-  weighs_heavy large = weighs ∙ ap (λ (b : Bool). cond b (Some i) (heavy_from (i + 1) e ts)) large
+  pub weighs_heavy : too_heavy u.weight ≡ true → position_from too_heavy i (drop i (weights ts)) ≡ Some i
+  weighs_heavy large =
+      first ∙ ap (λ (b : Bool). cond b (Some i) (position_from too_heavy (i + 1) (drop (i + 1) (weights ts)))) (sym same_heavy ∙ large)
+
+-- where looking begins
+pub looks_from : (from i : ℕ) (ws : List ℕ) → from ≡ i → position_from too_heavy i (drop i ws) ≡ position_from too_heavy from (drop from ws)
+looks_from from i ws is = ap (λ n. position_from too_heavy n (drop n ws)) (sym is)
+
+-- and behind the last token there is none
+pub looks_behind : (ts : List Token) (i : ℕ) (w : code.Weighing) → Leads ts i w → length ts ≤ i → position_from too_heavy i (drop i (weights ts)) ≡ None
+looks_behind ts i w leads end = ap (position_from too_heavy i) (sym leads.on ∙ at_drop_all (λ us. weights_from leads.weighing us) ts i end)

@@ -4,7 +4,7 @@ use Rattle.std.specs.Option.{option_map, unwrap_or}
 use Rattle.spl_tree.specs.declared.token.Token.{Token}
 use Rattle.spl_tree.specs.declared.token.Tokens.{Tokens}
 use Rattle.spl_tree.specs.Grammar.{Expr, Spells}
-use Rattle.spl_tree.specs.Weights.{too_deep_at}
+use Rattle.spl_tree.specs.Weights.{too_deep_from}
 use Rattle.expr_parser.specs.declared.answer.ParsedExpr.{ParsedExpr}
 use Rattle.expr_parser.specs.declared.answer.SyntaxAnswer.{SyntaxAnswer}
 use Rattle.expr_parser.specs.declared.answer.SyntaxAnswer.TheVariants as A
@@ -14,34 +14,35 @@ use Rattle.expr_parser.specs.Phrases.{IsPhrase, IsUnexpected}
 abbrev pub place_of : Tokens → ℕ → ℕ
 place_of tokens i = unwrap_or (option_map (λ t. t.start) (slice_get tokens.list i)) tokens.length
 
--- no token is too deep, and the longest front of the tokens from there on that starts an expression is
--- one, which ends at the next token
+-- no token from there on is too deep, and the longest front of these tokens that starts an expression is one, and
+-- ends before the next token
 pub record IsParsed (tokens : Tokens) (from : ℕ) (parsed : ParsedExpr) : Type 0 where
-  pub shallow : too_deep_at tokens.list ≡ None
+  pub shallow : too_deep_from from tokens.list ≡ None
   pub from_there : from ≤ parsed.next
   pub within : parsed.next ≤ length tokens.list
   pub phrase : IsPhrase Spells (drop from tokens.list) parsed.expr (drop parsed.next tokens.list)
 
--- no token is too deep, and that front is no expression, and ends at the token of that place
+-- no token from there on is too deep, and that front is no expression, and ends before the token of that place, or at
+-- the program's end
 pub record IsUnexpectedAt (tokens : Tokens) (from at : ℕ) : Type 0 where
-  pub shallow : too_deep_at tokens.list ≡ None
+  pub shallow : too_deep_from from tokens.list ≡ None
   pub token : ℕ
   pub from_there : from ≤ token
   pub within : token ≤ length tokens.list
   pub place : at ≡ place_of tokens token
   pub unexpected : IsUnexpected Spells (drop from tokens.list) (drop token tokens.list)
 
--- the first token that is too deep is the one of that place
-pub record IsTooDeepAt (tokens : Tokens) (at : ℕ) : Type 0 where
+-- of the tokens from there on, the first that is too deep is the one of that place
+pub record IsTooDeepAt (tokens : Tokens) (from at : ℕ) : Type 0 where
   pub token : ℕ
-  pub first : too_deep_at tokens.list ≡ Some token
+  pub first : too_deep_from from tokens.list ≡ Some token
   pub place : at ≡ place_of tokens token
 
--- what is answered of the expression at a token; nothing is said where memory was wanting
+-- what is answered of the expression at a token; nothing is said where memory was wanting, or room on the stack
 abbrev pub Parses : Tokens → ℕ → Result ParsedExpr SyntaxAnswer → Type 0
 Parses tokens from (Ok parsed) = IsParsed tokens from parsed
 Parses tokens from (Err (A.Unexpected at)) = IsUnexpectedAt tokens from at
-Parses tokens from (Err (A.TooDeep at)) = IsTooDeepAt tokens at
+Parses tokens from (Err (A.TooDeep at)) = IsTooDeepAt tokens from at
 Parses tokens from (Err A.Memory) = Unit {0}
 
 -- tokens spell one tree at most

@@ -11,12 +11,12 @@ pub struct ParsedExpr {
     pub next: u32,
 }
 
-/// Why tokens spell nothing. The places are those of bytes in the program.
+/// Why there is no expression. The places are those of bytes in the program.
 #[derive(Clone, Copy, Debug, PartialEq, Eq)]
 pub enum SyntaxAnswer {
-    /// At this token nothing goes on. The end of the program counts as a token.
+    /// This token can't stand here. The end of the program counts as a token.
     Unexpected(u32),
-    /// This token is the first that weighs too much.
+    /// This token is the first of those looked at that weighs too much.
     TooDeep(u32),
     /// There was no memory, or the stack has no room for what nests so deep.
     Memory,

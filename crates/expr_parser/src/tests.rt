@@ -385,17 +385,30 @@ fn nesting_has_its_limits(rt: HostRuntime) -> Result<(), Fail> {
     let seen = shown(alloc, program.as_str(), 0)?;
     assert_eq!(rt; seen.as_str(), want.as_str());
     let opening = repeated(alloc, "( ", 201)?;
+    let closing = repeated(alloc, ") ", 201)?;
     let deep = repeated(alloc, "( ", 1000)?;
-    // Weights are looked at before the rest, in all of the program.
-    for (front, nested, want) in [
-        ("", &opening, "too deep 2000"),
-        ("", &deep, "too deep 2000"),
-        (") ", &opening, "too deep 2010"),
-        ("a ; ", &opening, "too deep 2020"),
+    // Weights are looked at before the rest, of all tokens from there on.
+    for (front, nested, behind, from, want) in [
+        ("", &opening, "", 0, "too deep 2000"),
+        ("", &deep, "", 0, "too deep 2000"),
+        (") ", &opening, "", 0, "too deep 2010"),
+        ("a ; ", &opening, "", 0, "too deep 2020"),
+        ("a ; ", &opening, "a", 203, "too deep 2030"),
+        ("", &opening, "; a", 202, "too deep 2020"),
     ] {
-        let program = format!(in alloc; "{front}{nested}")?;
-        let seen = shown(alloc, program.as_str(), 0)?;
-        assert_eq!(rt; seen.as_str(), want, "{front}");
+        let program = format!(in alloc; "{front}{nested}{behind}")?;
+        let seen = shown(alloc, program.as_str(), from)?;
+        assert_eq!(rt; seen.as_str(), want, "{front}{from}");
+    }
+    // What stands before is too deep, and these tokens aren't.
+    let program = format!(in alloc; "{opening}{closing}; a")?;
+    for (from, want) in [
+        (201, "unexpected 2010"),
+        (403, "a 404"),
+        (404, "unexpected 4040"),
+    ] {
+        let seen = shown(alloc, program.as_str(), from)?;
+        assert_eq!(rt; seen.as_str(), want, "{from}");
     }
     Ok(())
 }

@@ -1,14 +1,14 @@
 //! How much tokens weigh.
-ghost use Rattle.std.specs.Prelude.{◌≡◌, ◌≤◌, IfOk};
-ghost use Rattle.spl_tree.specs.Weights.{symbol_effect, effect, Closes, most_weight, next_adds, level_start, after_token, too_deep_at};
-ghost use Rattle.expr_parser.specs.Weighed.{effect_of, brackets, weighing_of};
+ghost use Rattle.std.specs.Prelude.{◌≡◌, ◌≤◌, length, IfOk};
+ghost use Rattle.spl_tree.specs.Weights.{symbol_effect, effect, Closes, next_adds, too_deep_from};
+ghost use Rattle.expr_parser.specs.Weighed.{effect_of, brackets, weighing_of, kept_start, kept_after};
 
 use spl_tree::{Keyword, Symbol, Token, TokenKind};
 use spl_value::{Items, NoMemory};
 use std::alloc::{AllocError, Global};
 
 /// The most that a token may weigh.
-const MOST_WEIGHT: u32 = 200;
+const MOST_WEIGHT: u8 = 200;
 
 /// What a token does to the weight.
 #[derive(Clone, Copy)]
@@ -21,11 +21,11 @@ enum Effect {
     Separates,
 }
 
-/// A weight, and the weights before the brackets that are open, the outermost first. No token is
-/// weighed behind one that weighs too much, so each of these fits a byte.
+/// A weight, and the weights before the brackets that are open, the outermost first. A weight over 255
+/// stands here as 255: both are too much.
 #[derive(Drop)]
 struct Weighing {
-    weight: u32,
+    weight: u8,
     before: Items<u8>,
 }
 
@@ -65,11 +65,11 @@ fn next_adds(tokens: &[Token]) -> bool
 }
 
 /// The weight at which the level inside these brackets starts.
-fn level_start(before: &[u8]) -> u32
-    ensures { result ≡ level_start (brackets before.now) }
+fn level_start(before: &[u8]) -> u8
+    ensures { result ≡ kept_start (brackets before.now) }
 {
     match before.last() {
-        Some(before) => u32::from(*before) + 1,
+        Some(before) => before.saturating_add(1),
         None => 0,
     }
 }
@@ -77,7 +77,7 @@ fn level_start(before: &[u8]) -> u32
 impl Weighing {
     /// Weighs a closing bracket.
     fn close(&mut self, brace: bool, next_adds: bool)
-        ensures { weighing_of self.new ≡ after_token (Closes brace) next_adds (weighing_of self.old) }
+        ensures { weighing_of self.new ≡ kept_after (Closes brace) next_adds (weighing_of self.old) }
     {
         let Some(before) = self.before.pop() else {
             return;
@@ -85,21 +85,20 @@ impl Weighing {
         self.weight = if brace && !next_adds {
             level_start(self.before.as_slice())
         } else {
-            u32::from(before)
+            before
         };
     }
 
     /// Weighs a token that does this.
     fn weigh(&mut self, effect: Effect, next_adds: bool) -> Result<(), AllocError>
-        requires { self.old.weight ≤ most_weight }
-        ensures { IfOk result (λ _. weighing_of self.new ≡ after_token (effect_of effect) next_adds (weighing_of self.old)) }
+        ensures { IfOk result (λ _. weighing_of self.new ≡ kept_after (effect_of effect) next_adds (weighing_of self.old)) }
     {
         match effect {
             Effect::Nothing => {}
-            Effect::Adds => self.weight += 1,
+            Effect::Adds => self.weight = self.weight.saturating_add(1),
             Effect::Opens => {
-                self.before.push(self.weight as u8)?;
-                self.weight += 1;
+                self.before.push(self.weight)?;
+                self.weight = self.weight.saturating_add(1);
             }
             Effect::Closes(brace) => self.close(brace, next_adds),
             Effect::Separates => self.weight = level_start(self.before.as_slice()),
@@ -108,9 +107,15 @@ impl Weighing {
     }
 }
 
-/// The place in the list of the first token that weighs too much.
-pub(crate) fn too_deep(alloc: Global, tokens: &[Token]) -> Result<Option<usize>, NoMemory>
-    ensures { IfOk result (λ at. at ≡ too_deep_at tokens.now) }
+/// The place in the list of the first token from `from` on that weighs too much. It is weighed with
+/// all tokens of the list.
+pub(crate) fn too_deep(
+    alloc: Global,
+    tokens: &[Token],
+    from: usize,
+) -> Result<Option<usize>, NoMemory>
+    requires { from ≤ length tokens.now }
+    ensures { IfOk result (λ at. at ≡ too_deep_from from tokens.now) }
 {
     let mut weighing = Weighing {
         weight: 0,
@@ -118,6 +123,9 @@ pub(crate) fn too_deep(alloc: Global, tokens: &[Token]) -> Result<Option<usize>,
     };
     for (i, token) in tokens.iter().enumerate() {
         weighing.weigh(kind_effect(&token.kind), next_adds(&tokens[i + 1..]))?;
+        if i < from {
+            continue;
+        }
         if weighing.weight > MOST_WEIGHT {
             return Ok(Some(i));
         }

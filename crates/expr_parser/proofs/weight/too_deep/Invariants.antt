@@ -1,11 +1,12 @@
-use Rattle.std.proofs.Common.{◌≡◌, ◌≤◌}
-use Rattle.spl_tree.specs.Weights.{most_weight, too_deep_at}
-use Rattle.expr_parser.specs.Weighed.{weighing_of}
-use Rattle.expr_parser.proofs.Weighing.{heavy_from}
+use Rattle.std.proofs.Common.{◌≡◌, ◌≤◌, drop}
+use Rattle.std.specs.List.{position_from}
+use Rattle.spl_tree.specs.Weights.{weights, too_deep_from}
+use Rattle.expr_parser.specs.Weighed.{Leads}
+use Rattle.expr_parser.proofs.Weighing.{too_heavy}
 use Rattle.expr_parser.proofs.weight.too_deep.Given as goal
 
 abbrev pub invariant-loop-i : goal.invariant-loop-i
 invariant-loop-i l = record {
-  light : l.weighing.weight ≤ most_weight;
-  first : heavy_from l.i (weighing_of l.weighing) l.tokens ≡ too_deep_at l.tokens;
+  leads : Leads l.tokens l.i l.weighing;
+  first : l.from ≤ l.i → position_from too_heavy l.i (drop l.i (weights l.tokens)) ≡ too_deep_from l.from l.tokens;
 }
