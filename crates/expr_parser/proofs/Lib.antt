@@ -3,3 +3,4 @@ pub mod Front
 pub mod LineSteps
 pub mod Weighing
 pub mod Parsed
+pub mod OneAnswer

@@ -13,3 +13,4 @@ pub mod Taken
 pub mod Gives
 pub mod Weighed
 pub mod Parses
+pub mod PhraseLaws

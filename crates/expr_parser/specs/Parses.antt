@@ -1,5 +1,5 @@
 -- What reading an expression from the tokens of a program answers.
-use Rattle.std.specs.Prelude.{◌≡◌, ℕ, ◌≤◌, List, length, drop, slice_get, Some, None, Result, Ok, Err}
+use Rattle.std.specs.Prelude.{◌≡◌, ◌⊎◌, ℕ, ◌≤◌, List, length, drop, slice_get, Some, None, Result, Ok, Err}
 use Rattle.std.specs.Option.{option_map, unwrap_or}
 use Rattle.spl_tree.specs.declared.token.Token.{Token}
 use Rattle.spl_tree.specs.declared.token.Tokens.{Tokens}
@@ -48,3 +48,8 @@ Parses tokens from (Err A.Memory) = Unit {0}
 -- tokens spell one tree at most
 abbrev pub OneTreeLaw : Type 0
 OneTreeLaw = (e f : Expr) (a : List Token) → Spells e a → Spells f a → e ≡ f
+
+-- want of memory apart, there is one answer
+abbrev pub OneAnswerLaw : Type 0
+OneAnswerLaw = (tokens : Tokens) (from : ℕ) (x y : Result ParsedExpr SyntaxAnswer) → Parses tokens from x → Parses tokens from y
+    → (x ≡ Err A.Memory) ⊎ ((y ≡ Err A.Memory) ⊎ (x ≡ y))
