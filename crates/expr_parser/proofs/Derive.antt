@@ -12,7 +12,7 @@ use Rattle.expr_parser.specs.Rules.{done, stop, look, call, Answer, Took, Refuse
 use Rattle.expr_parser.specs.RuleLaws.{begins_with, line, runs_done, runs_stop, runs_take, runs_skip, runs_call, runs_fail}
 use Rattle.expr_parser.specs.Lines.{Line, Value, rule, R, is, expect}
 use Rattle.expr_parser.specs.Taken.{Taken}
-use Rattle.expr_parser.specs.Gives.{Answered, Comes, Gives, Passes, Makes}
+use Rattle.expr_parser.specs.Gives.{Answered, Says, Comes, Gives, Passes, Makes}
 
 -- what is said of an error that `?` hands on
 pub exit : {B : Type 0} (P : Result B Stop → Type 0) (r : Result B Stop) (e : Stop) → IsErrAnd r (λ y. y ≡ e) → P (Err e) → P r
@@ -25,10 +25,14 @@ runs_tail {o = Took v rest} r = runs_call r runs_done
 runs_tail {o = Refused rest} r = runs_fail r
 runs_tail {o = Spent} r = record { depth = 0; is = refl }
 
+-- what is said of an answer, where one thing follows from another
+pub says_on : {A : Type 0} {P Q : Answer A → Type 0} → ((o : Answer A) → P o → Q o) → (res : Answered A) → Says P res → Says Q res
+says_on on (Ok found) said = on (Took found.0 found.2.now) said
+says_on on (Err (S.At rest)) said = on (Refused rest.now) said
+says_on on (Err S.Memory) said = tt
+
 pub gives_line : (x : Line) (ts : List Token) (res : Answered (Value x)) → Comes (rule x) ts res → Gives x ts res
-gives_line x ts (Ok found) c = line c
-gives_line x ts (Err (S.At rest)) c = line c
-gives_line x ts (Err S.Memory) c = tt
+gives_line x ts res c = says_on {P = RunsTo rule (rule x) ts} {Q = Reads rule x ts} (λ o r. line r) res c
 
 module _ {A : Type 0} (ts : List Token) where
   pub comes_fail : (y : Line) (k : Value y → R A) (e : Stop) → Gives y ts (Err e) → Comes (call y k) ts (Err e)
@@ -36,19 +40,13 @@ module _ {A : Type 0} (ts : List Token) where
   comes_fail y k S.Memory g = tt
 
   pub comes_call : (y : Line) (k : Value y → R A) (v : Value y) (mid : List Token) (res : Answered A) → Reads rule y ts (Took v mid) → Comes (k v) mid res → Comes (call y k) ts res
-  comes_call y k v mid (Ok found) g c = runs_call g c
-  comes_call y k v mid (Err (S.At rest)) g c = runs_call g c
-  comes_call y k v mid (Err S.Memory) g c = tt
+  comes_call y k v mid res g c = says_on {P = RunsTo rule (k v) mid} {Q = RunsTo rule (call y k) ts} (λ o r. runs_call g r) res c
 
   pub comes_take : (p : Token → Bool) (f : Token → R A) (d : R A) (t : Token) (rest : List Token) (res : Answered A) → Taken p ts t rest → Comes (f t) rest res → Comes (look p f d) ts res
-  comes_take p f d t rest (Ok found) h c = runs_take ts t rest h.here h.passes c
-  comes_take p f d t rest (Err (S.At others)) h c = runs_take ts t rest h.here h.passes c
-  comes_take p f d t rest (Err S.Memory) h c = tt
+  comes_take p f d t rest res h c = says_on {P = RunsTo rule (f t) rest} {Q = RunsTo rule (look p f d) ts} (λ o r. runs_take ts t rest h.here h.passes r) res c
 
   pub comes_skip : (p : Token → Bool) (f : Token → R A) (d : R A) (res : Answered A) → begins_with p ts ≡ false → Comes d ts res → Comes (look p f d) ts res
-  comes_skip p f d (Ok found) h c = runs_skip ts h c
-  comes_skip p f d (Err (S.At others)) h c = runs_skip ts h c
-  comes_skip p f d (Err S.Memory) h c = tt
+  comes_skip p f d res h c = says_on {P = RunsTo rule d ts} {Q = RunsTo rule (look p f d) ts} (λ o r. runs_skip ts h r) res c
 
   -- a test that fails and no other way
   pub comes_stop : (p : Token → Bool) (f : Token → R A) (rest : Bor (List Token)) → begins_with p ts ≡ false → rest.now ≡ ts → Comes (look p f stop) ts (Err (S.At rest))
@@ -62,9 +60,7 @@ module _ {A : Type 0} (ts : List Token) where
   comes_pass s r rest res p c = comes_take (is s) (λ _. r) stop p.0 rest.now res p.1 c
 
 pub comes_tail : (x : Line) (ts : List Token) (res : Answered (Value x)) → Gives x ts res → Comes (call x done) ts res
-comes_tail x ts (Ok found) g = runs_tail g
-comes_tail x ts (Err (S.At rest)) g = runs_tail g
-comes_tail x ts (Err S.Memory) g = tt
+comes_tail x ts res g = says_on {P = Reads rule x ts} {Q = RunsTo rule (call x done) ts} (λ o r. runs_tail r) res g
 
 pub comes_made : (e : Expr) (ts : List Token) (res : Answered Expr) → Makes e ts res → Comes (done e) ts res
 comes_made e ts (Ok found) m = subst (λ v. RunsTo rule (done e) ts (Took v found.2.now)) (sym m.0) (subst (λ r. RunsTo rule (done e) ts (Took e r)) (sym m.1) runs_done)

@@ -1,5 +1,5 @@
 -- What a line comes to, from what its parts come to.
-use Rattle.std.proofs.Common.{◌≡◌, ℕ, zero, suc, ◌+◌, ◌-◌, ◌<◌, ◌≤◌, Bool, true, false, List, [], ◌∷◌, ◌++◌, length, Option, Some, None, Ok, Err, refl, sym, ap, subst, arith, add-one}
+use Rattle.std.proofs.Common.{◌≡◌, ℕ, zero, suc, ◌+◌, ◌-◌, ◌<◌, ◌≤◌, Bool, true, false, List, [], ◌∷◌, ◌++◌, length, Some, None, Ok, Err, refl, sym, ap, subst, arith, add-one}
 use Rattle.std.specs.Borrow.{Bor}
 use Rattle.spl_tree.specs.declared.symbol.Symbol.{Symbol}
 use Rattle.spl_tree.specs.declared.symbol.Symbol.TheVariants as K
@@ -19,7 +19,7 @@ use Rattle.expr_parser.specs.RuleLaws.{begins_with, line, runs_done, runs_stop, 
 use Rattle.expr_parser.specs.Locality.{rest_of, shrinks}
 use Rattle.expr_parser.specs.Lines.{Line, Value, Whole, Rest, Climb, Chain, Prefixed, Primary, Group, Named, Elements, Items, Brace, Entries, Fields, Steps, rule, is, is_name, name_of, is_literal, literal_of, is_operator, operator_of, binary, conditional, prefixed, selected, field, expect, choice_rule, operand_rule, list_rule, field_rule}
 use Rattle.expr_parser.specs.Taken.{Taken, TakenAs}
-use Rattle.expr_parser.specs.Gives.{Answered, Comes, Gives, Passes, PassesName, Makes, Fronts, front_rule, StepFound, StepsOn}
+use Rattle.expr_parser.specs.Gives.{Answered, Comes, Gives, Passes, PassesName, Makes, Fronts, StepFound, StepsOn}
 use Rattle.expr_parser.proofs.Derive.{runs_tail, gives_line, comes_fail, comes_call, comes_take, comes_skip, comes_stop, comes_pass_fail, comes_pass, comes_tail, comes_made}
 
 -- Lengths
@@ -41,38 +41,6 @@ taken_as_shrinks h = taken_shrinks h.taken
 pub makes_fails : (x : Line) (e : Expr) (mid ts : List Token) (s : Stop) → Makes e mid (Err s) → Gives x ts (Err s)
 makes_fails x e mid ts (S.At rest) m = absurd m
 makes_fails x e mid ts S.Memory m = tt
-
--- Loops
-
-module _ {b b' : ℕ} {l l' : Expr} {ts ts' : List Token} (on : (o : Answer Expr) → Reads rule (Chain b l) ts o → Reads rule (Chain b' l') ts' o) where
-  pub chain_on : (res : Answered Expr) → Gives (Chain b l) ts res → Gives (Chain b' l') ts' res
-  chain_on (Ok found) g = on (Took found.0 found.2.now) g
-  chain_on (Err (S.At rest)) g = on (Refused rest.now) g
-  chain_on (Err S.Memory) g = tt
-
-module _ {c c' : Symbol} {es : List Expr} {ts ts' : List Token} (on : (o : Answer (List Expr)) → Reads rule (Items c es) ts o → Reads rule (Elements c') ts' o) where
-  pub items_on : (res : Answered (List Expr)) → Gives (Items c es) ts res → Gives (Elements c') ts' res
-  items_on (Ok found) g = on (Took found.0 found.2.now) g
-  items_on (Err (S.At rest)) g = on (Refused rest.now) g
-  items_on (Err S.Memory) g = tt
-
-module _ {a a' : ℕ} {es es' : List (Expr × Expr)} {k k' : Expr} {ts ts' : List Token} (on : (o : Answer Expr) → Reads rule (Entries a es k) ts o → Reads rule (Entries a' es' k') ts' o) where
-  pub entries_on : (res : Answered Expr) → Gives (Entries a es k) ts res → Gives (Entries a' es' k') ts' res
-  entries_on (Ok found) g = on (Took found.0 found.2.now) g
-  entries_on (Err (S.At rest)) g = on (Refused rest.now) g
-  entries_on (Err S.Memory) g = tt
-
-module _ {a a' : ℕ} {fs fs' : List (Field Expr)} {n n' : Placed (List ℕ)} {ts ts' : List Token} (on : (o : Answer Expr) → Reads rule (Fields a fs n) ts o → Reads rule (Fields a' fs' n') ts' o) where
-  pub fields_on : (res : Answered Expr) → Gives (Fields a fs n) ts res → Gives (Fields a' fs' n') ts' res
-  fields_on (Ok found) g = on (Took found.0 found.2.now) g
-  fields_on (Err (S.At rest)) g = on (Refused rest.now) g
-  fields_on (Err S.Memory) g = tt
-
-module _ {e e' : Expr} {ss ss' : List (Step Expr)} {ts ts' : List Token} (on : (o : Answer Expr) → Reads rule (Steps e ss) ts o → Reads rule (Steps e' ss') ts' o) where
-  pub steps_on : (res : Answered Expr) → Gives (Steps e ss) ts res → Gives (Steps e' ss') ts' res
-  steps_on (Ok found) g = on (Took found.0 found.2.now) g
-  steps_on (Err (S.At rest)) g = on (Refused rest.now) g
-  steps_on (Err S.Memory) g = tt
 
 -- An expression
 
@@ -177,12 +145,6 @@ module _ (k : ℕ) (left : Expr) (ts : List Token) where
 pub fronts_fails : (ts : List Token) (e : Stop) → Fronts ts (Err e) → Gives (Prefixed []) ts (Err e)
 fronts_fails ts (S.At rest) f = f
 fronts_fails ts S.Memory f = tt
-
-module _ (ts behind : List Token) (ps : List Prefix) (front : Option ℕ) (on : (o : Answer Expr) → RunsTo rule (front_rule front ps) behind o → Reads rule (Prefixed []) ts o) where
-  pub front_on : (res : Answered Expr) → Comes (front_rule front ps) behind res → Gives (Prefixed []) ts res
-  front_on (Ok found) c = on (Took found.0 found.2.now) c
-  front_on (Err (S.At rest)) c = on (Refused rest.now) c
-  front_on (Err S.Memory) c = tt
 
 pub prefixed_fails : (ps : List Prefix) (p : Expr) (ts : List Token) (e : Stop) → Gives (Steps p []) ts (Err e) → Comes (operand_rule ps p) ts (Err e)
 prefixed_fails ps p ts e g = comes_fail ts (Steps p []) _ e g

@@ -1,14 +1,11 @@
 -- What is answered of the tokens from a place on is one thing.
-use Rattle.std.proofs.Common.{◌≡◌, ◌∙◌, ◌⊎◌, inl, inr, ℕ, ◌-◌, ◌≤◌, List, length, drop, Option, Some, None, Result, Ok, Err, refl, sym, ap, arith, length-drop}
+use Rattle.std.proofs.Common.{◌≡◌, ◌∙◌, inl, inr, ℕ, ◌-◌, ◌≤◌, List, length, drop, Option, Some, None, Ok, Err, refl, sym, ap, arith, length-drop}
 use Rattle.spl_tree.specs.declared.token.Token.{Token}
-use Rattle.spl_tree.specs.declared.token.Tokens.{Tokens}
 use Rattle.spl_tree.specs.Grammar.{Spells}
-use Rattle.expr_parser.specs.declared.answer.ParsedExpr.{ParsedExpr}
-use Rattle.expr_parser.specs.declared.answer.SyntaxAnswer.{SyntaxAnswer}
 use Rattle.expr_parser.specs.declared.answer.SyntaxAnswer.TheVariants as A
 use Rattle.expr_parser.specs.Expressions.{one_tree}
 use Rattle.expr_parser.specs.PhraseLaws.{phrase_one, not_both, unexpected_one}
-use Rattle.expr_parser.specs.Parses.{place_of, OneAnswerLaw, IsParsed, IsUnexpectedAt, IsTooDeepAt}
+use Rattle.expr_parser.specs.Parses.{place_of, OneAnswerLaw}
 
 -- the rest of a list begins at one place
 one_place : (ts : List Token) (m n : ℕ) → m ≤ length ts → n ≤ length ts → drop m ts ≡ drop n ts → m ≡ n

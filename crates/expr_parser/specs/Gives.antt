@@ -18,17 +18,19 @@ use Rattle.expr_parser.specs.Lines.{Line, Value, Prefixed, Primary, Group, Steps
 abbrev pub Answered : Type 0 → Type 0
 Answered A = Result (A × ℕ × Bor (List Token)) Stop
 
--- the rule comes to what is answered; nothing is said where memory was wanting
+-- this holds of what is answered; nothing is said where memory was wanting
+abbrev pub Says : {A : Type 0} → (Answer A → Type 0) → Answered A → Type 0
+Says P (Ok found) = P (Took found.0 found.2.now)
+Says P (Err (S.At rest)) = P (Refused rest.now)
+Says P (Err S.Memory) = Unit {0}
+
+-- the rule comes to what is answered
 abbrev pub Comes : {A : Type 0} → R A → List Token → Answered A → Type 0
-Comes r ts (Ok found) = RunsTo rule r ts (Took found.0 found.2.now)
-Comes r ts (Err (S.At rest)) = RunsTo rule r ts (Refused rest.now)
-Comes r ts (Err S.Memory) = Unit {0}
+Comes r ts res = Says (RunsTo rule r ts) res
 
 -- the line comes to it
 abbrev pub Gives : (x : Line) → List Token → Answered (Value x) → Type 0
-Gives x ts (Ok found) = Reads rule x ts (Took found.0 found.2.now)
-Gives x ts (Err (S.At rest)) = Reads rule x ts (Refused rest.now)
-Gives x ts (Err S.Memory) = Unit {0}
+Gives x ts res = Says (Reads rule x ts) res
 
 -- the symbol comes first, with these tokens behind it, or else it is refused where they begin
 abbrev pub Passes : Symbol → List Token → Result (Bor (List Token)) Stop → Type 0

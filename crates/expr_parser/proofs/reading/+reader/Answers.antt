@@ -1,11 +1,11 @@
-use Rattle.std.proofs.Common.{◌∙◌, [], Some, None, Err, length, refl, sym, ap, subst, arith}
+use Rattle.std.proofs.Common.{◌∙◌, [], Err, length, refl, sym, ap, subst, arith}
 use Rattle.spl_tree.specs.declared.expression.ExprKind.TheVariants as X
 use Rattle.spl_tree.specs.Grammar.{Expr, placed}
 use Rattle.expr_parser.specs.Rules.{Answer, Took, RunsTo, Reads}
 use Rattle.expr_parser.specs.Lines.{binary, Whole, Rest, Climb, Chain, Prefixed, Primary, Group, Named, Elements, Items, Brace, Entries, Fields, Steps, rule, choice_rule, operand_rule, list_rule}
 use Rattle.expr_parser.specs.Gives.{Comes, Gives, Makes, front_rule, StepFound, StepsOn}
-use Rattle.expr_parser.proofs.Derive.{exit, comes_fail, comes_call}
-use Rattle.expr_parser.proofs.LineSteps.{reads_shrinks, taken_shrinks, taken_as_shrinks, makes_fails, chain_on, items_on, entries_on, fields_on, steps_on, whole_fails, whole_goes, rest_fails, rest_ends, rest_goes, first_fails, colon_fails, second_fails, choice_goes, climb_ends, climb_fails, climb_goes, chain_ends, operand_fails, right_fails, chain_goes, fronts_fails, front_on, prefixed_fails, prefixed_goes, primary_literal, primary_name, primary_list, primary_brace, primary_stops, group_fails, group_stops, group_goes, named_ends, named_fails, named_goes, list_fails, list_goes, elements_none, elements_start, item_fails, items_stops, items_end, items_go, brace_empty, brace_fails, brace_entries, brace_stops, name_stops, brace_fields, value_fails, entries_stops, entries_end, key_fails, key_stops, entries_go, field_fails, fields_stops, fields_end, next_fails, next_stops, fields_go, steps_fails, steps_end, member_fails, member_found, index_fails, index_stops, index_found}
+use Rattle.expr_parser.proofs.Derive.{exit, says_on, comes_fail, comes_call}
+use Rattle.expr_parser.proofs.LineSteps.{reads_shrinks, taken_shrinks, taken_as_shrinks, makes_fails, whole_fails, whole_goes, rest_fails, rest_ends, rest_goes, first_fails, colon_fails, second_fails, choice_goes, climb_ends, climb_fails, climb_goes, chain_ends, operand_fails, right_fails, chain_goes, fronts_fails, prefixed_fails, prefixed_goes, primary_literal, primary_name, primary_list, primary_brace, primary_stops, group_fails, group_stops, group_goes, named_ends, named_fails, named_goes, list_fails, list_goes, elements_none, elements_start, item_fails, items_stops, items_end, items_go, brace_empty, brace_fails, brace_entries, brace_stops, name_stops, brace_fields, value_fails, entries_stops, entries_end, key_fails, key_stops, entries_go, field_fails, fields_stops, fields_end, next_fails, next_stops, fields_go, steps_fails, steps_end, member_fails, member_found, index_fails, index_stops, index_found}
 use Rattle.expr_parser.proofs.reading.+reader.Goals as goal
 
 pub expr-returns-in_err-first : goal.expr-returns-in_err-first
@@ -73,12 +73,12 @@ chain-returns-in_default t c =
 pub chain-returns-in_err-first : goal.chain-returns-in_err-first
 chain-returns-in_err-first t c =
     exit (Gives (Chain c.args.below c.args.left) c.args.ts.now) c.from_residual.result c.in_err-first.field-0.0 c.from_residual.ensures.1
-    (chain_on c.operators.invariant (Err c.in_err-first.field-0.0) (operand_fails c.args.below c.operators.left c.operators.at.now c.in-Some.operator c.in-Some.behind.now c.in-Some.ensures c.in_err-first.field-0.0 c.in_err-first.ensures))
+    (says_on c.operators.invariant (Err c.in_err-first.field-0.0) (operand_fails c.args.below c.operators.left c.operators.at.now c.in-Some.operator c.in-Some.behind.now c.in-Some.ensures c.in_err-first.field-0.0 c.in_err-first.ensures))
 
 pub chain-returns-in_err-right : goal.chain-returns-in_err-right
 chain-returns-in_err-right t c =
     exit (Gives (Chain c.args.below c.args.left) c.args.ts.now) c.from_residual-in_err-right.result c.in_err-right.field-0.0 c.from_residual-in_err-right.ensures.1
-    (chain_on c.operators.invariant (Err c.in_err-right.field-0.0) (right_fails c.args.below c.operators.left c.operators.at.now c.in-Some.operator c.in-Some.behind.now c.in-Some.ensures c.in_ok-first.first c.in_ok-first.behind.now c.in_ok-first.ensures c.in_err-right.field-0.0 c.in_err-right.ensures))
+    (says_on c.operators.invariant (Err c.in_err-right.field-0.0) (right_fails c.args.below c.operators.left c.operators.at.now c.in-Some.operator c.in-Some.behind.now c.in-Some.ensures c.in_ok-first.first c.in_ok-first.behind.now c.in_ok-first.ensures c.in_err-right.field-0.0 c.in_err-right.ensures))
 
 pub chain-returns-in_err-whole : goal.chain-returns-in_err-whole
 chain-returns-in_err-whole t c =
@@ -107,20 +107,20 @@ operand-returns-in_err-front t c =
 pub operand-returns-in_err-inner-in-Some : goal.operand-returns-in_err-inner-in-Some
 operand-returns-in_err-inner-in-Some t c =
     exit (Gives (Prefixed []) c.args.ts.now) c.from_residual-in_err-inner-in-Some.result c.in_err-inner-in-Some.field-0.0 c.from_residual-in_err-inner-in-Some.ensures.1
-    (front_on c.args.ts.now c.in_ok-front.behind.now c.in_ok-front.front (Some c.in-Some.at) (subst (λ f. (o : Answer Expr) → RunsTo rule (front_rule f c.in_ok-front.front) c.in_ok-front.behind.now o → Reads rule (Prefixed []) c.args.ts.now o) c.in-Some.is c.in_ok-front.ensures) (Err c.in_err-inner-in-Some.field-0.0) (comes_fail c.in_ok-front.behind.now (Group c.in-Some.at) _ c.in_err-inner-in-Some.field-0.0 c.in_err-inner-in-Some.ensures))
+    (says_on (subst (λ f. (o : Answer Expr) → RunsTo rule (front_rule f c.in_ok-front.front) c.in_ok-front.behind.now o → Reads rule (Prefixed []) c.args.ts.now o) c.in-Some.is c.in_ok-front.ensures) (Err c.in_err-inner-in-Some.field-0.0) (comes_fail c.in_ok-front.behind.now (Group c.in-Some.at) _ c.in_err-inner-in-Some.field-0.0 c.in_err-inner-in-Some.ensures))
 
 pub operand-returns-in_ok-inner-in-Some : goal.operand-returns-in_ok-inner-in-Some
 operand-returns-in_ok-inner-in-Some t c =
-    front_on c.args.ts.now c.in_ok-front.behind.now c.in_ok-front.front (Some c.in-Some.at) (subst (λ f. (o : Answer Expr) → RunsTo rule (front_rule f c.in_ok-front.front) c.in_ok-front.behind.now o → Reads rule (Prefixed []) c.args.ts.now o) c.in-Some.is c.in_ok-front.ensures) c.prefixed.result (comes_call c.in_ok-front.behind.now (Group c.in-Some.at) _ c.in_ok-inner-in-Some.inner c.in_ok-inner-in-Some.behind.now c.prefixed.result c.in_ok-inner-in-Some.ensures c.prefixed.ensures)
+    says_on (subst (λ f. (o : Answer Expr) → RunsTo rule (front_rule f c.in_ok-front.front) c.in_ok-front.behind.now o → Reads rule (Prefixed []) c.args.ts.now o) c.in-Some.is c.in_ok-front.ensures) c.prefixed.result (comes_call c.in_ok-front.behind.now (Group c.in-Some.at) _ c.in_ok-inner-in-Some.inner c.in_ok-inner-in-Some.behind.now c.prefixed.result c.in_ok-inner-in-Some.ensures c.prefixed.ensures)
 
 pub operand-returns-in_err-first-in-None : goal.operand-returns-in_err-first-in-None
 operand-returns-in_err-first-in-None t c =
     exit (Gives (Prefixed []) c.args.ts.now) c.from_residual-in_err-first-in-None.result c.in_err-first-in-None.field-0.0 c.from_residual-in_err-first-in-None.ensures.1
-    (front_on c.args.ts.now c.in_ok-front.behind.now c.in_ok-front.front None (subst (λ f. (o : Answer Expr) → RunsTo rule (front_rule f c.in_ok-front.front) c.in_ok-front.behind.now o → Reads rule (Prefixed []) c.args.ts.now o) c.in-None.is c.in_ok-front.ensures) (Err c.in_err-first-in-None.field-0.0) (comes_fail c.in_ok-front.behind.now Primary _ c.in_err-first-in-None.field-0.0 c.in_err-first-in-None.ensures))
+    (says_on (subst (λ f. (o : Answer Expr) → RunsTo rule (front_rule f c.in_ok-front.front) c.in_ok-front.behind.now o → Reads rule (Prefixed []) c.args.ts.now o) c.in-None.is c.in_ok-front.ensures) (Err c.in_err-first-in-None.field-0.0) (comes_fail c.in_ok-front.behind.now Primary _ c.in_err-first-in-None.field-0.0 c.in_err-first-in-None.ensures))
 
 pub operand-returns-in_ok-first-in-None : goal.operand-returns-in_ok-first-in-None
 operand-returns-in_ok-first-in-None t c =
-    front_on c.args.ts.now c.in_ok-front.behind.now c.in_ok-front.front None (subst (λ f. (o : Answer Expr) → RunsTo rule (front_rule f c.in_ok-front.front) c.in_ok-front.behind.now o → Reads rule (Prefixed []) c.args.ts.now o) c.in-None.is c.in_ok-front.ensures) c.prefixed-in-None.result (comes_call c.in_ok-front.behind.now Primary _ c.in_ok-first-in-None.first c.in_ok-first-in-None.behind.now c.prefixed-in-None.result c.in_ok-first-in-None.ensures c.prefixed-in-None.ensures)
+    says_on (subst (λ f. (o : Answer Expr) → RunsTo rule (front_rule f c.in_ok-front.front) c.in_ok-front.behind.now o → Reads rule (Prefixed []) c.args.ts.now o) c.in-None.is c.in_ok-front.ensures) c.prefixed-in-None.result (comes_call c.in_ok-front.behind.now Primary _ c.in_ok-first-in-None.first c.in_ok-first-in-None.behind.now c.prefixed-in-None.result c.in_ok-first-in-None.ensures c.prefixed-in-None.ensures)
 
 pub prefixed-returns-in_err-operand : goal.prefixed-returns-in_err-operand
 prefixed-returns-in_err-operand t c =
@@ -199,12 +199,12 @@ elements-items-init t c =
 pub elements-returns-in_err-item : goal.elements-returns-in_err-item
 elements-returns-in_err-item t c =
     exit (Gives (Elements c.args.close) c.args.ts.now) c.from_residual.result c.in_err-item.field-0.0 c.from_residual.ensures.1
-    (items_on c.items.invariant (Err c.in_err-item.field-0.0) (item_fails c.args.close c.items.at.now c.items.all c.in_err-item.field-0.0 c.in_err-item.ensures))
+    (says_on c.items.invariant (Err c.in_err-item.field-0.0) (item_fails c.args.close c.items.at.now c.items.all c.in_err-item.field-0.0 c.in_err-item.ensures))
 
 pub elements-returns-in_err-behind : goal.elements-returns-in_err-behind
 elements-returns-in_err-behind t c =
     exit (Gives (Elements c.args.close) c.args.ts.now) c.from_residual-in_err-behind.result c.in_err-behind.field-0.0 c.from_residual-in_err-behind.ensures.1
-    (items_on c.items.invariant (Err c.in_err-behind.field-0.0) (items_stops c.args.close c.items.at.now c.items.all c.in_ok-item.item c.in_ok-item.behind.now c.in_ok-item.ensures c.in_default-after.ensures c.in_err-behind.field-0.0 c.in_err-behind.ensures))
+    (says_on c.items.invariant (Err c.in_err-behind.field-0.0) (items_stops c.args.close c.items.at.now c.items.all c.in_ok-item.item c.in_ok-item.behind.now c.in_ok-item.ensures c.in_default-after.ensures c.in_err-behind.field-0.0 c.in_err-behind.ensures))
 
 pub elements-returns-in_default-after : goal.elements-returns-in_default-after
 elements-returns-in_default-after t c =
@@ -257,27 +257,27 @@ entries-entries-init t c =
 pub entries-returns-in_err-value : goal.entries-returns-in_err-value
 entries-returns-in_err-value t c =
     exit (Gives (Entries c.args.at [] c.args.key) c.args.ts.now) c.from_residual.result c.in_err-value.field-0.0 c.from_residual.ensures.1
-    (entries_on c.entries.invariant (Err c.in_err-value.field-0.0) (value_fails c.args.at c.entries.left.now c.entries.all c.entries.key c.in_err-value.field-0.0 c.in_err-value.ensures))
+    (says_on c.entries.invariant (Err c.in_err-value.field-0.0) (value_fails c.args.at c.entries.left.now c.entries.all c.entries.key c.in_err-value.field-0.0 c.in_err-value.ensures))
 
 pub entries-returns-in_err-behind : goal.entries-returns-in_err-behind
 entries-returns-in_err-behind t c =
     exit (Gives (Entries c.args.at [] c.args.key) c.args.ts.now) c.from_residual-in_err-behind.result c.in_err-behind.field-0.0 c.from_residual-in_err-behind.ensures.1
-    (entries_on c.entries.invariant (Err c.in_err-behind.field-0.0) (entries_stops c.args.at c.entries.left.now c.entries.all c.entries.key c.in_ok-value.value c.in_ok-value.behind.now c.in_ok-value.ensures c.in_default.ensures c.in_err-behind.field-0.0 c.in_err-behind.ensures))
+    (says_on c.entries.invariant (Err c.in_err-behind.field-0.0) (entries_stops c.args.at c.entries.left.now c.entries.all c.entries.key c.in_ok-value.value c.in_ok-value.behind.now c.in_ok-value.ensures c.in_default.ensures c.in_err-behind.field-0.0 c.in_err-behind.ensures))
 
 pub entries-returns-in_default : goal.entries-returns-in_default
 entries-returns-in_default t c =
-    entries_on c.entries.invariant c.map.result (entries_end c.args.at c.entries.left.now c.entries.all c.entries.key c.in_ok-value.value c.in_ok-value.behind.now c.in_ok-value.ensures c.in_default.ensures c.in_ok-behind.behind c.map.result c.in_ok-behind.ensures
+    says_on c.entries.invariant c.map.result (entries_end c.args.at c.entries.left.now c.entries.all c.entries.key c.in_ok-value.value c.in_ok-value.behind.now c.in_ok-value.ensures c.in_default.ensures c.in_ok-behind.behind c.map.result c.in_ok-behind.ensures
     (subst (λ es. Makes (placed c.args.at (X.Map es)) c.in_ok-behind.behind.now c.map.result) c.in_ok-push.ensures.ok c.map.ensures))
 
 pub entries-returns-in_err-next : goal.entries-returns-in_err-next
 entries-returns-in_err-next t c =
     exit (Gives (Entries c.args.at [] c.args.key) c.args.ts.now) c.from_residual-in_err-next.result c.in_err-next.field-0.0 c.from_residual-in_err-next.ensures.1
-    (entries_on c.entries.invariant (Err c.in_err-next.field-0.0) (key_fails c.args.at c.entries.left.now c.entries.all c.entries.key c.in_ok-value.value c.in_ok-value.behind.now c.in_ok-value.ensures c.in-Some.field-0-0.now c.in-Some.behind.now c.in-Some.ensures c.in_err-next.field-0.0 c.in_err-next.ensures))
+    (says_on c.entries.invariant (Err c.in_err-next.field-0.0) (key_fails c.args.at c.entries.left.now c.entries.all c.entries.key c.in_ok-value.value c.in_ok-value.behind.now c.in_ok-value.ensures c.in-Some.field-0-0.now c.in-Some.behind.now c.in-Some.ensures c.in_err-next.field-0.0 c.in_err-next.ensures))
 
 pub entries-returns-in_err-left : goal.entries-returns-in_err-left
 entries-returns-in_err-left t c =
     exit (Gives (Entries c.args.at [] c.args.key) c.args.ts.now) c.from_residual-in_err-left.result c.in_err-left.field-0.0 c.from_residual-in_err-left.ensures.1
-    (entries_on c.entries.invariant (Err c.in_err-left.field-0.0) (key_stops c.args.at c.entries.left.now c.entries.all c.entries.key c.in_ok-value.value c.in_ok-value.behind.now c.in_ok-value.ensures c.in-Some.field-0-0.now c.in-Some.behind.now c.in-Some.ensures c.in_ok-next.next c.in_ok-next.behind.now c.in_ok-next.ensures c.in_err-left.field-0.0 c.in_err-left.ensures))
+    (says_on c.entries.invariant (Err c.in_err-left.field-0.0) (key_stops c.args.at c.entries.left.now c.entries.all c.entries.key c.in_ok-value.value c.in_ok-value.behind.now c.in_ok-value.ensures c.in-Some.field-0-0.now c.in-Some.behind.now c.in-Some.ensures c.in_ok-next.next c.in_ok-next.behind.now c.in_ok-next.ensures c.in_err-left.field-0.0 c.in_err-left.ensures))
 
 pub entries-entries-preserved : goal.entries-entries-preserved
 entries-entries-preserved t c =
@@ -299,27 +299,27 @@ fields-fields-init t c =
 pub fields-returns-in_err-value : goal.fields-returns-in_err-value
 fields-returns-in_err-value t c =
     exit (Gives (Fields c.args.at [] c.args.name) c.args.ts.now) c.from_residual.result c.in_err-value.field-0.0 c.from_residual.ensures.1
-    (fields_on c.fields.invariant (Err c.in_err-value.field-0.0) (field_fails c.args.at c.fields.left.now c.fields.all c.fields.name c.in_err-value.field-0.0 c.in_err-value.ensures))
+    (says_on c.fields.invariant (Err c.in_err-value.field-0.0) (field_fails c.args.at c.fields.left.now c.fields.all c.fields.name c.in_err-value.field-0.0 c.in_err-value.ensures))
 
 pub fields-returns-in_err-behind : goal.fields-returns-in_err-behind
 fields-returns-in_err-behind t c =
     exit (Gives (Fields c.args.at [] c.args.name) c.args.ts.now) c.from_residual-in_err-behind.result c.in_err-behind.field-0.0 c.from_residual-in_err-behind.ensures.1
-    (fields_on c.fields.invariant (Err c.in_err-behind.field-0.0) (fields_stops c.args.at c.fields.left.now c.fields.all c.fields.name c.in_ok-value.value c.in_ok-value.behind.now c.in_ok-value.ensures c.in_default.ensures c.in_err-behind.field-0.0 c.in_err-behind.ensures))
+    (says_on c.fields.invariant (Err c.in_err-behind.field-0.0) (fields_stops c.args.at c.fields.left.now c.fields.all c.fields.name c.in_ok-value.value c.in_ok-value.behind.now c.in_ok-value.ensures c.in_default.ensures c.in_err-behind.field-0.0 c.in_err-behind.ensures))
 
 pub fields-returns-in_default : goal.fields-returns-in_default
 fields-returns-in_default t c =
-    fields_on c.fields.invariant c.tuple.result (fields_end c.args.at c.fields.left.now c.fields.all c.fields.name c.in_ok-value.value c.in_ok-value.behind.now c.in_ok-value.ensures c.in_default.ensures c.in_ok-behind.behind c.tuple.result c.in_ok-behind.ensures
+    says_on c.fields.invariant c.tuple.result (fields_end c.args.at c.fields.left.now c.fields.all c.fields.name c.in_ok-value.value c.in_ok-value.behind.now c.in_ok-value.ensures c.in_default.ensures c.in_ok-behind.behind c.tuple.result c.in_ok-behind.ensures
     (subst (λ fs. Makes (placed c.args.at (X.Tuple fs)) c.in_ok-behind.behind.now c.tuple.result) c.in_ok-push.ensures.ok c.tuple.ensures))
 
 pub fields-returns-in_err-next : goal.fields-returns-in_err-next
 fields-returns-in_err-next t c =
     exit (Gives (Fields c.args.at [] c.args.name) c.args.ts.now) c.from_residual-in_err-next.result c.in_err-next.field-0.0 c.from_residual-in_err-next.ensures.1
-    (fields_on c.fields.invariant (Err c.in_err-next.field-0.0) (next_fails c.args.at c.fields.left.now c.fields.all c.fields.name c.in_ok-value.value c.in_ok-value.behind.now c.in_ok-value.ensures c.in-Some.field-0-0.now c.in-Some.behind.now c.in-Some.ensures c.in_err-next.field-0.0 c.in_err-next.ensures))
+    (says_on c.fields.invariant (Err c.in_err-next.field-0.0) (next_fails c.args.at c.fields.left.now c.fields.all c.fields.name c.in_ok-value.value c.in_ok-value.behind.now c.in_ok-value.ensures c.in-Some.field-0-0.now c.in-Some.behind.now c.in-Some.ensures c.in_err-next.field-0.0 c.in_err-next.ensures))
 
 pub fields-returns-in_err-left : goal.fields-returns-in_err-left
 fields-returns-in_err-left t c =
     exit (Gives (Fields c.args.at [] c.args.name) c.args.ts.now) c.from_residual-in_err-left.result c.in_err-left.field-0.0 c.from_residual-in_err-left.ensures.1
-    (fields_on c.fields.invariant (Err c.in_err-left.field-0.0) (next_stops c.args.at c.fields.left.now c.fields.all c.fields.name c.in_ok-value.value c.in_ok-value.behind.now c.in_ok-value.ensures c.in-Some.field-0-0.now c.in-Some.behind.now c.in-Some.ensures c.in_ok-next.next c.in_ok-next.behind.now c.in_ok-next.ensures c.in_err-left.field-0.0 c.in_err-left.ensures))
+    (says_on c.fields.invariant (Err c.in_err-left.field-0.0) (next_stops c.args.at c.fields.left.now c.fields.all c.fields.name c.in_ok-value.value c.in_ok-value.behind.now c.in_ok-value.ensures c.in-Some.field-0-0.now c.in-Some.behind.now c.in-Some.ensures c.in_ok-next.next c.in_ok-next.behind.now c.in_ok-next.ensures c.in_err-left.field-0.0 c.in_err-left.ensures))
 
 pub fields-fields-preserved : goal.fields-fields-preserved
 fields-fields-preserved t c =
@@ -341,12 +341,12 @@ steps-steps-init t c =
 pub steps-returns-in_err-found : goal.steps-returns-in_err-found
 steps-returns-in_err-found t c =
     exit (Gives (Steps c.args.primary []) c.args.ts.now) c.from_residual.result c.in_err-found.field-0.0 c.from_residual.ensures.1
-    (steps_on c.steps.invariant (Err c.in_err-found.field-0.0) (steps_fails c.args.primary c.steps.all c.steps.at.now c.in_err-found.field-0.0 c.in_err-found.ensures))
+    (says_on c.steps.invariant (Err c.in_err-found.field-0.0) (steps_fails c.args.primary c.steps.all c.steps.at.now c.in_err-found.field-0.0 c.in_err-found.ensures))
 
 pub steps-returns-in_default : goal.steps-returns-in_default
 steps-returns-in_default t c =
     let found = subst (λ s. StepFound c.steps.at.now s c.in_ok-found.behind.now) c.in_default.is c.in_ok-found.ensures in
-    steps_on c.steps.invariant c.selected.result (steps_end c.args.primary c.steps.all c.steps.at.now c.in_ok-found.behind.now c.selected.result found c.selected.ensures)
+    says_on c.steps.invariant c.selected.result (steps_end c.args.primary c.steps.all c.steps.at.now c.in_ok-found.behind.now c.selected.result found c.selected.ensures)
 
 pub steps-steps-preserved : goal.steps-steps-preserved
 steps-steps-preserved t c =
