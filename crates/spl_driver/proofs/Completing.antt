@@ -10,7 +10,7 @@ use Rattle.spl_driver.specs.declared.request.Request.{Request}
 use Rattle.spl_driver.specs.declared.cause.Cause.{Cause}
 use Rattle.spl_driver.specs.declared.cause.Cause.TheVariants as C
 use Rattle.spl_driver.specs.declared.cause.Ended.{Ended}
-use Rattle.spl_driver.specs.Answer.{CreatedLast, Outcome, NotBuilt, Unreadable, Runs, AtSink, EachSink, HoldsText, HoldsPrefix, Begun, Stands, Answered, DeviceFailed, graph_in, outcome, IsComplete, sink_text}
+use Rattle.spl_driver.specs.Answer.{CreatedLast, Outcome, Unreadable, Refused, NotBuilt, Runs, AtSink, EachSink, HoldsText, HoldsPrefix, Begun, Stands, Answered, DeviceFailed, graph_in, outcome, IsComplete, sink_text}
 use Rattle.spl_driver.proofs.Standing.{same_begun}
 
 front_at : (m : Meaning) (old new : Told) (kind : Kind) (op : Operator) → AtSink (HoldsText m new) kind op → AtSink (HoldsPrefix m old new) kind op
@@ -25,6 +25,7 @@ fronts m old new (op ∷ ops) h = (front_at m old new op.kind op h.0, fronts m o
 -- behind each answer a sink was not created or holds a prefix of its text
 weaker : (cause : Cause) (result : Outcome) (ended : Ended) (old new : Told) → Stands cause result ended old new → Begun result old new
 weaker C.Done result ended old new (g, m, is, run) = subst (λ (r : Outcome). Begun r old new) (sym is) (fronts m old new g.ops run.texts)
+weaker (C.Refused refusal) result ended old new (is, same) = same_begun result old new same
 weaker C.NotBuilt result ended old new (is, same) = same_begun result old new same
 weaker C.Device result ended old new h = h
 weaker C.NoMemory result ended old new h = h
@@ -34,6 +35,7 @@ with_cause ended cause status = record { status = status; cause = cause; arrival
 
 same_stands : (cause : Cause) (result : Outcome) (ended : Ended) (status : ℕ) (r : Cause) (old new : Told) → Stands cause result ended old new → Stands cause result (with_cause ended r status) old new
 same_stands C.Done result ended status r old new (g, m, is, run) = (g, m, is, record { texts = run.texts; counts = run.counts; lists = run.lists })
+same_stands (C.Refused refusal) result ended status r old new h = h
 same_stands C.NotBuilt result ended status r old new h = h
 same_stands C.Device result ended status r old new h = h
 same_stands C.NoMemory result ended status r old new h = h
@@ -60,17 +62,25 @@ answered_said (Some t) (Some u) request ended r status counts later e h = record
 }
 
 complete_at : (cause : Cause) (result : Outcome) (Failed : Type 0) (ended : Ended) (old new : Told) → Stands cause result ended old new → (cause ≡ C.Device → Failed) → IsComplete result Failed cause
-complete_at C.Done NotBuilt Failed ended old new (g, m, is, run) device = absurd (let e : NotBuilt ≡ Runs g m = is in cc)
 complete_at C.Done Unreadable Failed ended old new (g, m, is, run) device = absurd (let e : Unreadable ≡ Runs g m = is in cc)
+complete_at C.Done (Refused r) Failed ended old new (g, m, is, run) device = absurd (let e : Refused r ≡ Runs g m = is in cc)
+complete_at C.Done NotBuilt Failed ended old new (g, m, is, run) device = absurd (let e : NotBuilt ≡ Runs g m = is in cc)
 complete_at C.Done (Runs g m) Failed ended old new h device = λ none. inl refl
-complete_at C.NotBuilt NotBuilt Failed ended old new h device = λ none. inl refl
+complete_at (C.Refused s) Unreadable Failed ended old new h device = absurd (let e : Unreadable ≡ Refused s = h.0 in cc)
+complete_at (C.Refused s) (Refused r) Failed ended old new h device = λ none. inl (let e : Refused r ≡ Refused s = h.0 in let same : s ≡ r = cc in ap C.Refused same)
+complete_at (C.Refused s) NotBuilt Failed ended old new h device = absurd (let e : NotBuilt ≡ Refused s = h.0 in cc)
+complete_at (C.Refused s) (Runs g m) Failed ended old new h device = absurd (let e : Runs g m ≡ Refused s = h.0 in cc)
 complete_at C.NotBuilt Unreadable Failed ended old new h device = absurd (let e : Unreadable ≡ NotBuilt = h.0 in cc)
+complete_at C.NotBuilt (Refused r) Failed ended old new h device = absurd (let e : Refused r ≡ NotBuilt = h.0 in cc)
+complete_at C.NotBuilt NotBuilt Failed ended old new h device = λ none. inl refl
 complete_at C.NotBuilt (Runs g m) Failed ended old new h device = absurd (let e : Runs g m ≡ NotBuilt = h.0 in cc)
-complete_at C.Device NotBuilt Failed ended old new h device = λ none. absurd (none (device refl))
 complete_at C.Device Unreadable Failed ended old new h device = inl refl
+complete_at C.Device (Refused r) Failed ended old new h device = λ none. absurd (none (device refl))
+complete_at C.Device NotBuilt Failed ended old new h device = λ none. absurd (none (device refl))
 complete_at C.Device (Runs g m) Failed ended old new h device = λ none. absurd (none (device refl))
-complete_at C.NoMemory NotBuilt Failed ended old new h device = λ none. inr refl
 complete_at C.NoMemory Unreadable Failed ended old new h device = inr refl
+complete_at C.NoMemory (Refused r) Failed ended old new h device = λ none. inr refl
+complete_at C.NoMemory NotBuilt Failed ended old new h device = λ none. inr refl
 complete_at C.NoMemory (Runs g m) Failed ended old new h device = λ none. inr refl
 
 pub complete : (told now : Option Told) (request : Option Request) (ended : Ended) (counts later : PerName) → WhereTold told now (Answered request ended counts later)

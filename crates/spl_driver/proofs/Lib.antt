@@ -6,5 +6,7 @@ pub mod FirstLine
 pub mod NumberLines
 pub mod NumberRows
 pub mod Standing
+pub mod SameKinds
+pub mod Spelled
+pub mod Forms
 pub mod Completing
-pub mod ProgramForms

@@ -1,5 +1,5 @@
 -- What the program and its source come to.
-use Rattle.std.proofs.Common.{◌≡◌, ℕ, ◌<◌, ◌≤◌, List, [], ◌∷◌, length, Bool, true, false, refl, sym, ◌∙◌, ap, subst, inl, inr, ◌⊎◌, Option, Some, None, arith, if◌then◌else◌, cond, nat_le}
+use Rattle.std.proofs.Common.{◌≡◌, ℕ, ◌<◌, ◌≤◌, List, [], ◌∷◌, length, Bool, true, false, refl, sym, ◌∙◌, ap, subst, inl, inr, ◌⊎◌, Option, Some, None, arith, if◌then◌else◌, cond, nat_le, Err, lt-ltb}
 use Rattle.std.specs.Prelude.{IfSome, ◌||◌, ◌&&◌, ◌≢◌, codes}
 use Rattle.std.specs.Str.{bytes_eq}
 use Rattle.spl_value.specs.Script.{Script, End}
@@ -12,10 +12,16 @@ use Rattle.feed_pour.specs.declared.named.Fetched.TheVariants as F
 use Rattle.stream_model.specs.declared.condition.Condition.{Condition}
 use Rattle.stream_model.specs.declared.record.Arrivals.{Arrivals}
 use Rattle.stream_model.specs.Meaning.{Graph, meaning}
-use Rattle.spl_driver.specs.Program.{program_form, accepted, graph_with, graph_of}
+use Rattle.spl_driver.specs.Program.{program_form, form_in, lexical_refusal, accepted, graph_with, graph_of}
+use Rattle.spl_driver.specs.declared.cause.Refusal.{Refusal}
+use Rattle.spl_driver.specs.declared.program.Form.{Form}
+use Rattle.spl_driver.specs.declared.program.Form.TheVariants as B
+use Rattle.spl_tree.specs.declared.token.LexicalError.TheVariants as L
+use Rattle.spl_tree.specs.declared.token.TheConstants.{MOST_BYTES}
+use Rattle.spl_tree.specs.Tokens.{tokens, tokens_from, with_length}
 use Rattle.spl_driver.specs.Request.{opens, is_named, graph_or_none}
 use Rattle.spl_driver.specs.Source.{is_number_file}
-use Rattle.spl_driver.specs.Answer.{Outcome, NotBuilt, Unreadable, Runs, is_failed, has_fault, holds_numbers, with_sources, with_graph, outcome, rows_told, entries_in, accepted_in, graph_in, DeviceFailed, NoCountChanged, ReadsFailed, form_graph}
+use Rattle.spl_driver.specs.Answer.{Outcome, Unreadable, Refused, NotBuilt, Runs, is_failed, has_fault, holds_numbers, with_sources, with_program, outcome, rows_told, entries_in, accepted_in, graph_in, DeviceFailed, NoCountChanged, ReadsFailed, form_graph}
 use Rattle.spl_driver.specs.Steps.{PreparedOf, PrepareCounted, SourceOf, SourceCounted}
 use Rattle.spl_driver.specs.declared.request.Request.TheVariants.{Run}
 use Rattle.spl_driver.specs.declared.prepare.Prepared.{Prepared}
@@ -38,11 +44,8 @@ no_fault s bytes e small = ap has_fault e ∙ ap (λ (b : Bool). b && false) (wi
 long_fault : (s : Script) → 1048576 < length s.bytes → has_fault s ≡ false
 long_fault s long = ap (λ (b : Bool). b && is_failed s.ending) (beyond (length s.bytes) long)
 
-pub accepted_whole : (s : Script) (bytes : List ℕ) → s ≡ record { bytes = bytes; ending = End } → length bytes ≤ 1048576 → accepted_in s ≡ accepted bytes
-accepted_whole s bytes e small = ap accepted_in e ∙ ap (λ (b : Bool). cond {A = Option Graph} b (accepted bytes) None) (within (length bytes) small)
-
-accepted_long : (s : Script) → 1048576 < length s.bytes → accepted_in s ≡ None
-accepted_long s long = ap (λ (b : Bool). cond {A = Option Graph} b (accepted s.bytes) None) (beyond (length s.bytes) long)
+pub accepted_whole : (s : Script) (bytes : List ℕ) → s ≡ record { bytes = bytes; ending = End } → accepted_in s ≡ accepted bytes
+accepted_whole s bytes e = ap accepted_in e
 
 -- what a source comes to that is read to its end, or is longer
 pub source_whole : (s : Script) (bytes : List ℕ) (b : Bool) (next : Outcome) → FetchedOf s (F.Whole bytes) 1048576 → is_number_file bytes ≡ b
@@ -64,33 +67,42 @@ source_long s next long =
     ∙ ap (λ (w : Bool). if (w && is_number_file s.bytes) && true then next else NotBuilt) (beyond (length s.bytes) long)
 
 outcome_behind : (t : Told) (p bytes : List ℕ) (arrivals : Arrivals) → FetchedOf (t.script p) (F.Whole bytes) 1048576
-    → outcome (Some (Run p)) t arrivals ≡ with_graph (accepted bytes) t arrivals.lists
+    → outcome (Some (Run p)) t arrivals ≡ with_program (program_form bytes) t arrivals.lists
 outcome_behind t p bytes arrivals h =
-    ap (λ (f : Bool). if f then Unreadable else with_graph (accepted_in (t.script p)) t arrivals.lists) (no_fault (t.script p) bytes h.0 h.1)
-    ∙ ap (λ (g : Option Graph). with_graph g t arrivals.lists) (accepted_whole (t.script p) bytes h.0 h.1)
+    ap (λ (f : Bool). if f then Unreadable else with_program (program_form (t.script p).bytes) t arrivals.lists) (no_fault (t.script p) bytes h.0 h.1)
+    ∙ ap (λ (s : Script). with_program (program_form s.bytes) t arrivals.lists) h.0
+
+-- a program that is longer is refused
+abbrev too_long : Refusal
+too_long = lexical_refusal (L.TooLong, MOST_BYTES)
+
+long_refused : (bytes : List ℕ) → MOST_BYTES < length bytes → program_form bytes ≡ B.Refused too_long
+unfolding tokens
+long_refused bytes long = ap (λ (b : Bool). form_in (if b then Err (L.TooLong, MOST_BYTES) else with_length (length bytes) (tokens_from 0 0 bytes))) (lt-ltb MOST_BYTES (length bytes) long)
 
 pub made_too_long : (told : Option Told) (p : List ℕ) → IfSome told (λ t. FetchedOf (t.script p) F.TooLong 1048576)
-    → IfSome told (λ t. (arrivals : Arrivals) → outcome (Some (Run p)) t arrivals ≡ NotBuilt)
+    → IfSome told (λ t. (arrivals : Arrivals) → outcome (Some (Run p)) t arrivals ≡ Refused too_long)
 made_too_long None p h = tt
 made_too_long (Some t) p h = λ arrivals.
-    ap (λ (f : Bool). if f then Unreadable else with_graph (accepted_in (t.script p)) t arrivals.lists) (long_fault (t.script p) h)
-    ∙ ap (λ (g : Option Graph). with_graph g t arrivals.lists) (accepted_long (t.script p) h)
+    ap (λ (f : Bool). if f then Unreadable else with_program (program_form (t.script p).bytes) t arrivals.lists) (long_fault (t.script p) h)
+    ∙ ap (λ (f : Form). with_program f t arrivals.lists) (long_refused (t.script p).bytes h)
 
-pub made_of_no_form : (told : Option Told) (p bytes : List ℕ) → IfSome told (λ t. FetchedOf (t.script p) (F.Whole bytes) 1048576)
-    → program_form bytes ≡ None → IfSome told (λ t. (arrivals : Arrivals) → outcome (Some (Run p)) t arrivals ≡ NotBuilt)
-made_of_no_form None p bytes h none = tt
-made_of_no_form (Some t) p bytes h none = λ arrivals.
-    outcome_behind t p bytes arrivals h ∙ ap (λ (x : Option Condition). with_graph (graph_with x) t arrivals.lists) none
+-- what a whole program comes to that is not of the form
+pub made_whole : (told : Option Told) (p bytes : List ℕ) (f : Form) → IfSome told (λ t. FetchedOf (t.script p) (F.Whole bytes) 1048576)
+    → f ≡ program_form bytes → IfSome told (λ t. (arrivals : Arrivals) → outcome (Some (Run p)) t arrivals ≡ with_program f t arrivals.lists)
+made_whole None p bytes f h is = tt
+made_whole (Some t) p bytes f h is = λ arrivals.
+    outcome_behind t p bytes arrivals h ∙ ap (λ (x : Form). with_program x t arrivals.lists) (sym is)
 
 -- what a request of a program with this condition comes to behind the source's script
-outcome_of_form : (t : Told) (p bytes : List ℕ) (c : Condition) (arrivals : Arrivals) → FetchedOf (t.script p) (F.Whole bytes) 1048576 → program_form bytes ≡ Some c
+outcome_of_form : (t : Told) (p bytes : List ℕ) (c : Condition) (arrivals : Arrivals) → FetchedOf (t.script p) (F.Whole bytes) 1048576 → program_form bytes ≡ B.Filtered c
     → outcome (Some (Run p)) t arrivals ≡ with_sources (t.script SOURCE ∷ []) (Runs (graph_of c) (meaning (graph_of c) (rows_told (graph_of c) t) (entries_in arrivals.lists)))
 outcome_of_form t p bytes c arrivals h form =
-    outcome_behind t p bytes arrivals h ∙ ap (λ (x : Option Condition). with_graph (graph_with x) t arrivals.lists) form
+    outcome_behind t p bytes arrivals h ∙ ap (λ (x : Form). with_program x t arrivals.lists) form
 
-graph_of_form : (t : Told) (p bytes : List ℕ) (c : Condition) → FetchedOf (t.script p) (F.Whole bytes) 1048576 → program_form bytes ≡ Some c
+graph_of_form : (t : Told) (p bytes : List ℕ) (c : Condition) → FetchedOf (t.script p) (F.Whole bytes) 1048576 → program_form bytes ≡ B.Filtered c
     → accepted_in (t.script p) ≡ Some (graph_of c)
-graph_of_form t p bytes c h form = accepted_whole (t.script p) bytes h.0 h.1 ∙ ap graph_with form
+graph_of_form t p bytes c h form = accepted_whole (t.script p) bytes h.0 ∙ ap graph_with form
 
 or-true : (b : Bool) → (b || true) ≡ true
 or-true true = refl
@@ -105,7 +117,7 @@ source_failed p source g old mid new at names same rose =
     inl (SOURCE, ap (λ (ns : List (List ℕ)). is_named ns SOURCE) names ∙ or-true (bytes_eq p SOURCE), now)
 
 made_at : (t : Told) (p bytes : List ℕ) (c : Condition) (r : Prepared) (source : List ℕ) (old mid new : PerName) → source ≡ SOURCE
-    → FetchedOf (t.script p) (F.Whole bytes) 1048576 → program_form bytes ≡ Some c → SourceOf r c (t.script SOURCE) → NoCountChanged old mid → SourceCounted r source mid new
+    → FetchedOf (t.script p) (F.Whole bytes) 1048576 → program_form bytes ≡ B.Filtered c → SourceOf r c (t.script SOURCE) → NoCountChanged old mid → SourceCounted r source mid new
     → PreparedOf r p old new t
 made_at t p bytes c (P.Stream items) source old mid new at h form made same counted = (
   c,
@@ -115,13 +127,14 @@ made_at t p bytes c (P.Stream items) source old mid new at h form made same coun
     items = made.1;
   },
 )
+made_at t p bytes c (P.Refused refusal) source old mid new at h form made same counted = absurd made
 made_at t p bytes c P.NotBuilt source old mid new at h form made same counted = λ arrivals. outcome_of_form t p bytes c arrivals h form ∙ made _
 made_at t p bytes c P.Device source old mid new at h form made same counted =
     source_failed p source (graph_in (Some (Run p)) t) old mid new at (ap (λ (x : Option Graph). opens (Some (Run p)) (graph_or_none x)) (graph_of_form t p bytes c h form)) same counted.0
 made_at t p bytes c P.NoMemory source old mid new at h form made same counted = tt
 
 pub made_of_form : (told mid : Option Told) (p bytes source : List ℕ) (c : Condition) (r : Prepared) (old between new : PerName) → source ≡ SOURCE
-    → IfSome told (λ t. FetchedOf (t.script p) (F.Whole bytes) 1048576) → program_form bytes ≡ Some c
+    → IfSome told (λ t. FetchedOf (t.script p) (F.Whole bytes) 1048576) → program_form bytes ≡ B.Filtered c
     → WhereTold told mid TellsSame → IfSome mid (λ t. SourceOf r c (t.script source)) → NoCountChanged old between → SourceCounted r source between new
     → IfSome told (PreparedOf r p old new)
 made_of_form None mid p bytes source c r old between new at h form same made quiet counted = tt
@@ -138,6 +151,7 @@ told_twice (Some x) (Some y) (Some z) a b = record { holds = λ n. b.holds n ∙
 
 pub counted_behind : (r : Prepared) (p source : List ℕ) (old mid new : PerName) → source ≡ SOURCE → NoCountChanged old mid → SourceCounted r source mid new → PrepareCounted r p old new
 counted_behind (P.Stream items) p source old mid new at a b = λ n. b n ∙ a n
+counted_behind (P.Refused refusal) p source old mid new at a b = absurd b
 counted_behind P.NotBuilt p source old mid new at a b = λ n. b n ∙ a n
 counted_behind P.NoMemory p source old mid new at a b = tt
 counted_behind P.Device p source old mid new at a b = (source_failed p source form_graph old mid new at refl a b.0, (source, λ n other. b.1 n other ∙ a n))

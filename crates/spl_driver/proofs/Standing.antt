@@ -19,7 +19,7 @@ use Rattle.stream_model.specs.RowsLaws.{rows_close}
 use Rattle.stream_model.specs.PathLaws.{passed, written, path_sink, path_written}
 use Rattle.spl_driver.specs.Program.{graph_of, price_source}
 use Rattle.spl_driver.specs.Request.{creates, is_named, graph_or_none}
-use Rattle.spl_driver.specs.Answer.{CreateFailed, CreatedLast, ReadsFailed, Outcome, NotBuilt, Unreadable, Runs, outcome, rows_told, entries_in, graph_in, AtSink, EachSink, HoldsPrefix, SameFiles, Begun, Stands, CarriedOut, Answered, DeviceFailed, NoCountChanged, Shown, form_graph, sink_text, tuples_of, counts_of}
+use Rattle.spl_driver.specs.Answer.{CreateFailed, CreatedLast, ReadsFailed, Outcome, Unreadable, Refused, NotBuilt, Runs, outcome, rows_told, entries_in, graph_in, AtSink, EachSink, HoldsPrefix, SameFiles, Begun, Stands, CarriedOut, Answered, DeviceFailed, NoCountChanged, Shown, form_graph, sink_text, tuples_of, counts_of}
 use Rattle.spl_driver.proofs.Quiet.{same_or_not, quiet_twice, quiet_sink}
 use Rattle.spl_driver.specs.Steps.{HeldAfter, keeps, is_tuple, Prepares, PreparedOf, SunkAs, SinkCounted, SunkCount, EndsAs, counts_with}
 use Rattle.spl_driver.specs.declared.request.Request.{Request}
@@ -27,6 +27,7 @@ use Rattle.spl_driver.specs.declared.request.Request.TheVariants.{Run}
 use Rattle.spl_driver.specs.declared.cause.Cause.{Cause}
 use Rattle.spl_driver.specs.declared.cause.Cause.TheVariants as C
 use Rattle.spl_driver.specs.declared.cause.Ended.{Ended}
+use Rattle.spl_driver.specs.declared.cause.Refusal.{Refusal}
 use Rattle.spl_driver.specs.declared.prepare.Prepared.TheVariants as P
 use Rattle.spl_driver.specs.declared.sink.Sunk.{Sunk}
 use Rattle.spl_driver.specs.declared.sink.Sunk.TheVariants as S
@@ -43,8 +44,9 @@ prefixes m old new [] same = tt
 prefixes m old new (op ∷ ops) same = (prefix_at m old new op.kind op same, prefixes m old new ops same)
 
 pub same_begun : (result : Outcome) (old new : Told) → SameFiles old new → Begun result old new
-same_begun NotBuilt old new same = same
 same_begun Unreadable old new same = same
+same_begun (Refused refusal) old new same = same
+same_begun NotBuilt old new same = same
 same_begun (Runs g m) old new same = prefixes m old new g.ops same
 
 -- an answer of want of memory or of a device, where no file changed
@@ -78,6 +80,19 @@ not_built_answer (Some t) (Some u) request ended counts later is made same reads
   stands = subst (λ (c : Cause). Stands c (outcome request t ended.arrivals) ended t u) (sym is) (made ended.arrivals, same.holds);
   others = λ n named. same.holds n;
   device = λ device. absurd (let e : C.NotBuilt ≡ C.Device = sym is ∙ device in cc);
+  created = λ device none. same.holds;
+  reads = reads;
+}
+
+pub refused_answer : (told now : Option Told) (request : Option Request) (ended : Ended) (refusal : Refusal) (counts later : PerName) → ended.cause ≡ C.Refused refusal
+    → IfSome told (λ t. (arrivals : Arrivals) → outcome request t arrivals ≡ Refused refusal) → WhereTold told now TellsSame → IfSome told (ReadsFailed counts later)
+    → WhereTold told now (Answered request ended counts later)
+refused_answer None now request ended refusal counts later is made same reads = tt
+refused_answer (Some t) None request ended refusal counts later is made same reads = same
+refused_answer (Some t) (Some u) request ended refusal counts later is made same reads = record {
+  stands = subst (λ (c : Cause). Stands c (outcome request t ended.arrivals) ended t u) (sym is) (made ended.arrivals, same.holds);
+  others = λ n named. same.holds n;
+  device = λ device. absurd (let e : C.Refused refusal ≡ C.Device = sym is ∙ device in cc);
   created = λ device none. same.holds;
   reads = reads;
 }

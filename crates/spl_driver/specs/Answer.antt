@@ -15,13 +15,20 @@ use Rattle.stream_model.specs.declared.record.SinkCount.{SinkCount}
 use Rattle.stream_model.specs.React.{Kind, Operator, FileSource, Filter, FileSink}
 use Rattle.stream_model.specs.Stages.{out}
 use Rattle.stream_model.specs.Meaning.{Graph, Meaning, meaning, connections, rows_of, text}
-use Rattle.spl_driver.specs.Program.{accepted, graph_of}
+use Rattle.spl_driver.specs.Program.{program_form, accepted, graph_of}
 use Rattle.spl_driver.specs.Request.{opens, creates, is_named, source_files, graph_or_none}
 use Rattle.spl_driver.specs.Source.{is_number_file}
 use Rattle.spl_driver.specs.declared.request.Request.{Request}
 use Rattle.spl_driver.specs.declared.request.Request.TheVariants.{Run}
 use Rattle.spl_driver.specs.declared.cause.Cause.{Cause}
 use Rattle.spl_driver.specs.declared.cause.Cause.TheVariants as C
+use Rattle.spl_driver.specs.declared.cause.Code.{Code}
+use Rattle.spl_driver.specs.declared.cause.Code.TheVariants.{Lexical}
+use Rattle.spl_driver.specs.declared.cause.Refusal.{Refusal}
+use Rattle.spl_driver.specs.declared.program.Form.{Form}
+use Rattle.spl_driver.specs.declared.program.Form.TheVariants as F
+use Rattle.spl_tree.specs.declared.token.LexicalError.TheVariants as L
+use Rattle.std.specs.Fmt.{decimal}
 use Rattle.spl_driver.specs.declared.cause.Ended.{Ended}
 
 -- ---- what a request comes to
@@ -52,11 +59,12 @@ if_several op = if has_several (connections op) then Some op.number else None
 abbrev pub several : Graph → List ℕ
 several g = filter_map if_several g.ops
 
--- What a request comes to with ample memory and devices that give what the shelf tells: it isn't built, a file that it
--- reads ends in a fault, or a graph runs and has this meaning.
+-- What a request comes to with ample memory and devices that give what the shelf tells: a file that it reads ends in a
+-- fault, its program is refused, it isn't built, or a graph runs and has this meaning.
 pub data Outcome : Type 0 where
-  NotBuilt : Outcome
   Unreadable : Outcome
+  Refused : Refusal → Outcome
+  NotBuilt : Outcome
   Runs : (graph : Graph) (meaning : Meaning) → Outcome
 
 abbrev pub is_failed : Ending → Bool
@@ -81,16 +89,20 @@ with_sources sources next = if list_any has_fault sources then Unreadable else i
 
 -- the graph of the program in a file, where it is accepted
 abbrev pub accepted_in : Script → Option Graph
-accepted_in script = if is_within script then accepted script.bytes else None
+accepted_in script = accepted script.bytes
 
-abbrev pub with_graph : Option Graph → Told → List ArrivalList → Outcome
-with_graph None told lists = NotBuilt
-with_graph (Some g) told lists = with_sources (map told.script (source_files g)) (Runs g (meaning g (rows_told g told) (entries_in lists)))
+abbrev pub with_graph : Graph → Told → List ArrivalList → Outcome
+with_graph g told lists = with_sources (map told.script (source_files g)) (Runs g (meaning g (rows_told g told) (entries_in lists)))
+
+abbrev pub with_program : Form → Told → List ArrivalList → Outcome
+with_program (F.Refused refusal) told lists = Refused refusal
+with_program F.Other told lists = NotBuilt
+with_program (F.Filtered condition) told lists = with_graph (graph_of condition) told lists
 
 abbrev pub outcome : Option Request → Told → Arrivals → Outcome
 outcome None told arrivals = NotBuilt
 outcome (Some (Run program)) told arrivals =
-    if has_fault (told.script program) then Unreadable else with_graph (accepted_in (told.script program)) told arrivals.lists
+    if has_fault (told.script program) then Unreadable else with_program (program_form (told.script program).bytes) told arrivals.lists
 
 -- the request's graph, which has no operators where the program isn't accepted
 abbrev pub graph_in : Option Request → Told → Graph
@@ -144,13 +156,15 @@ SameFiles old new = (n : List ℕ) → new.holds n ≡ old.holds n
 
 -- no sink was created, or those that were hold a prefix of their text
 abbrev pub Begun : Outcome → Told → Told → Type 0
-Begun NotBuilt old new = SameFiles old new
 Begun Unreadable old new = SameFiles old new
+Begun (Refused refusal) old new = SameFiles old new
+Begun NotBuilt old new = SameFiles old new
 Begun (Runs g m) old new = EachSink (HoldsPrefix m old new) g.ops
 
 -- each cause, by what the request comes to
 abbrev pub Stands : Cause → Outcome → Ended → Told → Told → Type 0
 Stands C.Done result ended old new = (g : Graph) × (m : Meaning) × (result ≡ Runs g m) × CarriedOut g m ended new
+Stands (C.Refused refusal) result ended old new = (result ≡ Refused refusal) × SameFiles old new
 Stands C.NotBuilt result ended old new = (result ≡ NotBuilt) × SameFiles old new
 Stands C.Device result ended old new = Begun result old new
 Stands C.NoMemory result ended old new = Begun result old new
@@ -165,11 +179,11 @@ CreateFailed names old new = (n : List ℕ) × (is_named names n ≡ true) × (R
 abbrev pub DeviceFailed : Option Request → Graph → PerName → PerName → Type 0
 DeviceFailed request g old new = OpenFailed (opens request g) old new ⊎ CreateFailed (creates request g) old new
 
--- no file was created before a device failed that isn't one of the files that are created
+-- where no count of creating or writing a created file rose, every file is as it was
 abbrev pub CreatedLast : Option Request → Graph → PerName → PerName → Told → Told → Type 0
 CreatedLast request g counts now old new = (CreateFailed (creates request g) counts now → ⊥) → SameFiles old new
 
--- a count of reading changes only at a file whose reader fails within its first 1,048,576 bytes
+-- a count of reading changes only at a file whose reader fails behind at most 1,048,576 bytes
 abbrev pub ReadsFailed : PerName → PerName → Told → Type 0
 ReadsFailed counts now old = (n : List ℕ) → (now n).reading ≢ (counts n).reading → has_fault (old.script n) ≡ true
 
@@ -196,6 +210,7 @@ OneFailed old new = (n : List ℕ) × OthersStay old new n
 
 abbrev pub Shown : Cause → Option Request → PerName → PerName → Type 0
 Shown C.Done request old new = NoCountChanged old new
+Shown (C.Refused refusal) request old new = NoCountChanged old new
 Shown C.NotBuilt request old new = NoCountChanged old new
 Shown C.Device request old new = DeviceFailed request form_graph old new × OneFailed old new
 Shown C.NoMemory request old new = ⊤
@@ -204,12 +219,30 @@ Shown C.NoMemory request old new = ⊤
 
 abbrev pub status_of : Cause → ℕ
 status_of C.Done = 0
+status_of (C.Refused refusal) = 2
 status_of C.NoMemory = 9
 status_of C.NotBuilt = 13
 status_of C.Device = 14
 
+-- the code that is told
+abbrev pub code_text : Code → List ℕ
+code_text (Lexical L.BadByte) = codes "L1"
+code_text (Lexical L.OpenText) = codes "L2"
+code_text (Lexical L.OpenComment) = codes "L3"
+code_text (Lexical L.BadNumber) = codes "L4"
+code_text (Lexical L.TooLong) = codes "L5"
+
+-- a blank and the name, where there is one
+abbrev pub name_text : Option (List ℕ) → List ℕ
+name_text None = []
+name_text (Some name) = 32 ∷ name
+
+abbrev pub refusal_text : Refusal → List ℕ
+refusal_text refusal = codes "refused " ++ code_text refusal.code ++ codes " at " ++ decimal refusal.at ++ name_text refusal.name ++ codes "\n"
+
 abbrev pub text_of_cause : Cause → List ℕ
 text_of_cause C.Done = []
+text_of_cause (C.Refused refusal) = refusal_text refusal
 text_of_cause C.NoMemory = codes "no memory\n"
 text_of_cause C.NotBuilt = codes "not built\n"
 text_of_cause C.Device = codes "device failed\n"
@@ -223,6 +256,7 @@ abbrev pub Said : Cause → Option (List ℕ) → Option (List ℕ) → Type 0 �
 Said cause None now Failed = ⊤
 Said C.NoMemory (Some old) now Failed = ⊤
 Said C.Done (Some old) now Failed = PouredText (text_of_cause C.Done) old now Failed
+Said (C.Refused refusal) (Some old) now Failed = PouredText (refusal_text refusal) old now Failed
 Said C.NotBuilt (Some old) now Failed = PouredText (text_of_cause C.NotBuilt) old now Failed
 Said C.Device (Some old) now Failed = PouredText (text_of_cause C.Device) old now Failed
 
@@ -233,8 +267,9 @@ IsOr expected cause = (cause ≡ expected) ⊎ (cause ≡ C.NoMemory)
 
 -- where no device failed, what the request comes to is the answer, or memory was wanting
 abbrev pub IsComplete : Outcome → Type 0 → Cause → Type 0
-IsComplete NotBuilt Failed cause = (Failed → ⊥) → IsOr C.NotBuilt cause
 IsComplete Unreadable Failed cause = IsOr C.Device cause
+IsComplete (Refused refusal) Failed cause = (Failed → ⊥) → IsOr (C.Refused refusal) cause
+IsComplete NotBuilt Failed cause = (Failed → ⊥) → IsOr C.NotBuilt cause
 IsComplete (Runs g m) Failed cause = (Failed → ⊥) → IsOr C.Done cause
 
 -- without a request nothing is touched

@@ -1,5 +1,6 @@
 pub mod Source
 pub mod Lines
+pub mod Form
 pub mod Program
 pub mod ProgramLaws
 pub mod Request

@@ -1,68 +1,32 @@
--- The one form of the program, as text, and its graph.
-use Rattle.std.specs.Prelude.{◌-◌, ℕ, pos, true, List, [], ◌∷◌, ◌++◌, length, take, drop, if◌then◌else◌, nat_le, codes, Option, Some, None}
-use Rattle.std.specs.Option.{option_or}
-use Rattle.std.specs.Str.{bytes_eq}
-use Rattle.spl_value.specs.Decimal.{natural}
-use Rattle.stream_model.specs.declared.comparison.Comparison.{Comparison}
-use Rattle.stream_model.specs.declared.comparison.Comparison.TheVariants as C
+-- What the bytes of a program come to, and the graph of the one that runs.
+use Rattle.std.specs.Prelude.{ℕ, true, List, [], ◌∷◌, codes, Option, Some, None, Result, Ok, Err}
+use Rattle.spl_tree.specs.declared.token.Tokens.{Tokens}
+use Rattle.spl_tree.specs.Tokens.{tokens}
+use Rattle.spl_tree.specs.Tokens as lexical
 use Rattle.stream_model.specs.declared.condition.Condition.{Condition}
 use Rattle.stream_model.specs.React.{Source, FileSource, Filter, FileSink}
 use Rattle.stream_model.specs.Meaning.{Graph}
+use Rattle.spl_driver.specs.Form.{form_of}
 use Rattle.spl_driver.specs.Source.{price_schema}
-use Rattle.spl_driver.specs.declared.TheConstants.{FRONT, BACK}
+use Rattle.spl_driver.specs.declared.cause.Refusal.{Refusal}
+use Rattle.spl_driver.specs.declared.cause.Code.TheVariants as C
+use Rattle.spl_driver.specs.declared.program.Form.{Form}
+use Rattle.spl_driver.specs.declared.program.Form.TheVariants as F
 
--- the comparison as the program spells it
-abbrev pub symbol : Comparison → List ℕ
-symbol C.Less = codes "<"
-symbol C.AtMost = codes "<="
-symbol C.Greater = codes ">"
-symbol C.AtLeast = codes ">="
-symbol C.Equal = codes "=="
-symbol C.NotEqual = codes "!="
+abbrev pub lexical_refusal : lexical.Refusal → Refusal
+lexical_refusal refusal = record { code = C.Lexical refusal.0; at = refusal.1; name = None }
 
--- the program with this comparison and these digits
-abbrev pub program_text : Comparison → List ℕ → List ℕ
-program_text c digits = FRONT.now ++ ((symbol c ++ (32 ∷ digits)) ++ BACK.now)
+abbrev pub form_with : Option Condition → Form
+form_with None = F.Other
+form_with (Some condition) = F.Filtered condition
 
--- the number of 1 to 18 digits
-abbrev pub literal_of : List ℕ → Option ℕ
-literal_of digits = if nat_le (length digits) 18 then natural digits else None
+abbrev pub form_in : Result Tokens lexical.Refusal → Form
+form_in (Err refusal) = F.Refused (lexical_refusal refusal)
+form_in (Ok ts) = form_with (form_of ts.list)
 
-abbrev pub behind_front : List ℕ → List ℕ → Option (List ℕ)
-behind_front front bytes = if bytes_eq (take (length front) bytes) front then Some (drop (length front) bytes) else None
-
-abbrev pub before_back : List ℕ → List ℕ → Option (List ℕ)
-before_back back bytes = if bytes_eq (drop (length bytes - length back) bytes) back then Some (take (length bytes - length back) bytes) else None
-
-abbrev pub condition_with : Comparison → Option ℕ → Option Condition
-condition_with c None = None
-condition_with c (Some n) = Some (record { place = 0; comparison = c; literal = pos n })
-
-abbrev pub literal_in : Option (List ℕ) → Option ℕ
-literal_in None = None
-literal_in (Some digits) = literal_of digits
-
--- the condition of a comparison, where its symbol, a blank and a literal stand there
-abbrev pub compared : Comparison → List ℕ → Option Condition
-compared c middle = condition_with c (literal_in (behind_front (symbol c ++ (32 ∷ [])) middle))
-
--- the comparison and the literal between the two fixed parts
-abbrev pub condition_of : List ℕ → Option Condition
-condition_of middle =
-    option_or (option_or (option_or (option_or (option_or (compared C.Less middle) (compared C.AtMost middle)) (compared C.Greater middle))
-    (compared C.AtLeast middle)) (compared C.Equal middle)) (compared C.NotEqual middle)
-
-abbrev pub condition_between : Option (List ℕ) → Option Condition
-condition_between None = None
-condition_between (Some middle) = condition_of middle
-
-abbrev pub middle_of : Option (List ℕ) → Option (List ℕ)
-middle_of None = None
-middle_of (Some rest) = before_back BACK.now rest
-
--- the condition of a program of the form
-abbrev pub program_form : List ℕ → Option Condition
-program_form bytes = condition_between (middle_of (behind_front FRONT.now bytes))
+-- what a program comes to: its refusal, or the condition of its filter where it is of the form
+abbrev pub program_form : List ℕ → Form
+program_form bytes = form_in (tokens bytes)
 
 abbrev pub price_source : Source
 price_source = record { file = codes "t.csv"; schema = price_schema; strict = true }
@@ -77,9 +41,10 @@ graph_of condition = record {
   topo = 0 ∷ 1 ∷ 2 ∷ [];
 }
 
-abbrev pub graph_with : Option Condition → Option Graph
-graph_with None = None
-graph_with (Some condition) = Some (graph_of condition)
+abbrev pub graph_with : Form → Option Graph
+graph_with (F.Refused refusal) = None
+graph_with F.Other = None
+graph_with (F.Filtered condition) = Some (graph_of condition)
 
 -- the graph of a program that is accepted
 abbrev pub accepted : List ℕ → Option Graph

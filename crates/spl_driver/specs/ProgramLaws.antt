@@ -1,20 +1,29 @@
--- The programs of the one form, said of their text.
-use Rattle.std.specs.Prelude.{◌≡◌, ℕ, pos, List, codes, Some}
-use Rattle.stream_model.specs.declared.comparison.Comparison.{Comparison}
+-- What programs are refused, and which are of the form.
+use Rattle.std.specs.Prelude.{◌≡◌, ◌↔◌, ℕ, List, codes, Ok, Err}
+use Rattle.spl_tree.specs.declared.token.Tokens.{Tokens}
+use Rattle.spl_tree.specs.Tokens.{tokens}
+use Rattle.spl_tree.specs.Tokens as lexical
 use Rattle.stream_model.specs.declared.condition.Condition.{Condition}
-use Rattle.spl_driver.specs.Program.{program_form, program_text, literal_of}
+use Rattle.spl_driver.specs.Form.{HasForm}
+use Rattle.spl_driver.specs.Program.{program_form, lexical_refusal}
+use Rattle.spl_driver.specs.declared.program.Form.TheVariants as F
 
--- the text with a comparison and digits is a program of the form, with that comparison and the digits' number
-abbrev pub TextReads : Type 0
-TextReads = (c : Comparison) (digits : List ℕ) (n : ℕ) → literal_of digits ≡ Some n
-    → program_form (program_text c digits) ≡ Some (record { place = 0; comparison = c; literal = pos n })
+-- a program has tokens of the form
+abbrev pub IsOfForm : List ℕ → Condition → Type 0
+IsOfForm bytes c = (ts : Tokens) × (tokens bytes ≡ Ok ts) × HasForm ts.list c
 
--- a program of the form is the text with its condition's comparison and some digits of its literal
-abbrev pub TextOnly : Type 0
-TextOnly = (bytes : List ℕ) (k : Condition) → program_form bytes ≡ Some k
-    → (digits : List ℕ) × (n : ℕ) × (literal_of digits ≡ Some n) × (k ≡ record { place = 0; comparison = k.comparison; literal = pos n })
-    × (bytes ≡ program_text k.comparison digits)
+-- a program comes to a condition exactly where it has tokens of the form with that condition
+abbrev pub FormLaw : Type 0
+FormLaw = (bytes : List ℕ) (c : Condition) → program_form bytes ≡ F.Filtered c ↔ IsOfForm bytes c
 
--- the program whose filter is `price > 10l`, byte for byte
+-- a program is refused exactly where its bytes are no tokens, for that reason
+abbrev pub RefusedLaw : Type 0
+RefusedLaw = (bytes : List ℕ) (refusal : lexical.Refusal) → program_form bytes ≡ F.Refused (lexical_refusal refusal) ↔ tokens bytes ≡ Err refusal
+
+-- the program whose filter is `price > 10l`
 abbrev pub program_of_ten : List ℕ
 program_of_ten = codes "composite Main {\n  graph\n    stream<int64 price> T = FileSource() { param file: \"t.csv\"; format: csv; }\n    stream<int64 price> B = Filter(T) { param filter: price > 10l; }\n    () as Out = FileSink(B) { param file: \"o.csv\"; format: csv; }\n}\n"
+
+-- these bytes have tokens
+abbrev pub IsFixed : List ℕ → Type 0
+IsFixed part = (ts : Tokens) × (tokens part ≡ Ok ts)

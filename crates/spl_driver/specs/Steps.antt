@@ -11,8 +11,15 @@ use Rattle.stream_model.specs.declared.condition.Condition.{Condition}
 use Rattle.stream_model.specs.declared.record.Arrivals.{Arrivals}
 use Rattle.stream_model.specs.Condition.{holds}
 use Rattle.stream_model.specs.Meaning.{meaning, rows_of}
+use Rattle.spl_tree.specs.declared.token.Tokens.{Tokens}
+use Rattle.spl_tree.specs.Grammar.{Expr}
+use Rattle.expr_parser.specs.declared.answer.ParsedExpr.{ParsedExpr}
+use Rattle.expr_parser.specs.declared.answer.SyntaxAnswer.{SyntaxAnswer}
+use Rattle.expr_parser.specs.declared.answer.SyntaxAnswer.TheVariants as E
+use Rattle.expr_parser.specs.Parses.{IsParsed, Parses}
+use Rattle.spl_driver.specs.Form.{condition_of}
 use Rattle.spl_driver.specs.Program.{graph_of, price_source}
-use Rattle.spl_driver.specs.Answer.{Outcome, NotBuilt, Runs, outcome, with_sources, rows_told, entries_in, accepted_in, graph_in, form_graph, DeviceFailed, OneFailed, NoCountChanged}
+use Rattle.spl_driver.specs.Answer.{Outcome, Refused, NotBuilt, Runs, outcome, with_sources, rows_told, entries_in, accepted_in, graph_in, form_graph, DeviceFailed, OneFailed, NoCountChanged}
 use Rattle.spl_driver.specs.declared.cause.Cause.TheVariants as C
 use Rattle.spl_driver.specs.declared.cause.Ended.{Ended}
 use Rattle.spl_driver.specs.declared.request.Request.TheVariants.{Run}
@@ -69,6 +76,17 @@ SunkCount S.CreateFailed items = ⊤
 SunkCount S.WriteFailed items = ⊤
 SunkCount S.Memory items = ⊤
 
+-- an expression was read that is no condition, or none was read
+abbrev pub NoCondition : Result ParsedExpr SyntaxAnswer → Type 0
+NoCondition (Ok parsed) = condition_of parsed.expr ≡ None
+NoCondition (Err E.Memory) = ⊥
+NoCondition (Err _) = ⊤
+
+-- what is read from a token on: an expression with this condition and the token behind it, or no condition
+abbrev pub ConditionAt : Tokens → ℕ → Option (Condition × ℕ) → Type 0
+ConditionAt tokens from (Some found) = (e : Expr) × IsParsed tokens from (record { expr = e; next = found.1 }) × (condition_of e ≡ Some found.0)
+ConditionAt tokens from None = (read : Result ParsedExpr SyntaxAnswer) × Parses tokens from read × NoCondition read
+
 -- the program of this name is accepted with this condition, its source is of the form, and this stream comes to its sink
 pub record Prepares (program : List ℕ) (t : Told) (c : Condition) (given : List Item) : Type 0 where
   pub graph : accepted_in (t.script program) ≡ Some (graph_of c)
@@ -78,12 +96,14 @@ pub record Prepares (program : List ℕ) (t : Told) (c : Condition) (given : Lis
 
 abbrev pub PreparedOf : Prepared → List ℕ → PerName → PerName → Told → Type 0
 PreparedOf (P.Stream items) program old new t = (c : Condition) × Prepares program t c items
+PreparedOf (P.Refused refusal) program old new t = (arrivals : Arrivals) → outcome (Some (Run program)) t arrivals ≡ Refused refusal
 PreparedOf P.NotBuilt program old new t = (arrivals : Arrivals) → outcome (Some (Run program)) t arrivals ≡ NotBuilt
 PreparedOf P.Device program old new t = DeviceFailed (Some (Run program)) (graph_in (Some (Run program)) t) old new
 PreparedOf P.NoMemory program old new t = ⊤
 
 abbrev pub PrepareCounted : Prepared → List ℕ → PerName → PerName → Type 0
 PrepareCounted (P.Stream items) program old new = NoCountChanged old new
+PrepareCounted (P.Refused refusal) program old new = NoCountChanged old new
 PrepareCounted P.NotBuilt program old new = NoCountChanged old new
 PrepareCounted P.Device program old new = DeviceFailed (Some (Run program)) form_graph old new × OneFailed old new
 PrepareCounted P.NoMemory program old new = ⊤
@@ -91,12 +111,14 @@ PrepareCounted P.NoMemory program old new = ⊤
 -- what a source's script comes to behind a condition
 abbrev pub SourceOf : Prepared → Condition → Script → Type 0
 SourceOf (P.Stream items) c script = ((next : Outcome) → with_sources (script ∷ []) next ≡ next) × (items ≡ filter (keeps c) (rows_of 0 price_source script))
+SourceOf (P.Refused refusal) c script = ⊥
 SourceOf P.NotBuilt c script = (next : Outcome) → with_sources (script ∷ []) next ≡ NotBuilt
 SourceOf P.Device c script = ⊤
 SourceOf P.NoMemory c script = ⊤
 
 abbrev pub SourceCounted : Prepared → List ℕ → PerName → PerName → Type 0
 SourceCounted (P.Stream items) source old new = NoCountChanged old new
+SourceCounted (P.Refused refusal) source old new = ⊥
 SourceCounted P.NotBuilt source old new = NoCountChanged old new
 SourceCounted P.Device source old new = (Rose (old source).opening (new source).opening ⊎ Rose (old source).reading (new source).reading) × OthersStay old new source
 SourceCounted P.NoMemory source old new = ⊤

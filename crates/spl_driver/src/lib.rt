@@ -10,18 +10,19 @@ mod row;
 mod run;
 mod sink;
 mod source;
+mod tell;
 #[cfg(test)]
 mod tests;
 mod top;
 
-pub use cause::{Cause, Ended};
-pub use program::program_law;
+pub use cause::{Cause, Code, Ended, Refusal};
+pub use program::{Form, program_law};
 pub use top::spl;
 
-/// What stands in front of the comparison in a program of the form.
+/// A program of the form up to its filter's value. Its tokens alone count.
 pub const FRONT: &[u8] =
-    b"composite Main {\n  graph\n    stream<int64 price> T = FileSource() { param file: \"t.csv\"; format: csv; }\n    stream<int64 price> B = Filter(T) { param filter: price ";
+    b"composite Main {\n  graph\n    stream<int64 price> T = FileSource() { param file: \"t.csv\"; format: csv; }\n    stream<int64 price> B = Filter(T) { param filter: ";
 
-/// What stands behind the literal's digits.
+/// A program of the form behind its filter's value. Its tokens alone count.
 pub const BACK: &[u8] =
-    b"l; }\n    () as Out = FileSink(B) { param file: \"o.csv\"; format: csv; }\n}\n";
+    b"; }\n    () as Out = FileSink(B) { param file: \"o.csv\"; format: csv; }\n}\n";

@@ -4,22 +4,25 @@ ghost use Rattle.feed_pour.specs.Contents.{WhereTold, TellsSame};
 ghost use Rattle.spl_driver.specs.Answer.{ReadsFailed};
 ghost use Rattle.spl_driver.specs.Steps.{PreparedOf, PrepareCounted, SourceOf, SourceCounted};
 
+use crate::cause::{Code, Refusal};
 use crate::filter::filtered;
-use crate::program::read_program;
+use crate::program::{Form, read_program};
 use crate::source::number_stream;
 use feed_pour::{Fetched, Shelf, fetch};
+use spl_tree::{LexicalError, MOST_BYTES};
 use spl_value::{Item, Items, Name};
 use std::alloc::Global;
 use stream_model::Condition;
 
-/// The most bytes of a program and of a source.
-const LIMIT: u32 = 1_048_576;
+/// The most bytes of a source.
+const MOST_SOURCE_BYTES: u32 = 1_048_576;
 
 /// What the program and its source come to.
 #[derive(Debug, Drop)]
 pub enum Prepared {
     /// The stream that the sink writes.
     Stream(Items<Item>),
+    Refused(Refusal),
     NotBuilt,
     Device,
     NoMemory,
@@ -40,7 +43,7 @@ fn prepare_source<H: Shelf>(
     ensures cause { SourceCounted result source.now (H.counts shelf.old) (H.counts shelf.new) }
     ensures lent { H.lent shelf.old < 2 ^ 64 - 1 → H.lent shelf.new ≡ H.lent shelf.old }
 {
-    match fetch(alloc, shelf, source, LIMIT) {
+    match fetch(alloc, shelf, source, MOST_SOURCE_BYTES) {
         Fetched::OpenFailed | Fetched::ReadFailed => Prepared::Device,
         Fetched::Memory => Prepared::NoMemory,
         Fetched::TooLong => Prepared::NotBuilt,
@@ -63,13 +66,19 @@ pub fn prepare<H: Shelf>(alloc: Global, shelf: &mut H, program: &Name, source: &
     ensures cause { PrepareCounted result program.now (H.counts shelf.old) (H.counts shelf.new) }
     ensures lent { H.lent shelf.old < 2 ^ 64 - 1 → H.lent shelf.new ≡ H.lent shelf.old }
 {
-    match fetch(alloc, shelf, program, LIMIT) {
+    match fetch(alloc, shelf, program, MOST_BYTES) {
         Fetched::OpenFailed | Fetched::ReadFailed => Prepared::Device,
         Fetched::Memory => Prepared::NoMemory,
-        Fetched::TooLong => Prepared::NotBuilt,
-        Fetched::Whole(bytes) => match read_program(bytes.as_slice()) {
-            None => Prepared::NotBuilt,
-            Some(condition) => prepare_source(alloc, shelf, &condition, source),
+        Fetched::TooLong => Prepared::Refused(Refusal {
+            code: Code::Lexical(LexicalError::TooLong),
+            at: MOST_BYTES,
+            name: None,
+        }),
+        Fetched::Whole(bytes) => match read_program(alloc, bytes.as_slice()) {
+            Err(_) => Prepared::NoMemory,
+            Ok(Form::Refused(refusal)) => Prepared::Refused(refusal),
+            Ok(Form::Other) => Prepared::NotBuilt,
+            Ok(Form::Filtered(condition)) => prepare_source(alloc, shelf, &condition, source),
         },
     }
 }

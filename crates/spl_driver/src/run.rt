@@ -14,11 +14,12 @@ use std::alloc::Global;
 use stream_model::{Arrivals, Counts, SinkCount};
 
 /// The exit status of a cause.
-pub fn status(cause: Cause) -> u8
-    ensures { result ≡ status_of cause }
+pub fn status(cause: &Cause) -> u8
+    ensures { result ≡ status_of cause.now }
 {
     match cause {
         Cause::Done => 0,
+        Cause::Refused(_) => 2,
         Cause::NoMemory => 9,
         Cause::NotBuilt => 13,
         Cause::Device => 14,
@@ -31,7 +32,7 @@ pub fn ended(alloc: Global, cause: Cause) -> Ended
     ensures lists { result.arrivals.lists ≡ [] }
 {
     Ended {
-        status: status(cause),
+        status: status(&cause),
         cause,
         arrivals: Arrivals {
             lists: Items::new(alloc),
@@ -66,7 +67,7 @@ fn ended_with(alloc: Global, sunk: Sunk) -> Ended
         Sunk::Done(tuples) => match counts(alloc, tuples) {
             Err(_) => ended(alloc, Cause::NoMemory),
             Ok(counts) => Ended {
-                status: status(Cause::Done),
+                status: status(&Cause::Done),
                 cause: Cause::Done,
                 arrivals: Arrivals {
                     lists: Items::new(alloc),
@@ -94,6 +95,7 @@ pub fn run<H: Shelf>(alloc: Global, shelf: &mut H, program: &Name) -> Ended
         return ended(alloc, Cause::NoMemory);
     };
     match prepare(alloc, shelf, program, &source) {
+        Prepared::Refused(refusal) => ended(alloc, Cause::Refused(refusal)),
         Prepared::NotBuilt => ended(alloc, Cause::NotBuilt),
         Prepared::Device => ended(alloc, Cause::Device),
         Prepared::NoMemory => ended(alloc, Cause::NoMemory),

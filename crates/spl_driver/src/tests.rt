@@ -171,6 +171,13 @@ fn carries_out_each_form(rt: HostRuntime) -> Result<(), AllocError> {
         ("price > 10l", "", ""),
         ("price > 10l", "10\n11", "11\n"),
         ("price > 010l", "0011\n-0\n-12\n", "11\n"),
+        // blanks and comments are no part of the form
+        ("price>10sl", "11\n", "11\n"),
+        (
+            "price /* at least */\n  >\t10l // and more\n",
+            "10\n11\n",
+            "11\n",
+        ),
         // each comparison below, at and above its literal
         ("price < 10l", "9\n10\n11\n", "9\n"),
         ("price <= 10l", "9\n10\n11\n", "9\n10\n"),
@@ -179,10 +186,15 @@ fn carries_out_each_form(rt: HostRuntime) -> Result<(), AllocError> {
         ("price == 10l", "9\n10\n11\n", "10\n"),
         ("price != 10l", "9\n10\n11\n", "9\n11\n"),
         ("price >= 10l", "10\n-3\n", "10\n"),
-        // a literal of 18 digits and its neighbours
+        // a literal of 18 digits and its neighbours, and the largest one
         (
             "price > 999999999999999998l",
             "999999999999999997\n999999999999999998\n999999999999999999\n",
+            "999999999999999999\n",
+        ),
+        (
+            "price < 9223372036854775807l",
+            "999999999999999999\n",
             "999999999999999999\n",
         ),
     ] {
@@ -193,16 +205,41 @@ fn carries_out_each_form(rt: HostRuntime) -> Result<(), AllocError> {
     Ok(())
 }
 
+// The program on one line, with a comment in front.
+const ON_ONE_LINE: &str =
+    "/* x */ composite Main { graph stream<int64 price> T = FileSource() { param file: \"t.csv\"; format: csv; } stream<int64 price> B = Filter(T) { param filter: price > 10l; } () as Out = FileSink(B) { param file: \"o.csv\"; format: csv; } }";
+
+#[test]
+fn reads_programs_by_their_tokens(rt: HostRuntime) -> Result<(), AllocError> {
+    let alloc = rt.alloc();
+    let program = bytes(alloc, ON_ONE_LINE)?;
+    let seen = run_with(&rt, alloc, program, "5\n10\n11\n", NO_FAILURE)?;
+    assert!(rt; shows(&seen, 0, "", Some("11\n")));
+    Ok(())
+}
+
 #[test]
 fn builds_no_other_form(rt: HostRuntime) -> Result<(), AllocError> {
     for (filter, source) in [
+        // other kinds of numbers, no number, and other names
         ("price > 10", "11\n"),
+        ("price > 10ul", "11\n"),
         ("price > l", "11\n"),
+        ("cost > 10l", "11\n"),
+        // other expressions
+        ("10l < price", "11\n"),
+        ("(price > 10l)", "11\n"),
         ("price > -10l", "11\n"),
-        ("price >  10l", "11\n"),
+        ("price + 10l", "11\n"),
+        ("price > 10l && true", "11\n"),
+        ("price > 10l, true", "11\n"),
+        // no expressions
+        ("", "11\n"),
+        ("price >", "11\n"),
         ("price => 10l", "11\n"),
         ("price > 1 0l", "11\n"),
-        ("price > 1000000000000000000l", ""),
+        ("price > 10l; }", "11\n"),
+        // other sources
         ("price > 10l", "x\n"),
         ("price > 10l", "11\n\n12\n"),
         ("price > 10l", "11\r\n"),
@@ -214,9 +251,56 @@ fn builds_no_other_form(rt: HostRuntime) -> Result<(), AllocError> {
         let seen = run_with(&rt, rt.alloc(), program, source, NO_FAILURE)?;
         assert!(rt; shows(&seen, 13, "not built\n", None), "{filter}");
     }
-    let empty = Items::new(rt.alloc());
-    let seen = run_with(&rt, rt.alloc(), empty, "11\n", NO_FAILURE)?;
-    assert!(rt; shows(&seen, 13, "not built\n", None));
+    Ok(())
+}
+
+#[test]
+fn builds_no_more_and_no_less_than_the_form(rt: HostRuntime) -> Result<(), AllocError> {
+    let alloc = rt.alloc();
+    let whole = PROGRAM.as_bytes();
+    let less = Items::from_slice(alloc, &whole[..whole.len() - 2])?;
+    let mut more = bytes(alloc, PROGRAM)?;
+    more.append(bytes(alloc, ";")?)?;
+    for program in vec![in alloc; less, more, Items::new(alloc)]? {
+        let seen = run_with(&rt, alloc, program, "11\n", NO_FAILURE)?;
+        assert!(rt; shows(&seen, 13, "not built\n", None));
+    }
+    Ok(())
+}
+
+#[test]
+fn refuses_what_is_no_tokens(rt: HostRuntime) -> Result<(), AllocError> {
+    for (program, line) in [
+        ("#", "refused L1 at 0\n"),
+        ("composite \u{e9}", "refused L1 at 10\n"),
+        ("'a\\q'", "refused L1 at 2\n"),
+        ("\"ab", "refused L2 at 0\n"),
+        (" /*", "refused L3 at 1\n"),
+        ("300b", "refused L4 at 0\n"),
+        ("9223372036854775808l", "refused L4 at 0\n"),
+        ("1x", "refused L4 at 0\n"),
+    ] {
+        let program = bytes(rt.alloc(), program)?;
+        // the source isn't looked at
+        let seen = run_with(&rt, rt.alloc(), program, "x\n", NO_FAILURE)?;
+        assert!(rt; shows(&seen, 2, line, None), "{line}");
+    }
+    Ok(())
+}
+
+#[test]
+fn refuses_a_program_that_is_too_long(rt: HostRuntime) -> Result<(), AllocError> {
+    let alloc = rt.alloc();
+    let mut blanks = Vec::new(alloc);
+    blanks.resize(1_048_576 - PROGRAM.len(), b' ')?;
+    let mut program = Items::from_vec(blanks);
+    program.append(bytes(alloc, PROGRAM)?)?;
+    let copy = Items::from_slice(alloc, program.as_slice())?;
+    let seen = run_with(&rt, alloc, copy, "11\n", NO_FAILURE)?;
+    assert!(rt; shows(&seen, 0, "", Some("11\n")));
+    program.push(b' ')?;
+    let seen = run_with(&rt, alloc, program, "11\n", NO_FAILURE)?;
+    assert!(rt; shows(&seen, 2, "refused L5 at 1048576\n", None));
     Ok(())
 }
 

@@ -3,12 +3,13 @@ ghost use Rattle.std.specs.Prelude.{◌≡◌, ◌⊎◌, ◌<◌, ◌-◌, ◌^
 ghost use Rattle.feed_pour.specs.Counts.{Rose};
 ghost use Rattle.feed_pour.specs.Contents.{WhereTold};
 ghost use Rattle.spl_driver.specs.Request.{request_of};
-ghost use Rattle.spl_driver.specs.Answer.{outcome, graph_in, DeviceFailed, Answered, Shown, NoCountChanged, Untouched, status_of, text_of_cause, Said, IsComplete};
+ghost use Rattle.spl_driver.specs.Answer.{outcome, graph_in, DeviceFailed, Answered, Shown, NoCountChanged, Untouched, status_of, Said, IsComplete};
 
 use crate::request::{Request, read_request};
 use crate::run::{ended, run, status};
+use crate::tell::say;
 use crate::{Cause, Ended};
-use feed_pour::{Gate, Pour, PourAnswer, Shelf, Starter, write_all};
+use feed_pour::{Gate, Pour, Shelf, Starter};
 use std::alloc::Global;
 use std::sync::Wait;
 use std::thread::Threads;
@@ -28,35 +29,6 @@ fn answer<H: Shelf>(alloc: Global, words: &[String], shelf: &mut H) -> Ended
         Err(_) => ended(alloc, Cause::NoMemory),
         Ok(None) => ended(alloc, Cause::NotBuilt),
         Ok(Some(Request::Run(program))) => run(alloc, shelf, &program),
-    }
-}
-
-// The line that tells a cause.
-fn text(cause: Cause) -> &'static [u8]
-    ensures { result.now ≡ text_of_cause cause }
-{
-    match cause {
-        Cause::Done => b"",
-        Cause::NoMemory => b"no memory\n",
-        Cause::NotBuilt => b"not built\n",
-        Cause::Device => b"device failed\n",
-    }
-}
-
-// Tells the cause. A failed write of it changes nothing.
-fn say<P: Pour>(cause: Cause, out: &mut P) -> Cause
-    ensures cause { (result ≡ cause) ⊎ (result ≡ Cause.NoMemory) }
-    ensures said { Said result (P.poured out.old) (P.poured out.new)
-        (Rose (P.faults out.old) (P.faults out.new)) }
-    ensures quiet { result ≡ Cause.Done → P.faults out.new ≡ P.faults out.old }
-{
-    if cause == Cause::Done {
-        return cause;
-    }
-    match write_all(out, text(cause)) {
-        Ok(()) => cause,
-        Err(PourAnswer::Failed) => cause,
-        Err(PourAnswer::Memory) => Cause::NoMemory,
     }
 }
 
@@ -108,9 +80,9 @@ pub fn spl<W: Threads + Wait + Sync, H: Shelf, S: Starter, G: Gate, P: Pour>(
         arrivals,
         counts,
     } = answer(alloc, words, shelf);
-    let cause = say(cause, out);
+    let cause = say(alloc, cause, out);
     Ended {
-        status: status(cause),
+        status: status(&cause),
         cause,
         arrivals,
         counts,

@@ -1,6 +1,6 @@
 use Rattle.std.proofs.Common.{refl, rules}
 use Rattle.spl_driver.proofs.Quiet.{quiet_fetch}
-use Rattle.spl_driver.proofs.Preparing.{made_too_long, made_of_no_form, made_of_form, told_twice, counted_behind, reads_behind}
+use Rattle.spl_driver.proofs.Preparing.{made_too_long, made_of_form, told_twice, counted_behind, reads_behind}
 use Rattle.spl_driver.proofs.prepare.prepare.Goals as goal
 
 pub returns-in-TooLong-clause-made : goal.returns-in-TooLong-clause-made
@@ -9,14 +9,8 @@ returns-in-TooLong-clause-made g c = made_too_long _ c.args.program.now c.in-Too
 pub returns-in-TooLong-clause-cause : goal.returns-in-TooLong-clause-cause
 returns-in-TooLong-clause-cause g c = quiet_fetch _ _ _ _ refl refl c.in-TooLong.ensures.cause
 
-pub returns-in-None-clause-made : goal.returns-in-None-clause-made
-returns-in-None-clause-made g c = made_of_no_form _ c.args.program.now c.in-Whole.bytes c.in-Whole.ensures.read (search rules)
-
-pub returns-in-None-clause-cause : goal.returns-in-None-clause-cause
-returns-in-None-clause-cause g c = quiet_fetch _ _ _ _ refl refl c.in-Whole.ensures.cause
-
 pub returns-clause-made : goal.returns-clause-made
-returns-clause-made g c = made_of_form _ _ c.args.program.now c.in-Whole.bytes c.args.source.now c.in-Some.condition c.prepare_source.result _ _ _ c.requires
+returns-clause-made g c = made_of_form _ _ c.args.program.now c.in-Whole.bytes c.args.source.now c.in-Ok-Filtered.condition c.prepare_source.result _ _ _ c.requires
     c.in-Whole.ensures.read (search rules) c.in-Whole.ensures.told c.prepare_source.ensures.made
     (quiet_fetch _ _ _ _ refl refl c.in-Whole.ensures.cause) c.prepare_source.ensures.cause
 
@@ -31,3 +25,9 @@ returns-in-OpenFailed-clause-cause g c = (search rules, (c.args.program.now, c.f
 
 pub returns-clause-reads : goal.returns-clause-reads
 returns-clause-reads g c = reads_behind _ _ ((g.H.Shelf).counts c.args.shelf.now) ((g.H.Shelf).counts c.fetch.new.shelf) ((g.H.Shelf).counts c.prepare_source.new.shelf) c.in-Whole.ensures.told (quiet_fetch _ _ _ _ refl refl c.in-Whole.ensures.cause) c.prepare_source.ensures.reads
+
+pub returns-in-Ok-Refused-clause-cause : goal.returns-in-Ok-Refused-clause-cause
+returns-in-Ok-Refused-clause-cause g c = quiet_fetch _ _ _ _ refl refl c.in-Whole.ensures.cause
+
+pub returns-in-Ok-Other-clause-cause : goal.returns-in-Ok-Other-clause-cause
+returns-in-Ok-Other-clause-cause g c = quiet_fetch _ _ _ _ refl refl c.in-Whole.ensures.cause
