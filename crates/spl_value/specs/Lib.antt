@@ -3,3 +3,7 @@ pub mod Values
 pub mod Decimal
 pub mod Near
 pub mod Script
+pub mod Wrap
+pub mod WrapLaws
+pub mod Key
+pub mod KeyLaws
