@@ -1,5 +1,12 @@
 pub mod formers
 pub mod Values
+pub mod FitsLaws
+pub mod Order
+pub mod OrderLaws
+pub mod Pairs
+pub mod PairsLaws
+pub mod TypesLaws
+pub mod Induction
 pub mod Decimal
 pub mod Near
 pub mod Script

@@ -1,0 +1,68 @@
+//! The pairs of a map, by ascending key.
+ghost use Rattle.std.specs.Prelude.{◌≡◌, IsTrue, MatchResult, OnOk, OnErr};
+ghost use Rattle.std.specs.Option.{option_copied};
+ghost use Rattle.spl_value.specs.Pairs.{are_pairs, pairs_get, pairs_contain, pairs_put, pairs_without, IsAt, IsGap};
+
+use crate::{Items, NoMemory, Value, order};
+
+impl Items<(Value, Value)> {
+    // The place of the key, or that where it belongs, by binary search.
+    fn place(&self, key: &Value) -> Result<usize, usize>
+        requires { IsTrue (are_pairs self.now) }
+        ensures { MatchResult result (IsAt key.now self.now) (IsGap key.now self.now) }
+    {
+        self.as_slice().binary_search_by(|pair| order(&pair.0, key))
+    }
+
+    /// The value at a key.
+    #[tactic(auto, using(crate::specs::PairsLaws::pairs_laws))]
+    pub fn find(&self, key: &Value) -> Option<&Value>
+        requires { IsTrue (are_pairs self.now) }
+        ensures { option_copied result ≡ pairs_get self.now key.now }
+    {
+        match self.place(key) {
+            Ok(at) => Some(&self.as_slice()[at].1),
+            Err(_) => None,
+        }
+    }
+
+    /// Whether some pair has the key.
+    pub fn contains_key(&self, key: &Value) -> bool
+        requires { IsTrue (are_pairs self.now) }
+        ensures { result ≡ pairs_contain self.now key.now }
+    {
+        self.find(key).is_some()
+    }
+
+    /// Puts a value at a key: in place of the value that the key has, or else in a new pair.
+    #[tactic(auto, using(crate::specs::PairsLaws::pairs_laws))]
+    pub fn put(&mut self, key: Value, value: Value) -> Result<(), NoMemory>
+        requires { IsTrue (are_pairs self.old) }
+        ensures ok { OnOk result (self.new ≡ pairs_put self.old key value) }
+        ensures err { OnErr result (self.new ≡ self.old) }
+        ensures sorted { IsTrue (are_pairs self.new) }
+    {
+        match self.place(&key) {
+            Ok(at) => self.set(at, (key, value)),
+            Err(at) => self.insert(at, (key, value))?,
+        }
+        Ok(())
+    }
+
+    /// Takes the pair with the key out, and gives its value, where there is one.
+    #[tactic(auto, using(crate::specs::PairsLaws::pairs_laws))]
+    pub fn remove_key(&mut self, key: &Value) -> Option<Value>
+        requires { IsTrue (are_pairs self.old) }
+        ensures value { result ≡ pairs_get self.old key.now }
+        ensures others { self.new ≡ pairs_without self.old key.now }
+        ensures sorted { IsTrue (are_pairs self.new) }
+    {
+        match self.place(key) {
+            Ok(at) => {
+                let (_, value) = self.remove(at);
+                Some(value)
+            }
+            Err(_) => None,
+        }
+    }
+}
