@@ -14,3 +14,5 @@ pub mod Wrap
 pub mod WrapLaws
 pub mod Key
 pub mod KeyLaws
+pub mod Calls
+pub mod CallsLaws

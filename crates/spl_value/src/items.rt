@@ -93,6 +93,15 @@ impl<T> Items<T> {
         self.items.pop()
     }
 
+    /// Takes every item out. The room that the list has stays.
+    pub fn clear(&mut self)
+    where
+        T: Drop,
+        ensures { self.new ≡ [] }
+    {
+        self.items.clear();
+    }
+
     pub fn is_empty(&self) -> bool
         ensures { IsTrue result ↔ (self.now ≡ []) }
     {

@@ -172,6 +172,16 @@ fn items_keep_their_order(rt: HostRuntime) -> Result<(), Fail> {
 }
 
 #[test]
+fn a_cleared_list_is_empty(rt: HostRuntime) -> Result<(), Fail> {
+    for items in [[].as_slice(), &[1u32], &[1, 2]] {
+        let mut items = Items::from_slice(rt.alloc(), items)?;
+        items.clear();
+        assert!(rt; items.is_empty());
+    }
+    Ok(())
+}
+
+#[test]
 fn an_empty_list_has_its_room(rt: HostRuntime) -> Result<(), Fail> {
     let items: Items<u32> = Items::with_capacity(rt.alloc(), 5)?;
     assert!(rt; items.into_vec().capacity() >= 5);
