@@ -80,6 +80,7 @@ same_bytes tuple other key places e = ap enc_values e
 
 -- ---- bytes that are one behind another
 
+-- equal bytes that are cut at the same place have equal parts
 split : (xs ys us vs : List ℕ) → length xs ≡ length ys → xs ++ us ≡ ys ++ vs → (xs ≡ ys) × (us ≡ vs)
 split [] [] us vs h e = (refl, e)
 split [] (y ∷ ys) us vs h e = absurd (omega arith)
@@ -107,7 +108,7 @@ at_most U16 = omega arith
 at_most U32 = omega arith
 at_most U64 = omega arith
 
--- two numbers of one kind differ modulo 2^64
+-- numbers of one kind that are equal modulo 2^64 are equal
 same_residue : (k : IntKind) (m n : ℤ) → kind_holds k m ≡ true → kind_holds k n ≡ true → residue m ≡ residue n → m ≡ n
 same_residue k (pos m) (pos n) h g e =
     let s = sizes k in let q = at_most k in let a = true_lt m (top k) h in let b = true_lt n (top k) g in ap pos (omega arith)
@@ -132,6 +133,7 @@ integer_apart m n us vs e = let s = split (enc_integer m) (enc_integer n) us vs 
 abbrev level_key_fits : SplType-F SplType → Value-F Value → Bool
 level_key_fits t v = level_is_key_type t && level_fits fits t v && level_is_short v
 
+-- whatever bytes follow, those of v and those of w are apart where v and w are
 abbrev Apart : (v w : Value-F Value) → Type 0
 Apart v w = (us vs : List ℕ) → level_enc v ++ us ≡ level_enc w ++ vs → (v ≡ w) × (us ≡ vs)
 
