@@ -10,3 +10,4 @@ pub mod Induction
 pub mod Decimal
 pub mod Near
 pub mod Script
+pub mod Lends

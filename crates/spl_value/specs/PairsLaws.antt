@@ -1,10 +1,11 @@
 -- What the place of a key says of look-up, insertion and removal, and that these keep the order.
-use Rattle.std.specs.Prelude.{◌≡◌, ℕ, zero, suc, ◌<◌, ◌≤◌, Bool, true, false, cond, not, ◌&&◌, IsTrue, List, [], ◌∷◌, length, Some, None, Result, Ok, Err, MatchResult, slice_get, slice_set, slice_index_or}
+use Rattle.std.specs.Prelude.{◌≡◌, ℕ, zero, suc, ◌<◌, ◌≤◌, Bool, true, false, cond, not, IsTrue, List, [], ◌∷◌, length, Some, None, Result, Ok, Err, MatchResult, slice_get, slice_set, slice_index_or}
 use Rattle.std.specs.List.{insert, remove, HoldsAt}
 use Rattle.std.specs.List.Sorted.{IsNonDecreasingBy, IsSearchInRange, IsBinarySearchResult}
 use Rattle.std.specs.declared.cmp.Ordering.{Ordering}
 use Rattle.std.specs.declared.cmp.Ordering.TheVariants.{Less, Equal, Greater}
 use Rattle.std.specs.Ordering.{eq_by_cmp, is_eq, is_lt, ordering_reverse, ordering_index}
+use Rattle.std.specs.Cmp.{first_so, second_so}
 use Rattle.std.specs.FinMap.Entries.{below_all, by_order, is_sorted-put, is_sorted-where_key}
 use Rattle.std.proofs.Common.{refl, sym, ap, subst, ◌∙◌, arith, T}
 use Rattle.std.proofs.lemmas.Option.{get_or_from_slice_get}
@@ -12,14 +13,6 @@ use Rattle.spl_value.specs.declared.value.Value.{Value}
 use Rattle.spl_value.specs.Order.{value_cmp}
 use Rattle.spl_value.specs.OrderLaws.{value_cmp_total, value_cmp-IsAntisymmetric, value_cmp-itself}
 use Rattle.spl_value.specs.Pairs.{are_pairs, pairs_get, pairs_put, pairs_without, IsAt, IsGap}
-
-first_true : (a b : Bool) → (a && b) ≡ true → a ≡ true
-first_true true b e = refl
-first_true false b e = cc
-
-second_true : (a b : Bool) → (a && b) ≡ true → b ≡ true
-second_true true b e = e
-second_true false b e = absurd cc
 
 is_lt-Less : (o : Ordering) → is_lt o ≡ true → o ≡ Less
 is_lt-Less Less e = refl
@@ -39,13 +32,13 @@ below_at : (x : Value) (ps : List (Value × Value)) (i : ℕ) (p : Value × Valu
 below_at x [] i p h e = absurd cc
 below_at x (q ∷ ps) zero p h e =
     let s : q ≡ p = cc in
-    ap (λ (r : Value × Value). value_cmp x r.0) (sym s) ∙ is_lt-Less (value_cmp x q.0) (first_true (is_lt (value_cmp x q.0)) (below_all value_cmp x ps) h)
-below_at x (q ∷ ps) (suc i) p h e = below_at x ps i p (second_true (is_lt (value_cmp x q.0)) (below_all value_cmp x ps) h) e
+    ap (λ (r : Value × Value). value_cmp x r.0) (sym s) ∙ is_lt-Less (value_cmp x q.0) (first_so (is_lt (value_cmp x q.0)) (below_all value_cmp x ps) h)
+below_at x (q ∷ ps) (suc i) p h e = below_at x ps i p (second_so (is_lt (value_cmp x q.0)) (below_all value_cmp x ps) h) e
 
 below_index : (x : Value) (ps : List (Value × Value)) (i : ℕ) (d : Value × Value) → below_all value_cmp x ps ≡ true → i < length ps → value_cmp x (slice_index_or ps i d).0 ≡ Less
 below_index x [] i d h lt = absurd (omega arith)
-below_index x (q ∷ ps) zero d h lt = is_lt-Less (value_cmp x q.0) (first_true (is_lt (value_cmp x q.0)) (below_all value_cmp x ps) h)
-below_index x (q ∷ ps) (suc i) d h lt = below_index x ps i d (second_true (is_lt (value_cmp x q.0)) (below_all value_cmp x ps) h) (omega arith)
+below_index x (q ∷ ps) zero d h lt = is_lt-Less (value_cmp x q.0) (first_so (is_lt (value_cmp x q.0)) (below_all value_cmp x ps) h)
+below_index x (q ∷ ps) (suc i) d h lt = below_index x ps i d (second_so (is_lt (value_cmp x q.0)) (below_all value_cmp x ps) h) (omega arith)
 
 index_rises : (v w k : Value) → value_cmp v w ≡ Less → ordering_index (value_cmp v k) ≤ ordering_index (value_cmp w k)
 index_rises v w k e =
@@ -59,9 +52,9 @@ pub keys_rise : (k : Value) (ps : List (Value × Value)) → IsTrue (are_pairs p
 keys_rise k [] h i j d le lt = absurd (omega arith)
 keys_rise k (q ∷ ps) h zero zero d le lt = omega arith
 keys_rise k (q ∷ ps) h zero (suc j) d le lt =
-    index_rises q.0 (slice_index_or ps j d).0 k (below_index q.0 ps j d (first_true (below_all value_cmp q.0 ps) (are_pairs ps) h) (omega arith))
+    index_rises q.0 (slice_index_or ps j d).0 k (below_index q.0 ps j d (first_so (below_all value_cmp q.0 ps) (are_pairs ps) h) (omega arith))
 keys_rise k (q ∷ ps) h (suc i) zero d le lt = absurd (omega arith)
-keys_rise k (q ∷ ps) h (suc i) (suc j) d le lt = keys_rise k ps (second_true (below_all value_cmp q.0 ps) (are_pairs ps) h) i j d (omega arith) (omega arith)
+keys_rise k (q ∷ ps) h (suc i) (suc j) d le lt = keys_rise k ps (second_so (below_all value_cmp q.0 ps) (are_pairs ps) h) i j d (omega arith) (omega arith)
 
 -- ---- what a binary search finds
 
@@ -80,10 +73,10 @@ place_of_key k ps (Err i) s within h = let parts = h (keys_rise k ps s) in recor
 module _ (k : Value) where
   -- the first key is below k
   past : (v w : Value) (q : Value × Value) (ps : List (Value × Value)) (i : ℕ) → IsTrue (are_pairs (q ∷ ps)) → slice_get ps i ≡ Some (k, v) → value_cmp k q.0 ≡ Greater
-  past v w q ps i s e = turned q.0 k Less (below_at q.0 ps i (k, v) (first_true (below_all value_cmp q.0 ps) (are_pairs ps) s) e)
+  past v w q ps i s e = turned q.0 k Less (below_at q.0 ps i (k, v) (first_so (below_all value_cmp q.0 ps) (are_pairs ps) s) e)
 
   rest : (q : Value × Value) (ps : List (Value × Value)) → IsTrue (are_pairs (q ∷ ps)) → IsTrue (are_pairs ps)
-  rest q ps s = second_true (below_all value_cmp q.0 ps) (are_pairs ps) s
+  rest q ps s = second_so (below_all value_cmp q.0 ps) (are_pairs ps) s
 
   pub get_at : (ps : List (Value × Value)) (i : ℕ) (v : Value) → IsTrue (are_pairs ps) → slice_get ps i ≡ Some (k, v) → pairs_get ps k ≡ Some v
   get_at [] i v s e = absurd cc
@@ -103,14 +96,14 @@ module _ (k : Value) where
   above_others : (ps : List (Value × Value)) → below_all value_cmp k ps ≡ true → pairs_without ps k ≡ ps
   above_others [] h = refl
   above_others (q ∷ ps) h =
-      ap (λ o. cond (not (is_eq o)) (q ∷ pairs_without ps k) (pairs_without ps k)) (is_lt-Less (value_cmp k q.0) (first_true (is_lt (value_cmp k q.0)) (below_all value_cmp k ps) h))
-      ∙ ap (λ l. q ∷ l) (above_others ps (second_true (is_lt (value_cmp k q.0)) (below_all value_cmp k ps) h))
+      ap (λ o. cond (not (is_eq o)) (q ∷ pairs_without ps k) (pairs_without ps k)) (is_lt-Less (value_cmp k q.0) (first_so (is_lt (value_cmp k q.0)) (below_all value_cmp k ps) h))
+      ∙ ap (λ l. q ∷ l) (above_others ps (second_so (is_lt (value_cmp k q.0)) (below_all value_cmp k ps) h))
 
   pub without_at : (ps : List (Value × Value)) (i : ℕ) (v : Value) → IsTrue (are_pairs ps) → slice_get ps i ≡ Some (k, v) → remove ps i ≡ pairs_without ps k
   without_at [] i v s e = absurd cc
   without_at (q ∷ ps) zero v s e =
       let is : q ≡ (k, v) = cc in
-      let above : below_all value_cmp k ps ≡ true = subst (λ (r : Value × Value). below_all value_cmp r.0 ps ≡ true) is (first_true (below_all value_cmp q.0 ps) (are_pairs ps) s) in
+      let above : below_all value_cmp k ps ≡ true = subst (λ (r : Value × Value). below_all value_cmp r.0 ps ≡ true) is (first_so (below_all value_cmp q.0 ps) (are_pairs ps) s) in
       subst (λ (r : Value × Value). ps ≡ pairs_without (r ∷ ps) k) (sym is)
       (sym (ap (λ o. cond (not (is_eq o)) ((k, v) ∷ pairs_without ps k) (pairs_without ps k)) (value_cmp-itself k) ∙ above_others ps above))
   without_at (q ∷ ps) (suc i) v s e =
@@ -176,6 +169,9 @@ no_value k ps i g = sym (get_gap k ps i g)
 
 pub set_pair : (k w : Value) (ps : List (Value × Value)) (i : ℕ) → IsTrue (are_pairs ps) → IsAt k ps i → slice_set ps i (k, w) ≡ pairs_put ps k w
 set_pair k w ps i s (v, e) = put_at k ps i v w s e
+
+pub written_pair : (k w : Value) (ps : List (Value × Value)) (i : ℕ) (p : Value × Value) → IsTrue (are_pairs ps) → IsAt k ps i → slice_get ps i ≡ Some p → slice_set ps i (p.0, w) ≡ pairs_put ps k w
+written_pair k w ps i p s (v, e) is = let same : p ≡ (k, v) = cc in ap (λ (q : Value × Value). slice_set ps i (q.0, w)) same ∙ put_at k ps i v w s e
 
 pub inserted_pair : (k w : Value) (ps : List (Value × Value)) (i : ℕ) → IsGap k ps i → insert ps i (k, w) ≡ pairs_put ps k w
 inserted_pair k w ps i g = put_gap k ps i w g

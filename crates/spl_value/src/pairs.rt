@@ -1,11 +1,14 @@
 //! The pairs of a map, by ascending key.
 ghost use Rattle.std.specs.Prelude.{◌≡◌, IsTrue, MatchResult, OnOk, OnErr};
-ghost use Rattle.std.specs.Option.{option_copied};
+ghost use Rattle.std.specs.Option.{option_copied, option_copied_mut};
 ghost use Rattle.spl_value.specs.Pairs.{are_pairs, pairs_get, pairs_contain, pairs_put, pairs_without, IsAt, IsGap};
 
 use crate::{Items, NoMemory, Value, order};
 
 impl Items<(Value, Value)> {
+    ghost use Rattle.std.specs.Borrow.{sem};
+    ghost use Rattle.spl_value.specs.Lends.{LendsValue};
+
     // The place of the key, or that where it belongs, by binary search.
     fn place(&self, key: &Value) -> Result<usize, usize>
         requires { IsTrue (are_pairs self.now) }
@@ -22,6 +25,22 @@ impl Items<(Value, Value)> {
     {
         match self.place(key) {
             Ok(at) => Some(&self.as_slice()[at].1),
+            Err(_) => None,
+        }
+    }
+
+    /// The value at a key, to be changed there.
+    #[tactic(auto, using(crate::specs::PairsLaws::pairs_laws))]
+    pub fn find_mut(&mut self, key: &Value) -> Option<&mut Value>
+        requires { IsTrue (are_pairs self.old) }
+        ensures* writes_back { sem 𝓛 (LendsValue self.entry key.now result) }
+        ensures value { option_copied_mut result ≡ pairs_get self.old key.now }
+    {
+        match self.place(key) {
+            Ok(at) => {
+                let pair = self.item_mut(at);
+                Some(&mut pair.1)
+            }
             Err(_) => None,
         }
     }
