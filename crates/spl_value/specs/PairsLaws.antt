@@ -1,18 +1,19 @@
 -- What the place of a key says of look-up, insertion and removal, and that these keep the order.
-use Rattle.std.specs.Prelude.{◌≡◌, ℕ, zero, suc, ◌<◌, ◌≤◌, Bool, true, false, cond, not, IsTrue, List, [], ◌∷◌, length, Some, None, Result, Ok, Err, MatchResult, slice_get, slice_set, slice_index_or}
-use Rattle.std.specs.List.{insert, remove, HoldsAt}
+use Rattle.std.specs.Prelude.{◌≡◌, ◌≢◌, ℕ, zero, suc, ◌<◌, ◌≤◌, Bool, true, false, cond, not, IsTrue, List, [], ◌∷◌, length, Some, None, Result, Ok, Err, MatchResult, slice_get, slice_set, slice_index_or}
+use Rattle.std.specs.List.{insert, remove, Contains, HoldsAt}
 use Rattle.std.specs.List.Sorted.{IsNonDecreasingBy, IsSearchInRange, IsBinarySearchResult}
 use Rattle.std.specs.declared.cmp.Ordering.{Ordering}
 use Rattle.std.specs.declared.cmp.Ordering.TheVariants.{Less, Equal, Greater}
 use Rattle.std.specs.Ordering.{eq_by_cmp, is_eq, is_lt, ordering_reverse, ordering_index}
 use Rattle.std.specs.Cmp.{first_so, second_so}
-use Rattle.std.specs.FinMap.Entries.{below_all, by_order, is_sorted-put, is_sorted-where_key}
+use Rattle.std.specs.Cmp.Derive.{both_true}
+use Rattle.std.specs.FinMap.Entries.{below_all, by_order, is_sorted-put, is_sorted-where_key, find-put, find-where_key, same_entries}
 use Rattle.std.proofs.Common.{refl, sym, ap, subst, ◌∙◌, arith, T}
-use Rattle.std.proofs.lemmas.Option.{get_or_from_slice_get}
+use Rattle.std.proofs.lemmas.Option.{slice_get-get_or, get_or_from_slice_get}
 use Rattle.spl_value.specs.declared.value.Value.{Value}
 use Rattle.spl_value.specs.Order.{value_cmp}
 use Rattle.spl_value.specs.OrderLaws.{value_cmp_total, value_cmp-IsAntisymmetric, value_cmp-itself}
-use Rattle.spl_value.specs.Pairs.{are_pairs, pairs_get, pairs_put, pairs_without, IsAt, IsGap}
+use Rattle.spl_value.specs.Pairs.{are_pairs, pairs_get, pairs_put, pairs_without, KeysRise, IsAt, IsGap}
 
 is_lt-Less : (o : Ordering) → is_lt o ≡ true → o ≡ Less
 is_lt-Less Less e = refl
@@ -26,7 +27,7 @@ true_from false h = absurd h
 pub turned : (v w : Value) (o : Ordering) → value_cmp v w ≡ o → value_cmp w v ≡ ordering_reverse o
 turned v w o e = value_cmp_total.antisymm w v ∙ ap ordering_reverse e
 
--- ---- keys rise
+-- ---- the keys rise
 
 below_at : (x : Value) (ps : List (Value × Value)) (i : ℕ) (p : Value × Value) → below_all value_cmp x ps ≡ true → slice_get ps i ≡ Some p → value_cmp x p.0 ≡ Less
 below_at x [] i p h e = absurd cc
@@ -48,13 +49,32 @@ index_rises v w k e =
       | Greater ↦ λ p. let g : value_cmp w k ≡ Greater = turned k w Less (value_cmp_total.trans k v w (turned v k Greater p) e) in subst (λ o. 2 ≤ ordering_index o) (sym g) (omega arith)
     ] refl
 
-pub keys_rise : (k : Value) (ps : List (Value × Value)) → IsTrue (are_pairs ps) → IsNonDecreasingBy (λ p. ordering_index (value_cmp p.0 k)) ps
-keys_rise k [] h i j d le lt = absurd (omega arith)
-keys_rise k (q ∷ ps) h zero zero d le lt = omega arith
-keys_rise k (q ∷ ps) h zero (suc j) d le lt =
+-- the comparison with k never falls along the pairs
+answers_rise : (k : Value) (ps : List (Value × Value)) → IsTrue (are_pairs ps) → IsNonDecreasingBy (λ p. ordering_index (value_cmp p.0 k)) ps
+answers_rise k [] h i j d le lt = absurd (omega arith)
+answers_rise k (q ∷ ps) h zero zero d le lt = omega arith
+answers_rise k (q ∷ ps) h zero (suc j) d le lt =
     index_rises q.0 (slice_index_or ps j d).0 k (below_index q.0 ps j d (first_so (below_all value_cmp q.0 ps) (are_pairs ps) h) (omega arith))
-keys_rise k (q ∷ ps) h (suc i) zero d le lt = absurd (omega arith)
-keys_rise k (q ∷ ps) h (suc i) (suc j) d le lt = keys_rise k ps (second_so (below_all value_cmp q.0 ps) (are_pairs ps) h) i j d (omega arith) (omega arith)
+answers_rise k (q ∷ ps) h (suc i) zero d le lt = absurd (omega arith)
+answers_rise k (q ∷ ps) h (suc i) (suc j) d le lt = answers_rise k ps (second_so (below_all value_cmp q.0 ps) (are_pairs ps) h) i j d (omega arith) (omega arith)
+
+pub keys_rise : (ps : List (Value × Value)) → IsTrue (are_pairs ps) → KeysRise ps
+keys_rise [] h i j p q lt e f = absurd cc
+keys_rise (r ∷ ps) h zero zero p q lt e f = absurd (omega arith)
+keys_rise (r ∷ ps) h zero (suc j) p q lt e f =
+    let s : r ≡ p = cc in
+    ap (λ (x : Value × Value). value_cmp x.0 q.0) (sym s) ∙ below_at r.0 ps j q (first_so (below_all value_cmp r.0 ps) (are_pairs ps) h) f
+keys_rise (r ∷ ps) h (suc i) zero p q lt e f = absurd (omega arith)
+keys_rise (r ∷ ps) h (suc i) (suc j) p q lt e f = keys_rise ps (second_so (below_all value_cmp r.0 ps) (are_pairs ps) h) i j p q (omega arith) e f
+
+below_from : (x : Value) (ps : List (Value × Value)) → ((j : ℕ) (q : Value × Value) → slice_get ps j ≡ Some q → value_cmp x q.0 ≡ Less) → below_all value_cmp x ps ≡ true
+below_from x [] h = refl
+below_from x (q ∷ ps) h = both_true (ap is_lt (h 0 q refl)) (below_from x ps (λ j r e. h (suc j) r e))
+
+pub pairs_from_rise : (ps : List (Value × Value)) → KeysRise ps → IsTrue (are_pairs ps)
+pairs_from_rise [] h = refl
+pairs_from_rise (r ∷ ps) h =
+    both_true (below_from r.0 ps (λ j q e. h 0 (suc j) r q (omega arith) refl e)) (pairs_from_rise ps (λ i j p q lt e f. h (suc i) (suc j) p q (omega arith) e f))
 
 -- ---- what a binary search finds
 
@@ -66,7 +86,7 @@ found_at k (q ∷ ps) (suc i) lt h = found_at k ps i (omega arith) (λ d. h d)
 pub place_of_key : (k : Value) (ps : List (Value × Value)) (r : Result ℕ ℕ) → IsTrue (are_pairs ps) → IsSearchInRange r (length ps)
     → IsBinarySearchResult (λ p. value_cmp p.0 k) ps r → MatchResult r (IsAt k ps) (IsGap k ps)
 place_of_key k ps (Ok i) s within h = found_at k ps i within h
-place_of_key k ps (Err i) s within h = let parts = h (keys_rise k ps s) in record { within = within; before = parts.0; behind = parts.1 }
+place_of_key k ps (Err i) s within h = let parts = h (answers_rise k ps s) in record { within = within; before = parts.0; behind = parts.1 }
 
 -- ---- where the key stands
 
@@ -155,6 +175,51 @@ put_are_pairs ps k v s = true_from _ (is_sorted-put value_cmp value_cmp_total k 
 
 pub without_are_pairs : (ps : List (Value × Value)) (k : Value) → IsTrue (are_pairs ps) → IsTrue (are_pairs (pairs_without ps k))
 without_are_pairs ps k s = true_from _ (is_sorted-where_key value_cmp (λ q. not (eq_by_cmp value_cmp k q)) ps (subst T (sym s) tt))
+
+-- ---- look-up behind a change
+
+differ : (q k : Value) → q ≢ k → eq_by_cmp value_cmp q k ≡ false
+differ q k ne =
+    elim (value_cmp q k) as (λ o. value_cmp q k ≡ o → is_eq o ≡ false) [
+      | Less ↦ λ e. refl
+      | Equal ↦ λ e. absurd (ne (value_cmp-IsAntisymmetric q k e))
+      | Greater ↦ λ e. refl
+    ] refl
+
+pub get-put : (ps : List (Value × Value)) (k v : Value) → pairs_get (pairs_put ps k v) k ≡ Some v
+get-put ps k v = find-put value_cmp value_cmp_total k k v ps ∙ ap (λ o. cond (is_eq o) (Some v) (pairs_get ps k)) (value_cmp-itself k)
+
+pub get-put_other : (ps : List (Value × Value)) (k v q : Value) → q ≢ k → pairs_get (pairs_put ps k v) q ≡ pairs_get ps q
+get-put_other ps k v q ne = find-put value_cmp value_cmp_total q k v ps ∙ ap (λ b. cond b (Some v) (pairs_get ps q)) (differ q k ne)
+
+get_where : (ps : List (Value × Value)) (k q : Value) → pairs_get (pairs_without ps k) q ≡ cond (not (eq_by_cmp value_cmp k q)) (pairs_get ps q) None
+get_where ps k q = find-where_key value_cmp (λ x. not (eq_by_cmp value_cmp k x)) q (λ x e. ap (λ y. not (eq_by_cmp value_cmp k y)) (sym (value_cmp-IsAntisymmetric q x e))) ps
+
+pub get-without : (ps : List (Value × Value)) (k : Value) → pairs_get (pairs_without ps k) k ≡ None
+get-without ps k = get_where ps k k ∙ ap (λ o. cond (not (is_eq o)) (pairs_get ps k) None) (value_cmp-itself k)
+
+pub get-without_other : (ps : List (Value × Value)) (k q : Value) → q ≢ k → pairs_get (pairs_without ps k) q ≡ pairs_get ps q
+get-without_other ps k q ne = get_where ps k q ∙ ap (λ b. cond (not b) (pairs_get ps q) None) (differ k q (λ e. ne (sym e)))
+
+-- ---- pairs by their look-up
+
+pub get_from_Contains : (ps : List (Value × Value)) (k v : Value) → IsTrue (are_pairs ps) → Contains ps (k, v) → pairs_get ps k ≡ Some v
+get_from_Contains ps k v s (i, lt, e) = get_at k ps i v s (slice_get-get_or ps i (k, v) lt ∙ ap Some e)
+
+later_pair : (p : Value × Value) (ps : List (Value × Value)) (q : Value × Value) → Contains ps q → Contains (p ∷ ps) q
+later_pair p ps q (i, lt, e) = (suc i, omega arith, e)
+
+pub Contains_from_get : (ps : List (Value × Value)) (k v : Value) → pairs_get ps k ≡ Some v → Contains ps (k, v)
+Contains_from_get [] k v e = absurd cc
+Contains_from_get (p ∷ ps) k v e =
+    elim (value_cmp k p.0) as (λ o. value_cmp k p.0 ≡ o → cond (is_eq o) (Some p.1) (pairs_get ps k) ≡ Some v → Contains (p ∷ ps) (k, v)) [
+      | Less ↦ λ o is. later_pair p ps (k, v) (Contains_from_get ps k v is)
+      | Equal ↦ λ o is. let s : p.1 ≡ v = cc in (0, omega arith, λ i. (sym (value_cmp-IsAntisymmetric k p.0 o) i, s i))
+      | Greater ↦ λ o is. later_pair p ps (k, v) (Contains_from_get ps k v is)
+    ] refl e
+
+pub same_pairs : (ps qs : List (Value × Value)) → IsTrue (are_pairs ps) → IsTrue (are_pairs qs) → ((k : Value) → pairs_get ps k ≡ pairs_get qs k) → ps ≡ qs
+same_pairs ps qs s t is = same_entries value_cmp value_cmp_total value_cmp-IsAntisymmetric ps qs (subst T (sym s) tt) (subst T (sym t) tt) is
 
 -- ---- for the calls on pairs
 

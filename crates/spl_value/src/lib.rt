@@ -23,6 +23,7 @@ pub use item::{Evaluated, Fault, FaultKind, Item, copy_item};
 pub use items::Items;
 pub use memory::NoMemory;
 pub use packet::Packet;
+pub use pairs::pairs_law;
 pub use types::{
     Attribute, Bytes, Ids, Inputs, IntKind, Name, Named, Places, Schema, SplType, same_type,
 };
