@@ -14,3 +14,4 @@ pub mod Wrap
 pub mod WrapLaws
 pub mod Key
 pub mod KeyLaws
+pub mod Lends
