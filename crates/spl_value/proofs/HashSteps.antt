@@ -1,44 +1,35 @@
 -- A key of one more place.
-use Rattle.std.specs.Prelude.{◌≡◌, ℕ, suc, zero, ◌+◌, ◌<◌, ◌&&◌, ◌++◌, Bool, true, false, List, [], ◌∷◌, length, fold, slice_get, Option, Some, None}
-use Rattle.std.specs.List.{list_all, cons_option}
-use Rattle.std.proofs.Common.{refl, sym, ap, ◌∙◌, arith, take, get_or}
+use Rattle.std.specs.Prelude.{◌≡◌, ℕ, ◌+◌, ◌<◌, ◌++◌, true, List, [], ◌∷◌, length, fold, slice_get, Option, Some, None}
+use Rattle.std.specs.List.{cons_option}
+use Rattle.std.proofs.Common.{refl, sym, ap, ◌∙◌, take, get_or}
 use Rattle.std.proofs.lemmas.List.{take_more, append-nil}
 use Rattle.std.proofs.lemmas.List.Elements.{filter_map-append}
 use Rattle.std.proofs.lemmas.List.Sums.{fold-append}
 use Rattle.std.proofs.lemmas.Grind.{flat_map-append}
-use Rattle.std.proofs.lemmas.Option.{slice_get_read, slice_get_within}
+use Rattle.std.proofs.lemmas.Option.{slice_get_read, slice_get_within, slice_get-get_or}
 use Rattle.spl_value.specs.declared.value.Value.{Value}
+use Rattle.spl_value.specs.FitsLaws.{all_at}
 use Rattle.spl_value.specs.Key.{fnv_step, fnv, is_key_value, is_key_option, are_key_places, key_of, enc_value, enc_values, enc}
-
--- what holds of each place holds of the one at i
-all_at : (p : ℕ → Bool) (key : List ℕ) (i : ℕ) → list_all p key ≡ true → i < length key → p (get_or key i 0) ≡ true
-all_at p [] i h within = absurd (omega arith)
-all_at p (q ∷ key) zero h within = front (p q) (list_all p key) h
-  where
-    front : (a b : Bool) → (a && b) ≡ true → a ≡ true
-    front true b e = refl
-    front false b e = cc
-all_at p (q ∷ key) (suc i) h within = all_at p key i (rest (p q) (list_all p key) h) (omega arith)
-  where
-    rest : (a b : Bool) → (a && b) ≡ true → b ≡ true
-    rest true b e = e
-    rest false b e = absurd cc
 
 is_there : (tuple : List Value) (p : ℕ) (o : Option Value) → slice_get tuple p ≡ o → is_key_option o ≡ true → p < length tuple
 is_there tuple p (Some v) e h = slice_get_within tuple p v e
 is_there tuple p None e h = absurd cc
 
+-- what the key's places have in common holds of the one at i
+at_place : (tuple : List Value) (key : List ℕ) (i : ℕ) → are_key_places tuple key ≡ true → i < length key → is_key_option (slice_get tuple (get_or key i 0)) ≡ true
+at_place tuple key i h within = all_at (λ p. is_key_option (slice_get tuple p)) key i (get_or key i 0) h (slice_get-get_or key i 0 within)
+
 pub place_within : (tuple : List Value) (key : List ℕ) (i : ℕ) → are_key_places tuple key ≡ true → i < length key → get_or key i 0 < length tuple
 place_within tuple key i h within =
     let p = get_or key i 0 in
-    is_there tuple p (slice_get tuple p) refl (all_at (λ q. is_key_option (slice_get tuple q)) key i h within)
+    is_there tuple p (slice_get tuple p) refl (at_place tuple key i h within)
 
 pub place_holds : (tuple : List Value) (key : List ℕ) (i : ℕ) (v : Value) → are_key_places tuple key ≡ true → i < length key
     → v ≡ get_or tuple (get_or key i 0) v → is_key_value v ≡ true
 place_holds tuple key i v h within is =
     let p = get_or key i 0 in
     ap is_key_option (sym (slice_get_read tuple (length tuple) p v refl (place_within tuple key i h within) is))
-    ∙ all_at (λ q. is_key_option (slice_get tuple q)) key i h within
+    ∙ at_place tuple key i h within
 
 enc_more : (tuple : List Value) (key : List ℕ) (p : ℕ) (v : Value) → slice_get tuple p ≡ Some v → enc tuple (key ++ p ∷ []) ≡ enc tuple key ++ enc_value v
 enc_more tuple key p v e =

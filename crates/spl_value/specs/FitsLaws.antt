@@ -3,6 +3,8 @@ use Rattle.std.specs.Prelude.{◌≡◌, ℕ, zero, suc, ℤ, pos, Bool, true, f
 use Rattle.std.specs.List.{list_all, AllByRecursion}
 use Rattle.std.specs.declared.cmp.Ordering.TheVariants.{Less, Equal, Greater}
 use Rattle.std.specs.Ordering.{eq_by_cmp}
+use Rattle.std.specs.Cmp.{first_so, second_so}
+use Rattle.std.specs.Cmp.Derive.{both_true}
 use Rattle.std.specs.Cmp.Lexicographic.{pointwise}
 use Rattle.std.specs.FinMap.Entries.{by_order}
 use Rattle.std.proofs.Common.{refl, sym, ap, ◌∙◌}
@@ -89,17 +91,6 @@ level_of t v x e h = sym (ap (λ z. level_fits fits z (out-Value v)) e) ∙ sym 
 is_value : (v : Value) (y : Value-F Value) (w : Value) → out-Value v ≡ y → roll-Value y ≡ w → v ≡ w
 is_value v y w e f = sym (roll-out-Value v) ∙ ap roll-Value e ∙ f
 
-first_true : (a b : Bool) → (a && b) ≡ true → a ≡ true
-first_true true b e = refl
-first_true false b e = cc
-
-second_true : (a b : Bool) → (a && b) ≡ true → b ≡ true
-second_true true b e = e
-second_true false b e = absurd cc
-
-both_true : (a b : Bool) → a ≡ true → b ≡ true → (a && b) ≡ true
-both_true a b e f = (λ i. e i && f i)
-
 int_at : (k : IntKind) (v : Value) (y : Value-F Value) → out-Value v ≡ y → level_fits fits (T.Int k) y ≡ true → (n : ℤ) × (v ≡ V.Int n) × (kind_holds k n ≡ true)
 int_at k v (O.Int n) e h = (n, is_value v (O.Int n) (V.Int n) e (V.rolls-Int n), h)
 int_at k v y e h = absurd cc
@@ -135,7 +126,7 @@ pair_fits k t p = fits k p.0 && fits t p.1
 map_at : (k t : SplType) (v : Value) (y : Value-F Value) → out-Value v ≡ y → level_fits fits (T.Map k t) y ≡ true
     → (ps : List (Value × Value)) × (v ≡ V.Map ps) × (are_pairs ps ≡ true) × (list_all (pair_fits k t) ps ≡ true)
 map_at k t v (O.Map ps) e h =
-    (ps, is_value v (O.Map ps) (V.Map ps) e (V.rolls-Map ps), first_true (are_pairs ps) (list_all (pair_fits k t) ps) h, second_true (are_pairs ps) (list_all (pair_fits k t) ps) h)
+    (ps, is_value v (O.Map ps) (V.Map ps) e (V.rolls-Map ps), first_so (are_pairs ps) (list_all (pair_fits k t) ps) h, second_so (are_pairs ps) (list_all (pair_fits k t) ps) h)
 map_at k t v y e h = absurd cc
 
 pub map_from_fits : (k t : SplType) (v : Value) → IsTrue (fits (S.Map k t) v)
@@ -155,8 +146,8 @@ pub ruleset variants_from_fits = (int_from_fits, bool_from_fits, text_from_fits,
 
 pub all_at : {X : Type 0} (p : X → Bool) (xs : List X) (i : ℕ) (x : X) → IsTrue (list_all p xs) → slice_get xs i ≡ Some x → IsTrue (p x)
 all_at p [] i x h e = absurd cc
-all_at p (y ∷ xs) zero x h e = let s : y ≡ x = cc in ap p (sym s) ∙ first_true (p y) (list_all p xs) h
-all_at p (y ∷ xs) (suc i) x h e = all_at p xs i x (second_true (p y) (list_all p xs) h) e
+all_at p (y ∷ xs) zero x h e = let s : y ≡ x = cc in ap p (sym s) ∙ first_so (p y) (list_all p xs) h
+all_at p (y ∷ xs) (suc i) x h e = all_at p xs i x (second_so (p y) (list_all p xs) h) e
 
 pub part_fits : (schema : List (Named SplType)) (vs : List Value) (i : ℕ) (a : Named SplType) (v : Value) → IsTrue (tuple_fits schema vs)
     → slice_get schema i ≡ Some a → slice_get vs i ≡ Some v → IsTrue (fits a.kind v)
@@ -164,34 +155,34 @@ part_fits [] vs i a v h e f = absurd cc
 part_fits (b ∷ schema) [] i a v h e f = absurd cc
 part_fits (b ∷ schema) (w ∷ vs) zero a v h e f =
     let s : b ≡ a = cc in let t : w ≡ v = cc in
-    (λ i. fits (sym s i).kind (sym t i)) ∙ first_true (fits b.kind w) (tuple_fits schema vs) h
-part_fits (b ∷ schema) (w ∷ vs) (suc i) a v h e f = part_fits schema vs i a v (second_true (fits b.kind w) (tuple_fits schema vs) h) e f
+    (λ i. fits (sym s i).kind (sym t i)) ∙ first_so (fits b.kind w) (tuple_fits schema vs) h
+part_fits (b ∷ schema) (w ∷ vs) (suc i) a v h e f = part_fits schema vs i a v (second_so (fits b.kind w) (tuple_fits schema vs) h) e f
 
 pub get_fits : (k t : SplType) (ps : List (Value × Value)) (key v : Value) → IsTrue (list_all (pair_fits k t) ps) → pairs_get ps key ≡ Some v → IsTrue (fits t v)
 get_fits k t [] key v h e = absurd cc
 get_fits k t (p ∷ ps) key v h e =
     elim (eq_by_cmp value_cmp key p.0) as (λ b. cond b (Some p.1) (pairs_get ps key) ≡ Some v → IsTrue (fits t v)) [
-      | true ↦ λ (is : Some p.1 ≡ Some v). let s : p.1 ≡ v = cc in ap (fits t) (sym s) ∙ second_true (fits k p.0) (fits t p.1) (first_true (pair_fits k t p) (list_all (pair_fits k t) ps) h)
-      | false ↦ λ is. get_fits k t ps key v (second_true (pair_fits k t p) (list_all (pair_fits k t) ps) h) is
+      | true ↦ λ (is : Some p.1 ≡ Some v). let s : p.1 ≡ v = cc in ap (fits t) (sym s) ∙ second_so (fits k p.0) (fits t p.1) (first_so (pair_fits k t p) (list_all (pair_fits k t) ps) h)
+      | false ↦ λ is. get_fits k t ps key v (second_so (pair_fits k t p) (list_all (pair_fits k t) ps) h) is
     ] e
 
 -- ---- maps that change
 
 put_all : (p : Value × Value → Bool) (k v : Value) (ps : List (Value × Value)) → IsTrue (list_all p ps) → IsTrue (p (k, v)) → IsTrue (list_all p (pairs_put ps k v))
-put_all p k v [] h e = both_true (p (k, v)) true e refl
+put_all p k v [] h e = both_true e refl
 put_all p k v (q ∷ ps) h e =
     elim (value_cmp k q.0) as (λ r. value_cmp k q.0 ≡ r → list_all p (by_order r ((k, v) ∷ q ∷ ps) ((q.0, v) ∷ ps) (q ∷ pairs_put ps k v)) ≡ true) [
-      | Less ↦ λ r. both_true (p (k, v)) (list_all p (q ∷ ps)) e h
-      | Equal ↦ λ r. both_true (p (q.0, v)) (list_all p ps) (ap (λ z. p (z, v)) (sym (value_cmp-IsAntisymmetric k q.0 r)) ∙ e) (second_true (p q) (list_all p ps) h)
-      | Greater ↦ λ r. both_true (p q) (list_all p (pairs_put ps k v)) (first_true (p q) (list_all p ps) h) (put_all p k v ps (second_true (p q) (list_all p ps) h) e)
+      | Less ↦ λ r. both_true e h
+      | Equal ↦ λ r. both_true (ap (λ z. p (z, v)) (sym (value_cmp-IsAntisymmetric k q.0 r)) ∙ e) (second_so (p q) (list_all p ps) h)
+      | Greater ↦ λ r. both_true (first_so (p q) (list_all p ps) h) (put_all p k v ps (second_so (p q) (list_all p ps) h) e)
     ] refl
 
 without_all : (p : Value × Value → Bool) (k : Value) (ps : List (Value × Value)) → IsTrue (list_all p ps) → IsTrue (list_all p (pairs_without ps k))
 without_all p k [] h = refl
 without_all p k (q ∷ ps) h =
-    let rest = without_all p k ps (second_true (p q) (list_all p ps) h) in
+    let rest = without_all p k ps (second_so (p q) (list_all p ps) h) in
     elim (not (eq_by_cmp value_cmp k q.0)) as (λ b. list_all p (cond b (q ∷ pairs_without ps k) (pairs_without ps k)) ≡ true) [
-      | true ↦ both_true (p q) (list_all p (pairs_without ps k)) (first_true (p q) (list_all p ps) h) rest
+      | true ↦ both_true (first_so (p q) (list_all p ps) h) rest
       | false ↦ rest
     ]
 
@@ -199,18 +190,18 @@ pub put_fits : (k t : SplType) (ps : List (Value × Value)) (key v : Value) → 
     → IsTrue (fits (S.Map k t) (V.Map (pairs_put ps key v)))
 put_fits k t ps key v h e f =
     let both : (are_pairs ps && list_all (pair_fits k t) ps) ≡ true = sym (fits_map k t ps) ∙ h in
-    let sorted = first_true (are_pairs ps) (list_all (pair_fits k t) ps) both in
-    let all = second_true (are_pairs ps) (list_all (pair_fits k t) ps) both in
+    let sorted = first_so (are_pairs ps) (list_all (pair_fits k t) ps) both in
+    let all = second_so (are_pairs ps) (list_all (pair_fits k t) ps) both in
     fits_map k t (pairs_put ps key v)
-    ∙ both_true (are_pairs (pairs_put ps key v)) (list_all (pair_fits k t) (pairs_put ps key v)) (put_are_pairs ps key v sorted) (put_all (pair_fits k t) key v ps all (both_true (fits k key) (fits t v) e f))
+    ∙ both_true (put_are_pairs ps key v sorted) (put_all (pair_fits k t) key v ps all (both_true e f))
 
 pub without_fits : (k t : SplType) (ps : List (Value × Value)) (key : Value) → IsTrue (fits (S.Map k t) (V.Map ps)) → IsTrue (fits (S.Map k t) (V.Map (pairs_without ps key)))
 without_fits k t ps key h =
     let both : (are_pairs ps && list_all (pair_fits k t) ps) ≡ true = sym (fits_map k t ps) ∙ h in
-    let sorted = first_true (are_pairs ps) (list_all (pair_fits k t) ps) both in
-    let all = second_true (are_pairs ps) (list_all (pair_fits k t) ps) both in
+    let sorted = first_so (are_pairs ps) (list_all (pair_fits k t) ps) both in
+    let all = second_so (are_pairs ps) (list_all (pair_fits k t) ps) both in
     fits_map k t (pairs_without ps key)
-    ∙ both_true (are_pairs (pairs_without ps key)) (list_all (pair_fits k t) (pairs_without ps key)) (without_are_pairs ps key sorted) (without_all (pair_fits k t) key ps all)
+    ∙ both_true (without_are_pairs ps key sorted) (without_all (pair_fits k t) key ps all)
 
 -- ---- the default
 

@@ -1,5 +1,5 @@
 -- The key of a tuple, its bytes, and their hash.
-use Rattle.std.specs.Prelude.{◌≡◌, ℕ, ◌*◌, ◌%◌, ◌^◌, ◌++◌, ℤ, pos, Bool, true, false, List, [], ◌∷◌, length, fold, bit_xor, nat_lt, unsigned_abs, slice_get, Option, Some, None, if◌then◌else◌}
+use Rattle.std.specs.Prelude.{ℕ, ◌*◌, ◌%◌, ◌^◌, ◌&&◌, ◌++◌, ℤ, pos, Bool, true, false, List, [], ◌∷◌, length, fold, bit_xor, nat_lt, unsigned_abs, slice_get, Option, Some, None, if◌then◌else◌}
 use Rattle.std.specs.Int.{to_le_bytes, w64, int_rem_euclid}
 use Rattle.std.specs.List.{flat_map, filter_map, list_all}
 use Rattle.spl_value.specs.declared.types.SplType.{SplType}
@@ -10,7 +10,7 @@ use Rattle.spl_value.specs.declared.value.Value.{Value}
 use Rattle.spl_value.specs.declared.value.Value.TheOpen as O
 use Rattle.spl_value.specs.declared.value.Value.TheOpen.{Value-F}
 use Rattle.spl_value.specs.declared.value.Value.TheViews.{out-Value}
-use Rattle.spl_value.specs.Values.{kind_holds}
+use Rattle.spl_value.specs.Values.{fits}
 
 -- The hash
 
@@ -70,15 +70,27 @@ enc_values values = flat_map enc_value values
 abbrev pub enc : List Value → List ℕ → List ℕ
 enc tuple key = enc_values (key_of tuple key)
 
--- Which values a type gives a key
+-- The types of a key's values
 
-abbrev pub level_key_fits : {A B : Type 0} → SplType-F A → Value-F B → Bool
-level_key_fits (T.Int k) (O.Int n) = kind_holds k n
-level_key_fits T.Bool (O.Bool b) = true
-level_key_fits T.Text (O.Text bytes) = nat_lt (length bytes) (2 ^ 64)
-level_key_fits _ _ = false
+abbrev pub level_is_key_type : {A : Type 0} → SplType-F A → Bool
+level_is_key_type (T.Int k) = true
+level_is_key_type T.Bool = true
+level_is_key_type T.Text = true
+level_is_key_type _ = false
 
--- the type is an integer type, `boolean` or `rstring`, and the value belongs to it. A text has fewer
--- than 2^64 bytes, as each text in memory has
+-- an integer type, `boolean` or `rstring`
+abbrev pub is_key_type : SplType → Bool
+is_key_type t = level_is_key_type (out-SplType t)
+
+abbrev pub level_is_short : {A : Type 0} → Value-F A → Bool
+level_is_short (O.Text bytes) = nat_lt (length bytes) (2 ^ 64)
+level_is_short _ = true
+
+-- if the value is a text, it has fewer than 2^64 bytes. So has each text in memory, since its length
+-- is a number of 64 bits
+abbrev pub is_short : Value → Bool
+is_short v = level_is_short (out-Value v)
+
+-- the value is one of the type's, and the type one that a key's value may have
 abbrev pub key_fits : SplType → Value → Bool
-key_fits t v = level_key_fits (out-SplType t) (out-Value v)
+key_fits t v = is_key_type t && fits t v && is_short v

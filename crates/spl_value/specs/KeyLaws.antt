@@ -1,5 +1,5 @@
 -- The bytes of a key tell its values, and nothing else of the tuple.
-use Rattle.std.specs.Prelude.{◌≡◌, ℕ, ◌+◌, ◌-◌, ◌*◌, ◌%◌, ◌^◌, ◌<◌, ◌≤◌, ◌&&◌, ◌++◌, ℤ, pos, negsuc, Bool, true, false, IsTrue, List, [], ◌∷◌, length, map, unsigned_abs, slice_get, Option, Some, None, if◌then◌else◌}
+use Rattle.std.specs.Prelude.{◌≡◌, ℕ, ◌-◌, ◌^◌, ◌<◌, ◌≤◌, ◌&&◌, ◌++◌, ℤ, pos, negsuc, Bool, true, false, IsTrue, List, [], ◌∷◌, length, map, unsigned_abs, slice_get, Option, Some, None, if◌then◌else◌}
 use Rattle.std.specs.Int.{from_le_bytes, w64, int_rem_euclid}
 use Rattle.std.specs.List.{cons_option}
 use Rattle.std.specs.Cmp.Lexicographic.{pointwise}
@@ -15,9 +15,10 @@ use Rattle.spl_value.specs.declared.value.Value.{Value}
 use Rattle.spl_value.specs.declared.value.Value.TheOpen as O
 use Rattle.spl_value.specs.declared.value.Value.TheOpen.{Value-F}
 use Rattle.spl_value.specs.declared.value.Value.TheViews.{out-Value, roll-Value, roll-out-Value}
-use Rattle.spl_value.specs.Values.{modulus, top, kind_holds}
+use Rattle.spl_value.specs.Values.{modulus, top, kind_holds, level_fits, fits}
+use Rattle.spl_value.specs.FitsLaws.{fits_is}
 use Rattle.spl_value.specs.WrapLaws.{sizes, true_lt}
-use Rattle.spl_value.specs.Key.{is_key_option, are_key_places, key_of, enc_integer, level_enc, enc_value, enc_values, enc, level_key_fits, key_fits}
+use Rattle.spl_value.specs.Key.{level_is_key, is_key_value, is_key_option, are_key_places, key_of, enc_integer, level_enc, enc_value, enc_values, enc, level_is_key_type, is_key_type, level_is_short, is_short, key_fits}
 
 -- each place of a key gives it the value there
 abbrev pub KeyPlacesLaw : Type 0
@@ -27,7 +28,11 @@ KeyPlacesLaw = (tuple : List Value) (key : List ℕ) → IsTrue (are_key_places 
 abbrev pub SameBytesLaw : Type 0
 SameBytesLaw = (tuple other : List Value) (key places : List ℕ) → key_of tuple key ≡ key_of other places → enc tuple key ≡ enc other places
 
--- values of the same types that have equal bytes are equal
+-- a value of an integer type, `boolean` or `rstring` may stand in a key
+abbrev pub KeyTypesLaw : Type 0
+KeyTypesLaw = (t : SplType) (v : Value) → IsTrue (is_key_type t) → IsTrue (fits t v) → IsTrue (is_key_value v)
+
+-- values of the same such types that have equal bytes are equal
 abbrev pub OneKeyLaw : Type 0
 OneKeyLaw = (types : List SplType) (values others : List Value) → IsTrue (pointwise key_fits types values) → IsTrue (pointwise key_fits types others)
     → enc_values values ≡ enc_values others → values ≡ others
@@ -61,11 +66,21 @@ key_places tuple (p ∷ key) h =
     (first (is_key_option (slice_get tuple p)) (are_key_places tuple key) h)
     (key_places tuple key (second (is_key_option (slice_get tuple p)) (are_key_places tuple key) h))
 
+level_key_types : (t : SplType-F SplType) (v : Value-F Value) → level_is_key_type t ≡ true → level_fits fits t v ≡ true → level_is_key v ≡ true
+level_key_types (T.Int k) (O.Int n) h g = refl
+level_key_types T.Bool (O.Bool b) h g = refl
+level_key_types T.Text (O.Text bytes) h g = refl
+level_key_types _ _ h g = absurd cc
+
+pub key_types : KeyTypesLaw
+key_types t v h g = level_key_types (out-SplType t) (out-Value v) h (sym (fits_is t v) ∙ g)
+
 pub same_bytes : SameBytesLaw
 same_bytes tuple other key places e = ap enc_values e
 
 -- ---- bytes that are one behind another
 
+-- equal bytes that are cut at the same place have equal parts
 split : (xs ys us vs : List ℕ) → length xs ≡ length ys → xs ++ us ≡ ys ++ vs → (xs ≡ ys) × (us ≡ vs)
 split [] [] us vs h e = (refl, e)
 split [] (y ∷ ys) us vs h e = absurd (omega arith)
@@ -93,7 +108,7 @@ at_most U16 = omega arith
 at_most U32 = omega arith
 at_most U64 = omega arith
 
--- two numbers of one kind differ modulo 2^64
+-- numbers of one kind that are equal modulo 2^64 are equal
 same_residue : (k : IntKind) (m n : ℤ) → kind_holds k m ≡ true → kind_holds k n ≡ true → residue m ≡ residue n → m ≡ n
 same_residue k (pos m) (pos n) h g e =
     let s = sizes k in let q = at_most k in let a = true_lt m (top k) h in let b = true_lt n (top k) g in ap pos (omega arith)
@@ -115,12 +130,16 @@ integer_apart m n us vs e = let s = split (enc_integer m) (enc_integer n) us vs 
 
 -- ---- one value
 
+abbrev level_key_fits : SplType-F SplType → Value-F Value → Bool
+level_key_fits t v = level_is_key_type t && level_fits fits t v && level_is_short v
+
+-- whatever bytes follow, those of v and those of w are apart where v and w are
 abbrev Apart : (v w : Value-F Value) → Type 0
 Apart v w = (us vs : List ℕ) → level_enc v ++ us ≡ level_enc w ++ vs → (v ≡ w) × (us ≡ vs)
 
-int_apart : (k : IntKind) (v w : Value-F Value) → level_key_fits {A = SplType} (T.Int k) v ≡ true → level_key_fits {A = SplType} (T.Int k) w ≡ true → Apart v w
+int_apart : (k : IntKind) (v w : Value-F Value) → level_key_fits (T.Int k) v ≡ true → level_key_fits (T.Int k) w ≡ true → Apart v w
 int_apart k (O.Int m) (O.Int n) h g us vs e =
-    let s = integer_apart m n us vs e in (ap O.Int (same_residue k m n h g s.0), s.1)
+    let s = integer_apart m n us vs e in (ap O.Int (same_residue k m n (first (kind_holds k m) true h) (first (kind_holds k n) true g) s.0), s.1)
 int_apart k (O.Int m) _ h g us vs e = absurd cc
 int_apart k _ _ h g us vs e = absurd cc
 
@@ -133,7 +152,7 @@ bool_byte true false e = absurd (omega arith)
 bool_byte false true e = absurd (omega arith)
 bool_byte false false e = refl
 
-bool_apart : (v w : Value-F Value) → level_key_fits {A = SplType} T.Bool v ≡ true → level_key_fits {A = SplType} T.Bool w ≡ true → Apart v w
+bool_apart : (v w : Value-F Value) → level_key_fits T.Bool v ≡ true → level_key_fits T.Bool w ≡ true → Apart v w
 bool_apart (O.Bool b) (O.Bool c) h g us vs e =
     (ap O.Bool (bool_byte b c (cons_head (byte_of b) (byte_of c) us vs e)), cons_tail (byte_of b) (byte_of c) us vs e)
 bool_apart (O.Bool b) _ h g us vs e = absurd cc
@@ -147,7 +166,7 @@ text_bytes_apart s t us vs h g e =
     let long : length s ≡ length t = omega (arith, i.0) in
     split s t us vs long i.1
 
-text_apart : (v w : Value-F Value) → level_key_fits {A = SplType} T.Text v ≡ true → level_key_fits {A = SplType} T.Text w ≡ true → Apart v w
+text_apart : (v w : Value-F Value) → level_key_fits T.Text v ≡ true → level_key_fits T.Text w ≡ true → Apart v w
 text_apart (O.Text s) (O.Text t) h g us vs e =
     let b = text_bytes_apart s t us vs (true_lt (length s) (2 ^ 64) h) (true_lt (length t) (2 ^ 64) g) e in (ap O.Text b.0, b.1)
 text_apart (O.Text s) _ h g us vs e = absurd cc
@@ -159,10 +178,13 @@ level_apart T.Bool v w h g = bool_apart v w h g
 level_apart T.Text v w h g = text_apart v w h g
 level_apart _ v w h g = absurd cc
 
+by_level : (t : SplType) (v : Value) → key_fits t v ≡ true → level_key_fits (out-SplType t) (out-Value v) ≡ true
+by_level t v h = sym (ap (λ b. is_key_type t && b && is_short v) (fits_is t v)) ∙ h
+
 pub value_apart : (t : SplType) (v w : Value) (us vs : List ℕ) → key_fits t v ≡ true → key_fits t w ≡ true
     → enc_value v ++ us ≡ enc_value w ++ vs → (v ≡ w) × (us ≡ vs)
 value_apart t v w us vs h g e =
-    let a = level_apart (out-SplType t) (out-Value v) (out-Value w) h g us vs e in
+    let a = level_apart (out-SplType t) (out-Value v) (out-Value w) (by_level t v h) (by_level t w g) us vs e in
     (sym (roll-out-Value v) ∙ ap roll-Value a.0 ∙ roll-out-Value w, a.1)
 
 -- ---- values in a row

@@ -14,5 +14,6 @@ pub mod Wrap
 pub mod WrapLaws
 pub mod Key
 pub mod KeyLaws
+pub mod Lends
 pub mod Calls
 pub mod CallsLaws

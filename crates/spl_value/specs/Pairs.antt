@@ -1,5 +1,5 @@
 -- The pairs of a map, in the ascending order of their keys, which differ.
-use Rattle.std.specs.Prelude.{◌≡◌, ℕ, ◌≤◌, Bool, not, is_some, List, length, map, Option, Some, slice_get}
+use Rattle.std.specs.Prelude.{◌≡◌, ℕ, ◌<◌, ◌≤◌, Bool, not, is_some, List, length, Option, Some, slice_get}
 use Rattle.std.specs.List.{AllWithin}
 use Rattle.std.specs.declared.cmp.Ordering.TheVariants.{Less, Greater}
 use Rattle.std.specs.Ordering.{eq_by_cmp}
@@ -28,8 +28,9 @@ pairs_put ps k v = put value_cmp k v ps
 abbrev pub pairs_without : List (Value × Value) → Value → List (Value × Value)
 pairs_without ps k = where_key value_cmp (λ q. not (eq_by_cmp value_cmp k q)) ps
 
-abbrev pub keys : List (Value × Value) → List Value
-keys ps = map (λ p. p.0) ps
+-- the keys rise: each is below those of all later pairs
+abbrev pub KeysRise : List (Value × Value) → Type 0
+KeysRise ps = (i j : ℕ) (p q : Value × Value) → i < j → slice_get ps i ≡ Some p → slice_get ps j ≡ Some q → value_cmp p.0 q.0 ≡ Less
 
 -- ---- places
 

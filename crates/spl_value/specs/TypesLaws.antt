@@ -1,6 +1,7 @@
 -- The derived `==` of types says whether they are equal.
 use Rattle.std.specs.Prelude.{◌≡◌, ◌↔◌, IsTrue, Bool, true, false, ◌&&◌, List, [], ◌∷◌, nat_eq}
 use Rattle.std.specs.List.{AllByRecursion}
+use Rattle.std.specs.Cmp.{first_so, second_so}
 use Rattle.std.specs.Cmp.Lexicographic.{pointwise, bytes_decides}
 use Rattle.std.proofs.Common.{refl, sym, ap, ◌∙◌}
 use Rattle.spl_value.specs.declared.types.IntKind.{IntKind}
@@ -42,14 +43,6 @@ derived_is t u =
     ∙ (λ i. DerivedLaws.unfolded (sym (roll-out-SplType t) i) (sym (roll-out-SplType u) i))
     ∙ derived_at (out-SplType t) (out-SplType u)
 
-first : (a b : Bool) → (a && b) ≡ true → a ≡ true
-first true b e = refl
-first false b e = cc
-
-second : (a b : Bool) → (a && b) ≡ true → b ≡ true
-second true b e = e
-second false b e = absurd cc
-
 kind_same : (k l : IntKind) → (KindEq.ghosts).eq k l ≡ true → k ≡ l
 kind_same I8 I8 e = refl
 kind_same I16 I16 e = refl
@@ -71,10 +64,10 @@ module _ {A : Type 0} (E : A → A → Bool) where
   schema_same [] h (y ∷ ys) e = absurd cc
   schema_same (x ∷ xs) h [] e = absurd cc
   schema_same (x ∷ xs) h (y ∷ ys) e =
-      let here = first (pointwise nat_eq x.name y.name && E x.kind y.kind) (pointwise (λ a b. pointwise nat_eq a.name b.name && E a.kind b.kind) xs ys) e in
-      let rest = second (pointwise nat_eq x.name y.name && E x.kind y.kind) (pointwise (λ a b. pointwise nat_eq a.name b.name && E a.kind b.kind) xs ys) e in
-      let name = (bytes_decides x.name y.name).0 (first (pointwise nat_eq x.name y.name) (E x.kind y.kind) here) in
-      let kind = h.0 y.kind (second (pointwise nat_eq x.name y.name) (E x.kind y.kind) here) in
+      let here = first_so (pointwise nat_eq x.name y.name && E x.kind y.kind) (pointwise (λ a b. pointwise nat_eq a.name b.name && E a.kind b.kind) xs ys) e in
+      let rest = second_so (pointwise nat_eq x.name y.name && E x.kind y.kind) (pointwise (λ a b. pointwise nat_eq a.name b.name && E a.kind b.kind) xs ys) e in
+      let name = (bytes_decides x.name y.name).0 (first_so (pointwise nat_eq x.name y.name) (E x.kind y.kind) here) in
+      let kind = h.0 y.kind (second_so (pointwise nat_eq x.name y.name) (E x.kind y.kind) here) in
       λ i. record { name = name i; kind = kind i } ∷ schema_same xs h.1 ys rest i
 
   int_same : (k : IntKind) (y : SplType-F A) → level_eq E (T.Int k) y ≡ true → T.Int k ≡ y
@@ -94,7 +87,7 @@ module _ {A : Type 0} (E : A → A → Bool) where
   list_same t h _ e = absurd cc
 
   map_same : (k t : A) → SameFrom E k → SameFrom E t → (y : SplType-F A) → level_eq E (T.Map k t) y ≡ true → T.Map k t ≡ y
-  map_same k t g h (T.Map l u) e = λ i. T.Map (g l (first (E k l) (E t u) e) i) (h u (second (E k l) (E t u) e) i)
+  map_same k t g h (T.Map l u) e = λ i. T.Map (g l (first_so (E k l) (E t u) e) i) (h u (second_so (E k l) (E t u) e) i)
   map_same k t g h _ e = absurd cc
 
   tuple_same : (xs : List (Named A)) → AllByRecursion (λ a. SameFrom E a.kind) xs → (y : SplType-F A) → level_eq E (T.Tuple xs) y ≡ true → T.Tuple xs ≡ y

@@ -1,8 +1,8 @@
 -- What wraps to a number of a kind: it is of the kind, equal to n modulo 2 to the width, and the only
 -- number of the kind that is.
-use Rattle.std.specs.Prelude.{◌≡◌, ℕ, zero, suc, ◌+◌, ◌-◌, ◌*◌, ◌/◌, ◌%◌, ◌<◌, ◌≤◌, ℤ, pos, negsuc, neg_ℤ, ◌+ℤ◌, ◌-ℤ◌, ◌*ℤ◌, Bool, true, false, nat_lt, IsTrue}
+use Rattle.std.specs.Prelude.{◌≡◌, ℕ, zero, suc, ◌+◌, ◌-◌, ◌*◌, ◌/◌, ◌%◌, ◌<◌, ◌≤◌, ℤ, pos, negsuc, neg_ℤ, ◌+ℤ◌, ◌-ℤ◌, ◌*ℤ◌, true, nat_lt, IsTrue}
 use Rattle.std.specs.Int.{int_rem_euclid}
-use Rattle.std.proofs.Common.{refl, sym, ap, subst, ◌∙◌, arith}
+use Rattle.std.proofs.Common.{refl, sym, ap, ◌∙◌, arith}
 use Rattle.std.proofs.lemmas.Int.{ints, int_rem_euclid_is}
 use Rattle.std.proofs.lemmas.Nat.{mod-mul-add, div-add-mod'}
 use Rattle.std.proofs.Math.Nat.{mod-eq_of_lt}
@@ -44,19 +44,18 @@ lt_true a b h = grind arith
 pub true_lt : (a b : ℕ) → nat_lt a b ≡ true → a < b
 true_lt a b h = grind arith
 
--- so far above a kind's least number stands a number of the kind
+-- a number is of the kind where it is so far above the least one
 pub holds_above : (k : IntKind) (z : ℤ) (r : ℕ) → z +ℤ pos (negatives k) ≡ pos r → r < modulus k → kind_holds k z ≡ true
 holds_above k (pos n) r e h = let s = sizes k in lt_true n (top k) (omega (arith, ints, s.1))
 holds_above k (negsuc n) r e h = let s = sizes k in lt_true n (modulus k - top k) (omega (arith, ints, s.1))
 
--- how far a number of the kind stands above the least one
+-- a number of the kind is so far above the least one
 pub above_least : (k : IntKind) (z : ℤ) → kind_holds k z ≡ true → (r : ℕ) × (z +ℤ pos (negatives k) ≡ pos r) × (r < modulus k)
 above_least k (pos n) h = let s = sizes k in let b = true_lt n (top k) h in (n + negatives k, refl, omega (arith, s.1))
 above_least k (negsuc n) h =
     let s = sizes k in let b = true_lt n (modulus k - top k) h in
     (negatives k - (n + 1), omega (arith, ints), omega (arith, s.1))
 
--- a remainder is equal to what it is the remainder of
 neg-mul : (x q : ℕ) → neg_ℤ (pos x) *ℤ pos q ≡ neg_ℤ (pos (x * q))
 neg-mul zero q = omega (arith, ints)
 neg-mul (suc x) q = refl
@@ -64,6 +63,7 @@ neg-mul (suc x) q = refl
 pos_remainder : (a d r q : ℕ) → d * q + r ≡ a → pos r ≡ pos a +ℤ neg_ℤ (pos (d * q))
 pos_remainder a d r q e = omega (arith, ints)
 
+-- a remainder is equal to what it is the remainder of, modulo the divisor
 pub rem_congruent : (z : ℤ) (q : ℕ) → 0 < q → IsCongruent q (int_rem_euclid z (pos q)) z
 rem_congruent (pos a) q h = (neg_ℤ (pos (a / q)), let e = neg-mul (a / q) q in let d = div-add-mod' a q in pos_remainder a (a / q) (a % q) q d ∙ ap (λ p. pos a +ℤ p) (sym e))
 rem_congruent (negsuc a) q h = (pos (a / q + 1), grind (arith, ints))
@@ -73,7 +73,7 @@ pub rem_below : (z : ℤ) (q : ℕ) → 0 < q → (r : ℕ) × (int_rem_euclid z
 rem_below (pos a) q h = (a % q, refl, omega arith)
 rem_below (negsuc a) q h = (q - 1 - a % q, refl, omega arith)
 
--- the number below the divisor that is equal to z is its remainder
+-- the number below the divisor that is equal to z modulo it is the remainder of z
 pub rem_is : (z t : ℤ) (q r : ℕ) → r < q → pos r ≡ z +ℤ t *ℤ pos q → int_rem_euclid z (pos q) ≡ pos r
 rem_is z (pos j) q r h e =
     int_rem_euclid_is z (pos q) q j r (omega arith) refl (sym e) ∙ ap pos (mod-eq_of_lt h)

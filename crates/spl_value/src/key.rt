@@ -1,7 +1,7 @@
 //! Keys of tuples: their bytes and their hash.
 ghost use Rattle.std.specs.Prelude.{◌≡◌, [], ◌∷◌, ◌++◌, pos, negsuc, true, false, replicate, codes, IsTrue, fold};
 ghost use Rattle.spl_value.specs.declared.value.Value.TheVariants as V;
-ghost use Rattle.spl_value.specs.KeyLaws.{KeyPlacesLaw, SameBytesLaw, OneKeyLaw};
+ghost use Rattle.spl_value.specs.KeyLaws.{KeyPlacesLaw, KeyTypesLaw, SameBytesLaw, OneKeyLaw};
 ghost use Rattle.spl_value.specs.Key.{fnv, fnv_step, is_key_value, are_key_places, enc_integer, enc_value, enc};
 
 use crate::{Places, Value, Values};
@@ -68,11 +68,13 @@ pub fn hash_key(tuple: &Values, key: &Places) -> u64
     state
 }
 
-/// The key has the value at each of its places. Keys with the same values have the same bytes. Keys
-/// with other values, of the same types in the same order, have other bytes. Across types they may
-/// not: -1 and 2^64 - 1 are the same 8 bytes, though of no common type.
+/// A key has the value at each of its places, and a value of an integer type, `boolean` or
+/// `rstring` may stand there. Keys with the same values have the same bytes. Keys with other values
+/// of the same types have other bytes. Keys of other types may not: -1 of a signed type and
+/// 2^64 - 1 of `uint64` are the same 8 bytes.
 pub fn key_law()
     ensures places { KeyPlacesLaw }
+    ensures types { KeyTypesLaw }
     ensures same { SameBytesLaw }
     ensures one { OneKeyLaw }
 {}

@@ -28,6 +28,7 @@ pub use items::Items;
 pub use key::{fnv, hash_key, key_law, key_on_literals};
 pub use memory::NoMemory;
 pub use packet::Packet;
+pub use pairs::pairs_law;
 pub use types::{
     Attribute, Bytes, Ids, Inputs, IntKind, Name, Named, Places, Schema, SplType, same_type,
 };

@@ -1,11 +1,14 @@
 //! The pairs of a map, by ascending key.
-ghost use Rattle.std.specs.Prelude.{◌≡◌, IsTrue, MatchResult, OnOk, OnErr};
-ghost use Rattle.std.specs.Option.{option_copied};
-ghost use Rattle.spl_value.specs.Pairs.{are_pairs, pairs_get, pairs_contain, pairs_put, pairs_without, IsAt, IsGap};
+ghost use Rattle.std.specs.Prelude.{◌≡◌, ◌≢◌, ◌↔◌, List, IsTrue, MatchResult, OnOk, OnErr, Contains};
+ghost use Rattle.std.specs.Option.{option_copied, option_copied_mut};
+ghost use Rattle.spl_value.specs.Pairs.{are_pairs, pairs_get, pairs_contain, pairs_put, pairs_without, KeysRise, IsAt, IsGap};
 
 use crate::{Items, NoMemory, Value, order};
 
 impl Items<(Value, Value)> {
+    ghost use Rattle.std.specs.Borrow.{sem};
+    ghost use Rattle.spl_value.specs.Lends.{LendsValue};
+
     // The place of the key, or that where it belongs, by binary search.
     fn place(&self, key: &Value) -> Result<usize, usize>
         requires { IsTrue (are_pairs self.now) }
@@ -22,6 +25,22 @@ impl Items<(Value, Value)> {
     {
         match self.place(key) {
             Ok(at) => Some(&self.as_slice()[at].1),
+            Err(_) => None,
+        }
+    }
+
+    /// The value at a key, to be changed there.
+    #[tactic(auto, using(crate::specs::PairsLaws::pairs_laws))]
+    pub fn find_mut(&mut self, key: &Value) -> Option<&mut Value>
+        requires { IsTrue (are_pairs self.old) }
+        ensures* writes_back { sem 𝓛 (LendsValue self.entry key.now result) }
+        ensures value { option_copied_mut result ≡ pairs_get self.old key.now }
+    {
+        match self.place(key) {
+            Ok(at) => {
+                let pair = self.item_mut(at);
+                Some(&mut pair.1)
+            }
             Err(_) => None,
         }
     }
@@ -66,3 +85,26 @@ impl Items<(Value, Value)> {
         }
     }
 }
+
+/// What pairs are, and what a change of them leaves at each key.
+pub fn pairs_law()
+    ensures rise { (ps : List (Value × Value)) → IsTrue (are_pairs ps) ↔ KeysRise ps }
+
+    // The value at a key is that of the pair with the key, and pairs are known by their look-up.
+    ensures get { (ps : List (Value × Value)) (k v : Value) → IsTrue (are_pairs ps)
+        → (pairs_get ps k ≡ Some v) ↔ Contains ps (k, v) }
+    ensures same { (ps qs : List (Value × Value)) → IsTrue (are_pairs ps) → IsTrue (are_pairs qs)
+        → ((k : Value) → pairs_get ps k ≡ pairs_get qs k) → ps ≡ qs }
+
+    ensures put { (ps : List (Value × Value)) (k v : Value) → pairs_get (pairs_put ps k v) k ≡ Some v }
+    ensures put_others { (ps : List (Value × Value)) (k v q : Value) → q ≢ k
+        → pairs_get (pairs_put ps k v) q ≡ pairs_get ps q }
+    ensures put_sorted { (ps : List (Value × Value)) (k v : Value) → IsTrue (are_pairs ps)
+        → IsTrue (are_pairs (pairs_put ps k v)) }
+
+    ensures without { (ps : List (Value × Value)) (k : Value) → pairs_get (pairs_without ps k) k ≡ None }
+    ensures without_others { (ps : List (Value × Value)) (k q : Value) → q ≢ k
+        → pairs_get (pairs_without ps k) q ≡ pairs_get ps q }
+    ensures without_sorted { (ps : List (Value × Value)) (k : Value) → IsTrue (are_pairs ps)
+        → IsTrue (are_pairs (pairs_without ps k)) }
+{}
