@@ -1,8 +1,11 @@
 //! Keys of tuples: their bytes and their hash.
 ghost use Rattle.std.specs.Prelude.{◌≡◌, [], ◌∷◌, ◌++◌, pos, negsuc, true, false, replicate, codes, IsTrue, fold};
+ghost use Rattle.std.specs.Cmp.Lexicographic.{pointwise};
+ghost use Rattle.spl_value.specs.declared.types.IntKind.TheVariants as N;
+ghost use Rattle.spl_value.specs.declared.types.SplType.TheVariants as S;
 ghost use Rattle.spl_value.specs.declared.value.Value.TheVariants as V;
 ghost use Rattle.spl_value.specs.KeyLaws.{KeyPlacesLaw, KeyTypesLaw, SameBytesLaw, OneKeyLaw};
-ghost use Rattle.spl_value.specs.Key.{fnv, fnv_step, is_key_value, are_key_places, enc_integer, enc_value, enc};
+ghost use Rattle.spl_value.specs.Key.{fnv, fnv_step, is_key_value, are_key_places, enc_integer, enc_value, enc, key_fits};
 
 use crate::{Places, Value, Values};
 
@@ -79,7 +82,7 @@ pub fn key_law()
     ensures one { OneKeyLaw }
 {}
 
-/// The hashes of some bytes, and the bytes of some keys.
+/// The hashes of some bytes, the bytes of some keys, and values that their types give a key.
 pub fn key_on_literals()
     ensures hash_of_nothing { fnv [] ≡ 0xcbf29ce484222325 }
     ensures hash_of_a { fnv (codes "a") ≡ 0xaf63dc4c8601ec8c }
@@ -91,4 +94,6 @@ pub fn key_on_literals()
     ensures no_bytes { enc_value (V.Text []) ≡ replicate 8 0 }
     ensures two_places { enc (V.Text (codes "ab") ∷ V.Bool false ∷ V.Int (pos 7) ∷ []) (2 ∷ 0 ∷ [])
         ≡ 7 ∷ replicate 7 0 ++ 2 ∷ replicate 7 0 ++ codes "ab" }
+    ensures fitting { IsTrue (pointwise key_fits (S.Text ∷ S.Bool ∷ S.Int N.I8 ∷ [])
+        (V.Text (codes "ab") ∷ V.Bool false ∷ V.Int (negsuc 127) ∷ [])) }
 {}

@@ -1,5 +1,8 @@
-use Rattle.std.proofs.Common.{pos, negsuc, true, [], codes}
+use Rattle.std.proofs.Common.{pos, negsuc, true, false, [], codes}
+use Rattle.spl_value.specs.declared.types.IntKind.TheVariants as N
+use Rattle.spl_value.specs.declared.types.SplType.TheVariants as S
 use Rattle.spl_value.specs.declared.value.Value.TheVariants as V
+use Rattle.spl_value.specs.FitsLaws.{fits_int, fits_bool, fits_text}
 use Rattle.spl_value.proofs.key.key_on_literals.Goals as goal
 
 pub returns-clause-minus_one : goal.returns-clause-minus_one
@@ -19,3 +22,17 @@ returns-clause-no_bytes c = rw (V.outs-Text [])
 
 pub returns-clause-two_places : goal.returns-clause-two_places
 returns-clause-two_places c = rw (V.outs-Int (pos 7), V.outs-Text (codes "ab"))
+
+pub returns-clause-fitting : goal.returns-clause-fitting
+returns-clause-fitting c =
+    rw (
+      fits_text (codes "ab"),
+      fits_bool false,
+      fits_int N.I8 (negsuc 127),
+      S.outs-Text,
+      S.outs-Bool,
+      S.outs-Int N.I8,
+      V.outs-Text (codes "ab"),
+      V.outs-Bool false,
+      V.outs-Int (negsuc 127),
+    )
