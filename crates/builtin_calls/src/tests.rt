@@ -37,7 +37,8 @@ fn ordered_texts(alloc: Global, a: &str, b: &str) -> Result<(Value, Value), Fail
 
 // A list of int32.
 fn numbers(alloc: Global, ns: &[i32]) -> Result<Values, Fail>
-    ensures { IfOk result (λ vs. IsTrue (fits (SplType.List (SplType.Int IntKind.I32)) (Value.List vs))) }
+    ensures { IfOk result (λ vs. IsTrue
+        (fits (SplType.List (SplType.Int IntKind.I32)) (Value.List vs))) }
 {
     let mut values = Items::new(alloc);
     for n in ns {
@@ -48,7 +49,8 @@ fn numbers(alloc: Global, ns: &[i32]) -> Result<Values, Fail>
 
 // A map from int32 to boolean with these keys.
 fn keyed(alloc: Global, keys: &[i32]) -> Result<Pairs, Fail>
-    ensures { IfOk result (λ ps. IsTrue (fits (SplType.Map (SplType.Int IntKind.I32) SplType.Bool) (Value.Map ps))) }
+    ensures { IfOk result (λ ps. IsTrue
+        (fits (SplType.Map (SplType.Int IntKind.I32) SplType.Bool) (Value.Map ps))) }
 {
     let mut pairs = Items::new(alloc);
     for key in keys {
