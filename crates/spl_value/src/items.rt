@@ -24,6 +24,9 @@ impl<T> Model for Items<T> {
 }
 
 impl<T> Items<T> {
+    ghost use Rattle.std.specs.Borrow.{sem};
+    ghost use Rattle.spl_value.specs.Lends.{LendsItem};
+
     pub fn new(alloc: Global) -> Items<T>
         ensures { result ≡ [] }
     {
@@ -75,6 +78,15 @@ impl<T> Items<T> {
         self.items.get(at)
     }
 
+    /// The item at a place, to be changed there.
+    pub fn item_mut(&mut self, at: usize) -> &mut T
+        requires { at < length self.old }
+        ensures* writes_back { sem 𝓛 (LendsItem T.row self.entry at result) }
+        ensures item { slice_get self.old at ≡ Some result.now }
+    {
+        &mut self.items[at]
+    }
+
     /// Moves the items of `more` to the end.
     pub fn append(&mut self, more: Items<T>) -> Result<(), AllocError>
     where
@@ -91,6 +103,15 @@ impl<T> Items<T> {
             (λ last. self.old ≡ self.new ++ last ∷ []) }
     {
         self.items.pop()
+    }
+
+    /// Takes every item out. The room that the list has stays.
+    pub fn clear(&mut self)
+    where
+        T: Drop,
+        ensures { self.new ≡ [] }
+    {
+        self.items.clear();
     }
 
     pub fn is_empty(&self) -> bool

@@ -2,21 +2,35 @@
 #![tactic(auto)]
 
 mod boxed;
+mod compare;
+mod default;
 mod integer;
 mod item;
 mod items;
+mod key;
+#[cfg(test)]
+mod key_tests;
 mod memory;
 mod packet;
+mod pairs;
 #[cfg(test)]
 mod tests;
 mod types;
 mod value;
+mod wrapping;
 
 pub use boxed::Boxed;
+pub use compare::{order, order_law, same};
+pub use default::{default_law, default_of};
 pub use integer::{add_integer, is_of_kind, read_integer, read_natural};
 pub use item::{Evaluated, Fault, FaultKind, Item, copy_item};
 pub use items::Items;
+pub use key::{fnv, hash_key, key_law, key_on_literals};
 pub use memory::NoMemory;
 pub use packet::Packet;
-pub use types::{Attribute, Bytes, Ids, Inputs, IntKind, Name, Named, Places, Schema, SplType};
+pub use pairs::pairs_law;
+pub use types::{
+    Attribute, Bytes, Ids, Inputs, IntKind, Name, Named, Places, Schema, SplType, same_type,
+};
 pub use value::{Pairs, Value, Values, copy_value, copy_values};
+pub use wrapping::{wrap, wrap_law};

@@ -5,6 +5,11 @@ use crate::{
 use std::alloc::{AllocError, Global};
 use std::test::Fail;
 
+mod defaults;
+mod order;
+mod pairs;
+mod values;
+
 #[test]
 fn each_kind_reads_its_range(rt: HostRuntime) {
     for (kind, text, want) in [
@@ -162,12 +167,23 @@ fn items_keep_their_order(rt: HostRuntime) -> Result<(), Fail> {
     items.push(30)?;
     items.insert(1, 20)?;
     items.set(0, 11);
-    assert_eq!(rt; items.get(1), Some(&20));
+    *items.item_mut(1) += 1;
+    assert_eq!(rt; items.get(1), Some(&21));
     assert_eq!(rt; items.get(3), None);
-    assert_eq!(rt; items.remove(1), 20);
+    assert_eq!(rt; items.remove(1), 21);
     items.append(Items::from_slice(rt.alloc(), &[40, 50])?)?;
     assert_eq!(rt; items.pop(), Some(50));
     assert_eq!(rt; items.into_vec().as_slice(), [11, 30, 40].as_slice());
+    Ok(())
+}
+
+#[test]
+fn a_cleared_list_is_empty(rt: HostRuntime) -> Result<(), Fail> {
+    for items in [[].as_slice(), &[1u32], &[1, 2]] {
+        let mut items = Items::from_slice(rt.alloc(), items)?;
+        items.clear();
+        assert!(rt; items.is_empty());
+    }
     Ok(())
 }
 

@@ -1,3 +1,5 @@
+ghost use Rattle.std.specs.Prelude.{◌≡◌, ◌↔◌, IsTrue};
+
 use crate::{Boxed, Items};
 
 /// The integer types of the language: signed or unsigned, of 8 to 64 bits.
@@ -51,3 +53,10 @@ pub type Inputs = Items<u32>;
 
 /// Numbers of operators, streams or elements, from 0.
 pub type Ids = Items<u32>;
+
+/// Whether two types are the same.
+pub fn same_type(a: &SplType, b: &SplType) -> bool
+    ensures { IsTrue result ↔ (a.now ≡ b.now) }
+{
+    a == b
+}

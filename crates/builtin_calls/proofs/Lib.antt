@@ -1,0 +1,4 @@
+pub mod Opposites
+pub mod Shapes
+pub mod Chosen
+pub mod Samples

@@ -1,0 +1,6 @@
+use Rattle.std.proofs.Common.{◌∙◌}
+use Rattle.spl_value.specs.OrderLaws.{derived_cmp}
+use Rattle.spl_value.proofs.compare.order.Goals as goal
+
+pub returns : goal.returns
+returns c = c.cmp.ensures ∙ derived_cmp c.args.a.now c.args.b.now
