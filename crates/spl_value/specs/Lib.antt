@@ -1,13 +1,14 @@
 pub mod formers
 pub mod Values
 pub mod FitsLaws
+pub mod TypesLaws
+pub mod Induction
 pub mod Order
 pub mod OrderLaws
 pub mod Pairs
 pub mod PairsLaws
-pub mod TypesLaws
-pub mod Induction
+pub mod PairsLends
+pub mod Lends
 pub mod Decimal
 pub mod Near
 pub mod Script
-pub mod Lends
