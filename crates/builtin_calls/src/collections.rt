@@ -4,7 +4,7 @@ ghost use Rattle.spl_value.specs.Calls.{Exactly, Answers, FitsCollection, FitMap
 use crate::integers::counted;
 use spl_value::{Evaluated, Value};
 
-/// `size`: the number of elements of a list or of pairs of a map, an int32.
+/// `size`: the number of elements of a list or of pairs of a map, wrapped to an int32.
 pub fn size(of: &Value) -> Evaluated
     requires { FitsCollection of.now }
     ensures { Exactly result (size_of of.now) }

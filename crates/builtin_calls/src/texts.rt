@@ -7,7 +7,7 @@ use crate::integers::counted;
 use spl_value::{Evaluated, FaultKind, IntKind, Items, SplType, Value};
 use std::alloc::Global;
 
-/// `length`: the number of bytes of a text, an int32.
+/// `length`: the number of bytes of a text, wrapped to an int32.
 pub fn length(text: &Value) -> Evaluated
     requires { IsTrue (fits SplType.Text text.now) }
     ensures { Exactly result (length_of text.now) }

@@ -29,7 +29,7 @@ use Rattle.spl_value.specs.Pairs.{pairs_contain, pairs_without}
 use Rattle.spl_value.specs.Values.{fits, modulus, top, kind_holds}
 use Rattle.spl_value.specs.Wrap.{wrapped}
 use Rattle.spl_value.specs.WrapLaws.{sizes, wrapped_belongs, wrapped_kept, one_wrapped}
-use Rattle.spl_value.specs.Calls.{Called, Gives, Faults, Unfit, count_value, length_at, length_of, size_at, size_of, has_at, has_key, append_at, append_of, remove_at, remove_of, clear_at, clear_of, abs_at, abs_of, are_alike, lesser, greater, min_of, max_of, part_of, substring_at, substring_of, IsCollection, IsOrdered, FitsCollection, FitMapAndKey, FitOrdered, Exactly, Answers, GivesOf, GivesOrIndex}
+use Rattle.spl_value.specs.Calls.{CallOutcome, Gives, Faults, Unfit, count_value, length_at, length_of, size_at, size_of, has_at, has_key, append_at, append_of, remove_at, remove_of, clear_at, clear_of, abs_at, abs_of, are_alike, lesser, greater, min_of, max_of, part_of, substring_at, substring_of, IsCollection, IsOrdered, FitsCollection, FitMapAndKey, FitOrdered, Exactly, Answers, GivesOf, GivesOrIndex}
 
 -- ---- the types of what calls give
 
@@ -75,14 +75,15 @@ SubstringLaw = (s from count : Value) → IsTrue (fits S.Text s) → IsTrue (fit
 
 -- ---- what calls give, in other words
 
--- fewer than 2^31 bytes, elements or pairs are given as their number
+-- a count below 2^31 is given as its number
 abbrev pub CountLaw : Type 0
 CountLaw = (n : ℕ) → n < 2 ^ 31 → count_value n ≡ V.Int (pos n)
 
--- a number whose distance from 0 is of its kind gives that distance, and another one gives itself
+-- a number whose distance from 0 is of its kind gives that distance
 abbrev pub DistanceLaw : Type 0
 DistanceLaw = (kind : IntKind) (n : ℤ) → IsTrue (kind_holds kind (pos (nat_abs n))) → abs_of kind (V.Int n) ≡ Gives (V.Int (pos (nat_abs n)))
 
+-- one of the kind whose distance isn't, which is the kind's least number, gives itself
 abbrev pub LeastNumberLaw : Type 0
 LeastNumberLaw = (kind : IntKind) (n : ℤ) → IsTrue (kind_holds kind n) → kind_holds kind (pos (nat_abs n)) ≡ false → abs_of kind (V.Int n) ≡ Gives (V.Int n)
 
@@ -168,7 +169,7 @@ max_of_alike a b (t, o, f, g) = rw (alike_of t a b o f g) refl
 
 -- ---- answers
 
-pub exactly_answers : (result : Evaluated) (called : Called) → Exactly result called → Answers result called
+pub exactly_answers : (result : Evaluated) (called : CallOutcome) → Exactly result called → Answers result called
 exactly_answers (E.Value v) called h = h
 exactly_answers (E.Bad kind) called h = h
 exactly_answers E.Memory called h = tt
@@ -176,7 +177,7 @@ exactly_answers E.Memory called h = tt
 -- ---- arguments that fit
 
 -- a call that comes to a value of the type
-gives : (t : SplType) (v : Value) (called : Called) → called ≡ Gives v → IsTrue (fits t v) → GivesOf t called
+gives : (t : SplType) (v : Value) (called : CallOutcome) → called ≡ Gives v → IsTrue (fits t v) → GivesOf t called
 gives t v called e h = subst (GivesOf t) (sym e) h
 
 wrapped_fits : (kind : IntKind) (n : ℤ) → IsTrue (fits (S.Int kind) (V.Int (wrapped kind n)))

@@ -91,6 +91,6 @@ level_is_short _ = true
 abbrev pub is_short : Value → Bool
 is_short v = level_is_short (out-Value v)
 
--- the value is one of the type's, and the type one that a key's value may have
+-- the value is one of the type's, and the type one that a key's value may have; a text is short enough
 abbrev pub key_fits : SplType → Value → Bool
 key_fits t v = is_key_type t && fits t v && is_short v

@@ -1,4 +1,5 @@
--- The bytes of a key tell its values, and nothing else of the tuple.
+-- The bytes of a key are those of its values and of nothing else of the tuple, and among keys of the same
+-- types they tell the values.
 use Rattle.std.specs.Prelude.{◌≡◌, ℕ, ◌-◌, ◌^◌, ◌<◌, ◌≤◌, ◌&&◌, ◌++◌, ℤ, pos, negsuc, Bool, true, false, IsTrue, List, [], ◌∷◌, length, map, unsigned_abs, slice_get, Option, Some, None, if◌then◌else◌}
 use Rattle.std.specs.Int.{from_le_bytes, w64, int_rem_euclid}
 use Rattle.std.specs.List.{cons_option}

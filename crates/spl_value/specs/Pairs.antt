@@ -20,7 +20,8 @@ pairs_get ps k = find value_cmp k ps
 abbrev pub pairs_contain : List (Value × Value) → Value → Bool
 pairs_contain ps k = is_some (pairs_get ps k)
 
--- the pairs with v at the key, in place of the value that it had or in a pair of its own
+-- the pairs with v at the key, in place of the value that it had or in a pair of its own, where the keys
+-- ascend
 abbrev pub pairs_put : List (Value × Value) → Value → Value → List (Value × Value)
 pairs_put ps k v = put value_cmp k v ps
 

@@ -38,7 +38,8 @@ top U16 = 65536
 top U32 = 4294967296
 top U64 = 18446744073709551616
 
--- the number is one of the kind's: -1 - n is where n is below the count of its negative numbers
+-- the number is one of the kind's: one below 0, -1 - n, is where n is less than how many numbers below 0
+-- the kind has
 abbrev pub kind_holds : IntKind → ℤ → Bool
 kind_holds k (pos n) = nat_lt n (top k)
 kind_holds k (negsuc n) = nat_lt n (modulus k - top k)

@@ -1,4 +1,4 @@
--- Wrapping: the number of an integer kind that equals n modulo 2 to the kind's width.
+-- Wrapping: the number of an integer kind that equals n modulo 2^bits of the kind.
 use Rattle.std.specs.Prelude.{◌≡◌, ℕ, ◌-◌, ℤ, pos, ◌+ℤ◌, ◌-ℤ◌, ◌*ℤ◌}
 use Rattle.std.specs.Int.{int_rem_euclid}
 use Rattle.spl_value.specs.declared.types.IntKind.{IntKind}
@@ -12,7 +12,6 @@ IsCongruent q m n = (t : ℤ) × (m ≡ n +ℤ t *ℤ pos q)
 abbrev pub negatives : IntKind → ℕ
 negatives k = modulus k - top k
 
--- how far n is above the kind's least number, modulo how many numbers the kind has, and so far above
--- that least number
+-- the number that is as far above the kind's least number as n is, modulo how many numbers the kind has
 abbrev pub wrapped : IntKind → ℤ → ℤ
 wrapped k n = int_rem_euclid (n +ℤ pos (negatives k)) (pos (modulus k)) -ℤ pos (negatives k)

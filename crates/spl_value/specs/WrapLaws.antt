@@ -1,4 +1,4 @@
--- What wraps to a number of a kind: it is of the kind, equal to n modulo 2 to the width, and the only
+-- What wraps to a number of a kind: it is of the kind, equal to n modulo 2^width, and the only
 -- number of the kind that is.
 use Rattle.std.specs.Prelude.{◌≡◌, ℕ, zero, suc, ◌+◌, ◌-◌, ◌*◌, ◌/◌, ◌%◌, ◌<◌, ◌≤◌, ℤ, pos, negsuc, neg_ℤ, ◌+ℤ◌, ◌-ℤ◌, ◌*ℤ◌, true, nat_lt, IsTrue}
 use Rattle.std.specs.Int.{int_rem_euclid}
@@ -15,7 +15,7 @@ use Rattle.spl_value.specs.Wrap.{IsCongruent, negatives, wrapped}
 abbrev pub BelongsLaw : Type 0
 BelongsLaw = (k : IntKind) (n : ℤ) → IsTrue (kind_holds k (wrapped k n))
 
--- it is equal to what it wraps modulo 2 to the kind's width
+-- it is equal to what it wraps modulo 2^bits of the kind
 abbrev pub CongruentLaw : Type 0
 CongruentLaw = (k : IntKind) (n : ℤ) → IsCongruent (modulus k) (wrapped k n) n
 

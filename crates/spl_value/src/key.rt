@@ -82,7 +82,7 @@ pub fn key_law()
     ensures one { OneKeyLaw }
 {}
 
-/// The hashes of some bytes, the bytes of some keys, and values that their types give a key.
+/// The hashes of some bytes, the bytes of some keys, and values that may stand in a key by their types.
 pub fn key_on_literals()
     ensures hash_of_nothing { fnv [] ≡ 0xcbf29ce484222325 }
     ensures hash_of_a { fnv (codes "a") ≡ 0xaf63dc4c8601ec8c }

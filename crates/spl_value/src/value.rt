@@ -17,7 +17,8 @@ pub enum Value {
 /// The elements of a list, or the attributes' values of a tuple, in their order.
 pub type Values = Items<Value>;
 
-/// The pairs of a map: key and value, by ascending key, with distinct keys.
+/// The pairs of a map: key and value. In a value that fits its type they stand by ascending key, with
+/// distinct keys; the calls on pairs want that and keep it.
 pub type Pairs = Items<(Value, Value)>;
 
 /// A copy of a value.

@@ -1,4 +1,4 @@
-//! Integers modulo 2 to a type's width.
+//! Integers modulo 2^bits, by the bits of their type.
 ghost use Rattle.std.specs.Prelude.{◌≡◌, IsTrue, pos};
 ghost use Rattle.spl_value.specs.Values.{kind_holds, modulus};
 ghost use Rattle.spl_value.specs.Wrap.{wrapped};
@@ -18,7 +18,7 @@ fn modulus(kind: IntKind) -> i128
     }
 }
 
-/// The number of the kind that equals `n` modulo 2 to the kind's width, as results of arithmetic
+/// The number of the kind that equals `n` modulo 2^bits of the kind, as results of arithmetic
 /// and of casts do in the language. A number of the kind is left as it is.
 pub fn wrap(kind: IntKind, n: i128) -> i128
     ensures value { result ≡ wrapped kind n }
@@ -36,7 +36,7 @@ pub fn wrap(kind: IntKind, n: i128) -> i128
     }
 }
 
-/// What wraps to a number of a kind is of the kind and equal to it modulo 2 to the kind's width. No
+/// What wraps to a number of a kind is of the kind and equal to it modulo 2^bits of the kind. No
 /// other number of the kind is, and a number of the kind is left as it is.
 pub fn wrap_law()
     ensures belongs { BelongsLaw }
