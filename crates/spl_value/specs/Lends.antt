@@ -1,16 +1,8 @@
--- What a list ends as, where a place in it was lent to be written.
-use Rattle.std.specs.Prelude.{ℕ, List, [], ◌∷◌, Option, slice_set}
-use Rattle.std.specs.Borrow.{Fml, RattleType, MutBor, Lends, LendsIf}
-use denote.Struct.Tuple.{Tuple}
-use Rattle.spl_value.specs.declared.value.Value.{Value}
-use Rattle.spl_value.specs.contracts.items.Items as items
-use Rattle.spl_value.specs.contracts.value.Value as value
-use Rattle.spl_value.specs.Pairs.{pairs_put}
+-- What a list ends as, where the place of an item was lent to be written.
+use Rattle.std.specs.Prelude.{ℕ, List, slice_set}
+use Rattle.std.specs.Borrow.{Fml, RattleType, MutBor, Lends}
+use Rattle.spl_value.specs.contracts.items.Items.{the_row}
 
 -- the item at place i is the last value written through r
 abbrev pub LendsItem : (T : RattleType) → MutBor (List T.Denot) → ℕ → MutBor T.Denot → Fml
-LendsItem T s i r = Lends (items.the_row T) T s r (slice_set s.now i)
-
--- the pairs have at the key the last value written through r, and without the key they stay
-abbrev pub LendsValue : MutBor (List (Value × Value)) → Value → Option (MutBor Value) → Fml
-LendsValue s k r = LendsIf (items.the_row (Tuple (value.the_row ∷ value.the_row ∷ []))) value.the_row s r (pairs_put s.now k) s.now
+LendsItem T s i r = Lends (the_row T) T s r (slice_set s.now i)

@@ -1,12 +1,14 @@
 pub mod formers
 pub mod Values
 pub mod FitsLaws
+pub mod TypesLaws
+pub mod Induction
 pub mod Order
 pub mod OrderLaws
 pub mod Pairs
 pub mod PairsLaws
-pub mod TypesLaws
-pub mod Induction
+pub mod PairsLends
+pub mod Lends
 pub mod Decimal
 pub mod Near
 pub mod Script
@@ -14,6 +16,5 @@ pub mod Wrap
 pub mod WrapLaws
 pub mod Key
 pub mod KeyLaws
-pub mod Lends
 pub mod Calls
 pub mod CallsLaws

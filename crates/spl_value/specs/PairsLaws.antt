@@ -1,5 +1,5 @@
--- What the place of a key says of look-up, insertion and removal, and that these keep the order.
-use Rattle.std.specs.Prelude.{◌≡◌, ◌≢◌, ℕ, zero, suc, ◌<◌, ◌≤◌, Bool, true, false, cond, not, IsTrue, List, [], ◌∷◌, length, Some, None, Result, Ok, Err, MatchResult, slice_get, slice_set, slice_index_or}
+-- What pairs and the place of a key among them say of look-up, of insertion and of removal.
+use Rattle.std.specs.Prelude.{◌≡◌, ◌≢◌, ℕ, zero, suc, ◌+◌, ◌<◌, ◌≤◌, Bool, true, false, cond, not, IsTrue, List, [], ◌∷◌, length, Some, None, Result, Ok, Err, MatchResult, slice_get, slice_set, slice_index_or}
 use Rattle.std.specs.List.{insert, remove, Contains, HoldsAt}
 use Rattle.std.specs.List.Sorted.{IsNonDecreasingBy, IsSearchInRange, IsBinarySearchResult}
 use Rattle.std.specs.declared.cmp.Ordering.{Ordering}
@@ -9,6 +9,7 @@ use Rattle.std.specs.Cmp.{first_so, second_so}
 use Rattle.std.specs.Cmp.Derive.{both_true}
 use Rattle.std.specs.FinMap.Entries.{below_all, by_order, is_sorted-put, is_sorted-where_key, find-put, find-where_key, same_entries}
 use Rattle.std.proofs.Common.{refl, sym, ap, subst, ◌∙◌, arith, T}
+use Rattle.std.proofs.lemmas.List.Sorted.{IsNonDecreasingBy-from_all_adjacent}
 use Rattle.std.proofs.lemmas.Option.{slice_get-get_or, get_or_from_slice_get}
 use Rattle.spl_value.specs.declared.value.Value.{Value}
 use Rattle.spl_value.specs.Order.{value_cmp}
@@ -36,28 +37,6 @@ below_at x (q ∷ ps) zero p h e =
     ap (λ (r : Value × Value). value_cmp x r.0) (sym s) ∙ is_lt-Less (value_cmp x q.0) (first_so (is_lt (value_cmp x q.0)) (below_all value_cmp x ps) h)
 below_at x (q ∷ ps) (suc i) p h e = below_at x ps i p (second_so (is_lt (value_cmp x q.0)) (below_all value_cmp x ps) h) e
 
-below_index : (x : Value) (ps : List (Value × Value)) (i : ℕ) (d : Value × Value) → below_all value_cmp x ps ≡ true → i < length ps → value_cmp x (slice_index_or ps i d).0 ≡ Less
-below_index x [] i d h lt = absurd (omega arith)
-below_index x (q ∷ ps) zero d h lt = is_lt-Less (value_cmp x q.0) (first_so (is_lt (value_cmp x q.0)) (below_all value_cmp x ps) h)
-below_index x (q ∷ ps) (suc i) d h lt = below_index x ps i d (second_so (is_lt (value_cmp x q.0)) (below_all value_cmp x ps) h) (omega arith)
-
-index_rises : (v w k : Value) → value_cmp v w ≡ Less → ordering_index (value_cmp v k) ≤ ordering_index (value_cmp w k)
-index_rises v w k e =
-    elim (value_cmp v k) as (λ o. value_cmp v k ≡ o → ordering_index o ≤ ordering_index (value_cmp w k)) [
-      | Less ↦ λ p. omega arith
-      | Equal ↦ λ p. let g : value_cmp w k ≡ Greater = sym (ap (value_cmp w) (value_cmp-IsAntisymmetric v k p)) ∙ turned v w Less e in subst (λ o. 1 ≤ ordering_index o) (sym g) (omega arith)
-      | Greater ↦ λ p. let g : value_cmp w k ≡ Greater = turned k w Less (value_cmp_total.trans k v w (turned v k Greater p) e) in subst (λ o. 2 ≤ ordering_index o) (sym g) (omega arith)
-    ] refl
-
--- the comparison with k never falls along the pairs
-answers_rise : (k : Value) (ps : List (Value × Value)) → IsTrue (are_pairs ps) → IsNonDecreasingBy (λ p. ordering_index (value_cmp p.0 k)) ps
-answers_rise k [] h i j d le lt = absurd (omega arith)
-answers_rise k (q ∷ ps) h zero zero d le lt = omega arith
-answers_rise k (q ∷ ps) h zero (suc j) d le lt =
-    index_rises q.0 (slice_index_or ps j d).0 k (below_index q.0 ps j d (first_so (below_all value_cmp q.0 ps) (are_pairs ps) h) (omega arith))
-answers_rise k (q ∷ ps) h (suc i) zero d le lt = absurd (omega arith)
-answers_rise k (q ∷ ps) h (suc i) (suc j) d le lt = answers_rise k ps (second_so (below_all value_cmp q.0 ps) (are_pairs ps) h) i j d (omega arith) (omega arith)
-
 pub keys_rise : (ps : List (Value × Value)) → IsTrue (are_pairs ps) → KeysRise ps
 keys_rise [] h i j p q lt e f = absurd cc
 keys_rise (r ∷ ps) h zero zero p q lt e f = absurd (omega arith)
@@ -78,6 +57,23 @@ pairs_from_rise (r ∷ ps) h =
 
 -- ---- what a binary search finds
 
+index_rises : (v w k : Value) → value_cmp v w ≡ Less → ordering_index (value_cmp v k) ≤ ordering_index (value_cmp w k)
+index_rises v w k e =
+    elim (value_cmp v k) as (λ o. value_cmp v k ≡ o → ordering_index o ≤ ordering_index (value_cmp w k)) [
+      | Less ↦ λ p. omega arith
+      | Equal ↦ λ p. let g : value_cmp w k ≡ Greater = sym (ap (value_cmp w) (value_cmp-IsAntisymmetric v k p)) ∙ turned v w Less e in subst (λ o. 1 ≤ ordering_index o) (sym g) (omega arith)
+      | Greater ↦ λ p. let g : value_cmp w k ≡ Greater = turned k w Less (value_cmp_total.trans k v w (turned v k Greater p) e) in subst (λ o. 2 ≤ ordering_index o) (sym g) (omega arith)
+    ] refl
+
+-- the comparison with k never falls along the pairs
+answers_rise : (k : Value) (ps : List (Value × Value)) → IsTrue (are_pairs ps) → IsNonDecreasingBy (λ p. ordering_index (value_cmp p.0 k)) ps
+answers_rise k ps h =
+    IsNonDecreasingBy-from_all_adjacent (λ (p : Value × Value). ordering_index (value_cmp p.0 k)) ps
+    (λ i d lt.
+    let p = slice_index_or ps i d in
+    let q = slice_index_or ps (i + 1) d in
+    index_rises p.0 q.0 k (keys_rise ps h i (i + 1) p q (omega arith) (slice_get-get_or ps i d (omega arith)) (slice_get-get_or ps (i + 1) d lt)))
+
 found_at : (k : Value) (ps : List (Value × Value)) (i : ℕ) → i < length ps → HoldsAt (λ p. value_cmp p.0 k ≡ Equal) ps i → IsAt k ps i
 found_at k [] i lt h = absurd (omega arith)
 found_at k (q ∷ ps) zero lt h = (q.1, λ i. Some (value_cmp-IsAntisymmetric q.0 k (h q) i, q.1))
@@ -92,8 +88,8 @@ place_of_key k ps (Err i) s within h = let parts = h (answers_rise k ps s) in re
 
 module _ (k : Value) where
   -- the first key is below k
-  past : (v w : Value) (q : Value × Value) (ps : List (Value × Value)) (i : ℕ) → IsTrue (are_pairs (q ∷ ps)) → slice_get ps i ≡ Some (k, v) → value_cmp k q.0 ≡ Greater
-  past v w q ps i s e = turned q.0 k Less (below_at q.0 ps i (k, v) (first_so (below_all value_cmp q.0 ps) (are_pairs ps) s) e)
+  past : (q : Value × Value) (ps : List (Value × Value)) (i : ℕ) → IsTrue (are_pairs (q ∷ ps)) → IsAt k ps i → value_cmp k q.0 ≡ Greater
+  past q ps i s (v, e) = turned q.0 k Less (below_at q.0 ps i (k, v) (first_so (below_all value_cmp q.0 ps) (are_pairs ps) s) e)
 
   rest : (q : Value × Value) (ps : List (Value × Value)) → IsTrue (are_pairs (q ∷ ps)) → IsTrue (are_pairs ps)
   rest q ps s = second_so (below_all value_cmp q.0 ps) (are_pairs ps) s
@@ -103,15 +99,15 @@ module _ (k : Value) where
   get_at (q ∷ ps) zero v s e =
       let is : q ≡ (k, v) = cc in
       subst (λ (r : Value × Value). pairs_get (r ∷ ps) k ≡ Some v) (sym is) (ap (λ o. cond (is_eq o) (Some v) (pairs_get ps k)) (value_cmp-itself k))
-  get_at (q ∷ ps) (suc i) v s e = ap (λ o. cond (is_eq o) (Some q.1) (pairs_get ps k)) (past v v q ps i s e) ∙ get_at ps i v (rest q ps s) e
+  get_at (q ∷ ps) (suc i) v s e = ap (λ o. cond (is_eq o) (Some q.1) (pairs_get ps k)) (past q ps i s (v, e)) ∙ get_at ps i v (rest q ps s) e
 
-  pub put_at : (ps : List (Value × Value)) (i : ℕ) (v w : Value) → IsTrue (are_pairs ps) → slice_get ps i ≡ Some (k, v) → slice_set ps i (k, w) ≡ pairs_put ps k w
-  put_at [] i v w s e = absurd cc
-  put_at (q ∷ ps) zero v w s e =
+  pub set_at : (ps : List (Value × Value)) (i : ℕ) (w : Value) → IsTrue (are_pairs ps) → IsAt k ps i → slice_set ps i (k, w) ≡ pairs_put ps k w
+  set_at [] i w s (v, e) = absurd cc
+  set_at (q ∷ ps) zero w s (v, e) =
       let is : q ≡ (k, v) = cc in
       subst (λ (r : Value × Value). (k, w) ∷ ps ≡ pairs_put (r ∷ ps) k w) (sym is) (sym (ap (λ o. by_order o ((k, w) ∷ (k, v) ∷ ps) ((k, w) ∷ ps) ((k, v) ∷ pairs_put ps k w)) (value_cmp-itself k)))
-  put_at (q ∷ ps) (suc i) v w s e =
-      ap (λ l. q ∷ l) (put_at ps i v w (rest q ps s) e) ∙ sym (ap (λ o. by_order o ((k, w) ∷ q ∷ ps) ((q.0, w) ∷ ps) (q ∷ pairs_put ps k w)) (past v v q ps i s e))
+  set_at (q ∷ ps) (suc i) w s (v, e) =
+      ap (λ l. q ∷ l) (set_at ps i w (rest q ps s) (v, e)) ∙ sym (ap (λ o. by_order o ((k, w) ∷ q ∷ ps) ((q.0, w) ∷ ps) (q ∷ pairs_put ps k w)) (past q ps i s (v, e)))
 
   above_others : (ps : List (Value × Value)) → below_all value_cmp k ps ≡ true → pairs_without ps k ≡ ps
   above_others [] h = refl
@@ -119,18 +115,28 @@ module _ (k : Value) where
       ap (λ o. cond (not (is_eq o)) (q ∷ pairs_without ps k) (pairs_without ps k)) (is_lt-Less (value_cmp k q.0) (first_so (is_lt (value_cmp k q.0)) (below_all value_cmp k ps) h))
       ∙ ap (λ l. q ∷ l) (above_others ps (second_so (is_lt (value_cmp k q.0)) (below_all value_cmp k ps) h))
 
-  pub without_at : (ps : List (Value × Value)) (i : ℕ) (v : Value) → IsTrue (are_pairs ps) → slice_get ps i ≡ Some (k, v) → remove ps i ≡ pairs_without ps k
-  without_at [] i v s e = absurd cc
-  without_at (q ∷ ps) zero v s e =
+  pub remove_at : (ps : List (Value × Value)) (i : ℕ) → IsTrue (are_pairs ps) → IsAt k ps i → remove ps i ≡ pairs_without ps k
+  remove_at [] i s (v, e) = absurd cc
+  remove_at (q ∷ ps) zero s (v, e) =
       let is : q ≡ (k, v) = cc in
       let above : below_all value_cmp k ps ≡ true = subst (λ (r : Value × Value). below_all value_cmp r.0 ps ≡ true) is (first_so (below_all value_cmp q.0 ps) (are_pairs ps) s) in
       subst (λ (r : Value × Value). ps ≡ pairs_without (r ∷ ps) k) (sym is)
       (sym (ap (λ o. cond (not (is_eq o)) ((k, v) ∷ pairs_without ps k) (pairs_without ps k)) (value_cmp-itself k) ∙ above_others ps above))
-  without_at (q ∷ ps) (suc i) v s e =
-      ap (λ l. q ∷ l) (without_at ps i v (rest q ps s) e) ∙ sym (ap (λ o. cond (not (is_eq o)) (q ∷ pairs_without ps k) (pairs_without ps k)) (past v v q ps i s e))
+  remove_at (q ∷ ps) (suc i) s (v, e) =
+      ap (λ l. q ∷ l) (remove_at ps i (rest q ps s) (v, e)) ∙ sym (ap (λ o. cond (not (is_eq o)) (q ∷ pairs_without ps k) (pairs_without ps k)) (past q ps i s (v, e)))
 
-  -- ---- where it belongs
+  pub read_at : (ps : List (Value × Value)) (i : ℕ) (d : Value × Value) → IsTrue (are_pairs ps) → IsAt k ps i → Some (slice_index_or ps i d).1 ≡ pairs_get ps k
+  read_at ps i d s (v, e) = ap (λ (p : Value × Value). Some p.1) (get_or_from_slice_get ps i (k, v) d e) ∙ sym (get_at ps i v s e)
 
+  pub value_at : (ps : List (Value × Value)) (i : ℕ) (p : Value × Value) → IsTrue (are_pairs ps) → IsAt k ps i → slice_get ps i ≡ Some p → Some p.1 ≡ pairs_get ps k
+  value_at ps i p s (v, e) is = let same : p ≡ (k, v) = cc in ap (λ (p : Value × Value). Some p.1) same ∙ sym (get_at ps i v s e)
+
+  pub write_at : (ps : List (Value × Value)) (i : ℕ) (p : Value × Value) (w : Value) → IsTrue (are_pairs ps) → IsAt k ps i → slice_get ps i ≡ Some p → slice_set ps i (p.0, w) ≡ pairs_put ps k w
+  write_at ps i p w s (v, e) is = let same : p ≡ (k, v) = cc in ap (λ (q : Value × Value). slice_set ps i (q.0, w)) same ∙ set_at ps i w s (v, e)
+
+-- ---- where the key belongs
+
+module _ (k : Value) where
   later : (q : Value × Value) (ps : List (Value × Value)) (i : ℕ) → IsGap k (q ∷ ps) (suc i) → IsGap k ps i
   later q ps i g = record {
     within = omega (arith, g.within);
@@ -151,22 +157,22 @@ module _ (k : Value) where
   high : (q : Value × Value) (ps : List (Value × Value)) → IsGap k (q ∷ ps) 0 → value_cmp k q.0 ≡ Less
   high q ps g = turned q.0 k Greater (g.behind 0 q (omega arith) (omega arith))
 
-  pub get_gap : (ps : List (Value × Value)) (i : ℕ) → IsGap k ps i → pairs_get ps k ≡ None
-  get_gap [] i g = refl
-  get_gap (q ∷ ps) zero g = ap (λ o. cond (is_eq o) (Some q.1) (pairs_get ps k)) (high q ps g) ∙ get_gap ps zero (later_all q ps g)
-  get_gap (q ∷ ps) (suc i) g = ap (λ o. cond (is_eq o) (Some q.1) (pairs_get ps k)) (low q ps i g) ∙ get_gap ps i (later q ps i g)
+  pub none_at_gap : (ps : List (Value × Value)) (i : ℕ) → IsGap k ps i → None ≡ pairs_get ps k
+  none_at_gap [] i g = refl
+  none_at_gap (q ∷ ps) zero g = none_at_gap ps zero (later_all q ps g) ∙ sym (ap (λ o. cond (is_eq o) (Some q.1) (pairs_get ps k)) (high q ps g))
+  none_at_gap (q ∷ ps) (suc i) g = none_at_gap ps i (later q ps i g) ∙ sym (ap (λ o. cond (is_eq o) (Some q.1) (pairs_get ps k)) (low q ps i g))
 
-  pub put_gap : (ps : List (Value × Value)) (i : ℕ) (w : Value) → IsGap k ps i → insert ps i (k, w) ≡ pairs_put ps k w
-  put_gap [] zero w g = refl
-  put_gap [] (suc i) w g = absurd (omega (arith, g.within))
-  put_gap (q ∷ ps) zero w g = sym (ap (λ o. by_order o ((k, w) ∷ q ∷ ps) ((q.0, w) ∷ ps) (q ∷ pairs_put ps k w)) (high q ps g))
-  put_gap (q ∷ ps) (suc i) w g =
-      ap (λ l. q ∷ l) (put_gap ps i w (later q ps i g)) ∙ sym (ap (λ o. by_order o ((k, w) ∷ q ∷ ps) ((q.0, w) ∷ ps) (q ∷ pairs_put ps k w)) (low q ps i g))
+  pub insert_at_gap : (ps : List (Value × Value)) (i : ℕ) (w : Value) → IsGap k ps i → insert ps i (k, w) ≡ pairs_put ps k w
+  insert_at_gap [] zero w g = refl
+  insert_at_gap [] (suc i) w g = absurd (omega (arith, g.within))
+  insert_at_gap (q ∷ ps) zero w g = sym (ap (λ o. by_order o ((k, w) ∷ q ∷ ps) ((q.0, w) ∷ ps) (q ∷ pairs_put ps k w)) (high q ps g))
+  insert_at_gap (q ∷ ps) (suc i) w g =
+      ap (λ l. q ∷ l) (insert_at_gap ps i w (later q ps i g)) ∙ sym (ap (λ o. by_order o ((k, w) ∷ q ∷ ps) ((q.0, w) ∷ ps) (q ∷ pairs_put ps k w)) (low q ps i g))
 
-  pub without_gap : (ps : List (Value × Value)) (i : ℕ) → IsGap k ps i → pairs_without ps k ≡ ps
-  without_gap [] i g = refl
-  without_gap (q ∷ ps) zero g = ap (λ o. cond (not (is_eq o)) (q ∷ pairs_without ps k) (pairs_without ps k)) (high q ps g) ∙ ap (λ l. q ∷ l) (without_gap ps zero (later_all q ps g))
-  without_gap (q ∷ ps) (suc i) g = ap (λ o. cond (not (is_eq o)) (q ∷ pairs_without ps k) (pairs_without ps k)) (low q ps i g) ∙ ap (λ l. q ∷ l) (without_gap ps i (later q ps i g))
+  pub same_at_gap : (ps : List (Value × Value)) (i : ℕ) → IsGap k ps i → ps ≡ pairs_without ps k
+  same_at_gap [] i g = refl
+  same_at_gap (q ∷ ps) zero g = ap (λ l. q ∷ l) (same_at_gap ps zero (later_all q ps g)) ∙ sym (ap (λ o. cond (not (is_eq o)) (q ∷ pairs_without ps k) (pairs_without ps k)) (high q ps g))
+  same_at_gap (q ∷ ps) (suc i) g = ap (λ l. q ∷ l) (same_at_gap ps i (later q ps i g)) ∙ sym (ap (λ o. cond (not (is_eq o)) (q ∷ pairs_without ps k) (pairs_without ps k)) (low q ps i g))
 
 -- ---- the order is kept
 
@@ -221,30 +227,5 @@ Contains_from_get (p ∷ ps) k v e =
 pub same_pairs : (ps qs : List (Value × Value)) → IsTrue (are_pairs ps) → IsTrue (are_pairs qs) → ((k : Value) → pairs_get ps k ≡ pairs_get qs k) → ps ≡ qs
 same_pairs ps qs s t is = same_entries value_cmp value_cmp_total value_cmp-IsAntisymmetric ps qs (subst T (sym s) tt) (subst T (sym t) tt) is
 
--- ---- for the calls on pairs
-
-pub found_value : (k : Value) (ps : List (Value × Value)) (i : ℕ) (d : Value × Value) → IsTrue (are_pairs ps) → IsAt k ps i → Some (slice_index_or ps i d).1 ≡ pairs_get ps k
-found_value k ps i d s (v, e) = ap (λ (p : Value × Value). Some p.1) (get_or_from_slice_get ps i (k, v) d e) ∙ sym (get_at k ps i v s e)
-
-pub taken_value : (k : Value) (ps : List (Value × Value)) (i : ℕ) (p : Value × Value) → IsTrue (are_pairs ps) → IsAt k ps i → slice_get ps i ≡ Some p → Some p.1 ≡ pairs_get ps k
-taken_value k ps i p s (v, e) is = let same : p ≡ (k, v) = cc in ap (λ (p : Value × Value). Some p.1) same ∙ sym (get_at k ps i v s e)
-
-pub no_value : (k : Value) (ps : List (Value × Value)) (i : ℕ) → IsGap k ps i → None ≡ pairs_get ps k
-no_value k ps i g = sym (get_gap k ps i g)
-
-pub set_pair : (k w : Value) (ps : List (Value × Value)) (i : ℕ) → IsTrue (are_pairs ps) → IsAt k ps i → slice_set ps i (k, w) ≡ pairs_put ps k w
-set_pair k w ps i s (v, e) = put_at k ps i v w s e
-
-pub written_pair : (k w : Value) (ps : List (Value × Value)) (i : ℕ) (p : Value × Value) → IsTrue (are_pairs ps) → IsAt k ps i → slice_get ps i ≡ Some p → slice_set ps i (p.0, w) ≡ pairs_put ps k w
-written_pair k w ps i p s (v, e) is = let same : p ≡ (k, v) = cc in ap (λ (q : Value × Value). slice_set ps i (q.0, w)) same ∙ put_at k ps i v w s e
-
-pub inserted_pair : (k w : Value) (ps : List (Value × Value)) (i : ℕ) → IsGap k ps i → insert ps i (k, w) ≡ pairs_put ps k w
-inserted_pair k w ps i g = put_gap k ps i w g
-
-pub removed_pair : (k : Value) (ps : List (Value × Value)) (i : ℕ) → IsTrue (are_pairs ps) → IsAt k ps i → remove ps i ≡ pairs_without ps k
-removed_pair k ps i s (v, e) = without_at k ps i v s e
-
-pub no_pair : (k : Value) (ps : List (Value × Value)) (i : ℕ) → IsGap k ps i → ps ≡ pairs_without ps k
-no_pair k ps i g = sym (without_gap k ps i g)
-
-pub ruleset pairs_laws = (found_value, taken_value, no_value, set_pair, inserted_pair, removed_pair, no_pair, put_are_pairs, without_are_pairs)
+-- for the calls on pairs
+pub ruleset pairs_laws = (read_at, value_at, set_at, remove_at, none_at_gap, insert_at_gap, same_at_gap, put_are_pairs, without_are_pairs)

@@ -7,9 +7,9 @@ use crate::{Items, NoMemory, Value, order};
 
 impl Items<(Value, Value)> {
     ghost use Rattle.std.specs.Borrow.{sem};
-    ghost use Rattle.spl_value.specs.Lends.{LendsValue};
+    ghost use Rattle.spl_value.specs.PairsLends.{LendsValue};
 
-    // The place of the key, or that where it belongs, by binary search.
+    // The place of the key, or the place where it belongs, by binary search.
     fn place(&self, key: &Value) -> Result<usize, usize>
         requires { IsTrue (are_pairs self.now) }
         ensures { MatchResult result (IsAt key.now self.now) (IsGap key.now self.now) }
@@ -96,13 +96,15 @@ pub fn pairs_law()
     ensures same { (ps qs : List (Value × Value)) → IsTrue (are_pairs ps) → IsTrue (are_pairs qs)
         → ((k : Value) → pairs_get ps k ≡ pairs_get qs k) → ps ≡ qs }
 
-    ensures put { (ps : List (Value × Value)) (k v : Value) → pairs_get (pairs_put ps k v) k ≡ Some v }
+    ensures put { (ps : List (Value × Value)) (k v : Value)
+        → pairs_get (pairs_put ps k v) k ≡ Some v }
     ensures put_others { (ps : List (Value × Value)) (k v q : Value) → q ≢ k
         → pairs_get (pairs_put ps k v) q ≡ pairs_get ps q }
     ensures put_sorted { (ps : List (Value × Value)) (k v : Value) → IsTrue (are_pairs ps)
         → IsTrue (are_pairs (pairs_put ps k v)) }
 
-    ensures without { (ps : List (Value × Value)) (k : Value) → pairs_get (pairs_without ps k) k ≡ None }
+    ensures without { (ps : List (Value × Value)) (k : Value)
+        → pairs_get (pairs_without ps k) k ≡ None }
     ensures without_others { (ps : List (Value × Value)) (k q : Value) → q ≢ k
         → pairs_get (pairs_without ps k) q ≡ pairs_get ps q }
     ensures without_sorted { (ps : List (Value × Value)) (k : Value) → IsTrue (are_pairs ps)
