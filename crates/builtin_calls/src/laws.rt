@@ -1,6 +1,6 @@
 //! What the built-in calls come to.
 ghost use Rattle.spl_value.specs.CallsLaws.{LengthLaw, SizeLaw, HasLaw, AppendLaw, RemoveLaw, ClearLaw, AbsLaw, MinLaw, MaxLaw, SubstringLaw};
-ghost use Rattle.spl_value.specs.CallsLaws.{CountLaw, DistanceLaw, LeastNumberLaw, LeastLaw, GreatestLaw, PartLaw};
+ghost use Rattle.spl_value.specs.CallsLaws.{CountLaw, DistanceLaw, LeastNumberLaw, LeastLaw, GreatestLaw, PartLaw, IndexLaw};
 
 /// Arguments of the types that a call takes give a value of its type, or for `substring` alone the
 /// fault `Index`.
@@ -20,7 +20,8 @@ pub fn calls_law()
 /// What calls give, in other words than their definitions. A count below 2^31 is given as it is.
 /// `abs` gives the distance from 0, and the least number of a signed type itself. `min` gives one
 /// of the two that is greater than neither, and `max` one that is less than neither. `substring`
-/// gives a part of the text with `from` bytes before it, of `count` bytes or all that are left.
+/// gives a part of the text with `from` bytes before it, of `count` bytes or all that are left, and
+/// the fault `Index` exactly where `from` is negative or above the length, or `count` is negative.
 pub fn values_law()
     ensures count { CountLaw }
     ensures distance { DistanceLaw }
@@ -28,4 +29,5 @@ pub fn values_law()
     ensures least { LeastLaw }
     ensures greatest { GreatestLaw }
     ensures part { PartLaw }
+    ensures index { IndexLaw }
 {}

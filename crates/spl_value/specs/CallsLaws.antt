@@ -1,6 +1,6 @@
 -- The laws of the built-in calls: arguments of the types that a call takes give a value of its type,
 -- what calls give is said in other words, and there is an equation for each shape of arguments.
-use Rattle.std.specs.Prelude.{◌≡◌, ◌≢◌, ◌⊎◌, ℕ, suc, ◌-◌, ◌*◌, ◌^◌, ◌<◌, ◌≤◌, min, ℤ, ◌+ℤ◌, ◌*ℤ◌, pos, negsuc, nat_abs, nat_lt, Bool, true, false, ◌&&◌, IsTrue, if◌then◌else◌, List, [], ◌∷◌, ◌++◌, length, take, drop}
+use Rattle.std.specs.Prelude.{◌≡◌, ◌≢◌, ◌⊎◌, ◌↔◌, ℕ, suc, ◌<ℤ◌, T, take, drop, ◌-◌, ◌*◌, ◌^◌, ◌<◌, ◌≤◌, min, ℤ, ◌+ℤ◌, ◌*ℤ◌, pos, negsuc, nat_abs, nat_lt, Bool, true, false, ◌&&◌, IsTrue, if◌then◌else◌, List, [], ◌∷◌, ◌++◌, length}
 use Rattle.std.specs.List.{list_all}
 use Rattle.std.specs.declared.cmp.Ordering.{Ordering}
 use Rattle.std.specs.declared.cmp.Ordering.TheVariants.{Less, Equal, Greater}
@@ -108,6 +108,13 @@ IsPart bytes from count part =
 
 abbrev pub PartLaw : Type 0
 PartLaw = (bytes part : List ℕ) (from count : ℕ) → substring_of (V.Text bytes) (V.Int (pos from)) (V.Int (pos count)) ≡ Gives (V.Text part) → IsPart bytes from count part
+
+-- `from` is negative or above the length, or `count` is negative
+abbrev pub IsOutside : List ℕ → ℤ → ℤ → Type 0
+IsOutside bytes from count = (from <ℤ pos 0) ⊎ ((pos (length bytes) <ℤ from) ⊎ (count <ℤ pos 0))
+
+abbrev pub IndexLaw : Type 0
+IndexLaw = (bytes : List ℕ) (from count : ℤ) → (substring_of (V.Text bytes) (V.Int from) (V.Int count) ≡ Faults Index) ↔ IsOutside bytes from count
 
 -- ---- shape by shape
 
@@ -333,3 +340,32 @@ part_at bytes part from count false h e =
 
 pub part_law : PartLaw
 part_law bytes part from count e = part_at bytes part from count (nat_lt (length bytes) from) refl (sym (substring_of_text bytes (pos from) (pos count)) ∙ e)
+
+outside_at : (bytes : List ℕ) (from count : ℤ) → part_of bytes from count ≡ Faults Index → IsOutside bytes from count
+outside_at bytes (pos from) (pos count) e = by (nat_lt (length bytes) from) refl e
+  where
+    by : (b : Bool) → nat_lt (length bytes) from ≡ b → (if b then Faults Index else Gives (V.Text (take count (drop from bytes)))) ≡ Faults Index
+        → IsOutside bytes (pos from) (pos count)
+    by true is e = inr (inl (record { lt = subst T (sym is) tt }))
+    by false is e = absurd cc
+outside_at bytes (negsuc from) count e = inl (record { lt = tt })
+outside_at bytes (pos from) (negsuc count) e = inr (inr (record { lt = tt }))
+
+true_from : {b : Bool} → T b → b ≡ true
+true_from {b = true} h = refl
+true_from {b = false} h = absurd h
+
+not_negative : (n : ℕ) → pos n <ℤ pos 0 → ⊥
+not_negative n h = let lt = ltb-true n 0 (true_from h.lt) in absurd (omega arith)
+
+index_at : (bytes : List ℕ) (from count : ℤ) → IsOutside bytes from count → part_of bytes from count ≡ Faults Index
+index_at bytes (pos from) (pos count) (inl h) = absurd (not_negative from h)
+index_at bytes (pos from) (pos count) (inr (inl h)) =
+    ap (λ (b : Bool). if b then Faults Index else Gives (V.Text (take count (drop from bytes)))) (true_from h.lt)
+index_at bytes (pos from) (pos count) (inr (inr h)) = absurd (not_negative count h)
+index_at bytes (negsuc from) count h = refl
+index_at bytes (pos from) (negsuc count) h = refl
+
+pub index_law : IndexLaw
+index_law bytes from count =
+    (λ e. outside_at bytes from count (sym (substring_of_text bytes from count) ∙ e), λ h. substring_of_text bytes from count ∙ index_at bytes from count h)

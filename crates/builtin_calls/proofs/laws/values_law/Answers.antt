@@ -1,4 +1,4 @@
-use Rattle.spl_value.specs.CallsLaws.{count_law, distance_law, least_number_law, least_law, greatest_law, part_law}
+use Rattle.spl_value.specs.CallsLaws.{count_law, distance_law, least_number_law, least_law, greatest_law, part_law, index_law}
 use Rattle.builtin_calls.proofs.laws.values_law.Goals as goal
 
 pub returns-clause-count : goal.returns-clause-count
@@ -18,3 +18,6 @@ returns-clause-greatest c = greatest_law
 
 pub returns-clause-part : goal.returns-clause-part
 returns-clause-part c = part_law
+
+pub returns-clause-index : goal.returns-clause-index
+returns-clause-index c = index_law
