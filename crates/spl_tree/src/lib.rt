@@ -1,12 +1,17 @@
 //! What the text of a program is: its tokens, and the trees that they spell.
 #![tactic(auto)]
 
+mod code;
 mod expression;
 mod keyword;
 mod laws;
 mod symbol;
 mod token;
 
+pub use code::{
+    BinaryCode, BuiltIn, CallName, Code, IntegerOperator, Marker, OrderOperator, Slot, Taking,
+    UnaryCode,
+};
 pub use expression::{
     BinaryOperator, CastTarget, Entries, Expr, ExprKind, Exprs, Field, Fields, Placed, Prefix,
     PrefixOperator, Prefixes, Step, Steps,

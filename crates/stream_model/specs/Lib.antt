@@ -1,5 +1,7 @@
 pub mod Stream
 pub mod Condition
+pub mod Scopes
+pub mod Typing
 pub mod React
 pub mod Stages
 pub mod Meaning

@@ -6,6 +6,7 @@ mod condition;
 mod laws;
 mod outs;
 mod record;
+mod scope;
 
 pub use comparison::Comparison;
 pub use condition::Condition;
@@ -17,3 +18,4 @@ pub use outs::{Output, Outs};
 pub use record::{
     ArrivalList, ArrivalLists, Arrivals, ChannelCount, ChannelCounts, Counts, SinkCount, SinkCounts,
 };
+pub use scope::{Port, Scope, Signature, TypeError, TypeRefusal, Typed, Variable};

@@ -1,0 +1,147 @@
+use spl_value::{Boxed, IntKind, Items, Value};
+
+/// A typed expression. Each name in it is a place in the expression's scope, each operator and each
+/// call has the kind of its operands, and what stands in parentheses stands alone. `N` is how names
+/// are given.
+#[derive(Debug, Drop)]
+pub enum Code<N> {
+    /// A number, a boolean or a text.
+    Literal(Value),
+    Name(N),
+    List(Items<Code<N>>),
+    /// The keys and values of a map literal, in the order of the text. Of pairs with one key the
+    /// last counts.
+    Map(Items<(Code<N>, Code<N>)>),
+    /// The fields of a tuple literal, in the order of the text: the place of each in the tuple,
+    /// from 0, and its value.
+    Tuple(Items<(u32, Code<N>)>),
+    /// Members, elements and values at keys that are taken in turn of what comes first.
+    Select(Boxed<Code<N>>, Items<Taking<Code<N>>>),
+    /// Operators and casts in front of an operand, the outermost first.
+    Unary(Items<UnaryCode>, Boxed<Code<N>>),
+    Binary(BinaryCode, Boxed<Code<N>>, Boxed<Code<N>>),
+    /// `condition ? first : second`.
+    Conditional(Boxed<Code<N>>, Boxed<Code<N>>, Boxed<Code<N>>),
+    BuiltIn(BuiltIn, Items<Code<N>>),
+    /// A call of the function at that place of the scope, with its arguments.
+    Call(u32, Items<Code<N>>),
+    /// Whether the marker that came is this one.
+    IsMarker(Marker),
+    /// Whether it isn't.
+    IsNotMarker(Marker),
+}
+
+/// What a name stands for in a scope, by places from 0.
+#[derive(Clone, Copy, Debug, PartialEq, Eq)]
+pub enum Slot {
+    /// A variable.
+    Variable(u32),
+    /// An attribute of the tuple at a port.
+    Attribute { port: u32, attribute: u32 },
+    /// The tuple at a port.
+    Port(u32),
+}
+
+/// What is taken of a value.
+#[derive(Debug, Drop)]
+pub enum Taking<C> {
+    /// The attribute of a tuple at that place, from 0.
+    Member(u32),
+    /// The element of a list at an index.
+    Element(C),
+    /// The value of a map at a key.
+    AtKey(C),
+}
+
+/// An operator in front of its operand.
+#[derive(Clone, Copy, Debug, PartialEq, Eq)]
+pub enum UnaryCode {
+    /// `!`
+    Not,
+    /// `-` of an integer of that type.
+    Negate(IntKind),
+    /// `~` of an integer of that type.
+    Complement(IntKind),
+    /// A cast of an integer to that type.
+    ToInteger(IntKind),
+    /// A cast of an integer or a boolean to `rstring`.
+    ToText,
+}
+
+/// An operator between two operands.
+#[derive(Clone, Copy, Debug, PartialEq, Eq)]
+pub enum BinaryCode {
+    /// `* / % + - & ^ |` of two integers of that type.
+    Integers(IntegerOperator, IntKind),
+    /// `+` of two texts.
+    Join,
+    /// `< <= > >=` of two integers or two texts.
+    Order(OrderOperator),
+    /// `==`
+    Equal,
+    /// `!=`
+    NotEqual,
+    /// `&&`
+    And,
+    /// `||`
+    Or,
+    /// `in` of a value and a list.
+    InList,
+    /// `in` of a key and a map.
+    InMap,
+}
+
+#[derive(Clone, Copy, Debug, PartialEq, Eq)]
+pub enum IntegerOperator {
+    Multiply,
+    Divide,
+    Remainder,
+    Add,
+    Subtract,
+    BitAnd,
+    BitXor,
+    BitOr,
+}
+
+#[derive(Clone, Copy, Debug, PartialEq, Eq)]
+pub enum OrderOperator {
+    Less,
+    LessOrEqual,
+    Greater,
+    GreaterOrEqual,
+}
+
+/// A call that the language has built in and that gives a value.
+#[derive(Clone, Copy, Debug, PartialEq, Eq)]
+pub enum BuiltIn {
+    Length,
+    Size,
+    Has,
+    Abs(IntKind),
+    Min,
+    Max,
+    Substring,
+}
+
+/// A marker of a stream.
+#[derive(Clone, Copy, Debug, PartialEq, Eq)]
+pub enum Marker {
+    Window,
+    Final,
+}
+
+/// The names of the calls that the language has built in.
+#[derive(Clone, Copy, Debug, PartialEq, Eq)]
+pub enum CallName {
+    Length,
+    Size,
+    Has,
+    AppendM,
+    RemoveM,
+    ClearM,
+    Abs,
+    Min,
+    Max,
+    Substring,
+    CurrentPunct,
+}
