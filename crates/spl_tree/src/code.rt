@@ -1,8 +1,8 @@
 use spl_value::{Boxed, IntKind, Items, Value};
 
-/// A typed expression. Each name in it is a place in the expression's scope, each operator and each
-/// call has the kind of its operands, and what stands in parentheses stands alone. `N` is how names
-/// are given.
+/// A typed expression. Each name in it is a place in the expression's scope, and each operator and
+/// call whose result depends on its operands' type has that type. Parentheses are gone. `N` is how
+/// names are given.
 #[derive(Debug, Drop)]
 pub enum Code<N> {
     /// A number, a boolean or a text.
@@ -36,9 +36,9 @@ pub enum Code<N> {
 pub enum Slot {
     /// A variable.
     Variable(u32),
-    /// An attribute of the tuple at a port.
+    /// An attribute of the tuple at a port of the scope.
     Attribute { port: u32, attribute: u32 },
-    /// The tuple at a port.
+    /// The tuple at a port of the scope.
     Port(u32),
 }
 
@@ -130,7 +130,7 @@ pub enum Marker {
     Final,
 }
 
-/// The names of the calls that the language has built in.
+/// The names of the calls that the language has built in, and of that which asks for the marker.
 #[derive(Clone, Copy, Debug, PartialEq, Eq)]
 pub enum CallName {
     Length,

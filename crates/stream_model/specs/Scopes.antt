@@ -21,11 +21,11 @@ abbrev pub first_from : {A : Type 0} → (A → Bool) → ℕ → List A → Opt
 first_from p i [] = None
 first_from p i (x ∷ xs) = if p x then Some (at_place i x) else first_from p (suc i) xs
 
--- the last that passes
 abbrev pub or_before : {A : Type 0} → Option (At A) → Option (At A) → Option (At A)
 or_before None before = before
 or_before (Some x) before = Some x
 
+-- the last that passes
 abbrev pub last_from : {A : Type 0} → (A → Bool) → ℕ → List A → Option (At A)
 last_from p i [] = None
 last_from p i (x ∷ xs) = or_before (last_from p (suc i) xs) (if p x then Some (at_place i x) else None)

@@ -1,5 +1,7 @@
 -- The types of expressions, and their code. An expression has a type and a code in a scope, under the type that its place
--- wants, where it wants one; else it is refused at the first expression in it that has no meaning there.
+-- wants, where it wants one. Else it has a first refusal: parts are looked at from left to right and the inner ones first,
+-- except that a literal whose form the wanted type doesn't have, and a call with another number of arguments than the
+-- called one takes, are refused before their parts.
 use Rattle.std.specs.Prelude.{ℕ, suc, pos, Bool, true, false, ◌&&◌, not, List, [], ◌∷◌, length, if◌then◌else◌, codes, Option, Some, None, is_some, Result, Ok, Err, ◌==◌}
 use Rattle.std.specs.List.{list_all}
 use Rattle.std.specs.Cmp.Lexicographic.{pointwise}
@@ -109,17 +111,17 @@ as_wanted at (Some u) t = if same_types t.kind u then Ok t else mismatch at
 
 -- what the expressions around it see of an expression's form
 pub record Form : Type 0 where
-  -- the name that it is
+  -- the name that it is, in parentheses or not
   pub name : Option (List ℕ)
-  -- the name that it is, or of which it takes members and elements
-  pub place : Option (List ℕ)
+  -- the name that it is, or of which it takes members and elements, in no parentheses: what may be changed
+  pub root : Option (List ℕ)
   -- it is `currentPunct()`
   pub asks : Bool
   -- it is `Sys.WindowMarker` or `Sys.FinalMarker`
   pub marker : Option Marker
 
 abbrev pub no_form : Form
-no_form = record { name = None; place = None; asks = false; marker = None }
+no_form = record { name = None; root = None; asks = false; marker = None }
 
 -- an expression: its form, and its type and code at its place
 pub record Part : Type 0 where
@@ -174,7 +176,7 @@ abbrev pub elements_typed : Scope → SplType → List (Placed Part) → Found (
 elements_typed scope t [] = Ok []
 elements_typed scope t (e ∷ es) = after (part_typed e scope (Some t)) (λ x. after (elements_typed scope t es) (λ xs. Ok (x.code ∷ xs)))
 
--- the first one's type is that of the others, where none is wanted
+-- where no type is wanted, that of the first one is wanted of the others
 abbrev pub list_typed : ℕ → Scope → Wants SplType → List (Placed Part) → Found Typed
 list_typed at scope Another es = mismatch at
 list_typed at scope (This t) es = after (elements_typed scope t es) (λ xs. Ok (typed (S.List t) (C.List xs)))
@@ -200,12 +202,12 @@ abbrev pub are_distinct : List (Field (Placed Part)) → Bool
 are_distinct [] = true
 are_distinct (f ∷ fs) = list_all (λ g. not (bytes_eq g.name.what f.name.what)) fs && are_distinct fs
 
--- each wanted attribute has a field, and no other has
+-- each wanted attribute has one field, and no other has one; attributes have names of their own
 abbrev pub gives_each : List (Named SplType) → List (Field (Placed Part)) → Bool
 gives_each schema fs = are_distinct fs && list_all (λ f. is_some (attribute_of schema f.name.what)) fs && (length fs == length schema)
 
 abbrev pub field_typed : Scope → List (Named SplType) → Field (Placed Part) → Option (At (Named SplType)) → Found (ℕ × Code Slot)
-field_typed scope schema f None = mismatch f.name.at
+field_typed scope schema f None = mismatch f.value.at
 field_typed scope schema f (Some a) = after (part_typed f.value scope (Some a.what.kind)) (λ x. Ok (a.place, x.code))
 
 abbrev pub fields_typed : Scope → List (Named SplType) → List (Field (Placed Part)) → Found (List (ℕ × Code Slot))
@@ -251,6 +253,7 @@ steps_typed base scope t [] = Ok ([], t)
 steps_typed base scope t (s ∷ ss) =
     after (level_step base scope (out-SplType t) s) (λ x. after (steps_typed base scope x.1 ss) (λ xs. Ok (x.0 ∷ xs.0, xs.1)))
 
+-- what is taken of a code, where something is
 abbrev pub selected : Code Slot → List (Taking (Code Slot)) → Code Slot
 selected base [] = base
 selected base (x ∷ xs) = C.Select base (x ∷ xs)
@@ -373,7 +376,7 @@ binary_or_marker None scope op left right = binary_typed scope op left right
 
 -- ---- the conditional
 
--- the first branch's type is that of the second, where none is wanted
+-- where no type is wanted, that of the first branch is wanted of the second
 abbrev pub branch_wanted : Wanted → SplType → Wanted
 branch_wanted None t = Some t
 branch_wanted (Some u) t = Some u
@@ -458,7 +461,7 @@ if_mutable at scope e (Some name) found = if is_mutable scope name then found el
 
 abbrev pub changed_typed : ℕ → Scope → Placed Part → List (Placed Part) → Option (List SplType) → Found (List (Code Slot))
 changed_typed at scope e es None = wrong_call at
-changed_typed at scope e es (Some types) = if_mutable at scope e e.what.form.place (arguments_typed scope types es)
+changed_typed at scope e es (Some types) = if_mutable at scope e e.what.form.root (arguments_typed scope types es)
 
 -- how many arguments a call has
 abbrev pub argument_count : CallName → ℕ
@@ -513,10 +516,10 @@ is_nil [] = true
 is_nil (x ∷ xs) = false
 
 abbrev pub level_form : ExprKind-F Part → Form
-level_form (X.Name name) = record { name = Some name; place = Some name; asks = false; marker = None }
-level_form (X.Group e) = record { name = None; place = None; asks = e.what.form.asks; marker = e.what.form.marker }
-level_form (X.Call name es) = record { name = None; place = None; asks = bytes_eq name (codes "currentPunct") && is_nil es; marker = None }
-level_form (X.Select base steps) = record { name = None; place = base.what.form.name; asks = false; marker = marker_in base.what.form.name steps }
+level_form (X.Name name) = record { name = Some name; root = Some name; asks = false; marker = None }
+level_form (X.Group e) = record { name = e.what.form.name; root = None; asks = e.what.form.asks; marker = e.what.form.marker }
+level_form (X.Call name es) = record { name = None; root = None; asks = bytes_eq name (codes "currentPunct") && is_nil es; marker = None }
+level_form (X.Select base steps) = record { name = None; root = base.what.form.root; asks = false; marker = marker_in base.what.form.root steps }
 level_form _ = no_form
 
 abbrev pub level_typed : ExprKind-F Part → (at : ℕ) → Scope → Wanted → Found Typed

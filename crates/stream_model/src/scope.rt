@@ -25,7 +25,8 @@ pub struct Signature {
     pub result: Option<SplType>,
 }
 
-/// What an expression may name. Variables stand in the order of their declarations.
+/// What an expression may name. Variables stand in the order of their declarations, those of the
+/// state before local ones; of several with one name the last is meant.
 #[derive(Debug, Drop)]
 pub struct Scope {
     pub vars: Items<Variable>,
