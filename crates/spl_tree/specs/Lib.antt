@@ -4,6 +4,7 @@ pub mod Tokens
 pub mod Weights
 pub mod Operators
 pub mod Grammar
+pub mod Induction
 pub mod Laws
 pub mod TokenLaws
 pub mod WordLaws
