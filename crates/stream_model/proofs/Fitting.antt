@@ -1,5 +1,5 @@
 -- The code of an expression fits the scope at its type.
-use Rattle.std.specs.Prelude.{◌≡◌, ◌==◌, ◌&&◌, ◌+◌, ℕ, suc, pos, nat_lt, is_some, Bool, true, false, IsTrue, List, [], ◌∷◌, ◌++◌, length, map, slice_get, Option, Some, None, Ok, Err, if◌then◌else◌}
+use Rattle.std.specs.Prelude.{◌≡◌, ◌==◌, ◌&&◌, ℕ, suc, pos, nat_lt, is_some, Bool, true, IsTrue, List, [], ◌∷◌, ◌++◌, length, map, slice_get, Option, Some, None, Ok}
 use Rattle.std.specs.List.{AllByRecursion, list_all}
 use Rattle.std.specs.Str.{bytes_eq}
 use Rattle.std.specs.Cmp.{first_so, second_so}
@@ -14,7 +14,7 @@ use Rattle.spl_value.specs.declared.types.SplType.TheOpen as T
 use Rattle.spl_value.specs.declared.types.SplType.TheOpen.{SplType-F}
 use Rattle.spl_value.specs.declared.types.SplType.TheViews.{out-SplType}
 use Rattle.spl_value.specs.declared.value.Value.TheVariants as V
-use Rattle.spl_value.specs.Values.{fits, top}
+use Rattle.spl_value.specs.Values.{top}
 use Rattle.spl_value.specs.FitsLaws.{fits_int, fits_bool, fits_text}
 use Rattle.spl_tree.specs.declared.expression.Placed.{Placed}
 use Rattle.spl_tree.specs.declared.expression.Field.{Field}
@@ -39,7 +39,6 @@ use Rattle.spl_tree.specs.declared.code.Code.TheVariants as C
 use Rattle.spl_tree.specs.declared.code.Slot.{Slot}
 use Rattle.spl_tree.specs.declared.code.Slot.TheVariants as L
 use Rattle.spl_tree.specs.declared.code.Taking.{Taking}
-use Rattle.spl_tree.specs.declared.code.UnaryCode.{UnaryCode}
 use Rattle.spl_tree.specs.declared.code.UnaryCode.TheVariants as U
 use Rattle.spl_tree.specs.declared.code.BinaryCode.{BinaryCode}
 use Rattle.spl_tree.specs.declared.code.BinaryCode.TheVariants as D
@@ -55,8 +54,8 @@ use Rattle.stream_model.specs.declared.scope.Scope.{Scope}
 use Rattle.stream_model.specs.declared.scope.Signature.{Signature}
 use Rattle.stream_model.specs.declared.scope.Typed.{Typed}
 use Rattle.stream_model.specs.declared.scope.Variable.{Variable}
-use Rattle.stream_model.specs.Scopes.{At, Meant, OfVariable, OfAttribute, OfPort, Nothing, PortAttribute, first_from, meant, variable_meant, attribute_meant, port_meant, variable_of, attributes_of, port_of, attribute_of, function_of}
-use Rattle.stream_model.specs.Typing.{Wanted, Found, after, unknown, mismatch, wrong_call, typed, as_wanted, same_types, Form, Part, part_typed, meant_typed, Wants, Anything, This, Another, wants_list, wants_map, wants_tuple, elements_typed, list_typed, entries_typed, map_typed, are_distinct, gives_each, field_typed, fields_typed, own_fields, tuple_typed, level_index, member_typed, level_step, steps_typed, selected, select_typed, port_attribute, of_port, of_base, level_prefix, prefix_typed, prefixes_at, prefixes_typed, unary_typed, integer_operator, order_operator, on_integers, ordering_of, or_else, level_operator, operands_typed, level_in, binary_typed, marker_asked, binary_or_marker, branch_wanted, conditional_typed, arguments_typed, value_given, function_typed, call_of, int32, OnFirst, level_first, first_typed, argument_count, fixed_typed, no_value, arguments_of, built_in_typed, call_typed, level_typed, level_part, part, typing}
+use Rattle.stream_model.specs.Scopes.{At, Meant, OfVariable, OfAttribute, OfPort, Nothing, PortAttribute, meant, variable_meant, variable_of, attributes_of, port_of, attribute_of, function_of}
+use Rattle.stream_model.specs.Typing.{Wanted, Found, after, mismatch, typed, as_wanted, same_types, Part, part_typed, meant_typed, Wants, Anything, This, Another, wants_list, wants_map, wants_tuple, elements_typed, list_typed, entries_typed, map_typed, are_distinct, gives_each, field_typed, fields_typed, own_fields, tuple_typed, level_index, member_typed, level_step, steps_typed, selected, select_typed, port_attribute, of_port, of_base, level_prefix, prefix_typed, prefixes_at, prefixes_typed, unary_typed, integer_operator, order_operator, on_integers, ordering_of, or_else, level_operator, operands_typed, level_in, binary_typed, marker_asked, binary_or_marker, branch_wanted, conditional_typed, arguments_typed, value_given, function_typed, call_of, int32, OnFirst, level_first, first_typed, argument_count, fixed_typed, no_value, arguments_of, call_typed, level_part, part, typing}
 use Rattle.stream_model.specs.CodeFits as F
 use Rattle.stream_model.specs.CodeFits.{CodeFits, SlotFits, ElementsFit, PairsFit, FieldsFit, ArgumentsFit, StepsLead, UnaryGives, UnariesGive, BinaryGives, BuiltInGives, OneEach}
 use Rattle.stream_model.specs.FitLaws.{step_in_range, level_in_range, in_range, FitLaw}
@@ -216,15 +215,15 @@ tuple_fits : (at : ℕ) (scope : Scope) (wants : Wants (List (Named SplType))) (
 tuple_fits at scope Another fs h = tt
 tuple_fits at scope (This schema) fs h =
     gives_if (Fits scope) (gives_each schema fs) _ _ (λ each.
-      let attributes = list_all (λ f. is_some (attribute_of schema f.name.what)) fs in
-      let distinct = first_so (are_distinct fs) attributes (first_so (are_distinct fs && attributes) (length fs == length schema) each) in
-      let long = second_so (are_distinct fs && attributes) (length fs == length schema) each in
-      gives_after (λ xs. FieldsFit scope xs schema × AtNames schema fs xs) (Fits scope) (fields_typed scope schema fs) _ (fields_fit scope schema fs h) (λ xs g.
-      F.tuple xs schema g.0 (names_one_each schema fs xs g.1 distinct (eqb-true (length fs) (length schema) long)))) tt
+    let attributes = list_all (λ f. is_some (attribute_of schema f.name.what)) fs in
+    let distinct = first_so (are_distinct fs) attributes (first_so (are_distinct fs && attributes) (length fs == length schema) each) in
+    let long = second_so (are_distinct fs && attributes) (length fs == length schema) each in
+    gives_after (λ xs. FieldsFit scope xs schema × AtNames schema fs xs) (Fits scope) (fields_typed scope schema fs) _ (fields_fit scope schema fs h) (λ xs g.
+    F.tuple xs schema g.0 (names_one_each schema fs xs g.1 distinct (eqb-true (length fs) (length schema) long)))) tt
 tuple_fits at scope Anything fs h =
     gives_if (Fits scope) (are_distinct fs) _ _ (λ each.
-      gives_after (OwnFields scope 0) (Fits scope) (own_fields scope 0 fs) _ (own_fit scope 0 fs h) (λ xs own.
-      F.tuple xs.1 xs.0 (own.fit [] refl) (row_one_each (length xs.0) xs.1 own.row own.long))) tt
+    gives_after (OwnFields scope 0) (Fits scope) (own_fields scope 0 fs) _ (own_fit scope 0 fs h) (λ xs own.
+    F.tuple xs.1 xs.0 (own.fit [] refl) (row_one_each (length xs.0) xs.1 own.row own.long))) tt
 
 -- ---- what is taken of a value
 
@@ -390,12 +389,12 @@ operands_fit scope x left right (Some op) f h g =
 in_fits : (scope : Scope) (x y : Typed) (at : ℕ) (z : SplType-F SplType) → out-SplType y.kind ≡ z → Fits scope x → Fits scope y → Gives (Fits scope) (level_in x y.code at z)
 in_fits scope x y at (T.List t) e f g =
     gives_if (Fits scope) (same_types x.kind t) _ _ (λ same.
-      F.binary D.InList x.code y.code t y.kind S.Bool (subst (CodeFits scope x.code) (equal_from_same x.kind t same) f) g
-      (subst (λ u. BinaryGives D.InList t u S.Bool) (sym (rolled y.kind (T.List t) (S.List t) e (S.rolls-List t))) (F.in_list t))) tt
+    F.binary D.InList x.code y.code t y.kind S.Bool (subst (CodeFits scope x.code) (equal_from_same x.kind t same) f) g
+    (subst (λ u. BinaryGives D.InList t u S.Bool) (sym (rolled y.kind (T.List t) (S.List t) e (S.rolls-List t))) (F.in_list t))) tt
 in_fits scope x y at (T.Map k t) e f g =
     gives_if (Fits scope) (same_types x.kind k) _ _ (λ same.
-      F.binary D.InMap x.code y.code k y.kind S.Bool (subst (CodeFits scope x.code) (equal_from_same x.kind k same) f) g
-      (subst (λ u. BinaryGives D.InMap k u S.Bool) (sym (rolled y.kind (T.Map k t) (S.Map k t) e (S.rolls-Map k t))) (F.in_map k t))) tt
+    F.binary D.InMap x.code y.code k y.kind S.Bool (subst (CodeFits scope x.code) (equal_from_same x.kind k same) f) g
+    (subst (λ u. BinaryGives D.InMap k u S.Bool) (sym (rolled y.kind (T.Map k t) (S.Map k t) e (S.rolls-Map k t))) (F.in_map k t))) tt
 in_fits scope x y at _ e f g = tt
 
 of_operands_fits : (scope : Scope) (op : BinaryOperator) (left right : Placed Part) → Good left → Good right
@@ -463,9 +462,9 @@ function_fits : (at : ℕ) (scope : Scope) (name : List ℕ) (es : List (Placed 
 function_fits at scope name es None h g = tt
 function_fits at scope name es (Some f) h g =
     gives_if (Fits scope) (length es == length f.what.parameters) _ _ (λ same.
-      gives_after (λ xs. ArgumentsFit scope xs f.what.parameters) (Fits scope) (arguments_typed scope f.what.parameters es) _
-      (arguments_fit scope f.what.parameters es (eqb-true (length es) (length f.what.parameters) same) g)
-      (λ xs i. value_fits at scope f xs f.what.result refl h i)) tt
+    gives_after (λ xs. ArgumentsFit scope xs f.what.parameters) (Fits scope) (arguments_typed scope f.what.parameters es) _
+    (arguments_fit scope f.what.parameters es (eqb-true (length es) (length f.what.parameters) same) g)
+    (λ xs i. value_fits at scope f xs f.what.result refl h i)) tt
 
 -- where a call is one on a first argument of this type, it gives a value of its type, and the others are so many
 abbrev OnFirstFits : SplType → ℕ → OnFirst → Type 0
@@ -559,9 +558,10 @@ good_entries : (es : List (Expr × Expr)) → AllByRecursion (OfEntry OfRange) e
 good_entries [] h r = tt
 good_entries (e ∷ es) h r =
     let others = list_all {X = Placed Bool × Placed Bool} (λ e. e.0.what && e.1.what) (map (λ e. (flag_of e.0, flag_of e.1)) es) in
-    let first = first_so (in_range e.0.what && in_range e.1.what) others r in
-    ((good_part e.0 h.0.0 (first_so (in_range e.0.what) (in_range e.1.what) first), good_part e.1 h.0.1 (second_so (in_range e.0.what) (in_range e.1.what) first)),
-    good_entries es h.1 (second_so (in_range e.0.what && in_range e.1.what) others r))
+    let first = first_so (in_range e.0.what && in_range e.1.what) others r in (
+      (good_part e.0 h.0.0 (first_so (in_range e.0.what) (in_range e.1.what) first), good_part e.1 h.0.1 (second_so (in_range e.0.what) (in_range e.1.what) first)),
+      good_entries es h.1 (second_so (in_range e.0.what && in_range e.1.what) others r),
+    )
 
 abbrev part_in : Field Expr → Field (Placed Part)
 part_in f = record { name = f.name; value = part_of f.value }
@@ -584,9 +584,10 @@ good_step g k members indices flags (N.Index e) h r = subst GoodStep (indices e)
 good_steps : (g : Step Expr → Step (Placed Part)) (k : Step Expr → Step (Placed Bool)) → ((m : Placed (List ℕ)) → N.Member m ≡ g (N.Member m)) → ((e : Expr) → N.Index (part_of e) ≡ g (N.Index e))
     → ((e : Expr) → k (N.Index e) ≡ N.Index (flag_of e)) → (ss : List (Step Expr)) → AllByRecursion (OfStep OfRange) ss → IsTrue (list_all step_in_range (map k ss)) → AllByRecursion GoodStep (map g ss)
 good_steps g k members indices flags [] h r = tt
-good_steps g k members indices flags (s ∷ ss) h r =
-    (good_step g k members indices flags s h.0 (first_so (step_in_range (k s)) (list_all step_in_range (map k ss)) r),
-    good_steps g k members indices flags ss h.1 (second_so (step_in_range (k s)) (list_all step_in_range (map k ss)) r))
+good_steps g k members indices flags (s ∷ ss) h r = (
+  good_step g k members indices flags s h.0 (first_so (step_in_range (k s)) (list_all step_in_range (map k ss)) r),
+  good_steps g k members indices flags ss h.1 (second_so (step_in_range (k s)) (list_all step_in_range (map k ss)) r),
+)
 
 number_fits : (scope : Scope) (n : Number) → IsTrue (nat_lt n.value (top n.kind)) → CodeFits scope (C.Literal (V.Int (pos n.value))) (S.Int n.kind)
 number_fits scope n r = F.literal (V.Int (pos n.value)) (S.Int n.kind) (fits_int n.kind (pos n.value) ∙ r)

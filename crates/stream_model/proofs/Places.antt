@@ -1,5 +1,5 @@
 -- Fields of distinct names, as many as a tuple has places, give each place once.
-use Rattle.std.specs.Prelude.{◌≡◌, ◌+◌, ◌≤◌, ◌<◌, ◌==◌, ◌&&◌, ◌||◌, ◌⊎◌, eqb, ℕ, suc, Bool, true, false, not, cond, List, [], ◌∷◌, map, length, slice_get, Some}
+use Rattle.std.specs.Prelude.{◌≡◌, ◌+◌, ◌≤◌, ◌<◌, ◌==◌, ◌||◌, ◌⊎◌, eqb, ℕ, suc, true, false, not, cond, List, [], ◌∷◌, map, length, slice_get, Some}
 use Rattle.std.specs.List.{list_all, list_any, count_by, IsDistinct, AllByRecursion}
 use Rattle.std.specs.Str.{bytes_eq}
 use Rattle.std.specs.Cmp.{first_so, second_so}
@@ -77,9 +77,9 @@ pub one_each : (n : ℕ) (xs : List PlacedCode) → IsDistinct eqb (places xs) �
 unfolding IsDistinct
 one_each n xs distinct below long i within =
     sym (is_count i xs) ∙ count_one i xs distinct (λ lacks.
-      let most : length (i ∷ places xs) ≤ n = length-le_from_distinct_below (i ∷ places xs) n (lacks, distinct) (below_member n (i ∷ places xs) (within, below)) in
-      let same : length (places xs) ≡ length xs = length-map xs (λ x. x.0) in
-      omega arith)
+    let most : length (i ∷ places xs) ≤ n = length-le_from_distinct_below (i ∷ places xs) n (lacks, distinct) (below_member n (i ∷ places xs) (within, below)) in
+    let same : length (places xs) ≡ length xs = length-map xs (λ x. x.0) in
+    omega arith)
 
 -- ---- fields of distinct names
 
@@ -105,8 +105,8 @@ names_below schema (f ∷ fs) [] h = absurd h
 names_apart : (schema : List (Named SplType)) (i : ℕ) (a : Named SplType) (name : List ℕ) (fs : List (Field (Placed Part))) (xs : List PlacedCode)
     → slice_get schema i ≡ Some a → bytes_eq a.name name ≡ true → AtNames schema fs xs → list_all (λ g. not (bytes_eq g.name.what name)) fs ≡ true → Lacks i (places xs)
 names_apart schema i a name [] [] at is h e = tt
-names_apart schema i a name (g ∷ fs) (x ∷ xs) at is h e =
-    (ne_eqb i x.0 (λ same.
+names_apart schema i a name (g ∷ fs) (x ∷ xs) at is h e = (
+  ne_eqb i x.0 (λ same.
       let b : Named SplType = h.0.0 in
       let there : slice_get schema x.0 ≡ Some b = h.0.1 in
       let equal : Some a ≡ Some b = sym at ∙ ap (slice_get schema) same ∙ there in
@@ -116,7 +116,8 @@ names_apart schema i a name (g ∷ fs) (x ∷ xs) at is h e =
       let clash : bytes_eq g.name.what name ≡ true = (bytes_decides g.name.what name).1 (sym second ∙ sym names ∙ first) in
       let none = first_so (not (bytes_eq g.name.what name)) (list_all (λ g. not (bytes_eq g.name.what name)) fs) e in
       cc),
-      names_apart schema i a name fs xs at is h.1 (second_so (not (bytes_eq g.name.what name)) (list_all (λ g. not (bytes_eq g.name.what name)) fs) e))
+  names_apart schema i a name fs xs at is h.1 (second_so (not (bytes_eq g.name.what name)) (list_all (λ g. not (bytes_eq g.name.what name)) fs) e),
+)
 names_apart schema i a name [] (x ∷ xs) at is h e = absurd h
 names_apart schema i a name (g ∷ fs) [] at is h e = absurd h
 
@@ -124,9 +125,10 @@ names_distinct : (schema : List (Named SplType)) (fs : List (Field (Placed Part)
 unfolding IsDistinct
 names_distinct schema [] [] h e = tt
 names_distinct schema (f ∷ fs) (x ∷ xs) h e =
-    let others = list_all (λ g. not (bytes_eq g.name.what f.name.what)) fs in
-    (names_apart schema x.0 h.0.0 f.name.what fs xs h.0.1 h.0.2 h.1 (first_so others (are_distinct fs) e),
-    names_distinct schema fs xs h.1 (second_so others (are_distinct fs) e))
+    let others = list_all (λ g. not (bytes_eq g.name.what f.name.what)) fs in (
+      names_apart schema x.0 h.0.0 f.name.what fs xs h.0.1 h.0.2 h.1 (first_so others (are_distinct fs) e),
+      names_distinct schema fs xs h.1 (second_so others (are_distinct fs) e),
+    )
 names_distinct schema [] (x ∷ xs) h e = absurd h
 names_distinct schema (f ∷ fs) [] h e = absurd h
 

@@ -13,7 +13,7 @@ use Rattle.spl_value.specs.declared.types.SplType.TheOpen as T
 use Rattle.spl_value.specs.declared.types.SplType.TheOpen.{SplType-F}
 use Rattle.spl_value.specs.declared.types.SplType.TheViews.{out-SplType, roll-SplType, roll-out-SplType}
 use Rattle.spl_value.specs.declared.types.SplType.TheFolds.{fold_out-SplType, map-SplType}
-use Rattle.spl_value.specs.Induction.{TypeSteps, type_ind}
+use Rattle.spl_value.specs.Induction.{type_ind}
 use Rattle.spl_tree.specs.declared.keyword.Keyword.TheVariants as W
 use Rattle.spl_tree.specs.Words.{keyword_word, keyword_of}
 use Rattle.spl_tree.specs.WordLaws.{keywords_law}

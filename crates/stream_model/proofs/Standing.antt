@@ -6,7 +6,7 @@ use Rattle.spl_value.specs.declared.types.Named.{Named}
 use Rattle.spl_value.specs.declared.types.SplType.{SplType}
 use Rattle.stream_model.specs.declared.scope.Port.{Port}
 use Rattle.stream_model.specs.declared.scope.Scope.{Scope}
-use Rattle.stream_model.specs.Scopes.{At, at_place, first_from, last_from, or_before, variable_of, attribute_of, PortAttribute, in_port, attributes_from, attributes_of, port_of, function_of, Meant, OfVariable, OfAttribute, OfPort, Nothing, port_meant, attribute_meant, variable_meant, meant}
+use Rattle.stream_model.specs.Scopes.{At, at_place, first_from, last_from, or_before, variable_of, attribute_of, PortAttribute, in_port, attributes_from, attributes_of, port_of, function_of}
 
 -- what was found in a list that begins at a place is there, and passes
 abbrev pub Stands : {A : Type 0} → (A → Bool) → List A → ℕ → Option (At A) → Type 0

@@ -1,5 +1,5 @@
 -- An expression has the type that its place wants.
-use Rattle.std.specs.Prelude.{◌≡◌, ℕ, Bool, true, false, List, [], ◌∷◌, map, Option, Some, None, Ok, Err, if◌then◌else◌}
+use Rattle.std.specs.Prelude.{◌≡◌, ℕ, Bool, true, false, List, [], ◌∷◌, Some, None, Ok, Err, if◌then◌else◌}
 use Rattle.std.proofs.Common.{refl, sym, ap, subst, ◌∙◌}
 use Rattle.spl_value.specs.declared.types.Named.{Named}
 use Rattle.spl_value.specs.declared.types.SplType.{SplType}
@@ -19,7 +19,7 @@ use Rattle.spl_tree.specs.Grammar.{Expr}
 use Rattle.spl_tree.specs.Induction.{ExprSteps, expr_ind}
 use Rattle.stream_model.specs.declared.scope.Scope.{Scope}
 use Rattle.stream_model.specs.declared.scope.Typed.{Typed}
-use Rattle.stream_model.specs.Typing.{Wanted, Found, after, mismatch, as_wanted, same_types, Part, part_typed, Wants, Anything, This, Another, level_element, wants_list, level_pair, wants_map, level_schema, wants_tuple, elements_typed, list_typed, entries_typed, map_typed, are_distinct, gives_each, fields_typed, own_fields, tuple_typed, branch_wanted, conditional_typed, level_typed, level_part, part, typing}
+use Rattle.stream_model.specs.Typing.{Wanted, Found, after, mismatch, as_wanted, same_types, Part, part_typed, Wants, Anything, This, Another, level_element, wants_list, level_pair, wants_map, level_schema, wants_tuple, elements_typed, list_typed, entries_typed, map_typed, are_distinct, gives_each, fields_typed, own_fields, tuple_typed, branch_wanted, conditional_typed, level_part, part, typing}
 use Rattle.stream_model.specs.FitLaws.{WantedLaw}
 use Rattle.stream_model.proofs.SameTypes.{equal_from_same}
 
