@@ -33,6 +33,7 @@ use Rattle.spl_tree.specs.declared.expression.ExprKind.TheOpen.{ExprKind-F}
 use Rattle.spl_tree.specs.declared.expression.ExprKind.TheViews.{out-ExprKind}
 use Rattle.spl_tree.specs.declared.expression.ExprKind.TheFolds.{fold_out-ExprKind, map-ExprKind}
 use Rattle.spl_tree.specs.Grammar.{Expr}
+use Rattle.spl_tree.specs.Ranges.{step_in_range, level_in_range, in_range}
 use Rattle.spl_tree.specs.Induction.{OfExpr, OfEntry, OfField, OfStep, ExprSteps, expr_ind}
 use Rattle.spl_tree.specs.declared.code.Code.{Code}
 use Rattle.spl_tree.specs.declared.code.Code.TheVariants as C
@@ -58,7 +59,7 @@ use Rattle.stream_model.specs.Scopes.{At, Meant, OfVariable, OfAttribute, OfPort
 use Rattle.stream_model.specs.Typing.{Wanted, Found, after, mismatch, typed, as_wanted, same_types, Part, part_typed, meant_typed, Wants, Anything, This, Another, wants_list, wants_map, wants_tuple, elements_typed, list_typed, entries_typed, map_typed, are_distinct, gives_each, field_typed, fields_typed, own_fields, tuple_typed, level_index, member_typed, level_step, steps_typed, selected, select_typed, port_attribute, of_port, of_base, level_prefix, prefix_typed, prefixes_at, prefixes_typed, unary_typed, integer_operator, order_operator, on_integers, ordering_of, or_else, level_operator, operands_typed, level_in, binary_typed, marker_asked, binary_or_marker, branch_wanted, conditional_typed, arguments_typed, value_given, function_typed, call_of, int32, OnFirst, level_first, first_typed, argument_count, fixed_typed, no_value, arguments_of, call_typed, level_part, part, typing}
 use Rattle.stream_model.specs.CodeFits as F
 use Rattle.stream_model.specs.CodeFits.{CodeFits, SlotFits, ElementsFit, PairsFit, FieldsFit, ArgumentsFit, StepsLead, UnaryGives, UnariesGive, BinaryGives, BuiltInGives, OneEach}
-use Rattle.stream_model.specs.FitLaws.{step_in_range, level_in_range, in_range, FitLaw}
+use Rattle.stream_model.specs.FitLaws.{FitLaw}
 use Rattle.stream_model.proofs.Standing.{Stands, first_stands, There, variable_there, attribute_there, port_there, function_there, FirstOf, attributes_there}
 use Rattle.stream_model.proofs.Places.{AtNames, names_one_each, InRow, row_one_each}
 use Rattle.stream_model.proofs.SameTypes.{equal_from_same}

@@ -70,8 +70,9 @@ pub fn rows_law()
     ensures within { (o : Setting) → 6 ≤ o.limit → IsWithin o (codes "20\n30\n") }
 {}
 
-/// An expression has at most one type and one code in a scope, where one type is wanted. The type is
-/// the wanted one, and the code fits the scope at it.
+/// An expression has at most one type and one code in a scope, under the type that its place wants.
+/// It is the wanted type, and the code fits the scope at it, where the numbers of the expression are
+/// those of their types.
 pub fn typing_law()
     ensures one { OneTypeLaw }
     ensures wanted { WantedLaw }
