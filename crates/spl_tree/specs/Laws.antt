@@ -1,5 +1,5 @@
 -- What tokens and weights are, in other words than their definitions.
-use Rattle.std.specs.Prelude.{◌≡◌, ℕ, ◌+◌, ◌-◌, ◌<◌, ◌≤◌, ◌==◌, ◌&&◌, ◌||◌, true, false, not, List, [], ◌∷◌, ◌++◌, length, take, drop, All, Some, None, Ok}
+use Rattle.std.specs.Prelude.{◌≡◌, ℕ, ◌+◌, ◌-◌, ◌<◌, ◌≤◌, ◌==◌, ◌&&◌, ◌||◌, IsTrue, true, false, not, List, [], ◌∷◌, ◌++◌, length, take, drop, All, Some, None, Ok}
 use Rattle.std.specs.List.{list_all}
 use Rattle.spl_value.specs.Decimal.{is_digit}
 use Rattle.spl_tree.specs.declared.keyword.Keyword.{Keyword}
@@ -11,6 +11,8 @@ use Rattle.spl_tree.specs.declared.token.TheConstants.{MOST_BYTES}
 use Rattle.spl_tree.specs.Bytes.{is_blank, is_word_byte, begins}
 use Rattle.spl_tree.specs.Words.{symbol_text, symbol_of, keyword_word, keyword_of}
 use Rattle.spl_tree.specs.Tokens.{is_formed, kind_of, tokens}
+use Rattle.spl_tree.specs.Grammar.{Expr, Spells}
+use Rattle.spl_tree.specs.Ranges.{in_range}
 use Rattle.spl_tree.specs.Weights.{weights, most_weight, too_deep_at}
 
 -- bytes that separate tokens, by what follows them: a blank, a comment up to the end of its line,
@@ -79,3 +81,8 @@ WeightsLaw = (ts : List Token) → length (weights ts) ≡ length ts
 -- so few tokens are never too deep
 abbrev pub ShallowLaw : Type 0
 ShallowLaw = (ts : List Token) → length ts ≤ most_weight → too_deep_at ts ≡ None
+
+-- each number of an expression that a program's tokens spell is one of its type
+abbrev pub RangesLaw : Type 0
+RangesLaw = (bytes : List ℕ) (ts : Tokens) (e : Expr) (before own after : List Token) →
+    tokens bytes ≡ Ok ts → ts.list ≡ before ++ (own ++ after) → Spells e own → IsTrue (in_range e.what)

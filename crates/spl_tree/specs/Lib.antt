@@ -4,6 +4,8 @@ pub mod Tokens
 pub mod Weights
 pub mod Operators
 pub mod Grammar
+pub mod Induction
+pub mod Ranges
 pub mod Laws
 pub mod TokenLaws
 pub mod WordLaws
@@ -11,3 +13,4 @@ pub mod WeightLaws
 pub mod GapLaws
 pub mod FrontLaws
 pub mod CutLaws
+pub mod RangeLaws

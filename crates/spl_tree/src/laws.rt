@@ -5,7 +5,7 @@ ghost use Rattle.spl_tree.specs.declared.keyword.Keyword.TheVariants as K;
 ghost use Rattle.spl_tree.specs.declared.symbol.Symbol.TheVariants as S;
 ghost use Rattle.spl_tree.specs.declared.token.LexicalError.TheVariants as E;
 ghost use Rattle.spl_tree.specs.declared.token.TokenKind.TheVariants as T;
-ghost use Rattle.spl_tree.specs.Laws.{CutLaw, OneCutLaw, RiseLaw, OwnBytesLaw, SymbolsLaw, KeywordsLaw, WeightsLaw, ShallowLaw};
+ghost use Rattle.spl_tree.specs.Laws.{CutLaw, OneCutLaw, RiseLaw, OwnBytesLaw, SymbolsLaw, KeywordsLaw, WeightsLaw, ShallowLaw, RangesLaw};
 ghost use Rattle.spl_tree.specs.Tokens.{tokens};
 ghost use Rattle.spl_tree.specs.Weights.{weights};
 
@@ -30,6 +30,11 @@ pub fn texts_law()
 pub fn weights_law()
     ensures each { WeightsLaw }
     ensures shallow { ShallowLaw }
+{}
+
+/// Each number of an expression that a program's tokens spell is one of its type.
+pub fn ranges_law()
+    ensures { RangesLaw }
 {}
 
 /// Tokens of some bytes.

@@ -17,6 +17,8 @@ pub use expression::{
     PrefixOperator, Prefixes, Step, Steps,
 };
 pub use keyword::{KEYWORDS, Keyword, LeftOut};
-pub use laws::{texts_law, tokens_law, tokens_on_literals, weights_law, weights_on_literals};
+pub use laws::{
+    ranges_law, texts_law, tokens_law, tokens_on_literals, weights_law, weights_on_literals,
+};
 pub use symbol::Symbol;
 pub use token::{LexicalError, MOST_BYTES, Number, Token, TokenKind, TokenList, Tokens};

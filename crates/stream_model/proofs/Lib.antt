@@ -4,3 +4,8 @@ pub mod Waiting
 pub mod Growing
 pub mod Graphs
 pub mod FileRows
+pub mod Standing
+pub mod SameTypes
+pub mod Wanting
+pub mod Places
+pub mod Fitting

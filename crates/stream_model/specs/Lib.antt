@@ -2,6 +2,8 @@ pub mod Stream
 pub mod Condition
 pub mod Scopes
 pub mod Typing
+pub mod CodeFits
+pub mod FitLaws
 pub mod React
 pub mod Stages
 pub mod Meaning

@@ -7,6 +7,7 @@ ghost use Rattle.spl_value.specs.declared.types.IntKind.TheVariants as N;
 ghost use Rattle.spl_value.specs.declared.types.SplType.TheVariants as T;
 ghost use Rattle.spl_value.specs.declared.value.Value.TheVariants as V;
 ghost use Rattle.stream_model.specs.Laws.{StartLaw, HistoryLaw, EndLaw, EndItemLaw, EndGivesLaw, WaitLaw, PortsLaw, OutGrows, ChainGrows, OutCloses, ClosedEnds, ClosedGivesClosed, BodyLaw, BodyPorts, GraphLaw, EventsLaw, TopoEventsLaw, IsOrdered, IsNumbered, IsWithin, RowsClose, PiecesLaw, RowsLaw, FailedRowsLaw};
+ghost use Rattle.stream_model.specs.FitLaws.{FitLaw, WantedLaw, OneTypeLaw};
 ghost use Rattle.stream_model.specs.React.{Source, FileSource, Filter, FileSink};
 ghost use Rattle.stream_model.specs.declared.condition.Condition.{Condition};
 ghost use Rattle.stream_model.specs.PathLaws.{path_graph};
@@ -67,6 +68,15 @@ pub fn rows_law()
     ensures all { RowsLaw }
     ensures failed { FailedRowsLaw }
     ensures within { (o : Setting) → 6 ≤ o.limit → IsWithin o (codes "20\n30\n") }
+{}
+
+/// An expression has at most one type and one code in a scope, under the type that its place wants.
+/// It is the wanted type, and the code fits the scope at it, where the numbers of the expression are
+/// those of their types.
+pub fn typing_law()
+    ensures one { OneTypeLaw }
+    ensures wanted { WantedLaw }
+    ensures fits { FitLaw }
 {}
 
 /// Rows of some files.

@@ -12,7 +12,7 @@ pub use comparison::Comparison;
 pub use condition::Condition;
 pub use laws::{
     chain_is_ordered, graph_law, history_law, kinds_law, order_law, rows_law, rows_on_literals,
-    text_on_literals,
+    text_on_literals, typing_law,
 };
 pub use outs::{Output, Outs};
 pub use record::{

@@ -1,0 +1,5 @@
+use Rattle.spl_tree.specs.RangeLaws.{ranges_law}
+use Rattle.spl_tree.proofs.laws.ranges_law.Goals as goal
+
+pub returns : goal.returns
+returns c = ranges_law
