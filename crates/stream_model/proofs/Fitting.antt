@@ -30,10 +30,8 @@ use Rattle.spl_tree.specs.declared.expression.ExprKind.{ExprKind}
 use Rattle.spl_tree.specs.declared.expression.ExprKind.TheVariants as E
 use Rattle.spl_tree.specs.declared.expression.ExprKind.TheOpen as X
 use Rattle.spl_tree.specs.declared.expression.ExprKind.TheOpen.{ExprKind-F}
-use Rattle.spl_tree.specs.declared.expression.ExprKind.TheViews.{out-ExprKind}
-use Rattle.spl_tree.specs.declared.expression.ExprKind.TheFolds.{fold_out-ExprKind, map-ExprKind}
+use Rattle.spl_tree.specs.declared.expression.ExprKind.TheFolds.{map-ExprKind}
 use Rattle.spl_tree.specs.Grammar.{Expr}
-use Rattle.spl_tree.specs.Ranges.{step_in_range, level_in_range, in_range}
 use Rattle.spl_tree.specs.Induction.{OfExpr, OfEntry, OfField, OfStep, ExprSteps, expr_ind}
 use Rattle.spl_tree.specs.declared.code.Code.{Code}
 use Rattle.spl_tree.specs.declared.code.Code.TheVariants as C
@@ -56,7 +54,7 @@ use Rattle.stream_model.specs.declared.scope.Signature.{Signature}
 use Rattle.stream_model.specs.declared.scope.Typed.{Typed}
 use Rattle.stream_model.specs.declared.scope.Variable.{Variable}
 use Rattle.stream_model.specs.Scopes.{At, Meant, OfVariable, OfAttribute, OfPort, Nothing, PortAttribute, meant, variable_meant, variable_of, attributes_of, port_of, attribute_of, function_of}
-use Rattle.stream_model.specs.Typing.{Wanted, Found, after, mismatch, typed, as_wanted, same_types, Part, part_typed, meant_typed, Wants, Anything, This, Another, wants_list, wants_map, wants_tuple, elements_typed, list_typed, entries_typed, map_typed, are_distinct, gives_each, field_typed, fields_typed, own_fields, tuple_typed, level_index, member_typed, level_step, steps_typed, selected, select_typed, port_attribute, of_port, of_base, level_prefix, prefix_typed, prefixes_at, prefixes_typed, unary_typed, integer_operator, order_operator, on_integers, ordering_of, or_else, level_operator, operands_typed, level_in, binary_typed, marker_asked, binary_or_marker, branch_wanted, conditional_typed, arguments_typed, value_given, function_typed, call_of, int32, OnFirst, level_first, first_typed, argument_count, fixed_typed, no_value, arguments_of, call_typed, level_part, part, typing}
+use Rattle.stream_model.specs.Typing.{Wanted, Found, after, mismatch, typed, as_wanted, number_typed, same_types, Part, part_typed, meant_typed, Wants, Anything, This, Another, wants_list, wants_map, wants_tuple, elements_typed, list_typed, entries_typed, map_typed, are_distinct, gives_each, field_typed, fields_typed, own_fields, tuple_typed, level_index, member_typed, level_step, steps_typed, selected, select_typed, port_attribute, of_port, of_base, level_prefix, prefix_typed, prefixes_at, prefixes_typed, unary_typed, integer_operator, order_operator, on_integers, ordering_of, or_else, level_operator, operands_typed, level_in, binary_typed, marker_asked, binary_or_marker, branch_wanted, conditional_typed, arguments_typed, value_given, function_typed, call_of, int32, OnFirst, level_first, first_typed, argument_count, fixed_typed, no_value, arguments_of, call_typed, level_part, part, typing}
 use Rattle.stream_model.specs.CodeFits as F
 use Rattle.stream_model.specs.CodeFits.{CodeFits, SlotFits, ElementsFit, PairsFit, FieldsFit, ArgumentsFit, StepsLead, UnaryGives, UnariesGive, BinaryGives, BuiltInGives, OneEach}
 use Rattle.stream_model.specs.FitLaws.{FitLaw}
@@ -535,121 +533,85 @@ call_fits at scope name es None h = function_fits at scope name es (function_of 
 
 -- ---- expressions
 
--- the parts of an expression whose numbers are in range have codes that fit
-abbrev pub OfRange : ExprKind → Type 0
-OfRange e = IsTrue (in_range e) → Sound (part e)
+-- what is known of the parts of an expression, as its parts
+good_part : (e : Expr) → Sound (part e.what) → Good (part_of e)
+good_part e h = (keeps e.what, h)
 
-range_at : (e : ExprKind) (x : ExprKind-F ExprKind) → out-ExprKind e ≡ x → IsTrue (in_range e) → IsTrue (level_in_range (map-ExprKind ExprKind Bool in_range x))
-range_at e x out h = sym (fold_out-ExprKind Bool level_in_range e ∙ ap (λ y. level_in_range (map-ExprKind ExprKind Bool in_range y)) out) ∙ h
+abbrev IsSound : ExprKind → Type 0
+IsSound e = Sound (part e)
 
-good_part : (e : Expr) → OfRange e.what → IsTrue (in_range e.what) → Good (part_of e)
-good_part e h r = (keeps e.what, h r)
+good_parts : (es : List Expr) → AllByRecursion (OfExpr IsSound) es → AllByRecursion Good (map part_of es)
+good_parts [] h = tt
+good_parts (e ∷ es) h = (good_part e h.0, good_parts es h.1)
 
--- and as the answer about it
-abbrev flag_of : Expr → Placed Bool
-flag_of e = record { at = e.at; what = in_range e.what }
-
-good_parts : (es : List Expr) → AllByRecursion (OfExpr OfRange) es → IsTrue (list_all (λ e. e.what) (map flag_of es)) → AllByRecursion Good (map part_of es)
-good_parts [] h r = tt
-good_parts (e ∷ es) h r =
-    (good_part e h.0 (first_so (in_range e.what) (list_all (λ e. e.what) (map flag_of es)) r), good_parts es h.1 (second_so (in_range e.what) (list_all (λ e. e.what) (map flag_of es)) r))
-
-good_entries : (es : List (Expr × Expr)) → AllByRecursion (OfEntry OfRange) es → IsTrue (list_all {X = Placed Bool × Placed Bool} (λ e. e.0.what && e.1.what) (map (λ e. (flag_of e.0, flag_of e.1)) es))
-    → AllByRecursion GoodEntry (map (λ e. (part_of e.0, part_of e.1)) es)
-good_entries [] h r = tt
-good_entries (e ∷ es) h r =
-    let others = list_all {X = Placed Bool × Placed Bool} (λ e. e.0.what && e.1.what) (map (λ e. (flag_of e.0, flag_of e.1)) es) in
-    let first = first_so (in_range e.0.what && in_range e.1.what) others r in (
-      (good_part e.0 h.0.0 (first_so (in_range e.0.what) (in_range e.1.what) first), good_part e.1 h.0.1 (second_so (in_range e.0.what) (in_range e.1.what) first)),
-      good_entries es h.1 (second_so (in_range e.0.what && in_range e.1.what) others r),
-    )
+good_entries : (es : List (Expr × Expr)) → AllByRecursion (OfEntry IsSound) es → AllByRecursion GoodEntry (map (λ e. (part_of e.0, part_of e.1)) es)
+good_entries [] h = tt
+good_entries (e ∷ es) h = ((good_part e.0 h.0.0, good_part e.1 h.0.1), good_entries es h.1)
 
 abbrev part_in : Field Expr → Field (Placed Part)
 part_in f = record { name = f.name; value = part_of f.value }
 
-abbrev flag_in : Field Expr → Field (Placed Bool)
-flag_in f = record { name = f.name; value = flag_of f.value }
-
-good_fields : (fs : List (Field Expr)) → AllByRecursion (OfField OfRange) fs → IsTrue (list_all (λ f. f.value.what) (map flag_in fs)) → AllByRecursion GoodField (map part_in fs)
-good_fields [] h r = tt
-good_fields (f ∷ fs) h r =
-    let others = list_all {X = Field (Placed Bool)} (λ f. f.value.what) (map flag_in fs) in
-    (good_part f.value h.0 (first_so (in_range f.value.what) others r), good_fields fs h.1 (second_so (in_range f.value.what) others r))
+good_fields : (fs : List (Field Expr)) → AllByRecursion (OfField IsSound) fs → AllByRecursion GoodField (map part_in fs)
+good_fields [] h = tt
+good_fields (f ∷ fs) h = (good_part f.value h.0, good_fields fs h.1)
 
 -- for what keeps members and hands on indices
-good_step : (g : Step Expr → Step (Placed Part)) (k : Step Expr → Step (Placed Bool)) → ((m : Placed (List ℕ)) → N.Member m ≡ g (N.Member m)) → ((e : Expr) → N.Index (part_of e) ≡ g (N.Index e))
-    → ((e : Expr) → k (N.Index e) ≡ N.Index (flag_of e)) → (s : Step Expr) → OfStep OfRange s → IsTrue (step_in_range (k s)) → GoodStep (g s)
-good_step g k members indices flags (N.Member m) h r = subst GoodStep (members m) tt
-good_step g k members indices flags (N.Index e) h r = subst GoodStep (indices e) (good_part e h (subst (λ s. IsTrue (step_in_range s)) (flags e) r))
+good_step : (g : Step Expr → Step (Placed Part)) → ((m : Placed (List ℕ)) → N.Member m ≡ g (N.Member m)) → ((e : Expr) → N.Index (part_of e) ≡ g (N.Index e))
+    → (s : Step Expr) → OfStep IsSound s → GoodStep (g s)
+good_step g members indices (N.Member m) h = subst GoodStep (members m) tt
+good_step g members indices (N.Index e) h = subst GoodStep (indices e) (good_part e h)
 
-good_steps : (g : Step Expr → Step (Placed Part)) (k : Step Expr → Step (Placed Bool)) → ((m : Placed (List ℕ)) → N.Member m ≡ g (N.Member m)) → ((e : Expr) → N.Index (part_of e) ≡ g (N.Index e))
-    → ((e : Expr) → k (N.Index e) ≡ N.Index (flag_of e)) → (ss : List (Step Expr)) → AllByRecursion (OfStep OfRange) ss → IsTrue (list_all step_in_range (map k ss)) → AllByRecursion GoodStep (map g ss)
-good_steps g k members indices flags [] h r = tt
-good_steps g k members indices flags (s ∷ ss) h r = (
-  good_step g k members indices flags s h.0 (first_so (step_in_range (k s)) (list_all step_in_range (map k ss)) r),
-  good_steps g k members indices flags ss h.1 (second_so (step_in_range (k s)) (list_all step_in_range (map k ss)) r),
-)
+good_steps : (g : Step Expr → Step (Placed Part)) → ((m : Placed (List ℕ)) → N.Member m ≡ g (N.Member m)) → ((e : Expr) → N.Index (part_of e) ≡ g (N.Index e))
+    → (ss : List (Step Expr)) → AllByRecursion (OfStep IsSound) ss → AllByRecursion GoodStep (map g ss)
+good_steps g members indices [] h = tt
+good_steps g members indices (s ∷ ss) h = (good_step g members indices s h.0, good_steps g members indices ss h.1)
 
-number_fits : (scope : Scope) (n : Number) → IsTrue (nat_lt n.value (top n.kind)) → CodeFits scope (C.Literal (V.Int (pos n.value))) (S.Int n.kind)
-number_fits scope n r = F.literal (V.Int (pos n.value)) (S.Int n.kind) (fits_int n.kind (pos n.value) ∙ r)
+number_fits : (scope : Scope) (at : ℕ) (n : Number) → Gives (Fits scope) (number_typed at n)
+number_fits scope at n =
+    gives_if (Fits scope) (nat_lt n.value (top n.kind)) _ _ (λ below.
+    F.literal (V.Int (pos n.value)) (S.Int n.kind) (fits_int n.kind (pos n.value) ∙ below)) tt
 
-select_sound : (e : Expr) (ss : List (Step Expr)) → OfRange e.what → AllByRecursion (OfStep OfRange) ss → IsTrue (in_range (E.Select e ss))
-    → Sound (level_part (map-ExprKind ExprKind Part part (X.Select e ss)))
-select_sound e ss h g r at scope wanted =
-    let ranges = range_at (E.Select e ss) (X.Select e ss) (E.outs-Select e ss) r in
-    after_fits at scope wanted (of_base (part_of e).what.form.name (part_of e) scope _)
-    (of_base_fits (part_of e).what.form.name (part_of e) scope _ (good_part e h (first_so (in_range e.what) _ ranges))
-    (good_steps _ _ (λ m. refl) (λ i. refl) (λ i. refl) ss g (second_so (in_range e.what) _ ranges)))
+select_sound : (e : Expr) (ss : List (Step Expr)) → IsSound e.what → AllByRecursion (OfStep IsSound) ss → Sound (level_part (map-ExprKind ExprKind Part part (X.Select e ss)))
+select_sound e ss h g at scope wanted =
+    let name = (part_of e).what.form.name in
+    after_fits at scope wanted (of_base name (part_of e) scope _) (of_base_fits name (part_of e) scope _ (good_part e h) (good_steps _ (λ m. refl) (λ i. refl) ss g))
 
-binary_sound : (op : BinaryOperator) (l r : Expr) → OfRange l.what → OfRange r.what → IsTrue (in_range (E.Binary op l r))
-    → Sound (level_part (map-ExprKind ExprKind Part part (X.Binary op l r)))
-binary_sound op l r h g ranges at scope wanted =
-    let both = range_at (E.Binary op l r) (X.Binary op l r) (E.outs-Binary op l r) ranges in
+binary_sound : (op : BinaryOperator) (l r : Expr) → IsSound l.what → IsSound r.what → Sound (level_part (map-ExprKind ExprKind Part part (X.Binary op l r)))
+binary_sound op l r h g at scope wanted =
     let asks = (part_of l).what.form.asks in
-    let asked = marker_asked (scope.punct && asks) op (part_of r).what.form.marker in
+    let marker = (part_of r).what.form.marker in
+    let asked = marker_asked (scope.punct && asks) op marker in
     after_fits at scope wanted (binary_or_marker asked scope op (part_of l) (part_of r))
-    (binary_or_marker_fits asked scope op (part_of l) (part_of r)
-    (asks_fits scope (scope.punct && asks) op (part_of r).what.form.marker (λ yes. first_so scope.punct asks yes))
-    (good_part l h (first_so (in_range l.what) (in_range r.what) both)) (good_part r g (second_so (in_range l.what) (in_range r.what) both)))
+    (binary_or_marker_fits asked scope op (part_of l) (part_of r) (asks_fits scope (scope.punct && asks) op marker (λ yes. first_so scope.punct asks yes)) (good_part l h) (good_part r g))
 
-conditional_sound : (c a b : Expr) → OfRange c.what → OfRange a.what → OfRange b.what → IsTrue (in_range (E.Conditional c a b))
-    → Sound (level_part (map-ExprKind ExprKind Part part (X.Conditional c a b)))
-conditional_sound c a b f g h r at scope wanted =
-    let all = range_at (E.Conditional c a b) (X.Conditional c a b) (E.outs-Conditional c a b) r in
-    let two = first_so (in_range c.what && in_range a.what) (in_range b.what) all in
-    conditional_fits scope wanted (part_of c) (part_of a) (part_of b)
-    (good_part c f (first_so (in_range c.what) (in_range a.what) two))
-    (good_part a g (second_so (in_range c.what) (in_range a.what) two))
-    (good_part b h (second_so (in_range c.what && in_range a.what) (in_range b.what) all))
-
-fit_steps : ExprSteps OfRange
+fit_steps : ExprSteps IsSound
 fit_steps = record {
-  name = λ n r. subst Sound (part_at (E.Name n) (X.Name n) (E.outs-Name n)) (λ at scope wanted. after_fits at scope wanted (meant_typed at n (meant scope n)) (name_fits scope at n));
-  dollar = λ n r. subst Sound (part_at (E.Dollar n) (X.Dollar n) (E.outs-Dollar n)) (λ at scope wanted. tt);
-  number = λ n r. subst Sound (part_at (E.Number n) (X.Number n) (E.outs-Number n)) (λ at scope wanted.
-      as_wanted_fits at scope wanted (typed (S.Int n.kind) (C.Literal (V.Int (pos n.value)))) (number_fits scope n (range_at (E.Number n) (X.Number n) (E.outs-Number n) r)));
-  text = λ bytes r. subst Sound (part_at (E.Text bytes) (X.Text bytes) (E.outs-Text bytes)) (λ at scope wanted.
+  name = λ n. subst Sound (part_at (E.Name n) (X.Name n) (E.outs-Name n)) (λ at scope wanted. after_fits at scope wanted (meant_typed at n (meant scope n)) (name_fits scope at n));
+  dollar = λ n. subst Sound (part_at (E.Dollar n) (X.Dollar n) (E.outs-Dollar n)) (λ at scope wanted. tt);
+  number = λ n. subst Sound (part_at (E.Number n) (X.Number n) (E.outs-Number n)) (λ at scope wanted. after_fits at scope wanted (number_typed at n) (number_fits scope at n));
+  text = λ bytes. subst Sound (part_at (E.Text bytes) (X.Text bytes) (E.outs-Text bytes)) (λ at scope wanted.
       as_wanted_fits at scope wanted (typed S.Text (C.Literal (V.Text bytes))) (F.literal (V.Text bytes) S.Text (fits_text bytes)));
-  bool = λ b r. subst Sound (part_at (E.Bool b) (X.Bool b) (E.outs-Bool b)) (λ at scope wanted.
+  bool = λ b. subst Sound (part_at (E.Bool b) (X.Bool b) (E.outs-Bool b)) (λ at scope wanted.
       as_wanted_fits at scope wanted (typed S.Bool (C.Literal (V.Bool b))) (F.literal (V.Bool b) S.Bool (fits_bool b)));
-  group = λ e h r. subst Sound (part_at (E.Group e) (X.Group e) (E.outs-Group e)) (λ at scope wanted. h (range_at (E.Group e) (X.Group e) (E.outs-Group e) r) e.at scope wanted);
-  list = λ es h r. subst Sound (part_at (E.List es) (X.List es) (E.outs-List es)) (λ at scope wanted.
-      list_fits at scope (wants_list wanted) (map part_of es) (good_parts es h (range_at (E.List es) (X.List es) (E.outs-List es) r)));
-  map_of = λ es h r. subst Sound (part_at (E.Map es) (X.Map es) (E.outs-Map es)) (λ at scope wanted.
-      map_fits at scope (wants_map wanted) (map (λ e. (part_of e.0, part_of e.1)) es) (good_entries es h (range_at (E.Map es) (X.Map es) (E.outs-Map es) r)));
-  tuple = λ fs h r. subst Sound (part_at (E.Tuple fs) (X.Tuple fs) (E.outs-Tuple fs)) (λ at scope wanted.
-      tuple_fits at scope (wants_tuple wanted) (map part_in fs) (good_fields fs h (range_at (E.Tuple fs) (X.Tuple fs) (E.outs-Tuple fs) r)));
-  call = λ n es h r. subst Sound (part_at (E.Call n es) (X.Call n es) (E.outs-Call n es)) (λ at scope wanted.
-      after_fits at scope wanted (call_typed at scope n (map part_of es) (call_of n)) (call_fits at scope n (map part_of es) (call_of n) (good_parts es h (range_at (E.Call n es) (X.Call n es) (E.outs-Call n es) r))));
-  select = λ e ss h g r. subst Sound (part_at (E.Select e ss) (X.Select e ss) (E.outs-Select e ss)) (select_sound e ss h g r);
-  unary = λ ps e h r. subst Sound (part_at (E.Unary ps e) (X.Unary ps e) (E.outs-Unary ps e)) (λ at scope wanted.
-      after_fits at scope wanted (unary_typed scope ps (part_of e)) (unary_fits scope ps (part_of e) (good_part e h (range_at (E.Unary ps e) (X.Unary ps e) (E.outs-Unary ps e) r))));
-  binary = λ op l r h g ranges. subst Sound (part_at (E.Binary op l r) (X.Binary op l r) (E.outs-Binary op l r)) (binary_sound op l r h g ranges);
-  conditional = λ c a b f g h r. subst Sound (part_at (E.Conditional c a b) (X.Conditional c a b) (E.outs-Conditional c a b)) (conditional_sound c a b f g h r);
+  group = λ e h. subst Sound (part_at (E.Group e) (X.Group e) (E.outs-Group e)) (λ at scope wanted. h e.at scope wanted);
+  list = λ es h. subst Sound (part_at (E.List es) (X.List es) (E.outs-List es)) (λ at scope wanted.
+      list_fits at scope (wants_list wanted) (map part_of es) (good_parts es h));
+  map_of = λ es h. subst Sound (part_at (E.Map es) (X.Map es) (E.outs-Map es)) (λ at scope wanted.
+      map_fits at scope (wants_map wanted) (map (λ e. (part_of e.0, part_of e.1)) es) (good_entries es h));
+  tuple = λ fs h. subst Sound (part_at (E.Tuple fs) (X.Tuple fs) (E.outs-Tuple fs)) (λ at scope wanted.
+      tuple_fits at scope (wants_tuple wanted) (map part_in fs) (good_fields fs h));
+  call = λ n es h. subst Sound (part_at (E.Call n es) (X.Call n es) (E.outs-Call n es)) (λ at scope wanted.
+      after_fits at scope wanted (call_typed at scope n (map part_of es) (call_of n)) (call_fits at scope n (map part_of es) (call_of n) (good_parts es h)));
+  select = λ e ss h g. subst Sound (part_at (E.Select e ss) (X.Select e ss) (E.outs-Select e ss)) (select_sound e ss h g);
+  unary = λ ps e h. subst Sound (part_at (E.Unary ps e) (X.Unary ps e) (E.outs-Unary ps e)) (λ at scope wanted.
+      after_fits at scope wanted (unary_typed scope ps (part_of e)) (unary_fits scope ps (part_of e) (good_part e h)));
+  binary = λ op l r h g. subst Sound (part_at (E.Binary op l r) (X.Binary op l r) (E.outs-Binary op l r)) (binary_sound op l r h g);
+  conditional = λ c a b f g h. subst Sound (part_at (E.Conditional c a b) (X.Conditional c a b) (E.outs-Conditional c a b)) (λ at scope wanted.
+      conditional_fits scope wanted (part_of c) (part_of a) (part_of b) (good_part c f) (good_part a g) (good_part b h));
 }
 
-fit : (e : ExprKind) → OfRange e
-fit = expr_ind OfRange fit_steps
+sound : (e : ExprKind) → Sound (part e)
+sound = expr_ind IsSound fit_steps
 
 pub fit_law : FitLaw
-fit_law scope e wanted t r found = gives_from (Fits scope) (typing scope e wanted) t (fit e.what r e.at scope wanted) found
+fit_law scope e wanted t found = gives_from (Fits scope) (typing scope e wanted) t (sound e.what e.at scope wanted) found

@@ -173,7 +173,7 @@ keeps_steps : ExprSteps (λ e. Keeps (part e))
 keeps_steps = record {
   name = λ n. subst Keeps (part_at (E.Name n) (X.Name n) (E.outs-Name n)) (λ at scope wanted. after_as_wanted at wanted _);
   dollar = λ n. subst Keeps (part_at (E.Dollar n) (X.Dollar n) (E.outs-Dollar n)) (λ at scope wanted. tt);
-  number = λ n. subst Keeps (part_at (E.Number n) (X.Number n) (E.outs-Number n)) (λ at scope wanted. as_wanted_meets at wanted _);
+  number = λ n. subst Keeps (part_at (E.Number n) (X.Number n) (E.outs-Number n)) (λ at scope wanted. after_as_wanted at wanted _);
   text = λ bytes. subst Keeps (part_at (E.Text bytes) (X.Text bytes) (E.outs-Text bytes)) (λ at scope wanted. as_wanted_meets at wanted _);
   bool = λ b. subst Keeps (part_at (E.Bool b) (X.Bool b) (E.outs-Bool b)) (λ at scope wanted. as_wanted_meets at wanted _);
   group = λ e h. subst Keeps (part_at (E.Group e) (X.Group e) (E.outs-Group e)) (λ at scope wanted. h e.at scope wanted);

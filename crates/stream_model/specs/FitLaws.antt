@@ -1,17 +1,15 @@
 -- What typing gives.
-use Rattle.std.specs.Prelude.{◌≡◌, IsTrue, Some, Ok}
+use Rattle.std.specs.Prelude.{◌≡◌, Some, Ok}
 use Rattle.spl_value.specs.declared.types.SplType.{SplType}
 use Rattle.spl_tree.specs.Grammar.{Expr}
-use Rattle.spl_tree.specs.Ranges.{in_range}
 use Rattle.stream_model.specs.declared.scope.Scope.{Scope}
 use Rattle.stream_model.specs.declared.scope.Typed.{Typed}
 use Rattle.stream_model.specs.Typing.{Wanted, typing}
 use Rattle.stream_model.specs.CodeFits.{CodeFits}
 
--- the code of an expression whose numbers are those of their types, as all are that are read from text, fits the scope at
--- the expression's type
+-- the code of an expression fits the scope at the expression's type
 abbrev pub FitLaw : Type 0
-FitLaw = (scope : Scope) (e : Expr) (wanted : Wanted) (t : Typed) → IsTrue (in_range e.what) → typing scope e wanted ≡ Ok t → CodeFits scope t.code t.kind
+FitLaw = (scope : Scope) (e : Expr) (wanted : Wanted) (t : Typed) → typing scope e wanted ≡ Ok t → CodeFits scope t.code t.kind
 
 -- which is the wanted one
 abbrev pub WantedLaw : Type 0

@@ -2,7 +2,7 @@
 -- wants, where it wants one. Else it has a first refusal: parts are looked at from left to right and the inner ones first,
 -- except that a literal whose form the wanted type doesn't have, and a call with another number of arguments than the
 -- called one takes, are refused before their parts.
-use Rattle.std.specs.Prelude.{ℕ, suc, pos, Bool, true, false, ◌&&◌, not, List, [], ◌∷◌, length, if◌then◌else◌, codes, Option, Some, None, is_some, Result, Ok, Err, ◌==◌}
+use Rattle.std.specs.Prelude.{ℕ, suc, pos, nat_lt, Bool, true, false, ◌&&◌, not, List, [], ◌∷◌, length, if◌then◌else◌, codes, Option, Some, None, is_some, Result, Ok, Err, ◌==◌}
 use Rattle.std.specs.List.{list_all}
 use Rattle.std.specs.Cmp.Lexicographic.{pointwise}
 use Rattle.std.specs.Str.{bytes_eq}
@@ -16,6 +16,8 @@ use Rattle.spl_value.specs.declared.types.SplType.TheOpen.{SplType-F}
 use Rattle.spl_value.specs.declared.types.SplType.TheViews.{out-SplType}
 use Rattle.spl_value.specs.declared.types.SplType.TheFolds.{fold-SplType}
 use Rattle.spl_value.specs.declared.value.Value.TheVariants as V
+use Rattle.spl_value.specs.Values.{top}
+use Rattle.spl_tree.specs.declared.token.Number.{Number}
 use Rattle.spl_tree.specs.declared.keyword.Keyword.TheVariants as W
 use Rattle.spl_tree.specs.Words.{keyword_word}
 use Rattle.spl_tree.specs.Grammar.{Expr}
@@ -138,6 +140,12 @@ meant_typed at name (OfVariable v) = Ok (typed v.what.kind (C.Name (L.Variable v
 meant_typed at name (OfAttribute a) = Ok (typed a.kind (C.Name (L.Attribute a.port a.attribute)))
 meant_typed at name (OfPort p) = Ok (typed (S.Tuple p.what.schema) (C.Name (L.Port p.place)))
 meant_typed at name Nothing = unknown at name
+
+-- ---- literals
+
+-- a number, which has to be one of its type. Each that is read from text is
+abbrev pub number_typed : ℕ → Number → Found Typed
+number_typed at n = if nat_lt n.value (top n.kind) then Ok (typed (S.Int n.kind) (C.Literal (V.Int (pos n.value)))) else mismatch at
 
 -- ---- literals that take the wanted type
 
@@ -525,7 +533,7 @@ level_form _ = no_form
 abbrev pub level_typed : ExprKind-F Part → (at : ℕ) → Scope → Wanted → Found Typed
 level_typed (X.Name name) at scope wanted = after (meant_typed at name (meant scope name)) (as_wanted at wanted)
 level_typed (X.Dollar name) at scope wanted = unknown at name
-level_typed (X.Number n) at scope wanted = as_wanted at wanted (typed (S.Int n.kind) (C.Literal (V.Int (pos n.value))))
+level_typed (X.Number n) at scope wanted = after (number_typed at n) (as_wanted at wanted)
 level_typed (X.Text bytes) at scope wanted = as_wanted at wanted (typed S.Text (C.Literal (V.Text bytes)))
 level_typed (X.Bool b) at scope wanted = as_wanted at wanted (typed S.Bool (C.Literal (V.Bool b)))
 level_typed (X.Group e) at scope wanted = part_typed e scope wanted

@@ -71,8 +71,7 @@ pub fn rows_law()
 {}
 
 /// An expression has at most one type and one code in a scope, under the type that its place wants.
-/// It is the wanted type, and the code fits the scope at it, where the numbers of the expression are
-/// those of their types.
+/// It is the wanted type, and the code fits the scope at it.
 pub fn typing_law()
     ensures one { OneTypeLaw }
     ensures wanted { WantedLaw }
