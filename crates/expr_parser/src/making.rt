@@ -1,5 +1,5 @@
 //! The nodes of trees, each one higher than the highest of its parts.
-ghost use Rattle.std.specs.Prelude.{[], ◌∷◌};
+ghost use Rattle.std.specs.Prelude.{[], ◌∷◌, ◌≡◌, IfOk};
 ghost use Rattle.spl_tree.specs.Grammar.{placed};
 ghost use Rattle.spl_tree.specs.declared.expression.ExprKind.TheVariants as X;
 ghost use Rattle.expr_parser.specs.Gives.{Makes};
@@ -10,7 +10,22 @@ use spl_tree::{
     BinaryOperator, Entries, Expr, ExprKind, Exprs, Fields, Placed, Prefixes, Steps, Token,
 };
 use spl_value::{Boxed, Name};
-use std::alloc::Global;
+use std::alloc::{AllocError, Global};
+
+/// The node over parts of that height.
+fn node<'t>(at: u32, what: ExprKind, height: u32, ts: &'t [Token]) -> Read<'t, Expr>
+    ensures { Makes (placed at what) ts.now result }
+{
+    let height = taller(height)?;
+    Ok((Placed { at, what }, height, ts))
+}
+
+fn pair(alloc: Global, left: Expr, right: Expr) -> Result<(Boxed<Expr>, Boxed<Expr>), AllocError>
+    ensures { IfOk result (λ both. (both.0 ≡ left) × (both.1 ≡ right)) }
+{
+    let right = Boxed::new(alloc, right)?;
+    Ok((Boxed::new(alloc, left)?, right))
+}
 
 pub(crate) fn conditional<'t>(
     alloc: Global,
@@ -22,13 +37,10 @@ pub(crate) fn conditional<'t>(
 ) -> Read<'t, Expr>
     ensures { Makes (conditional test first second) ts.now result }
 {
-    let height = taller(height)?;
     let at = test.at;
+    let (first, second) = pair(alloc, first, second)?;
     let test = Boxed::new(alloc, test)?;
-    let first = Boxed::new(alloc, first)?;
-    let second = Boxed::new(alloc, second)?;
-    let what = ExprKind::Conditional(test, first, second);
-    Ok((Placed { at, what }, height, ts))
+    node(at, ExprKind::Conditional(test, first, second), height, ts)
 }
 
 pub(crate) fn binary<'t>(
@@ -41,12 +53,9 @@ pub(crate) fn binary<'t>(
 ) -> Read<'t, Expr>
     ensures { Makes (binary operator left right) ts.now result }
 {
-    let height = taller(height)?;
     let at = left.at;
-    let left = Boxed::new(alloc, left)?;
-    let right = Boxed::new(alloc, right)?;
-    let what = ExprKind::Binary(operator, left, right);
-    Ok((Placed { at, what }, height, ts))
+    let (left, right) = pair(alloc, left, right)?;
+    node(at, ExprKind::Binary(operator, left, right), height, ts)
 }
 
 /// An operand with prefix operators and casts in front, or the operand alone where there are none.
@@ -63,9 +72,8 @@ pub(crate) fn unary<'t>(
         [] => return Ok((operand, height, ts)),
         [first, ..] => first.at,
     };
-    let height = taller(height)?;
-    let what = ExprKind::Unary(prefixes, Boxed::new(alloc, operand)?);
-    Ok((Placed { at, what }, height, ts))
+    let operand = Boxed::new(alloc, operand)?;
+    node(at, ExprKind::Unary(prefixes, operand), height, ts)
 }
 
 /// A primary expression with members and indices taken of it, or alone where there are none.
@@ -81,10 +89,9 @@ pub(crate) fn selected<'t>(
     if steps.as_slice().is_empty() {
         return Ok((primary, height, ts));
     }
-    let height = taller(height)?;
     let at = primary.at;
-    let what = ExprKind::Select(Boxed::new(alloc, primary)?, steps);
-    Ok((Placed { at, what }, height, ts))
+    let primary = Boxed::new(alloc, primary)?;
+    node(at, ExprKind::Select(primary, steps), height, ts)
 }
 
 pub(crate) fn group<'t>(
@@ -96,9 +103,8 @@ pub(crate) fn group<'t>(
 ) -> Read<'t, Expr>
     ensures { Makes (placed at (X.Group inner)) ts.now result }
 {
-    let height = taller(height)?;
-    let what = ExprKind::Group(Boxed::new(alloc, inner)?);
-    Ok((Placed { at, what }, height, ts))
+    let inner = Boxed::new(alloc, inner)?;
+    node(at, ExprKind::Group(inner), height, ts)
 }
 
 pub(crate) fn call<'t>(
@@ -110,31 +116,23 @@ pub(crate) fn call<'t>(
 ) -> Read<'t, Expr>
     ensures { Makes (placed at (X.Call name arguments)) ts.now result }
 {
-    let height = taller(height)?;
-    let what = ExprKind::Call(name, arguments);
-    Ok((Placed { at, what }, height, ts))
+    node(at, ExprKind::Call(name, arguments), height, ts)
 }
 
 pub(crate) fn list<'t>(at: u32, items: Exprs, height: u32, ts: &'t [Token]) -> Read<'t, Expr>
     ensures { Makes (placed at (X.List items)) ts.now result }
 {
-    let height = taller(height)?;
-    let what = ExprKind::List(items);
-    Ok((Placed { at, what }, height, ts))
+    node(at, ExprKind::List(items), height, ts)
 }
 
 pub(crate) fn map<'t>(at: u32, entries: Entries, height: u32, ts: &'t [Token]) -> Read<'t, Expr>
     ensures { Makes (placed at (X.Map entries)) ts.now result }
 {
-    let height = taller(height)?;
-    let what = ExprKind::Map(entries);
-    Ok((Placed { at, what }, height, ts))
+    node(at, ExprKind::Map(entries), height, ts)
 }
 
 pub(crate) fn tuple<'t>(at: u32, fields: Fields, height: u32, ts: &'t [Token]) -> Read<'t, Expr>
     ensures { Makes (placed at (X.Tuple fields)) ts.now result }
 {
-    let height = taller(height)?;
-    let what = ExprKind::Tuple(fields);
-    Ok((Placed { at, what }, height, ts))
+    node(at, ExprKind::Tuple(fields), height, ts)
 }

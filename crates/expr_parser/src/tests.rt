@@ -1,13 +1,14 @@
-use crate::{SyntaxAnswer, parse_expr};
+use crate::{ParsedExpr, SyntaxAnswer, parse_expr};
 use spl_tree::{
     BinaryOperator, CastTarget, Expr, ExprKind, KEYWORDS, Keyword, Number, PrefixOperator, Step,
     Symbol, Token, TokenKind, Tokens,
 };
 use spl_value::{IntKind, Items};
 use std::alloc::{AllocError, Global};
+use std::process::Abort;
 use std::test::Fail;
 
-const SYMBOLS: [(&str, Symbol); 30] = [
+const SYMBOLS: &[(&str, Symbol)] = &[
     ("(", Symbol::LeftParen),
     (")", Symbol::RightParen),
     ("[", Symbol::LeftBracket),
@@ -41,7 +42,7 @@ const SYMBOLS: [(&str, Symbol); 30] = [
 ];
 
 // The operators of each level, the tightest first.
-const LEVELS: [&[&str]; 9] = [
+const LEVELS: &[&[&str]] = &[
     &["*", "/", "%"],
     &["+", "-"],
     &["<", "<=", ">", ">=", "in"],
@@ -53,18 +54,32 @@ const LEVELS: [&[&str]; 9] = [
     &["||"],
 ];
 
-// The token of a piece of text: a symbol, a reserved word, a digit, `'text`, `$name` or a name.
-fn kind(alloc: Global, piece: &str) -> Result<TokenKind, AllocError> {
+fn symbol(piece: &str) -> Option<Symbol> {
     for (text, symbol) in SYMBOLS {
-        if text == piece {
-            return Ok(TokenKind::Symbol(symbol));
+        if *text == piece {
+            return Some(*symbol);
         }
     }
-    let bytes = piece.as_bytes();
-    for keyword in KEYWORDS {
+    None
+}
+
+fn keyword(bytes: &[u8]) -> Option<Keyword> {
+    for keyword in &KEYWORDS {
         if keyword.word() == bytes {
-            return Ok(TokenKind::Keyword(keyword));
+            return Some(*keyword);
         }
+    }
+    None
+}
+
+// The token of a piece of text: a symbol, a reserved word, a digit, `'text`, `$name` or a name.
+fn kind(alloc: Global, piece: &str) -> Result<TokenKind, AllocError> {
+    if let Some(symbol) = symbol(piece) {
+        return Ok(TokenKind::Symbol(symbol));
+    }
+    let bytes = piece.as_bytes();
+    if let Some(keyword) = keyword(bytes) {
+        return Ok(TokenKind::Keyword(keyword));
     }
     match bytes {
         [digit @ b'0'..=b'9'] => Ok(TokenKind::Number(Number {
@@ -114,245 +129,348 @@ fn operator_text(operator: BinaryOperator) -> &'static str {
     }
 }
 
-fn word(alloc: Global, bytes: &[u8]) -> Result<String, AllocError> {
-    let mut text = String::new(alloc);
-    for b in bytes {
-        text.push(char::from(*b))?;
-    }
-    Ok(text)
+// A tree as text, added to piece by piece: once memory is wanting, nothing more is added.
+#[derive(Drop)]
+struct TreeText {
+    text: String,
+    outcome: Result<(), AllocError>,
 }
 
-fn prefix(alloc: Global, operator: PrefixOperator) -> Result<String, AllocError> {
-    match operator {
-        PrefixOperator::Not => format!(in alloc; "!"),
-        PrefixOperator::Negate => format!(in alloc; "-"),
-        PrefixOperator::Complement => format!(in alloc; "~"),
-        PrefixOperator::Cast(CastTarget::Text) => format!(in alloc; "(rstring)"),
-        PrefixOperator::Cast(CastTarget::Int(kind)) => {
-            let kind = word(alloc, Keyword::Int(kind).word())?;
-            format!(in alloc; "({kind})")
+impl TreeText {
+    fn add(&mut self, piece: &str) {
+        if self.outcome.is_ok() {
+            self.outcome = self.text.push_str(piece);
+        }
+    }
+
+    fn add_byte(&mut self, byte: u8) {
+        if self.outcome.is_ok() {
+            self.outcome = self.text.push(char::from(byte));
+        }
+    }
+
+    fn add_word(&mut self, bytes: &[u8]) {
+        for byte in bytes {
+            self.add_byte(*byte);
+        }
+    }
+
+    fn add_number(&mut self, number: u64) {
+        if self.outcome.is_ok() {
+            self.outcome = write!(self.text, "{number}");
+        }
+    }
+
+    // The comma in front of the item at that place of several, if it isn't the first.
+    fn add_comma(&mut self, at: usize) {
+        if at > 0 {
+            self.add(", ");
+        }
+    }
+
+    fn add_prefix(&mut self, operator: PrefixOperator) {
+        match operator {
+            PrefixOperator::Not => self.add("! "),
+            PrefixOperator::Negate => self.add("- "),
+            PrefixOperator::Complement => self.add("~ "),
+            PrefixOperator::Cast(CastTarget::Text) => self.add("(rstring) "),
+            PrefixOperator::Cast(CastTarget::Int(kind)) => {
+                self.add("(");
+                self.add_word(Keyword::Int(kind).word());
+                self.add(") ");
+            }
+        }
+    }
+
+    // Adds a pair of parentheses for each operator, and `<>` for the parentheses of the program.
+    fn add_tree(&mut self, expr: &Expr) {
+        match &expr.what {
+            ExprKind::Name(name) => self.add_word(name.as_slice()),
+            ExprKind::Dollar(name) => {
+                self.add("$");
+                self.add_word(name.as_slice());
+            }
+            ExprKind::Number(number) => self.add_number(number.value),
+            ExprKind::Text(bytes) => {
+                self.add("'");
+                self.add_word(bytes.as_slice());
+                self.add("'");
+            }
+            ExprKind::Bool(value) => self.add(if *value { "true" } else { "false" }),
+            ExprKind::Group(inner) => {
+                self.add("<");
+                self.add_tree(inner.get());
+                self.add(">");
+            }
+            ExprKind::List(items) => {
+                self.add("[");
+                for (at, item) in items.as_slice().iter().enumerate() {
+                    self.add_comma(at);
+                    self.add_tree(item);
+                }
+                self.add("]");
+            }
+            ExprKind::Map(entries) => {
+                self.add("{");
+                for (at, entry) in entries.as_slice().iter().enumerate() {
+                    self.add_comma(at);
+                    self.add_tree(&entry.0);
+                    self.add(" : ");
+                    self.add_tree(&entry.1);
+                }
+                self.add("}");
+            }
+            ExprKind::Tuple(fields) => {
+                self.add("{");
+                for (at, field) in fields.as_slice().iter().enumerate() {
+                    self.add_comma(at);
+                    self.add_word(field.name.what.as_slice());
+                    self.add(" = ");
+                    self.add_tree(&field.value);
+                }
+                self.add("}");
+            }
+            ExprKind::Call(name, arguments) => {
+                self.add_word(name.as_slice());
+                self.add("(");
+                for (at, argument) in arguments.as_slice().iter().enumerate() {
+                    self.add_comma(at);
+                    self.add_tree(argument);
+                }
+                self.add(")");
+            }
+            ExprKind::Select(base, steps) => {
+                self.add("(");
+                self.add_tree(base.get());
+                for step in steps.as_slice() {
+                    match step {
+                        Step::Member(name) => {
+                            self.add(".");
+                            self.add_word(name.what.as_slice());
+                        }
+                        Step::Index(index) => {
+                            self.add("[");
+                            self.add_tree(index);
+                            self.add("]");
+                        }
+                    }
+                }
+                self.add(")");
+            }
+            ExprKind::Unary(prefixes, operand) => {
+                self.add("(");
+                for prefix in prefixes.as_slice() {
+                    self.add_prefix(prefix.what);
+                }
+                self.add_tree(operand.get());
+                self.add(")");
+            }
+            ExprKind::Binary(operator, left, right) => {
+                self.add("(");
+                self.add_tree(left.get());
+                self.add(" ");
+                self.add(operator_text(*operator));
+                self.add(" ");
+                self.add_tree(right.get());
+                self.add(")");
+            }
+            ExprKind::Conditional(test, first, second) => {
+                self.add("(");
+                self.add_tree(test.get());
+                self.add(" ? ");
+                self.add_tree(first.get());
+                self.add(" : ");
+                self.add_tree(second.get());
+                self.add(")");
+            }
         }
     }
 }
 
-// One more of several that have commas between them.
-fn add(all: &mut String, one: String) -> Result<(), AllocError> {
-    if !all.is_empty() {
-        all.push_str(", ")?;
-    }
-    all.push_str(one.as_str())
+// The tree and the place in the list behind it.
+fn tree(alloc: Global, parsed: &ParsedExpr) -> Result<String, AllocError> {
+    let mut shown = TreeText {
+        text: String::new(alloc),
+        outcome: Ok(()),
+    };
+    shown.add_tree(&parsed.expr);
+    shown.add(" ");
+    shown.add_number(u64::from(parsed.next));
+    shown.outcome?;
+    Ok(shown.text)
 }
 
-// The tree with a pair of parentheses for each operator, and `<>` for the parentheses of the program.
-fn tree(alloc: Global, expr: &Expr) -> Result<String, AllocError> {
-    let mut all = String::new(alloc);
-    match &expr.what {
-        ExprKind::Name(name) => word(alloc, name.as_slice()),
-        ExprKind::Dollar(name) => format!(in alloc; "${}", word(alloc, name.as_slice())?),
-        ExprKind::Number(number) => format!(in alloc; "{}", number.value),
-        ExprKind::Text(bytes) => format!(in alloc; "'{}'", word(alloc, bytes.as_slice())?),
-        ExprKind::Bool(value) => format!(in alloc; "{value}"),
-        ExprKind::Group(inner) => format!(in alloc; "<{}>", tree(alloc, inner.get())?),
-        ExprKind::List(items) => {
-            for item in items.as_slice() {
-                add(&mut all, tree(alloc, item)?)?;
-            }
-            format!(in alloc; "[{all}]")
-        }
-        ExprKind::Map(entries) => {
-            for entry in entries.as_slice() {
-                let key = tree(alloc, &entry.0)?;
-                let value = tree(alloc, &entry.1)?;
-                add(&mut all, format!(in alloc; "{key} : {value}")?)?;
-            }
-            format!(in alloc; "{{{all}}}")
-        }
-        ExprKind::Tuple(fields) => {
-            for field in fields.as_slice() {
-                let name = word(alloc, field.name.what.as_slice())?;
-                let value = tree(alloc, &field.value)?;
-                add(&mut all, format!(in alloc; "{name} = {value}")?)?;
-            }
-            format!(in alloc; "{{{all}}}")
-        }
-        ExprKind::Call(name, arguments) => {
-            for argument in arguments.as_slice() {
-                add(&mut all, tree(alloc, argument)?)?;
-            }
-            format!(in alloc; "{}({all})", word(alloc, name.as_slice())?)
-        }
-        ExprKind::Select(base, steps) => {
-            all.push_str(tree(alloc, base.get())?.as_str())?;
-            for step in steps.as_slice() {
-                let step = match step {
-                    Step::Member(name) => format!(in alloc;
-                        ".{}",
-                        word(alloc, name.what.as_slice())?
-                    )?,
-                    Step::Index(index) => format!(in alloc; "[{}]", tree(alloc, index)?)?,
-                };
-                all.push_str(step.as_str())?;
-            }
-            format!(in alloc; "({all})")
-        }
-        ExprKind::Unary(prefixes, operand) => {
-            for operator in prefixes.as_slice() {
-                all.push_str(prefix(alloc, operator.what)?.as_str())?;
-                all.push_str(" ")?;
-            }
-            format!(in alloc; "({all}{})", tree(alloc, operand.get())?)
-        }
-        ExprKind::Binary(operator, left, right) => {
-            let left = tree(alloc, left.get())?;
-            let right = tree(alloc, right.get())?;
-            format!(in alloc; "({left} {} {right})", operator_text(*operator))
-        }
-        ExprKind::Conditional(test, first, second) => {
-            let test = tree(alloc, test.get())?;
-            let first = tree(alloc, first.get())?;
-            let second = tree(alloc, second.get())?;
-            format!(in alloc; "({test} ? {first} : {second})")
-        }
-    }
-}
-
-// The tree and the place in the list behind it, or why there is none.
-fn shown(alloc: Global, text: &str, from: u32) -> Result<String, AllocError> {
-    let tokens = tokens(alloc, text)?;
-    if tokens.list.len() > 1_048_576 || from as usize > tokens.list.len() {
-        return format!(in alloc; "no such token");
-    }
-    match parse_expr(alloc, &tokens, from) {
-        Ok(parsed) => {
-            let tree = tree(alloc, &parsed.expr)?;
-            format!(in alloc; "{tree} {}", parsed.next)
-        }
+// The tree, or why there is none.
+fn answer(alloc: Global, given: Result<ParsedExpr, SyntaxAnswer>) -> Result<String, AllocError> {
+    match given {
+        Ok(parsed) => tree(alloc, &parsed),
         Err(SyntaxAnswer::Unexpected(at)) => format!(in alloc; "unexpected {at}"),
         Err(SyntaxAnswer::TooDeep(at)) => format!(in alloc; "too deep {at}"),
-        Err(SyntaxAnswer::Memory) => format!(in alloc; "memory"),
+        Err(SyntaxAnswer::Memory) => "memory".to_string(alloc),
     }
 }
+
+// What the parser answers to the program from that token on.
+fn shown(alloc: Global, program: &str, from: u32) -> Result<String, AllocError> {
+    let tokens = tokens(alloc, program)?;
+    if tokens.list.len() > 1_048_576 || from as usize > tokens.list.len() {
+        return "no such token".to_string(alloc);
+    }
+    answer(alloc, parse_expr(alloc, &tokens, from))
+}
+
+// Fails unless the answer to the program, read from that token on, is this one.
+fn expect(
+    rt: &impl Abort,
+    alloc: Global,
+    program: &str,
+    from: u32,
+    want: &str,
+) -> Result<(), Fail> {
+    let seen = shown(alloc, program, from)?;
+    assert_eq!(*rt; seen.as_str(), want, "{program} from {from}");
+    Ok(())
+}
+
+const TREES: &[(&str, &str)] = &[
+    ("a - b - c", "((a - b) - c) 5"),
+    ("a ? b : c ? d : e", "(a ? b : (c ? d : e)) 9"),
+    ("a ? b ? c : d : e", "(a ? (b ? c : d) : e) 9"),
+    ("a || b ? c : d && e", "((a || b) ? c : (d && e)) 9"),
+    ("- a . b [ 1 ]", "(- (a.b[1])) 7"),
+    ("- - a", "(- - a) 3"),
+    ("~ - ! a", "(~ - ! a) 4"),
+    ("! a . b", "(! (a.b)) 4"),
+    ("- a - b", "((- a) - b) 4"),
+    ("a - - b", "(a - (- b)) 4"),
+    ("( int8 ) a + b", "(((int8) a) + b) 6"),
+    ("- ( uint64 ) ~ a", "(- (uint64) ~ a) 6"),
+    ("( a )", "<a> 3"),
+    ("( a ) . b", "(<a>.b) 5"),
+    ("( rstring ) ( a )", "((rstring) <a>) 6"),
+    ("( ( a ) )", "<<a>> 5"),
+    ("{ }", "{} 2"),
+    ("{ a = 1 }", "{a = 1} 5"),
+    ("{ a = 1 , b = c + 2 }", "{a = 1, b = (c + 2)} 11"),
+    ("{ a : 1 }", "{a : 1} 5"),
+    ("{ a . b : 1 , c + d : 2 }", "{(a.b) : 1, (c + d) : 2} 13"),
+    ("{ a ? b : c : d }", "{(a ? b : c) : d} 9"),
+    ("[ ]", "[] 2"),
+    ("[ 1 , [ 2 ] ]", "[1, [2]] 7"),
+    ("f ( )", "f() 3"),
+    ("f ( a , g ( b ) )", "f(a, g(b)) 9"),
+    ("f ( a ) . b [ c ]", "(f(a).b[c]) 9"),
+    ("'a [ 0 ]", "('a'[0]) 4"),
+    ("1 . a", "(1.a) 3"),
+    ("$a == true", "($a == true) 3"),
+    ("a in b == c", "((a in b) == c) 5"),
+    ("a == b in c", "(a == (b in c)) 5"),
+    ("false", "false 1"),
+    // What follows the expression isn't looked at.
+    ("a b", "a 1"),
+    ("a )", "a 1"),
+    ("a : b", "a 1"),
+    ("a = b", "a 1"),
+    ("( foo ) a", "<foo> 3"),
+    ("a . b ( 1 )", "(a.b) 3"),
+    ("f ( a ) ( b )", "f(a) 4"),
+    ("( a ) ( b )", "<a> 3"),
+];
 
 #[test]
 fn an_expression_has_its_tree(rt: HostRuntime) -> Result<(), Fail> {
-    for (program, want) in [
-        ("a - b - c", "((a - b) - c) 5"),
-        ("a ? b : c ? d : e", "(a ? b : (c ? d : e)) 9"),
-        ("a ? b ? c : d : e", "(a ? (b ? c : d) : e) 9"),
-        ("a || b ? c : d && e", "((a || b) ? c : (d && e)) 9"),
-        ("- a . b [ 1 ]", "(- (a.b[1])) 7"),
-        ("- - a", "(- - a) 3"),
-        ("~ - ! a", "(~ - ! a) 4"),
-        ("! a . b", "(! (a.b)) 4"),
-        ("- a - b", "((- a) - b) 4"),
-        ("a - - b", "(a - (- b)) 4"),
-        ("( int8 ) a + b", "(((int8) a) + b) 6"),
-        ("- ( uint64 ) ~ a", "(- (uint64) ~ a) 6"),
-        ("( a )", "<a> 3"),
-        ("( a ) . b", "(<a>.b) 5"),
-        ("( rstring ) ( a )", "((rstring) <a>) 6"),
-        ("( ( a ) )", "<<a>> 5"),
-        ("{ }", "{} 2"),
-        ("{ a = 1 }", "{a = 1} 5"),
-        ("{ a = 1 , b = c + 2 }", "{a = 1, b = (c + 2)} 11"),
-        ("{ a : 1 }", "{a : 1} 5"),
-        ("{ a . b : 1 , c + d : 2 }", "{(a.b) : 1, (c + d) : 2} 13"),
-        ("{ a ? b : c : d }", "{(a ? b : c) : d} 9"),
-        ("[ ]", "[] 2"),
-        ("[ 1 , [ 2 ] ]", "[1, [2]] 7"),
-        ("f ( )", "f() 3"),
-        ("f ( a , g ( b ) )", "f(a, g(b)) 9"),
-        ("f ( a ) . b [ c ]", "(f(a).b[c]) 9"),
-        ("'a [ 0 ]", "('a'[0]) 4"),
-        ("1 . a", "(1.a) 3"),
-        ("$a == true", "($a == true) 3"),
-        ("a in b == c", "((a in b) == c) 5"),
-        ("a == b in c", "(a == (b in c)) 5"),
-        ("false", "false 1"),
-        // What follows the expression isn't looked at.
-        ("a b", "a 1"),
-        ("a )", "a 1"),
-        ("a : b", "a 1"),
-        ("a = b", "a 1"),
-        ("( foo ) a", "<foo> 3"),
-        ("a . b ( 1 )", "(a.b) 3"),
-        ("f ( a ) ( b )", "f(a) 4"),
-        ("( a ) ( b )", "<a> 3"),
-    ] {
-        assert_eq!(rt; shown(rt.alloc(), program, 0)?.as_str(), want, "{program}");
+    let alloc = rt.alloc();
+    for (program, want) in TREES {
+        expect(&rt, alloc, program, 0, want)?;
     }
-    let program = "x = a + b ; c";
-    assert_eq!(rt; shown(rt.alloc(), program, 2)?.as_str(), "(a + b) 5");
+    expect(&rt, alloc, "x = a + b ; c", 2, "(a + b) 5")
+}
+
+// Two operators between three names, and the trees that this may have.
+fn between(alloc: Global, x: &str, y: &str) -> Result<String, AllocError> {
+    format!(in alloc; "a {x} b {y} c")
+}
+
+fn to_the_left(alloc: Global, x: &str, y: &str) -> Result<String, AllocError> {
+    format!(in alloc; "((a {x} b) {y} c) 5")
+}
+
+fn to_the_right(alloc: Global, x: &str, y: &str) -> Result<String, AllocError> {
+    format!(in alloc; "(a {x} (b {y} c)) 5")
+}
+
+#[test]
+fn operators_of_a_level_group_to_the_left(rt: HostRuntime) -> Result<(), Fail> {
+    let alloc = rt.alloc();
+    for level in LEVELS {
+        for x in *level {
+            for y in *level {
+                let program = between(alloc, x, y)?;
+                let want = to_the_left(alloc, x, y)?;
+                expect(&rt, alloc, program.as_str(), 0, want.as_str())?;
+            }
+        }
+    }
     Ok(())
 }
 
 #[test]
 fn operators_bind_by_their_levels(rt: HostRuntime) -> Result<(), Fail> {
     let alloc = rt.alloc();
-    for level in LEVELS {
-        for x in level {
-            for y in level {
-                let program = format!(in alloc; "a {x} b {y} c")?;
-                let want = format!(in alloc; "((a {x} b) {y} c) 5")?;
-                let seen = shown(alloc, program.as_str(), 0)?;
-                assert_eq!(rt; seen.as_str(), want.as_str(), "{program}");
-            }
-        }
-    }
     for (tighter, looser) in LEVELS.iter().zip(LEVELS[1..].iter()) {
         for x in *tighter {
             for y in *looser {
-                let program = format!(in alloc; "a {x} b {y} c")?;
-                let want = format!(in alloc; "((a {x} b) {y} c) 5")?;
-                let seen = shown(alloc, program.as_str(), 0)?;
-                assert_eq!(rt; seen.as_str(), want.as_str(), "{program}");
-                let program = format!(in alloc; "a {y} b {x} c")?;
-                let want = format!(in alloc; "(a {y} (b {x} c)) 5")?;
-                let seen = shown(alloc, program.as_str(), 0)?;
-                assert_eq!(rt; seen.as_str(), want.as_str(), "{program}");
+                let program = between(alloc, x, y)?;
+                let want = to_the_left(alloc, x, y)?;
+                expect(&rt, alloc, program.as_str(), 0, want.as_str())?;
+                let program = between(alloc, y, x)?;
+                let want = to_the_right(alloc, y, x)?;
+                expect(&rt, alloc, program.as_str(), 0, want.as_str())?;
             }
         }
     }
     Ok(())
 }
 
+const REFUSALS: &[(&str, &str)] = &[
+    ("", "unexpected 0"),
+    ("else", "unexpected 0"),
+    (") a", "unexpected 0"),
+    ("* a", "unexpected 0"),
+    ("a +", "unexpected 20"),
+    ("a + * b", "unexpected 20"),
+    ("-", "unexpected 10"),
+    ("( a", "unexpected 20"),
+    ("( )", "unexpected 10"),
+    ("( int8 )", "unexpected 30"),
+    ("( int8 a )", "unexpected 20"),
+    ("( boolean ) a", "unexpected 10"),
+    ("f (", "unexpected 20"),
+    ("f ( a ,", "unexpected 40"),
+    ("f ( a , )", "unexpected 40"),
+    ("[ 1 2 ]", "unexpected 20"),
+    ("[ 1 , ]", "unexpected 30"),
+    ("{ a }", "unexpected 20"),
+    ("{ a = }", "unexpected 30"),
+    ("{ 1 = 2 }", "unexpected 20"),
+    ("{ a + b = 1 }", "unexpected 40"),
+    ("{ a = 1 , b : 2 }", "unexpected 60"),
+    ("{ a : 1 , b = 2 }", "unexpected 60"),
+    ("{ a = 1 , 2 = 3 }", "unexpected 50"),
+    ("{ a = 1 , }", "unexpected 50"),
+    ("a ? b", "unexpected 30"),
+    ("a ? b c", "unexpected 30"),
+    ("a . 1", "unexpected 20"),
+    ("a [ ]", "unexpected 20"),
+];
+
 #[test]
 fn the_first_token_that_goes_on_nowhere_is_refused(rt: HostRuntime) -> Result<(), Fail> {
-    for (program, want) in [
-        ("", "unexpected 0"),
-        ("else", "unexpected 0"),
-        (") a", "unexpected 0"),
-        ("* a", "unexpected 0"),
-        ("a +", "unexpected 20"),
-        ("a + * b", "unexpected 20"),
-        ("-", "unexpected 10"),
-        ("( a", "unexpected 20"),
-        ("( )", "unexpected 10"),
-        ("( int8 )", "unexpected 30"),
-        ("( int8 a )", "unexpected 20"),
-        ("( boolean ) a", "unexpected 10"),
-        ("f (", "unexpected 20"),
-        ("f ( a ,", "unexpected 40"),
-        ("f ( a , )", "unexpected 40"),
-        ("[ 1 2 ]", "unexpected 20"),
-        ("[ 1 , ]", "unexpected 30"),
-        ("{ a }", "unexpected 20"),
-        ("{ a = }", "unexpected 30"),
-        ("{ 1 = 2 }", "unexpected 20"),
-        ("{ a + b = 1 }", "unexpected 40"),
-        ("{ a = 1 , b : 2 }", "unexpected 60"),
-        ("{ a : 1 , b = 2 }", "unexpected 60"),
-        ("{ a = 1 , 2 = 3 }", "unexpected 50"),
-        ("{ a = 1 , }", "unexpected 50"),
-        ("a ? b", "unexpected 30"),
-        ("a ? b c", "unexpected 30"),
-        ("a . 1", "unexpected 20"),
-        ("a [ ]", "unexpected 20"),
-    ] {
-        assert_eq!(rt; shown(rt.alloc(), program, 0)?.as_str(), want, "{program}");
+    let alloc = rt.alloc();
+    for (program, want) in REFUSALS {
+        expect(&rt, alloc, program, 0, want)?;
     }
-    assert_eq!(rt; shown(rt.alloc(), "a +", 2)?.as_str(), "unexpected 20");
-    Ok(())
+    expect(&rt, alloc, "a +", 2, "unexpected 20")
 }
 
 // The piece so many times.
@@ -364,51 +482,73 @@ fn repeated(alloc: Global, piece: &str, times: u32) -> Result<String, AllocError
     Ok(text)
 }
 
+// The middle between so many pieces on each side.
+fn nested(
+    alloc: Global,
+    opening: &str,
+    middle: &str,
+    closing: &str,
+    depth: u32,
+) -> Result<String, AllocError> {
+    let before = repeated(alloc, opening, depth)?;
+    let behind = repeated(alloc, closing, depth)?;
+    format!(in alloc; "{before}{middle}{behind}")
+}
+
 #[test]
-fn nesting_has_its_limits(rt: HostRuntime) -> Result<(), Fail> {
+fn parentheses_nest_up_to_their_limit(rt: HostRuntime) -> Result<(), Fail> {
     let alloc = rt.alloc();
-    for depth in [1, 195, 200] {
-        let opening = repeated(alloc, "( ", depth)?;
-        let closing = repeated(alloc, ") ", depth)?;
-        let program = format!(in alloc; "{opening}a {closing}")?;
-        let opening = repeated(alloc, "<", depth)?;
-        let closing = repeated(alloc, ">", depth)?;
-        let want = format!(in alloc; "{opening}a{closing} {}", 2 * depth + 1)?;
-        let seen = shown(alloc, program.as_str(), 0)?;
-        assert_eq!(rt; seen.as_str(), want.as_str(), "{depth}");
+    for (depth, next) in [(1, 3), (195, 391), (200, 401)] {
+        let program = nested(alloc, "( ", "a ", ") ", depth)?;
+        let tree = nested(alloc, "<", "a", ">", depth)?;
+        let want = format!(in alloc; "{tree} {next}")?;
+        expect(&rt, alloc, program.as_str(), 0, want.as_str())?;
     }
-    let sum = repeated(alloc, "a + ", 190)?;
-    let program = format!(in alloc; "{sum}a")?;
-    let opening = repeated(alloc, "(", 190)?;
-    let closing = repeated(alloc, " + a)", 190)?;
-    let want = format!(in alloc; "{opening}a{closing} 381")?;
-    let seen = shown(alloc, program.as_str(), 0)?;
-    assert_eq!(rt; seen.as_str(), want.as_str());
-    let opening = repeated(alloc, "( ", 201)?;
-    let closing = repeated(alloc, ") ", 201)?;
-    let deep = repeated(alloc, "( ", 1000)?;
-    // Weights are looked at before the rest, of all tokens from there on.
-    for (front, nested, behind, from, want) in [
-        ("", &opening, "", 0, "too deep 2000"),
-        ("", &deep, "", 0, "too deep 2000"),
-        (") ", &opening, "", 0, "too deep 2010"),
-        ("a ; ", &opening, "", 0, "too deep 2020"),
-        ("a ; ", &opening, "a", 203, "too deep 2030"),
-        ("", &opening, "; a", 202, "too deep 2020"),
-    ] {
-        let program = format!(in alloc; "{front}{nested}{behind}")?;
-        let seen = shown(alloc, program.as_str(), from)?;
-        assert_eq!(rt; seen.as_str(), want, "{front}{from}");
+    Ok(())
+}
+
+#[test]
+fn a_long_sum_is_read(rt: HostRuntime) -> Result<(), Fail> {
+    let alloc = rt.alloc();
+    let program = nested(alloc, "a + ", "a", "", 190)?;
+    let tree = nested(alloc, "(", "a", " + a)", 190)?;
+    let want = format!(in alloc; "{tree} 381")?;
+    expect(&rt, alloc, program.as_str(), 0, want.as_str())
+}
+
+// What stands in front of so many opening parentheses and behind them, the token that is read from, and the answer.
+const TOO_DEEP: &[(&str, u32, &str, u32, &str)] = &[
+    ("", 201, "", 0, "too deep 2000"),
+    ("", 1000, "", 0, "too deep 2000"),
+    (") ", 201, "", 0, "too deep 2010"),
+    ("a ; ", 201, "", 0, "too deep 2020"),
+    ("a ; ", 201, "a", 203, "too deep 2030"),
+    ("", 201, "; a", 202, "too deep 2020"),
+];
+
+// Weights are looked at before the rest, of all tokens from there on.
+#[test]
+fn parentheses_that_are_too_deep_are_refused_first(rt: HostRuntime) -> Result<(), Fail> {
+    let alloc = rt.alloc();
+    for (front, depth, behind, from, want) in TOO_DEEP {
+        let opening = repeated(alloc, "( ", *depth)?;
+        let program = format!(in alloc; "{front}{opening}{behind}")?;
+        expect(&rt, alloc, program.as_str(), *from, want)?;
     }
-    // What stands before is too deep, and these tokens aren't.
-    let program = format!(in alloc; "{opening}{closing}; a")?;
+    Ok(())
+}
+
+#[test]
+fn what_stands_before_may_be_too_deep(rt: HostRuntime) -> Result<(), Fail> {
+    let alloc = rt.alloc();
+    let mut program = nested(alloc, "( ", "", ") ", 201)?;
+    program.push_str("; a")?;
     for (from, want) in [
         (201, "unexpected 2010"),
         (403, "a 404"),
         (404, "unexpected 4040"),
     ] {
-        let seen = shown(alloc, program.as_str(), from)?;
-        assert_eq!(rt; seen.as_str(), want, "{from}");
+        expect(&rt, alloc, program.as_str(), from, want)?;
     }
     Ok(())
 }
@@ -416,12 +556,10 @@ fn nesting_has_its_limits(rt: HostRuntime) -> Result<(), Fail> {
 #[test]
 fn nesting_without_weight_is_bounded_by_memory(rt: HostRuntime) -> Result<(), Fail> {
     let alloc = rt.alloc();
-    let sum = repeated(alloc, "{ } [ 0 ] + ", 3000)?;
-    let program = format!(in alloc; "{sum}a")?;
-    assert_eq!(rt; shown(alloc, program.as_str(), 0)?.as_str(), "memory");
-    let tests = repeated(alloc, "{ } [ 0 ] ? b : ", 300)?;
-    let program = format!(in alloc; "{tests}a")?;
-    assert_eq!(rt; shown(alloc, program.as_str(), 0)?.as_str(), "memory");
+    for (piece, times) in [("{ } [ 0 ] + ", 3000), ("{ } [ 0 ] ? b : ", 300)] {
+        let program = nested(alloc, piece, "a", "", times)?;
+        expect(&rt, alloc, program.as_str(), 0, "memory")?;
+    }
     Ok(())
 }
 
