@@ -30,7 +30,8 @@ pub use memory::NoMemory;
 pub use packet::Packet;
 pub use pairs::pairs_law;
 pub use types::{
-    Attribute, Bytes, Ids, Inputs, IntKind, Name, Named, Places, Schema, SplType, same_type,
+    Attribute, Bytes, Ids, Inputs, IntKind, Name, Named, Places, Schema, SplType, copy_schema,
+    copy_type, same_type,
 };
 pub use value::{Pairs, Value, Values, copy_value, copy_values};
 pub use wrapping::{wrap, wrap_law};

@@ -1,6 +1,7 @@
-ghost use Rattle.std.specs.Prelude.{◌≡◌, ◌↔◌, IsTrue};
+ghost use Rattle.std.specs.Prelude.{◌≡◌, ◌↔◌, IsTrue, IfOk};
 
-use crate::{Boxed, Items};
+use crate::{Boxed, Items, NoMemory};
+use std::alloc::Global;
 
 /// The integer types of the language: signed or unsigned, of 8 to 64 bits.
 #[derive(Clone, Copy, Debug, PartialEq, Eq)]
@@ -59,4 +60,40 @@ pub fn same_type(a: &SplType, b: &SplType) -> bool
     ensures { IsTrue result ↔ (a.now ≡ b.now) }
 {
     a == b
+}
+
+/// A copy of a type.
+#[cycle(copy)]
+pub fn copy_type(alloc: Global, t: &SplType) -> Result<SplType, NoMemory>
+    ensures { IfOk result (λ u. u ≡ t.now) }
+{
+    match t {
+        SplType::Int(kind) => Ok(SplType::Int(*kind)),
+        SplType::Bool => Ok(SplType::Bool),
+        SplType::Text => Ok(SplType::Text),
+        SplType::List(element) => {
+            let element = copy_type(alloc, element.get())?;
+            Ok(SplType::List(Boxed::new(alloc, element)?))
+        }
+        SplType::Map(key, value) => {
+            let key = copy_type(alloc, key.get())?;
+            let value = copy_type(alloc, value.get())?;
+            Ok(SplType::Map(Boxed::new(alloc, key)?, Boxed::new(alloc, value)?))
+        }
+        SplType::Tuple(schema) => Ok(SplType::Tuple(copy_schema(alloc, schema.as_slice())?)),
+    }
+}
+
+/// Copies of attributes, in their order.
+#[cycle(copy)]
+pub fn copy_schema(alloc: Global, schema: &[Attribute]) -> Result<Schema, NoMemory>
+    ensures { IfOk result (λ it. it ≡ schema.now) }
+{
+    let mut copied = Items::new(alloc);
+    for attribute in schema {
+        let name = Items::from_slice(alloc, attribute.name.as_slice())?;
+        let kind = copy_type(alloc, &attribute.kind)?;
+        copied.push(Named { name, kind })?;
+    }
+    Ok(copied)
 }
