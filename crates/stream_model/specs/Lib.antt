@@ -4,6 +4,7 @@ pub mod Scopes
 pub mod Typing
 pub mod CodeFits
 pub mod FitLaws
+pub mod TypingLaws
 pub mod React
 pub mod Stages
 pub mod Meaning
