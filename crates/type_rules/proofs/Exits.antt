@@ -1,0 +1,44 @@
+-- What operators and calls come to, by what the calls in them came to.
+use Rattle.std.specs.Prelude.{◌≡◌, ℕ, List, ◌∷◌, Some, None, Ok, Err}
+use Rattle.std.proofs.Common.{refl, ap, sym, ◌∙◌}
+use Rattle.spl_value.specs.declared.types.SplType.{SplType}
+use Rattle.spl_value.specs.declared.types.SplType.TheViews.{out-SplType}
+use Rattle.spl_tree.specs.Grammar.{Expr}
+use Rattle.spl_tree.specs.declared.expression.Placed.{Placed}
+use Rattle.spl_tree.specs.declared.expression.BinaryOperator.{BinaryOperator}
+use Rattle.spl_tree.specs.declared.expression.BinaryOperator.TheVariants as B
+use Rattle.spl_tree.specs.declared.code.Code.{Code}
+use Rattle.spl_tree.specs.declared.code.Code.TheVariants as C
+use Rattle.spl_tree.specs.declared.code.Slot.{Slot}
+use Rattle.spl_tree.specs.declared.code.BuiltIn.{BuiltIn}
+use Rattle.stream_model.specs.declared.scope.Scope.{Scope}
+use Rattle.stream_model.specs.declared.scope.Typed.{Typed}
+use Rattle.stream_model.specs.Typing.{Found, Part, part_typed, binary_typed, operands_typed, level_operator, after, typed, arguments_typed, first_typed, OnFirst}
+use Rattle.stream_model.specs.TypingLaws.{parts}
+use Rattle.type_rules.specs.declared.answer.TypeAnswer.{TypeAnswer}
+use Rattle.type_rules.specs.Finds.{Finds}
+use Rattle.type_rules.proofs.Steps.{stops, finds_by, after_after}
+
+-- an operator other than `in`
+pub same_operands : (scope : Scope) (op : BinaryOperator) (l r : Placed Part) → (op ≡ B.In → ⊥)
+    → binary_typed scope op l r ≡ after (part_typed l scope None) (λ x. operands_typed scope x l r (level_operator op (out-SplType x.kind)))
+same_operands scope B.In l r h = absurd (h refl)
+same_operands scope op l r h = refl
+
+-- ---- calls whose first argument's type says those of the others
+
+abbrev decided : OnFirst → Found OnFirst
+decided on = Ok on
+
+module _ (at : ℕ) (scope : Scope) (code : Code Slot) (rest : List Expr) (on : OnFirst) (built_in : BuiltIn) (t : SplType) (ts : List SplType) (g : decided on ≡ decided (Some (built_in, t, ts))) where
+  first_is : first_typed at scope code (parts rest) on ≡ after (after (arguments_typed scope ts (parts rest)) (λ xs. Ok (code ∷ xs))) (λ xs. Ok (typed t (C.BuiltIn built_in xs)))
+  first_is =
+      ap (λ o. after o (first_typed at scope code (parts rest))) g
+      ∙ sym (after_after (arguments_typed scope ts (parts rest)) (λ xs. Ok (code ∷ xs)) (λ xs. Ok (typed t (C.BuiltIn built_in xs))))
+
+  pub first_stops : (a : TypeAnswer) → Finds (after (arguments_typed scope ts (parts rest)) (λ xs. Ok (code ∷ xs))) (Err a) → Finds (first_typed at scope code (parts rest) on) (Err a)
+  first_stops a h = finds_by _ _ (Err a) first_is (stops _ _ a h)
+
+  pub first_done : (codes : List (Code Slot)) (x : Typed) → after (arguments_typed scope ts (parts rest)) (λ xs. Ok (code ∷ xs)) ≡ Ok codes → x ≡ typed t (C.BuiltIn built_in codes)
+      → first_typed at scope code (parts rest) on ≡ Ok x
+  first_done codes x h e = first_is ∙ ap (λ o. after o (λ xs. Ok (typed t (C.BuiltIn built_in xs)))) h ∙ ap Ok (sym e)

@@ -1,0 +1,7 @@
+mod Rows
+mod Wanting
+mod Prefixes
+mod Steps
+mod Loops
+mod Exits
+mod Weights

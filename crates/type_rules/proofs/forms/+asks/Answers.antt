@@ -1,0 +1,9 @@
+use Rattle.std.proofs.Common.{arith}
+use Rattle.stream_model.specs.TypingLaws.{parted, call_form}
+use Rattle.type_rules.proofs.Rows.{nil_as}
+use Rattle.type_rules.proofs.forms.+asks.Goals as goal
+
+pub returns-then-eq : goal.returns-then-eq
+returns-then-eq t c =
+    let n = nil_as parted c.in-Call.arguments c.is_empty.result c.is_empty.ensures in
+    grind (arith, call_form, n)

@@ -1,0 +1,4 @@
+pub mod Finds
+pub mod Names
+pub mod Kinds
+pub mod Members

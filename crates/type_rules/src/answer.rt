@@ -1,0 +1,86 @@
+//! What is answered where an expression has no type.
+ghost use Rattle.std.specs.Prelude.{◌≡◌, Some, None};
+ghost use Rattle.stream_model.specs.declared.scope.TypeError.TheVariants as E;
+ghost use Rattle.type_rules.specs.declared.answer.TypeAnswer.TheVariants.{Memory, Refused};
+ghost use Rattle.type_rules.specs.Finds.{IsUnknown, Narrows};
+
+use spl_value::{Items, NoMemory};
+use std::alloc::{AllocError, Global};
+use stream_model::{TypeError, TypeRefusal};
+
+/// Why there is no type.
+#[derive(Debug, Drop)]
+pub enum TypeAnswer {
+    /// The expression is refused, as the first refusal in it says.
+    Refused(TypeRefusal),
+    /// There was no memory.
+    Memory,
+}
+
+impl From<NoMemory> for TypeAnswer {
+    ghost from_gives = { λ _ answer. answer ≡ Memory };
+
+    fn from(_: NoMemory) -> TypeAnswer {
+        TypeAnswer::Memory
+    }
+}
+
+impl From<AllocError> for TypeAnswer {
+    ghost from_gives = { λ _ answer. answer ≡ Memory };
+
+    fn from(_: AllocError) -> TypeAnswer {
+        TypeAnswer::Memory
+    }
+}
+
+fn refused(error: TypeError, at: u32) -> TypeAnswer
+    ensures { result ≡ Refused (record { error = error; at = at; name = None }) }
+{
+    TypeAnswer::Refused(TypeRefusal {
+        error,
+        at,
+        name: None,
+    })
+}
+
+pub(crate) fn mismatch(at: u32) -> TypeAnswer
+    ensures { result ≡ Refused (record { error = E.Mismatch; at = at; name = None }) }
+{
+    refused(TypeError::Mismatch, at)
+}
+
+pub(crate) fn wrong_call(at: u32) -> TypeAnswer
+    ensures { result ≡ Refused (record { error = E.WrongCall; at = at; name = None }) }
+{
+    refused(TypeError::WrongCall, at)
+}
+
+pub(crate) fn not_mutable(at: u32) -> TypeAnswer
+    ensures { result ≡ Refused (record { error = E.NotMutable; at = at; name = None }) }
+{
+    refused(TypeError::NotMutable, at)
+}
+
+/// A name without a meaning, at its place.
+pub(crate) fn unknown(alloc: Global, at: u32, name: &[u8]) -> TypeAnswer
+    ensures { IsUnknown at name.now result }
+{
+    match Items::from_slice(alloc, name) {
+        Ok(name) => TypeAnswer::Refused(TypeRefusal {
+            error: TypeError::Unknown,
+            at,
+            name: Some(name),
+        }),
+        Err(_) => TypeAnswer::Memory,
+    }
+}
+
+/// A place as it stands in codes. A place of more than 32 bits isn't in memory.
+pub(crate) fn narrow(place: usize) -> Result<u32, TypeAnswer>
+    ensures { Narrows place result }
+{
+    match u32::try_from(place) {
+        Ok(narrow) => Ok(narrow),
+        Err(_) => Err(TypeAnswer::Memory),
+    }
+}

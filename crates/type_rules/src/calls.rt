@@ -1,0 +1,144 @@
+//! The calls that the language has built in.
+ghost use Rattle.std.specs.Prelude.{◌≡◌, Ok, Some, [], ◌∷◌};
+ghost use Rattle.std.specs.Option.{option_copied};
+ghost use Rattle.spl_value.specs.declared.types.SplType.TheViews.{out-SplType};
+ghost use Rattle.stream_model.specs.Typing.{call_of, argument_count, level_first, level_changed, is_mutable, value_given};
+ghost use Rattle.type_rules.specs.Finds.{Finds};
+
+use crate::answer::{TypeAnswer, mismatch};
+use crate::names::variable;
+use spl_tree::{BuiltIn, CallName, Code, Slot};
+use spl_value::{IntKind, Items, SplType, copy_type};
+use std::alloc::Global;
+use stream_model::{Scope, Typed};
+
+/// The call that has this name.
+pub(crate) fn call_named(name: &[u8]) -> Option<CallName>
+    ensures { result ≡ call_of name.now }
+{
+    if name == b"length".as_slice() {
+        Some(CallName::Length)
+    } else if name == b"size".as_slice() {
+        Some(CallName::Size)
+    } else if name == b"has".as_slice() {
+        Some(CallName::Has)
+    } else if name == b"appendM".as_slice() {
+        Some(CallName::AppendM)
+    } else if name == b"removeM".as_slice() {
+        Some(CallName::RemoveM)
+    } else if name == b"clearM".as_slice() {
+        Some(CallName::ClearM)
+    } else if name == b"abs".as_slice() {
+        Some(CallName::Abs)
+    } else if name == b"min".as_slice() {
+        Some(CallName::Min)
+    } else if name == b"max".as_slice() {
+        Some(CallName::Max)
+    } else if name == b"substring".as_slice() {
+        Some(CallName::Substring)
+    } else if name == b"currentPunct".as_slice() {
+        Some(CallName::CurrentPunct)
+    } else {
+        None
+    }
+}
+
+/// How many arguments a call has.
+pub(crate) fn argument_count(call: CallName) -> usize
+    ensures { result ≡ argument_count call }
+{
+    match call {
+        CallName::CurrentPunct => 0,
+        CallName::Length | CallName::Size | CallName::ClearM | CallName::Abs => 1,
+        CallName::Has | CallName::AppendM | CallName::RemoveM | CallName::Min | CallName::Max => 2,
+        CallName::Substring => 3,
+    }
+}
+
+/// What a call is on a first argument of a type, the type that it gives, and the types that the other
+/// arguments have to have.
+pub(crate) type OnFirst = Option<(BuiltIn, SplType, Items<SplType>)>;
+
+fn one_type(alloc: Global, kind: &SplType) -> Result<Items<SplType>, TypeAnswer>
+    ensures { Finds (Ok (kind.now ∷ [])) result }
+{
+    let mut kinds = Items::new(alloc);
+    kinds.push(copy_type(alloc, kind)?)?;
+    Ok(kinds)
+}
+
+/// A smaller or larger one of two values of a type that has an order.
+fn on_ordered(alloc: Global, call: BuiltIn, kind: SplType) -> Result<OnFirst, TypeAnswer>
+    ensures { Finds (Ok (Some (call, kind, kind ∷ []))) result }
+{
+    let others = one_type(alloc, &kind)?;
+    Ok(Some((call, kind, others)))
+}
+
+/// What a call is on a first argument of a type, or nothing where it isn't on one of its class.
+pub(crate) fn on_first(alloc: Global, call: CallName, kind: SplType) -> Result<OnFirst, TypeAnswer>
+    ensures { Finds (Ok (level_first call kind (out-SplType kind))) result }
+{
+    match (call, &kind) {
+        (CallName::Size, SplType::List(_) | SplType::Map(_, _)) => Ok(Some((
+            BuiltIn::Size,
+            SplType::Int(IntKind::I32),
+            Items::new(alloc),
+        ))),
+        (CallName::Has, SplType::Map(key, _)) => {
+            let others = one_type(alloc, key.get())?;
+            Ok(Some((BuiltIn::Has, SplType::Bool, others)))
+        }
+        (CallName::Abs, SplType::Int(number)) => {
+            Ok(Some((BuiltIn::Abs(*number), kind, Items::new(alloc))))
+        }
+        (CallName::Min, SplType::Int(_) | SplType::Text) => on_ordered(alloc, BuiltIn::Min, kind),
+        (CallName::Max, SplType::Int(_) | SplType::Text) => on_ordered(alloc, BuiltIn::Max, kind),
+        _ => Ok(None),
+    }
+}
+
+/// The types that the arguments behind the first have to have, of a call that changes it, or nothing
+/// where the call changes no such one.
+pub(crate) fn on_changed(
+    alloc: Global,
+    call: CallName,
+    first: Typed,
+) -> Result<Option<Items<SplType>>, TypeAnswer>
+    ensures { Finds (Ok (level_changed call (out-SplType first.kind))) result }
+{
+    match (call, &first.kind) {
+        (CallName::AppendM, SplType::List(element)) => Ok(Some(one_type(alloc, element.get())?)),
+        (CallName::RemoveM, SplType::Map(key, _)) => Ok(Some(one_type(alloc, key.get())?)),
+        (CallName::ClearM, SplType::List(_) | SplType::Map(_, _)) => Ok(Some(Items::new(alloc))),
+        _ => Ok(None),
+    }
+}
+
+/// Whether the name is a variable that may be changed.
+pub(crate) fn is_mutable(scope: &Scope, name: &[u8]) -> bool
+    ensures { result ≡ is_mutable scope.now name.now }
+{
+    match variable(scope, name) {
+        Some((_, found)) => found.mutable,
+        None => false,
+    }
+}
+
+/// A call gives a value of a type, or nothing.
+pub(crate) fn value_given(
+    alloc: Global,
+    at: u32,
+    kind: Option<&SplType>,
+    code: Code<Slot>,
+) -> Result<Typed, TypeAnswer>
+    ensures { Finds (value_given at (option_copied kind.entry) code) result }
+{
+    match kind {
+        Some(kind) => {
+            let kind = copy_type(alloc, kind)?;
+            Ok(Typed { kind, code })
+        }
+        None => Err(mismatch(at)),
+    }
+}

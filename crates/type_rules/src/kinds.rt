@@ -1,0 +1,152 @@
+//! Types that a place wants.
+ghost use Rattle.std.specs.Prelude.{◌≡◌, not, is_some};
+ghost use Rattle.std.specs.List.{list_all};
+ghost use Rattle.std.specs.Str.{bytes_eq};
+ghost use Rattle.stream_model.specs.Scopes.{attribute_of};
+ghost use Rattle.std.specs.Option.{option_copied};
+ghost use Rattle.spl_value.specs.declared.types.SplType.TheViews.{out-SplType};
+ghost use Rattle.stream_model.specs.Typing.{same_types, as_wanted, level_element, level_pair, level_schema, level_index, gives_each, are_distinct};
+ghost use Rattle.type_rules.specs.Finds.{Finds};
+ghost use Rattle.type_rules.specs.Kinds.{this_or_other, pair_copied, held_copied, integer_of, held_of};
+ghost use Rattle.stream_model.specs.TypingLaws.{field_parts};
+
+use crate::answer::{TypeAnswer, mismatch};
+use crate::names::attribute;
+use spl_tree::{BinaryCode, Code, Expr, Field, Slot};
+use spl_value::{Attribute, IntKind, Schema, SplType, same_type};
+use stream_model::Typed;
+
+/// Whether two types are the same.
+pub(crate) fn is_same(a: &SplType, b: &SplType) -> bool
+    ensures { result ≡ same_types a.now b.now }
+{
+    same_type(a, b)
+}
+
+/// An expression at a place that has a type by itself: it has to be the wanted one.
+pub(crate) fn as_wanted(
+    at: u32,
+    wanted: Option<&SplType>,
+    typed: Typed,
+) -> Result<Typed, TypeAnswer>
+    ensures { Finds (as_wanted at (option_copied wanted.entry) typed) result }
+{
+    match wanted {
+        None => Ok(typed),
+        Some(kind) => {
+            if is_same(&typed.kind, kind) {
+                Ok(typed)
+            } else {
+                Err(mismatch(at))
+            }
+        }
+    }
+}
+
+/// The type of a list's elements.
+pub(crate) fn element_of(kind: &SplType) -> Option<&SplType>
+    ensures { this_or_other (option_copied result) ≡ level_element (out-SplType kind.now) }
+{
+    match kind {
+        SplType::List(element) => Some(element.get()),
+        SplType::Int(_) | SplType::Bool | SplType::Text | SplType::Map(_, _) | SplType::Tuple(_) =>
+            None,
+    }
+}
+
+/// The types of a map's keys and values.
+pub(crate) fn pair_of(kind: &SplType) -> Option<(&SplType, &SplType)>
+    ensures { this_or_other (pair_copied result) ≡ level_pair (out-SplType kind.now) }
+{
+    match kind {
+        SplType::Map(key, value) => Some((key.get(), value.get())),
+        SplType::Int(_) | SplType::Bool | SplType::Text | SplType::List(_) | SplType::Tuple(_) =>
+            None,
+    }
+}
+
+/// The attributes of a tuple.
+pub(crate) fn schema_of(kind: &SplType) -> Option<&Schema>
+    ensures { this_or_other (option_copied result) ≡ level_schema (out-SplType kind.now) }
+{
+    match kind {
+        SplType::Tuple(schema) => Some(schema),
+        SplType::Int(_) | SplType::Bool | SplType::Text | SplType::List(_) | SplType::Map(_, _) =>
+            None,
+    }
+}
+
+/// The integer type that a type is.
+fn integer_of(kind: &SplType) -> Option<IntKind>
+    ensures { result ≡ integer_of (out-SplType kind.now) }
+{
+    match kind {
+        SplType::Int(kind) => Some(*kind),
+        SplType::Bool | SplType::Text | SplType::List(_) | SplType::Map(_, _) | SplType::Tuple(_) =>
+            None,
+    }
+}
+
+/// The code of an index at its place: it has to be an integer, of any type.
+pub(crate) fn index_typed(at: u32, index: Typed) -> Result<Code<Slot>, TypeAnswer>
+    ensures { Finds (level_index at index.code (out-SplType index.kind)) result }
+{
+    match integer_of(&index.kind) {
+        Some(_) => Ok(index.code),
+        None => Err(mismatch(at)),
+    }
+}
+
+/// What `in` is on a right operand of a type, and the type that the left one has to have.
+pub(crate) fn held_of(kind: &SplType) -> Option<(BinaryCode, &SplType)>
+    ensures { held_copied result ≡ held_of (out-SplType kind.now) }
+{
+    match kind {
+        SplType::List(element) => Some((BinaryCode::InList, element.get())),
+        SplType::Map(key, _) => Some((BinaryCode::InMap, key.get())),
+        SplType::Int(_) | SplType::Bool | SplType::Text | SplType::Tuple(_) => None,
+    }
+}
+
+/// Whether no field has the name.
+fn is_free(fields: &[Field<Expr>], name: &[u8]) -> bool
+    ensures { result ≡ list_all (λ f. not (bytes_eq f.name.what name.now)) (field_parts fields.now) }
+{
+    for field in fields {
+        if field.name.what.as_slice() == name {
+            return false;
+        }
+    }
+    true
+}
+
+/// Whether no two fields have one name.
+pub(crate) fn are_distinct(fields: &[Field<Expr>]) -> bool
+    ensures { result ≡ are_distinct (field_parts fields.now) }
+{
+    for (at, field) in fields.iter().enumerate() {
+        if !is_free(&fields[at + 1..], field.name.what.as_slice()) {
+            return false;
+        }
+    }
+    true
+}
+
+/// Whether each field is an attribute.
+fn are_known(schema: &[Attribute], fields: &[Field<Expr>]) -> bool
+    ensures { result ≡ list_all (λ f. is_some (attribute_of schema.now f.name.what)) (field_parts fields.now) }
+{
+    for field in fields {
+        if let None = attribute(schema, field.name.what.as_slice()) {
+            return false;
+        }
+    }
+    true
+}
+
+/// Whether each attribute has one field, and no other has.
+pub(crate) fn gives_each(schema: &[Attribute], fields: &[Field<Expr>]) -> bool
+    ensures { result ≡ gives_each schema.now (field_parts fields.now) }
+{
+    are_distinct(fields) && are_known(schema, fields) && fields.len() == schema.len()
+}

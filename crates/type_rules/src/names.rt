@@ -1,0 +1,150 @@
+//! What the names of an expression stand for.
+ghost use Rattle.std.specs.Prelude.{◌≡◌, ◌≤◌, length};
+ghost use Rattle.stream_model.specs.Scopes.{variable_of, attribute_of, port_of, function_of, meant};
+ghost use Rattle.spl_tree.specs.declared.code.Code.TheVariants as C;
+ghost use Rattle.stream_model.specs.Typing.{meant_typed, typed};
+ghost use Rattle.type_rules.specs.Finds.{Points, Finds};
+ghost use Rattle.type_rules.specs.Names.{Holds, Means};
+
+use crate::answer::{TypeAnswer, narrow, unknown};
+use spl_tree::{Code, Slot};
+use spl_value::{Attribute, SplType, copy_schema, copy_type};
+use std::alloc::Global;
+use stream_model::{Port, Scope, Signature, Typed, Variable};
+
+/// The last variable of the name, with its place.
+pub(crate) fn variable<'s>(scope: &'s Scope, name: &[u8]) -> Option<(usize, &'s Variable)>
+    ensures { Points (variable_of scope.now name.now) result }
+{
+    let variables = scope.vars.as_slice();
+    let mut at = variables.len();
+    'variables: while at > 0 {
+        at -= 1;
+        let variable = &variables[at];
+        if variable.name.as_slice() == name {
+            return Some((at, variable));
+        }
+    }
+    None
+}
+
+/// The attribute of the name, with its place.
+pub(crate) fn attribute<'s>(schema: &'s [Attribute], name: &[u8]) -> Option<(usize, &'s Attribute)>
+    ensures { Points (attribute_of schema.now name.now) result }
+{
+    for (at, attribute) in schema.iter().enumerate() {
+        if attribute.name.as_slice() == name {
+            return Some((at, attribute));
+        }
+    }
+    None
+}
+
+/// The first port of the name, with its place.
+fn port<'s>(scope: &'s Scope, name: &[u8]) -> Option<(usize, &'s Port)>
+    ensures { Points (port_of scope.now name.now) result }
+{
+    for (at, port) in scope.ports.as_slice().iter().enumerate() {
+        if port.name.as_slice() == name {
+            return Some((at, port));
+        }
+    }
+    None
+}
+
+/// The function of the name, with its place.
+pub(crate) fn function<'s>(scope: &'s Scope, name: &[u8]) -> Option<(usize, &'s Signature)>
+    ensures { Points (function_of scope.now name.now) result }
+{
+    for (at, function) in scope.functions.as_slice().iter().enumerate() {
+        if function.name.as_slice() == name {
+            return Some((at, function));
+        }
+    }
+    None
+}
+
+/// The first port from a place on that has an attribute of the name: the places of both, and the
+/// attribute.
+fn holder<'s>(ports: &'s [Port], from: usize, name: &[u8]) -> Option<(usize, usize, &'s Attribute)>
+    requires { from ≤ length ports.now }
+    ensures { Holds ports.now from name.now result }
+{
+    let mut at = from;
+    'ports: while at < ports.len() {
+        if let Some((place, found)) = attribute(ports[at].schema.as_slice(), name) {
+            return Some((at, place, found));
+        }
+        at += 1;
+    }
+    None
+}
+
+/// What a name stands for, by places from 0.
+#[derive(Clone, Copy)]
+pub(crate) enum Meaning<'s> {
+    Variable(usize, &'s Variable),
+    /// An attribute of the port at the first place.
+    Attribute(usize, usize, &'s Attribute),
+    Port(usize, &'s Port),
+    Nothing,
+}
+
+/// What the name stands for: a variable, an attribute of one port, or the tuple of a port.
+pub(crate) fn meaning_of<'s>(scope: &'s Scope, name: &[u8]) -> Meaning<'s>
+    ensures { Means (meant scope.now name.now) result }
+{
+    if let Some((place, found)) = variable(scope, name) {
+        return Meaning::Variable(place, found);
+    }
+    let ports = scope.ports.as_slice();
+    match holder(ports, 0, name) {
+        Some((at, place, found)) => match holder(ports, at + 1, name) {
+            Some(_) => Meaning::Nothing,
+            None => Meaning::Attribute(at, place, found),
+        },
+        None => match port(scope, name) {
+            Some((at, found)) => Meaning::Port(at, found),
+            None => Meaning::Nothing,
+        },
+    }
+}
+
+/// A name of that type.
+pub(crate) fn slot_typed(kind: SplType, slot: Slot) -> Typed
+    ensures { result ≡ typed kind (C.Name slot) }
+{
+    Typed {
+        kind,
+        code: Code::Name(slot),
+    }
+}
+
+/// The type and the code of a name at its place in the program.
+pub(crate) fn name_typed(
+    alloc: Global,
+    scope: &Scope,
+    at: u32,
+    name: &[u8],
+) -> Result<Typed, TypeAnswer>
+    ensures { Finds (meant_typed at name.now (meant scope.now name.now)) result }
+{
+    match meaning_of(scope, name) {
+        Meaning::Variable(place, variable) => {
+            let kind = copy_type(alloc, &variable.kind)?;
+            Ok(slot_typed(kind, Slot::Variable(narrow(place)?)))
+        }
+        Meaning::Attribute(port, place, found) => {
+            let kind = copy_type(alloc, &found.kind)?;
+            let port = narrow(port)?;
+            let attribute = narrow(place)?;
+            Ok(slot_typed(kind, Slot::Attribute { port, attribute }))
+        }
+        Meaning::Port(place, port) => {
+            let schema = copy_schema(alloc, port.schema.as_slice())?;
+            let slot = Slot::Port(narrow(place)?);
+            Ok(slot_typed(SplType::Tuple(schema), slot))
+        }
+        Meaning::Nothing => Err(unknown(alloc, at, name)),
+    }
+}

@@ -1,0 +1,179 @@
+//! What operators are on operands of a type.
+ghost use Rattle.std.specs.Prelude.{◌≡◌, drop, reverse, Ok};
+ghost use Rattle.spl_tree.specs.declared.code.Code.TheVariants as C;
+ghost use Rattle.spl_value.specs.declared.types.SplType.TheViews.{out-SplType};
+ghost use Rattle.stream_model.specs.Typing.{integer_operator, order_operator, on_integers, ordering_of, or_else, level_operator, level_prefix, level_in, prefixes_at, prefixes_typed};
+ghost use Rattle.type_rules.specs.Finds.{Finds};
+
+use crate::answer::{TypeAnswer, mismatch};
+use crate::kinds::{held_of, is_same};
+use spl_tree::{
+    BinaryCode, BinaryOperator, CastTarget, Code, IntegerOperator, OrderOperator, Prefix,
+    PrefixOperator, Slot, UnaryCode,
+};
+use spl_value::{Boxed, IntKind, Items, SplType};
+use std::alloc::Global;
+use stream_model::Typed;
+
+/// The operator of two integers that gives an integer.
+fn integer_operator(operator: BinaryOperator) -> Option<IntegerOperator>
+    ensures { result ≡ integer_operator operator }
+{
+    match operator {
+        BinaryOperator::Multiply => Some(IntegerOperator::Multiply),
+        BinaryOperator::Divide => Some(IntegerOperator::Divide),
+        BinaryOperator::Remainder => Some(IntegerOperator::Remainder),
+        BinaryOperator::Add => Some(IntegerOperator::Add),
+        BinaryOperator::Subtract => Some(IntegerOperator::Subtract),
+        BinaryOperator::BitAnd => Some(IntegerOperator::BitAnd),
+        BinaryOperator::BitXor => Some(IntegerOperator::BitXor),
+        BinaryOperator::BitOr => Some(IntegerOperator::BitOr),
+        _ => None,
+    }
+}
+
+/// The operator that asks for an order.
+fn order_operator(operator: BinaryOperator) -> Option<OrderOperator>
+    ensures { result ≡ order_operator operator }
+{
+    match operator {
+        BinaryOperator::Less => Some(OrderOperator::Less),
+        BinaryOperator::LessOrEqual => Some(OrderOperator::LessOrEqual),
+        BinaryOperator::Greater => Some(OrderOperator::Greater),
+        BinaryOperator::GreaterOrEqual => Some(OrderOperator::GreaterOrEqual),
+        _ => None,
+    }
+}
+
+fn on_order(operator: BinaryOperator) -> Option<(BinaryCode, SplType)>
+    ensures { result ≡ ordering_of (order_operator operator) }
+{
+    let order = order_operator(operator)?;
+    Some((BinaryCode::Order(order), SplType::Bool))
+}
+
+fn on_integers(operator: BinaryOperator, kind: IntKind) -> Option<(BinaryCode, SplType)>
+    ensures { result ≡ or_else (on_integers kind (integer_operator operator)) (ordering_of (order_operator operator)) }
+{
+    match integer_operator(operator) {
+        Some(integer) => Some((BinaryCode::Integers(integer, kind), SplType::Int(kind))),
+        None => on_order(operator),
+    }
+}
+
+/// What an operator is on a left operand of a type, with the type that it gives: its operands are of
+/// one type.
+pub(crate) fn operator_on(operator: BinaryOperator, left: &SplType) -> Option<(BinaryCode, SplType)>
+    ensures { result ≡ level_operator operator (out-SplType left.now) }
+{
+    match (operator, left) {
+        (BinaryOperator::Equal, _) => Some((BinaryCode::Equal, SplType::Bool)),
+        (BinaryOperator::NotEqual, _) => Some((BinaryCode::NotEqual, SplType::Bool)),
+        (BinaryOperator::And, SplType::Bool) => Some((BinaryCode::And, SplType::Bool)),
+        (BinaryOperator::Or, SplType::Bool) => Some((BinaryCode::Or, SplType::Bool)),
+        (BinaryOperator::Add, SplType::Text) => Some((BinaryCode::Join, SplType::Text)),
+        (_, SplType::Int(kind)) => on_integers(operator, *kind),
+        (_, SplType::Text) => on_order(operator),
+        _ => None,
+    }
+}
+
+/// What a prefix operator or a cast is on a type, with the type that it gives.
+fn prefix_on(operator: PrefixOperator, kind: &SplType) -> Option<(UnaryCode, SplType)>
+    ensures { result ≡ level_prefix operator (out-SplType kind.now) }
+{
+    match (operator, kind) {
+        (PrefixOperator::Not, SplType::Bool) => Some((UnaryCode::Not, SplType::Bool)),
+        (PrefixOperator::Negate, SplType::Int(kind)) => {
+            Some((UnaryCode::Negate(*kind), SplType::Int(*kind)))
+        }
+        (PrefixOperator::Complement, SplType::Int(kind)) => {
+            Some((UnaryCode::Complement(*kind), SplType::Int(*kind)))
+        }
+        (PrefixOperator::Cast(CastTarget::Int(target)), SplType::Int(_)) => {
+            Some((UnaryCode::ToInteger(target), SplType::Int(target)))
+        }
+        (PrefixOperator::Cast(CastTarget::Text), SplType::Int(_) | SplType::Bool) => {
+            Some((UnaryCode::ToText, SplType::Text))
+        }
+        _ => None,
+    }
+}
+
+/// Where prefixes from a place of their row on and their operand begin.
+fn begin(prefixes: &[Prefix], from: usize, operand: u32) -> u32
+    ensures { result ≡ prefixes_at (drop from prefixes.now) operand }
+{
+    match prefixes.get(from) {
+        Some(prefix) => prefix.at,
+        None => operand,
+    }
+}
+
+fn outermost_first(codes: Items<UnaryCode>) -> Items<UnaryCode>
+    ensures { result ≡ reverse codes }
+{
+    let mut codes = codes.into_vec();
+    codes.reverse();
+    Items::from_vec(codes)
+}
+
+/// The codes of prefixes on an operand of a type, the outermost first, and the type that they give.
+/// The innermost that doesn't fit is refused, where its own operand begins.
+pub(crate) fn prefixes_on(
+    alloc: Global,
+    prefixes: &[Prefix],
+    operand: u32,
+    kind: SplType,
+) -> Result<(Items<UnaryCode>, SplType), TypeAnswer>
+    ensures { Finds (prefixes_typed prefixes.now operand kind) result }
+{
+    let mut codes = Items::new(alloc);
+    let mut kind = kind;
+    let mut at = prefixes.len();
+    'prefixes: while at > 0 {
+        let begin = begin(prefixes, at, operand);
+        at -= 1;
+        let prefix = &prefixes[at];
+        let Some((code, given)) = prefix_on(prefix.what, &kind) else {
+            return Err(mismatch(begin));
+        };
+        codes.push(code)?;
+        kind = given;
+    }
+    Ok((outermost_first(codes), kind))
+}
+
+/// `in`: a value is looked for in a list of its type, or in a map with keys of its type. The right
+/// operand stands at that place.
+pub(crate) fn in_typed(
+    alloc: Global,
+    left: Typed,
+    right: Typed,
+    at: u32,
+) -> Result<Typed, TypeAnswer>
+    ensures { Finds (level_in left right.code at (out-SplType right.kind)) result }
+{
+    let Some((code, held)) = held_of(&right.kind) else {
+        return Err(mismatch(at));
+    };
+    if !is_same(&left.kind, held) {
+        return Err(mismatch(at));
+    }
+    let code = binary(alloc, code, left.code, right.code)?;
+    let kind = SplType::Bool;
+    Ok(Typed { kind, code })
+}
+
+pub(crate) fn binary(
+    alloc: Global,
+    operator: BinaryCode,
+    left: Code<Slot>,
+    right: Code<Slot>,
+) -> Result<Code<Slot>, TypeAnswer>
+    ensures { Finds (Ok (C.Binary operator left right)) result }
+{
+    let left = Boxed::new(alloc, left)?;
+    let right = Boxed::new(alloc, right)?;
+    Ok(Code::Binary(operator, left, right))
+}
