@@ -1,0 +1,150 @@
+//! What is answered to texts of expressions.
+use crate::code::add_code;
+use crate::fixture::{Place, scope};
+use crate::kinds::{Kinds, add_kind};
+use crate::shown::Shown;
+use expr_parser::{ParsedExpr, parse_expr};
+use spl_lexer::lex;
+use spl_tree::Expr;
+use spl_value::SplType;
+use std::alloc::{AllocError, Global};
+use std::process::Abort;
+use std::test::Fail;
+use stream_model::{Scope, TypeError, TypeRefusal, Typed};
+use type_rules::{TypeAnswer, type_of};
+
+/// A text, the type that its place wants or nothing, and what is answered: the type and the code as
+/// `TYPE | CODE`, or the refusal with its byte, as `Mismatch at 4`, and with the unknown name, as
+/// `Unknown at 0 z`.
+pub(crate) type Row = (&'static str, &'static str, &'static str);
+
+// The expression that a whole text is, or why it isn't one.
+fn read(alloc: Global, text: &str) -> Result<Expr, &'static str> {
+    let Ok(tokens) = lex(alloc, text.as_bytes()) else {
+        return Err("no tokens");
+    };
+    let count = tokens.list.len();
+    if count > 1_048_576 {
+        return Err("too many tokens");
+    }
+    let Ok(ParsedExpr { expr, next }) = parse_expr(alloc, &tokens, 0) else {
+        return Err("no expression");
+    };
+    if (next as usize) < count {
+        return Err("more than an expression");
+    }
+    Ok(expr)
+}
+
+fn add_typed(shown: &mut Shown, typed: &Typed) {
+    add_kind(shown, &typed.kind);
+    shown.add(" | ");
+    add_code(shown, &typed.code);
+}
+
+fn error(error: TypeError) -> &'static str {
+    match error {
+        TypeError::Unknown => "Unknown",
+        TypeError::Mismatch => "Mismatch",
+        TypeError::NotMutable => "NotMutable",
+        TypeError::WrongCall => "WrongCall",
+    }
+}
+
+fn add_refusal(shown: &mut Shown, refusal: &TypeRefusal) {
+    shown.add(error(refusal.error));
+    shown.add(" at ");
+    shown.add_number(i128::from(refusal.at));
+    if let Some(name) = &refusal.name {
+        shown.add(" ");
+        shown.add_bytes(name.as_slice());
+    }
+}
+
+fn add_answer(shown: &mut Shown, answer: &Result<Typed, TypeAnswer>) {
+    match answer {
+        Ok(typed) => add_typed(shown, typed),
+        Err(TypeAnswer::Refused(refusal)) => add_refusal(shown, refusal),
+        Err(TypeAnswer::Memory) => shown.add("no memory"),
+    }
+}
+
+// What is answered to a text.
+fn answer(
+    alloc: Global,
+    scope: &Scope,
+    text: &str,
+    wanted: Option<&SplType>,
+) -> Result<String, AllocError> {
+    let mut shown = Shown::new(alloc);
+    match read(alloc, text) {
+        Ok(expr) => add_answer(&mut shown, &type_of(alloc, scope, &expr, wanted)),
+        Err(why) => shown.add(why),
+    }
+    shown.finish()
+}
+
+/// A scope, and those rows of a table that have other answers in it than the table says.
+#[derive(Drop)]
+pub(crate) struct Table {
+    kinds: Kinds,
+    scope: Scope,
+    others: String,
+}
+
+impl Table {
+    pub(crate) fn new(alloc: Global, place: Place) -> Result<Table, Fail> {
+        let kinds = Kinds::new(alloc)?;
+        let scope = scope(alloc, &kinds, place)?;
+        Ok(Table {
+            kinds,
+            scope,
+            others: String::new(alloc),
+        })
+    }
+
+    fn answer(&self, alloc: Global, text: &str, wanted: &str) -> Result<String, AllocError> {
+        if wanted.is_empty() {
+            return answer(alloc, &self.scope, text, None);
+        }
+        match self.kinds.get(wanted) {
+            Some(kind) => answer(alloc, &self.scope, text, Some(kind)),
+            None => "no such wanted type".to_string(alloc),
+        }
+    }
+
+    /// Compares the answer to a text with `want`, where its place wants a type or, as `""`, none.
+    pub(crate) fn row(
+        &mut self,
+        alloc: Global,
+        text: &str,
+        wanted: &str,
+        want: &str,
+    ) -> Result<(), AllocError> {
+        let seen = self.answer(alloc, text, wanted)?;
+        if seen.as_str() == want {
+            return Ok(());
+        }
+        write!(self.others, "\n{text} [{wanted}]: {seen}, not {want}")
+    }
+
+    /// Fails unless each row had its answer, and says which hadn't.
+    pub(crate) fn finish(&self, rt: &impl Abort) {
+        assert_eq!(*rt; self.others.as_str(), "");
+    }
+}
+
+/// Fails unless each row has its answer.
+pub(crate) fn expect(
+    rt: &impl Abort,
+    alloc: Global,
+    place: Place,
+    rows: &[Row],
+) -> Result<(), Fail> {
+    let mut table = Table::new(alloc, place)?;
+    for (text, wanted, want) in rows {
+        table.row(alloc, text, wanted, want)?;
+    }
+    table.finish(rt);
+    Ok(())
+}

@@ -1,0 +1,31 @@
+//! Texts of a program against what they are by the rules of the language, worked out by hand.
+#![tactic(auto)]
+
+#[cfg(test)]
+mod answer;
+#[cfg(test)]
+mod calls;
+#[cfg(test)]
+mod changes;
+#[cfg(test)]
+mod code;
+#[cfg(test)]
+mod fixture;
+#[cfg(test)]
+mod integers;
+#[cfg(test)]
+mod kinds;
+#[cfg(test)]
+mod literals;
+#[cfg(test)]
+mod markers;
+#[cfg(test)]
+mod names;
+#[cfg(test)]
+mod operators;
+#[cfg(test)]
+mod orders;
+#[cfg(test)]
+mod shown;
+#[cfg(test)]
+mod takings;
