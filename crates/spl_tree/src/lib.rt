@@ -9,8 +9,8 @@ mod symbol;
 mod token;
 
 pub use code::{
-    BinaryCode, BuiltIn, CallName, Code, IntegerOperator, Marker, OrderOperator, Slot, Taking,
-    UnaryCode,
+    BinaryCode, BuiltIn, CallName, Code, Function, Functions, IntegerOperator, Marker,
+    OrderOperator, Slot, Taking, UnaryCode,
 };
 pub use expression::{
     BinaryOperator, CastTarget, Entries, Expr, ExprKind, Exprs, Field, Fields, Placed, Prefix,
