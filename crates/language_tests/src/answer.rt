@@ -37,9 +37,9 @@ fn read(alloc: Global, text: &str) -> Result<Expr, &'static str> {
 }
 
 fn add_typed(shown: &mut Shown, typed: &Typed) {
-    add_kind(shown, &typed.kind);
+    add_kind(shown, typed.kind.get());
     shown.add(" | ");
-    add_code(shown, &typed.code);
+    add_code(shown, typed.code.get());
 }
 
 fn error(error: TypeError) -> &'static str {

@@ -1,5 +1,5 @@
 use spl_tree::{Code, Slot};
-use spl_value::{Items, Name, Schema, SplType};
+use spl_value::{Boxed, Items, Name, Schema, SplType};
 
 /// A variable that can be named.
 #[derive(Debug, Drop)]
@@ -36,11 +36,11 @@ pub struct Scope {
     pub punct: bool,
 }
 
-/// The type and the code of an expression.
+/// The type and the code of an expression, each in a box: both become parts of greater ones.
 #[derive(Debug, Drop)]
 pub struct Typed {
-    pub kind: SplType,
-    pub code: Code<Slot>,
+    pub kind: Boxed<SplType>,
+    pub code: Boxed<Code<Slot>>,
 }
 
 /// Why an expression has no type.

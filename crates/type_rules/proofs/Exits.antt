@@ -1,5 +1,5 @@
 -- What operators and calls come to, by what the calls in them came to.
-use Rattle.std.specs.Prelude.{◌≡◌, ℕ, List, ◌∷◌, Some, None, Ok, Err}
+use Rattle.std.specs.Prelude.{◌≡◌, ℕ, List, ◌∷◌, Some, None, Result, Ok, Err}
 use Rattle.std.proofs.Common.{refl, ap, sym, ◌∙◌}
 use Rattle.spl_value.specs.declared.types.SplType.{SplType}
 use Rattle.spl_value.specs.declared.types.SplType.TheViews.{out-SplType}
@@ -39,6 +39,6 @@ module _ (at : ℕ) (scope : Scope) (code : Code Slot) (rest : List Expr) (on : 
   pub first_stops : (a : TypeAnswer) → Finds (after (arguments_typed scope ts (parts rest)) (λ xs. Ok (code ∷ xs))) (Err a) → Finds (first_typed at scope code (parts rest) on) (Err a)
   first_stops a h = finds_by _ _ (Err a) first_is (stops _ _ a h)
 
-  pub first_done : (codes : List (Code Slot)) (x : Typed) → after (arguments_typed scope ts (parts rest)) (λ xs. Ok (code ∷ xs)) ≡ Ok codes → x ≡ typed t (C.BuiltIn built_in codes)
-      → first_typed at scope code (parts rest) on ≡ Ok x
-  first_done codes x h e = first_is ∙ ap (λ o. after o (λ xs. Ok (typed t (C.BuiltIn built_in xs)))) h ∙ ap Ok (sym e)
+  pub first_done : (codes : List (Code Slot)) (r : Result Typed TypeAnswer) → after (arguments_typed scope ts (parts rest)) (λ xs. Ok (code ∷ xs)) ≡ Ok codes
+      → Finds (Ok (typed t (C.BuiltIn built_in codes))) r → Finds (first_typed at scope code (parts rest) on) r
+  first_done codes r h q = finds_by _ _ r (first_is ∙ ap (λ o. after o (λ xs. Ok (typed t (C.BuiltIn built_in xs)))) h) q

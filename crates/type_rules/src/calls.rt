@@ -6,9 +6,10 @@ ghost use Rattle.stream_model.specs.Typing.{call_of, argument_count, level_first
 ghost use Rattle.type_rules.specs.Finds.{Finds};
 
 use crate::answer::{TypeAnswer, mismatch};
+use crate::boxing::boxed_copy;
 use crate::names::variable;
 use spl_tree::{BuiltIn, CallName, Code, Slot};
-use spl_value::{IntKind, Items, SplType, copy_type};
+use spl_value::{Boxed, IntKind, Items, SplType, copy_type};
 use std::alloc::Global;
 use stream_model::{Scope, Typed};
 
@@ -57,7 +58,7 @@ pub(crate) fn argument_count(call: CallName) -> usize
 
 /// What a call is on a first argument of a type, the type that it gives, and the types that the other
 /// arguments have to have.
-pub(crate) type OnFirst = Option<(BuiltIn, SplType, Items<SplType>)>;
+pub(crate) type OnFirst = Option<(BuiltIn, Boxed<SplType>, Items<SplType>)>;
 
 fn one_type(alloc: Global, kind: &SplType) -> Result<Items<SplType>, TypeAnswer>
     ensures { Finds (Ok (kind.now ∷ [])) result }
@@ -68,26 +69,30 @@ fn one_type(alloc: Global, kind: &SplType) -> Result<Items<SplType>, TypeAnswer>
 }
 
 /// A smaller or larger one of two values of a type that has an order.
-fn on_ordered(alloc: Global, call: BuiltIn, kind: SplType) -> Result<OnFirst, TypeAnswer>
+fn on_ordered(alloc: Global, call: BuiltIn, kind: Boxed<SplType>) -> Result<OnFirst, TypeAnswer>
     ensures { Finds (Ok (Some (call, kind, kind ∷ []))) result }
 {
-    let others = one_type(alloc, &kind)?;
+    let others = one_type(alloc, kind.get())?;
     Ok(Some((call, kind, others)))
 }
 
 /// What a call is on a first argument of a type, or nothing where it isn't on one of its class.
-pub(crate) fn on_first(alloc: Global, call: CallName, kind: SplType) -> Result<OnFirst, TypeAnswer>
+pub(crate) fn on_first(
+    alloc: Global,
+    call: CallName,
+    kind: Boxed<SplType>,
+) -> Result<OnFirst, TypeAnswer>
     ensures { Finds (Ok (level_first call kind (out-SplType kind))) result }
 {
-    match (call, &kind) {
-        (CallName::Size, SplType::List(_) | SplType::Map(_, _)) => Ok(Some((
-            BuiltIn::Size,
-            SplType::Int(IntKind::I32),
-            Items::new(alloc),
-        ))),
+    match (call, kind.get()) {
+        (CallName::Size, SplType::List(_) | SplType::Map(_, _)) => {
+            let kind = Boxed::new(alloc, SplType::Int(IntKind::I32))?;
+            Ok(Some((BuiltIn::Size, kind, Items::new(alloc))))
+        }
         (CallName::Has, SplType::Map(key, _)) => {
             let others = one_type(alloc, key.get())?;
-            Ok(Some((BuiltIn::Has, SplType::Bool, others)))
+            let kind = Boxed::new(alloc, SplType::Bool)?;
+            Ok(Some((BuiltIn::Has, kind, others)))
         }
         (CallName::Abs, SplType::Int(number)) => {
             Ok(Some((BuiltIn::Abs(*number), kind, Items::new(alloc))))
@@ -107,7 +112,7 @@ pub(crate) fn on_changed(
 ) -> Result<Option<Items<SplType>>, TypeAnswer>
     ensures { Finds (Ok (level_changed call (out-SplType first.kind))) result }
 {
-    match (call, &first.kind) {
+    match (call, first.kind.get()) {
         (CallName::AppendM, SplType::List(element)) => Ok(Some(one_type(alloc, element.get())?)),
         (CallName::RemoveM, SplType::Map(key, _)) => Ok(Some(one_type(alloc, key.get())?)),
         (CallName::ClearM, SplType::List(_) | SplType::Map(_, _)) => Ok(Some(Items::new(alloc))),
@@ -130,13 +135,13 @@ pub(crate) fn value_given(
     alloc: Global,
     at: u32,
     kind: Option<&SplType>,
-    code: Code<Slot>,
+    code: Boxed<Code<Slot>>,
 ) -> Result<Typed, TypeAnswer>
     ensures { Finds (value_given at (option_copied kind.entry) code) result }
 {
     match kind {
         Some(kind) => {
-            let kind = copy_type(alloc, kind)?;
+            let kind = boxed_copy(alloc, kind)?;
             Ok(Typed { kind, code })
         }
         None => Err(mismatch(at)),

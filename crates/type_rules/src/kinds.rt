@@ -13,7 +13,7 @@ ghost use Rattle.stream_model.specs.TypingLaws.{field_parts};
 use crate::answer::{TypeAnswer, mismatch};
 use crate::names::attribute;
 use spl_tree::{BinaryCode, Code, Expr, Field, Slot};
-use spl_value::{Attribute, IntKind, Schema, SplType, same_type};
+use spl_value::{Attribute, Boxed, IntKind, Schema, SplType, same_type};
 use stream_model::Typed;
 
 /// Whether two types are the same.
@@ -34,7 +34,7 @@ pub(crate) fn as_wanted(
     match wanted {
         None => Ok(typed),
         Some(kind) => {
-            if is_same(&typed.kind, kind) {
+            if is_same(typed.kind.get(), kind) {
                 Ok(typed)
             } else {
                 Err(mismatch(at))
@@ -88,10 +88,10 @@ fn integer_of(kind: &SplType) -> Option<IntKind>
 }
 
 /// The code of an index at its place: it has to be an integer, of any type.
-pub(crate) fn index_typed(at: u32, index: Typed) -> Result<Code<Slot>, TypeAnswer>
+pub(crate) fn index_typed(at: u32, index: Typed) -> Result<Boxed<Code<Slot>>, TypeAnswer>
     ensures { Finds (level_index at index.code (out-SplType index.kind)) result }
 {
-    match integer_of(&index.kind) {
+    match integer_of(index.kind.get()) {
         Some(_) => Ok(index.code),
         None => Err(mismatch(at)),
     }

@@ -2,6 +2,7 @@
 #![tactic(auto)]
 
 mod answer;
+mod boxing;
 mod calls;
 mod forms;
 mod kinds;

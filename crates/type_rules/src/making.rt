@@ -8,9 +8,10 @@ ghost use Rattle.stream_model.specs.Typing.{typed, number_typed, member_typed, s
 ghost use Rattle.type_rules.specs.Finds.{Finds};
 
 use crate::answer::{TypeAnswer, mismatch, narrow, unknown};
+use crate::boxing::{boxed, boxed_copy};
 use crate::names::{attribute, slot_typed};
 use spl_tree::{BuiltIn, Code, Number, Placed, Slot, Taking};
-use spl_value::{Boxed, Bytes, Items, Name, Schema, SplType, Value, copy_type, is_of_kind};
+use spl_value::{Boxed, Bytes, Items, Name, Schema, SplType, Value, is_of_kind};
 use std::alloc::Global;
 use stream_model::{Port, Typed};
 
@@ -26,20 +27,19 @@ pub(crate) type FieldCodes = Items<(u32, Code<Slot>)>;
 /// What is taken in turn.
 pub(crate) type Takings = Items<Taking<Code<Slot>>>;
 
-pub(crate) fn literal(kind: SplType, value: Value) -> Typed
-    ensures { result ≡ typed kind (C.Literal value) }
+pub(crate) fn literal(alloc: Global, kind: SplType, value: Value) -> Result<Typed, TypeAnswer>
+    ensures { Finds (Ok (typed kind (C.Literal value))) result }
 {
-    let code = Code::Literal(value);
-    Typed { kind, code }
+    boxed(alloc, kind, Code::Literal(value))
 }
 
 /// A number at its place. It has to be one of its type.
-pub(crate) fn number_typed(at: u32, number: Number) -> Result<Typed, TypeAnswer>
+pub(crate) fn number_typed(alloc: Global, at: u32, number: Number) -> Result<Typed, TypeAnswer>
     ensures { Finds (number_typed at number) result }
 {
     let value = i128::from(number.value);
     if is_of_kind(number.kind, value) {
-        Ok(literal(SplType::Int(number.kind), Value::Int(value)))
+        literal(alloc, SplType::Int(number.kind), Value::Int(value))
     } else {
         Err(mismatch(at))
     }
@@ -49,37 +49,38 @@ pub(crate) fn text(alloc: Global, bytes: &Bytes) -> Result<Typed, TypeAnswer>
     ensures { Finds (Ok (typed S.Text (C.Literal (V.Text bytes.now)))) result }
 {
     let bytes = Items::from_slice(alloc, bytes.as_slice())?;
-    Ok(literal(SplType::Text, Value::Text(bytes)))
+    literal(alloc, SplType::Text, Value::Text(bytes))
 }
 
-pub(crate) fn list_of(alloc: Global, kind: SplType, codes: Codes) -> Result<Typed, TypeAnswer>
+pub(crate) fn list_of(
+    alloc: Global,
+    kind: Boxed<SplType>,
+    codes: Codes,
+) -> Result<Typed, TypeAnswer>
     ensures { Finds (Ok (typed (S.List kind) (C.List codes))) result }
 {
-    let kind = SplType::List(Boxed::new(alloc, kind)?);
-    let code = Code::List(codes);
-    Ok(Typed { kind, code })
+    boxed(alloc, SplType::List(kind), Code::List(codes))
 }
 
 pub(crate) fn map_of(
     alloc: Global,
-    key: SplType,
-    value: SplType,
+    key: Boxed<SplType>,
+    value: Boxed<SplType>,
     codes: EntryCodes,
 ) -> Result<Typed, TypeAnswer>
     ensures { Finds (Ok (typed (S.Map key value) (C.Map codes))) result }
 {
-    let kind = SplType::Map(Boxed::new(alloc, key)?, Boxed::new(alloc, value)?);
-    let code = Code::Map(codes);
-    Ok(Typed { kind, code })
+    boxed(alloc, SplType::Map(key, value), Code::Map(codes))
 }
 
-pub(crate) fn tuple_of(schema: Schema, codes: FieldCodes) -> Typed
-    ensures { result ≡ typed (S.Tuple schema) (C.Tuple codes) }
+pub(crate) fn tuple_of(
+    alloc: Global,
+    schema: Schema,
+    codes: FieldCodes,
+) -> Result<Typed, TypeAnswer>
+    ensures { Finds (Ok (typed (S.Tuple schema) (C.Tuple codes))) result }
 {
-    Typed {
-        kind: SplType::Tuple(schema),
-        code: Code::Tuple(codes),
-    }
+    boxed(alloc, SplType::Tuple(schema), Code::Tuple(codes))
 }
 
 /// The attribute of the member's name.
@@ -87,14 +88,15 @@ pub(crate) fn member_of(
     alloc: Global,
     schema: &Schema,
     member: &Placed<Name>,
-) -> Result<(Taking<Code<Slot>>, SplType), TypeAnswer>
+) -> Result<(Taking<Code<Slot>>, Boxed<SplType>), TypeAnswer>
     ensures { Finds (member_typed member.now.at member.now.what (attribute_of schema.now member.now.what)) result }
 {
     let name = member.what.as_slice();
     match attribute(schema.as_slice(), name) {
         Some((place, found)) => {
-            let taking = Taking::Member(narrow(place)?);
-            Ok((taking, copy_type(alloc, &found.kind)?))
+            let place = narrow(place)?;
+            let kind = boxed_copy(alloc, &found.kind)?;
+            Ok((Taking::Member(place), kind))
         }
         None => Err(unknown(alloc, member.at, name)),
     }
@@ -102,15 +104,15 @@ pub(crate) fn member_of(
 
 pub(crate) fn select(
     alloc: Global,
-    base: Code<Slot>,
+    base: Boxed<Code<Slot>>,
     takings: Takings,
-) -> Result<Code<Slot>, TypeAnswer>
+) -> Result<Boxed<Code<Slot>>, TypeAnswer>
     ensures { Finds (Ok (selected base takings)) result }
 {
     if takings.is_empty() {
         return Ok(base);
     }
-    Ok(Code::Select(Boxed::new(alloc, base)?, takings))
+    Ok(Boxed::new(alloc, Code::Select(base, takings))?)
 }
 
 /// The attribute of the member's name, of the port at a place.
@@ -127,18 +129,23 @@ pub(crate) fn of_port(
         Some((attribute, found)) => {
             let port = narrow(place)?;
             let attribute = narrow(attribute)?;
-            let kind = copy_type(alloc, &found.kind)?;
-            Ok(slot_typed(kind, Slot::Attribute { port, attribute }))
+            let kind = boxed_copy(alloc, &found.kind)?;
+            slot_typed(alloc, kind, Slot::Attribute { port, attribute })
         }
         None => Err(unknown(alloc, member.at, name)),
     }
 }
 
-pub(crate) fn call_typed(call: BuiltIn, kind: SplType, codes: Codes) -> Typed
-    ensures { result ≡ typed kind (C.BuiltIn call codes) }
+pub(crate) fn call_typed(
+    alloc: Global,
+    call: BuiltIn,
+    kind: Boxed<SplType>,
+    codes: Codes,
+) -> Result<Typed, TypeAnswer>
+    ensures { Finds (Ok (typed kind (C.BuiltIn call codes))) result }
 {
-    let code = Code::BuiltIn(call, codes);
-    Typed { kind, code }
+    let code = Boxed::new(alloc, Code::BuiltIn(call, codes))?;
+    Ok(Typed { kind, code })
 }
 
 /// The code alone.
@@ -146,22 +153,20 @@ pub(crate) fn code_of(typed: Typed) -> Code<Slot>
     ensures { result ≡ typed.code }
 {
     let Typed { code, .. } = typed;
-    code
+    code.into_inner()
 }
 
 /// A conditional, of the type of its first branch.
 pub(crate) fn chosen(
     alloc: Global,
-    condition: Code<Slot>,
+    condition: Typed,
     first: Typed,
-    second: Code<Slot>,
+    second: Typed,
 ) -> Result<Typed, TypeAnswer>
-    ensures { Finds (Ok (typed first.kind (C.Conditional condition first.code second))) result }
+    ensures { Finds (Ok (typed first.kind (C.Conditional condition.code first.code second.code))) result }
 {
     let Typed { kind, code } = first;
-    let condition = Boxed::new(alloc, condition)?;
-    let first = Boxed::new(alloc, code)?;
-    let second = Boxed::new(alloc, second)?;
-    let code = Code::Conditional(condition, first, second);
+    let code = Code::Conditional(condition.code, code, second.code);
+    let code = Boxed::new(alloc, code)?;
     Ok(Typed { kind, code })
 }

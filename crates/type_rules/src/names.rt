@@ -1,5 +1,5 @@
 //! What the names of an expression stand for.
-ghost use Rattle.std.specs.Prelude.{◌≡◌, ◌≤◌, length};
+ghost use Rattle.std.specs.Prelude.{◌≡◌, ◌≤◌, length, Ok};
 ghost use Rattle.stream_model.specs.Scopes.{variable_of, attribute_of, port_of, function_of, meant};
 ghost use Rattle.spl_tree.specs.declared.code.Code.TheVariants as C;
 ghost use Rattle.stream_model.specs.Typing.{meant_typed, typed};
@@ -7,8 +7,9 @@ ghost use Rattle.type_rules.specs.Finds.{Points, Finds};
 ghost use Rattle.type_rules.specs.Names.{Holds, Means};
 
 use crate::answer::{TypeAnswer, narrow, unknown};
+use crate::boxing::boxed_copy;
 use spl_tree::{Code, Slot};
-use spl_value::{Attribute, SplType, copy_schema, copy_type};
+use spl_value::{Attribute, Boxed, SplType, copy_schema};
 use std::alloc::Global;
 use stream_model::{Port, Scope, Signature, Typed, Variable};
 
@@ -111,13 +112,15 @@ pub(crate) fn meaning_of<'s>(scope: &'s Scope, name: &[u8]) -> Meaning<'s>
 }
 
 /// A name of that type.
-pub(crate) fn slot_typed(kind: SplType, slot: Slot) -> Typed
-    ensures { result ≡ typed kind (C.Name slot) }
+pub(crate) fn slot_typed(
+    alloc: Global,
+    kind: Boxed<SplType>,
+    slot: Slot,
+) -> Result<Typed, TypeAnswer>
+    ensures { Finds (Ok (typed kind (C.Name slot))) result }
 {
-    Typed {
-        kind,
-        code: Code::Name(slot),
-    }
+    let code = Boxed::new(alloc, Code::Name(slot))?;
+    Ok(Typed { kind, code })
 }
 
 /// The type and the code of a name at its place in the program.
@@ -131,19 +134,21 @@ pub(crate) fn name_typed(
 {
     match meaning_of(scope, name) {
         Meaning::Variable(place, variable) => {
-            let kind = copy_type(alloc, &variable.kind)?;
-            Ok(slot_typed(kind, Slot::Variable(narrow(place)?)))
+            let place = narrow(place)?;
+            let kind = boxed_copy(alloc, &variable.kind)?;
+            slot_typed(alloc, kind, Slot::Variable(place))
         }
         Meaning::Attribute(port, place, found) => {
-            let kind = copy_type(alloc, &found.kind)?;
             let port = narrow(port)?;
             let attribute = narrow(place)?;
-            Ok(slot_typed(kind, Slot::Attribute { port, attribute }))
+            let kind = boxed_copy(alloc, &found.kind)?;
+            slot_typed(alloc, kind, Slot::Attribute { port, attribute })
         }
         Meaning::Port(place, port) => {
+            let place = narrow(place)?;
             let schema = copy_schema(alloc, port.schema.as_slice())?;
-            let slot = Slot::Port(narrow(place)?);
-            Ok(slot_typed(SplType::Tuple(schema), slot))
+            let kind = Boxed::new(alloc, SplType::Tuple(schema))?;
+            slot_typed(alloc, kind, Slot::Port(place))
         }
         Meaning::Nothing => Err(unknown(alloc, at, name)),
     }

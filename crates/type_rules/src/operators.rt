@@ -2,7 +2,7 @@
 ghost use Rattle.std.specs.Prelude.{◌≡◌, drop, reverse, Ok};
 ghost use Rattle.spl_tree.specs.declared.code.Code.TheVariants as C;
 ghost use Rattle.spl_value.specs.declared.types.SplType.TheViews.{out-SplType};
-ghost use Rattle.stream_model.specs.Typing.{integer_operator, order_operator, on_integers, ordering_of, or_else, level_operator, level_prefix, level_in, prefixes_at, prefixes_typed};
+ghost use Rattle.stream_model.specs.Typing.{integer_operator, order_operator, on_integers, ordering_of, or_else, level_operator, level_prefix, level_in, prefixes_at, prefixes_typed, typed};
 ghost use Rattle.type_rules.specs.Finds.{Finds};
 
 use crate::answer::{TypeAnswer, mismatch};
@@ -124,8 +124,8 @@ pub(crate) fn prefixes_on(
     alloc: Global,
     prefixes: &[Prefix],
     operand: u32,
-    kind: SplType,
-) -> Result<(Items<UnaryCode>, SplType), TypeAnswer>
+    kind: Boxed<SplType>,
+) -> Result<(Items<UnaryCode>, Boxed<SplType>), TypeAnswer>
     ensures { Finds (prefixes_typed prefixes.now operand kind) result }
 {
     let mut codes = Items::new(alloc);
@@ -135,11 +135,11 @@ pub(crate) fn prefixes_on(
         let begin = begin(prefixes, at, operand);
         at -= 1;
         let prefix = &prefixes[at];
-        let Some((code, given)) = prefix_on(prefix.what, &kind) else {
+        let Some((code, given)) = prefix_on(prefix.what, kind.get()) else {
             return Err(mismatch(begin));
         };
+        kind = Boxed::new(alloc, given)?;
         codes.push(code)?;
-        kind = given;
     }
     Ok((outermost_first(codes), kind))
 }
@@ -154,26 +154,26 @@ pub(crate) fn in_typed(
 ) -> Result<Typed, TypeAnswer>
     ensures { Finds (level_in left right.code at (out-SplType right.kind)) result }
 {
-    let Some((code, held)) = held_of(&right.kind) else {
+    let Some((code, held)) = held_of(right.kind.get()) else {
         return Err(mismatch(at));
     };
-    if !is_same(&left.kind, held) {
+    if !is_same(left.kind.get(), held) {
         return Err(mismatch(at));
     }
-    let code = binary(alloc, code, left.code, right.code)?;
-    let kind = SplType::Bool;
-    Ok(Typed { kind, code })
+    let kind = Boxed::new(alloc, SplType::Bool)?;
+    binary(alloc, kind, code, left, right)
 }
 
+/// An operator of two operands, with the type that it gives.
 pub(crate) fn binary(
     alloc: Global,
+    kind: Boxed<SplType>,
     operator: BinaryCode,
-    left: Code<Slot>,
-    right: Code<Slot>,
-) -> Result<Code<Slot>, TypeAnswer>
-    ensures { Finds (Ok (C.Binary operator left right)) result }
+    left: Typed,
+    right: Typed,
+) -> Result<Typed, TypeAnswer>
+    ensures { Finds (Ok (typed kind (C.Binary operator left.code right.code))) result }
 {
-    let left = Boxed::new(alloc, left)?;
-    let right = Boxed::new(alloc, right)?;
-    Ok(Code::Binary(operator, left, right))
+    let code = Boxed::new(alloc, Code::Binary(operator, left.code, right.code))?;
+    Ok(Typed { kind, code })
 }

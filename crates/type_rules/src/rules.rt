@@ -9,6 +9,7 @@ ghost use Rattle.stream_model.specs.TypingLaws.{parted, parts, entry_parts, fiel
 ghost use Rattle.type_rules.specs.Finds.{Finds, with_front};
 
 use crate::answer::{TypeAnswer, mismatch, narrow, not_mutable, unknown, wrong_call};
+use crate::boxing::{boxed, boxed_copy};
 use crate::calls::{argument_count, call_named, is_mutable, on_changed, on_first, value_given};
 use crate::forms::{asks, marker, marker_test, port_member, root_name};
 use crate::kinds::{
@@ -23,7 +24,7 @@ use crate::operators::{binary, in_typed, operator_on, prefixes_on};
 use spl_tree::{
     BinaryOperator, BuiltIn, CallName, Code, Expr, ExprKind, Field, Prefix, Slot, Step, Taking,
 };
-use spl_value::{Boxed, IntKind, Items, Named, Schema, SplType, Value, copy_schema, copy_type};
+use spl_value::{Boxed, IntKind, Items, Named, Schema, SplType, Value, copy_schema};
 use std::alloc::Global;
 use stream_model::{Scope, Typed};
 
@@ -73,9 +74,9 @@ fn type_at(
         }
         ExprKind::Dollar(name) => return Err(unknown(alloc, at, name.as_slice())),
         ExprKind::Name(name) => name_typed(alloc, scope, at, name.as_slice())?,
-        ExprKind::Number(number) => number_typed(at, *number)?,
+        ExprKind::Number(number) => number_typed(alloc, at, *number)?,
         ExprKind::Text(bytes) => text(alloc, bytes)?,
-        ExprKind::Bool(b) => literal(SplType::Bool, Value::Bool(*b)),
+        ExprKind::Bool(b) => literal(alloc, SplType::Bool, Value::Bool(*b))?,
         ExprKind::Call(name, arguments) => {
             call(alloc, scope, at, name.as_slice(), arguments.as_slice())?
         }
@@ -126,7 +127,7 @@ fn list(
         return Err(mismatch(at));
     };
     let codes = elements(alloc, scope, element, all, Items::new(alloc))?;
-    list_of(alloc, copy_type(alloc, element)?, codes)
+    list_of(alloc, boxed_copy(alloc, element)?, codes)
 }
 
 /// A list from which no type is wanted: its elements have the first one's.
@@ -139,8 +140,8 @@ fn own_list(alloc: Global, scope: &Scope, at: u32, all: &[Expr]) -> Result<Typed
     };
     let Typed { kind, code } = type_at(alloc, scope, first, None)?;
     let mut front = Items::new(alloc);
-    front.push(code)?;
-    let codes = elements(alloc, scope, &kind, rest, front)?;
+    front.push(code.into_inner())?;
+    let codes = elements(alloc, scope, kind.get(), rest, front)?;
     list_of(alloc, kind, codes)
 }
 
@@ -182,8 +183,8 @@ fn map(
         return Err(mismatch(at));
     };
     let codes = entries(alloc, scope, key, value, all, Items::new(alloc))?;
-    let key = copy_type(alloc, key)?;
-    map_of(alloc, key, copy_type(alloc, value)?, codes)
+    let key = boxed_copy(alloc, key)?;
+    map_of(alloc, key, boxed_copy(alloc, value)?, codes)
 }
 
 /// A map from which no type is wanted: its keys and values have the first ones' types.
@@ -197,8 +198,8 @@ fn own_map(alloc: Global, scope: &Scope, at: u32, all: &[(Expr, Expr)]) -> Resul
     let key = type_at(alloc, scope, &first.0, None)?;
     let value = type_at(alloc, scope, &first.1, None)?;
     let mut front = Items::new(alloc);
-    front.push((key.code, value.code))?;
-    let codes = entries(alloc, scope, &key.kind, &value.kind, rest, front)?;
+    front.push((key.code.into_inner(), value.code.into_inner()))?;
+    let codes = entries(alloc, scope, key.kind.get(), value.kind.get(), rest, front)?;
     map_of(alloc, key.kind, value.kind, codes)
 }
 
@@ -238,8 +239,12 @@ fn own_fields(
     for (place, field) in fields.iter().enumerate() {
         let Typed { kind, code } = type_at(alloc, scope, &field.value, None)?;
         let name = Items::from_slice(alloc, field.name.what.as_slice())?;
-        schema.push(Named { name, kind })?;
-        codes.push((narrow(place)?, code))?;
+        let place = narrow(place)?;
+        schema.push(Named {
+            name,
+            kind: kind.into_inner(),
+        })?;
+        codes.push((place, code.into_inner()))?;
     }
     Ok((schema, codes))
 }
@@ -264,7 +269,7 @@ fn tuple(
         return Err(mismatch(at));
     }
     let codes = fields(alloc, scope, schema, all)?;
-    Ok(tuple_of(copy_schema(alloc, schema.as_slice())?, codes))
+    tuple_of(alloc, copy_schema(alloc, schema.as_slice())?, codes)
 }
 
 /// A tuple from which no type is wanted: its attributes are its fields.
@@ -281,7 +286,7 @@ fn own_tuple(
         return Err(mismatch(at));
     }
     let (schema, codes) = own_fields(alloc, scope, all)?;
-    Ok(tuple_of(schema, codes))
+    tuple_of(alloc, schema, codes)
 }
 
 /// What a step takes of a value of a type, whose expression begins at `base`, and the type of that.
@@ -292,7 +297,7 @@ fn step(
     base: u32,
     kind: &SplType,
     step: &Step<Expr>,
-) -> Result<(Taking<Code<Slot>>, SplType), TypeAnswer>
+) -> Result<(Taking<Code<Slot>>, Boxed<SplType>), TypeAnswer>
     ensures { Finds (level_step base scope.now (out-SplType kind.now) (step_part step.now)) result }
 {
     match step {
@@ -304,13 +309,14 @@ fn step(
             if let Some(element) = element_of(kind) {
                 let typed = type_at(alloc, scope, index, None)?;
                 let code = index_typed(index.at, typed)?;
-                return Ok((Taking::Element(code), copy_type(alloc, element)?));
+                let element = boxed_copy(alloc, element)?;
+                return Ok((Taking::Element(code.into_inner()), element));
             }
             let Some((key, value)) = pair_of(kind) else {
                 return Err(mismatch(base));
             };
             let typed = type_at(alloc, scope, index, Some(key))?;
-            let value = copy_type(alloc, value)?;
+            let value = boxed_copy(alloc, value)?;
             Ok((Taking::AtKey(code_of(typed)), value))
         }
     }
@@ -330,14 +336,12 @@ fn taken(
     let Typed { mut kind, code } = first;
     let mut takings = Items::new(alloc);
     for next in steps {
-        let (taking, given) = step(alloc, scope, base, &kind, next)?;
+        let (taking, given) = step(alloc, scope, base, kind.get(), next)?;
         takings.push(taking)?;
         kind = given;
     }
-    Ok(Typed {
-        kind,
-        code: select(alloc, code, takings)?,
-    })
+    let code = select(alloc, code, takings)?;
+    Ok(Typed { kind, code })
 }
 
 /// What is taken of an expression in turn. `Port.attribute` is the attribute.
@@ -369,7 +373,7 @@ fn unary(
 {
     let Typed { kind, code } = type_at(alloc, scope, operand, None)?;
     let (codes, kind) = prefixes_on(alloc, prefixes, operand.at, kind)?;
-    let code = Code::Unary(codes, Boxed::new(alloc, code)?);
+    let code = Boxed::new(alloc, Code::Unary(codes, code))?;
     Ok(Typed { kind, code })
 }
 
@@ -385,8 +389,7 @@ fn operation(
 {
     let asks = scope.punct && asks(left);
     if let Some(code) = marker_test(asks, operator, marker(right)) {
-        let kind = SplType::Bool;
-        return Ok(Typed { kind, code });
+        return boxed(alloc, SplType::Bool, code);
     }
     operands(alloc, scope, operator, left, right)
 }
@@ -423,12 +426,12 @@ fn same_operands(
 ) -> Result<Typed, TypeAnswer>
     ensures { Finds (operands_typed scope.now first (parted left.now) (parted right.now) (level_operator operator (out-SplType first.kind))) result }
 {
-    let Some((operator, kind)) = operator_on(operator, &first.kind) else {
+    let Some((operator, kind)) = operator_on(operator, first.kind.get()) else {
         return Err(mismatch(left.at));
     };
-    let second = type_at(alloc, scope, right, Some(&first.kind))?;
-    let code = binary(alloc, operator, code_of(first), code_of(second))?;
-    Ok(Typed { kind, code })
+    let kind = Boxed::new(alloc, kind)?;
+    let second = type_at(alloc, scope, right, Some(first.kind.get()))?;
+    binary(alloc, kind, operator, first, second)
 }
 
 #[cycle(types)]
@@ -444,8 +447,8 @@ fn conditional(
 {
     let test = type_at(alloc, scope, condition, Some(&SplType::Bool))?;
     let one = type_at(alloc, scope, first, wanted)?;
-    let other = second_branch(alloc, scope, second, wanted, &one.kind)?;
-    chosen(alloc, code_of(test), one, code_of(other))
+    let other = second_branch(alloc, scope, second, wanted, one.kind.get())?;
+    chosen(alloc, test, one, other)
 }
 
 /// The second branch of a conditional: it has to be of the wanted type, or else of the first one's.
@@ -525,7 +528,8 @@ fn function_call(
         return Err(wrong_call(at));
     }
     let codes = arguments(alloc, scope, kinds, all, Items::new(alloc))?;
-    let code = Code::Call(narrow(place)?, codes);
+    let place = narrow(place)?;
+    let code = Boxed::new(alloc, Code::Call(place, codes))?;
     value_given(alloc, at, found.result.as_ref(), code)
 }
 
@@ -542,8 +546,8 @@ fn built_in(
     match call {
         CallName::Length => {
             let codes = arguments(alloc, scope, &[SplType::Text], all, Items::new(alloc))?;
-            let kind = SplType::Int(IntKind::I32);
-            Ok(call_typed(BuiltIn::Length, kind, codes))
+            let kind = Boxed::new(alloc, SplType::Int(IntKind::I32))?;
+            call_typed(alloc, BuiltIn::Length, kind, codes)
         }
         CallName::Substring => {
             let kinds = &[
@@ -552,7 +556,8 @@ fn built_in(
                 SplType::Int(IntKind::I32),
             ];
             let codes = arguments(alloc, scope, kinds, all, Items::new(alloc))?;
-            Ok(call_typed(BuiltIn::Substring, SplType::Text, codes))
+            let kind = Boxed::new(alloc, SplType::Text)?;
+            call_typed(alloc, BuiltIn::Substring, kind, codes)
         }
         CallName::AppendM | CallName::RemoveM | CallName::ClearM => {
             let Some((first, rest)) = all.split_first() else {
@@ -602,7 +607,7 @@ fn with_first(
     match on_first(alloc, call, kind)? {
         Some((call, kind, kinds)) => {
             let codes = others(alloc, scope, &kinds, code, rest)?;
-            Ok(call_typed(call, kind, codes))
+            call_typed(alloc, call, kind, codes)
         }
         None => Err(wrong_call(at)),
     }
@@ -615,13 +620,13 @@ fn others(
     alloc: Global,
     scope: &Scope,
     kinds: &Items<SplType>,
-    first: Code<Slot>,
+    first: Boxed<Code<Slot>>,
     rest: &[Expr],
 ) -> Result<Codes, TypeAnswer>
     ensures { Finds (after (arguments_typed scope.now kinds.now (parts rest.now)) (λ xs. Ok (first ∷ xs))) result }
 {
     let mut front = Items::new(alloc);
-    front.push(first)?;
+    front.push(first.into_inner())?;
     arguments(alloc, scope, kinds.as_slice(), rest, front)
 }
 

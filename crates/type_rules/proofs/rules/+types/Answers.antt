@@ -1,7 +1,7 @@
 use Rattle.spl_value.specs.declared.types.SplType.TheViews.{out-SplType}
 use Rattle.std.proofs.Common.{Ok, Some, [], ap, arith, sym, ◌++◌, ◌∙◌, ◌∷◌}
-use Rattle.stream_model.specs.Typing.{after, elements_typed, entries_typed, first_typed, level_first, typed, typing}
-use Rattle.stream_model.specs.TypingLaws.{entry_parts, parted, parts}
+use Rattle.stream_model.specs.Typing.{after, elements_typed, entries_typed, first_typed, level_first, level_step, typed, typing}
+use Rattle.stream_model.specs.TypingLaws.{entry_parts, parted, parts, step_part}
 use Rattle.type_rules.proofs.Exits.{first_done, first_stops, same_operands}
 use Rattle.type_rules.proofs.Loops.{arguments_on, arguments_past, element, elements_row, entries_row, entry, kinds_past, row_on, row_past, taken_on, taken_past}
 use Rattle.type_rules.proofs.Steps.{fails, finds_by, goes}
@@ -32,11 +32,12 @@ entries-returns t c =
 
 pub taken-loop-next-preserved : goal.taken-loop-next-preserved
 taken-loop-next-preserved t c =
-    c.loop-next.invariant ∙ taken_on c.args.scope.now c.args.base _ c.loop-next.kind c.args.steps.now c.loop-next.next-index c.loop-next.takings c.next-item.result c.loop-next-test.true c.next-item.is c.in_ok-taking.taking c.in_ok-taking.given c.push.new.self c.in_ok-taking.ensures c.in_ok-push.ensures.ok
+    c.loop-next.invariant ∙ taken_on c.args.scope.now c.args.base _ c.loop-next.kind c.args.steps.now c.loop-next.next-index c.loop-next.takings c.next-item.result c.loop-next-test.true c.next-item.is c.in_ok-taking.taking c.in_ok-taking.given c.push.new.self
+    (ap (λ t. level_step c.args.base c.args.scope.now (out-SplType t) (step_part c.next-item.result)) (sym c.get.ensures) ∙ c.in_ok-taking.ensures) c.in_ok-push.ensures.ok
 
 pub taken-returns : goal.taken-returns
 taken-returns t c =
-    c.loop-next.invariant ∙ taken_past c.args.scope.now c.args.base _ c.loop-next.kind c.args.steps.now c.loop-next.next-index c.loop-next.takings c.loop-next-test.false ∙ ap (λ o. after o (λ k. Ok (typed c.loop-next.kind k))) c.in_ok-select.ensures
+    c.loop-next.invariant ∙ taken_past c.args.scope.now c.args.base _ c.loop-next.kind c.args.steps.now c.loop-next.next-index c.loop-next.takings c.loop-next-test.false ∙ ap (λ o. after o (λ k. Ok (typed c.loop-next.kind k))) c.in_ok-code.ensures
 
 pub arguments-arguments-preserved : goal.arguments-arguments-preserved
 arguments-arguments-preserved t c =

@@ -28,7 +28,7 @@ invariant-own_fields-loop-place l =
 abbrev pub invariant-taken-loop-next : goal.invariant-taken-loop-next
 invariant-taken-loop-next l =
     select_typed l.base l.scope l.fn.first (step_parts l.steps)
-    ≡ after (steps_typed l.base l.scope l.kind (step_parts (drop l.next-index l.steps))) (λ xs. Ok (typed xs.1 (selected l.code (l.takings ++ xs.0))))
+    ≡ after (steps_typed l.base l.scope l.kind (step_parts (drop l.next-index l.steps))) (λ xs. Ok (typed xs.1 (selected l.fn.first.code (l.takings ++ xs.0))))
 
 abbrev pub invariant-arguments-arguments : goal.invariant-arguments-arguments
 invariant-arguments-arguments l =

@@ -1,0 +1,27 @@
+//! Types and codes in boxes.
+ghost use Rattle.std.specs.Prelude.{◌≡◌, Ok};
+ghost use Rattle.stream_model.specs.Typing.{typed};
+ghost use Rattle.type_rules.specs.Finds.{Finds};
+
+use crate::answer::TypeAnswer;
+use spl_tree::{Code, Slot};
+use spl_value::{Boxed, SplType, copy_type};
+use std::alloc::Global;
+use stream_model::Typed;
+
+/// A copy of a type.
+pub(crate) fn boxed_copy(alloc: Global, kind: &SplType) -> Result<Boxed<SplType>, TypeAnswer>
+    ensures { Finds (Ok kind.now) result }
+{
+    let copy = copy_type(alloc, kind)?;
+    Ok(Boxed::new(alloc, copy)?)
+}
+
+/// A type and a code, made on their own.
+pub(crate) fn boxed(alloc: Global, kind: SplType, code: Code<Slot>) -> Result<Typed, TypeAnswer>
+    ensures { Finds (Ok (typed kind code)) result }
+{
+    let kind = Boxed::new(alloc, kind)?;
+    let code = Boxed::new(alloc, code)?;
+    Ok(Typed { kind, code })
+}
