@@ -3,7 +3,7 @@ use Rattle.std.specs.Prelude.{◌≡◌, ◌==◌, ◌&&◌, ℕ, suc, pos, nat_
 use Rattle.std.specs.List.{AllByRecursion, list_all}
 use Rattle.std.specs.Str.{bytes_eq}
 use Rattle.std.specs.Cmp.{first_so, second_so}
-use Rattle.std.proofs.Common.{refl, sym, ap, subst, ◌∙◌, arith}
+use Rattle.std.proofs.Common.{refl, sym, ap, subst, ◌∙◌, arith, inl, inr}
 use Rattle.std.proofs.lemmas.Bool.{eqb-true}
 use Rattle.std.proofs.lemmas.List.{append_assoc}
 use Rattle.spl_value.specs.declared.types.IntKind.{IntKind}
@@ -58,7 +58,7 @@ use Rattle.stream_model.specs.Typing.{Wanted, Found, after, mismatch, typed, as_
 use Rattle.stream_model.specs.CodeFits as F
 use Rattle.stream_model.specs.CodeFits.{CodeFits, SlotFits, ElementsFit, PairsFit, FieldsFit, ArgumentsFit, StepsLead, UnaryGives, UnariesGive, BinaryGives, BuiltInGives, OneEach}
 use Rattle.stream_model.specs.FitLaws.{FitLaw}
-use Rattle.stream_model.proofs.Standing.{Stands, first_stands, There, variable_there, attribute_there, port_there, function_there, FirstOf, attributes_there}
+use Rattle.stream_model.proofs.Standing.{Stands, first_stands, Bears, variable_there, attribute_there, port_there, function_there, InPorts, FirstOf, attributes_there}
 use Rattle.stream_model.proofs.Places.{AtNames, names_one_each, InRow, row_one_each}
 use Rattle.stream_model.proofs.SameTypes.{equal_from_same}
 use Rattle.stream_model.proofs.Wanting.{Gives, gives_after, gives_on, gives_both, gives_if, gives_from, Some_thing, gives_some, Meets, MeetsIn, rolled, Keeps, keeps, part_of, part_at}
@@ -95,21 +95,43 @@ after_fits at scope wanted r h = gives_after (Fits scope) (Fits scope) r (as_wan
 
 -- ---- names
 
-meant_fits : (scope : Scope) (at : ℕ) (name : List ℕ) (v : Option (At Variable)) (as' : List PortAttribute) (p : Option (At Port))
-    → There scope.vars v → FirstOf scope.ports 0 as' → There scope.ports p → Gives (Fits scope) (meant_typed at name (variable_meant v as' p))
-meant_fits scope at name (Some v) as' p h g f = F.name (L.Variable v.place) v.what.kind (F.variable v.place v.what h)
-meant_fits scope at name None [] None h g f = tt
-meant_fits scope at name None [] (Some p) h g f = F.name (L.Port p.place) (S.Tuple p.what.schema) (F.port p.place p.what f)
-meant_fits scope at name None (a ∷ []) p h g f =
-    let place : a.port ≡ g.0 = omega (arith, g.3) in
-    F.name (L.Attribute a.port a.attribute) a.kind
-    (subst (SlotFits scope (L.Attribute a.port a.attribute)) g.6 (F.attribute a.port a.attribute g.1 g.2 (ap (slice_get scope.ports) place ∙ g.4) g.5))
-meant_fits scope at name None (a ∷ b ∷ as') p h g f = tt
+-- what a name stands for has a slot that fits, and a port is what its own name stands for
+abbrev pub MeantFits : Scope → Meant → Type 0
+MeantFits scope (OfVariable v) = SlotFits scope (L.Variable v.place) v.what.kind
+MeantFits scope (OfAttribute a) = SlotFits scope (L.Attribute a.port a.attribute) a.kind
+MeantFits scope (OfPort p) = (slice_get scope.ports p.place ≡ Some p.what) × (meant scope p.what.name ≡ OfPort p)
+MeantFits scope Nothing = Unit {0}
+
+attribute_fits : (scope : Scope) (name : List ℕ) (a : PortAttribute) → meant scope name ≡ OfAttribute a → InPorts scope.ports 0 name a → MeantFits scope (OfAttribute a)
+attribute_fits scope name a is h =
+    let place : a.port ≡ h.later = omega (arith, h.place) in
+    let kind : OfAttribute a ≡ OfAttribute (record { port = a.port; attribute = a.attribute; kind = h.attribute.kind }) = ap (λ k. OfAttribute (record a { kind = k })) (sym h.kind) in
+    subst (SlotFits scope (L.Attribute a.port a.attribute)) h.kind
+    (F.attribute a.port a.attribute h.port h.attribute (ap (slice_get scope.ports) place ∙ h.port_is) h.attribute_is
+    (ap (attribute_of h.port.schema) h.named ∙ h.first) (inl (ap (meant scope) h.named ∙ is ∙ kind)))
+
+meant_there : (scope : Scope) (name : List ℕ) (v : Option (At Variable)) (as' : List PortAttribute) (p : Option (At Port)) → variable_of scope name ≡ v
+    → meant scope name ≡ variable_meant v as' p → Bears (λ v. v.name) scope.vars name v → FirstOf scope.ports 0 name as' → Bears (λ p. p.name) scope.ports name p
+    → MeantFits scope (variable_meant v as' p)
+meant_there scope name (Some v) as' p finds is h g f = F.variable v.place v.what h.0 (ap (variable_of scope) h.1 ∙ finds)
+meant_there scope name None [] None finds is h g f = tt
+meant_there scope name None [] (Some p) finds is h g f = (f.0, ap (meant scope) f.1 ∙ is)
+meant_there scope name None (a ∷ []) p finds is h g f = attribute_fits scope name a is g
+meant_there scope name None (a ∷ b ∷ as') p finds is h g f = tt
+
+pub name_meant : (scope : Scope) (name : List ℕ) → MeantFits scope (meant scope name)
+name_meant scope name =
+    meant_there scope name (variable_of scope name) (attributes_of scope name) (port_of scope name) refl refl
+    (variable_there scope name) (attributes_there scope name) (port_there scope name)
+
+meant_fits : (scope : Scope) (at : ℕ) (name : List ℕ) (m : Meant) → MeantFits scope m → Gives (Fits scope) (meant_typed at name m)
+meant_fits scope at name (OfVariable v) h = F.name (L.Variable v.place) v.what.kind h
+meant_fits scope at name (OfAttribute a) h = F.name (L.Attribute a.port a.attribute) a.kind h
+meant_fits scope at name (OfPort p) h = F.name (L.Port p.place) (S.Tuple p.what.schema) (F.port p.place p.what h.0 h.1)
+meant_fits scope at name Nothing h = tt
 
 name_fits : (scope : Scope) (at : ℕ) (name : List ℕ) → Gives (Fits scope) (meant_typed at name (meant scope name))
-name_fits scope at name =
-    meant_fits scope at name (variable_of scope name) (attributes_of scope name) (port_of scope name)
-    (variable_there scope name) (attributes_there scope name) (port_there scope name)
+name_fits scope at name = meant_fits scope at name (meant scope name) (name_meant scope name)
 
 -- ---- literals
 
@@ -234,10 +256,10 @@ GoodStep (N.Index e) = Good e
 abbrev Leads : Scope → SplType → Taking (Code Slot) × SplType → Type 0
 Leads scope t x = (steps : List (Taking (Code Slot))) (u : SplType) → StepsLead scope steps x.1 u → StepsLead scope (x.0 ∷ steps) t u
 
-member_fits : (at : ℕ) (scope : Scope) (schema : List (Named SplType)) (name : List ℕ) (o : Option (At (Named SplType))) → There schema o
+member_fits : (at : ℕ) (scope : Scope) (schema : List (Named SplType)) (name : List ℕ) (o : Option (At (Named SplType))) → Bears (λ a. a.name) schema name o
     → Gives (Leads scope (S.Tuple schema)) (member_typed at name o)
 member_fits at scope schema name None h = tt
-member_fits at scope schema name (Some a) h = λ steps u rest. F.member a.place steps schema a.what u h rest
+member_fits at scope schema name (Some a) h = λ steps u rest. F.member a.place steps schema a.what u h.0 rest
 
 index_fits : (at : ℕ) (scope : Scope) (x : Typed) (y : SplType-F SplType) → out-SplType x.kind ≡ y → Fits scope x
     → Gives (λ code. (k : IntKind) × CodeFits scope code (S.Int k)) (level_index at x.code y)
@@ -284,22 +306,12 @@ select_fits base scope x ss f h =
     gives_after (λ xs. StepsLead scope xs.0 x.kind xs.1) (Fits scope) (steps_typed base scope x.kind ss) _ (steps_fit base scope x.kind ss h) (λ xs leads.
     selected_fits scope x.code xs.0 x.kind xs.1 f leads)
 
--- the port that a name stands for is there
-abbrev PortThere : Scope → Meant → Type 0
-PortThere scope (OfPort p) = slice_get scope.ports p.place ≡ Some p.what
-PortThere scope _ = Unit {0}
-
-meant_port : (scope : Scope) (v : Option (At Variable)) (as' : List PortAttribute) (p : Option (At Port)) → There scope.ports p → PortThere scope (variable_meant v as' p)
-meant_port scope (Some v) as' p h = tt
-meant_port scope None [] None h = tt
-meant_port scope None [] (Some p) h = h
-meant_port scope None (a ∷ []) p h = tt
-meant_port scope None (a ∷ b ∷ as') p h = tt
-
-port_attribute_fits : (scope : Scope) (p : At Port) (at : ℕ) (name : List ℕ) (o : Option (At (Named SplType))) → slice_get scope.ports p.place ≡ Some p.what → There p.what.schema o
-    → Gives (Fits scope) (port_attribute p.place at name o)
-port_attribute_fits scope p at name None port h = tt
-port_attribute_fits scope p at name (Some a) port h = F.name (L.Attribute p.place a.place) a.what.kind (F.attribute p.place a.place p.what a.what port h)
+port_attribute_fits : (scope : Scope) (p : At Port) (at : ℕ) (name : List ℕ) (o : Option (At (Named SplType))) → attribute_of p.what.schema name ≡ o
+    → MeantFits scope (OfPort p) → Bears (λ a. a.name) p.what.schema name o → Gives (Fits scope) (port_attribute p.place at name o)
+port_attribute_fits scope p at name None finds port h = tt
+port_attribute_fits scope p at name (Some a) finds port h =
+    F.name (L.Attribute p.place a.place) a.what.kind
+    (F.attribute p.place a.place p.what a.what port.0 h.0 (ap (attribute_of p.what.schema) h.1 ∙ finds) (inr port.1))
 
 -- what is taken of an expression
 of_part_fits : (base : Placed Part) (scope : Scope) (ss : List (Step (Placed Part))) → Good base → AllByRecursion GoodStep ss
@@ -307,11 +319,11 @@ of_part_fits : (base : Placed Part) (scope : Scope) (ss : List (Step (Placed Par
 of_part_fits base scope ss h g =
     gives_after (Fits scope) (Fits scope) (part_typed base scope None) _ (good_any base h scope None) (λ x f. select_fits base.at scope x ss f g)
 
-of_port_fits : (m : Meant) (base : Placed Part) (scope : Scope) (ss : List (Step (Placed Part))) → PortThere scope m → Good base → AllByRecursion GoodStep ss
+of_port_fits : (m : Meant) (base : Placed Part) (scope : Scope) (ss : List (Step (Placed Part))) → MeantFits scope m → Good base → AllByRecursion GoodStep ss
     → Gives (Fits scope) (of_port m base scope ss)
 of_port_fits (OfPort p) base scope (N.Member m ∷ ss) port h g =
     gives_after (Fits scope) (Fits scope) (port_attribute p.place m.at m.what (attribute_of p.what.schema m.what)) _
-    (port_attribute_fits scope p m.at m.what (attribute_of p.what.schema m.what) port (attribute_there p.what.schema m.what))
+    (port_attribute_fits scope p m.at m.what (attribute_of p.what.schema m.what) refl port (attribute_there p.what.schema m.what))
     (λ x f. select_fits base.at scope x ss f g.1)
 of_port_fits (OfPort p) base scope [] port h g = of_part_fits base scope [] h g
 of_port_fits (OfPort p) base scope (N.Index e ∷ ss) port h g = of_part_fits base scope (N.Index e ∷ ss) h g
@@ -321,9 +333,7 @@ of_port_fits Nothing base scope ss port h g = of_part_fits base scope ss h g
 
 of_base_fits : (name : Option (List ℕ)) (base : Placed Part) (scope : Scope) (ss : List (Step (Placed Part))) → Good base → AllByRecursion GoodStep ss
     → Gives (Fits scope) (of_base name base scope ss)
-of_base_fits (Some name) base scope ss h g =
-    of_port_fits (meant scope name) base scope ss
-    (meant_port scope (variable_of scope name) (attributes_of scope name) (port_of scope name) (port_there scope name)) h g
+of_base_fits (Some name) base scope ss h g = of_port_fits (meant scope name) base scope ss (name_meant scope name) h g
 of_base_fits None base scope ss h g = of_part_fits base scope ss h g
 
 -- ---- operators in front of an operand
@@ -456,14 +466,14 @@ value_fits : (at : ℕ) (scope : Scope) (f : At Signature) (xs : List (Code Slot
 value_fits at scope f xs None e h g = tt
 value_fits at scope f xs (Some t) e h g = F.call f.place xs f.what t h e g
 
-function_fits : (at : ℕ) (scope : Scope) (name : List ℕ) (es : List (Placed Part)) (o : Option (At Signature)) → There scope.functions o → AllByRecursion Good es
+function_fits : (at : ℕ) (scope : Scope) (name : List ℕ) (es : List (Placed Part)) (o : Option (At Signature)) → Bears (λ f. f.name) scope.functions name o → AllByRecursion Good es
     → Gives (Fits scope) (function_typed at scope name es o)
 function_fits at scope name es None h g = tt
 function_fits at scope name es (Some f) h g =
     gives_if (Fits scope) (length es == length f.what.parameters) _ _ (λ same.
     gives_after (λ xs. ArgumentsFit scope xs f.what.parameters) (Fits scope) (arguments_typed scope f.what.parameters es) _
     (arguments_fit scope f.what.parameters es (eqb-true (length es) (length f.what.parameters) same) g)
-    (λ xs i. value_fits at scope f xs f.what.result refl h i)) tt
+    (λ xs i. value_fits at scope f xs f.what.result refl h.0 i)) tt
 
 -- where a call is one on a first argument of this type, it gives a value of its type, and the others are so many
 abbrev OnFirstFits : SplType → ℕ → OnFirst → Type 0

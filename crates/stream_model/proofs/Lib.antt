@@ -7,5 +7,14 @@ pub mod FileRows
 pub mod Standing
 pub mod SameTypes
 pub mod Wanting
+pub mod Counting
 pub mod Places
 pub mod Fitting
+pub mod Yielding
+pub mod Operating
+pub mod Filling
+pub mod Evaluating
+pub mod Agreeing
+pub mod Renaming
+pub mod Naming
+pub mod TwoPorts

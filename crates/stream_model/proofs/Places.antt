@@ -1,14 +1,13 @@
 -- Fields of distinct names, as many as a tuple has places, give each place once.
-use Rattle.std.specs.Prelude.{◌≡◌, ◌+◌, ◌≤◌, ◌<◌, ◌==◌, ◌||◌, ◌⊎◌, eqb, ℕ, suc, true, false, not, cond, List, [], ◌∷◌, map, length, slice_get, Some}
-use Rattle.std.specs.List.{list_all, list_any, count_by, IsDistinct, AllByRecursion}
+use Rattle.std.specs.Prelude.{◌≡◌, ◌+◌, ◌≤◌, ◌<◌, ◌==◌, eqb, ℕ, suc, true, not, List, [], ◌∷◌, map, length, slice_get, Some}
+use Rattle.std.specs.List.{list_all, count_by, IsDistinct}
 use Rattle.std.specs.Str.{bytes_eq}
 use Rattle.std.specs.Cmp.{first_so, second_so}
 use Rattle.std.specs.Cmp.Lexicographic.{bytes_decides}
-use Rattle.std.proofs.Common.{refl, sym, ap, ◌∙◌, arith, inl, inr, subst}
-use Rattle.std.proofs.lemmas.Bool.{cases_eq, cond-true, cond-false, eqb-true, eq-eqb, ne_eqb}
+use Rattle.std.proofs.Common.{refl, sym, ap, ◌∙◌, arith}
+use Rattle.std.proofs.lemmas.Bool.{ne_eqb}
 use Rattle.std.proofs.lemmas.List.{length-map}
 use Rattle.std.proofs.lemmas.List.Recursion.{is_count_by}
-use Rattle.std.proofs.lemmas.Map.Steps.{length-le_from_distinct_below}
 use Rattle.std.proofs.lemmas.Option.{slice_get_within}
 use Rattle.spl_value.specs.declared.types.Named.{Named}
 use Rattle.spl_value.specs.declared.types.SplType.{SplType}
@@ -18,68 +17,19 @@ use Rattle.spl_tree.specs.declared.code.Code.{Code}
 use Rattle.spl_tree.specs.declared.code.Slot.{Slot}
 use Rattle.stream_model.specs.Typing.{Part, are_distinct}
 use Rattle.stream_model.specs.CodeFits.{OneEach}
+use Rattle.stream_model.proofs.Counting.{how_often, Below, Lacks, each_once}
 
 abbrev PlacedCode : Type 0
 PlacedCode = ℕ × Code Slot
 
-abbrev pub places : List PlacedCode → List ℕ
-places xs = map (λ x. x.0) xs
+abbrev pub places : {A : Type 0} → List (ℕ × A) → List ℕ
+places fs = map (λ f. f.0) fs
 
--- ---- places of which no two are equal
+pub counts_places : {A : Type 0} (i : ℕ) (fs : List (ℕ × A)) → count_by (λ (f : ℕ × A). f.0 == i) fs ≡ how_often i (places fs)
+counts_places {A} i fs = sym (is_count_by (λ (fs : List (ℕ × A)). how_often i (places fs)) (λ (f : ℕ × A). f.0 == i) refl (λ f fs. refl) fs)
 
--- how many fields have a place
-abbrev at_place_count : ℕ → List PlacedCode → ℕ
-at_place_count i [] = 0
-at_place_count i (x ∷ xs) = cond (x.0 == i) (1 + at_place_count i xs) (at_place_count i xs)
-
-is_count : (i : ℕ) (xs : List PlacedCode) → at_place_count i xs ≡ count_by (λ x. x.0 == i) xs
-is_count i xs = is_count_by (at_place_count i) (λ x. x.0 == i) refl (λ x xs. refl) xs
-
-count_here : (i : ℕ) (x : PlacedCode) (xs : List PlacedCode) → x.0 ≡ i → at_place_count i (x ∷ xs) ≡ 1 + at_place_count i xs
-count_here i x xs e = cond-true (x.0 == i) _ _ (eq-eqb x.0 i e)
-
-count_other : (i : ℕ) (x : PlacedCode) (xs : List PlacedCode) → (x.0 ≡ i → ⊥) → at_place_count i (x ∷ xs) ≡ at_place_count i xs
-count_other i x xs other = cond-false (x.0 == i) _ _ (ne_eqb x.0 i other)
-
--- no place is that one
-abbrev Lacks : ℕ → List ℕ → Type 0
-Lacks i js = AllByRecursion (λ j. eqb i j ≡ false) js
-
-differ : (i j : ℕ) → eqb i j ≡ false → j ≡ i → ⊥
-differ i j apart e = let same : eqb i j ≡ true = eq-eqb i j (sym e) in cc
-
-count_none : (i : ℕ) (xs : List PlacedCode) → Lacks i (places xs) → at_place_count i xs ≡ 0
-count_none i [] h = refl
-count_none i (x ∷ xs) h = count_other i x xs (differ i x.0 h.0) ∙ count_none i xs h.1
-
-count_one : (i : ℕ) (xs : List PlacedCode) → IsDistinct eqb (places xs) → (Lacks i (places xs) → ⊥) → at_place_count i xs ≡ 1
-unfolding IsDistinct
-count_one i [] distinct has = absurd (has tt)
-count_one i (x ∷ xs) distinct has = go (cases_eq x.0 i) (count_one i xs distinct.1)
-  where
-    go : (x.0 ≡ i) ⊎ (x.0 ≡ i → ⊥) → ((Lacks i (places xs) → ⊥) → at_place_count i xs ≡ 1) → at_place_count i (x ∷ xs) ≡ 1
-    go (inl e) rest = let none : at_place_count i xs ≡ 0 = count_none i xs (subst (λ j. Lacks j (places xs)) e distinct.0) in count_here i x xs e ∙ ap (λ n. 1 + n) none
-    go (inr other) rest = count_other i x xs other ∙ rest (λ lacks. has (ne_eqb i x.0 (λ e. other (sym e)), lacks))
-
--- each place is below that
-abbrev Below : ℕ → List ℕ → Type 0
-Below n js = AllByRecursion (λ j. j < n) js
-
-below_member : (n : ℕ) (js : List ℕ) → Below n js → (q : ℕ) → list_any (eqb q) js ≡ true → q < n
-below_member n [] h q e = absurd cc
-below_member n (j ∷ js) h q e =
-    elim (eqb q j) as (λ b. eqb q j ≡ b → (b || list_any (eqb q) js) ≡ true → q < n) [
-      | true ↦ λ same e. let is : q ≡ j = eqb-true q j same in let below : j < n = h.0 in omega arith
-      | false ↦ λ other e. below_member n js h.1 q e
-    ] refl e
-
-pub one_each : (n : ℕ) (xs : List PlacedCode) → IsDistinct eqb (places xs) → Below n (places xs) → length xs ≡ n → OneEach n xs
-unfolding IsDistinct
-one_each n xs distinct below long i within =
-    sym (is_count i xs) ∙ count_one i xs distinct (λ lacks.
-    let most : length (i ∷ places xs) ≤ n = length-le_from_distinct_below (i ∷ places xs) n (lacks, distinct) (below_member n (i ∷ places xs) (within, below)) in
-    let same : length (places xs) ≡ length xs = length-map xs (λ x. x.0) in
-    omega arith)
+one_each : (n : ℕ) (xs : List PlacedCode) → IsDistinct eqb (places xs) → Below n (places xs) → length xs ≡ n → OneEach n xs
+one_each n xs distinct below long i within = counts_places i xs ∙ each_once n (places xs) distinct below (length-map xs (λ x. x.0) ∙ long) i within
 
 -- ---- fields of distinct names
 

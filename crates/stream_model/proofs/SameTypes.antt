@@ -35,7 +35,7 @@ level_same-map f R (T.List t) u = refl
 level_same-map f R (T.Map k t) u = refl
 level_same-map f R (T.Tuple schema) u = refl
 
-same_is : (t u : SplType) → same_types t u ≡ level_same same_types (out-SplType t) (out-SplType u)
+pub same_is : (t u : SplType) → same_types t u ≡ level_same same_types (out-SplType t) (out-SplType u)
 same_is t u =
     ap (λ g. g u) (fold_out-SplType (SplType → Bool) (λ t u. level_same (λ f w. f w) t (out-SplType u)) t)
     ∙ level_same-map same_types (λ (g : SplType → Bool) w. g w) (out-SplType t) (out-SplType u)

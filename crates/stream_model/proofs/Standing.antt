@@ -1,6 +1,7 @@
--- What names stand for is there.
+-- What names stand for is there, and has the name.
 use Rattle.std.specs.Prelude.{◌≡◌, ◌+◌, ℕ, suc, Bool, true, false, List, [], ◌∷◌, ◌++◌, Option, Some, None, slice_get, if◌then◌else◌}
 use Rattle.std.specs.Str.{bytes_eq}
+use Rattle.std.specs.Cmp.Lexicographic.{bytes_decides}
 use Rattle.std.proofs.Common.{refl, arith}
 use Rattle.spl_value.specs.declared.types.Named.{Named}
 use Rattle.spl_value.specs.declared.types.SplType.{SplType}
@@ -39,50 +40,85 @@ last_stands p (x ∷ xs) i =
       | false ↦ λ fails. tt
     ] refl)
 
--- what is at the place
-abbrev pub There : {A : Type 0} → List A → Option (At A) → Type 0
-There xs None = Unit {0}
-There xs (Some a) = slice_get xs a.place ≡ Some a.what
+-- what was found is at its place, and has the name
+abbrev pub Bears : {A : Type 0} → (A → List ℕ) → List A → List ℕ → Option (At A) → Type 0
+Bears name_of xs name None = Unit {0}
+Bears name_of xs name (Some a) = (slice_get xs a.place ≡ Some a.what) × (name_of a.what ≡ name)
 
-there : {A : Type 0} (p : A → Bool) (xs : List A) (o : Option (At A)) → Stands p xs 0 o → There xs o
-there p xs None h = tt
-there p xs (Some a) h = let place : a.place ≡ 0 + h.0 = h.1 in let same : a.place ≡ h.0 = omega arith in rw same h.2
+bears : {A : Type 0} (name_of : A → List ℕ) (xs : List A) (name : List ℕ) (o : Option (At A)) → Stands (λ x. bytes_eq (name_of x) name) xs 0 o → Bears name_of xs name o
+bears name_of xs name None h = tt
+bears name_of xs name (Some a) h =
+    let place : a.place ≡ 0 + h.0 = h.1 in
+    let same : a.place ≡ h.0 = omega arith in
+    (rw same h.2, (bytes_decides (name_of a.what) name).0 h.3)
 
-first_there : {A : Type 0} (p : A → Bool) (xs : List A) → There xs (first_from p 0 xs)
-first_there p xs = there p xs (first_from p 0 xs) (first_stands p xs 0)
+pub variable_there : (scope : Scope) (name : List ℕ) → Bears (λ v. v.name) scope.vars name (variable_of scope name)
+variable_there scope name = bears (λ v. v.name) scope.vars name (variable_of scope name) (last_stands (λ v. bytes_eq v.name name) scope.vars 0)
 
-pub variable_there : (scope : Scope) (name : List ℕ) → There scope.vars (variable_of scope name)
-variable_there scope name = there (λ v. bytes_eq v.name name) scope.vars (variable_of scope name) (last_stands (λ v. bytes_eq v.name name) scope.vars 0)
+pub attribute_there : (schema : List (Named SplType)) (name : List ℕ) → Bears (λ a. a.name) schema name (attribute_of schema name)
+attribute_there schema name = bears (λ a. a.name) schema name (attribute_of schema name) (first_stands (λ a. bytes_eq a.name name) schema 0)
 
-pub attribute_there : (schema : List (Named SplType)) (name : List ℕ) → There schema (attribute_of schema name)
-attribute_there schema name = first_there (λ a. bytes_eq a.name name) schema
+pub port_there : (scope : Scope) (name : List ℕ) → Bears (λ p. p.name) scope.ports name (port_of scope name)
+port_there scope name = bears (λ p. p.name) scope.ports name (port_of scope name) (first_stands (λ p. bytes_eq p.name name) scope.ports 0)
 
-pub port_there : (scope : Scope) (name : List ℕ) → There scope.ports (port_of scope name)
-port_there scope name = first_there (λ p. bytes_eq p.name name) scope.ports
+pub function_there : (scope : Scope) (name : List ℕ) → Bears (λ f. f.name) scope.functions name (function_of scope name)
+function_there scope name = bears (λ f. f.name) scope.functions name (function_of scope name) (first_stands (λ f. bytes_eq f.name name) scope.functions 0)
 
-pub function_there : (scope : Scope) (name : List ℕ) → There scope.functions (function_of scope name)
-function_there scope name = first_there (λ f. bytes_eq f.name name) scope.functions
+-- an attribute of the name is one of some ports that begin at a place, the first of its name there
+pub record InPorts (ps : List Port) (i : ℕ) (name : List ℕ) (a : PortAttribute) : Type 0 where
+  pub later : ℕ
+  pub port : Port
+  pub attribute : Named SplType
+  pub place : a.port ≡ i + later
+  pub port_is : slice_get ps later ≡ Some port
+  pub attribute_is : slice_get port.schema a.attribute ≡ Some attribute
+  pub kind : attribute.kind ≡ a.kind
+  pub named : attribute.name ≡ name
+  pub first : attribute_of port.schema name ≡ Some (at_place a.attribute attribute)
 
--- the first of some attributes of ports that begin at a place is one of such a port
-abbrev pub FirstOf : List Port → ℕ → List PortAttribute → Type 0
-FirstOf ps i [] = Unit {0}
-FirstOf ps i (a ∷ as') =
-    (k : ℕ) × (p : Port) × (b : Named SplType) × (a.port ≡ i + k) × (slice_get ps k ≡ Some p) × (slice_get p.schema a.attribute ≡ Some b) × (b.kind ≡ a.kind)
+abbrev pub FirstOf : List Port → ℕ → List ℕ → List PortAttribute → Type 0
+FirstOf ps i name [] = Unit {0}
+FirstOf ps i name (a ∷ as') = InPorts ps i name a
 
-first_later : (p : Port) (ps : List Port) (i : ℕ) (as' : List PortAttribute) → FirstOf ps (suc i) as' → FirstOf (p ∷ ps) i as'
-first_later p ps i [] h = tt
-first_later p ps i (a ∷ as') h = let place : a.port ≡ suc i + h.0 = h.3 in (suc h.0, h.1, h.2, omega arith, h.4, h.5, h.6)
+in_later : (p : Port) (ps : List Port) (i : ℕ) (name : List ℕ) (a : PortAttribute) → InPorts ps (suc i) name a → InPorts (p ∷ ps) i name a
+in_later p ps i name a h =
+    let place : a.port ≡ suc i + h.later = h.place in
+    record {
+      later = suc h.later;
+      port = h.port;
+      attribute = h.attribute;
+      place = omega arith;
+      port_is = h.port_is;
+      attribute_is = h.attribute_is;
+      kind = h.kind;
+      named = h.named;
+      first = h.first;
+    }
 
-first_in_port : (p : Port) (ps : List Port) (i : ℕ) (o : Option (At (Named SplType))) (rest : List PortAttribute) → There p.schema o → FirstOf (p ∷ ps) i rest
-    → FirstOf (p ∷ ps) i (in_port i o ++ rest)
-first_in_port p ps i None rest h g = g
-first_in_port p ps i (Some a) rest h g = (0, p, a.what, omega arith, refl, h, refl)
+first_later : (p : Port) (ps : List Port) (i : ℕ) (name : List ℕ) (as' : List PortAttribute) → FirstOf ps (suc i) name as' → FirstOf (p ∷ ps) i name as'
+first_later p ps i name [] h = tt
+first_later p ps i name (a ∷ as') h = in_later p ps i name a h
 
-attributes_first : (ps : List Port) (i : ℕ) (name : List ℕ) → FirstOf ps i (attributes_from i ps name)
+first_in_port : (p : Port) (ps : List Port) (i : ℕ) (name : List ℕ) (o : Option (At (Named SplType))) (rest : List PortAttribute) → attribute_of p.schema name ≡ o
+    → Bears (λ a. a.name) p.schema name o → FirstOf (p ∷ ps) i name rest → FirstOf (p ∷ ps) i name (in_port i o ++ rest)
+first_in_port p ps i name None rest e h g = g
+first_in_port p ps i name (Some a) rest e h g = record {
+  later = 0;
+  port = p;
+  attribute = a.what;
+  place = omega arith;
+  port_is = refl;
+  attribute_is = h.0;
+  kind = refl;
+  named = h.1;
+  first = e;
+}
+
+attributes_first : (ps : List Port) (i : ℕ) (name : List ℕ) → FirstOf ps i name (attributes_from i ps name)
 attributes_first [] i name = tt
 attributes_first (p ∷ ps) i name =
-    first_in_port p ps i (attribute_of p.schema name) (attributes_from (suc i) ps name) (attribute_there p.schema name)
-    (first_later p ps i (attributes_from (suc i) ps name) (attributes_first ps (suc i) name))
+    first_in_port p ps i name (attribute_of p.schema name) (attributes_from (suc i) ps name) refl (attribute_there p.schema name)
+    (first_later p ps i name (attributes_from (suc i) ps name) (attributes_first ps (suc i) name))
 
-pub attributes_there : (scope : Scope) (name : List ℕ) → FirstOf scope.ports 0 (attributes_of scope name)
+pub attributes_there : (scope : Scope) (name : List ℕ) → FirstOf scope.ports 0 name (attributes_of scope name)
 attributes_there scope name = attributes_first scope.ports 0 name

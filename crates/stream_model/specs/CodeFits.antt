@@ -1,7 +1,7 @@
 -- Which codes fit a scope: each name in one stands for something of the scope, and each part of it has a type that what is
 -- done with it wants. Each constructor is a rule of the language. An evaluation of a code that fits never comes to a name
 -- without a value, nor to a value of another type than its place wants.
-use Rattle.std.specs.Prelude.{◌≡◌, ◌<◌, ◌==◌, ℕ, IsTrue, List, [], ◌∷◌, length, slice_get, Some}
+use Rattle.std.specs.Prelude.{◌≡◌, ◌⊎◌, ◌<◌, ◌==◌, ℕ, IsTrue, List, [], ◌∷◌, length, slice_get, Some}
 use Rattle.std.specs.List.{count_by}
 use Rattle.spl_value.specs.declared.types.IntKind.{IntKind}
 use Rattle.spl_value.specs.declared.types.IntKind.TheVariants.{I32}
@@ -29,13 +29,23 @@ use Rattle.stream_model.specs.declared.scope.Port.{Port}
 use Rattle.stream_model.specs.declared.scope.Scope.{Scope}
 use Rattle.stream_model.specs.declared.scope.Signature.{Signature}
 use Rattle.stream_model.specs.declared.scope.Variable.{Variable}
+use Rattle.stream_model.specs.Scopes.{at_place, variable_of, attribute_of, OfAttribute, OfPort, meant}
 
--- what a name stands for is in the scope, and has the type
+-- an attribute's own name stands for it, or its port's name stands for the port, and the attribute is named behind that
+abbrev pub CanBeNamed : Scope → ℕ → ℕ → Port → Named SplType → Type 0
+CanBeNamed scope i j p a =
+    (meant scope a.name ≡ OfAttribute (record { port = i; attribute = j; kind = a.kind })) ⊎ (meant scope p.name ≡ OfPort (at_place i p))
+
+-- what stands at a slot is in the scope, has the type, and can be named there. So a variable has no slot where a later one
+-- has its name, and a port has none where a variable, an attribute or an earlier port has its name. An attribute of such a
+-- port has one only where its own name stands for it
 pub data SlotFits (scope : Scope) : Slot → SplType → Type 0 where
-  variable : (i : ℕ) (v : Variable) → slice_get scope.vars i ≡ Some v → SlotFits scope (L.Variable i) v.kind
+  variable : (i : ℕ) (v : Variable) → slice_get scope.vars i ≡ Some v → variable_of scope v.name ≡ Some (at_place i v)
+      → SlotFits scope (L.Variable i) v.kind
   attribute : (i j : ℕ) (p : Port) (a : Named SplType) → slice_get scope.ports i ≡ Some p → slice_get p.schema j ≡ Some a
-      → SlotFits scope (L.Attribute i j) a.kind
-  port : (i : ℕ) (p : Port) → slice_get scope.ports i ≡ Some p → SlotFits scope (L.Port i) (S.Tuple p.schema)
+      → attribute_of p.schema a.name ≡ Some (at_place j a) → CanBeNamed scope i j p a → SlotFits scope (L.Attribute i j) a.kind
+  port : (i : ℕ) (p : Port) → slice_get scope.ports i ≡ Some p → meant scope p.name ≡ OfPort (at_place i p)
+      → SlotFits scope (L.Port i) (S.Tuple p.schema)
 
 -- an operator or a cast makes of a value of one type one of another
 pub data UnaryGives : UnaryCode → SplType → SplType → Type 0 where

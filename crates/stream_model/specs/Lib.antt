@@ -2,9 +2,17 @@ pub mod Stream
 pub mod Condition
 pub mod Scopes
 pub mod Typing
+pub mod Outcomes
+pub mod Operators
+pub mod Evaluation
+pub mod EvaluationLaws
 pub mod CodeFits
 pub mod FitLaws
 pub mod TypingLaws
+pub mod WorldFits
+pub mod Written
+pub mod ValueLaws
+pub mod TwoPorts
 pub mod React
 pub mod Stages
 pub mod Meaning

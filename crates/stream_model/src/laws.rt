@@ -1,5 +1,6 @@
 //! What the definitions come to.
-ghost use Rattle.std.specs.Prelude.{◌≡◌, ◌≤◌, ℕ, List, [], ◌∷◌, Option, Some, None, codes, pos, negsuc, true, false};
+ghost use Rattle.stream_model.specs.ValueLaws.{NeverStuckLaw, RenamingLaw, WrittenLaw, NamesLaw};
+ghost use Rattle.std.specs.Prelude.{◌≡◌, ◌≤◌, ℕ, List, [], ◌∷◌, Option, Some, None, Ok, codes, pos, negsuc, true, false};
 ghost use Rattle.spl_value.specs.Script.{End, Failed};
 ghost use Rattle.spl_value.specs.declared.item.Item.TheVariants as I;
 ghost use Rattle.spl_value.specs.declared.item.FaultKind.TheVariants as K;
@@ -9,8 +10,15 @@ ghost use Rattle.spl_value.specs.declared.value.Value.TheVariants as V;
 ghost use Rattle.stream_model.specs.Laws.{StartLaw, HistoryLaw, EndLaw, EndItemLaw, EndGivesLaw, WaitLaw, PortsLaw, OutGrows, ChainGrows, OutCloses, ClosedEnds, ClosedGivesClosed, BodyLaw, BodyPorts, GraphLaw, EventsLaw, TopoEventsLaw, IsOrdered, IsNumbered, IsWithin, RowsClose, PiecesLaw, RowsLaw, FailedRowsLaw};
 ghost use Rattle.stream_model.specs.FitLaws.{FitLaw, WantedLaw, OneTypeLaw};
 ghost use Rattle.stream_model.specs.React.{Source, FileSource, Filter, FileSink};
+ghost use Rattle.spl_tree.specs.declared.code.BinaryCode.TheVariants as D;
+ghost use Rattle.spl_tree.specs.declared.code.Code.TheVariants as C;
+ghost use Rattle.spl_tree.specs.declared.code.OrderOperator.TheVariants.{Less};
+ghost use Rattle.spl_tree.specs.declared.code.Slot.TheVariants as L;
 ghost use Rattle.stream_model.specs.declared.condition.Condition.{Condition};
 ghost use Rattle.stream_model.specs.PathLaws.{path_graph};
+ghost use Rattle.stream_model.specs.TwoPorts.{two_ports, variable, comparison};
+ghost use Rattle.stream_model.specs.Typing.{typing};
+ghost use Rattle.stream_model.specs.Written.{Bare, Of, stands_for, written, renamed};
 ghost use Rattle.stream_model.specs.Rows.{Setting, rows, too_long, text_of};
 
 /// No event gives nothing. One event more gives its reaction behind the history of all before it,
@@ -121,4 +129,38 @@ pub fn text_on_literals()
         ≡ codes "a,-128,true\n" }
     ensures quoted { text_of (I.Tuple (V.Text (codes "a,\"b\"") ∷ []) ∷ I.Tuple (V.Text [] ∷ []) ∷ I.Tuple (V.Int (pos 7) ∷ []) ∷ [])
         ≡ codes "\"a,\"\"b\"\"\"\n\"\"\n7\n" }
+{}
+
+/// What evaluation does. A code that fits isn't stuck. A slot that fits is what its name stands for,
+/// and the code of an expression comes to what it comes to over the names of its slots.
+pub fn evaluation_law()
+    ensures never_stuck { NeverStuckLaw }
+    ensures written { WrittenLaw }
+    ensures names { NamesLaw }
+{}
+
+/// A code with other names comes to what the code comes to where each name has the value of the
+/// one that takes its place.
+pub fn renaming_law<N, M>()
+    ensures renaming { RenamingLaw N M }
+{}
+
+/// What some names stand for where there are two ports, the names of some slots, and an expression
+/// with its code over slots and over names.
+pub fn names_on_literals()
+    ensures alone { stands_for (two_ports [] (codes "B")) (Bare (codes "m")) ≡ Some (L.Attribute 1 1) }
+    ensures behind_port { stands_for (two_ports [] (codes "B")) (Of (codes "B") (codes "k")) ≡ Some (L.Attribute 1 0) }
+    ensures port { stands_for (two_ports [] (codes "B")) (Bare (codes "B")) ≡ Some (L.Port 1) }
+    ensures of_both_ports { stands_for (two_ports [] (codes "B")) (Bare (codes "k")) ≡ None }
+    ensures of_first_port { stands_for (two_ports [] (codes "A")) (Of (codes "A") (codes "m")) ≡ None }
+    ensures of_variable { stands_for (two_ports (variable (codes "A") ∷ []) (codes "B")) (Of (codes "A") (codes "n")) ≡ None }
+    ensures variable { stands_for (two_ports (variable (codes "A") ∷ []) (codes "B")) (Bare (codes "A")) ≡ Some (L.Variable 0) }
+    ensures name_of_port { written (two_ports [] (codes "B")) (L.Port 1) ≡ Bare (codes "B") }
+    ensures name_of_attribute { written (two_ports [] (codes "B")) (L.Attribute 1 1) ≡ Of (codes "B") (codes "m") }
+    ensures name_in_second { written (two_ports [] (codes "A")) (L.Attribute 1 1) ≡ Bare (codes "m") }
+    ensures name_in_hidden { written (two_ports (variable (codes "A") ∷ []) (codes "B")) (L.Attribute 0 1) ≡ Bare (codes "n") }
+    ensures typed { typing (two_ports [] (codes "B")) comparison None
+        ≡ Ok (record { kind = T.Bool; code = C.Binary (D.Order Less) (C.Name (L.Attribute 0 0)) (C.Name (L.Attribute 1 1)) }) }
+    ensures over_names { renamed (written (two_ports [] (codes "B"))) (C.Binary (D.Order Less) (C.Name (L.Attribute 0 0)) (C.Name (L.Attribute 1 1)))
+        ≡ C.Binary (D.Order Less) (C.Name (Of (codes "A") (codes "k"))) (C.Name (Of (codes "B") (codes "m"))) }
 {}

@@ -3,6 +3,7 @@
 
 mod comparison;
 mod condition;
+mod env;
 mod laws;
 mod outs;
 mod record;
@@ -10,9 +11,10 @@ mod scope;
 
 pub use comparison::Comparison;
 pub use condition::Condition;
+pub use env::{Env, Tuples};
 pub use laws::{
-    chain_is_ordered, graph_law, history_law, kinds_law, order_law, rows_law, rows_on_literals,
-    text_on_literals, typing_law,
+    chain_is_ordered, evaluation_law, graph_law, history_law, kinds_law, names_on_literals,
+    order_law, renaming_law, rows_law, rows_on_literals, text_on_literals, typing_law,
 };
 pub use outs::{Output, Outs};
 pub use record::{

@@ -1,0 +1,35 @@
+-- What evaluation does.
+use Rattle.std.specs.Prelude.{◌≡◌, ℕ, List, Some, Ok}
+use Rattle.spl_value.specs.declared.types.SplType.{SplType}
+use Rattle.spl_tree.specs.Grammar.{Expr}
+use Rattle.spl_tree.specs.declared.code.Code.{Code}
+use Rattle.spl_tree.specs.declared.code.Function.{Function}
+use Rattle.spl_tree.specs.declared.code.Slot.{Slot}
+use Rattle.stream_model.specs.declared.env.Env.{Env}
+use Rattle.stream_model.specs.declared.scope.Scope.{Scope}
+use Rattle.stream_model.specs.declared.scope.Typed.{Typed}
+use Rattle.stream_model.specs.CodeFits.{SlotFits}
+use Rattle.stream_model.specs.Evaluation.{World, Calls, code_value, calls_of, world_of}
+use Rattle.stream_model.specs.Typing.{Wanted, typing}
+use Rattle.stream_model.specs.WorldFits.{Fits, ComesTo}
+use Rattle.stream_model.specs.Written.{stands_for, written, renamed, before_renaming, named_world}
+
+-- a code that fits comes to a value of its type or to a fault, and is never stuck, however deep calls may nest
+abbrev pub NeverStuckLaw : Type 0
+NeverStuckLaw = (functions : List Function) (code : Code Slot) (env : Env) (t : SplType) → Fits functions code env t → (depth turns : ℕ)
+    → ComesTo t (code_value (calls_of functions depth) code (world_of env) turns)
+
+-- a code with other names comes to what the code comes to where each name has the value of the one in its place
+abbrev pub RenamingLaw : Type 0 → Type 0 → Type 0
+RenamingLaw N M = (calls : Calls) (f : N → M) (code : Code N) (w : World M) (turns : ℕ)
+    → code_value calls (renamed f code) w turns ≡ code_value calls code (before_renaming f w) turns
+
+-- a slot that fits is what its name stands for
+abbrev pub WrittenLaw : Type 0
+WrittenLaw = (scope : Scope) (slot : Slot) (t : SplType) → SlotFits scope slot t → stands_for scope (written scope slot) ≡ Some slot
+
+-- the code of an expression comes to what it comes to over the names that are written for its slots, where each has the
+-- value of what it stands for
+abbrev pub NamesLaw : Type 0
+NamesLaw = (calls : Calls) (scope : Scope) (e : Expr) (wanted : Wanted) (t : Typed) → typing scope e wanted ≡ Ok t → (env : Env) (turns : ℕ)
+    → code_value calls (renamed (written scope) t.code) (named_world scope env) turns ≡ code_value calls t.code (world_of env) turns
