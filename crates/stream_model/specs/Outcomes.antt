@@ -5,7 +5,7 @@ use Rattle.spl_value.specs.declared.item.FaultKind.TheVariants as K
 use Rattle.spl_value.specs.declared.value.Value.{Value}
 use Rattle.spl_value.specs.Calls.{CallOutcome, Gives, Faults, Unfit}
 
--- an answer with the turns that are left, a fault, or neither, where what is evaluated doesn't fit
+-- an answer with the turns that are left, a fault, or neither, which comes only where what is evaluated doesn't fit
 pub data Outcome (A : Type 0) : Type 0 where
   Done : A → ℕ → Outcome A
   Faulted : FaultKind → Outcome A

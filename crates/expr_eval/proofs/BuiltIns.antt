@@ -1,0 +1,152 @@
+-- What a built-in call comes to, by what its arguments came to.
+use Rattle.std.specs.Prelude.{◌≡◌, ◌≤◌, ◌<◌, ℕ, suc, List, [], ◌∷◌, length, Result, IsErrAnd}
+use Rattle.std.proofs.Common.{refl, sym, ap, ◌∙◌, arith, get_or}
+use Rattle.spl_value.specs.declared.types.SplType.{SplType}
+use Rattle.spl_value.specs.declared.value.Value.{Value}
+use Rattle.spl_tree.specs.declared.code.BuiltIn.{BuiltIn}
+use Rattle.spl_tree.specs.declared.code.Code.{Code}
+use Rattle.spl_tree.specs.declared.code.Code.TheVariants as C
+use Rattle.spl_tree.specs.declared.code.Function.{Function}
+use Rattle.spl_tree.specs.declared.code.Slot.{Slot}
+use Rattle.stream_model.specs.declared.env.Env.{Env}
+use Rattle.stream_model.specs.declared.scope.Scope.{Scope}
+use Rattle.stream_model.specs.CodeFits as F
+use Rattle.stream_model.specs.CodeFits.{ArgumentsFit, BuiltInGives}
+use Rattle.stream_model.specs.Evaluation.{World, Calls, code_value}
+use Rattle.stream_model.specs.EvaluationLaws.{values_of}
+use Rattle.stream_model.specs.Operators.{built_in_of}
+use Rattle.stream_model.specs.Outcomes.{Done, followed, settled}
+use Rattle.expr_eval.specs.Answers.{StopsAs, Answers, Settles}
+use Rattle.expr_eval.specs.Fitting.{IsFit}
+use Rattle.expr_eval.specs.declared.stop.Stop.{Stop}
+use Rattle.expr_eval.proofs.CodeParts.{built_in_parts}
+use Rattle.expr_eval.proofs.Following.{followed_stops, stops, stops_by, answers_by, settled_answers}
+
+-- ---- how many arguments there are
+
+arguments_length : (scope : Scope) (xs : List (Code Slot)) (ts : List SplType) → ArgumentsFit scope xs ts → length xs ≡ length ts
+arguments_length scope _ _ F.no_arguments = refl
+arguments_length scope _ _ (F.argument x xs t ts f h) = ap suc (arguments_length scope xs ts h)
+
+types_length : (call : BuiltIn) (ts : List SplType) (t : SplType) → BuiltInGives call ts t → (1 ≤ length ts) × (length ts ≤ 3)
+types_length _ _ _ F.text_length = (omega arith, omega arith)
+types_length _ _ _ (F.list_size t) = (omega arith, omega arith)
+types_length _ _ _ (F.map_size k t) = (omega arith, omega arith)
+types_length _ _ _ (F.has k t) = (omega arith, omega arith)
+types_length _ _ _ (F.abs k) = (omega arith, omega arith)
+types_length _ _ _ (F.min_integer k) = (omega arith, omega arith)
+types_length _ _ _ F.min_text = (omega arith, omega arith)
+types_length _ _ _ (F.max_integer k) = (omega arith, omega arith)
+types_length _ _ _ F.max_text = (omega arith, omega arith)
+types_length _ _ _ F.substring = (omega arith, omega arith)
+
+pub one_to_three : (functions : List Function) (env : Env) (call : BuiltIn) (xs : List (Code Slot)) → IsFit functions (C.BuiltIn call xs) env → (1 ≤ length xs) × (length xs ≤ 3)
+one_to_three functions env call xs h =
+    let p = built_in_parts functions env (C.BuiltIn call xs) h call xs refl in
+    let long : length xs ≡ length p.0 = arguments_length h.1.scope xs p.0 p.1 in
+    let few = types_length call p.0 h.0 p.2 in
+    (omega (arith, few.0), omega (arith, few.1))
+
+module _ {A : Type 0} (xs : List A) where
+  pub is_one : (x : A) → 1 ≤ length xs → length xs < 2 → x ≡ get_or xs 0 x → xs ≡ x ∷ []
+  is_one = go xs
+    where
+      go : (xs : List A) (x : A) → 1 ≤ length xs → length xs < 2 → x ≡ get_or xs 0 x → xs ≡ x ∷ []
+      go [] x some few e = absurd (omega arith)
+      go (a ∷ []) x some few e = ap (λ a. a ∷ []) (sym e)
+      go (a ∷ b ∷ more) x some few e = absurd (omega arith)
+
+  pub are_two : (x y : A) → 2 ≤ length xs → length xs < 3 → x ≡ get_or xs 0 x → y ≡ get_or xs 1 y → xs ≡ x ∷ y ∷ []
+  are_two = go xs
+    where
+      go : (xs : List A) (x y : A) → 2 ≤ length xs → length xs < 3 → x ≡ get_or xs 0 x → y ≡ get_or xs 1 y → xs ≡ x ∷ y ∷ []
+      go [] x y some few e f = absurd (omega arith)
+      go (a ∷ []) x y some few e f = absurd (omega arith)
+      go (a ∷ b ∷ []) x y some few e f = λ i. sym e i ∷ sym f i ∷ []
+      go (a ∷ b ∷ c ∷ more) x y some few e f = absurd (omega arith)
+
+  pub are_three : (x y z : A) → 3 ≤ length xs → length xs < 4 → x ≡ get_or xs 0 x → y ≡ get_or xs 1 y → z ≡ get_or xs 2 z → xs ≡ x ∷ y ∷ z ∷ []
+  are_three = go xs
+    where
+      go : (xs : List A) (x y z : A) → 3 ≤ length xs → length xs < 4 → x ≡ get_or xs 0 x → y ≡ get_or xs 1 y → z ≡ get_or xs 2 z → xs ≡ x ∷ y ∷ z ∷ []
+      go [] x y z some few e f g = absurd (omega arith)
+      go (a ∷ []) x y z some few e f g = absurd (omega arith)
+      go (a ∷ b ∷ []) x y z some few e f g = absurd (omega arith)
+      go (a ∷ b ∷ c ∷ []) x y z some few e f g = λ i. sym e i ∷ sym f i ∷ sym g i ∷ []
+      go (a ∷ b ∷ c ∷ d ∷ more) x y z some few e f g = absurd (omega arith)
+
+-- ---- their values
+
+module _ (calls : Calls) (w : World Slot) where
+  -- the first of several
+  module _ (x : Code Slot) (rest : List (Code Slot)) (turns : ℕ) where
+    stops_first : (s : Stop) → StopsAs (code_value calls x w turns) s → StopsAs (values_of calls (x ∷ rest) w turns) s
+    stops_first s h = followed_stops (code_value calls x w turns) (λ v turns. followed (values_of calls rest w turns) (λ vs turns. Done (v ∷ vs) turns)) s h
+
+    module _ (v : Value) (after : ℕ) (d : code_value calls x w turns ≡ Done v after) where
+      behind : values_of calls (x ∷ rest) w turns ≡ followed (values_of calls rest w after) (λ vs turns. Done (v ∷ vs) turns)
+      behind = ap (λ o. followed o (λ v turns. followed (values_of calls rest w turns) (λ vs turns. Done (v ∷ vs) turns))) d
+
+      stops_behind : (s : Stop) → StopsAs (values_of calls rest w after) s → StopsAs (values_of calls (x ∷ rest) w turns) s
+      stops_behind s h = stops_by _ _ s behind (followed_stops (values_of calls rest w after) (λ vs turns. Done (v ∷ vs) turns) s h)
+
+      values_behind : (vs : List Value) (left : ℕ) → values_of calls rest w after ≡ Done vs left → values_of calls (x ∷ rest) w turns ≡ Done (v ∷ vs) left
+      values_behind vs left h = behind ∙ ap (λ o. followed o (λ vs turns. Done (v ∷ vs) turns)) h
+
+  module _ (xs : List (Code Slot)) (turns : ℕ) where
+    -- a call with one argument
+    module _ (x : Code Slot) (e : xs ≡ x ∷ []) where
+      pub one_stops : (s : Stop) → StopsAs (code_value calls x w turns) s → StopsAs (values_of calls xs w turns) s
+      one_stops s h = stops_by _ _ s (ap (λ xs. values_of calls xs w turns) e) (stops_first x [] turns s h)
+
+      pub one_value : (v : Value) (left : ℕ) → code_value calls x w turns ≡ Done v left → values_of calls xs w turns ≡ Done (v ∷ []) left
+      one_value v left d = ap (λ xs. values_of calls xs w turns) e ∙ values_behind x [] turns v left d [] left refl
+
+    -- a call with two
+    module _ (x y : Code Slot) (e : xs ≡ x ∷ y ∷ []) where
+      pub first_of_two_stops : (s : Stop) → StopsAs (code_value calls x w turns) s → StopsAs (values_of calls xs w turns) s
+      first_of_two_stops s h = stops_by _ _ s (ap (λ xs. values_of calls xs w turns) e) (stops_first x (y ∷ []) turns s h)
+
+      module _ (v : Value) (after : ℕ) (d : code_value calls x w turns ≡ Done v after) where
+        pub second_of_two_stops : (s : Stop) → StopsAs (code_value calls y w after) s → StopsAs (values_of calls xs w turns) s
+        second_of_two_stops s h = stops_by _ _ s (ap (λ xs. values_of calls xs w turns) e) (stops_behind x (y ∷ []) turns v after d s (stops_first y [] after s h))
+
+        pub two_values : (u : Value) (left : ℕ) → code_value calls y w after ≡ Done u left → values_of calls xs w turns ≡ Done (v ∷ u ∷ []) left
+        two_values u left f =
+            ap (λ xs. values_of calls xs w turns) e
+            ∙ values_behind x (y ∷ []) turns v after d (u ∷ []) left (values_behind y [] after u left f [] left refl)
+
+    -- a call with three
+    module _ (x y z : Code Slot) (e : xs ≡ x ∷ y ∷ z ∷ []) where
+      pub first_of_three_stops : (s : Stop) → StopsAs (code_value calls x w turns) s → StopsAs (values_of calls xs w turns) s
+      first_of_three_stops s h = stops_by _ _ s (ap (λ xs. values_of calls xs w turns) e) (stops_first x (y ∷ z ∷ []) turns s h)
+
+      module _ (v : Value) (after : ℕ) (d : code_value calls x w turns ≡ Done v after) where
+        pub second_of_three_stops : (s : Stop) → StopsAs (code_value calls y w after) s → StopsAs (values_of calls xs w turns) s
+        second_of_three_stops s h =
+            stops_by _ _ s (ap (λ xs. values_of calls xs w turns) e) (stops_behind x (y ∷ z ∷ []) turns v after d s (stops_first y (z ∷ []) after s h))
+
+        module _ (u : Value) (later : ℕ) (f : code_value calls y w after ≡ Done u later) where
+          pub third_of_three_stops : (s : Stop) → StopsAs (code_value calls z w later) s → StopsAs (values_of calls xs w turns) s
+          third_of_three_stops s h =
+              stops_by _ _ s (ap (λ xs. values_of calls xs w turns) e)
+              (stops_behind x (y ∷ z ∷ []) turns v after d s (stops_behind y (z ∷ []) after u later f s (stops_first z [] later s h)))
+
+          pub three_values : (t : Value) (left : ℕ) → code_value calls z w later ≡ Done t left → values_of calls xs w turns ≡ Done (v ∷ u ∷ t ∷ []) left
+          three_values t left g =
+              ap (λ xs. values_of calls xs w turns) e
+              ∙ values_behind x (y ∷ z ∷ []) turns v after d (u ∷ t ∷ []) left
+              (values_behind y (z ∷ []) after u later f (t ∷ []) left (values_behind z [] later t left g [] left refl))
+
+  module _ (call : BuiltIn) (xs : List (Code Slot)) (turns : ℕ) where
+    pub called_stops : (r : Result Value Stop) (left : ℕ) (s : Stop) → IsErrAnd r (λ y. y ≡ s) → StopsAs (values_of calls xs w turns) s
+        → Answers (followed (values_of calls xs w turns) (λ vs left. settled (built_in_of call vs) left)) r left
+    called_stops r left s h f = stops _ r left s h (followed_stops (values_of calls xs w turns) (λ vs left. settled (built_in_of call vs) left) s f)
+
+    -- the arguments are read as us
+    pub called_answers : (vs us : List Value) (left : ℕ) (r : Result Value Stop) → values_of calls xs w turns ≡ Done vs left → us ≡ vs → Settles (built_in_of call us) r
+        → Answers (followed (values_of calls xs w turns) (λ vs left. settled (built_in_of call vs) left)) r left
+    called_answers vs us left r e same h =
+        answers_by _ (settled (built_in_of call us) left) r left
+        (ap (λ o. followed o (λ vs left. settled (built_in_of call vs) left)) e ∙ ap (λ vs. settled (built_in_of call vs) left) (sym same))
+        (settled_answers (built_in_of call us) r left h)

@@ -1,0 +1,14 @@
+use Rattle.std.proofs.Common.{◌≡◌, ℕ, ◌≤◌, length, take}
+use Rattle.stream_model.specs.Evaluation.{unaries_of}
+use Rattle.expr_eval.specs.Answers.{held}
+use Rattle.expr_eval.specs.Fitting.{FitsUnaries}
+use Rattle.expr_eval.proofs.operators.unaries_of.Given as goal
+
+abbrev pub invariant-operators : goal.invariant-operators
+invariant-operators l =
+    (l.at ≤ length l.operators)
+    × FitsUnaries (take l.at l.operators) (held l.value)
+    × ((turns : ℕ) → unaries_of l.operators (held l.fn.operand) turns ≡ unaries_of (take l.at l.operators) (held l.value) turns)
+
+abbrev pub decreases-operators : goal.decreases-operators
+decreases-operators l = l.at

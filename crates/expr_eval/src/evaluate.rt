@@ -1,0 +1,371 @@
+//! The value of a code, by a call for each form of code.
+ghost use Rattle.std.specs.Prelude.{◌≡◌, ◌∷◌, []};
+ghost use Rattle.spl_value.specs.declared.types.SplType.TheVariants as T;
+ghost use Rattle.spl_tree.specs.declared.code.Code.TheVariants as C;
+ghost use Rattle.stream_model.specs.Outcomes.{Done, followed, settled, enter};
+ghost use Rattle.stream_model.specs.Operators.{built_in_of};
+ghost use Rattle.stream_model.specs.Evaluation.{code_value, calls_of, world_of, value, binary, taken, map_of};
+ghost use Rattle.stream_model.specs.EvaluationLaws.{values_of, pair_values, field_values, taking_meaning, takings_value, truth_value};
+ghost use Rattle.stream_model.specs.WorldFits.{Fits};
+ghost use Rattle.expr_eval.specs.Answers.{Answers, AnswersHeld, Evaluates, held};
+ghost use Rattle.expr_eval.specs.Fitting.{IsFit, AreFit, PairsAreFit, FieldsAreFit, FitTakings, FitCall};
+
+use crate::calls::{one_argument, three_arguments, two_arguments};
+use crate::held::Held;
+use crate::operators::{binary_of, unaries_of};
+use crate::slots::{enter, is_marker, slot_value, truth_of, tuple_of};
+use crate::stop::Stop;
+use crate::taking::{at_key, element, member};
+use spl_tree::{BinaryCode, BuiltIn, Code, Functions, Slot, Taking};
+use spl_value::{Evaluated, FaultKind, Items, Pairs, Value, Values};
+use std::alloc::Global;
+use stream_model::{Env, evaluation_law};
+
+/// How many codes may be evaluated inside one another, those of called functions too, since the stack
+/// is memory. No expression that is parsed nests so deep.
+pub const DEEPEST: u32 = 1500;
+
+/// What a code is evaluated in.
+#[derive(Clone, Copy)]
+struct Context<'e> {
+    alloc: Global,
+    functions: &'e Functions,
+    env: &'e Env,
+    /// How deep calls may nest.
+    depth: u32,
+}
+
+/// The value of a code in an environment, or its fault, with the turns that are left.
+///
+/// Each call of a function takes a turn, and the fault `Turns` comes where none is left. `Memory` also
+/// stands for codes that nest deeper than `DEEPEST`.
+pub fn eval(
+    alloc: Global,
+    functions: &Functions,
+    code: &Code<Slot>,
+    env: &Env,
+    turns: &mut u32,
+) -> Evaluated
+    requires { IsFit functions.now code.now env.now }
+    ensures { Evaluates (value functions.now code.now (world_of env.now) turns.old) result turns.new }
+{
+    let context = Context {
+        alloc,
+        functions,
+        env,
+        depth: *turns,
+    };
+    match eval_at(&context, DEEPEST, code, turns) {
+        Ok(held) => match held.into_value(alloc) {
+            Ok(value) => Evaluated::Value(value),
+            Err(_) => Evaluated::Memory,
+        },
+        Err(Stop::Fault(kind)) => Evaluated::Bad(kind),
+        Err(Stop::Memory) => Evaluated::Memory,
+    }
+}
+
+/// The value of a code, where codes may nest `room` deep.
+#[cycle(eval)]
+fn eval_at<'e>(
+    context: &Context<'e>,
+    room: u32,
+    code: &'e Code<Slot>,
+    turns: &mut u32,
+) -> Result<Held<'e>, Stop>
+    requires { IsFit context.now.functions.now code.now context.now.env.now }
+    ensures { AnswersHeld (code_value (calls_of context.now.functions.now context.now.depth) code.now (world_of context.now.env.now) turns.old) result turns.new }
+{
+    evaluation_law();
+    let Some(room) = room.checked_sub(1) else {
+        return Err(Stop::Memory);
+    };
+    match code {
+        Code::Literal(value) => Ok(Held::Lent(value)),
+        Code::Name(slot) => slot_value(context.alloc, context.env, *slot),
+        Code::Select(base, takings) => {
+            let first = eval_at(context, room, base.get(), turns)?;
+            taken_all(context, room, takings.as_slice(), first, turns)
+        }
+        Code::Unary(operators, operand) => {
+            let operand = eval_at(context, room, operand.get(), turns)?;
+            unaries_of(context.alloc, operators.as_slice(), operand)
+        }
+        Code::Binary(operator, left, right) => {
+            binary(context, room, *operator, left.get(), right.get(), turns)
+        }
+        Code::Conditional(condition, first, second) => {
+            if is_true(context, room, condition.get(), turns)? {
+                eval_at(context, room, first.get(), turns)
+            } else {
+                eval_at(context, room, second.get(), turns)
+            }
+        }
+        Code::List(codes) => {
+            let values = eval_all(context, room, codes.as_slice(), turns)?;
+            Ok(Held::Own(Value::List(values)))
+        }
+        Code::Map(pairs) => {
+            let map = eval_pairs(context, room, pairs.as_slice(), turns)?;
+            Ok(Held::Own(Value::Map(map)))
+        }
+        Code::Tuple(fields) => {
+            let fields = eval_fields(context, room, fields.as_slice(), turns)?;
+            let values = tuple_of(context.alloc, fields)?;
+            Ok(Held::Own(Value::Tuple(values)))
+        }
+        Code::BuiltIn(call, codes) => {
+            let value = built_in(context, room, *call, codes.as_slice(), turns)?;
+            Ok(Held::Own(value))
+        }
+        Code::Call(place, codes) => {
+            let values = eval_all(context, room, codes.as_slice(), turns)?;
+            let value = call(context, room, *place, values, turns)?;
+            Ok(Held::Own(value))
+        }
+        Code::IsMarker(marker) => Ok(Held::Own(Value::Bool(is_marker(context.env, *marker)))),
+        Code::IsNotMarker(marker) => Ok(Held::Own(Value::Bool(!is_marker(context.env, *marker)))),
+    }
+}
+
+/// The value of a code, as one of its own.
+#[cycle(eval)]
+fn own_value<'e>(
+    context: &Context<'e>,
+    room: u32,
+    code: &'e Code<Slot>,
+    turns: &mut u32,
+) -> Result<Value, Stop>
+    requires { IsFit context.now.functions.now code.now context.now.env.now }
+    ensures { Answers (code_value (calls_of context.now.functions.now context.now.depth) code.now (world_of context.now.env.now) turns.old) result turns.new }
+{
+    let held = eval_at(context, room, code, turns)?;
+    Ok(held.into_value(context.alloc)?)
+}
+
+/// The values of codes, from left to right.
+#[cycle(eval)]
+fn eval_all<'e>(
+    context: &Context<'e>,
+    room: u32,
+    codes: &'e [Code<Slot>],
+    turns: &mut u32,
+) -> Result<Values, Stop>
+    requires { AreFit context.now.functions.now codes.now context.now.env.now }
+    ensures { Answers (values_of (calls_of context.now.functions.now context.now.depth) codes.now (world_of context.now.env.now) turns.old) result turns.new }
+{
+    let mut values = Items::new(context.alloc);
+    for code in codes {
+        let value = own_value(context, room, code, turns)?;
+        values.push(value)?;
+    }
+    Ok(values)
+}
+
+/// The map of pairs: of those with one key the last counts.
+#[cycle(eval)]
+fn eval_pairs<'e>(
+    context: &Context<'e>,
+    room: u32,
+    pairs: &'e [(Code<Slot>, Code<Slot>)],
+    turns: &mut u32,
+) -> Result<Pairs, Stop>
+    requires { PairsAreFit context.now.functions.now pairs.now context.now.env.now }
+    ensures { Answers (followed (pair_values (calls_of context.now.functions.now context.now.depth) pairs.now (world_of context.now.env.now) turns.old) (λ ps left. Done (map_of ps) left)) result turns.new }
+{
+    let mut map = Items::new(context.alloc);
+    for pair in pairs {
+        let key = own_value(context, room, &pair.0, turns)?;
+        let value = own_value(context, room, &pair.1, turns)?;
+        map.put(key, value)?;
+    }
+    Ok(map)
+}
+
+/// The values of fields with their places, in the order of the text.
+#[cycle(eval)]
+fn eval_fields<'e>(
+    context: &Context<'e>,
+    room: u32,
+    fields: &'e [(u32, Code<Slot>)],
+    turns: &mut u32,
+) -> Result<Items<(u32, Value)>, Stop>
+    requires { FieldsAreFit context.now.functions.now fields.now context.now.env.now }
+    ensures { Answers (field_values (calls_of context.now.functions.now context.now.depth) fields.now (world_of context.now.env.now) turns.old) result turns.new }
+{
+    let mut values = Items::new(context.alloc);
+    for field in fields {
+        let value = own_value(context, room, &field.1, turns)?;
+        values.push((field.0, value))?;
+    }
+    Ok(values)
+}
+
+/// What is taken of a value in turn.
+#[cycle(eval)]
+fn taken_all<'e>(
+    context: &Context<'e>,
+    room: u32,
+    takings: &'e [Taking<Code<Slot>>],
+    first: Held<'e>,
+    turns: &mut u32,
+) -> Result<Held<'e>, Stop>
+    requires { FitTakings context.now.functions.now takings.now context.now.env.now (held first) }
+    ensures { AnswersHeld (takings_value (calls_of context.now.functions.now context.now.depth) takings.now (held first.entry) (world_of context.now.env.now) turns.old) result turns.new }
+{
+    evaluation_law();
+    let mut value = first;
+    for taking in takings {
+        value = taken(context, room, taking, value, turns)?;
+    }
+    Ok(value)
+}
+
+/// What one taking gives of a value.
+#[cycle(eval)]
+fn taken<'e>(
+    context: &Context<'e>,
+    room: u32,
+    taking: &'e Taking<Code<Slot>>,
+    value: Held<'e>,
+    turns: &mut u32,
+) -> Result<Held<'e>, Stop>
+    requires { FitTakings context.now.functions.now (taking.now ∷ []) context.now.env.now (held value) }
+    ensures { AnswersHeld (taken (taking_meaning (calls_of context.now.functions.now context.now.depth) taking.now) (held value.entry) (world_of context.now.env.now) turns.old) result turns.new }
+{
+    evaluation_law();
+    match taking {
+        Taking::Member(place) => Ok(member(value, *place)),
+        Taking::Element(index) => {
+            let index = eval_at(context, room, index, turns)?;
+            element(value, index.value())
+        }
+        Taking::AtKey(key) => {
+            let key = eval_at(context, room, key, turns)?;
+            at_key(value, key.value())
+        }
+    }
+}
+
+/// Whether a code is true.
+#[cycle(eval)]
+fn is_true<'e>(
+    context: &Context<'e>,
+    room: u32,
+    code: &'e Code<Slot>,
+    turns: &mut u32,
+) -> Result<bool, Stop>
+    requires { Fits context.now.functions.now code.now context.now.env.now T.Bool }
+    ensures { Answers (truth_value (calls_of context.now.functions.now context.now.depth) code.now (world_of context.now.env.now) turns.old) result turns.new }
+{
+    evaluation_law();
+    let held = eval_at(context, room, code, turns)?;
+    Ok(truth_of(held.value()))
+}
+
+/// An operator between two operands. `&&` and `||` evaluate the right one only where it counts.
+#[cycle(eval)]
+fn binary<'e>(
+    context: &Context<'e>,
+    room: u32,
+    operator: BinaryCode,
+    left: &'e Code<Slot>,
+    right: &'e Code<Slot>,
+    turns: &mut u32,
+) -> Result<Held<'e>, Stop>
+    requires { IsFit context.now.functions.now (C.Binary operator left.now right.now) context.now.env.now }
+    ensures { AnswersHeld (binary operator (code_value (calls_of context.now.functions.now context.now.depth) left.now) (code_value (calls_of context.now.functions.now context.now.depth) right.now) (world_of context.now.env.now) turns.old) result turns.new }
+{
+    evaluation_law();
+    match operator {
+        BinaryCode::And => {
+            if is_true(context, room, left, turns)? {
+                return eval_at(context, room, right, turns);
+            }
+            Ok(Held::Own(Value::Bool(false)))
+        }
+        BinaryCode::Or => {
+            if is_true(context, room, left, turns)? {
+                return Ok(Held::Own(Value::Bool(true)));
+            }
+            eval_at(context, room, right, turns)
+        }
+        _ => {
+            let left = eval_at(context, room, left, turns)?;
+            let right = eval_at(context, room, right, turns)?;
+            Ok(Held::Own(binary_of(context.alloc, operator, left.value(), right.value())?))
+        }
+    }
+}
+
+/// A call that the language has built in. Its arguments are read where they stand.
+#[cycle(eval)]
+fn built_in<'e>(
+    context: &Context<'e>,
+    room: u32,
+    call: BuiltIn,
+    codes: &'e [Code<Slot>],
+    turns: &mut u32,
+) -> Result<Value, Stop>
+    requires { IsFit context.now.functions.now (C.BuiltIn call codes.now) context.now.env.now }
+    ensures { Answers (followed (values_of (calls_of context.now.functions.now context.now.depth) codes.now (world_of context.now.env.now) turns.old) (λ vs left. settled (built_in_of call vs) left)) result turns.new }
+{
+    evaluation_law();
+    match codes {
+        [first] => {
+            let first = eval_at(context, room, first, turns)?;
+            one_argument(call, first.value())
+        }
+        [first, second] => {
+            let first = eval_at(context, room, first, turns)?;
+            let second = eval_at(context, room, second, turns)?;
+            two_arguments(context.alloc, call, first.value(), second.value())
+        }
+        [first, second, third] => {
+            let first = eval_at(context, room, first, turns)?;
+            let second = eval_at(context, room, second, turns)?;
+            let third = eval_at(context, room, third, turns)?;
+            three_arguments(
+                context.alloc,
+                call,
+                first.value(),
+                second.value(),
+                third.value(),
+            )
+        }
+        _ => unreachable!(),
+    }
+}
+
+/// What a function gives for arguments. The call takes a turn.
+#[cycle(eval)]
+fn call<'e>(
+    context: &Context<'e>,
+    room: u32,
+    place: u32,
+    values: Values,
+    turns: &mut u32,
+) -> Result<Value, Stop>
+    requires { FitCall context.now.functions.now place values }
+    ensures { Answers (enter turns.old (λ turns. calls_of context.now.functions.now context.now.depth place values turns)) result turns.new }
+{
+    enter(turns)?;
+    if context.depth == 0 {
+        return Err(Stop::Fault(FaultKind::Turns));
+    }
+    let Some(function) = context.functions.get(place as usize) else {
+        unreachable!()
+    };
+    let env = Env {
+        inputs: Items::new(context.alloc),
+        vars: values,
+        punct: None,
+    };
+    let context = Context {
+        alloc: context.alloc,
+        functions: &*context.functions,
+        env: &env,
+        depth: context.depth - 1,
+    };
+    own_value(&context, room, &function.body, turns)
+}

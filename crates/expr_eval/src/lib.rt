@@ -1,0 +1,14 @@
+//! The values of typed expressions.
+#![tactic(auto)]
+
+mod calls;
+mod evaluate;
+mod held;
+mod integers;
+mod operators;
+mod slots;
+mod stop;
+mod taking;
+
+pub use evaluate::{DEEPEST, eval};
+pub use stream_model::{Env, Tuples};
