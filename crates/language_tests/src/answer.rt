@@ -2,10 +2,8 @@
 use crate::code::add_code;
 use crate::fixture::{Place, scope};
 use crate::kinds::{Kinds, add_kind};
+use crate::reading::read;
 use crate::shown::Shown;
-use expr_parser::{ParsedExpr, parse_expr};
-use spl_lexer::lex;
-use spl_tree::Expr;
 use spl_value::SplType;
 use std::alloc::{AllocError, Global};
 use std::process::Abort;
@@ -17,24 +15,6 @@ use type_rules::{TypeAnswer, type_of};
 /// `TYPE | CODE`, or the refusal with its byte, as `Mismatch at 4`, and with the unknown name, as
 /// `Unknown at 0 z`.
 pub(crate) type Row = (&'static str, &'static str, &'static str);
-
-// The expression that a whole text is, or why it isn't one.
-fn read(alloc: Global, text: &str) -> Result<Expr, &'static str> {
-    let Ok(tokens) = lex(alloc, text.as_bytes()) else {
-        return Err("no tokens");
-    };
-    let count = tokens.list.len();
-    if count > 1_048_576 {
-        return Err("too many tokens");
-    }
-    let Ok(ParsedExpr { expr, next }) = parse_expr(alloc, &tokens, 0) else {
-        return Err("no expression");
-    };
-    if (next as usize) < count {
-        return Err("more than an expression");
-    }
-    Ok(expr)
-}
 
 fn add_typed(shown: &mut Shown, typed: &Typed) {
     add_kind(shown, typed.kind.get());
@@ -61,11 +41,18 @@ fn add_refusal(shown: &mut Shown, refusal: &TypeRefusal) {
     }
 }
 
+/// Adds why there is no type.
+pub(crate) fn add_untyped(shown: &mut Shown, answer: &TypeAnswer) {
+    match answer {
+        TypeAnswer::Refused(refusal) => add_refusal(shown, refusal),
+        TypeAnswer::Memory => shown.add("no memory"),
+    }
+}
+
 fn add_answer(shown: &mut Shown, answer: &Result<Typed, TypeAnswer>) {
     match answer {
         Ok(typed) => add_typed(shown, typed),
-        Err(TypeAnswer::Refused(refusal)) => add_refusal(shown, refusal),
-        Err(TypeAnswer::Memory) => shown.add("no memory"),
+        Err(answer) => add_untyped(shown, answer),
     }
 }
 

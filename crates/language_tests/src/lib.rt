@@ -10,7 +10,11 @@ mod changes;
 #[cfg(test)]
 mod code;
 #[cfg(test)]
+mod context;
+#[cfg(test)]
 mod fixture;
+#[cfg(test)]
+mod functions;
 #[cfg(test)]
 mod integers;
 #[cfg(test)]
@@ -26,6 +30,16 @@ mod operators;
 #[cfg(test)]
 mod orders;
 #[cfg(test)]
+mod prepared;
+#[cfg(test)]
+mod reading;
+#[cfg(test)]
 mod shown;
 #[cfg(test)]
 mod takings;
+#[cfg(test)]
+mod typed;
+#[cfg(test)]
+mod value;
+#[cfg(test)]
+mod values;

@@ -1,0 +1,6 @@
+use Rattle.language_tests.proofs.Steps.{with_variable}
+use Rattle.language_tests.proofs.context.Context.add_variable.Goals as goal
+
+pub returns : goal.returns
+returns c =
+    with_variable c.args.self.now.scope c.args.self.now.env c.args.self.now.functions _ _ c.requires _ _ c.in_ok-push.ensures.ok c.in_ok-push-2.ensures.ok c.in_ok-kind.ensures

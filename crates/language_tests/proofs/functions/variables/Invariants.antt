@@ -1,0 +1,6 @@
+use Rattle.std.proofs.Common.{◌≡◌, map, take}
+use Rattle.stream_model.specs.declared.scope.Variable.{Variable}
+use Rattle.language_tests.proofs.functions.variables.Given as goal
+
+abbrev pub invariant-loop-at : goal.invariant-loop-at
+invariant-loop-at l = map {A = Variable} (λ x. x.kind) l.made ≡ take l.at l.kinds

@@ -1,0 +1,43 @@
+//! Texts, typed in a scope.
+ghost use Rattle.std.specs.Prelude.{◌≡◌, Some, IfOk};
+ghost use Rattle.std.specs.Option.{option_copied};
+ghost use Rattle.spl_value.specs.declared.types.SplType.{SplType};
+ghost use Rattle.stream_model.specs.CodeFits.{CodeFits};
+
+use crate::reading::read;
+use spl_value::{FaultKind, SplType};
+use std::alloc::Global;
+use stream_model::{Scope, Typed, typing_law};
+use type_rules::{TypeAnswer, type_of};
+
+/// Why a text has no value.
+#[derive(Debug, Drop)]
+pub(crate) enum Unvalued {
+    /// It is no expression.
+    Unread(&'static str),
+    Untyped(TypeAnswer),
+    Fault(FaultKind),
+    Memory,
+}
+
+/// The type and the code of a text.
+pub(crate) fn typed(
+    alloc: Global,
+    scope: &Scope,
+    text: &str,
+    wanted: Option<&SplType>,
+) -> Result<Typed, Unvalued>
+    ensures fits { IfOk result (λ t. CodeFits scope.now t.code t.kind) }
+    ensures wanted { (u : SplType) → option_copied wanted.entry ≡ Some u
+        → IfOk result (λ t. t.kind ≡ u) }
+{
+    typing_law();
+    let expr = match read(alloc, text) {
+        Ok(expr) => expr,
+        Err(why) => return Err(Unvalued::Unread(why)),
+    };
+    match type_of(alloc, scope, &expr, wanted) {
+        Ok(typed) => Ok(typed),
+        Err(answer) => Err(Unvalued::Untyped(answer)),
+    }
+}
