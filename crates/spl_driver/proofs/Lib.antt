@@ -5,8 +5,11 @@ pub mod Preparing
 pub mod FirstLine
 pub mod NumberLines
 pub mod NumberRows
+pub mod OneOutcome
 pub mod Standing
 pub mod SameKinds
-pub mod Spelled
+pub mod Filtering
 pub mod Forms
+pub mod OneForm
 pub mod Completing
+pub mod Telling

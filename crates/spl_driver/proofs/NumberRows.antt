@@ -1,18 +1,23 @@
 -- The stream of a file whose lines are numbers.
-use Rattle.std.specs.Prelude.{◌+◌, ◌-◌, ◌≤◌, is_some, IfOk, IfSome, Result, Ok, Err}
-use Rattle.std.proofs.Common.{◌≡◌, ◌==◌, ◌^◌, ◌∷◌, ◌∙◌, [], ℕ, ℤ, suc, List, Bool, Option, Some, None, true, refl, sym, ap, length, inl, inr, arith}
+use Rattle.std.specs.Prelude.{◌+◌, ◌-◌, ◌≤◌, ◌&&◌, if◌then◌else◌, is_some, IfOk, IfSome, Result, Ok, Err}
+use Rattle.std.proofs.Common.{◌≡◌, ◌==◌, ◌^◌, ◌∷◌, ◌∙◌, [], ℕ, ℤ, suc, List, Bool, Option, Some, None, true, false, refl, sym, ap, subst, length, inl, inr, arith}
 use Rattle.std.specs.List.{list_all}
 use Rattle.std.proofs.lemmas.Bool.{cases_Bool, and_parts}
-use Rattle.spl_value.specs.Decimal.{integer_of}
+use Rattle.spl_value.specs.Decimal.{number, in_kind, integer_of}
+use Rattle.spl_value.specs.FitsLaws.{fits_int, fits_tuple}
+use Rattle.spl_value.specs.Values.{kind_holds}
+use Rattle.spl_value.specs.declared.types.IntKind.{IntKind}
+use Rattle.spl_value.specs.declared.value.Value.TheVariants as V
 use Rattle.spl_value.specs.Script.{End}
 use Rattle.spl_value.specs.declared.item.Item.{Item}
 use Rattle.spl_value.specs.declared.memory.NoMemory.{NoMemory}
 use Rattle.spl_value.specs.declared.types.IntKind.TheVariants.{I64}
-use Rattle.stream_model.specs.Rows.{pieces, onto_first, items_from, rows}
+use Rattle.stream_model.specs.Rows.{pieces, onto_first, items_from, rows, closing}
 use Rattle.stream_model.specs.RowsLaws.{some_pieces}
 use Rattle.stream_model.specs.Laws.{but_empty_last, lines}
-use Rattle.spl_driver.specs.Lines.{line_number, row_in_front, number_rows}
-use Rattle.spl_driver.specs.Source.{is_number_line, is_number_file, price_setting}
+use Rattle.spl_driver.specs.Lines.{line_number, number_row, row_in_front, number_rows}
+use Rattle.spl_driver.specs.Filter.{IsPrice, ArePrices}
+use Rattle.spl_driver.specs.Source.{is_number_line, is_number_file, price_schema, price_setting}
 use Rattle.spl_driver.proofs.NumberLines.{has_number, piece_row}
 
 -- the lines among these pieces are numbers
@@ -89,3 +94,39 @@ stream_of (Ok (Some items)) bytes small e =
     let same = file_rows bytes small (sym form) in
     cc
 stream_of (Err failed) bytes small e = tt
+
+-- ---- the rows are tuples of the schema
+
+held_in : (k : IntKind) (o : Option ℤ) (n : ℤ) → in_kind k o ≡ Some n → kind_holds k n ≡ true
+held_in k None n e = cc
+held_in k (Some m) n e = by (kind_holds k m) refl e
+  where
+    by : (b : Bool) → kind_holds k m ≡ b → (if b then Some m else None) ≡ Some n → kind_holds k n ≡ true
+    by true is e = let same : m ≡ n = cc in ap (kind_holds k) (sym same) ∙ is
+    by false is e = cc
+
+held_line : (line : List ℕ) (n : ℤ) → line_number line ≡ Some n → kind_holds I64 n ≡ true
+held_line line n e = by (is_number_line line) e
+  where
+    by : (b : Bool) → (if b then integer_of I64 line else None) ≡ Some n → kind_holds I64 n ≡ true
+    by true e = held_in I64 (number line) n e
+    by false e = cc
+
+price_row : (n : ℤ) → kind_holds I64 n ≡ true → IsPrice (V.Int n ∷ [])
+price_row n h = fits_tuple price_schema (V.Int n ∷ []) ∙ ap (λ (b : Bool). b && true) (fits_int I64 n ∙ h)
+
+prices_in : (lines : List (List ℕ)) (items : List Item) → number_rows lines ≡ Some items → ArePrices items
+prices_in [] items e = let same : closing ≡ items = cc in subst ArePrices same tt
+prices_in (line ∷ lines) items e = by (line_number line) refl (number_rows lines) refl e (prices_in lines)
+  where
+    by : (o : Option ℤ) → line_number line ≡ o → (more : Option (List Item)) → number_rows lines ≡ more → row_in_front o more ≡ Some items
+        → ((rest : List Item) → number_rows lines ≡ Some rest → ArePrices rest) → ArePrices items
+    by None is more has e go = cc
+    by (Some n) is None has e go = cc
+    by (Some n) is (Some rest) has e go = let same : number_row n ∷ rest ≡ items = cc in subst ArePrices same (price_row n (held_line line n is), go rest has)
+
+pub prices_of : (result : Result (Option (List Item)) NoMemory) (bytes : List ℕ) → IfOk result (λ stream. stream ≡ number_rows (lines bytes))
+    → IfOk result (λ stream. IfSome stream ArePrices)
+prices_of (Ok None) bytes e = tt
+prices_of (Ok (Some items)) bytes e = prices_in (lines bytes) items (sym e)
+prices_of (Err failed) bytes e = tt

@@ -9,19 +9,24 @@ use Rattle.feed_pour.specs.Named.{FetchedOf, FetchCounted, read_failed}
 use Rattle.feed_pour.specs.declared.named.Fetched.{Fetched}
 use Rattle.spl_driver.proofs.Quiet.{same_or_not}
 use Rattle.feed_pour.specs.declared.named.Fetched.TheVariants as F
-use Rattle.stream_model.specs.declared.condition.Condition.{Condition}
+use Rattle.spl_tree.specs.declared.code.Code.{Code}
+use Rattle.spl_tree.specs.declared.code.Slot.{Slot}
+use Rattle.expr_parser.specs.Expressions.{one_tree}
 use Rattle.stream_model.specs.declared.record.Arrivals.{Arrivals}
 use Rattle.stream_model.specs.Meaning.{Graph, meaning}
-use Rattle.spl_driver.specs.Program.{program_form, form_in, lexical_refusal, accepted, graph_with, graph_of}
+use Rattle.spl_driver.specs.Program.{IsForm, IsGraph, lexical_refusal, no_graph, graph_with, graph_of}
+use Rattle.spl_driver.specs.ProgramLaws.{OneFormLaw}
+use Rattle.spl_driver.proofs.OneForm.{one_form}
 use Rattle.spl_driver.specs.declared.cause.Refusal.{Refusal}
 use Rattle.spl_driver.specs.declared.program.Form.{Form}
 use Rattle.spl_driver.specs.declared.program.Form.TheVariants as B
 use Rattle.spl_tree.specs.declared.token.LexicalError.TheVariants as L
 use Rattle.spl_tree.specs.declared.token.TheConstants.{MOST_BYTES}
 use Rattle.spl_tree.specs.Tokens.{tokens, tokens_from, with_length}
-use Rattle.spl_driver.specs.Request.{opens, is_named, graph_or_none}
+use Rattle.spl_driver.specs.Request.{opens, is_named}
+use Rattle.spl_driver.specs.declared.request.Request.{Request}
 use Rattle.spl_driver.specs.Source.{is_number_file}
-use Rattle.spl_driver.specs.Answer.{Outcome, Unreadable, Refused, NotBuilt, Runs, is_failed, has_fault, holds_numbers, with_sources, with_program, outcome, rows_told, entries_in, accepted_in, graph_in, DeviceFailed, NoCountChanged, ReadsFailed, form_graph}
+use Rattle.spl_driver.specs.Answer.{Outcome, Unreadable, Refused, NotBuilt, Runs, is_failed, has_fault, holds_numbers, with_sources, with_program, IsOutcomeBehind, IsOutcome, rows_told, entries_in, IsGraphIn, DeviceFailed, NoCountChanged, ReadsFailed, form_graph}
 use Rattle.spl_driver.specs.Steps.{PreparedOf, PrepareCounted, SourceOf, SourceCounted}
 use Rattle.spl_driver.specs.declared.request.Request.TheVariants.{Run}
 use Rattle.spl_driver.specs.declared.prepare.Prepared.{Prepared}
@@ -44,9 +49,6 @@ no_fault s bytes e small = ap has_fault e ∙ ap (λ (b : Bool). b && false) (wi
 long_fault : (s : Script) → 1048576 < length s.bytes → has_fault s ≡ false
 long_fault s long = ap (λ (b : Bool). b && is_failed s.ending) (beyond (length s.bytes) long)
 
-pub accepted_whole : (s : Script) (bytes : List ℕ) → s ≡ record { bytes = bytes; ending = End } → accepted_in s ≡ accepted bytes
-accepted_whole s bytes e = ap accepted_in e
-
 -- what a source comes to that is read to its end, or is longer
 pub source_whole : (s : Script) (bytes : List ℕ) (b : Bool) (next : Outcome) → FetchedOf s (F.Whole bytes) 1048576 → is_number_file bytes ≡ b
     → with_sources (s ∷ []) next ≡ (if b then next else NotBuilt)
@@ -66,43 +68,69 @@ source_long s next long =
     ap (λ (f : Bool). if f || false then Unreadable else if holds_numbers s && true then next else NotBuilt) (long_fault s long)
     ∙ ap (λ (w : Bool). if (w && is_number_file s.bytes) && true then next else NotBuilt) (beyond (length s.bytes) long)
 
-outcome_behind : (t : Told) (p bytes : List ℕ) (arrivals : Arrivals) → FetchedOf (t.script p) (F.Whole bytes) 1048576
-    → outcome (Some (Run p)) t arrivals ≡ with_program (program_form bytes) t arrivals.lists
-outcome_behind t p bytes arrivals h =
-    ap (λ (f : Bool). if f then Unreadable else with_program (program_form (t.script p).bytes) t arrivals.lists) (no_fault (t.script p) bytes h.0 h.1)
-    ∙ ap (λ (s : Script). with_program (program_form s.bytes) t arrivals.lists) h.0
+-- ---- what a program comes to
+
+pub the_form : OneFormLaw
+the_form = one_form (λ e f ts d g. one_tree d g)
+
+-- a whole program is read as it is
+form_whole : (s : Script) (bytes : List ℕ) (f : Form) → s ≡ record { bytes = bytes; ending = End } → IsForm bytes f → IsForm s.bytes f
+form_whole s bytes f e is = subst (λ (bs : List ℕ). IsForm bs f) (sym (ap (λ (x : Script). x.bytes) e)) is
+
+outcome_by : (t : Told) (p : List ℕ) (arrivals : Arrivals) (f : Form) → has_fault (t.script p) ≡ false → IsForm (t.script p).bytes f
+    → IsOutcome (Some (Run p)) t arrivals (with_program f t arrivals.lists)
+outcome_by t p arrivals f quiet is =
+    subst (λ (b : Bool). IsOutcomeBehind b (t.script p).bytes t arrivals.lists (with_program f t arrivals.lists)) (sym quiet) (f, is, refl)
+
+outcome_behind : (t : Told) (p bytes : List ℕ) (arrivals : Arrivals) (f : Form) → FetchedOf (t.script p) (F.Whole bytes) 1048576 → IsForm bytes f
+    → IsOutcome (Some (Run p)) t arrivals (with_program f t arrivals.lists)
+outcome_behind t p bytes arrivals f h is = outcome_by t p arrivals f (no_fault (t.script p) bytes h.0 h.1) (form_whole (t.script p) bytes f h.0 is)
+
+one_behind : (b : Bool) (bytes : List ℕ) (t : Told) (arrivals : Arrivals) (r s : Outcome) → IsOutcomeBehind b bytes t arrivals.lists r → IsOutcomeBehind b bytes t arrivals.lists s → r ≡ s
+one_behind true bytes t arrivals r s e d = e ∙ sym d
+one_behind false bytes t arrivals r s (f, is, e) (g, has, d) = e ∙ ap (λ (x : Form). with_program x t arrivals.lists) (the_form bytes f g is has) ∙ sym d
+
+-- a request comes to one thing
+pub one_outcome : (request : Option Request) (t : Told) (arrivals : Arrivals) (r s : Outcome) → IsOutcome request t arrivals r → IsOutcome request t arrivals s → r ≡ s
+one_outcome None t arrivals r s e d = e ∙ sym d
+one_outcome (Some (Run p)) t arrivals r s e d = one_behind (has_fault (t.script p)) (t.script p).bytes t arrivals r s e d
+
+-- and has one graph
+pub one_graph : (t : Told) (p : List ℕ) (g h : Graph) → IsGraphIn (Some (Run p)) t g → IsGraph (t.script p).bytes h → g ≡ h
+one_graph t p g h (f, is, e) (k, has, d) = e ∙ ap graph_with (the_form (t.script p).bytes f k is has) ∙ sym d
 
 -- a program that is longer is refused
 abbrev too_long : Refusal
 too_long = lexical_refusal (L.TooLong, MOST_BYTES)
 
-long_refused : (bytes : List ℕ) → MOST_BYTES < length bytes → program_form bytes ≡ B.Refused too_long
+long_refused : (bytes : List ℕ) → MOST_BYTES < length bytes → IsForm bytes (B.Refused too_long)
 unfolding tokens
-long_refused bytes long = ap (λ (b : Bool). form_in (if b then Err (L.TooLong, MOST_BYTES) else with_length (length bytes) (tokens_from 0 0 bytes))) (lt-ltb MOST_BYTES (length bytes) long)
+long_refused bytes long = (
+  (L.TooLong, MOST_BYTES),
+  ap (λ (b : Bool). if b then Err (L.TooLong, MOST_BYTES) else with_length (length bytes) (tokens_from 0 0 bytes)) (lt-ltb MOST_BYTES (length bytes) long),
+  refl,
+)
 
 pub made_too_long : (told : Option Told) (p : List ℕ) → IfSome told (λ t. FetchedOf (t.script p) F.TooLong 1048576)
-    → IfSome told (λ t. (arrivals : Arrivals) → outcome (Some (Run p)) t arrivals ≡ Refused too_long)
+    → IfSome told (λ t. (arrivals : Arrivals) → IsOutcome (Some (Run p)) t arrivals (Refused too_long))
 made_too_long None p h = tt
-made_too_long (Some t) p h = λ arrivals.
-    ap (λ (f : Bool). if f then Unreadable else with_program (program_form (t.script p).bytes) t arrivals.lists) (long_fault (t.script p) h)
-    ∙ ap (λ (f : Form). with_program f t arrivals.lists) (long_refused (t.script p).bytes h)
+made_too_long (Some t) p h = λ arrivals. outcome_by t p arrivals (B.Refused too_long) (long_fault (t.script p) h) (long_refused (t.script p).bytes h)
 
 -- what a whole program comes to that is not of the form
 pub made_whole : (told : Option Told) (p bytes : List ℕ) (f : Form) → IfSome told (λ t. FetchedOf (t.script p) (F.Whole bytes) 1048576)
-    → f ≡ program_form bytes → IfSome told (λ t. (arrivals : Arrivals) → outcome (Some (Run p)) t arrivals ≡ with_program f t arrivals.lists)
+    → IsForm bytes f → IfSome told (λ t. (arrivals : Arrivals) → IsOutcome (Some (Run p)) t arrivals (with_program f t arrivals.lists))
 made_whole None p bytes f h is = tt
-made_whole (Some t) p bytes f h is = λ arrivals.
-    outcome_behind t p bytes arrivals h ∙ ap (λ (x : Form). with_program x t arrivals.lists) (sym is)
+made_whole (Some t) p bytes f h is = λ arrivals. outcome_behind t p bytes arrivals f h is
 
 -- what a request of a program with this condition comes to behind the source's script
-outcome_of_form : (t : Told) (p bytes : List ℕ) (c : Condition) (arrivals : Arrivals) → FetchedOf (t.script p) (F.Whole bytes) 1048576 → program_form bytes ≡ B.Filtered c
-    → outcome (Some (Run p)) t arrivals ≡ with_sources (t.script SOURCE ∷ []) (Runs (graph_of c) (meaning (graph_of c) (rows_told (graph_of c) t) (entries_in arrivals.lists)))
-outcome_of_form t p bytes c arrivals h form =
-    outcome_behind t p bytes arrivals h ∙ ap (λ (x : Form). with_program x t arrivals.lists) form
+outcome_of_form : (t : Told) (p bytes : List ℕ) (c : Code Slot) (arrivals : Arrivals) (result : Outcome) → FetchedOf (t.script p) (F.Whole bytes) 1048576 → IsForm bytes (B.Filtered c)
+    → with_sources (t.script SOURCE ∷ []) (Runs (graph_of c) (meaning (graph_of c) (rows_told (graph_of c) t) (entries_in arrivals.lists))) ≡ result
+    → IsOutcome (Some (Run p)) t arrivals result
+outcome_of_form t p bytes c arrivals result h form e =
+    subst (λ (r : Outcome). IsOutcome (Some (Run p)) t arrivals r) e (outcome_behind t p bytes arrivals (B.Filtered c) h form)
 
-graph_of_form : (t : Told) (p bytes : List ℕ) (c : Condition) → FetchedOf (t.script p) (F.Whole bytes) 1048576 → program_form bytes ≡ B.Filtered c
-    → accepted_in (t.script p) ≡ Some (graph_of c)
-graph_of_form t p bytes c h form = accepted_whole (t.script p) bytes h.0 ∙ ap graph_with form
+graph_of_form : (t : Told) (p bytes : List ℕ) (c : Code Slot) → FetchedOf (t.script p) (F.Whole bytes) 1048576 → IsForm bytes (B.Filtered c) → IsGraph (t.script p).bytes (graph_of c)
+graph_of_form t p bytes c h form = (B.Filtered c, form_whole (t.script p) bytes (B.Filtered c) h.0 form, refl)
 
 or-true : (b : Bool) → (b || true) ≡ true
 or-true true = refl
@@ -116,25 +144,25 @@ source_failed p source g old mid new at names same rose =
     let now = subst (λ (c : Counts). Rose c.opening (new SOURCE).opening ⊎ Rose c.reading (new SOURCE).reading) (same SOURCE) here in
     inl (SOURCE, ap (λ (ns : List (List ℕ)). is_named ns SOURCE) names ∙ or-true (bytes_eq p SOURCE), now)
 
-made_at : (t : Told) (p bytes : List ℕ) (c : Condition) (r : Prepared) (source : List ℕ) (old mid new : PerName) → source ≡ SOURCE
-    → FetchedOf (t.script p) (F.Whole bytes) 1048576 → program_form bytes ≡ B.Filtered c → SourceOf r c (t.script SOURCE) → NoCountChanged old mid → SourceCounted r source mid new
+made_at : (t : Told) (p bytes : List ℕ) (c : Code Slot) (r : Prepared) (source : List ℕ) (old mid new : PerName) → source ≡ SOURCE
+    → FetchedOf (t.script p) (F.Whole bytes) 1048576 → IsForm bytes (B.Filtered c) → SourceOf r c (t.script SOURCE) → NoCountChanged old mid → SourceCounted r source mid new
     → PreparedOf r p old new t
 made_at t p bytes c (P.Stream items) source old mid new at h form made same counted = (
   c,
   record {
     graph = graph_of_form t p bytes c h form;
-    runs = λ arrivals. outcome_of_form t p bytes c arrivals h form ∙ made.0 _;
+    runs = λ arrivals. outcome_of_form t p bytes c arrivals _ h form (made.0 _);
     items = made.1;
   },
 )
 made_at t p bytes c (P.Refused refusal) source old mid new at h form made same counted = absurd made
-made_at t p bytes c P.NotBuilt source old mid new at h form made same counted = λ arrivals. outcome_of_form t p bytes c arrivals h form ∙ made _
-made_at t p bytes c P.Device source old mid new at h form made same counted =
-    source_failed p source (graph_in (Some (Run p)) t) old mid new at (ap (λ (x : Option Graph). opens (Some (Run p)) (graph_or_none x)) (graph_of_form t p bytes c h form)) same counted.0
+made_at t p bytes c P.NotBuilt source old mid new at h form made same counted = λ arrivals. outcome_of_form t p bytes c arrivals _ h form (made _)
+made_at t p bytes c P.Device source old mid new at h form made same counted = λ g is.
+    source_failed p source g old mid new at (ap (opens (Some (Run p))) (one_graph t p g (graph_of c) is (graph_of_form t p bytes c h form))) same counted.0
 made_at t p bytes c P.NoMemory source old mid new at h form made same counted = tt
 
-pub made_of_form : (told mid : Option Told) (p bytes source : List ℕ) (c : Condition) (r : Prepared) (old between new : PerName) → source ≡ SOURCE
-    → IfSome told (λ t. FetchedOf (t.script p) (F.Whole bytes) 1048576) → program_form bytes ≡ B.Filtered c
+pub made_of_form : (told mid : Option Told) (p bytes source : List ℕ) (c : Code Slot) (r : Prepared) (old between new : PerName) → source ≡ SOURCE
+    → IfSome told (λ t. FetchedOf (t.script p) (F.Whole bytes) 1048576) → IsForm bytes (B.Filtered c)
     → WhereTold told mid TellsSame → IfSome mid (λ t. SourceOf r c (t.script source)) → NoCountChanged old between → SourceCounted r source between new
     → IfSome told (PreparedOf r p old new)
 made_of_form None mid p bytes source c r old between new at h form same made quiet counted = tt

@@ -1,13 +1,17 @@
 -- What a request comes to, which answer it gets, and what stands behind each answer.
-use Rattle.std.specs.Prelude.{◌≡◌, ◌≢◌, ◌-◌, ◌^◌, ◌⊎◌, ◌==◌, min, ℕ, pos, List, [], ◌∷◌, ◌++◌, map, length, take, Bool, true, false, if◌then◌else◌, nat_le, ◌&&◌, Option, Some, None, ⊤, codes, slice_get}
+use Rattle.std.specs.Prelude.{◌≡◌, ◌≢◌, ◌-◌, ◌^◌, ◌⊎◌, ◌==◌, min, ℕ, List, [], ◌∷◌, ◌++◌, map, length, take, Bool, true, false, if◌then◌else◌, nat_le, ◌&&◌, Option, Some, None, ⊤, codes, slice_get}
 use Rattle.std.specs.List.{filter_map, list_any, list_all}
-use Rattle.std.specs.Option.{option_map_or}
+use Rattle.std.specs.Option.{option_map_or, unwrap_or}
 use Rattle.spl_value.specs.Script.{Script, Ending}
 use Rattle.spl_value.specs.Script as script
 use Rattle.spl_value.specs.declared.item.Item.{Item}
 use Rattle.feed_pour.specs.Counts.{PerName, Rose, OthersStay}
 use Rattle.feed_pour.specs.Contents.{Told}
-use Rattle.stream_model.specs.declared.comparison.Comparison.TheVariants as K
+use Rattle.spl_value.specs.declared.item.Fault.{Fault}
+use Rattle.spl_value.specs.declared.item.FaultKind.{FaultKind}
+use Rattle.spl_value.specs.declared.item.FaultKind.TheVariants as K
+use Rattle.spl_value.specs.declared.value.Value.TheVariants as V
+use Rattle.spl_tree.specs.declared.code.Code.TheVariants as E
 use Rattle.stream_model.specs.declared.record.ArrivalList.{ArrivalList}
 use Rattle.stream_model.specs.declared.record.Arrivals.{Arrivals}
 use Rattle.stream_model.specs.declared.record.Counts.{Counts}
@@ -15,8 +19,9 @@ use Rattle.stream_model.specs.declared.record.SinkCount.{SinkCount}
 use Rattle.stream_model.specs.React.{Kind, Operator, FileSource, Filter, FileSink}
 use Rattle.stream_model.specs.Stages.{out}
 use Rattle.stream_model.specs.Meaning.{Graph, Meaning, meaning, connections, rows_of, text}
-use Rattle.spl_driver.specs.Program.{program_form, accepted, graph_of}
-use Rattle.spl_driver.specs.Request.{opens, creates, is_named, source_files, graph_or_none}
+use Rattle.stream_model.specs.Ends.{run_fault}
+use Rattle.spl_driver.specs.Program.{IsForm, IsGraph, no_graph, graph_of, operator_names}
+use Rattle.spl_driver.specs.Request.{opens, creates, is_named, source_files}
 use Rattle.spl_driver.specs.Source.{is_number_file}
 use Rattle.spl_driver.specs.declared.request.Request.{Request}
 use Rattle.spl_driver.specs.declared.request.Request.TheVariants.{Run}
@@ -87,10 +92,6 @@ holds_numbers script = is_within script && is_number_file script.bytes
 abbrev pub with_sources : List Script → Outcome → Outcome
 with_sources sources next = if list_any has_fault sources then Unreadable else if list_all holds_numbers sources then next else NotBuilt
 
--- the graph of the program in a file, where it is accepted
-abbrev pub accepted_in : Script → Option Graph
-accepted_in script = accepted script.bytes
-
 abbrev pub with_graph : Graph → Told → List ArrivalList → Outcome
 with_graph g told lists = with_sources (map told.script (source_files g)) (Runs g (meaning g (rows_told g told) (entries_in lists)))
 
@@ -99,15 +100,20 @@ with_program (F.Refused refusal) told lists = Refused refusal
 with_program F.Other told lists = NotBuilt
 with_program (F.Filtered condition) told lists = with_graph (graph_of condition) told lists
 
-abbrev pub outcome : Option Request → Told → Arrivals → Outcome
-outcome None told arrivals = NotBuilt
-outcome (Some (Run program)) told arrivals =
-    if has_fault (told.script program) then Unreadable else with_program (program_form (told.script program).bytes) told arrivals.lists
+-- whether the program's file has a fault is looked at before its bytes
+abbrev pub IsOutcomeBehind : Bool → List ℕ → Told → List ArrivalList → Outcome → Type 0
+IsOutcomeBehind true bytes told lists result = result ≡ Unreadable
+IsOutcomeBehind false bytes told lists result = (form : Form) × IsForm bytes form × (result ≡ with_program form told lists)
+
+abbrev pub IsOutcome : Option Request → Told → Arrivals → Outcome → Type 0
+IsOutcome None told arrivals result = result ≡ NotBuilt
+IsOutcome (Some (Run program)) told arrivals result =
+    IsOutcomeBehind (has_fault (told.script program)) (told.script program).bytes told arrivals.lists result
 
 -- the request's graph, which has no operators where the program isn't accepted
-abbrev pub graph_in : Option Request → Told → Graph
-graph_in None told = graph_or_none None
-graph_in (Some (Run program)) told = graph_or_none (accepted_in (told.script program))
+abbrev pub IsGraphIn : Option Request → Told → Graph → Type 0
+IsGraphIn None told g = g ≡ no_graph
+IsGraphIn (Some (Run program)) told g = IsGraph (told.script program).bytes g
 
 -- ---- what stands behind each answer
 
@@ -161,13 +167,18 @@ Begun (Refused refusal) old new = SameFiles old new
 Begun NotBuilt old new = SameFiles old new
 Begun (Runs g m) old new = EachSink (HoldsPrefix m old new) g.ops
 
+-- a graph whose run has this fault, or none, was carried out
+abbrev pub RunsTo : Option Fault → (Outcome → Type 0) → Ended → Told → Type 0
+RunsTo fault Is ended new = (g : Graph) × (m : Meaning) × Is (Runs g m) × (run_fault g m ≡ fault) × CarriedOut g m ended new
+
 -- each cause, by what the request comes to
-abbrev pub Stands : Cause → Outcome → Ended → Told → Told → Type 0
-Stands C.Done result ended old new = (g : Graph) × (m : Meaning) × (result ≡ Runs g m) × CarriedOut g m ended new
-Stands (C.Refused refusal) result ended old new = (result ≡ Refused refusal) × SameFiles old new
-Stands C.NotBuilt result ended old new = (result ≡ NotBuilt) × SameFiles old new
-Stands C.Device result ended old new = Begun result old new
-Stands C.NoMemory result ended old new = Begun result old new
+abbrev pub Stands : Cause → (Outcome → Type 0) → Ended → Told → Told → Type 0
+Stands C.Done Is ended old new = RunsTo None Is ended new
+Stands (C.Stopped fault) Is ended old new = RunsTo (Some fault) Is ended new
+Stands (C.Refused refusal) Is ended old new = Is (Refused refusal) × SameFiles old new
+Stands C.NotBuilt Is ended old new = Is NotBuilt × SameFiles old new
+Stands C.Device Is ended old new = (result : Outcome) → Is result → Begun result old new
+Stands C.NoMemory Is ended old new = (result : Outcome) → Is result → Begun result old new
 
 -- the count of opening or reading of one of the first names rose, or of creating or writing of one of the second
 abbrev pub OpenFailed : List (List ℕ) → PerName → PerName → Type 0
@@ -179,47 +190,58 @@ CreateFailed names old new = (n : List ℕ) × (is_named names n ≡ true) × (R
 abbrev pub DeviceFailed : Option Request → Graph → PerName → PerName → Type 0
 DeviceFailed request g old new = OpenFailed (opens request g) old new ⊎ CreateFailed (creates request g) old new
 
--- where no count of creating or writing a created file rose, every file is as it was
-abbrev pub CreatedLast : Option Request → Graph → PerName → PerName → Told → Told → Type 0
-CreatedLast request g counts now old new = (CreateFailed (creates request g) counts now → ⊥) → SameFiles old new
+-- no count changed
+abbrev pub NoCountChanged : PerName → PerName → Type 0
+NoCountChanged old new = (n : List ℕ) → new n ≡ old n
+
+-- where no count of creating or writing a created file rose, but some count changed or that of the line's pour didn't rise,
+-- every file is as it was
+abbrev pub CreatedLast : Option Request → Graph → PerName → PerName → Type 0 → Told → Told → Type 0
+CreatedLast request g counts now LineFailed old new =
+    (CreateFailed (creates request g) counts now → ⊥) → (NoCountChanged counts now → ⊥) ⊎ (LineFailed → ⊥) → SameFiles old new
+
+-- where no count of an opened or created file rose, a run was carried out whose fault couldn't be told
+abbrev pub UntoldFault : Option Request → Graph → PerName → PerName → (Outcome → Type 0) → Ended → Told → Type 0
+UntoldFault request g counts now Is ended new = (DeviceFailed request g counts now → ⊥) → (fault : Fault) × RunsTo (Some fault) Is ended new
 
 -- a count of reading changes only at a file whose reader fails behind at most 1,048,576 bytes
 abbrev pub ReadsFailed : PerName → PerName → Told → Type 0
 ReadsFailed counts now old = (n : List ℕ) → (now n).reading ≢ (counts n).reading → has_fault (old.script n) ≡ true
 
--- the answer to a request at a shelf that tells its files
-pub record Answered (request : Option Request) (ended : Ended) (counts now : PerName) (old new : Told) : Type 0 where
-  pub stands : Stands ended.cause (outcome request old ended.arrivals) ended old new
-  pub others : (n : List ℕ) → is_named (creates request (graph_in request old)) n ≡ false → new.holds n ≡ old.holds n
-  pub device : ended.cause ≡ C.Device → DeviceFailed request (graph_in request old) counts now
-  pub created : ended.cause ≡ C.Device → CreatedLast request (graph_in request old) counts now old new
+-- the answer to a request at a shelf that tells its files, where the count of the line's pour rose or not
+pub record Answered (request : Option Request) (ended : Ended) (counts now : PerName) (LineFailed : Type 0) (old new : Told) : Type 0 where
+  pub stands : Stands ended.cause (IsOutcome request old ended.arrivals) ended old new
+  pub others : (g : Graph) → IsGraphIn request old g → (n : List ℕ) → is_named (creates request g) n ≡ false → new.holds n ≡ old.holds n
+  pub device : ended.cause ≡ C.Device → (g : Graph) → IsGraphIn request old g → DeviceFailed request g counts now ⊎ LineFailed
+  pub created : ended.cause ≡ C.Device → (g : Graph) → IsGraphIn request old g → CreatedLast request g counts now LineFailed old new
+  pub untold : ended.cause ≡ C.Device → (g : Graph) → IsGraphIn request old g
+      → UntoldFault request g counts now (IsOutcome request old ended.arrivals) ended new
   pub reads : ReadsFailed counts now old
 
 -- ---- what the counts alone show
 
-abbrev pub NoCountChanged : PerName → PerName → Type 0
-NoCountChanged old new = (n : List ℕ) → new n ≡ old n
-
 -- all graphs of the form open and create the same files
 abbrev pub form_graph : Graph
-form_graph = graph_of (record { place = 0; comparison = K.Less; literal = pos 0 })
+form_graph = graph_of (E.Literal (V.Bool true))
 
 -- the counts of one name alone changed
 abbrev pub OneFailed : PerName → PerName → Type 0
 OneFailed old new = (n : List ℕ) × OthersStay old new n
 
-abbrev pub Shown : Cause → Option Request → PerName → PerName → Type 0
-Shown C.Done request old new = NoCountChanged old new
-Shown (C.Refused refusal) request old new = NoCountChanged old new
-Shown C.NotBuilt request old new = NoCountChanged old new
-Shown C.Device request old new = DeviceFailed request form_graph old new × OneFailed old new
-Shown C.NoMemory request old new = ⊤
+abbrev pub Shown : Cause → Option Request → PerName → PerName → Type 0 → Type 0
+Shown C.Done request old new LineFailed = NoCountChanged old new
+Shown (C.Stopped fault) request old new LineFailed = NoCountChanged old new
+Shown (C.Refused refusal) request old new LineFailed = NoCountChanged old new
+Shown C.NotBuilt request old new LineFailed = NoCountChanged old new
+Shown C.Device request old new LineFailed = (DeviceFailed request form_graph old new × OneFailed old new) ⊎ (LineFailed × NoCountChanged old new)
+Shown C.NoMemory request old new LineFailed = ⊤
 
 -- ---- statuses and texts
 
 abbrev pub status_of : Cause → ℕ
 status_of C.Done = 0
 status_of (C.Refused refusal) = 2
+status_of (C.Stopped fault) = 3
 status_of C.NoMemory = 9
 status_of C.NotBuilt = 13
 status_of C.Device = 14
@@ -240,9 +262,38 @@ name_text (Some name) = 32 ∷ name
 abbrev pub refusal_text : Refusal → List ℕ
 refusal_text refusal = codes "refused " ++ code_text refusal.code ++ codes " at " ++ decimal refusal.at ++ name_text refusal.name ++ codes "\n"
 
+-- the kind of a fault, as it is told
+abbrev pub kind_text : FaultKind → List ℕ
+kind_text K.DivZero = codes "DivZero"
+kind_text K.Index = codes "Index"
+kind_text K.NoKey = codes "NoKey"
+kind_text K.Turns = codes "Turns"
+kind_text K.BadRow = codes "BadRow"
+kind_text K.LongRow = codes "LongRow"
+kind_text K.LongFile = codes "LongFile"
+kind_text K.ReadFailed = codes "ReadFailed"
+
+-- a source's fault has a line of its file
+abbrev pub has_line : FaultKind → Bool
+has_line K.DivZero = false
+has_line K.Index = false
+has_line K.NoKey = false
+has_line K.Turns = false
+has_line _ = true
+
+abbrev pub operator_name : ℕ → List ℕ
+operator_name n = unwrap_or (slice_get operator_names n) []
+
+-- the operator's name, the fault's kind, and the line of a source's fault
+abbrev pub stopped_text : Fault → List ℕ
+stopped_text fault =
+    codes "stopped " ++ operator_name fault.op ++ codes " " ++ kind_text fault.kind
+    ++ (if has_line fault.kind then codes " line " ++ decimal fault.line else []) ++ codes "\n"
+
 abbrev pub text_of_cause : Cause → List ℕ
 text_of_cause C.Done = []
 text_of_cause (C.Refused refusal) = refusal_text refusal
+text_of_cause (C.Stopped fault) = stopped_text fault
 text_of_cause C.NoMemory = codes "no memory\n"
 text_of_cause C.NotBuilt = codes "not built\n"
 text_of_cause C.Device = codes "device failed\n"
@@ -251,26 +302,46 @@ text_of_cause C.Device = codes "device failed\n"
 abbrev pub PouredText : List ℕ → List ℕ → Option (List ℕ) → Type 0 → Type 0
 PouredText bytes old now Failed = (now ≡ Some (old ++ bytes)) ⊎ (Failed × ((n : ℕ) × (now ≡ Some (old ++ take n bytes))))
 
+-- a front of a fault's line was poured, and no more, since the pour failed
+abbrev pub PouredFront : List ℕ → Option (List ℕ) → Type 0 → Type 0
+PouredFront old now Failed = Failed × ((fault : Fault) × (n : ℕ) × (now ≡ Some (old ++ take n (stopped_text fault))))
+
 -- the cause's text was poured; nothing is said of want of memory
 abbrev pub Said : Cause → Option (List ℕ) → Option (List ℕ) → Type 0 → Type 0
 Said cause None now Failed = ⊤
 Said C.NoMemory (Some old) now Failed = ⊤
-Said C.Done (Some old) now Failed = PouredText (text_of_cause C.Done) old now Failed
+Said C.Done (Some old) now Failed = now ≡ Some old
+Said (C.Stopped fault) (Some old) now Failed = now ≡ Some (old ++ stopped_text fault)
 Said (C.Refused refusal) (Some old) now Failed = PouredText (refusal_text refusal) old now Failed
 Said C.NotBuilt (Some old) now Failed = PouredText (text_of_cause C.NotBuilt) old now Failed
-Said C.Device (Some old) now Failed = PouredText (text_of_cause C.Device) old now Failed
+Said C.Device (Some old) now Failed = PouredText (text_of_cause C.Device) old now Failed ⊎ PouredFront old now Failed
 
 -- ---- completeness
 
 abbrev pub IsOr : Cause → Cause → Type 0
 IsOr expected cause = (cause ≡ expected) ⊎ (cause ≡ C.NoMemory)
 
+-- how a run ends that has this fault, or none
+abbrev pub cause_of : Option Fault → Cause
+cause_of None = C.Done
+cause_of (Some fault) = C.Stopped fault
+
+-- a run was carried out, with a fault or without
+abbrev pub IsRun : Cause → Type 0
+IsRun cause = (fault : Option Fault) × (cause ≡ cause_of fault)
+
 -- where no device failed, what the request comes to is the answer, or memory was wanting
-abbrev pub IsComplete : Outcome → Type 0 → Cause → Type 0
-IsComplete Unreadable Failed cause = IsOr C.Device cause
-IsComplete (Refused refusal) Failed cause = (Failed → ⊥) → IsOr (C.Refused refusal) cause
-IsComplete NotBuilt Failed cause = (Failed → ⊥) → IsOr C.NotBuilt cause
-IsComplete (Runs g m) Failed cause = (Failed → ⊥) → IsOr C.Done cause
+abbrev pub IsAnswer : Outcome → Type 0 → Type 0 → Cause → Type 0
+IsAnswer Unreadable Failed LineFailed cause = IsOr C.Device cause
+IsAnswer (Refused refusal) Failed LineFailed cause = (Failed → ⊥) → IsOr (C.Refused refusal) cause
+IsAnswer NotBuilt Failed LineFailed cause = (Failed → ⊥) → IsOr C.NotBuilt cause
+IsAnswer (Runs g m) Failed LineFailed cause = (Failed → ⊥) → (LineFailed → ⊥) → IsOr (cause_of (run_fault g m)) cause
+
+-- whatever the request comes to
+abbrev pub IsComplete : Option Request → Ended → PerName → PerName → Type 0 → Told → Type 0
+IsComplete request ended counts now LineFailed told =
+    (result : Outcome) → IsOutcome request told ended.arrivals result → (g : Graph) → IsGraphIn request told g
+    → IsAnswer result (DeviceFailed request g counts now) LineFailed ended.cause
 
 -- without a request nothing is touched
 pub record Untouched (cause : Cause) (old new : PerName) : Type 0 where

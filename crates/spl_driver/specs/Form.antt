@@ -1,26 +1,22 @@
 -- The one form of a program that runs: its tokens, and the condition of its filter.
-use Rattle.std.specs.Prelude.{◌≡◌, ◌==◌, ◌&&◌, ℕ, pos, Bool, true, false, List, [], ◌∷◌, ◌++◌, map, if◌then◌else◌, codes, Option, Some, None, option_map, Result, Ok, Err}
+use Rattle.std.specs.Prelude.{◌≡◌, ◌==◌, ◌&&◌, Bool, true, false, ℕ, List, [], ◌∷◌, ◌++◌, map, length, if◌then◌else◌, codes, Option, Some, None, Result, Ok, Err}
 use Rattle.std.specs.Str.{bytes_eq}
-use Rattle.spl_value.specs.declared.types.IntKind.{IntKind}
+use Rattle.spl_value.specs.declared.types.SplType.TheVariants as S
+use Rattle.spl_tree.specs.declared.code.Code.{Code}
+use Rattle.spl_tree.specs.declared.code.Slot.{Slot}
 use Rattle.spl_tree.specs.declared.keyword.Keyword.TheVariants as W
-use Rattle.spl_tree.specs.declared.token.Number.{Number}
 use Rattle.spl_tree.specs.declared.token.Token.{Token}
 use Rattle.spl_tree.specs.declared.token.TokenKind.{TokenKind}
 use Rattle.spl_tree.specs.declared.token.TokenKind.TheVariants as T
 use Rattle.spl_tree.specs.declared.token.Tokens.{Tokens}
-use Rattle.spl_tree.specs.declared.expression.BinaryOperator.{BinaryOperator}
-use Rattle.spl_tree.specs.declared.expression.BinaryOperator.TheVariants as B
-use Rattle.spl_tree.specs.declared.expression.ExprKind.{ExprKind}
-use Rattle.spl_tree.specs.declared.expression.ExprKind.TheOpen as X
-use Rattle.spl_tree.specs.declared.expression.ExprKind.TheOpen.{ExprKind-F}
-use Rattle.spl_tree.specs.declared.expression.ExprKind.TheViews.{out-ExprKind}
 use Rattle.spl_tree.specs.Words.{symbol_text, keyword_word}
 use Rattle.spl_tree.specs.Tokens.{Refusal, tokens}
-use Rattle.spl_tree.specs.Operators.{binary_of}
 use Rattle.spl_tree.specs.Grammar.{Expr, Spells}
-use Rattle.stream_model.specs.declared.comparison.Comparison.{Comparison}
-use Rattle.stream_model.specs.declared.comparison.Comparison.TheVariants as C
-use Rattle.stream_model.specs.declared.condition.Condition.{Condition}
+use Rattle.spl_tree.specs.Weights.{too_deep_from}
+use Rattle.stream_model.specs.declared.scope.Scope.{Scope}
+use Rattle.stream_model.specs.declared.scope.Typed.{Typed}
+use Rattle.stream_model.specs.Typing.{Found, typing}
+use Rattle.spl_driver.specs.Source.{price_schema}
 use Rattle.spl_driver.specs.declared.TheConstants.{FRONT, BACK}
 
 -- ---- what tokens are, wherever they stand
@@ -38,69 +34,33 @@ kinds_of bytes = kinds_in (tokens bytes)
 
 -- ---- the filter's condition
 
-abbrev pub comparison_of : BinaryOperator → Option Comparison
-comparison_of B.Less = Some C.Less
-comparison_of B.LessOrEqual = Some C.AtMost
-comparison_of B.Greater = Some C.Greater
-comparison_of B.GreaterOrEqual = Some C.AtLeast
-comparison_of B.Equal = Some C.Equal
-comparison_of B.NotEqual = Some C.NotEqual
-comparison_of _ = None
+-- what the filter's value may name: the tuple that comes from T, and its price
+abbrev pub filter_scope : Scope
+filter_scope = record { vars = []; ports = record { name = codes "T"; schema = price_schema } ∷ []; functions = []; punct = false }
 
--- the price, compared so with a number
-abbrev pub price_with : Number → Comparison → Condition
-price_with number c = record { place = 0; comparison = c; literal = pos number.value }
+abbrev pub code_in : Found Typed → Option (Code Slot)
+code_in (Ok typed) = Some typed.code
+code_in (Err refusal) = None
 
--- its reserved word is `int64`
-abbrev pub is_int64 : IntKind → Bool
-is_int64 kind = bytes_eq (keyword_word (W.Int kind)) (codes "int64")
+-- the code of an expression that is boolean there
+abbrev pub condition_of : Expr → Option (Code Slot)
+condition_of e = code_in (typing filter_scope e (Some S.Bool))
 
--- a name, an operator and a number: where these are the price, a comparison and an `int64`
-abbrev pub compared : List ℕ → BinaryOperator → Number → Option Condition
-compared name op number = if bytes_eq name (codes "price") && is_int64 number.kind then option_map (price_with number) (comparison_of op) else None
-
--- what a filter of the form is made of: names, numbers, and operators between two sides
-pub data Shape : Type 0 where
-  Named : List ℕ → Shape
-  Numbered : Number → Shape
-  Compared : BinaryOperator → (left right : Expr) → Shape
-  Other : Shape
-
-abbrev pub shape_level : ExprKind-F ExprKind → Shape
-shape_level (X.Name name) = Named name
-shape_level (X.Number number) = Numbered number
-shape_level (X.Binary op left right) = Compared op left right
-shape_level _ = Other
-
-abbrev pub shape : Expr → Shape
-shape e = shape_level (out-ExprKind e.what)
-
-abbrev pub compared_sides : BinaryOperator → Shape → Shape → Option Condition
-compared_sides op (Named name) (Numbered number) = compared name op number
-compared_sides op _ _ = None
-
-abbrev pub condition_in : Shape → Option Condition
-condition_in (Compared op left right) = compared_sides op (shape left) (shape right)
-condition_in _ = None
-
--- the condition of an expression that is `price`, a comparison and a literal of type `int64`
-abbrev pub condition_of : Expr → Option Condition
-condition_of e = condition_in (shape e)
-
--- The tokens are the program's up to its filter's value, then those of a value with this condition, then the program's
--- behind it.
-pub record HasForm (ts : List Token) (c : Condition) : Type 0 where
+-- The tokens are the program's up to its filter's value, then those of a value with this condition, of which none nests too
+-- deep, then the program's behind it.
+pub record HasForm (ts : List Token) (c : Code Slot) : Type 0 where
   pub front : List Token
   pub value : List Token
   pub back : List Token
   pub splits : ts ≡ front ++ (value ++ back)
   pub is_front : kinds front ≡ kinds_of FRONT.now
+  pub shallow : too_deep_from (length front) ts ≡ None
   pub expr : Expr
   pub spells : Spells expr value
   pub is_condition : condition_of expr ≡ Some c
   pub is_back : kinds back ≡ kinds_of BACK.now
 
--- ---- the condition, found from the tokens one by one
+-- ---- tokens, compared one by one
 
 -- whether tokens are the same, wherever they stand
 abbrev pub same_kind : TokenKind → TokenKind → Bool
@@ -118,27 +78,7 @@ behind [] ts = Some ts
 behind (k ∷ ks) [] = None
 behind (k ∷ ks) (t ∷ ts) = if same_kind k t.kind then behind ks ts else None
 
-abbrev pub compared_kinds : TokenKind → Option BinaryOperator → TokenKind → Option Condition
-compared_kinds (T.Word name) (Some op) (T.Number number) = compared name op number
-compared_kinds _ _ _ = None
-
 -- there are tokens, but no more
 abbrev pub is_end : Option (List Token) → Bool
 is_end (Some []) = true
 is_end _ = false
-
-abbrev pub if_end : Option (List Token) → Option Condition → Option Condition
-if_end ts found = if is_end ts then found else None
-
--- the condition of three tokens, with the program's behind them
-abbrev pub condition_before : List TokenKind → List Token → Option Condition
-condition_before back (name ∷ op ∷ number ∷ ts) = if_end (behind back ts) (compared_kinds name.kind (binary_of op.kind) number.kind)
-condition_before back _ = None
-
-abbrev pub condition_behind : List TokenKind → Option (List Token) → Option Condition
-condition_behind back None = None
-condition_behind back (Some ts) = condition_before back ts
-
--- the condition of a program's tokens, where they are of the form
-abbrev pub form_of : List Token → Option Condition
-form_of ts = condition_behind (kinds_of BACK.now) (behind (kinds_of FRONT.now) ts)

@@ -5,4 +5,6 @@ pub mod Program
 pub mod ProgramLaws
 pub mod Request
 pub mod Answer
+pub mod Filter
+pub mod RequestLaws
 pub mod Steps

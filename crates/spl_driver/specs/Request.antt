@@ -40,14 +40,6 @@ source_files g = filter_map (λ op. source_file op.kind) g.ops
 abbrev pub sink_files : Graph → List (List ℕ)
 sink_files g = filter_map (λ op. sink_file op.kind) g.ops
 
--- the graph of a program that isn't accepted
-abbrev pub no_graph : Graph
-no_graph = record { ops = []; topo = [] }
-
-abbrev pub graph_or_none : Option Graph → Graph
-graph_or_none None = no_graph
-graph_or_none (Some g) = g
-
 -- the files that a request opens: the program and the graph's sources
 abbrev pub opens : Option Request → Graph → List (List ℕ)
 opens None g = []

@@ -1,5 +1,5 @@
 use spl_tree::LexicalError;
-use spl_value::Name;
+use spl_value::{Fault, Name};
 use stream_model::{Arrivals, Counts};
 
 /// Why the program ended.
@@ -9,9 +9,12 @@ pub enum Cause {
     Done,
     /// The program is refused.
     Refused(Refusal),
+    /// The run ended with a fault.
+    Stopped(Fault),
     /// The words, the program or the bytes of its source aren't of a form that is built.
     NotBuilt,
-    /// A file couldn't be opened, read, created, written or finished.
+    /// A file couldn't be opened, read, created, written or finished, or the line of a run's fault
+    /// couldn't be written.
     Device,
     /// There was no memory.
     NoMemory,
@@ -34,7 +37,7 @@ pub enum Code {
 }
 
 /// How the program ended: its exit status and the cause, the arrival record, and what the run
-/// counted. The counts are stated after `Done` alone.
+/// counted. The counts are stated after `Done` and `Stopped` alone.
 #[derive(Debug, PartialEq, Eq, Drop)]
 pub struct Ended {
     pub status: u8,

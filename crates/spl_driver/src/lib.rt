@@ -17,6 +17,7 @@ mod top;
 
 pub use cause::{Cause, Code, Ended, Refusal};
 pub use program::{Form, program_law};
+pub use run::request_law;
 pub use top::spl;
 
 /// A program of the form up to its filter's value. Its tokens alone count.

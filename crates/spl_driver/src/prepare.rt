@@ -2,17 +2,17 @@
 ghost use Rattle.std.specs.Prelude.{◌≡◌, ◌<◌, ◌-◌, ◌^◌, IfSome, codes};
 ghost use Rattle.feed_pour.specs.Contents.{WhereTold, TellsSame};
 ghost use Rattle.spl_driver.specs.Answer.{ReadsFailed};
+ghost use Rattle.spl_driver.specs.Program.{IsCondition};
 ghost use Rattle.spl_driver.specs.Steps.{PreparedOf, PrepareCounted, SourceOf, SourceCounted};
 
-use crate::cause::{Code, Refusal};
+use crate::cause::{Code as RefusalCode, Refusal};
 use crate::filter::filtered;
 use crate::program::{Form, read_program};
 use crate::source::number_stream;
 use feed_pour::{Fetched, Shelf, fetch};
-use spl_tree::{LexicalError, MOST_BYTES};
+use spl_tree::{Code, LexicalError, MOST_BYTES, Slot};
 use spl_value::{Item, Items, Name};
 use std::alloc::Global;
-use stream_model::Condition;
 
 /// The most bytes of a source.
 const MOST_SOURCE_BYTES: u32 = 1_048_576;
@@ -32,9 +32,10 @@ pub enum Prepared {
 fn prepare_source<H: Shelf>(
     alloc: Global,
     shelf: &mut H,
-    condition: &Condition,
+    condition: &Code<Slot>,
     source: &Name,
 ) -> Prepared
+    requires { IsCondition condition.now }
     ensures made { IfSome (H.told shelf.old)
         (λ t. SourceOf result condition.now (t.script source.now)) }
     ensures told { WhereTold (H.told shelf.old) (H.told shelf.new) TellsSame }
@@ -50,7 +51,10 @@ fn prepare_source<H: Shelf>(
         Fetched::Whole(bytes) => match number_stream(alloc, bytes.as_slice()) {
             Err(_) => Prepared::NoMemory,
             Ok(None) => Prepared::NotBuilt,
-            Ok(Some(items)) => Prepared::Stream(filtered(condition, items)),
+            Ok(Some(items)) => match filtered(alloc, condition, items) {
+                Err(_) => Prepared::NoMemory,
+                Ok(given) => Prepared::Stream(given),
+            },
         },
     }
 }
@@ -70,7 +74,7 @@ pub fn prepare<H: Shelf>(alloc: Global, shelf: &mut H, program: &Name, source: &
         Fetched::OpenFailed | Fetched::ReadFailed => Prepared::Device,
         Fetched::Memory => Prepared::NoMemory,
         Fetched::TooLong => Prepared::Refused(Refusal {
-            code: Code::Lexical(LexicalError::TooLong),
+            code: RefusalCode::Lexical(LexicalError::TooLong),
             at: MOST_BYTES,
             name: None,
         }),
@@ -78,7 +82,9 @@ pub fn prepare<H: Shelf>(alloc: Global, shelf: &mut H, program: &Name, source: &
             Err(_) => Prepared::NoMemory,
             Ok(Form::Refused(refusal)) => Prepared::Refused(refusal),
             Ok(Form::Other) => Prepared::NotBuilt,
-            Ok(Form::Filtered(condition)) => prepare_source(alloc, shelf, &condition, source),
+            Ok(Form::Filtered(condition)) => {
+                prepare_source(alloc, shelf, condition.get(), source)
+            },
         },
     }
 }

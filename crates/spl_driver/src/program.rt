@@ -1,22 +1,20 @@
 //! The one form of the program.
-ghost use Rattle.std.specs.Prelude.{◌≡◌, ◌≤◌, length, pos, IfOk, MatchOption, None, Some};
-ghost use Rattle.stream_model.specs.declared.comparison.Comparison.TheVariants as K;
+ghost use Rattle.std.specs.Prelude.{◌≡◌, ◌≤◌, length, IfOk, MatchOption, None, Some};
 ghost use Rattle.spl_tree.specs.Tokens.{tokens};
-ghost use Rattle.spl_driver.specs.Form.{kinds, kinds_of, same_kind, behind, is_end, comparison_of, compared, condition_of, form_of};
-ghost use Rattle.spl_driver.specs.Program.{program_form, lexical_refusal};
-ghost use Rattle.spl_driver.specs.Steps.{ConditionAt};
-ghost use Rattle.spl_driver.specs.ProgramLaws.{FormLaw, RefusedLaw, program_of_ten, IsFixed};
+ghost use Rattle.spl_driver.specs.Form.{kinds, kinds_of, same_kind, behind, is_end, filter_scope, condition_of};
+ghost use Rattle.spl_driver.specs.Program.{IsForm, HasCondition, lexical_refusal};
+ghost use Rattle.spl_driver.specs.Steps.{ConditionAt, Read};
+ghost use Rattle.spl_driver.specs.ProgramLaws.{OneFormLaw, SomeFormLaw, RefusedLaw, ConditionLaw, program_of_ten, condition_of_ten, IsFixed};
 
-use crate::cause::{Code, Refusal};
+use crate::cause::{Code as RefusalCode, Refusal};
 use crate::{BACK, FRONT};
 use expr_parser::{ParsedExpr, SyntaxAnswer, expressions_law, parse_expr};
 use spl_lexer::{LexAnswer, lex};
-use spl_tree::{
-    BinaryOperator, Expr, ExprKind, LexicalError, Number, Token, TokenKind, Tokens, tokens_law,
-};
-use spl_value::{IntKind, NoMemory};
+use spl_tree::{Code, Expr, LexicalError, Slot, Token, TokenKind, Tokens, tokens_law};
+use spl_value::{Boxed, IntKind, Items, Named, NoMemory, SplType};
 use std::alloc::Global;
-use stream_model::{Comparison, Condition};
+use stream_model::typing_law;
+use type_rules::{Port, Scope, TypeAnswer, type_of};
 
 /// What the bytes of a program come to.
 #[derive(Debug, Drop)]
@@ -26,7 +24,7 @@ pub enum Form {
     /// Their tokens aren't those of the form that is built.
     Other,
     /// They are of the form, with this condition as its filter.
-    Filtered(Condition),
+    Filtered(Boxed<Code<Slot>>),
 }
 
 // The tokens of a fixed part of the form.
@@ -82,49 +80,40 @@ fn are(part: &[Token], tokens: &[Token]) -> bool
     }
 }
 
-fn comparison(operator: BinaryOperator) -> Option<Comparison>
-    ensures { result ≡ comparison_of operator }
+// What the filter's value may name.
+fn filter_scope(alloc: Global) -> Result<Scope, NoMemory>
+    ensures { IfOk result (λ scope. scope ≡ filter_scope) }
 {
-    match operator {
-        BinaryOperator::Less => Some(Comparison::Less),
-        BinaryOperator::LessOrEqual => Some(Comparison::AtMost),
-        BinaryOperator::Greater => Some(Comparison::Greater),
-        BinaryOperator::GreaterOrEqual => Some(Comparison::AtLeast),
-        BinaryOperator::Equal => Some(Comparison::Equal),
-        BinaryOperator::NotEqual => Some(Comparison::NotEqual),
-        _ => None,
-    }
-}
-
-// A name compared with a number, where these are the price and an `int64`.
-fn compare(name: &[u8], operator: BinaryOperator, number: Number) -> Option<Condition>
-    ensures { result ≡ compared name.now operator number }
-{
-    if name != b"price".as_slice() || number.kind != IntKind::I64 {
-        return None;
-    }
-    let comparison = comparison(operator)?;
-    Some(Condition {
-        place: 0,
-        comparison,
-        literal: i128::from(number.value),
+    let price = Named {
+        name: Items::from_slice(alloc, b"price")?,
+        kind: SplType::Int(IntKind::I64),
+    };
+    let mut schema = Items::new(alloc);
+    schema.push(price)?;
+    let port = Port {
+        name: Items::from_slice(alloc, b"T")?,
+        schema,
+    };
+    let mut ports = Items::new(alloc);
+    ports.push(port)?;
+    Ok(Scope {
+        vars: Items::new(alloc),
+        ports,
+        functions: Items::new(alloc),
+        punct: false,
     })
 }
 
-// The condition that an expression is.
-fn condition(expr: &Expr) -> Option<Condition>
-    ensures { result ≡ condition_of expr.now }
+// The code of an expression that is boolean in the filter's scope.
+fn condition(alloc: Global, expr: &Expr) -> Result<Option<Boxed<Code<Slot>>>, NoMemory>
+    ensures { IfOk result (λ found. found ≡ condition_of expr.now) }
 {
-    let ExprKind::Binary(operator, left, right) = &expr.what else {
-        return None;
-    };
-    let ExprKind::Name(name) = &left.get().what else {
-        return None;
-    };
-    let ExprKind::Number(number) = &right.get().what else {
-        return None;
-    };
-    compare(name.as_slice(), *operator, *number)
+    let scope = filter_scope(alloc)?;
+    match type_of(alloc, &scope, expr, Some(&SplType::Bool)) {
+        Ok(typed) => Ok(Some(typed.code)),
+        Err(TypeAnswer::Refused(_)) => Ok(None),
+        Err(TypeAnswer::Memory) => Err(NoMemory),
+    }
 }
 
 // The condition of the expression that begins at a token, and the place of the token behind it.
@@ -132,7 +121,7 @@ fn read_condition(
     alloc: Global,
     tokens: &Tokens,
     from: u32,
-) -> Result<Option<(Condition, u32)>, NoMemory>
+) -> Result<Option<(Boxed<Code<Slot>>, u32)>, NoMemory>
     requires few { length tokens.now.list ≤ 1048576 }
     requires within { from ≤ length tokens.now.list }
     ensures { IfOk result (ConditionAt tokens.now from) }
@@ -140,7 +129,7 @@ fn read_condition(
     match parse_expr(alloc, tokens, from) {
         Err(SyntaxAnswer::Memory) => Err(NoMemory),
         Err(SyntaxAnswer::Unexpected(_) | SyntaxAnswer::TooDeep(_)) => Ok(None),
-        Ok(ParsedExpr { expr, next }) => match condition(&expr) {
+        Ok(ParsedExpr { expr, next }) => match condition(alloc, &expr)? {
             None => Ok(None),
             Some(condition) => Ok(Some((condition, next))),
         },
@@ -148,9 +137,9 @@ fn read_condition(
 }
 
 // The condition of tokens of the form.
-fn read_tokens(alloc: Global, tokens: &Tokens) -> Result<Option<Condition>, NoMemory>
+fn read_tokens(alloc: Global, tokens: &Tokens) -> Result<Option<Boxed<Code<Slot>>>, NoMemory>
     requires { length tokens.now.list ≤ 1048576 }
-    ensures { IfOk result (λ found. found ≡ form_of tokens.now.list) }
+    ensures { IfOk result (Read tokens.now.list) }
 {
     let front = fixed(alloc, FRONT)?;
     let back = fixed(alloc, BACK)?;
@@ -173,9 +162,11 @@ fn read_tokens(alloc: Global, tokens: &Tokens) -> Result<Option<Condition>, NoMe
 /// What the bytes of a program come to. It lexes them, reads the filter's value as an expression,
 /// and compares the tokens before and behind it with the form's.
 pub fn read_program(alloc: Global, bytes: &[u8]) -> Result<Form, NoMemory>
-    ensures { IfOk result (λ form. form ≡ program_form bytes.now) }
+    ensures form { IfOk result (IsForm bytes.now) }
+    ensures fits { IfOk result HasCondition }
 {
     tokens_law();
+    program_law();
     match lex(alloc, bytes) {
         Err(LexAnswer::Memory) => Err(NoMemory),
         Err(LexAnswer::Refused(error, at)) => Ok(Form::Refused(refusal(error, at))),
@@ -191,17 +182,21 @@ fn refusal(error: LexicalError, at: u32) -> Refusal
     ensures { result ≡ lexical_refusal (error, at) }
 {
     Refusal {
-        code: Code::Lexical(error),
+        code: RefusalCode::Lexical(error),
         at,
         name: None,
     }
 }
 
-/// A program is of the form exactly where its tokens are those of the form, with an expression as
-/// the filter's value that is `price`, a comparison and a literal of type `int64`. It is refused
-/// exactly where its bytes are no tokens.
+/// A program comes to one thing: it is refused, exactly where its bytes are no tokens; it is of the
+/// form, with one condition; or it is of another. A condition is boolean in the filter's scope.
 pub fn program_law()
-    ensures form { FormLaw }
+    ensures one { OneFormLaw }
+    ensures some { SomeFormLaw }
     ensures refused { RefusedLaw }
-    ensures example { program_form program_of_ten ≡ Form.Filtered (record { place = 0; comparison = K.Greater; literal = pos 10 }) }
-{}
+    ensures fits { ConditionLaw }
+    ensures example { IsForm program_of_ten (Form.Filtered condition_of_ten) }
+{
+    expressions_law();
+    typing_law();
+}

@@ -1,15 +1,17 @@
 //! A run of a program, from its file to its sink's.
 ghost use Rattle.std.specs.Prelude.{◌≡◌, ◌<◌, ◌-◌, ◌^◌, [], IfOk, Some};
 ghost use Rattle.feed_pour.specs.Contents.{WhereTold};
-ghost use Rattle.spl_driver.specs.Answer.{Answered, Shown, status_of};
+ghost use Rattle.spl_driver.specs.Answer.{Answered, Shown, status_of, cause_of};
+ghost use Rattle.spl_driver.specs.RequestLaws.{OneOutcomeLaw, SomeOutcomeLaw, OneGraphLaw, SomeGraphLaw};
 ghost use Rattle.spl_driver.specs.Steps.{EndsAs, counts_with};
 
+use crate::filter::fault_of;
 use crate::prepare::{Prepared, prepare};
 use crate::request::Request;
 use crate::sink::{Sunk, write_sink};
 use crate::{Cause, Ended};
 use feed_pour::Shelf;
-use spl_value::{Items, Name, NoMemory};
+use spl_value::{Fault, Items, Name, NoMemory};
 use std::alloc::Global;
 use stream_model::{Arrivals, Counts, SinkCount};
 
@@ -20,6 +22,7 @@ pub fn status(cause: &Cause) -> u8
     match cause {
         Cause::Done => 0,
         Cause::Refused(_) => 2,
+        Cause::Stopped(_) => 3,
         Cause::NoMemory => 9,
         Cause::NotBuilt => 13,
         Cause::Device => 14,
@@ -56,9 +59,19 @@ fn counts(alloc: Global, tuples: u64) -> Result<Counts, NoMemory>
     })
 }
 
-// The end of a run behind its sink.
-fn ended_with(alloc: Global, sunk: Sunk) -> Ended
-    ensures ends { EndsAs sunk result }
+// How a run ends that has this fault, or none.
+fn cause(fault: Option<Fault>) -> Cause
+    ensures { result ≡ cause_of fault }
+{
+    match fault {
+        None => Cause::Done,
+        Some(fault) => Cause::Stopped(fault),
+    }
+}
+
+// The end behind its sink of a run with this fault, or none.
+fn ended_with(alloc: Global, sunk: Sunk, fault: Option<Fault>) -> Ended
+    ensures ends { EndsAs sunk fault result }
     ensures lists { result.arrivals.lists ≡ [] }
 {
     match sunk {
@@ -66,14 +79,17 @@ fn ended_with(alloc: Global, sunk: Sunk) -> Ended
         Sunk::Memory => ended(alloc, Cause::NoMemory),
         Sunk::Done(tuples) => match counts(alloc, tuples) {
             Err(_) => ended(alloc, Cause::NoMemory),
-            Ok(counts) => Ended {
-                status: status(&Cause::Done),
-                cause: Cause::Done,
-                arrivals: Arrivals {
-                    lists: Items::new(alloc),
-                },
-                counts,
-            },
+            Ok(counts) => {
+                let cause = cause(fault);
+                Ended {
+                    status: status(&cause),
+                    cause,
+                    arrivals: Arrivals {
+                        lists: Items::new(alloc),
+                    },
+                    counts,
+                }
+            }
         },
     }
 }
@@ -82,9 +98,9 @@ fn ended_with(alloc: Global, sunk: Sunk) -> Ended
 pub fn run<H: Shelf>(alloc: Global, shelf: &mut H, program: &Name) -> Ended
     ensures answered { WhereTold (H.told shelf.old) (H.told shelf.new)
         (Answered (Some (Request.Run program.now)) result (H.counts shelf.old)
-        (H.counts shelf.new)) }
+        (H.counts shelf.new) ⊥) }
     ensures shown { Shown result.cause (Some (Request.Run program.now)) (H.counts shelf.old)
-        (H.counts shelf.new) }
+        (H.counts shelf.new) ⊥ }
     ensures lists { result.arrivals.lists ≡ [] }
     ensures lent { H.lent shelf.old < 2 ^ 64 - 1 → H.lent shelf.new ≡ H.lent shelf.old }
 {
@@ -101,7 +117,15 @@ pub fn run<H: Shelf>(alloc: Global, shelf: &mut H, program: &Name) -> Ended
         Prepared::NoMemory => ended(alloc, Cause::NoMemory),
         Prepared::Stream(items) => {
             let sunk = write_sink(alloc, shelf, &sink, items.as_slice());
-            ended_with(alloc, sunk)
+            ended_with(alloc, sunk, fault_of(items.as_slice()))
         }
     }
 }
+
+/// Under an arrival record a request comes to one thing, and has one graph.
+pub fn request_law()
+    ensures one { OneOutcomeLaw }
+    ensures some { SomeOutcomeLaw }
+    ensures one_graph { OneGraphLaw }
+    ensures some_graph { SomeGraphLaw }
+{}

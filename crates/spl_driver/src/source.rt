@@ -2,6 +2,7 @@
 ghost use Rattle.std.specs.Prelude.{◌≡◌, ◌<◌, ◌≤◌, ◌^◌, ◌∷◌, ◌==◌, length, position, is_some, IfOk, IfSome};
 ghost use Rattle.spl_value.specs.Script.{End};
 ghost use Rattle.stream_model.specs.Rows.{rows};
+ghost use Rattle.spl_driver.specs.Filter.{ArePrices};
 ghost use Rattle.spl_driver.specs.Lines.{line_number, number_row, number_rows};
 ghost use Rattle.spl_driver.specs.Source.{is_number_file, price_setting};
 ghost use Rattle.stream_model.specs.Laws.{lines};
@@ -78,6 +79,7 @@ pub fn number_stream(alloc: Global, bytes: &[u8]) -> Result<Option<Items<Item>>,
     ensures form { IfOk result (λ stream. is_some stream ≡ is_number_file bytes.now) }
     ensures stream { IfOk result
         (λ stream. IfSome stream (λ items. items ≡ rows price_setting bytes.now End)) }
+    ensures tuples { IfOk result (λ stream. IfSome stream ArePrices) }
 {
     number_rows(alloc, bytes)
 }

@@ -205,6 +205,112 @@ fn carries_out_each_form(rt: HostRuntime) -> Result<(), AllocError> {
     Ok(())
 }
 
+#[test]
+fn filters_by_any_condition(rt: HostRuntime) -> Result<(), AllocError> {
+    for (filter, source, sink) in [
+        ("true", "1\n2\n", "1\n2\n"),
+        ("false", "1\n2\n", ""),
+        ("10l < price", "9\n10\n11\n", "11\n"),
+        ("(price > 10l)", "10\n11\n", "11\n"),
+        ("!(price > -10l)", "-11\n-10\n-9\n", "-11\n-10\n"),
+        ("T.price == 7l", "6\n7\n", "7\n"),
+        // integers wrap, and division truncates
+        ("(int8)price < (int8)0", "127\n128\n", "128\n"),
+        ("price * 9223372036854775807l == -price", "1\n2\n", "2\n"),
+        ("(price * 3l + 7l) % 11l == 2l", "2\n1\n-5\n-9\n", "2\n"),
+        ("price / 2l == -1l", "-3\n-2\n-1\n2\n", "-3\n-2\n"),
+        // what isn't needed isn't evaluated
+        ("price != 0l && 100l / price > 1l", "20\n0\n5\n", "20\n5\n"),
+        ("price == 0l || 100l / price > 60l", "20\n0\n1\n", "0\n1\n"),
+        (
+            "price > 0l ? price < 9l : price < -9l",
+            "-10\n-1\n5\n10\n",
+            "-10\n5\n",
+        ),
+        // texts, lists, maps and calls
+        ("price in [5l, 7l]", "5\n6\n7\n", "5\n7\n"),
+        ("{1l: true, 2l: false}[price]", "2\n1\n", "1\n"),
+        (
+            "length((rstring)price) == 2",
+            "5\n10\n-7\n100\n",
+            "10\n-7\n",
+        ),
+        ("max(price, 3l) == 3l", "2\n3\n4\n", "2\n3\n"),
+    ] {
+        let program = program(rt.alloc(), filter)?;
+        let seen = run_with(&rt, rt.alloc(), program, source, NO_FAILURE)?;
+        assert!(rt; shows(&seen, 0, "", Some(sink)), "{filter}");
+    }
+    Ok(())
+}
+
+#[test]
+fn ends_with_the_fault_of_its_filter(rt: HostRuntime) -> Result<(), AllocError> {
+    for (filter, source, line, sink, tuples) in [
+        (
+            "100l / price > 1l",
+            "20\n0\n5\n",
+            "stopped B DivZero\n",
+            "20\n",
+            1,
+        ),
+        (
+            "price % 0l == 1l",
+            "20\n0\n5\n",
+            "stopped B DivZero\n",
+            "",
+            0,
+        ),
+        (
+            "[true, false, true][price]",
+            "0\n1\n2\n3\n0\n",
+            "stopped B Index\n",
+            "0\n2\n",
+            2,
+        ),
+        ("[true][price]", "0\n-1\n0\n", "stopped B Index\n", "0\n", 1),
+        (
+            "{1l: true}[price]",
+            "1\n2\n1\n",
+            "stopped B NoKey\n",
+            "1\n",
+            1,
+        ),
+    ] {
+        let program = program(rt.alloc(), filter)?;
+        let seen = run_with(&rt, rt.alloc(), program, source, NO_FAILURE)?;
+        assert!(rt; shows(&seen, 3, line, Some(sink)), "{filter}");
+        assert_eq!(rt; seen.tuples, Some(tuples), "{filter}");
+    }
+    Ok(())
+}
+
+// A condition behind so many parentheses.
+fn nested(alloc: Global, depth: usize) -> Result<String, AllocError> {
+    let mut text = String::new(alloc);
+    for _ in 0..depth {
+        text.push_str("(")?;
+    }
+    text.push_str("price > 10l")?;
+    for _ in 0..depth {
+        text.push_str(")")?;
+    }
+    Ok(text)
+}
+
+#[test]
+fn builds_no_value_that_nests_too_deep(rt: HostRuntime) -> Result<(), AllocError> {
+    let alloc = rt.alloc();
+    for (depth, status, sink) in [(100, 0, Some("11\n")), (300, 13, None)] {
+        let text = nested(alloc, depth)?;
+        let program = program(alloc, text.as_str())?;
+        let seen = run_with(&rt, alloc, program, "10\n11\n", NO_FAILURE)?;
+        assert_eq!(rt; seen.status, status);
+        assert!(rt; is_text(&seen.sink, sink));
+    }
+    Ok(())
+}
+
 // The program on one line, with a comment in front.
 const ON_ONE_LINE: &str =
     "/* x */ composite Main { graph stream<int64 price> T = FileSource() { param file: \"t.csv\"; format: csv; } stream<int64 price> B = Filter(T) { param filter: price > 10l; } () as Out = FileSink(B) { param file: \"o.csv\"; format: csv; } }";
@@ -226,14 +332,19 @@ fn builds_no_other_form(rt: HostRuntime) -> Result<(), AllocError> {
         ("price > 10ul", "11\n"),
         ("price > l", "11\n"),
         ("cost > 10l", "11\n"),
-        // other expressions
-        ("10l < price", "11\n"),
-        ("(price > 10l)", "11\n"),
-        ("price > -10l", "11\n"),
+        ("B.price > 10l", "11\n"),
+        ("$price > 10l", "11\n"),
+        ("f(price)", "11\n"),
+        // values that aren't boolean
+        ("price", "11\n"),
         ("price + 10l", "11\n"),
-        ("price > 10l && true", "11\n"),
-        ("price > 10l, true", "11\n"),
+        ("T", "11\n"),
+        ("price > 10l ? 1l : 2l", "11\n"),
+        ("[price > 10l]", "11\n"),
+        // no marker has come
+        ("currentPunct() == Sys.WindowMarker", "11\n"),
         // no expressions
+        ("price > 10l, true", "11\n"),
         ("", "11\n"),
         ("price >", "11\n"),
         ("price => 10l", "11\n"),
@@ -404,6 +515,19 @@ fn a_failed_line_keeps_the_answer(rt: HostRuntime) -> Result<(), AllocError> {
     let out = MemoryPour::new(alloc, failing);
     let seen = run(&rt, alloc, &["run", "p.spl"], shelf, out)?;
     assert!(rt; shows(&seen, 13, "", None));
+    Ok(())
+}
+
+#[test]
+fn a_failed_line_of_a_fault_is_a_failed_device(rt: HostRuntime) -> Result<(), AllocError> {
+    let alloc = rt.alloc();
+    let mut failing = Items::new(alloc);
+    failing.push(1)?;
+    let program = program(alloc, "100l / price > 1l")?;
+    let shelf = shelf(alloc, program, "20\n0\n5\n")?;
+    let out = MemoryPour::new(alloc, failing);
+    let seen = run(&rt, alloc, &["run", "p.spl"], shelf, out)?;
+    assert!(rt; shows(&seen, 14, "", Some("20\n")));
     Ok(())
 }
 

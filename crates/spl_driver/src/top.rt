@@ -3,7 +3,7 @@ ghost use Rattle.std.specs.Prelude.{◌≡◌, ◌⊎◌, ◌<◌, ◌-◌, ◌^
 ghost use Rattle.feed_pour.specs.Counts.{Rose};
 ghost use Rattle.feed_pour.specs.Contents.{WhereTold};
 ghost use Rattle.spl_driver.specs.Request.{request_of};
-ghost use Rattle.spl_driver.specs.Answer.{outcome, graph_in, DeviceFailed, Answered, Shown, NoCountChanged, Untouched, status_of, Said, IsComplete};
+ghost use Rattle.spl_driver.specs.Answer.{Answered, Shown, NoCountChanged, Untouched, status_of, Said, IsComplete, IsRun};
 
 use crate::request::{Request, read_request};
 use crate::run::{ended, run, status};
@@ -17,9 +17,9 @@ use std::thread::Threads;
 // Does what the words ask.
 fn answer<H: Shelf>(alloc: Global, words: &[String], shelf: &mut H) -> Ended
     ensures answered { WhereTold (H.told shelf.old) (H.told shelf.new)
-        (Answered (request_of words.now) result (H.counts shelf.old) (H.counts shelf.new)) }
+        (Answered (request_of words.now) result (H.counts shelf.old) (H.counts shelf.new) ⊥) }
     ensures shown { Shown result.cause (request_of words.now) (H.counts shelf.old)
-        (H.counts shelf.new) }
+        (H.counts shelf.new) ⊥ }
     ensures words { request_of words.now ≡ None
         → Untouched result.cause (H.counts shelf.old) (H.counts shelf.new) }
     ensures lists { result.arrivals.lists ≡ [] }
@@ -48,12 +48,13 @@ pub fn spl<W: Threads + Wait + Sync, H: Shelf, S: Starter, G: Gate, P: Pour>(
 
     // What each answer comes to, what the files hold behind it, and which device failed, where the shelf tells its files.
     ensures answered { WhereTold (H.told shelf.old) (H.told shelf.new)
-        (Answered (request_of words.now) result (H.counts shelf.old) (H.counts shelf.new)) }
+        (Answered (request_of words.now) result (H.counts shelf.old) (H.counts shelf.new)
+        (Rose (P.faults out.old) (P.faults out.new))) }
 
     // What the counts alone show, also where the shelf tells nothing.
     ensures shown { Shown result.cause (request_of words.now) (H.counts shelf.old)
-        (H.counts shelf.new) }
-    ensures done { result.cause ≡ Cause.Done
+        (H.counts shelf.new) (Rose (P.faults out.old) (P.faults out.new)) }
+    ensures run { IsRun result.cause
         → NoCountChanged (H.counts shelf.old) (H.counts shelf.new)
         × (P.faults out.new ≡ P.faults out.old) }
 
@@ -71,8 +72,9 @@ pub fn spl<W: Threads + Wait + Sync, H: Shelf, S: Starter, G: Gate, P: Pour>(
         → Untouched result.cause (H.counts shelf.old) (H.counts shelf.new) }
 
     // Where no device fails, what the request comes to is the answer, unless memory is wanting.
-    ensures complete { IfSome (H.told shelf.old) (λ t. IsComplete (outcome (request_of words.now) t result.arrivals)
-        (DeviceFailed (request_of words.now) (graph_in (request_of words.now) t) (H.counts shelf.old) (H.counts shelf.new)) result.cause) }
+    ensures complete { IfSome (H.told shelf.old)
+        (IsComplete (request_of words.now) result (H.counts shelf.old) (H.counts shelf.new)
+        (Rose (P.faults out.old) (P.faults out.new))) }
 {
     let Ended {
         status: _,

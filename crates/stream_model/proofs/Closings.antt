@@ -6,9 +6,11 @@ use Rattle.spl_value.specs.declared.item.Item.{Item}
 use Rattle.spl_value.specs.declared.item.Item.TheVariants as I
 use Rattle.spl_value.specs.declared.item.FaultKind.{FaultKind}
 use Rattle.stream_model.specs.declared.outs.Output.{Output}
-use Rattle.stream_model.specs.declared.condition.Condition.{Condition}
+use Rattle.spl_tree.specs.declared.code.Code.{Code}
+use Rattle.spl_tree.specs.declared.code.Slot.{Slot}
+use Rattle.stream_model.specs.Outcomes.{Outcome, Done, Faulted, Stuck}
 use Rattle.stream_model.specs.Stream.{Event, came, is_fault, closes, any_closes, is_closed, is_empty}
-use Rattle.stream_model.specs.React.{Operator, Kind, FileSource, Filter, FileSink, Answer, Gives, Faults, body, body_of, filter_body, sink_body, passes, react, ended, ended_by, answered, on_each, output, is_waiting, is_last, fault_of}
+use Rattle.stream_model.specs.React.{Operator, Kind, FileSource, Filter, FileSink, Answer, Gives, Faults, body, body_of, filter_body, sink_body, passes, filter_answer, react, ended, ended_by, answered, on_each, output, is_waiting, is_last, fault_of}
 use Rattle.stream_model.specs.Stages.{Stage, gives_all, after, on_port}
 use Rattle.stream_model.specs.StageLaws.{stage_at, one_in, one_in-parts, on_port-append, gives_all-over, after-over}
 use Rattle.stream_model.specs.Laws.{has_ended, BodyLaw, BodyPorts, EndItemLaw, EndGivesLaw, OutCloses, ClosedEnds, ClosedGivesClosed}
@@ -21,12 +23,14 @@ given (Faults kind) = []
 abbrev pub some_closes : List Output → Bool
 some_closes outs = list_any (λ o. closes o.item) outs
 
-filter_open : (condition : Option Condition) (x : Item) → some_closes (given (filter_body condition x)) ≡ false
+filter_open : (condition : Option (Code Slot)) (x : Item) → some_closes (given (filter_body condition x)) ≡ false
 filter_open condition (I.Tuple vs) = go (passes condition vs)
   where
-    go : (b : Bool) → some_closes (cond b (output 0 (I.Tuple vs) ∷ []) []) ≡ false
-    go true = refl
-    go false = refl
+    go : (o : Outcome Bool) → some_closes (given (filter_answer vs o)) ≡ false
+    go (Done true turns) = refl
+    go (Done false turns) = refl
+    go (Faulted kind) = refl
+    go Stuck = refl
 filter_open condition I.Window = refl
 filter_open condition I.Final = refl
 filter_open condition (I.Bad f) = refl
@@ -48,12 +52,14 @@ given_open op earlier e = given_open-of op.kind op earlier e
 pub body_law : BodyLaw
 body_law op earlier e outs h = ap (λ a. some_closes (given a)) (sym h) ∙ given_open op earlier e
 
-filter_first : (condition : Option Condition) (x : Item) → list_all (λ o. o.port == 0) (given (filter_body condition x)) ≡ true
+filter_first : (condition : Option (Code Slot)) (x : Item) → list_all (λ o. o.port == 0) (given (filter_body condition x)) ≡ true
 filter_first condition (I.Tuple vs) = go (passes condition vs)
   where
-    go : (b : Bool) → list_all (λ o. o.port == 0) (cond b (output 0 (I.Tuple vs) ∷ []) []) ≡ true
-    go true = refl
-    go false = refl
+    go : (o : Outcome Bool) → list_all (λ o. o.port == 0) (given (filter_answer vs o)) ≡ true
+    go (Done true turns) = refl
+    go (Done false turns) = refl
+    go (Faulted kind) = refl
+    go Stuck = refl
 filter_first condition I.Window = refl
 filter_first condition I.Final = refl
 filter_first condition (I.Bad f) = refl

@@ -1,5 +1,4 @@
 pub mod Stream
-pub mod Condition
 pub mod Scopes
 pub mod Typing
 pub mod Outcomes
@@ -16,6 +15,7 @@ pub mod TwoPorts
 pub mod React
 pub mod Stages
 pub mod Meaning
+pub mod Ends
 pub mod Fields
 pub mod Rows
 pub mod RowsLaws

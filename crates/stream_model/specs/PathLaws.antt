@@ -1,28 +1,46 @@
 -- What a filter and a sink with one connection give for a stream, item by item; and the path from a source through a filter
--- to a sink.
-use Rattle.std.specs.Prelude.{ℕ, Bool, true, false, cond, List, [], ◌∷◌, ◌++◌, ◌≡◌, map, Option, if◌then◌else◌}
+-- to a sink, with the fault of its run.
+use Rattle.std.specs.Prelude.{ℕ, Bool, true, false, List, [], ◌∷◌, ◌++◌, ◌≡◌, map, length, Option, None, Some, is_some, if◌then◌else◌}
+use Rattle.std.specs.Option.{option_and_then, option_or}
 use Rattle.std.proofs.Common.{refl, sym, ap, ◌∙◌, suc, zero}
 use Rattle.std.proofs.lemmas.Grind.{flat_map-append}
 use Rattle.spl_value.specs.declared.item.Item.{Item}
 use Rattle.spl_value.specs.declared.item.Item.TheVariants as I
+use Rattle.spl_value.specs.declared.item.Fault.{Fault}
+use Rattle.spl_value.specs.declared.item.FaultKind.{FaultKind}
+use Rattle.spl_value.specs.declared.value.Value.{Value}
 use Rattle.stream_model.specs.declared.outs.Output.{Output}
-use Rattle.stream_model.specs.declared.condition.Condition.{Condition}
+use Rattle.spl_tree.specs.declared.code.Code.{Code}
+use Rattle.spl_tree.specs.declared.code.Slot.{Slot}
 use Rattle.stream_model.specs.Stream.{Event, came}
-use Rattle.stream_model.specs.React.{Operator, Source, FileSource, Filter, FileSink, passes}
-use Rattle.stream_model.specs.Stages.{gives_all, on_port, out}
+use Rattle.stream_model.specs.Outcomes.{Outcome, Done, Faulted, Stuck}
+use Rattle.stream_model.specs.React.{Operator, Source, FileSource, Filter, FileSink, passes, filter_answer, on_each, answered, ended_by}
+use Rattle.stream_model.specs.Stages.{start, gives_all, on_port, out}
 use Rattle.stream_model.specs.Meaning.{Graph, Lists, Entries, meaning, text}
 use Rattle.stream_model.specs.Laws.{is_made, IsOrdered, IsNumbered}
 use Rattle.stream_model.specs.OrderLaws.{IsOrdered-nil, IsOrdered-cons, at_only}
 use Rattle.stream_model.specs.Rows.{item_text, text_of}
+use Rattle.stream_model.specs.Ends.{fault_of, stream_fault, end_from, run_fault}
 use Rattle.stream_model.specs.StageLaws.{stage_at, one_in, one_in-parts, gives_all-over}
 
--- what passes a condition: its tuples and the window markers, up to a final marker or a fault, which is the last
-abbrev pub passed : Option Condition → List Item → List Item
-passed condition [] = []
-passed condition (I.Tuple vs ∷ items) = if passes condition vs then I.Tuple vs ∷ passed condition items else passed condition items
-passed condition (I.Window ∷ items) = I.Window ∷ passed condition items
-passed condition (I.Final ∷ items) = I.Final ∷ []
-passed condition (I.Bad f ∷ items) = I.Bad f ∷ []
+-- a fault of the operator with this number itself
+abbrev pub fault_by : ℕ → FaultKind → Fault
+fault_by n kind = record { op = n; kind = kind; line = 0 }
+
+-- what a tuple and those behind it become, by what the condition of the operator with this number comes to for it
+abbrev pub pass : ℕ → Outcome Bool → List Value → List Item → List Item
+pass n (Done b turns) vs behind = if b then I.Tuple vs ∷ behind else behind
+pass n (Faulted kind) vs behind = I.Bad (fault_by n kind) ∷ []
+pass n Stuck vs behind = behind
+
+-- what passes the condition of the operator with this number: its tuples and the window markers, up to a final marker or a
+-- fault, which is the last, as the condition's own is
+abbrev pub passed : ℕ → Option (Code Slot) → List Item → List Item
+passed n condition [] = []
+passed n condition (I.Tuple vs ∷ items) = pass n (passes condition vs) vs (passed n condition items)
+passed n condition (I.Window ∷ items) = I.Window ∷ passed n condition items
+passed n condition (I.Final ∷ items) = I.Final ∷ []
+passed n condition (I.Bad f ∷ items) = I.Bad f ∷ []
 
 -- what a sink writes of a stream: its tuples up to a final marker or a fault
 abbrev pub written : List Item → List Item
@@ -32,15 +50,22 @@ written (I.Window ∷ items) = written items
 written (I.Final ∷ items) = []
 written (I.Bad f ∷ items) = []
 
-filter_from : (n s t : ℕ) (condition : Option Condition) (seen : List Event) (items : List Item)
-    → on_port 0 (gives_all (stage_at (one_in n (Filter condition) s (t ∷ [])) seen false) (map (came 0) items)) ≡ passed condition items
+filter_from : (n s t : ℕ) (condition : Option (Code Slot)) (seen : List Event) (items : List Item)
+    → on_port 0 (gives_all (stage_at (one_in n (Filter condition) s (t ∷ [])) seen false) (map (came 0) items)) ≡ passed n condition items
 filter_from n s t condition seen [] = refl
-filter_from n s t condition seen (I.Tuple vs ∷ items) = go (passes condition vs) _ _ (filter_from n s t condition (came 0 (I.Tuple vs) ∷ seen) items)
+filter_from n s t condition seen (I.Tuple vs ∷ items) =
+    go (one_in n (Filter condition) s (t ∷ [])) (came 0 (I.Tuple vs) ∷ seen) refl refl (passes condition vs) (filter_from n s t condition (came 0 (I.Tuple vs) ∷ seen) items)
   where
-    go : (b : Bool) (outs : List Output) (rest : List Item) → on_port 0 outs ≡ rest
-        → on_port 0 (cond b (record { port = 0; item = I.Tuple vs } ∷ []) [] ++ outs) ≡ cond b (I.Tuple vs ∷ rest) rest
-    go true outs rest e = ap (λ xs. I.Tuple vs ∷ xs) e
-    go false outs rest e = e
+    go : (op : Operator) (next : List Event) → op.number ≡ n → op.outs ≡ t ∷ [] → (o : Outcome Bool)
+        → on_port 0 (gives_all (stage_at op next false) (map (came 0) items)) ≡ passed n condition items
+        → on_port 0 (answered op false (filter_answer vs o) ++ gives_all (stage_at op next (is_some (ended_by op false (filter_answer vs o)))) (map (came 0) items))
+        ≡ pass n o vs (passed n condition items)
+    go op next number outs (Done true turns) more = ap (λ xs. I.Tuple vs ∷ xs) more
+    go op next number outs (Done false turns) more = more
+    go op next number outs (Faulted kind) more =
+        ap (λ (ts : List ℕ). on_port 0 (on_each (length ts) (I.Bad (fault_by op.number kind)) ++ gives_all (stage_at op next true) (map (came 0) items))) outs
+        ∙ (λ i. I.Bad (fault_by (number i) kind) ∷ on_port 0 (gives_all-over (stage_at op next true) (map (came 0) items) refl i))
+    go op next number outs Stuck more = more
 filter_from n s t condition seen (I.Window ∷ items) = ap (λ xs. I.Window ∷ xs) (filter_from n s t condition (came 0 I.Window ∷ seen) items)
 filter_from n s t condition seen (I.Final ∷ items) =
     ap (λ outs. I.Final ∷ on_port 0 outs) (gives_all-over (stage_at (one_in n (Filter condition) s (t ∷ [])) (came 0 I.Final ∷ seen) true) (map (came 0) items) refl)
@@ -48,8 +73,8 @@ filter_from n s t condition seen (I.Bad f ∷ items) =
     ap (λ outs. I.Bad f ∷ on_port 0 outs) (gives_all-over (stage_at (one_in n (Filter condition) s (t ∷ [])) (came 0 (I.Bad f) ∷ seen) true) (map (came 0) items) refl)
 
 -- what a filter gives for a stream
-pub filter_out : (op : Operator) (condition : Option Condition) (s t : ℕ) (items : List Item)
-    → op.kind ≡ Filter condition → op.ins ≡ (s ∷ []) ∷ [] → op.outs ≡ t ∷ [] → out op 0 (map (came 0) items) ≡ passed condition items
+pub filter_out : (op : Operator) (condition : Option (Code Slot)) (s t : ℕ) (items : List Item)
+    → op.kind ≡ Filter condition → op.ins ≡ (s ∷ []) ∷ [] → op.outs ≡ t ∷ [] → out op 0 (map (came 0) items) ≡ passed op.number condition items
 filter_out op condition s t items k i o =
     ap (λ (one : Operator). out one 0 (map (came 0) items)) (one_in-parts op (Filter condition) s (t ∷ []) k i o)
     ∙ filter_from op.number s t condition [] items
@@ -79,20 +104,20 @@ text_of-append first second = flat_map-append item_text first second
 abbrev pub path_source : Source → Operator
 path_source source = record { number = 0; kind = FileSource source; ins = []; outs = 0 ∷ [] }
 
-abbrev pub path_filter : Option Condition → Operator
+abbrev pub path_filter : Option (Code Slot) → Operator
 path_filter condition = record { number = 1; kind = Filter condition; ins = (0 ∷ []) ∷ []; outs = 1 ∷ [] }
 
 abbrev pub path_sink : List ℕ → Operator
 path_sink file = record { number = 2; kind = FileSink file; ins = (1 ∷ []) ∷ []; outs = [] }
 
-abbrev pub path : Source → Option Condition → List ℕ → List Operator
+abbrev pub path : Source → Option (Code Slot) → List ℕ → List Operator
 path source condition file = path_source source ∷ path_filter condition ∷ path_sink file ∷ []
 
-abbrev pub path_graph : Source → Option Condition → List ℕ → Graph
+abbrev pub path_graph : Source → Option (Code Slot) → List ℕ → Graph
 path_graph source condition file = record { ops = path source condition file; topo = 0 ∷ 1 ∷ 2 ∷ [] }
 
 -- each operator reads only what an earlier one makes
-pub path_is_ordered : (source : Source) (condition : Option Condition) (file : List ℕ) → IsOrdered (path source condition file)
+pub path_is_ordered : (source : Source) (condition : Option (Code Slot)) (file : List ℕ) → IsOrdered (path source condition file)
 path_is_ordered source condition file =
     IsOrdered-cons (path_source source) (path_filter condition ∷ path_sink file ∷ [])
     (at_only 0 (λ s. is_made (path_filter condition ∷ path_sink file ∷ []) s ≡ false) refl) (λ s r. cc)
@@ -101,25 +126,46 @@ path_is_ordered source condition file =
     (IsOrdered-cons (path_sink file) [] (λ s m. cc) (λ s r. refl) IsOrdered-nil))
 
 -- the operators are numbered in the order of declaration
-pub path_is_numbered : (source : Source) (condition : Option Condition) (file : List ℕ) → IsNumbered (path_graph source condition file)
+pub path_is_numbered : (source : Source) (condition : Option (Code Slot)) (file : List ℕ) → IsNumbered (path_graph source condition file)
 path_is_numbered source condition file zero op e = let same : path_source source ≡ op = cc in ap (λ (o : Operator). o.number) (sym same)
 path_is_numbered source condition file (suc zero) op e = let same : path_filter condition ≡ op = cc in ap (λ (o : Operator). o.number) (sym same)
 path_is_numbered source condition file (suc (suc zero)) op e = let same : path_sink file ≡ op = cc in ap (λ (o : Operator). o.number) (sym same)
 path_is_numbered source condition file (suc (suc (suc n))) op e = absurd cc
 
 -- the stream behind the filter is what passes of the source's rows
-pub path_filtered : (source : Source) (condition : Option Condition) (file : List ℕ) (rows : Lists) (entries : Entries)
-    → (meaning (path_graph source condition file) rows entries).streams 1 ≡ passed condition (rows 0)
+pub path_filtered : (source : Source) (condition : Option (Code Slot)) (file : List ℕ) (rows : Lists) (entries : Entries)
+    → (meaning (path_graph source condition file) rows entries).streams 1 ≡ passed 1 condition (rows 0)
 path_filtered source condition file rows entries = filter_out (path_filter condition) condition 0 1 (rows 0) refl refl refl
 
 -- the sink writes the rows that pass
-pub path_written : (source : Source) (condition : Option Condition) (file : List ℕ) (rows : Lists) (entries : Entries)
-    → out (path_sink file) 0 ((meaning (path_graph source condition file) rows entries).events 2) ≡ written (passed condition (rows 0))
+pub path_written : (source : Source) (condition : Option (Code Slot)) (file : List ℕ) (rows : Lists) (entries : Entries)
+    → out (path_sink file) 0 ((meaning (path_graph source condition file) rows entries).events 2) ≡ written (passed 1 condition (rows 0))
 path_written source condition file rows entries =
     ap (λ items. out (path_sink file) 0 (map (came 0) items)) (path_filtered source condition file rows entries)
-    ∙ sink_out (path_sink file) file 1 (passed condition (rows 0)) refl refl refl
+    ∙ sink_out (path_sink file) file 1 (passed 1 condition (rows 0)) refl refl refl
 
 -- the text that the sink writes is that of the rows that pass
-pub path_text : (source : Source) (condition : Option Condition) (file : List ℕ) (rows : Lists) (entries : Entries)
-    → text (path_sink file) ((meaning (path_graph source condition file) rows entries).events 2) ≡ text_of (written (passed condition (rows 0)))
+pub path_text : (source : Source) (condition : Option (Code Slot)) (file : List ℕ) (rows : Lists) (entries : Entries)
+    → text (path_sink file) ((meaning (path_graph source condition file) rows entries).events 2) ≡ text_of (written (passed 1 condition (rows 0)))
 path_text source condition file rows entries = ap text_of (path_written source condition file rows entries)
+
+-- a sink ends with the fault that its stream does
+sink_fault_from : (n s : ℕ) (file : List ℕ) (seen : List Event) (items : List Item)
+    → option_and_then fault_of (end_from (stage_at (one_in n (FileSink file) s []) seen false) (map (came 0) items)) ≡ stream_fault items
+sink_fault_from n s file seen [] = refl
+sink_fault_from n s file seen (I.Tuple vs ∷ items) = sink_fault_from n s file (came 0 (I.Tuple vs) ∷ seen) items
+sink_fault_from n s file seen (I.Window ∷ items) = sink_fault_from n s file (came 0 I.Window ∷ seen) items
+sink_fault_from n s file seen (I.Final ∷ items) = refl
+sink_fault_from n s file seen (I.Bad f ∷ items) = refl
+
+-- the fault of the path's run is the one that ends the rows that pass
+pub path_fault : (source : Source) (condition : Option (Code Slot)) (file : List ℕ) (rows : Lists) (entries : Entries)
+    → run_fault (path_graph source condition file) (meaning (path_graph source condition file) rows entries) ≡ stream_fault (passed 1 condition (rows 0))
+path_fault source condition file rows entries =
+    or_none (option_and_then fault_of (end_from (start (path_sink file)) ((meaning (path_graph source condition file) rows entries).events 2)))
+    ∙ ap (λ items. option_and_then fault_of (end_from (start (path_sink file)) (map (came 0) items))) (path_filtered source condition file rows entries)
+    ∙ sink_fault_from 2 1 file [] (passed 1 condition (rows 0))
+  where
+    or_none : (o : Option Fault) → option_or o None ≡ o
+    or_none None = refl
+    or_none (Some f) = refl

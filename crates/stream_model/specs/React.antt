@@ -7,9 +7,12 @@ use Rattle.spl_value.specs.declared.item.Item.TheVariants as I
 use Rattle.spl_value.specs.declared.item.FaultKind.{FaultKind}
 use Rattle.spl_value.specs.declared.types.Named.{Named}
 use Rattle.spl_value.specs.declared.types.SplType.{SplType}
+use Rattle.spl_tree.specs.declared.code.Code.{Code}
+use Rattle.spl_tree.specs.declared.code.Slot.{Slot}
+use Rattle.stream_model.specs.declared.env.Env.{Env}
 use Rattle.stream_model.specs.declared.outs.Output.{Output}
-use Rattle.stream_model.specs.declared.condition.Condition.{Condition}
-use Rattle.stream_model.specs.Condition.{holds}
+use Rattle.stream_model.specs.Outcomes.{Outcome, Done, Faulted, Stuck}
+use Rattle.stream_model.specs.Evaluation.{value, truth, world_of}
 use Rattle.stream_model.specs.Stream.{Event, is_final, is_fault}
 
 -- the file of a source, the attributes of its rows, and whether a bad row is a fault
@@ -21,7 +24,7 @@ pub record Source : Type 0 where
 -- the kinds of operators, each with its clauses
 pub data Kind : Type 0 where
   FileSource : (source : Source) → Kind
-  Filter : (condition : Option Condition) → Kind
+  Filter : (condition : Option (Code Slot)) → Kind
   FileSink : (file : List ℕ) → Kind
 
 -- an operator: its number, its kind, the streams that each input port takes, and the stream of each output port
@@ -77,14 +80,32 @@ pub data Answer : Type 0 where
   Gives : (outs : List Output) → Answer
   Faults : (kind : FaultKind) → Answer
 
--- a tuple for which the condition holds, or every tuple where there is none
-abbrev pub passes : Option Condition → List Value → Bool
-passes None tuple = true
-passes (Some condition) tuple = holds condition tuple
+-- the turns that an operator may take for one event
+unfoldable pub most_turns : ℕ
+most_turns = 1000000
 
--- a filter passes tuples and window markers, and adds nothing at the end
-abbrev pub filter_body : Option Condition → Item → Answer
-filter_body condition (I.Tuple vs) = Gives (if passes condition vs then output 0 (I.Tuple vs) ∷ [] else [])
+-- where an expression of an operator with one input port is evaluated, which a tuple has come on
+abbrev pub at_tuple : List Value → Env
+at_tuple vs = record { inputs = vs ∷ []; vars = []; punct = None }
+
+-- whether a condition holds for a tuple, or its fault. It calls no function
+abbrev pub holds : Code Slot → List Value → Outcome Bool
+holds condition vs = truth (value [] condition) (world_of (at_tuple vs)) most_turns
+
+-- whether a filter passes a tuple: every tuple where it has no condition
+abbrev pub passes : Option (Code Slot) → List Value → Outcome Bool
+passes None vs = Done true most_turns
+passes (Some condition) vs = holds condition vs
+
+abbrev pub filter_answer : List Value → Outcome Bool → Answer
+filter_answer vs (Done b turns) = Gives (if b then output 0 (I.Tuple vs) ∷ [] else [])
+filter_answer vs (Faulted kind) = Faults kind
+filter_answer vs Stuck = Gives []
+
+-- A filter passes the tuples for which its condition holds, and window markers, and adds nothing at the end. Where the
+-- condition faults, the filter does.
+abbrev pub filter_body : Option (Code Slot) → Item → Answer
+filter_body condition (I.Tuple vs) = filter_answer vs (passes condition vs)
 filter_body condition I.Window = Gives (output 0 I.Window ∷ [])
 filter_body condition I.Final = Gives []
 filter_body condition (I.Bad f) = Gives []

@@ -11,10 +11,11 @@ ghost use Rattle.stream_model.specs.Laws.{StartLaw, HistoryLaw, EndLaw, EndItemL
 ghost use Rattle.stream_model.specs.FitLaws.{FitLaw, WantedLaw, OneTypeLaw};
 ghost use Rattle.stream_model.specs.React.{Source, FileSource, Filter, FileSink};
 ghost use Rattle.spl_tree.specs.declared.code.BinaryCode.TheVariants as D;
+ghost use Rattle.spl_tree.specs.declared.code.Code.{Code};
 ghost use Rattle.spl_tree.specs.declared.code.Code.TheVariants as C;
 ghost use Rattle.spl_tree.specs.declared.code.OrderOperator.TheVariants.{Less};
+ghost use Rattle.spl_tree.specs.declared.code.Slot.{Slot};
 ghost use Rattle.spl_tree.specs.declared.code.Slot.TheVariants as L;
-ghost use Rattle.stream_model.specs.declared.condition.Condition.{Condition};
 ghost use Rattle.stream_model.specs.PathLaws.{path_graph};
 ghost use Rattle.stream_model.specs.TwoPorts.{two_ports, variable, comparison};
 ghost use Rattle.stream_model.specs.Typing.{typing};
@@ -61,11 +62,11 @@ pub fn graph_law()
 
 /// A source, a filter behind it and a sink behind that are ordered, and numbered in their order.
 pub fn chain_is_ordered()
-    ensures ordered { (source : Source) (condition : Option Condition) (file : List ℕ) → IsOrdered (
+    ensures ordered { (source : Source) (condition : Option (Code Slot)) (file : List ℕ) → IsOrdered (
         record { number = 0; kind = FileSource source; ins = []; outs = 0 ∷ [] }
         ∷ record { number = 1; kind = Filter condition; ins = (0 ∷ []) ∷ []; outs = 1 ∷ [] }
         ∷ record { number = 2; kind = FileSink file; ins = (1 ∷ []) ∷ []; outs = [] } ∷ []) }
-    ensures numbered { (source : Source) (condition : Option Condition) (file : List ℕ)
+    ensures numbered { (source : Source) (condition : Option (Code Slot)) (file : List ℕ)
         → IsNumbered (path_graph source condition file) }
 {}
 

@@ -1,16 +1,12 @@
 //! What a graph of operators means on one thread.
 #![tactic(auto)]
 
-mod comparison;
-mod condition;
 mod env;
 mod laws;
 mod outs;
 mod record;
 mod scope;
 
-pub use comparison::Comparison;
-pub use condition::Condition;
 pub use env::{Env, Tuples};
 pub use laws::{
     chain_is_ordered, evaluation_law, graph_law, history_law, kinds_law, names_on_literals,

@@ -10,7 +10,7 @@ pub returns-in-TooLong-clause-cause : goal.returns-in-TooLong-clause-cause
 returns-in-TooLong-clause-cause g c = quiet_fetch _ _ _ _ refl refl c.in-TooLong.ensures.cause
 
 pub returns-clause-made : goal.returns-clause-made
-returns-clause-made g c = made_of_form _ _ c.args.program.now c.in-Whole.bytes c.args.source.now c.in-Ok-Filtered.condition c.prepare_source.result _ _ _ c.requires
+returns-clause-made g c = made_of_form _ _ c.args.program.now c.in-Whole.bytes c.args.source.now c.get.result.now c.prepare_source.result _ _ _ c.requires
     c.in-Whole.ensures.read (search rules) c.in-Whole.ensures.told c.prepare_source.ensures.made
     (quiet_fetch _ _ _ _ refl refl c.in-Whole.ensures.cause) c.prepare_source.ensures.cause
 

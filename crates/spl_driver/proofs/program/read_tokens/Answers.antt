@@ -1,6 +1,6 @@
 use Rattle.std.proofs.Common.{rules, refl, sym, ap, true, false, ◌∙◌}
-use Rattle.spl_driver.specs.Form.{kinds}
-use Rattle.spl_driver.proofs.Forms.{front_fixed, back_fixed, behind_length, found_none, found_some, from_place}
+use Rattle.spl_driver.specs.Form.{kinds, behind}
+use Rattle.spl_driver.proofs.Forms.{front_fixed, back_fixed, behind_length, no_front, found_none, found_some, from_place}
 use Rattle.spl_driver.proofs.program.read_tokens.Goals as goal
 
 pub fixed-requires : goal.fixed-requires
@@ -11,6 +11,9 @@ fixed-requires-2 c = back_fixed
 
 pub overflow_sub-from : goal.overflow_sub-from
 overflow_sub-from c = behind_length _ _ _ c.in-Some.ensures
+
+pub returns-in_default : goal.returns-in_default
+returns-in_default c = no_front _ _ (ap kinds c.as_slice.ensures ∙ c.in_ok-front.ensures) (ap (behind (kinds c.as_slice.result.now)) (sym c.as_slice-list.ensures) ∙ c.in_default.ensures)
 
 pub returns-in_default-2 : goal.returns-in_default-2
 returns-in_default-2 c =

@@ -1,4 +1,5 @@
-use Rattle.std.proofs.Common.{refl}
+use Rattle.std.proofs.Common.{refl, ap, ◌∙◌}
+use Rattle.stream_model.specs.Ends.{stream_fault}
 use Rattle.spl_driver.proofs.Standing.{same_answer, told_same, reads_same, not_built_answer, device_answer, sunk_answer, sunk_shown}
 use Rattle.spl_driver.proofs.run.run.Goals as goal
 
@@ -18,9 +19,9 @@ pub returns-in-NoMemory-clause-answered : goal.returns-in-NoMemory-clause-answer
 returns-in-NoMemory-clause-answered g c = same_answer _ _ _ _ c.ended-in-NoMemory.result _ _ c.ended-in-NoMemory.ensures.cause refl c.in-NoMemory.ensures.told c.in-NoMemory.ensures.reads
 
 pub returns-clause-answered : goal.returns-clause-answered
-returns-clause-answered g c = sunk_answer _ _ _ c.args.program.now c.in-Ok-from_slice.sink c.write_sink-sunk.result c.ended_with.result c.in-Stream.items _ _ _
+returns-clause-answered g c = sunk_answer _ _ _ c.args.program.now c.in-Ok-from_slice.sink c.write_sink-sunk.result c.ended_with.result c.in-Stream.items c.fault_of.result _ _ _
     c.in-Ok-from_slice.ensures c.in-Stream.ensures.made c.in-Stream.ensures.told c.in-Stream.ensures.cause
-    (rw (← c.as_slice.ensures) c.write_sink-sunk.ensures.told) (rw (← c.as_slice.ensures) c.write_sink-sunk.ensures.count) c.write_sink-sunk.ensures.cause c.ended_with.ensures.ends c.ended_with.ensures.lists
+    (rw (← c.as_slice.ensures) c.write_sink-sunk.ensures.told) (rw (← c.as_slice.ensures) c.write_sink-sunk.ensures.count) c.write_sink-sunk.ensures.cause (c.fault_of.ensures ∙ ap stream_fault c.as_slice-in-Stream.ensures) c.ended_with.ensures.ends c.ended_with.ensures.lists
 
 pub returns-clause-shown : goal.returns-clause-shown
-returns-clause-shown g c = sunk_shown c.args.program.now c.in-Ok-from_slice.sink c.write_sink-sunk.result c.ended_with.result _ _ _ c.in-Ok-from_slice.ensures c.in-Stream.ensures.cause c.write_sink-sunk.ensures.cause c.ended_with.ensures.ends
+returns-clause-shown g c = sunk_shown c.args.program.now c.in-Ok-from_slice.sink c.write_sink-sunk.result c.fault_of.result c.ended_with.result _ _ _ c.in-Ok-from_slice.ensures c.in-Stream.ensures.cause c.write_sink-sunk.ensures.cause c.ended_with.ensures.ends

@@ -1,4 +1,4 @@
-use Rattle.spl_driver.proofs.NumberRows.{form_of, stream_of}
+use Rattle.spl_driver.proofs.NumberRows.{form_of, stream_of, prices_of}
 use Rattle.spl_driver.proofs.source.number_stream.Goals as goal
 
 pub returns-clause-form : goal.returns-clause-form
@@ -6,3 +6,6 @@ returns-clause-form c = form_of c.number_rows.result c.args.bytes.now c.number_r
 
 pub returns-clause-stream : goal.returns-clause-stream
 returns-clause-stream c = stream_of c.number_rows.result c.args.bytes.now c.requires c.number_rows.ensures
+
+pub returns-clause-tuples : goal.returns-clause-tuples
+returns-clause-tuples c = prices_of c.number_rows.result c.args.bytes.now c.number_rows.ensures
