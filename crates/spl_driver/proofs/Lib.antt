@@ -11,5 +11,6 @@ pub mod SameKinds
 pub mod Filtering
 pub mod Forms
 pub mod OneForm
+pub mod Answering
 pub mod Completing
 pub mod Telling

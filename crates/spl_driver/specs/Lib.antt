@@ -2,9 +2,9 @@ pub mod Source
 pub mod Lines
 pub mod Form
 pub mod Program
+pub mod Filter
 pub mod ProgramLaws
 pub mod Request
 pub mod Answer
-pub mod Filter
 pub mod RequestLaws
 pub mod Steps

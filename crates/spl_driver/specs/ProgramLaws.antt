@@ -10,6 +10,10 @@ use Rattle.spl_tree.specs.declared.code.Slot.TheVariants as L
 use Rattle.spl_tree.specs.declared.token.Tokens.{Tokens}
 use Rattle.spl_tree.specs.Tokens.{tokens}
 use Rattle.spl_tree.specs.Tokens as lexical
+use Rattle.spl_value.specs.declared.value.Value.{Value}
+use Rattle.stream_model.specs.Outcomes.{Stuck}
+use Rattle.stream_model.specs.React.{holds}
+use Rattle.spl_driver.specs.Filter.{IsPrice}
 use Rattle.spl_driver.specs.Program.{IsForm, IsCondition, lexical_refusal}
 use Rattle.spl_driver.specs.declared.program.Form.{Form}
 use Rattle.spl_driver.specs.declared.program.Form.TheVariants as F
@@ -29,6 +33,10 @@ RefusedLaw = (bytes : List ℕ) (refusal : lexical.Refusal) → IsForm bytes (F.
 -- a program's condition is boolean in the filter's scope
 abbrev pub ConditionLaw : Type 0
 ConditionLaw = (bytes : List ℕ) (c : Code Slot) → IsForm bytes (F.Filtered c) → IsCondition c
+
+-- which has a value or a fault for each tuple of the source
+abbrev pub AnswersLaw : Type 0
+AnswersLaw = (c : Code Slot) → IsCondition c → (vs : List Value) → IsPrice vs → holds c vs ≡ Stuck → ⊥
 
 -- the program whose filter is `price > 10l`
 abbrev pub program_of_ten : List ℕ

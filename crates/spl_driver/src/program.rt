@@ -4,7 +4,7 @@ ghost use Rattle.spl_tree.specs.Tokens.{tokens};
 ghost use Rattle.spl_driver.specs.Form.{kinds, kinds_of, same_kind, behind, is_end, filter_scope, condition_of};
 ghost use Rattle.spl_driver.specs.Program.{IsForm, HasCondition, lexical_refusal};
 ghost use Rattle.spl_driver.specs.Steps.{ConditionAt, Read};
-ghost use Rattle.spl_driver.specs.ProgramLaws.{OneFormLaw, SomeFormLaw, RefusedLaw, ConditionLaw, program_of_ten, condition_of_ten, IsFixed};
+ghost use Rattle.spl_driver.specs.ProgramLaws.{OneFormLaw, SomeFormLaw, RefusedLaw, ConditionLaw, AnswersLaw, program_of_ten, condition_of_ten, IsFixed};
 
 use crate::cause::{Code as RefusalCode, Refusal};
 use crate::{BACK, FRONT};
@@ -13,7 +13,7 @@ use spl_lexer::{LexAnswer, lex};
 use spl_tree::{Code, Expr, LexicalError, Slot, Token, TokenKind, Tokens, tokens_law};
 use spl_value::{Boxed, IntKind, Items, Named, NoMemory, SplType};
 use std::alloc::Global;
-use stream_model::typing_law;
+use stream_model::{evaluation_law, typing_law};
 use type_rules::{Port, Scope, TypeAnswer, type_of};
 
 /// What the bytes of a program come to.
@@ -189,14 +189,17 @@ fn refusal(error: LexicalError, at: u32) -> Refusal
 }
 
 /// A program comes to one thing: it is refused, exactly where its bytes are no tokens; it is of the
-/// form, with one condition; or it is of another. A condition is boolean in the filter's scope.
+/// form, with one condition; or it is of another. A condition is boolean in the filter's scope, and has
+/// a value or a fault for each tuple of the source.
 pub fn program_law()
     ensures one { OneFormLaw }
     ensures some { SomeFormLaw }
     ensures refused { RefusedLaw }
     ensures fits { ConditionLaw }
+    ensures answers { AnswersLaw }
     ensures example { IsForm program_of_ten (Form.Filtered condition_of_ten) }
 {
     expressions_law();
     typing_law();
+    evaluation_law();
 }

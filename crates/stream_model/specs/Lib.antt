@@ -16,6 +16,7 @@ pub mod React
 pub mod Stages
 pub mod Meaning
 pub mod Ends
+pub mod TwoSinks
 pub mod Fields
 pub mod Rows
 pub mod RowsLaws

@@ -17,6 +17,7 @@ ghost use Rattle.spl_tree.specs.declared.code.OrderOperator.TheVariants.{Less};
 ghost use Rattle.spl_tree.specs.declared.code.Slot.{Slot};
 ghost use Rattle.spl_tree.specs.declared.code.Slot.TheVariants as L;
 ghost use Rattle.stream_model.specs.PathLaws.{path_graph};
+ghost use Rattle.stream_model.specs.TwoSinks.{two_sinks, unread_source, bad_row, fault_of_run};
 ghost use Rattle.stream_model.specs.TwoPorts.{two_ports, variable, comparison};
 ghost use Rattle.stream_model.specs.Typing.{typing};
 ghost use Rattle.stream_model.specs.Written.{Bare, Of, stands_for, written, renamed};
@@ -77,6 +78,16 @@ pub fn rows_law()
     ensures all { RowsLaw }
     ensures failed { FailedRowsLaw }
     ensures within { (o : Setting) → 6 ≤ o.limit → IsWithin o (codes "20\n30\n") }
+{}
+
+/// The fault of some runs: that of the first end that ended with one, in the order of the operators.
+/// A stream that nobody reads is an end, and one that is read isn't.
+pub fn ends_on_literals()
+    ensures first_sink { fault_of_run two_sinks (I.Bad (bad_row 0) ∷ []) (I.Bad (bad_row 1) ∷ []) ≡ Some (bad_row 1) }
+    ensures other_sink { fault_of_run two_sinks (I.Bad (bad_row 0) ∷ []) (I.Window ∷ I.Final ∷ []) ≡ Some (bad_row 0) }
+    ensures none { fault_of_run two_sinks (I.Final ∷ []) (I.Window ∷ I.Final ∷ []) ≡ None }
+    ensures unread { fault_of_run unread_source (I.Tuple [] ∷ I.Bad (bad_row 0) ∷ []) (I.Bad (bad_row 1) ∷ []) ≡ Some (bad_row 0) }
+    ensures read { fault_of_run unread_source (I.Final ∷ []) (I.Tuple [] ∷ I.Bad (bad_row 1) ∷ []) ≡ Some (bad_row 1) }
 {}
 
 /// An expression has at most one type and one code in a scope, under the type that its place wants.

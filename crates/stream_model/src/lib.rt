@@ -9,8 +9,9 @@ mod scope;
 
 pub use env::{Env, Tuples};
 pub use laws::{
-    chain_is_ordered, evaluation_law, graph_law, history_law, kinds_law, names_on_literals,
-    order_law, renaming_law, rows_law, rows_on_literals, text_on_literals, typing_law,
+    chain_is_ordered, ends_on_literals, evaluation_law, graph_law, history_law, kinds_law,
+    names_on_literals, order_law, renaming_law, rows_law, rows_on_literals, text_on_literals,
+    typing_law,
 };
 pub use outs::{Output, Outs};
 pub use record::{

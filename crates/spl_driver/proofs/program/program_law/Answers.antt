@@ -1,3 +1,4 @@
+use Rattle.spl_driver.proofs.Answering.{answers}
 use Rattle.spl_driver.proofs.OneForm.{one_form, some_form, refused_law, condition_law, example}
 use Rattle.spl_driver.proofs.program.program_law.Goals as goal
 
@@ -15,3 +16,6 @@ returns-clause-fits c = condition_law c.typing_law.ensures.fits c.typing_law.ens
 
 pub returns-clause-example : goal.returns-clause-example
 returns-clause-example c = example
+
+pub returns-clause-answers : goal.returns-clause-answers
+returns-clause-answers c = answers c.evaluation_law.ensures.never_stuck
