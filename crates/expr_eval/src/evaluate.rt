@@ -22,7 +22,8 @@ use std::alloc::Global;
 use stream_model::{Env, evaluation_law};
 
 /// How many codes may be evaluated inside one another, those of called functions too, since the stack
-/// is memory. No expression that is parsed nests so deep.
+/// is memory: so many calls take less than 3 MiB of it. The code of one expression that is parsed nests
+/// no deeper than 1,000.
 pub const DEEPEST: u32 = 1500;
 
 /// What a code is evaluated in.

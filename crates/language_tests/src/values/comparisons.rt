@@ -42,6 +42,86 @@ fn integers_are_ordered_by_number(rt: HostRuntime) -> Result<(), Fail> {
     expect(&rt, rt.alloc(), None, ORDER)
 }
 
+const BOUNDS: &[Row] = &[
+    // `int8`
+    ("least8 < 127b", "true"),
+    ("127b <= least8", "false"),
+    ("127b > least8", "true"),
+    ("least8 >= 127b", "false"),
+    ("least8 == least8", "true"),
+    ("least8 == 127b", "false"),
+    ("127b != least8", "true"),
+    ("127b != 127b", "false"),
+    // `int16`
+    ("least16 < 32767h", "true"),
+    ("32767h <= least16", "false"),
+    ("32767h > least16", "true"),
+    ("least16 >= 32767h", "false"),
+    ("least16 == least16", "true"),
+    ("least16 == 32767h", "false"),
+    ("32767h != least16", "true"),
+    ("32767h != 32767h", "false"),
+    // `int32`
+    ("least32 < 2147483647", "true"),
+    ("2147483647 <= least32", "false"),
+    ("2147483647 > least32", "true"),
+    ("least32 >= 2147483647", "false"),
+    ("least32 == least32", "true"),
+    ("least32 == 2147483647", "false"),
+    ("2147483647 != least32", "true"),
+    ("2147483647 != 2147483647", "false"),
+    // `int64`
+    ("least64 < 9223372036854775807l", "true"),
+    ("9223372036854775807l <= least64", "false"),
+    ("9223372036854775807l > least64", "true"),
+    ("least64 >= 9223372036854775807l", "false"),
+    ("least64 == least64", "true"),
+    ("least64 == 9223372036854775807l", "false"),
+    ("9223372036854775807l != least64", "true"),
+    ("9223372036854775807l != 9223372036854775807l", "false"),
+    // `uint8`
+    ("0ub < 255ub", "true"),
+    ("255ub <= 0ub", "false"),
+    ("255ub > 0ub", "true"),
+    ("0ub >= 255ub", "false"),
+    ("0ub == 0ub", "true"),
+    ("0ub == 255ub", "false"),
+    ("255ub != 0ub", "true"),
+    ("255ub != 255ub", "false"),
+    // `uint16`
+    ("0uh < 65535uh", "true"),
+    ("65535uh <= 0uh", "false"),
+    ("65535uh > 0uh", "true"),
+    ("0uh >= 65535uh", "false"),
+    ("0uh == 0uh", "true"),
+    ("0uh == 65535uh", "false"),
+    ("65535uh != 0uh", "true"),
+    ("65535uh != 65535uh", "false"),
+    // `uint32`
+    ("0u < 4294967295u", "true"),
+    ("4294967295u <= 0u", "false"),
+    ("4294967295u > 0u", "true"),
+    ("0u >= 4294967295u", "false"),
+    ("0u == 0u", "true"),
+    ("0u == 4294967295u", "false"),
+    ("4294967295u != 0u", "true"),
+    ("4294967295u != 4294967295u", "false"),
+    // `uint64`
+    ("0ul < 18446744073709551615ul", "true"),
+    ("18446744073709551615ul <= 0ul", "false"),
+    ("18446744073709551615ul > 0ul", "true"),
+    ("0ul >= 18446744073709551615ul", "false"),
+    ("0ul == 0ul", "true"),
+    ("0ul == 18446744073709551615ul", "false"),
+    ("18446744073709551615ul != 0ul", "true"),
+    ("18446744073709551615ul != 18446744073709551615ul", "false"),
+];
+
+#[test]
+fn bounds_of_each_type_are_compared(rt: HostRuntime) -> Result<(), Fail> {
+    expect(&rt, rt.alloc(), None, BOUNDS)
+}
+
 const EQUAL: &[Row] = &[
     // Integers and booleans.
     ("1 == 1", "true"),
@@ -131,6 +211,26 @@ const MEMBERSHIP: &[Row] = &[
     ("'q' in k[1]", "true"),
     ("'q' in k[2]", "false"),
     ("2 in L.ls", "true"),
+    // At the bounds of each integer type.
+    ("least8 in [127b, least8]", "true"),
+    ("127b in [least8]", "false"),
+    ("least16 in [32767h, least16]", "true"),
+    ("32767h in [least16]", "false"),
+    ("least32 in [2147483647, least32]", "true"),
+    ("2147483647 in [least32]", "false"),
+    ("least64 in [9223372036854775807l, least64]", "true"),
+    ("9223372036854775807l in [least64]", "false"),
+    ("255ub in [0ub, 255ub]", "true"),
+    ("0ub in [255ub]", "false"),
+    ("65535uh in [0uh, 65535uh]", "true"),
+    ("0uh in [65535uh]", "false"),
+    ("4294967295u in [0u, 4294967295u]", "true"),
+    ("0u in [4294967295u]", "false"),
+    (
+        "18446744073709551615ul in [0ul, 18446744073709551615ul]",
+        "true",
+    ),
+    ("0ul in [18446744073709551615ul]", "false"),
     // In maps, among the keys.
     ("'a' in m", "true"),
     ("'z' in m", "false"),
@@ -141,6 +241,11 @@ const MEMBERSHIP: &[Row] = &[
     ("1 in {2 : 1}", "false"),
     ("2 in {1 : 0, 2 : 0, 3 : 0}", "true"),
     ("[1] in {[1] : 'a'}", "true"),
+    ("least8 in {127b : 1, least8 : 2}", "true"),
+    ("most64 in {0ul : 1, most64 : 2}", "true"),
+    ("most64 in {0ul : 1}", "false"),
+    ("yes in {true : 1}", "true"),
+    ("no in {true : 1}", "false"),
     // Before `==`, and behind sums.
     ("20 in xs == true", "true"),
     ("10 + 10 in xs", "true"),

@@ -58,3 +58,19 @@ fn calls_may_nest_deep(rt: HostRuntime) -> Result<(), Fail> {
     assert_eq!(rt; seen.as_str(), "Turns");
     Ok(())
 }
+
+// How deep codes may nest, those of called functions counted, is how many there are here and one more.
+const MOST_CALLS: u32 = 1499;
+
+#[test]
+fn calls_that_nest_deeper_find_no_memory(rt: HostRuntime) -> Result<(), Fail> {
+    let alloc = rt.alloc();
+    let context = chain(alloc, MOST_CALLS + 1)?;
+    let most = call(alloc, MOST_CALLS - 1)?;
+    let seen = outcome_in(alloc, &context, most.as_str(), MOST_CALLS)?;
+    assert_eq!(rt; seen.as_str(), "1 | 0");
+    let deeper = call(alloc, MOST_CALLS)?;
+    let seen = outcome_in(alloc, &context, deeper.as_str(), MOST_CALLS + 1)?;
+    assert_eq!(rt; seen.as_str(), "no memory");
+    Ok(())
+}
