@@ -9,6 +9,8 @@ mod operators;
 mod slots;
 mod stop;
 mod taking;
+#[cfg(test)]
+mod tests;
 
 pub use evaluate::{DEEPEST, eval};
 pub use stream_model::{Env, Tuples};

@@ -1,0 +1,163 @@
+ghost use Rattle.std.specs.Prelude.{◌≡◌, ◌<◌, [], IsTrue, IfOk};
+ghost use Rattle.spl_value.specs.declared.types.IntKind.TheVariants.{I64};
+ghost use Rattle.spl_value.specs.declared.types.SplType.TheVariants as T;
+ghost use Rattle.spl_value.specs.Values.{fits};
+ghost use Rattle.stream_model.specs.declared.scope.Scope.{Scope};
+ghost use Rattle.stream_model.specs.CodeFits.{CodeFits};
+ghost use Rattle.stream_model.specs.Evaluation.{function_env};
+ghost use Rattle.expr_eval.specs.Fitting.{IsFit};
+
+use crate::{DEEPEST, Env, eval};
+use spl_tree::{BinaryCode, Code, Function, Functions, OrderOperator, Slot, UnaryCode};
+use spl_value::{Boxed, Evaluated, FaultKind, IntKind, Items, SplType, Value, wrap};
+use std::alloc::Global;
+use std::test::Fail;
+
+// The value of a code where nothing but functions can be named, and the turns that are left.
+fn evaluated(
+    alloc: Global,
+    functions: &Functions,
+    code: &Code<Slot>,
+    turns: u32,
+) -> (Evaluated, u32)
+    requires { IsFit functions.now code.now (function_env []) }
+{
+    let env = Env {
+        inputs: Items::new(alloc),
+        vars: Items::new(alloc),
+        punct: None,
+    };
+    let mut left = turns;
+    let value = eval(alloc, functions, code, &env, &mut left);
+    (value, left)
+}
+
+// A boolean code with so many `!` in front, each around the next.
+fn inverted(alloc: Global, count: u32, code: Code<Slot>) -> Result<Code<Slot>, Fail>
+    ensures { IfOk result (λ made. (scope : Scope) → CodeFits scope code T.Bool → CodeFits scope made T.Bool) }
+{
+    let mut made = code;
+    for _ in 0..count {
+        let mut operators = Items::new(alloc);
+        operators.push(UnaryCode::Not)?;
+        made = Code::Unary(operators, Boxed::new(alloc, made)?);
+    }
+    Ok(made)
+}
+
+// A function with no parameters.
+fn function(alloc: Global, body: Code<Slot>) -> Function
+    ensures parameters { result.parameters ≡ [] }
+    ensures result { result.result ≡ T.Bool }
+    ensures body { result.body ≡ body }
+{
+    Function {
+        parameters: Items::new(alloc),
+        result: SplType::Bool,
+        body,
+    }
+}
+
+// Two functions and a code: the first function gives `true` behind so many `!`, the second calls the
+// first, and the code calls the function at that place, behind so many `!` too.
+fn program(
+    alloc: Global,
+    place: u32,
+    outside: u32,
+    inside: u32,
+) -> Result<(Functions, Code<Slot>), Fail>
+    requires { place < 2 }
+    ensures { IfOk result (λ p. IsFit p.0 p.1 (function_env [])) }
+{
+    let first = inverted(alloc, inside, Code::Literal(Value::Bool(true)))?;
+    let second = Code::Call(0, Items::new(alloc));
+    let mut functions = Items::new(alloc);
+    functions.push(function(alloc, first))?;
+    functions.push(function(alloc, second))?;
+    let call = Code::Call(place, Items::new(alloc));
+    Ok((functions, inverted(alloc, outside, call)?))
+}
+
+// How many `!` may stand around a call and in its function: the call and the literal nest too.
+const MOST: u32 = DEEPEST - 2;
+
+#[test]
+fn codes_nest_at_most_deepest_deep(rt: HostRuntime) -> Result<(), Fail> {
+    for (outside, inside, is_too_deep) in [
+        (MOST, 0, false),
+        (MOST + 1, 0, true),
+        (0, MOST, false),
+        (0, MOST + 1, true),
+        (MOST / 2, MOST / 2, false),
+        (MOST / 2, MOST / 2 + 1, true),
+    ] {
+        let (functions, code) = program(rt.alloc(), 0, outside, inside)?;
+        let want = if is_too_deep {
+            Evaluated::Memory
+        } else {
+            Evaluated::Value(Value::Bool(true))
+        };
+        let (value, _) = evaluated(rt.alloc(), &functions, &code, 1);
+        assert_eq!(rt; value, want, "{outside} {inside}");
+    }
+    Ok(())
+}
+
+#[test]
+fn each_call_takes_a_turn(rt: HostRuntime) -> Result<(), Fail> {
+    for (place, turns, left) in [
+        (0, 0, None),
+        (0, 1, Some(0)),
+        (1, 1, None),
+        (1, 2, Some(0)),
+        (1, 5, Some(3)),
+    ] {
+        let (functions, code) = program(rt.alloc(), place, 0, 0)?;
+        let (value, now) = evaluated(rt.alloc(), &functions, &code, turns);
+        let want = match left {
+            Some(_) => Evaluated::Value(Value::Bool(true)),
+            None => Evaluated::Bad(FaultKind::Turns),
+        };
+        assert_eq!(rt; value, want, "{place} {turns}");
+        assert_eq!(rt; now, left.unwrap_or(0), "{place} {turns}");
+    }
+    Ok(())
+}
+
+#[tactic(auto, using(spl_value::specs::FitsLaws::number_laws))]
+fn integer(n: i128) -> Value
+    ensures { IsTrue (fits (T.Int I64) result) }
+{
+    Value::Int(wrap(IntKind::I64, n))
+}
+
+// Whether a price is above 10. It is the only attribute of the only port.
+fn is_above_ten(alloc: Global, price: i128) -> Result<Evaluated, Fail> {
+    let mut tuple = Items::new(alloc);
+    tuple.push(integer(price))?;
+    let mut inputs = Items::new(alloc);
+    inputs.push(tuple)?;
+    let env = Env {
+        inputs,
+        vars: Items::new(alloc),
+        punct: None,
+    };
+    let price = Code::Name(Slot::Attribute {
+        port: 0,
+        attribute: 0,
+    });
+    let price = Boxed::new(alloc, price)?;
+    let ten = Boxed::new(alloc, Code::Literal(integer(10)))?;
+    let code = Code::Binary(BinaryCode::Order(OrderOperator::Greater), price, ten);
+    let mut turns = 0;
+    Ok(eval(alloc, &Items::new(alloc), &code, &env, &mut turns))
+}
+
+#[test]
+fn attributes_are_compared(rt: HostRuntime) -> Result<(), Fail> {
+    for (price, want) in [(-11, false), (9, false), (10, false), (11, true)] {
+        let seen = is_above_ten(rt.alloc(), price)?;
+        assert_eq!(rt; seen, Evaluated::Value(Value::Bool(want)), "{price}");
+    }
+    Ok(())
+}
