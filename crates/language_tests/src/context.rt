@@ -6,10 +6,11 @@ ghost use Rattle.language_tests.specs.Contexts.{Holds};
 
 use crate::functions::{FunctionText, functions, signatures};
 use crate::kinds::Kinds;
+use crate::plain::{Plain, Stop, plain};
 use crate::typed::{Unvalued, typed};
 use expr_eval::eval;
 use spl_tree::{Functions, Marker};
-use spl_value::{Evaluated, Items, SplType, Value};
+use spl_value::{Evaluated, FaultKind, Items, SplType, Value, same};
 use std::alloc::Global;
 use std::test::Fail;
 use stream_model::{Env, Port, Scope, Typed, Variable, evaluation_law};
@@ -31,6 +32,21 @@ pub(crate) struct Valued {
 
 /// The turns that a text may take where nothing else is said.
 pub(crate) const TURNS: u32 = 1_000_000;
+
+// Whether a plain evaluation gave this value and left so many turns.
+fn gives(plain: &Plain, left: u32, value: &Value, turns: u32) -> bool {
+    match plain {
+        Ok(other) => same(other, value) && left == turns,
+        Err(_) => false,
+    }
+}
+
+fn faults(plain: &Plain, fault: FaultKind) -> bool {
+    match plain {
+        Err(Stop::Fault(other)) => *other == fault,
+        _ => false,
+    }
+}
 
 impl Context {
     /// A context with functions alone, where a marker came or, as `None`, a tuple.
@@ -63,7 +79,8 @@ impl Context {
         })
     }
 
-    // The value of a code, and of the turns those that are left.
+    // The value of a code, and of the turns those that are left. A plain evaluation has to come to the
+    // same.
     fn valued(&self, alloc: Global, typed: Typed, turns: &mut u32) -> Result<Valued, Unvalued>
         requires holds { Holds self.now.scope self.now.env self.now.functions }
         requires fits { CodeFits self.now.scope typed.code typed.kind }
@@ -71,12 +88,30 @@ impl Context {
     {
         evaluation_law();
         let Typed { kind, code } = typed;
+        let mut left = *turns;
+        let plain = plain(
+            alloc,
+            &self.functions,
+            code.get(),
+            &self.scope,
+            &self.env,
+            &mut left,
+        );
         match eval(alloc, &self.functions, code.get(), &self.env, turns) {
-            Evaluated::Value(value) => Ok(Valued {
-                kind: kind.into_inner(),
-                value,
+            Evaluated::Value(value) => {
+                if !gives(&plain, left, &value, *turns) {
+                    return Err(Unvalued::Disputed);
+                }
+                Ok(Valued {
+                    kind: kind.into_inner(),
+                    value,
+                })
+            }
+            Evaluated::Bad(fault) => Err(if faults(&plain, fault) {
+                Unvalued::Fault(fault)
+            } else {
+                Unvalued::Disputed
             }),
-            Evaluated::Bad(fault) => Err(Unvalued::Fault(fault)),
             Evaluated::Memory => Err(Unvalued::Memory),
         }
     }

@@ -30,6 +30,8 @@ mod operators;
 #[cfg(test)]
 mod orders;
 #[cfg(test)]
+mod plain;
+#[cfg(test)]
 mod prepared;
 #[cfg(test)]
 mod reading;

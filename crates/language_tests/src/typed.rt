@@ -17,6 +17,8 @@ pub(crate) enum Unvalued {
     Unread(&'static str),
     Untyped(TypeAnswer),
     Fault(FaultKind),
+    /// Two evaluations come to something else.
+    Disputed,
     Memory,
 }
 

@@ -39,6 +39,7 @@ fn add_unvalued(shown: &mut Shown, why: &Unvalued) {
         Unvalued::Unread(why) => shown.add(why),
         Unvalued::Untyped(answer) => add_untyped(shown, answer),
         Unvalued::Fault(kind) => shown.add(fault(*kind)),
+        Unvalued::Disputed => shown.add("disputed"),
         Unvalued::Memory => shown.add("no memory"),
     }
 }
