@@ -6,7 +6,7 @@ use Rattle.spl_value.specs.declared.value.Value.{Value}
 use Rattle.spl_tree.specs.declared.code.BuiltIn.{BuiltIn}
 use Rattle.spl_tree.specs.declared.code.Code.{Code}
 use Rattle.spl_tree.specs.declared.code.Code.TheVariants as C
-use Rattle.spl_tree.specs.declared.code.Function.{Function}
+use Rattle.spl_tree.specs.declared.body.Function.{Function}
 use Rattle.spl_tree.specs.declared.code.Slot.{Slot}
 use Rattle.stream_model.specs.declared.env.Env.{Env}
 use Rattle.stream_model.specs.declared.scope.Scope.{Scope}

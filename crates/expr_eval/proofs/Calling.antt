@@ -1,19 +1,31 @@
--- A call of a function: its body fits the environment of its arguments.
-use Rattle.std.specs.Prelude.{◌≡◌, ◌-◌, ℕ, zero, suc, IsTrue, List, [], ◌∷◌, map, None, Some, slice_get}
+-- A call of a function: its body fits the environment of its arguments, and where the function has a result it returns one.
+use Rattle.std.specs.Prelude.{◌≡◌, ◌-◌, ℕ, zero, suc, false, IsTrue, List, [], ◌∷◌, map, length, Option, None, Some, slice_get}
 use Rattle.std.specs.Cmp.{first_so, second_so}
 use Rattle.std.specs.Cmp.Lexicographic.{pointwise}
 use Rattle.std.proofs.Common.{refl, sym, ap, ◌∙◌, subst, arith}
 use Rattle.spl_value.specs.declared.types.SplType.{SplType}
 use Rattle.spl_value.specs.declared.value.Value.{Value}
 use Rattle.spl_value.specs.Values.{fits}
-use Rattle.spl_tree.specs.declared.code.Function.{Function}
+use Rattle.spl_tree.specs.declared.body.Function.{Function}
+use Rattle.spl_tree.specs.declared.body.Statement.{Statement}
 use Rattle.stream_model.specs.declared.env.Env.{Env}
+use Rattle.stream_model.specs.declared.flow.Flow.{Flow}
+use Rattle.stream_model.specs.declared.outs.Output.{Output}
+use Rattle.stream_model.specs.declared.scope.Scope.{Scope}
 use Rattle.stream_model.specs.declared.scope.Signature.{Signature}
 use Rattle.stream_model.specs.declared.scope.Variable.{Variable}
-use Rattle.stream_model.specs.Evaluation.{code_value, world_of, function_env, calls_of}
-use Rattle.stream_model.specs.Outcomes.{need}
-use Rattle.stream_model.specs.WorldFits.{EnvFits, FunctionFits, body_scope}
-use Rattle.expr_eval.specs.Fitting.{IsFit, FitCall}
+use Rattle.stream_model.specs.BodyFits.{OfFunction}
+use Rattle.stream_model.specs.Functions.{function_env, bodies_of, calls_of}
+use Rattle.stream_model.specs.Outcomes.{Outcome, Done, followed, need, enter}
+use Rattle.stream_model.specs.Statements.{State, Left, scoped, row_acts, returned_by, left_by, body_leaves}
+use Rattle.stream_model.specs.ValueLaws.{BodyLeavesLaw}
+use Rattle.stream_model.specs.WorldFits.{VariablesFit, FunctionFits, ResultFits, Leaves, body_scope}
+use Rattle.expr_eval.specs.Answers.{StopsAs}
+use Rattle.expr_eval.specs.declared.stop.Stop.{Stop}
+use Rattle.expr_eval.specs.Fitting.{FitCall}
+use Rattle.expr_eval.specs.Running.{RowIsFit, FunctionIsFit, state}
+use Rattle.expr_eval.proofs.Following.{followed_stops, stops_by}
+use Rattle.expr_eval.proofs.ValueTypes.{done_followed}
 
 abbrev kinds : List Variable → List SplType
 kinds xs = map (λ (x : Variable). x.kind) xs
@@ -27,40 +39,143 @@ argument_there (y ∷ xs) (v ∷ vs) h zero x e =
     (v, refl, subst (λ (x : Variable). IsTrue (fits x.kind v)) same (first_so (fits y.kind v) (pointwise fits (kinds xs) vs) h))
 argument_there (y ∷ xs) (v ∷ vs) h (suc i) x e = argument_there xs vs (second_so (fits y.kind v) (pointwise fits (kinds xs) vs) h) i x e
 
-arguments_fit : (signatures : List Signature) (xs : List Variable) (vs : List Value) → IsTrue (pointwise fits (kinds xs) vs) → EnvFits (body_scope signatures xs) (function_env vs)
-arguments_fit signatures xs vs h = record { variables = argument_there xs vs h; inputs = λ i p e. absurd cc; marker = λ e. absurd cc }
+as_many : (xs : List Variable) (vs : List Value) → IsTrue (pointwise fits (kinds xs) vs) → length vs ≡ length xs
+as_many [] [] h = refl
+as_many [] (v ∷ vs) h = absurd cc
+as_many (x ∷ xs) [] h = absurd cc
+as_many (x ∷ xs) (v ∷ vs) h = ap suc (as_many xs vs (second_so (fits x.kind v) (pointwise fits (kinds xs) vs) h))
+
+arguments_fit : (signatures : List Signature) (xs : List Variable) (vs : List Value) → IsTrue (pointwise fits (kinds xs) vs) → VariablesFit (body_scope signatures xs) (function_env vs)
+arguments_fit signatures xs vs h = record {
+  env_fits = record { variables = argument_there xs vs h; inputs = λ i p e. absurd cc; marker = λ e. absurd cc };
+  count = as_many xs vs h;
+}
 
 -- the environment as it is made
-abbrev made : List (List Value) → List Value → Env
+abbrev pub made : List (List Value) → List Value → Env
 made inputs vs = record { inputs = inputs; vars = vs; punct = None }
 
+-- what is left of where a body ends
+abbrev left_after : Flow × State → ℕ → Option Value → Outcome Left
+left_after w after r = Done (record { vars = w.1.env.vars; submits = w.1.submits; returned = r }) after
+
+-- where a body begins
+abbrev begun : List Value → State
+begun vs = state (function_env vs) []
+
+module _ (functions : List Function) (i : ℕ) (vs : List Value) (h : FunctionIsFit functions i vs) where
+  there : (f : Function) × (slice_get functions i ≡ Some f) × FunctionFits h.0 h.1 f
+  there = h.2 i h.1 h.3
+
+  module _ (f : Function) (is : slice_get functions i ≡ Some f) where
+    it_fits : FunctionFits h.0 h.1 f
+    it_fits = let g : Function = there.0 in let at : slice_get functions i ≡ Some g = there.1 in let same : g ≡ f = cc in subst (FunctionFits h.0 h.1) same there.2
+
+    abbrev scope : Scope
+    scope = body_scope h.0 it_fits.variables
+
+    arguments : VariablesFit scope (function_env vs)
+    arguments = arguments_fit h.0 it_fits.variables vs (ap (λ ts. pointwise fits ts vs) it_fits.kinds ∙ h.4)
+
+    pub body_is_fit : (row : List Statement) → row ≡ f.body → (inputs : List (List Value)) → inputs ≡ [] → RowIsFit functions row (made inputs vs)
+    body_is_fit row same inputs e =
+        subst (λ row. RowIsFit functions row (made inputs vs)) (sym same)
+        (subst (λ inputs. RowIsFit functions f.body (made inputs vs)) (sym e) (OfFunction h.1.result, false, scope, it_fits.body, (arguments, h.2)))
+
+    module _ (law : BodyLeavesLaw) (depth turns : ℕ) where
+      leaves : Leaves (OfFunction h.1.result) scope (function_env vs) (body_leaves (bodies_of functions depth) f.body (function_env vs) turns)
+      leaves =
+          law functions f.body (function_env vs) (OfFunction h.1.result) scope
+          (record { row_fits = it_fits.body; returns = it_fits.returns; variables_fit = arguments; functions_fit = h.2 }) depth turns
+
+      -- what the body returns fits
+      result_fits : (left : Left) (after : ℕ) → body_leaves (bodies_of functions depth) f.body (function_env vs) turns ≡ Done left after → ResultFits h.1.result left.returned
+      result_fits left after e = let k : Leaves (OfFunction h.1.result) scope (function_env vs) (Done left after) = subst (Leaves (OfFunction h.1.result) scope (function_env vs)) e leaves in k.returned
+
+      module _ (row : List Statement) (same : row ≡ f.body) (inputs : List (List Value)) (e : inputs ≡ []) (submits : List Output) (d : submits ≡ []) where
+        from_body : scoped (row_acts (bodies_of functions depth) f.body) (begun vs) turns ≡ scoped (row_acts (bodies_of functions depth) row) (state (made inputs vs) submits) turns
+        from_body = λ j. scoped (row_acts (bodies_of functions depth) (sym same j)) (state (made (sym e j) vs) (sym d j)) turns
+
+        pub returned_there : (w : Flow × State) (after : ℕ) → scoped (row_acts (bodies_of functions depth) row) (state (made inputs vs) submits) turns ≡ Done w after → returned_by w.0 ≡ None → ⊥
+        returned_there w after r none =
+            subst (Leaves (OfFunction h.1.result) scope (function_env vs)) (ap (λ o. followed o left_by) (from_body ∙ r) ∙ ap (λ o. need o (left_after w after)) none) leaves
+
+  -- ---- what is called
+
+  module _ (f : Function) (is : slice_get functions i ≡ Some f) (depth turns : ℕ) (deep : depth ≡ 0 → ⊥) where
+    abbrev by_body : ℕ → Outcome Left
+    by_body d = body_leaves (bodies_of functions d) f.body (function_env vs) turns
+
+    call_is : bodies_of functions depth i vs turns ≡ followed (by_body (depth - 1)) (λ left turns. Done left.returned turns)
+    call_is = by_depth depth deep
+      where
+        by_depth : (d : ℕ) → (d ≡ 0 → ⊥) → bodies_of functions d i vs turns ≡ followed (by_body (d - 1)) (λ left turns. Done left.returned turns)
+        by_depth zero deep = absurd (deep refl)
+        by_depth (suc d) deep =
+            ap (λ o. need o (λ f. followed (body_leaves (bodies_of functions d) f.body (function_env vs) turns) (λ left turns. Done left.returned turns))) is
+            ∙ (let one : d ≡ suc d - 1 = omega arith in ap (λ d. followed (by_body d) (λ left turns. Done left.returned turns)) one)
+
+    module _ (row : List Statement) (same : row ≡ f.body) (inputs : List (List Value)) (e : inputs ≡ []) (submits : List Output) (d : submits ≡ []) where
+      abbrev body_acts : Outcome (Flow × State)
+      body_acts = scoped (row_acts (bodies_of functions (depth - 1)) row) (state (made inputs vs) submits) turns
+
+      abbrev returns : Outcome (Flow × State) → Outcome (Option Value)
+      returns o = followed (followed o left_by) (λ left turns. Done left.returned turns)
+
+      call_acts : bodies_of functions depth i vs turns ≡ returns body_acts
+      call_acts = call_is ∙ (λ j. returns (scoped (row_acts (bodies_of functions (depth - 1)) (sym same j)) (state (made (sym e j) vs) (sym d j)) turns))
+
+      pub body_stops : (p : Stop) → StopsAs body_acts p → StopsAs (bodies_of functions depth i vs turns) p
+      body_stops p q =
+          stops_by (bodies_of functions depth i vs turns) _ p call_acts
+          (followed_stops (followed body_acts left_by) (λ left turns. Done left.returned turns) p (followed_stops body_acts left_by p q))
+
+      pub body_done : (w : Flow × State) (after : ℕ) (r : Option Value) → body_acts ≡ Done w after → returned_by w.0 ≡ Some r → bodies_of functions depth i vs turns ≡ Done r after
+      body_done w after r q some =
+          call_acts ∙ ap returns q ∙ ap (λ (o : Option (Option Value)). followed {A = Left} (need o (left_after w after)) (λ left turns. Done left.returned turns)) some
+
+-- ---- a function with a result
+
+-- the turn that a call takes
+enter_followed : {A B : Type 0} (turns : ℕ) (f : ℕ → Outcome A) (g : A → ℕ → Outcome B) → enter turns (λ turns. followed (f turns) g) ≡ followed (enter turns f) g
+enter_followed zero f g = refl
+enter_followed (suc turns) f g = refl
+
+-- what is returned has to be there
+abbrev wanted : Option Value → ℕ → Outcome Value
+wanted returned turns = need returned (λ v. Done v turns)
+
+module _ (functions : List Function) (i : ℕ) (vs : List Value) (depth turns : ℕ) where
+  abbrev entered : Outcome (Option Value)
+  entered = enter turns (λ turns. bodies_of functions depth i vs turns)
+
+  value_called : enter turns (λ turns. calls_of functions depth i vs turns) ≡ followed entered wanted
+  value_called = enter_followed turns (λ turns. bodies_of functions depth i vs turns) wanted
+
+  pub value_stops : (p : Stop) → StopsAs entered p → StopsAs (enter turns (λ turns. calls_of functions depth i vs turns)) p
+  value_stops p d = stops_by _ (followed entered wanted) p value_called (followed_stops entered wanted p d)
+
+  pub value_done : (r : Option Value) (v : Value) (left : ℕ) → entered ≡ Done r left → r ≡ Some v → enter turns (λ turns. calls_of functions depth i vs turns) ≡ Done v left
+  value_done r v left e some = value_called ∙ ap (λ o. followed o wanted) e ∙ ap (λ r. wanted r left) some
+
 module _ (functions : List Function) (i : ℕ) (vs : List Value) (h : FitCall functions i vs) where
-  there : (f : Function) × (slice_get functions i ≡ Some f) × FunctionFits h.0 h.1 h.2 f
-  there = h.3 i h.1 h.2 h.4 h.5
+  abbrev pub called_is_fit : FunctionIsFit functions i vs
+  called_is_fit = (h.0, h.1, h.3, h.4, h.6)
 
-  pub function_there : slice_get functions i ≡ None → ⊥
-  function_there e = let f : Function = there.0 in let is : slice_get functions i ≡ Some f = there.1 in cc
+  module _ (law : BodyLeavesLaw) where
+    returns_none : (depth turns left : ℕ) → bodies_of functions depth i vs turns ≡ Done None left → ⊥
+    returns_none zero turns left e = absurd cc
+    returns_none (suc depth) turns left e =
+        let f = there functions i vs called_is_fit in
+        let body = body_leaves (bodies_of functions depth) f.0.body (function_env vs) turns in
+        let found : followed body (λ left turns. Done left.returned turns) ≡ Done None left =
+        sym (ap (λ o. need o (λ f. followed (body_leaves (bodies_of functions depth) f.body (function_env vs) turns) (λ left turns. Done left.returned turns))) f.1) ∙ e in
+        let at = done_followed body (λ left turns. Done left.returned turns) None left found in
+        let none : at.0.returned ≡ None = cc (at.3) in
+        let fits : ResultFits h.1.result at.0.returned = result_fits functions i vs called_is_fit f.0 f.1 law depth turns at.0 at.1 at.2 in
+        let result : ResultFits (Some h.2) None = subst (λ r. ResultFits (Some h.2) r) none (subst (λ t. ResultFits t at.0.returned) h.5 fits) in
+        absurd result
 
-  module _ (f : Function) (is : slice_get functions i ≡ Some f) (inputs : List (List Value)) (e : inputs ≡ []) where
-    pub body_is_fit : IsFit functions f.body (made inputs vs)
-    body_is_fit =
-        let g : Function = there.0 in
-        let at : slice_get functions i ≡ Some g = there.1 in
-        let same : g ≡ f = cc in
-        let fit : FunctionFits h.0 h.1 h.2 f = subst (FunctionFits h.0 h.1 h.2) same there.2 in
-        let env : EnvFits (body_scope h.0 fit.variables) (function_env vs) = arguments_fit h.0 fit.variables vs (ap (λ ts. pointwise fits ts vs) fit.kinds ∙ h.6) in (
-          h.2,
-          record {
-            scope = body_scope h.0 fit.variables;
-            code_fits = fit.body;
-            env_fits = subst (λ inputs. EnvFits (body_scope h.0 fit.variables) (made inputs vs)) (sym e) env;
-            functions_fit = h.3;
-          },
-        )
-
-    pub call_is : (depth turns : ℕ) → (depth ≡ 0 → ⊥) → calls_of functions depth i vs turns ≡ code_value (calls_of functions (depth - 1)) f.body (world_of (made inputs vs)) turns
-    call_is zero turns deep = absurd (deep refl)
-    call_is (suc depth) turns deep =
-        ap (λ o. need o (λ f. code_value (calls_of functions depth) f.body (world_of (function_env vs)) turns)) is
-        ∙ ap (λ inputs. code_value (calls_of functions depth) f.body (world_of (made inputs vs)) turns) (sym e)
-        ∙ (let one : depth ≡ suc depth - 1 = omega arith in ap (λ d. code_value (calls_of functions d) f.body (world_of (made inputs vs)) turns) one)
+    pub result_there : (depth turns left : ℕ) (r : Option Value) → enter turns (λ turns. bodies_of functions depth i vs turns) ≡ Done r left → r ≡ None → ⊥
+    result_there depth zero left r e none = absurd cc
+    result_there depth (suc turns) left r e none = returns_none depth turns left (e ∙ ap (λ r. Done r left) none)

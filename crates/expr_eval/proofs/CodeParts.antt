@@ -13,7 +13,7 @@ use Rattle.spl_tree.specs.declared.code.Code.TheOpen.{Code-F}
 use Rattle.spl_tree.specs.declared.code.Code.TheViews.{out-Code}
 use Rattle.spl_tree.specs.declared.code.Slot.{Slot}
 use Rattle.spl_tree.specs.declared.code.Taking.{Taking}
-use Rattle.spl_tree.specs.declared.code.Function.{Function}
+use Rattle.spl_tree.specs.declared.body.Function.{Function}
 use Rattle.spl_tree.specs.declared.code.Marker.{Marker}
 use Rattle.spl_tree.specs.declared.code.UnaryCode.{UnaryCode}
 use Rattle.spl_tree.specs.declared.code.BinaryCode.{BinaryCode}
@@ -68,7 +68,7 @@ module _ (scope : Scope) where
   elements_at _ _ (F.element y ys t f h) zero x e = subst (λ y. CodeFits scope y t) (let s : y ≡ x = cc in s) f
   elements_at _ _ (F.element y ys t f h) (suc i) x e = elements_at ys t h i x e
 
-  arguments_at : (xs : List (Code Slot)) (ts : List SplType) → ArgumentsFit scope xs ts → (i : ℕ) (x : Code Slot) → slice_get xs i ≡ Some x
+  pub arguments_at : (xs : List (Code Slot)) (ts : List SplType) → ArgumentsFit scope xs ts → (i : ℕ) (x : Code Slot) → slice_get xs i ≡ Some x
       → (t : SplType) × CodeFits scope x t
   arguments_at _ _ F.no_arguments i x e = absurd cc
   arguments_at _ _ (F.argument y ys t ts f h) zero x e = (t, subst (λ y. CodeFits scope y t) (let s : y ≡ x = cc in s) f)

@@ -19,21 +19,21 @@ pub drop_at : {A : Type 0} (xs : List A) (i : ℕ) (x : A) → i < length xs →
 drop_at xs i x h e = rw add-one (drop-cons xs i x h ∙ ap (λ y. y ∷ drop (suc i) xs) (sym e))
 
 -- a row whose items are gone through by S
-record IsRow {X Y : Type 0} (S : X → ℕ → Outcome Y) (R : List X → ℕ → Outcome (List Y)) : Type 0 where
-  none : (turns : ℕ) → R [] turns ≡ Done [] turns
-  more : (x : X) (xs : List X) (turns : ℕ) → R (x ∷ xs) turns ≡ followed (S x turns) (λ y turns. followed (R xs turns) (λ ys turns. Done (y ∷ ys) turns))
+pub record IsRow {X Y : Type 0} (S : X → ℕ → Outcome Y) (R : List X → ℕ → Outcome (List Y)) : Type 0 where
+  pub none : (turns : ℕ) → R [] turns ≡ Done [] turns
+  pub more : (x : X) (xs : List X) (turns : ℕ) → R (x ∷ xs) turns ≡ followed (S x turns) (λ y turns. followed (R xs turns) (λ ys turns. Done (y ∷ ys) turns))
 
 -- what a loop over a row has made so far, and how one more is put to it
-record Puts {Y Z : Type 0} (F : Z → List Y → Z) (put : Z → Y → Z) : Type 0 where
-  none : (z : Z) → F z [] ≡ z
-  more : (z : Z) (y : Y) (ys : List Y) → F z (y ∷ ys) ≡ F (put z y) ys
+pub record Puts {Y Z : Type 0} (F : Z → List Y → Z) (put : Z → Y → Z) : Type 0 where
+  pub none : (z : Z) → F z [] ≡ z
+  pub more : (z : Z) (y : Y) (ys : List Y) → F z (y ∷ ys) ≡ F (put z y) ys
 
 module _ {X Y Z : Type 0} (S : X → ℕ → Outcome Y) (R : List X → ℕ → Outcome (List Y)) (is : IsRow S R) (F : Z → List Y → Z) (put : Z → Y → Z) (puts : Puts F put)
     (xs : List X) (i : ℕ) (z : Z) (turns : ℕ) where
-  abbrev so_far : ℕ → Z → ℕ → Outcome Z
+  abbrev pub so_far : ℕ → Z → ℕ → Outcome Z
   so_far i z turns = followed (R (drop i xs) turns) (λ ys turns. Done (F z ys) turns)
 
-  past : length xs ≤ i → so_far i z turns ≡ Done z turns
+  pub past : length xs ≤ i → so_far i z turns ≡ Done z turns
   past h =
       ap (λ r. followed (R r turns) (λ ys turns. Done (F z ys) turns)) (drop_all i xs h)
       ∙ ap (λ o. followed o (λ ys turns. Done (F z ys) turns)) (is.none turns) ∙ ap (λ z. Done z turns) (puts.none z)
@@ -51,15 +51,15 @@ module _ {X Y Z : Type 0} (S : X → ℕ → Outcome Y) (R : List X → ℕ → 
             followed_followed (R (drop (i + 1) xs) turns) (λ ys turns. Done (y ∷ ys) turns) (λ ys turns. Done (F z ys) turns)
             ∙ (λ j. followed (R (drop (i + 1) xs) turns) (λ ys turns. Done (puts.more z y ys j) turns))
 
-    on : (y : Y) (left : ℕ) (new : Z) → S x turns ≡ Done y left → new ≡ put z y → so_far i z turns ≡ so_far (i + 1) new left
+    pub on : (y : Y) (left : ℕ) (new : Z) → S x turns ≡ Done y left → new ≡ put z y → so_far i z turns ≡ so_far (i + 1) new left
     on y left new s n = rest ∙ ap (λ o. followed o (λ y turns. so_far (i + 1) (put z y) turns)) s ∙ ap (λ z. so_far (i + 1) z left) (sym n)
 
-    stop : (s : Stop) → StopsAs (S x turns) s → StopsAs (so_far i z turns) s
+    pub stop : (s : Stop) → StopsAs (S x turns) s → StopsAs (so_far i z turns) s
     stop s f = stops_by (so_far i z turns) _ s rest (followed_stops (S x turns) (λ y turns. so_far (i + 1) (put z y) turns) s f)
 
 -- ---- what is put
 
-appends : {Y : Type 0} → Puts {Y = Y} (λ zs ys. zs ++ ys) (λ zs y. zs ++ y ∷ [])
+pub appends : {Y : Type 0} → Puts {Y = Y} (λ zs ys. zs ++ ys) (λ zs y. zs ++ y ∷ [])
 appends = record { none = append-nil; more = λ zs y ys. sym (append_assoc zs (y ∷ []) ys) }
 
 abbrev pub put_pair : List (Value × Value) → Value × Value → List (Value × Value)

@@ -8,7 +8,7 @@ use Rattle.spl_value.specs.declared.types.SplType.TheVariants as S
 use Rattle.spl_value.specs.declared.value.Value.{Value}
 use Rattle.spl_value.specs.Values.{fits}
 use Rattle.spl_tree.specs.declared.code.Code.{Code}
-use Rattle.spl_tree.specs.declared.code.Function.{Function}
+use Rattle.spl_tree.specs.declared.body.Function.{Function}
 use Rattle.spl_tree.specs.declared.code.Slot.{Slot}
 use Rattle.spl_tree.specs.declared.code.Taking.{Taking}
 use Rattle.spl_tree.specs.declared.code.Taking.TheVariants as K
@@ -16,7 +16,8 @@ use Rattle.stream_model.specs.declared.env.Env.{Env}
 use Rattle.stream_model.specs.declared.scope.Scope.{Scope}
 use Rattle.stream_model.specs.CodeFits as F
 use Rattle.stream_model.specs.CodeFits.{CodeFits, StepsLead}
-use Rattle.stream_model.specs.Evaluation.{code_value, calls_of, world_of, taken}
+use Rattle.stream_model.specs.Evaluation.{code_value, world_of, taken}
+use Rattle.stream_model.specs.Functions.{calls_of}
 use Rattle.stream_model.specs.EvaluationLaws.{taking_meaning}
 use Rattle.stream_model.specs.Outcomes.{Done}
 use Rattle.stream_model.specs.ValueLaws.{NeverStuckLaw}
@@ -27,21 +28,21 @@ use Rattle.expr_eval.proofs.ValueTypes.{of_type, taken_of_type}
 use Rattle.expr_eval.proofs.Rows.{drop_at}
 
 -- what the first step asks for, and where the others lead from there
-abbrev Steps : Scope → List (Taking (Code Slot)) → SplType → SplType → Type 0
+abbrev pub Steps : Scope → List (Taking (Code Slot)) → SplType → SplType → Type 0
 Steps scope [] t u = Unit {0}
 Steps scope (K.Member i ∷ rest) t u = (schema : List (Named SplType)) × (a : Named SplType) × (t ≡ S.Tuple schema) × (slice_get schema i ≡ Some a) × StepsLead scope rest a.kind u
 Steps scope (K.Element x ∷ rest) t u = (k : IntKind) × (v : SplType) × (t ≡ S.List v) × CodeFits scope x (S.Int k) × StepsLead scope rest v u
 Steps scope (K.AtKey x ∷ rest) t u = (k : SplType) × (v : SplType) × (t ≡ S.Map k v) × CodeFits scope x k × StepsLead scope rest v u
 
 module _ (scope : Scope) where
-  steps : (ts : List (Taking (Code Slot))) (t u : SplType) → StepsLead scope ts t u → Steps scope ts t u
+  pub steps : (ts : List (Taking (Code Slot))) (t u : SplType) → StepsLead scope ts t u → Steps scope ts t u
   steps _ _ _ (F.here t) = tt
   steps _ _ _ (F.member i rest schema a u at h) = (schema, a, refl, at, h)
   steps _ _ _ (F.index x rest k t u f h) = (k, t, refl, f, h)
   steps _ _ _ (F.at_key x rest k t u f h) = (k, t, refl, f, h)
 
   -- a step, and those behind it
-  one_step : (step : Taking (Code Slot)) (rest : List (Taking (Code Slot))) (t u : SplType) → Steps scope (step ∷ rest) t u
+  pub one_step : (step : Taking (Code Slot)) (rest : List (Taking (Code Slot))) (t u : SplType) → Steps scope (step ∷ rest) t u
       → (v : SplType) × StepsLead scope (step ∷ []) t v × StepsLead scope rest v u
   one_step (K.Member i) rest t u h = (h.1.kind, subst (λ t. StepsLead scope (K.Member i ∷ []) t h.1.kind) (sym h.2) (F.member i [] h.0 h.1 h.1.kind h.3 (F.here h.1.kind)), h.4)
   one_step (K.Element x) rest t u h = (h.1, subst (λ t. StepsLead scope (K.Element x ∷ []) t h.1) (sym h.2) (F.index x [] h.0 h.1 h.1 h.3 (F.here h.1)), h.4)

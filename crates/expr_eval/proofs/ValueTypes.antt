@@ -20,14 +20,15 @@ use Rattle.spl_tree.specs.declared.code.BinaryCode.{BinaryCode}
 use Rattle.spl_tree.specs.declared.code.BinaryCode.TheVariants as D
 use Rattle.spl_tree.specs.declared.code.BuiltIn.{BuiltIn}
 use Rattle.spl_tree.specs.declared.code.UnaryCode.{UnaryCode}
-use Rattle.spl_tree.specs.declared.code.Function.{Function}
+use Rattle.spl_tree.specs.declared.body.Function.{Function}
 use Rattle.spl_tree.specs.declared.code.Slot.{Slot}
 use Rattle.spl_tree.specs.declared.code.Taking.{Taking}
 use Rattle.stream_model.specs.declared.env.Env.{Env}
 use Rattle.stream_model.specs.declared.scope.Scope.{Scope}
 use Rattle.stream_model.specs.CodeFits as F
 use Rattle.stream_model.specs.CodeFits.{CodeFits, ArgumentsFit, StepsLead, OneEach}
-use Rattle.stream_model.specs.Evaluation.{Calls, World, code_value, calls_of, world_of, taken, field_at, tuple_from, tuple_of}
+use Rattle.stream_model.specs.Evaluation.{Calls, World, code_value, world_of, taken, field_at, tuple_from, tuple_of}
+use Rattle.stream_model.specs.Functions.{calls_of}
 use Rattle.stream_model.specs.EvaluationLaws.{values_of, field_values, taking_meaning, takings_value, literal_is, select_is, tuple_is}
 use Rattle.stream_model.specs.Outcomes.{Outcome, Done, Faulted, Stuck, followed, need}
 use Rattle.stream_model.specs.ValueLaws.{NeverStuckLaw}
@@ -36,7 +37,7 @@ use Rattle.expr_eval.specs.Fitting.{IsFit, FitBinary, FitsUnaries, FitBuiltIn, F
 use Rattle.expr_eval.proofs.CodeParts.{select_parts, unary_parts, binary_parts, tuple_parts, built_in_parts, call_parts}
 
 -- what led to an answer
-done_followed : {A B : Type 0} (o : Outcome A) (f : A → ℕ → Outcome B) (y : B) (left : ℕ) → followed o f ≡ Done y left
+pub done_followed : {A B : Type 0} (o : Outcome A) (f : A → ℕ → Outcome B) (y : B) (left : ℕ) → followed o f ≡ Done y left
     → (x : A) × (turns : ℕ) × (o ≡ Done x turns) × (f x turns ≡ Done y left)
 done_followed (Done x turns) f y left e = (x, turns, refl, e)
 done_followed (Faulted kind) f y left e = absurd cc

@@ -9,7 +9,7 @@ use Rattle.spl_tree.specs.declared.code.BinaryCode.{BinaryCode}
 use Rattle.spl_tree.specs.declared.code.BinaryCode.TheVariants as D
 use Rattle.spl_tree.specs.declared.code.BuiltIn.{BuiltIn}
 use Rattle.spl_tree.specs.declared.code.Code.{Code}
-use Rattle.spl_tree.specs.declared.code.Function.{Function}
+use Rattle.spl_tree.specs.declared.body.Function.{Function}
 use Rattle.spl_tree.specs.declared.code.Marker.{Marker}
 use Rattle.spl_tree.specs.declared.code.Slot.{Slot}
 use Rattle.spl_tree.specs.declared.code.Taking.{Taking}

@@ -1,3 +1,5 @@
 pub mod Answers
+pub mod Changing
 pub mod Fitting
+pub mod Running
 pub mod Taking

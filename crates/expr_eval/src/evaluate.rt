@@ -4,20 +4,23 @@ ghost use Rattle.spl_value.specs.declared.types.SplType.TheVariants as T;
 ghost use Rattle.spl_tree.specs.declared.code.Code.TheVariants as C;
 ghost use Rattle.stream_model.specs.Outcomes.{Done, followed, settled, enter};
 ghost use Rattle.stream_model.specs.Operators.{built_in_of};
-ghost use Rattle.stream_model.specs.Evaluation.{code_value, calls_of, world_of, value, binary, taken, map_of};
+ghost use Rattle.stream_model.specs.Evaluation.{code_value, world_of, binary, taken, map_of};
+ghost use Rattle.stream_model.specs.Functions.{calls_of, value};
 ghost use Rattle.stream_model.specs.EvaluationLaws.{values_of, pair_values, field_values, taking_meaning, takings_value, truth_value};
 ghost use Rattle.stream_model.specs.WorldFits.{Fits};
 ghost use Rattle.expr_eval.specs.Answers.{Answers, AnswersHeld, Evaluates, held};
 ghost use Rattle.expr_eval.specs.Fitting.{IsFit, AreFit, PairsAreFit, FieldsAreFit, FitTakings, FitCall};
 
 use crate::calls::{one_argument, three_arguments, two_arguments};
+use crate::context::Context;
 use crate::held::Held;
 use crate::operators::{binary_of, unaries_of};
-use crate::slots::{enter, is_marker, slot_value, truth_of, tuple_of};
+use crate::run::run_function;
+use crate::slots::{is_marker, slot_value, truth_of, tuple_of};
 use crate::stop::Stop;
 use crate::taking::{at_key, element, member};
 use spl_tree::{BinaryCode, BuiltIn, Code, Functions, Slot, Taking};
-use spl_value::{Evaluated, FaultKind, Items, Pairs, Value, Values};
+use spl_value::{Evaluated, Items, Pairs, Value, Values};
 use std::alloc::Global;
 use stream_model::{Env, evaluation_law};
 
@@ -25,16 +28,6 @@ use stream_model::{Env, evaluation_law};
 /// is memory: so many calls take less than 3 MiB of it. The code of one expression that is parsed nests
 /// no deeper than 1,000.
 pub const DEEPEST: u32 = 1500;
-
-/// What a code is evaluated in.
-#[derive(Clone, Copy)]
-struct Context<'e> {
-    alloc: Global,
-    functions: &'e Functions,
-    env: &'e Env,
-    /// How deep calls may nest.
-    depth: u32,
-}
 
 /// The value of a code in an environment, or its fault, with the turns that are left.
 ///
@@ -68,7 +61,7 @@ pub fn eval(
 
 /// The value of a code, where codes may nest `room` deep.
 #[cycle(eval)]
-fn eval_at<'e>(
+pub(crate) fn eval_at<'e>(
     context: &Context<'e>,
     room: u32,
     code: &'e Code<Slot>,
@@ -131,7 +124,7 @@ fn eval_at<'e>(
 
 /// The value of a code, as one of its own.
 #[cycle(eval)]
-fn own_value<'e>(
+pub(crate) fn own_value<'e>(
     context: &Context<'e>,
     room: u32,
     code: &'e Code<Slot>,
@@ -146,7 +139,7 @@ fn own_value<'e>(
 
 /// The values of codes, from left to right.
 #[cycle(eval)]
-fn eval_all<'e>(
+pub(crate) fn eval_all<'e>(
     context: &Context<'e>,
     room: u32,
     codes: &'e [Code<Slot>],
@@ -250,7 +243,7 @@ fn taken<'e>(
 
 /// Whether a code is true.
 #[cycle(eval)]
-fn is_true<'e>(
+pub(crate) fn is_true<'e>(
     context: &Context<'e>,
     room: u32,
     code: &'e Code<Slot>,
@@ -350,23 +343,9 @@ fn call<'e>(
     requires { FitCall context.now.functions.now place values }
     ensures { Answers (enter turns.old (λ turns. calls_of context.now.functions.now context.now.depth place values turns)) result turns.new }
 {
-    enter(turns)?;
-    if context.depth == 0 {
-        return Err(Stop::Fault(FaultKind::Turns));
+    evaluation_law();
+    match run_function(context, room, place, values, turns)? {
+        Some(value) => Ok(value),
+        None => unreachable!(),
     }
-    let Some(function) = context.functions.get(place as usize) else {
-        unreachable!()
-    };
-    let env = Env {
-        inputs: Items::new(context.alloc),
-        vars: values,
-        punct: None,
-    };
-    let context = Context {
-        alloc: context.alloc,
-        functions: &*context.functions,
-        env: &env,
-        depth: context.depth - 1,
-    };
-    own_value(&context, room, &function.body, turns)
 }

@@ -1,11 +1,16 @@
-//! The values of typed expressions.
+//! The values of typed expressions, and what typed statements do.
 #![tactic(auto)]
 
 mod calls;
+mod changes;
+mod context;
+mod elements;
 mod evaluate;
+mod flow;
 mod held;
 mod integers;
 mod operators;
+mod run;
 mod slots;
 mod stop;
 mod taking;
@@ -13,4 +18,5 @@ mod taking;
 mod tests;
 
 pub use evaluate::{DEEPEST, eval};
+pub use run::{Ran, run_body};
 pub use stream_model::{Env, Tuples};

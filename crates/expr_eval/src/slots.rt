@@ -1,5 +1,5 @@
 //! What names, markers and fields stand for.
-ghost use Rattle.std.specs.Prelude.{◌≡◌, IsTrue, IfOk, Some, length};
+ghost use Rattle.std.specs.Prelude.{◌≡◌, IsTrue, IfOk, Some, length, take};
 ghost use Rattle.spl_value.specs.declared.types.SplType.TheVariants as T;
 ghost use Rattle.spl_value.specs.Values.{fits};
 ghost use Rattle.stream_model.specs.Evaluation.{slot_value, same_marker, tuple_of};
@@ -88,4 +88,13 @@ fn blanks(alloc: Global, count: usize) -> Result<Values, AllocError>
         values.push(Value::Bool(false))?;
     }
     Ok(values)
+}
+
+/// Takes out all behind the first `count` values.
+pub(crate) fn truncate(values: &mut Values, count: usize)
+    ensures { values.new ≡ take count values.old }
+{
+    'values: while values.len() > count {
+        values.pop();
+    }
 }

@@ -4,10 +4,12 @@ ghost use Rattle.spl_value.specs.declared.value.Value.TheViews.{out-Value};
 ghost use Rattle.spl_value.specs.Calls.{Gives};
 ghost use Rattle.stream_model.specs.Operators.{level_member, level_element, level_at_key};
 ghost use Rattle.expr_eval.specs.Answers.{SettlesHeld, held};
-ghost use Rattle.expr_eval.specs.Taking.{HasMember, HasElements, HasKeys};
+ghost use Rattle.stream_model.specs.Changes.{step_of};
+ghost use Rattle.expr_eval.specs.Taking.{HasMember, HasElements, HasKeys, StepFits};
 
 use crate::held::Held;
 use crate::stop::Stop;
+use spl_tree::Taking;
 use spl_value::{FaultKind, Value};
 
 /// The attribute of a tuple at a place, from 0.
@@ -89,5 +91,17 @@ pub(crate) fn at_key<'e>(map: Held<'e>, key: &Value) -> Result<Held<'e>, Stop>
                 None => Err(Stop::Fault(FaultKind::NoKey)),
             }
         }
+    }
+}
+
+/// What a step gives of a value.
+pub(crate) fn step_of<'e>(value: Held<'e>, step: &Taking<Value>) -> Result<Held<'e>, Stop>
+    requires { StepFits step.now (held value) }
+    ensures { SettlesHeld (step_of step.now (held value.entry)) result }
+{
+    match step {
+        Taking::Member(place) => Ok(member(value, *place)),
+        Taking::Element(index) => element(value, index),
+        Taking::AtKey(key) => at_key(value, key),
     }
 }

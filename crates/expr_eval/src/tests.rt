@@ -1,14 +1,15 @@
-ghost use Rattle.std.specs.Prelude.{◌≡◌, ◌<◌, [], IsTrue, IfOk};
+ghost use Rattle.std.specs.Prelude.{◌≡◌, ◌<◌, [], ◌∷◌, Some, IsTrue, IfOk};
 ghost use Rattle.spl_value.specs.declared.types.IntKind.TheVariants.{I64};
 ghost use Rattle.spl_value.specs.declared.types.SplType.TheVariants as T;
 ghost use Rattle.spl_value.specs.Values.{fits};
+ghost use Rattle.spl_tree.specs.declared.body.Statement.TheVariants as S;
 ghost use Rattle.stream_model.specs.declared.scope.Scope.{Scope};
 ghost use Rattle.stream_model.specs.CodeFits.{CodeFits};
-ghost use Rattle.stream_model.specs.Evaluation.{function_env};
+ghost use Rattle.stream_model.specs.Functions.{function_env};
 ghost use Rattle.expr_eval.specs.Fitting.{IsFit};
 
 use crate::{DEEPEST, Env, eval};
-use spl_tree::{BinaryCode, Code, Function, Functions, OrderOperator, Slot, UnaryCode};
+use spl_tree::{BinaryCode, Code, Function, Functions, OrderOperator, Slot, Statement, UnaryCode};
 use spl_value::{Boxed, Evaluated, FaultKind, IntKind, Items, SplType, Value, wrap};
 use std::alloc::Global;
 use std::test::Fail;
@@ -45,17 +46,19 @@ fn inverted(alloc: Global, count: u32, code: Code<Slot>) -> Result<Code<Slot>, F
     Ok(made)
 }
 
-// A function with no parameters.
-fn function(alloc: Global, body: Code<Slot>) -> Function
-    ensures parameters { result.parameters ≡ [] }
-    ensures result { result.result ≡ T.Bool }
-    ensures body { result.body ≡ body }
+// A function with no parameters that returns the value of a code.
+fn function(alloc: Global, code: Code<Slot>) -> Result<Function, Fail>
+    ensures parameters { IfOk result (λ f. f.parameters ≡ []) }
+    ensures result { IfOk result (λ f. f.result ≡ Some T.Bool) }
+    ensures body { IfOk result (λ f. f.body ≡ S.Return (Some code) ∷ []) }
 {
-    Function {
+    let mut body = Items::new(alloc);
+    body.push(Statement::Return(Some(code)))?;
+    Ok(Function {
         parameters: Items::new(alloc),
-        result: SplType::Bool,
+        result: Some(SplType::Bool),
         body,
-    }
+    })
 }
 
 // Two functions and a code: the first function gives `true` behind so many `!`, the second calls the
@@ -69,17 +72,19 @@ fn program(
     requires { place < 2 }
     ensures { IfOk result (λ p. IsFit p.0 p.1 (function_env [])) }
 {
-    let first = inverted(alloc, inside, Code::Literal(Value::Bool(true)))?;
-    let second = Code::Call(0, Items::new(alloc));
+    let literal = inverted(alloc, inside, Code::Literal(Value::Bool(true)))?;
+    let first = function(alloc, literal)?;
+    let second = function(alloc, Code::Call(0, Items::new(alloc)))?;
     let mut functions = Items::new(alloc);
-    functions.push(function(alloc, first))?;
-    functions.push(function(alloc, second))?;
+    functions.push(first)?;
+    functions.push(second)?;
     let call = Code::Call(place, Items::new(alloc));
     Ok((functions, inverted(alloc, outside, call)?))
 }
 
-// How many `!` may stand around a call and in its function: the call and the literal nest too.
-const MOST: u32 = DEEPEST - 2;
+// How many `!` may stand around a call and in its function: the call, the `return` and the literal nest
+// too.
+const MOST: u32 = DEEPEST - 3;
 
 #[test]
 fn codes_nest_at_most_deepest_deep(rt: HostRuntime) -> Result<(), Fail> {
@@ -88,14 +93,14 @@ fn codes_nest_at_most_deepest_deep(rt: HostRuntime) -> Result<(), Fail> {
         (MOST + 1, 0, true),
         (0, MOST, false),
         (0, MOST + 1, true),
-        (MOST / 2, MOST / 2, false),
-        (MOST / 2, MOST / 2 + 1, true),
+        (MOST / 2, MOST - MOST / 2, false),
+        (MOST / 2, MOST - MOST / 2 + 1, true),
     ] {
         let (functions, code) = program(rt.alloc(), 0, outside, inside)?;
         let want = if is_too_deep {
             Evaluated::Memory
         } else {
-            Evaluated::Value(Value::Bool(true))
+            Evaluated::Value(Value::Bool(outside % 2 == inside % 2))
         };
         let (value, _) = evaluated(rt.alloc(), &functions, &code, 1);
         assert_eq!(rt; value, want, "{outside} {inside}");

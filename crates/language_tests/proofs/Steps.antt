@@ -1,5 +1,6 @@
 -- What still holds when a variable or a port is added with its value, or a function is.
-use Rattle.std.specs.Prelude.{◌≡◌, ◌+◌, ◌<◌, ℕ, zero, suc, IsTrue, List, [], ◌∷◌, ◌++◌, length, Option, Some, None, slice_get}
+use Rattle.std.specs.Prelude.{◌≡◌, ◌+◌, ◌<◌, ℕ, zero, suc, IsTrue, false, not, List, [], ◌∷◌, ◌++◌, map, length, Option, Some, None, slice_get}
+use Rattle.std.specs.List.{list_all}
 use Rattle.std.specs.Option.{is_some}
 use Rattle.std.proofs.Common.{refl, sym, ap, subst, ◌∙◌, below_more, length-append}
 use Rattle.std.proofs.lemmas.Option.{slice_get_within}
@@ -8,8 +9,10 @@ use Rattle.spl_value.specs.declared.types.SplType.TheVariants as S
 use Rattle.spl_value.specs.declared.value.Value.{Value}
 use Rattle.spl_value.specs.declared.value.Value.TheVariants as V
 use Rattle.spl_value.specs.Values.{fits}
+use Rattle.spl_tree.specs.declared.body.Function.{Function}
+use Rattle.spl_tree.specs.declared.body.Statement.{Statement}
+use Rattle.spl_tree.specs.declared.body.Statement.TheVariants as T
 use Rattle.spl_tree.specs.declared.code.Code.{Code}
-use Rattle.spl_tree.specs.declared.code.Function.{Function}
 use Rattle.spl_tree.specs.declared.code.Marker.{Marker}
 use Rattle.spl_tree.specs.declared.code.Slot.{Slot}
 use Rattle.stream_model.specs.declared.env.Env.{Env}
@@ -17,12 +20,14 @@ use Rattle.stream_model.specs.declared.scope.Port.{Port}
 use Rattle.stream_model.specs.declared.scope.Scope.{Scope}
 use Rattle.stream_model.specs.declared.scope.Signature.{Signature}
 use Rattle.stream_model.specs.declared.scope.Variable.{Variable}
+use Rattle.stream_model.specs.BodyFits.{OfFunction, ReturnFits, StatementFits, RowFits, Returns, RowReturns}
 use Rattle.stream_model.specs.CodeFits.{CodeFits}
+use Rattle.stream_model.specs.Evaluation.{world_of}
+use Rattle.stream_model.specs.Functions.{value}
 use Rattle.stream_model.specs.Outcomes.{Done}
-use Rattle.stream_model.specs.Evaluation.{value, world_of}
 use Rattle.stream_model.specs.ValueLaws.{NeverStuckLaw}
-use Rattle.stream_model.specs.WorldFits.{FunctionFits, FunctionsFit, Fits, ComesTo}
-use Rattle.language_tests.specs.Contexts.{Holds}
+use Rattle.stream_model.specs.WorldFits.{body_scope, FunctionFits, FunctionsFit, Fits, ComesTo}
+use Rattle.language_tests.specs.Contexts.{Holds, SeesVariables, returning}
 
 -- ---- lists that grow side by side
 
@@ -103,29 +108,48 @@ with_functions scope env functions vars ports values inputs punct h = record {
 
 -- ---- functions
 
+variables_alone : (scope : Scope) (vars : List Variable) → SeesVariables scope → body_scope scope.functions vars ≡ record scope { vars = vars }
+variables_alone scope vars sees = λ i. record { vars = vars; ports = sym sees.ports i; functions = scope.functions; punct = sym sees.punct i }
+
+returning_fits : (scope : Scope) (code : Code Slot) (t : SplType) → CodeFits scope code t → RowFits (OfFunction (Some t)) false scope (returning code)
+returning_fits scope code t fit =
+    RowFits.statement false scope scope (T.Return (Some code)) []
+    (StatementFits.return false scope (Some code) (ReturnFits.result code t fit))
+    (RowFits.no_statements false scope)
+
+-- a function fits that returns the value of an expression
+pub function_fits : (scope : Scope) (vars : List Variable) (s : Signature) (t : SplType) (code : Code Slot) (f : Function) → SeesVariables scope → s.result ≡ Some t
+    → map {A = Variable} (λ x. x.kind) vars ≡ s.parameters → IsTrue (list_all (λ (x : Variable). not x.mutable) vars) → CodeFits (record scope { vars = vars }) code t
+    → f.parameters ≡ s.parameters → f.result ≡ Some t → f.body ≡ returning code → FunctionFits scope.functions s f
+function_fits scope vars s t code f sees is kinds immutable fit parameters result body = record {
+  parameters = parameters;
+  result = result ∙ sym is;
+  variables = vars;
+  kinds = kinds;
+  immutable = immutable;
+  body =
+      subst (λ o. RowFits (OfFunction o) false (body_scope scope.functions vars) f.body) (sym is)
+      (subst (RowFits (OfFunction (Some t)) false (body_scope scope.functions vars)) (sym body)
+      (returning_fits (body_scope scope.functions vars) code t (subst (λ z. CodeFits z code t) (sym (variables_alone scope vars sees)) fit)));
+  returns = λ u e. subst RowReturns (sym body) (RowReturns.last (T.Return (Some code)) (Returns.return (Some code)));
+}
+
 -- the functions of the first signatures are there, and fit
 abbrev pub FitBelow : ℕ → List Signature → List Function → Type 0
 FitBelow n signatures functions =
-    (i : ℕ) → i < n → (s : Signature) (t : SplType) → slice_get signatures i ≡ Some s → s.result ≡ Some t
-    → (f : Function) × (slice_get functions i ≡ Some f) × FunctionFits signatures s t f
+    (i : ℕ) → i < n → (s : Signature) → slice_get signatures i ≡ Some s → (f : Function) × (slice_get functions i ≡ Some f) × FunctionFits signatures s f
 
 pub with_function : (signatures : List Signature) (functions : List Function) (g : Function) (n : ℕ) → length functions ≡ n → FitBelow n signatures functions
-    → ((s : Signature) (t : SplType) → slice_get signatures n ≡ Some s → s.result ≡ Some t → FunctionFits signatures s t g)
-    → FitBelow (n + 1) signatures (functions ++ g ∷ [])
+    → ((s : Signature) → slice_get signatures n ≡ Some s → FunctionFits signatures s g) → FitBelow (n + 1) signatures (functions ++ g ∷ [])
 with_function signatures functions g n long h fit =
     below_more
-    (λ i. (s : Signature) (t : SplType) → slice_get signatures i ≡ Some s → s.result ≡ Some t
-    → (f : Function) × (slice_get (functions ++ g ∷ []) i ≡ Some f) × FunctionFits signatures s t f)
+    (λ i. (s : Signature) → slice_get signatures i ≡ Some s → (f : Function) × (slice_get (functions ++ g ∷ []) i ≡ Some f) × FunctionFits signatures s f)
     n
-    (λ i lt s t at is. (
-      (h i lt s t at is).0,
-      front_stays functions g i (h i lt s t at is).0 (h i lt s t at is).1,
-      (h i lt s t at is).2,
-    ))
-    (λ s t at is. (g, ap (slice_get (functions ++ g ∷ [])) (sym long) ∙ last_is functions g, fit s t at is))
+    (λ i lt s at. ((h i lt s at).0, front_stays functions g i (h i lt s at).0 (h i lt s at).1, (h i lt s at).2))
+    (λ s at. (g, ap (slice_get (functions ++ g ∷ [])) (sym long) ∙ last_is functions g, fit s at))
 
 pub all_fit : (signatures : List Signature) (functions : List Function) → FitBelow (length signatures) signatures functions → FunctionsFit signatures functions
-all_fit signatures functions h i s t at is = h i (slice_get_within signatures i s at) s t at is
+all_fit signatures functions h i s at = h i (slice_get_within signatures i s at) s at
 
 -- ---- values
 

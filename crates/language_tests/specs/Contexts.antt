@@ -1,6 +1,10 @@
 -- What expressions are evaluated in: when a scope, an environment and functions belong together.
-use Rattle.std.specs.Prelude.{◌≡◌, false, List, [], length}
-use Rattle.spl_tree.specs.declared.code.Function.{Function}
+use Rattle.std.specs.Prelude.{◌≡◌, false, List, [], ◌∷◌, length, Some}
+use Rattle.spl_tree.specs.declared.body.Function.{Function}
+use Rattle.spl_tree.specs.declared.body.Statement.{Statement}
+use Rattle.spl_tree.specs.declared.body.Statement.TheVariants as T
+use Rattle.spl_tree.specs.declared.code.Code.{Code}
+use Rattle.spl_tree.specs.declared.code.Slot.{Slot}
 use Rattle.stream_model.specs.declared.env.Env.{Env}
 use Rattle.stream_model.specs.declared.scope.Scope.{Scope}
 use Rattle.stream_model.specs.WorldFits.{EnvFits, FunctionsFit}
@@ -17,3 +21,7 @@ pub record Holds (scope : Scope) (env : Env) (functions : List Function) : Type 
 pub record SeesVariables (scope : Scope) : Type 0 where
   pub ports : scope.ports ≡ []
   pub punct : scope.punct ≡ false
+
+-- the body that returns the value of an expression
+abbrev pub returning : Code Slot → List Statement
+returning code = T.Return (Some code) ∷ []

@@ -1,14 +1,14 @@
 //! Functions, made from texts.
-ghost use Rattle.std.specs.Prelude.{◌≡◌, false, [], map, Some, slice_get, IfOk};
-ghost use Rattle.spl_value.specs.declared.types.SplType.{SplType};
+ghost use Rattle.std.specs.Prelude.{◌≡◌, IsTrue, not, map, Some, slice_get, IfOk};
+ghost use Rattle.std.specs.List.{list_all};
 ghost use Rattle.stream_model.specs.declared.scope.Signature.{Signature};
 ghost use Rattle.stream_model.specs.declared.scope.Variable.{Variable};
 ghost use Rattle.stream_model.specs.WorldFits.{FunctionFits, FunctionsFit};
-ghost use Rattle.language_tests.specs.Contexts.{SeesVariables};
+ghost use Rattle.language_tests.specs.Contexts.{SeesVariables, returning};
 
 use crate::kinds::Kinds;
 use crate::typed::typed;
-use spl_tree::{Function, Functions};
+use spl_tree::{Body, Code, Function, Functions, Slot, Statement};
 use spl_value::{Items, NoMemory, SplType, copy_type};
 use std::alloc::Global;
 use std::test::Fail;
@@ -59,13 +59,14 @@ fn copies(alloc: Global, kinds: &[SplType]) -> Result<Items<SplType>, NoMemory>
     Ok(copied)
 }
 
-// Variables of these types, with the names of parameters.
+// Variables of these types that can't be changed, with the names of parameters.
 fn variables(
     alloc: Global,
     named: NamedKinds<'_>,
     kinds: &[SplType],
 ) -> Result<Items<Variable>, Fail>
-    ensures { IfOk result (λ xs. map {A = Variable} (λ x. x.kind) xs ≡ kinds.now) }
+    ensures kinds { IfOk result (λ xs. map {A = Variable} (λ x. x.kind) xs ≡ kinds.now) }
+    ensures immutable { IfOk result (λ xs. IsTrue (list_all (λ (x : Variable). not x.mutable) xs)) }
 {
     let mut made = Items::new(alloc);
     for (at, kind) in kinds.iter().enumerate() {
@@ -81,6 +82,15 @@ fn variables(
     Ok(made)
 }
 
+// A body that returns the value of this code.
+fn body_of(alloc: Global, code: Code<Slot>) -> Result<Body, NoMemory>
+    ensures { IfOk result (λ body. body ≡ returning code) }
+{
+    let mut body = Items::new(alloc);
+    body.push(Statement::Return(Some(code)))?;
+    Ok(body)
+}
+
 // The function of the signature at a place of the scope. Its body sees its parameters alone, which
 // become the scope's variables.
 fn function(
@@ -92,9 +102,8 @@ fn function(
     requires { SeesVariables scope.old }
     ensures sees { SeesVariables scope.new }
     ensures functions { scope.new.functions ≡ scope.old.functions }
-    ensures fits { IfOk result (λ f. (s : Signature) (t : SplType)
-        → slice_get scope.old.functions at ≡ Some s → s.result ≡ Some t
-        → FunctionFits scope.old.functions s t f) }
+    ensures fits { IfOk result (λ f. (s : Signature) → slice_get scope.old.functions at ≡ Some s
+        → FunctionFits scope.old.functions s f) }
 {
     let (_, named, _, text) = from;
     let Some(signature) = scope.functions.get(at) else {
@@ -106,10 +115,11 @@ fn function(
     let result = copy_type(alloc, result)?;
     let parameters = copies(alloc, signature.parameters.as_slice())?;
     scope.vars = variables(alloc, named, parameters.as_slice())?;
-    let body = typed(alloc, scope, text, Some(&result))?.code.into_inner();
+    let code = typed(alloc, scope, text, Some(&result))?.code.into_inner();
+    let body = body_of(alloc, code)?;
     Ok(Function {
         parameters,
-        result,
+        result: Some(result),
         body,
     })
 }

@@ -8,7 +8,7 @@ mod stop;
 
 use names::{Table, name_in, name_in_body, table_of, table_of_arguments, value_named};
 use operators::{at_key, binary, built_in, element, member, truth, tuple_of, unaries, with_pair};
-use spl_tree::{BinaryCode, Code, Functions, Marker, Slot, Taking};
+use spl_tree::{BinaryCode, Body, Code, Functions, Marker, Slot, Statement, Taking};
 use spl_value::{FaultKind, Items, Pairs, Value, Values, copy_value};
 use std::alloc::Global;
 pub(crate) use stop::{Plain, Stop};
@@ -210,6 +210,14 @@ fn both(
     }
 }
 
+// The code whose value the body returns, where it does nothing else.
+fn returned(body: &Body) -> Result<&Code<Slot>, Stop> {
+    match body.as_slice() {
+        [Statement::Return(Some(code))] => Ok(code),
+        _ => Err(Stop::Stuck),
+    }
+}
+
 // A call of a function, which takes a turn.
 #[cycle(plain)]
 fn called(world: &World<'_>, place: u32, arguments: &[Value], room: u32, turns: &mut u32) -> Plain {
@@ -229,5 +237,5 @@ fn called(world: &World<'_>, place: u32, arguments: &[Value], room: u32, turns: 
         table: &table,
         punct: None,
     };
-    value_of(&body, &function.body, room, turns)
+    value_of(&body, returned(&function.body)?, room, turns)
 }

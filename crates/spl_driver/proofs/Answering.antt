@@ -9,7 +9,8 @@ use Rattle.spl_value.specs.FitsLaws.{bool_from_fits}
 use Rattle.spl_tree.specs.declared.code.Code.{Code}
 use Rattle.spl_tree.specs.declared.code.Slot.{Slot}
 use Rattle.stream_model.specs.declared.scope.Port.{Port}
-use Rattle.stream_model.specs.Evaluation.{value, world_of}
+use Rattle.stream_model.specs.Evaluation.{world_of}
+use Rattle.stream_model.specs.Functions.{value}
 use Rattle.stream_model.specs.Operators.{level_truth, truth_of}
 use Rattle.stream_model.specs.Outcomes.{Outcome, Done, Faulted, Stuck, followed, need}
 use Rattle.stream_model.specs.React.{most_turns, at_tuple}
@@ -47,4 +48,4 @@ true_or_not Stuck comes e = comes
 pub answers : NeverStuckLaw → AnswersLaw
 answers law c fit vs price e =
     true_or_not (value [] c (world_of (at_tuple vs)) most_turns)
-    (law [] c (at_tuple vs) S.Bool (record { scope = filter_scope; code_fits = fit; env_fits = tuple_fits vs price; functions_fit = λ i s t e. cc }) most_turns most_turns) e
+    (law [] c (at_tuple vs) S.Bool (record { scope = filter_scope; code_fits = fit; env_fits = tuple_fits vs price; functions_fit = λ i s e. cc }) most_turns most_turns) e

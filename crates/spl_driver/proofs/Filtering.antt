@@ -6,11 +6,12 @@ use Rattle.spl_value.specs.declared.item.FaultKind.{FaultKind}
 use Rattle.spl_value.specs.declared.item.Item.{Item}
 use Rattle.spl_value.specs.declared.item.Item.TheVariants as I
 use Rattle.spl_value.specs.declared.value.Value.{Value}
+use Rattle.spl_tree.specs.declared.body.Function.{Function}
 use Rattle.spl_tree.specs.declared.code.Code.{Code}
-use Rattle.spl_tree.specs.declared.code.Function.{Function}
 use Rattle.spl_tree.specs.declared.code.Slot.{Slot}
 use Rattle.stream_model.specs.declared.env.Env.{Env}
-use Rattle.stream_model.specs.Evaluation.{value, truth, world_of}
+use Rattle.stream_model.specs.Evaluation.{world_of}
+use Rattle.stream_model.specs.Functions.{value}
 use Rattle.stream_model.specs.Operators.{truth_of}
 use Rattle.stream_model.specs.Outcomes.{Outcome, Done, Faulted, Stuck, followed, need}
 use Rattle.stream_model.specs.PathLaws.{pass, fault_by}

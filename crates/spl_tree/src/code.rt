@@ -1,4 +1,4 @@
-use spl_value::{Boxed, IntKind, Items, SplType, Value};
+use spl_value::{Boxed, IntKind, Items, Value};
 
 /// A typed expression. Each name in it is a place in the expression's scope, and each operator and
 /// call whose result depends on its operands' type has that type. Parentheses are gone. `N` is how
@@ -145,15 +145,3 @@ pub enum CallName {
     Substring,
     CurrentPunct,
 }
-
-/// A function of the program: the types of its parameters, that of its result, and the expression
-/// whose value it gives. Its variables are its parameters, in their order.
-#[derive(Debug, Drop)]
-pub struct Function {
-    pub parameters: Items<SplType>,
-    pub result: SplType,
-    pub body: Code<Slot>,
-}
-
-/// The functions of a program. The code of a call has the function's place here.
-pub type Functions = Items<Function>;

@@ -1,6 +1,7 @@
 //! What the text of a program is: its tokens, and the trees that they spell.
 #![tactic(auto)]
 
+mod body;
 mod code;
 mod expression;
 mod keyword;
@@ -8,9 +9,10 @@ mod laws;
 mod symbol;
 mod token;
 
+pub use body::{Body, Change, Function, Functions, Place, Statement};
 pub use code::{
-    BinaryCode, BuiltIn, CallName, Code, Function, Functions, IntegerOperator, Marker,
-    OrderOperator, Slot, Taking, UnaryCode,
+    BinaryCode, BuiltIn, CallName, Code, IntegerOperator, Marker, OrderOperator, Slot, Taking,
+    UnaryCode,
 };
 pub use expression::{
     BinaryOperator, CastTarget, Entries, Expr, ExprKind, Exprs, Field, Fields, Placed, Prefix,

@@ -1,5 +1,5 @@
 -- A code that fits comes to a value of its type or to a fault.
-use Rattle.std.specs.Prelude.{◌≡◌, ◌<◌, ℕ, zero, suc, true, false, not, IsTrue, List, [], ◌∷◌, map, length, Some, slice_get}
+use Rattle.std.specs.Prelude.{◌≡◌, ◌<◌, ℕ, true, false, not, IsTrue, List, [], ◌∷◌, length, Some, slice_get}
 use Rattle.std.specs.List.{list_all, fold, AllByRecursion}
 use Rattle.std.specs.Option.{option_map, option_and_then}
 use Rattle.std.specs.Cmp.{first_so, second_so}
@@ -17,7 +17,6 @@ use Rattle.spl_value.specs.Pairs.{pairs_put}
 use Rattle.spl_value.specs.Values.{fits, tuple_fits}
 use Rattle.spl_tree.specs.declared.code.Code.{Code}
 use Rattle.spl_tree.specs.declared.code.Code.TheVariants as C
-use Rattle.spl_tree.specs.declared.code.Function.{Function}
 use Rattle.spl_tree.specs.declared.code.Slot.{Slot}
 use Rattle.spl_tree.specs.declared.code.Taking.{Taking}
 use Rattle.spl_tree.specs.declared.code.Taking.TheVariants as K
@@ -29,15 +28,13 @@ use Rattle.spl_tree.specs.declared.code.Marker.{Marker}
 use Rattle.stream_model.specs.declared.env.Env.{Env}
 use Rattle.stream_model.specs.declared.scope.Scope.{Scope}
 use Rattle.stream_model.specs.declared.scope.Signature.{Signature}
-use Rattle.stream_model.specs.declared.scope.Variable.{Variable}
 use Rattle.stream_model.specs.CodeFits as F
 use Rattle.stream_model.specs.CodeFits.{CodeFits, SlotFits, ElementsFit, PairsFit, FieldsFit, ArgumentsFit, StepsLead, UnariesGive, BinaryGives, BuiltInGives}
-use Rattle.stream_model.specs.Evaluation.{World, Meaning, Calls, map_of, tuple_of, unaries_of, truth, binary, same_marker, code_value, slot_value, world_of, function_env, calls_of}
+use Rattle.stream_model.specs.Evaluation.{World, Meaning, Calls, map_of, tuple_of, unaries_of, truth, binary, same_marker, code_value, slot_value, world_of}
 use Rattle.stream_model.specs.EvaluationLaws.{values_of, pair_values, field_values, takings_value, truth_value, literal_is, name_is, list_is, map_is, tuple_is, select_is, unary_is, binary_is, conditional_is, built_in_is, call_is, is_marker_is, is_not_marker_is}
 use Rattle.stream_model.specs.Operators.{binary_of, unary_of, built_in_of, level_member, level_element, level_at_key, truth_of}
-use Rattle.stream_model.specs.Outcomes.{Outcome, Done, Faulted, Stuck, followed, settled}
-use Rattle.stream_model.specs.ValueLaws.{NeverStuckLaw}
-use Rattle.stream_model.specs.WorldFits.{EnvFits, body_scope, FunctionFits, FunctionsFit, ComesTo}
+use Rattle.stream_model.specs.Outcomes.{Outcome, Done, followed, settled}
+use Rattle.stream_model.specs.WorldFits.{EnvFits}
 use Rattle.stream_model.proofs.Counting.{how_often}
 use Rattle.stream_model.proofs.Filling.{FieldHolds, tuple_made}
 use Rattle.stream_model.proofs.Operating.{truth_there, integers_settle, join_settles, order_integers_settles, order_texts_settles, equal_settles, differs_settles, in_list_settles, in_map_settles, unary_settles, OfTypes, built_in_settles, part_there, member_settles, element_settles, at_key_settles}
@@ -57,7 +54,7 @@ unaries_yield _ _ _ (F.outer op ops t u r gives one) v h turns =
     yields_settled r (unary_of op x) turns (unary_settles op u r one x g))
 
 module _ {N : Type 0} (w : World N) where
-  truth_yields : (m : Meaning N) → Means w m S.Bool → (turns : ℕ) → Yields AnyAnswer (truth m w turns)
+  pub truth_yields : (m : Meaning N) → Means w m S.Bool → (turns : ℕ) → Yields AnyAnswer (truth m w turns)
   truth_yields m h turns =
       yields_followed (OfType S.Bool) AnyAnswer (m w turns) _ (h turns) (λ v turns f.
       yields_need AnyAnswer AnyAnswer (truth_of v) _ (truth_there v f) (λ b e. tt))
@@ -86,7 +83,7 @@ module _ {N : Type 0} (w : World N) where
 
 -- ---- maps
 
-abbrev AllOf : SplType → List Value → Type 0
+abbrev pub AllOf : SplType → List Value → Type 0
 AllOf t vs = IsTrue (list_all (fits t) vs)
 
 abbrev AllPairs : SplType → SplType → List (Value × Value) → Type 0
@@ -116,7 +113,7 @@ slot_there scope env e _ _ (F.port i p h named) = let input = e.inputs i p h in 
 -- ---- forms of codes
 
 -- calls of these functions on arguments of their types come to values of their types, or to faults
-abbrev CallsFit : List Signature → Calls → Type 0
+abbrev pub CallsFit : List Signature → Calls → Type 0
 CallsFit signatures calls = (i : ℕ) (f : Signature) (t : SplType) → slice_get signatures i ≡ Some f → f.result ≡ Some t
     → (vs : List Value) → OfTypes f.parameters vs → (turns : ℕ) → Yields (OfType t) (calls i vs turns)
 
@@ -267,7 +264,7 @@ module _ (scope : Scope) (env : Env) (calls : Calls) (e : EnvFits scope env) (g 
   marker_there h = let m = e.marker h in (m.0, m.1, tt)
 
   mutual
-    code_comes : (x : Code Slot) (t : SplType) → CodeFits scope x t → Comes calls (world_of env) x t
+    pub code_comes : (x : Code Slot) (t : SplType) → CodeFits scope x t → Comes calls (world_of env) x t
     code_comes _ _ (F.literal v t h) = literal_comes calls (world_of env) v t h
     code_comes _ _ (F.name s t h) = name_comes calls (world_of env) s t (slot_there scope env e s t h)
     code_comes _ _ (F.list xs t h) = list_comes calls (world_of env) xs t (elements_come xs t h)
@@ -295,7 +292,7 @@ module _ (scope : Scope) (env : Env) (calls : Calls) (e : EnvFits scope env) (g 
     fields_come _ _ (F.no_fields schema) = λ turns. (refl, tt)
     fields_come _ _ (F.field i x fs schema a at f h) = field_comes calls (world_of env) i x fs schema a at (code_comes x a.kind f) (fields_come fs schema h)
 
-    arguments_come : (xs : List (Code Slot)) (ts : List SplType) → ArgumentsFit scope xs ts → ArgumentsCome calls (world_of env) xs ts
+    pub arguments_come : (xs : List (Code Slot)) (ts : List SplType) → ArgumentsFit scope xs ts → ArgumentsCome calls (world_of env) xs ts
     arguments_come _ _ F.no_arguments = λ turns. tt
     arguments_come _ _ (F.argument x xs t ts f h) = argument_comes calls (world_of env) x xs t ts (code_comes x t f) (arguments_come xs ts h)
 
@@ -304,36 +301,3 @@ module _ (scope : Scope) (env : Env) (calls : Calls) (e : EnvFits scope env) (g 
     steps_come _ _ _ (F.member i steps schema a u at h) = member_comes calls (world_of env) i steps schema a u at (steps_come steps a.kind u h)
     steps_come _ _ _ (F.index x steps k t u f h) = index_comes calls (world_of env) x steps k t u (code_comes x (S.Int k) f) (steps_come steps t u h)
     steps_come _ _ _ (F.at_key x steps k t u f h) = at_key_comes calls (world_of env) x steps k t u (code_comes x k f) (steps_come steps t u h)
-
--- ---- functions
-
-abbrev kinds_of : List Variable → List SplType
-kinds_of xs = map (λ (x : Variable). x.kind) xs
-
-argument_there : (xs : List Variable) (vs : List Value) → OfTypes (kinds_of xs) vs → (i : ℕ) (x : Variable) → slice_get xs i ≡ Some x
-    → IsThere (OfType x.kind) (slice_get vs i)
-argument_there [] vs h i x e = absurd cc
-argument_there (y ∷ xs) [] h i x e = absurd h
-argument_there (y ∷ xs) (v ∷ vs) h zero x e = let same : y ≡ x = cc in (v, refl, subst (λ (x : Variable). OfType x.kind v) same h.0)
-argument_there (y ∷ xs) (v ∷ vs) h (suc i) x e = argument_there xs vs h.1 i x e
-
-arguments_fit : (signatures : List Signature) (xs : List Variable) (vs : List Value) → OfTypes (kinds_of xs) vs → EnvFits (body_scope signatures xs) (function_env vs)
-arguments_fit signatures xs vs h = record { variables = argument_there xs vs h; inputs = λ i p e. absurd cc; marker = λ e. absurd cc }
-
-calls_fit : (signatures : List Signature) (functions : List Function) → FunctionsFit signatures functions → (depth : ℕ) → CallsFit signatures (calls_of functions depth)
-calls_fit signatures functions fit zero i s t at result vs h turns = tt
-calls_fit signatures functions fit (suc depth) i s t at result vs h turns =
-    yields_need (FunctionFits signatures s t) (OfType t) (slice_get functions i) _ (fit i s t at result) (λ f is.
-    let arguments = arguments_fit signatures is.variables vs (subst (λ ts. OfTypes ts vs) (sym is.kinds) h) in
-    code_comes (body_scope signatures is.variables) (function_env vs) (calls_of functions depth) arguments (calls_fit signatures functions fit depth) f.body t is.body turns)
-
-comes_to : (t : SplType) (o : Outcome Value) → Yields (OfType t) o → ComesTo t o
-comes_to t (Done v turns) h = h
-comes_to t (Faulted kind) h = h
-comes_to t Stuck h = h
-
-pub never_stuck_law : NeverStuckLaw
-never_stuck_law functions code env t fits depth turns =
-    let calls = calls_of functions depth in
-    comes_to t (code_value calls code (world_of env) turns)
-    (code_comes fits.scope env calls fits.env_fits (calls_fit fits.scope.functions functions fits.functions_fit depth) code t fits.code_fits turns)

@@ -37,10 +37,10 @@ use Rattle.stream_model.specs.CodeFits.{UnaryGives, BuiltInGives}
 use Rattle.stream_model.specs.Operators.{integer, divided, bits_of, on_bits, on_integers, level_integers, boolean, in_order, ordered, is_equal, level_join, level_in_list, level_in_map, binary_of, bool_text, level_unary, unary_of, built_in_of, found, given, level_member, element_at, level_element, level_at_key, level_truth, truth_of}
 use Rattle.stream_model.proofs.Yielding.{IsThere, AnyAnswer, OfType, Settles}
 
-settles_by : (t : SplType) (called other : CallOutcome) → called ≡ other → Settles t other → Settles t called
+pub settles_by : (t : SplType) (called other : CallOutcome) → called ≡ other → Settles t other → Settles t called
 settles_by t called other e h = subst (Settles t) (sym e) h
 
-settles_given : (t : SplType) (called : CallOutcome) → GivesOf t called → Settles t called
+pub settles_given : (t : SplType) (called : CallOutcome) → GivesOf t called → Settles t called
 settles_given t (Gives v) h = h
 settles_given t (Faults kind) h = absurd h
 settles_given t Unfit h = absurd h
@@ -61,13 +61,13 @@ level_bool v h = let is = bool_from_fits v h in (is.0, ap out-Value is.1 ∙ V.o
 level_text : (v : Value) → OfType S.Text v → (bytes : List ℕ) × (out-Value v ≡ O.Text bytes)
 level_text v h = let is = text_from_fits v h in (is.0, ap out-Value is.1 ∙ V.outs-Text is.0)
 
-level_list : (t : SplType) (v : Value) → OfType (S.List t) v → (vs : List Value) × (out-Value v ≡ O.List vs) × IsTrue (list_all (fits t) vs)
+pub level_list : (t : SplType) (v : Value) → OfType (S.List t) v → (vs : List Value) × (out-Value v ≡ O.List vs) × IsTrue (list_all (fits t) vs)
 level_list t v h = let is = list_from_fits t v h in (is.0, ap out-Value is.1 ∙ V.outs-List is.0, is.2)
 
 level_map : (k t : SplType) (v : Value) → OfType (S.Map k t) v → (ps : List (Value × Value)) × (out-Value v ≡ O.Map ps) × IsTrue (list_all (pair_fits k t) ps)
 level_map k t v h = let is = map_from_fits k t v h in (is.0, ap out-Value is.1 ∙ V.outs-Map is.0, is.3)
 
-level_tuple : (schema : List (Named SplType)) (v : Value) → OfType (S.Tuple schema) v → (vs : List Value) × (out-Value v ≡ O.Tuple vs) × IsTrue (tuple_fits schema vs)
+pub level_tuple : (schema : List (Named SplType)) (v : Value) → OfType (S.Tuple schema) v → (vs : List Value) × (out-Value v ≡ O.Tuple vs) × IsTrue (tuple_fits schema vs)
 level_tuple schema v h = let is = tuple_from_fits schema v h in (is.0, ap out-Value is.1 ∙ V.outs-Tuple is.0, is.2)
 
 -- a boolean is true or false

@@ -19,6 +19,11 @@ yields_followed P Q (Done x turns) f h k = k x turns h
 yields_followed P Q (Faulted kind) f h k = tt
 yields_followed P Q Stuck f h k = absurd h
 
+pub yields_weaker : {A : Type 0} (P Q : A → Type 0) (o : Outcome A) → ((x : A) → P x → Q x) → Yields P o → Yields Q o
+yields_weaker P Q (Done x turns) k h = k x h
+yields_weaker P Q (Faulted kind) k h = tt
+yields_weaker P Q Stuck k h = absurd h
+
 -- what is looked up is there, and has the fact
 abbrev pub IsThere : {A : Type 0} → (A → Type 0) → Option A → Type 0
 IsThere {A} P o = (x : A) × (o ≡ Some x) × P x

@@ -4,7 +4,6 @@
 use Rattle.std.specs.Prelude.{ℕ, zero, suc, ◌==◌, Bool, true, false, if◌then◌else◌, not, List, [], ◌∷◌, length, Option, None, Some, slice_get}
 use Rattle.std.specs.List.{fold}
 use Rattle.std.specs.Option.{option_map, option_and_then}
-use Rattle.spl_value.specs.declared.item.FaultKind.TheVariants as F
 use Rattle.spl_value.specs.declared.value.Value.{Value}
 use Rattle.spl_value.specs.declared.value.Value.TheVariants as V
 use Rattle.spl_value.specs.declared.value.Value.TheViews.{out-Value}
@@ -15,7 +14,6 @@ use Rattle.spl_tree.specs.declared.code.Code.TheOpen.{Code-F}
 use Rattle.spl_tree.specs.declared.code.Code.TheFolds.{fold-Code}
 use Rattle.spl_tree.specs.declared.code.Taking.{Taking}
 use Rattle.spl_tree.specs.declared.code.Taking.TheVariants as K
-use Rattle.spl_tree.specs.declared.code.Function.{Function}
 use Rattle.spl_tree.specs.declared.code.Slot.{Slot}
 use Rattle.spl_tree.specs.declared.code.Slot.TheVariants as L
 use Rattle.spl_tree.specs.declared.code.UnaryCode.{UnaryCode}
@@ -24,7 +22,7 @@ use Rattle.spl_tree.specs.declared.code.BinaryCode.TheVariants as D
 use Rattle.spl_tree.specs.declared.code.Marker.{Marker}
 use Rattle.spl_tree.specs.declared.code.Marker.TheVariants as M
 use Rattle.stream_model.specs.declared.env.Env.{Env}
-use Rattle.stream_model.specs.Outcomes.{Outcome, Done, Faulted, followed, need, settled, enter}
+use Rattle.stream_model.specs.Outcomes.{Outcome, Done, followed, need, settled, enter}
 use Rattle.stream_model.specs.Operators.{binary_of, unary_of, built_in_of, level_member, level_element, level_at_key, truth_of}
 
 -- ---- where an expression is evaluated
@@ -140,20 +138,3 @@ slot_value env (L.Port port) = option_map V.Tuple (slice_get env.inputs port)
 
 abbrev pub world_of : Env → World Slot
 world_of env = record { value_of = slot_value env; marker = env.punct }
-
--- ---- functions
-
--- a function sees its parameters alone
-abbrev pub function_env : List Value → Env
-function_env values = record { inputs = []; vars = values; punct = None }
-
--- calls of these functions that nest at most so deep
-abbrev pub calls_of : List Function → ℕ → Calls
-calls_of functions zero i values turns = Faulted F.Turns
-calls_of functions (suc depth) i values turns =
-    need (slice_get functions i) (λ f. code_value (calls_of functions depth) f.body (world_of (function_env values)) turns)
-
--- the value of a code in a world, with the turns that it leaves, or its first fault. Since each call takes a turn, calls
--- nest no deeper than there are turns
-abbrev pub value : {N : Type 0} → List Function → Code N → World N → ℕ → Outcome Value
-value functions code w turns = code_value (calls_of functions turns) code w turns

@@ -12,7 +12,8 @@ use Rattle.spl_tree.specs.declared.code.Slot.{Slot}
 use Rattle.stream_model.specs.declared.env.Env.{Env}
 use Rattle.stream_model.specs.declared.outs.Output.{Output}
 use Rattle.stream_model.specs.Outcomes.{Outcome, Done, Faulted, Stuck}
-use Rattle.stream_model.specs.Evaluation.{value, truth, world_of}
+use Rattle.stream_model.specs.Evaluation.{truth, world_of}
+use Rattle.stream_model.specs.Functions.{value}
 use Rattle.stream_model.specs.Stream.{Event, is_final, is_fault}
 
 -- the file of a source, the attributes of its rows, and whether a bad row is a fault

@@ -1,5 +1,5 @@
 //! What the definitions come to.
-ghost use Rattle.stream_model.specs.ValueLaws.{NeverStuckLaw, RenamingLaw, WrittenLaw, NamesLaw};
+ghost use Rattle.stream_model.specs.ValueLaws.{NeverStuckLaw, StatementLeadsLaw, BodyLeavesLaw, RenamingLaw, WrittenLaw, NamesLaw};
 ghost use Rattle.std.specs.Prelude.{◌≡◌, ◌≤◌, ℕ, List, [], ◌∷◌, Option, Some, None, Ok, codes, pos, negsuc, true, false};
 ghost use Rattle.spl_value.specs.Script.{End, Failed};
 ghost use Rattle.spl_value.specs.declared.item.Item.TheVariants as I;
@@ -19,7 +19,12 @@ ghost use Rattle.spl_tree.specs.declared.code.Slot.TheVariants as L;
 ghost use Rattle.stream_model.specs.PathLaws.{path_graph};
 ghost use Rattle.stream_model.specs.TwoSinks.{two_sinks, unread_source, bad_row, fault_of_run};
 ghost use Rattle.stream_model.specs.TwoPorts.{two_ports, variable, comparison};
+ghost use Rattle.stream_model.specs.TwoStatements.{two_statements};
 ghost use Rattle.stream_model.specs.Typing.{typing};
+ghost use Rattle.stream_model.specs.Slots.{row_slots};
+ghost use Rattle.stream_model.specs.SlotsLaws.{VariablesLaw, UnchangedLaw, InputsLaw, KeepsLaw, AgreementLaw};
+ghost use Rattle.stream_model.specs.SubmitsLaws.{SubmitsLaw};
+ghost use Rattle.stream_model.specs.TurnsLaws.{ValueTurnsLaw, ValueFaultsLaw, RunsTurnsLaw, RunsFaultsLaw};
 ghost use Rattle.stream_model.specs.Written.{Bare, Of, stands_for, written, renamed};
 ghost use Rattle.stream_model.specs.Rows.{Setting, rows, too_long, text_of};
 
@@ -143,18 +148,47 @@ pub fn text_on_literals()
         ≡ codes "\"a,\"\"b\"\"\"\n\"\"\n7\n" }
 {}
 
-/// What evaluation does. A code that fits isn't stuck. A slot that fits is what its name stands for,
+/// What evaluation does. A code that fits isn't stuck, nor is a statement or a body. A slot that fits is what its name stands for,
 /// and the code of an expression comes to what it comes to over the names of its slots.
 pub fn evaluation_law()
     ensures never_stuck { NeverStuckLaw }
+    ensures statements { StatementLeadsLaw }
+    ensures bodies { BodyLeavesLaw }
     ensures written { WrittenLaw }
     ensures names { NamesLaw }
+{}
+
+/// What a row of statements does doesn't depend on the submits before it. A body that comes to its
+/// end, or to a fault other than want of turns, does so with more turns, and leaves more. What it does
+/// depends on the slots alone that it names, and it changes no other variable, no tuple at a port, and
+/// not the marker.
+pub fn statements_law()
+    ensures submits { SubmitsLaw }
+    ensures runs { RunsTurnsLaw }
+    ensures faults { RunsFaultsLaw }
+    ensures variables { VariablesLaw }
+    ensures unchanged { UnchangedLaw }
+    ensures inputs { InputsLaw }
+    ensures keeps { KeepsLaw }
+{}
+
+/// A code that comes to a value, or to a fault other than want of turns, does so with more turns,
+/// and leaves more. What it comes to depends on the marker and the values of its names alone.
+pub fn value_law<N>()
+    ensures value { ValueTurnsLaw N }
+    ensures faults { ValueFaultsLaw N }
+    ensures names { AgreementLaw N }
 {}
 
 /// A code with other names comes to what the code comes to where each name has the value of the
 /// one that takes its place.
 pub fn renaming_law<N, M>()
     ensures renaming { RenamingLaw N M }
+{}
+
+/// The slots that two statements name.
+pub fn slots_on_literals()
+    ensures row { row_slots two_statements ≡ L.Port 0 ∷ L.Variable 1 ∷ L.Variable 2 ∷ L.Attribute 0 1 ∷ L.Variable 3 ∷ [] }
 {}
 
 /// What some names stand for where there are two ports, the names of some slots, and an expression

@@ -2,16 +2,18 @@
 #![tactic(auto)]
 
 mod env;
+mod flow;
 mod laws;
 mod outs;
 mod record;
 mod scope;
 
 pub use env::{Env, Tuples};
+pub use flow::Flow;
 pub use laws::{
     chain_is_ordered, ends_on_literals, evaluation_law, graph_law, history_law, kinds_law,
-    names_on_literals, order_law, renaming_law, rows_law, rows_on_literals, text_on_literals,
-    typing_law,
+    names_on_literals, order_law, renaming_law, rows_law, rows_on_literals, slots_on_literals,
+    statements_law, text_on_literals, typing_law, value_law,
 };
 pub use outs::{Output, Outs};
 pub use record::{

@@ -50,7 +50,7 @@ fit v w h k = (
         (literal w (T.Int I64) k)
         (orders_integers Greater I64);
     env_fits = record { variables = λ i x e. absurd cc; inputs = tuple_there v h; marker = λ e. absurd cc };
-    functions_fit = λ i s t e. absurd cc;
+    functions_fit = λ i s e. absurd cc;
   },
 )
 

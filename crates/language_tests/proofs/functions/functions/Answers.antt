@@ -1,5 +1,4 @@
 use Rattle.std.proofs.Common.{◌≡◌, ◌+◌, ◌<◌, [], ◌∷◌, length, Some, slice_get, sym, ap, subst, ◌∙◌, arith, length-append}
-use Rattle.spl_value.specs.declared.types.SplType.{SplType}
 use Rattle.stream_model.specs.declared.scope.Signature.{Signature}
 use Rattle.stream_model.specs.WorldFits.{FunctionFits}
 use Rattle.language_tests.proofs.Steps.{FitBelow, with_function, all_fit}
@@ -13,7 +12,7 @@ loop-at-preserved c = record {
   fit =
       subst (FitBelow (c.loop-at.at + 1) c.args.scope.now.functions) (sym c.in_ok-push.ensures.ok)
       (with_function c.args.scope.now.functions c.loop-at.made c.in_ok-function.field-0 c.loop-at.at c.loop-at.invariant.count c.loop-at.invariant.fit
-      (subst (λ fs. (s : Signature) (t : SplType) → slice_get fs c.loop-at.at ≡ Some s → s.result ≡ Some t → FunctionFits fs s t c.in_ok-function.field-0)
+      (subst (λ fs. (s : Signature) → slice_get fs c.loop-at.at ≡ Some s → FunctionFits fs s c.in_ok-function.field-0)
       c.loop-at.invariant.functions c.in_ok-function.ensures.fits));
 }
 

@@ -1,0 +1,827 @@
+use Rattle.expr_eval.proofs.Binary.{and_left, left_is_fit, operands_are, or_left, right_is_fit}
+use Rattle.expr_eval.proofs.BuiltIns.{are_three, are_two, called_answers, called_stops, first_of_three_stops, first_of_two_stops, is_one, one_stops, one_to_three, one_value, second_of_three_stops, second_of_two_stops, third_of_three_stops, three_values, two_values}
+use Rattle.expr_eval.proofs.CodeParts.{built_in_is_fit, call_is_fit, conditional_parts, has_marker, has_other_marker, has_slot, list_is_fit, map_is_fit, select_parts, tuple_is_fit, unary_parts}
+use Rattle.expr_eval.proofs.Following.{memory_held, settled_stops, stops, stops_by, stops_held}
+use Rattle.expr_eval.proofs.Forms.{arguments_stop, binary_answers, built_in_done, built_in_stops, call_done, call_stops, conditional_stops, first_answers, list_done, list_stops, literal_done, map_done, map_stops, marker_done, name_answers, other_marker_done, second_answers, select_answers, select_stops, tuple_done, tuple_stops, unary_answers, unary_stops}
+use Rattle.expr_eval.proofs.LoopParts.{arm_passed, arm_taken, arms_stop, leads_by, over_on, row_ends, row_on, row_stops, stops_leading, while_ends, while_no_turns, while_on, while_stops, while_stops_in_turn}
+use Rattle.expr_eval.proofs.RowParts.{condition_of_arm, loop_after_turn, other_arms, other_turns, rest_of_row, row_of_arm, row_of_turn, statement_is_fit, turn_is_fit}
+use Rattle.expr_eval.proofs.Rows.{fields_on, fields_past, fields_start, fields_stop, pairs_on, pairs_past, pairs_start, pairs_stop_at_key, pairs_stop_at_value, takings_on, takings_past, takings_stop, values_on, values_past, values_start, values_stop}
+use Rattle.expr_eval.proofs.StepParts.{first_is_fit, has_elements, has_keys, has_member, index_is_fit, key_is_fit, others_are_fit}
+use Rattle.expr_eval.proofs.ValueTypes.{binary_of_operands, built_in_of_arguments, call_of_arguments, of_type, places_of_fields, takings_of_base, unaries_of_operand}
+use Rattle.expr_eval.specs.Answers.{held}
+use Rattle.expr_eval.specs.Fitting.{FitBinary, FitBuiltIn, IsFit}
+use Rattle.expr_eval.specs.Running.{OverIsFit, RowIsFit, state}
+use Rattle.expr_eval.specs.Taking.{HasElements, HasKeys}
+use Rattle.spl_value.specs.Pairs.{are_pairs}
+use Rattle.spl_value.specs.Values.{fits}
+use Rattle.std.proofs.Common.{[], ap, arith, length, refl, subst, sym, ◌≡◌, ◌<◌, ◌∙◌, ◌∷◌}
+use Rattle.std.proofs.lemmas.Option.{slice_get_read}
+use Rattle.std.specs.Prelude.{IsTrue}
+use Rattle.stream_model.specs.Evaluation.{code_value, world_of}
+use Rattle.stream_model.specs.Functions.{bodies_of, calls_of}
+use Rattle.stream_model.specs.Operators.{binary_of}
+use Rattle.stream_model.specs.Outcomes.{enter, settled}
+use Rattle.stream_model.specs.Statements.{row_acts, scoped, turns_over}
+use Rattle.spl_tree.specs.declared.code.Code.TheVariants as C
+use Rattle.spl_tree.specs.declared.body.Statement.TheVariants as S
+use Rattle.expr_eval.proofs.StatementForms.{change_stops, change_done, arguments_stopped, function_stops, function_done, if_leads, while_leads}
+use Rattle.expr_eval.proofs.StatementParts.{arguments_are_fit, function_is_fit, has_loop_values, over_is_fit, result_is_fit, has_tuple}
+use Rattle.spl_value.specs.declared.types.SplType.TheVariants as T
+use Rattle.expr_eval.proofs.Calling.{body_done, body_is_fit, body_stops, called_is_fit, result_there, returned_there, value_done, value_stops}
+use Rattle.expr_eval.proofs.PlaceChanges.{can_change, leads_next_by, leads_next_stops, place_change_done, place_change_stops, steps_begin, taken_begins}
+use Rattle.expr_eval.proofs.StepValues.{first_step_is_fit, later_steps_are_fit, next_step_is_fit, others_fit, step_fits, steps_on, steps_past, steps_start, steps_stop, taken_on, taken_past, taken_stop_at_step, taken_stop_at_value}
+use Rattle.expr_eval.specs.Changing.{CanChangeAt}
+use Rattle.stream_model.specs.Statements.{changed_at}
+use Rattle.expr_eval.proofs.+eval.Goals as goal
+
+pub evaluate::eval_at-slot_value-requires : goal.evaluate::eval_at-slot_value-requires
+evaluate::eval_at-slot_value-requires t c =
+    has_slot c.args.context.now.functions.now c.args.context.now.env.now c.args.code.now c.requires c.in-Name.slot c.in-Name.is
+
+pub evaluate::eval_at-returns-in-Literal : goal.evaluate::eval_at-returns-in-Literal
+evaluate::eval_at-returns-in-Literal t c =
+    literal_done (calls_of c.args.context.now.functions.now c.args.context.now.depth) (world_of c.args.context.now.env.now) c.args.code.now c.args.turns.now c.in-Literal.value c.in-Literal.is
+
+pub evaluate::eval_at-returns-in-Name : goal.evaluate::eval_at-returns-in-Name
+evaluate::eval_at-returns-in-Name t c =
+    name_answers (calls_of c.args.context.now.functions.now c.args.context.now.depth) (world_of c.args.context.now.env.now) c.args.code.now c.args.turns.now c.in-Name.slot c.in-Name.is c.slot_value.result c.slot_value.ensures
+
+pub evaluate::eval_at-eval_at-requires : goal.evaluate::eval_at-eval_at-requires
+evaluate::eval_at-eval_at-requires t c =
+    (omega (arith, c.in-Some.ensures.0, c.in-Some.ensures.1), (let p = select_parts c.args.context.now.functions.now c.args.context.now.env.now c.args.code.now c.requires c.get.result.now c.in-Select.takings (c.in-Select.is ∙ (λ i. C.Select (sym c.get.ensures i) c.in-Select.takings)) in (p.0, p.1)))
+
+pub evaluate::eval_at-returns-in_err-first-in-Select : goal.evaluate::eval_at-returns-in_err-first-in-Select
+evaluate::eval_at-returns-in_err-first-in-Select t c =
+    select_stops (calls_of c.args.context.now.functions.now c.args.context.now.depth) (world_of c.args.context.now.env.now) c.args.code.now c.args.turns.now c.get.result.now c.in-Select.takings (c.in-Select.is ∙ (λ i. C.Select (sym c.get.ensures i) c.in-Select.takings)) _ _ _ c.from_residual.ensures.1 c.in_err-first-in-Select.ensures
+
+pub evaluate::eval_at-taken_all-requires : goal.evaluate::eval_at-taken_all-requires
+evaluate::eval_at-taken_all-requires t c =
+    (omega (arith, c.in-Some.ensures.0, c.in-Some.ensures.1), takings_of_base c.evaluation_law.ensures.never_stuck c.args.context.now.functions.now c.args.context.now.env.now c.args.context.now.depth c.args.code.now c.requires c.get.result.now c.as_slice.result.now (c.in-Select.is ∙ (λ i. C.Select (sym c.get.ensures i) (sym c.as_slice.ensures i))) c.args.turns.now _ _ c.in_ok-first-in-Select.ensures)
+
+pub evaluate::eval_at-returns-in_ok-first-in-Select : goal.evaluate::eval_at-returns-in_ok-first-in-Select
+evaluate::eval_at-returns-in_ok-first-in-Select t c =
+    select_answers (calls_of c.args.context.now.functions.now c.args.context.now.depth) (world_of c.args.context.now.env.now) c.args.code.now c.args.turns.now c.get.result.now c.as_slice.result.now (c.in-Select.is ∙ (λ i. C.Select (sym c.get.ensures i) (sym c.as_slice.ensures i))) _ _ c.in_ok-first-in-Select.ensures _ _ c.taken_all.ensures
+
+pub evaluate::eval_at-eval_at-requires-in-Unary : goal.evaluate::eval_at-eval_at-requires-in-Unary
+evaluate::eval_at-eval_at-requires-in-Unary t c =
+    (omega (arith, c.in-Some.ensures.0, c.in-Some.ensures.1), (let p = unary_parts c.args.context.now.functions.now c.args.context.now.env.now c.args.code.now c.requires c.in-Unary.operators c.get-in-Unary.result.now (c.in-Unary.is ∙ (λ i. C.Unary c.in-Unary.operators (sym c.get-in-Unary.ensures i))) in (p.0, p.1)))
+
+pub evaluate::eval_at-returns-in_err-operand-in-Unary : goal.evaluate::eval_at-returns-in_err-operand-in-Unary
+evaluate::eval_at-returns-in_err-operand-in-Unary t c =
+    unary_stops (calls_of c.args.context.now.functions.now c.args.context.now.depth) (world_of c.args.context.now.env.now) c.args.code.now c.args.turns.now c.in-Unary.operators c.get-in-Unary.result.now (c.in-Unary.is ∙ (λ i. C.Unary c.in-Unary.operators (sym c.get-in-Unary.ensures i))) _ _ _ c.from_residual-in_err-operand-in-Unary.ensures.1 c.in_err-operand-in-Unary.ensures
+
+pub evaluate::eval_at-unaries_of-requires : goal.evaluate::eval_at-unaries_of-requires
+evaluate::eval_at-unaries_of-requires t c =
+    unaries_of_operand c.evaluation_law.ensures.never_stuck c.args.context.now.functions.now c.args.context.now.env.now c.args.context.now.depth c.args.code.now c.requires c.as_slice-in-Unary.result.now c.get-in-Unary.result.now (c.in-Unary.is ∙ (λ i. C.Unary (sym c.as_slice-in-Unary.ensures i) (sym c.get-in-Unary.ensures i))) c.args.turns.now _ _ c.in_ok-operand-in-Unary.ensures
+
+pub evaluate::eval_at-returns-in_ok-operand-in-Unary : goal.evaluate::eval_at-returns-in_ok-operand-in-Unary
+evaluate::eval_at-returns-in_ok-operand-in-Unary t c =
+    unary_answers (calls_of c.args.context.now.functions.now c.args.context.now.depth) (world_of c.args.context.now.env.now) c.args.code.now c.args.turns.now c.as_slice-in-Unary.result.now c.get-in-Unary.result.now (c.in-Unary.is ∙ (λ i. C.Unary (sym c.as_slice-in-Unary.ensures i) (sym c.get-in-Unary.ensures i))) _ _ c.in_ok-operand-in-Unary.ensures _ (c.unaries_of.ensures _)
+
+pub evaluate::eval_at-binary-requires : goal.evaluate::eval_at-binary-requires
+evaluate::eval_at-binary-requires t c =
+    (omega (arith, c.in-Some.ensures.0, c.in-Some.ensures.1), subst (λ x. IsFit c.args.context.now.functions.now x c.args.context.now.env.now) (c.in-Binary.is ∙ (λ i. C.Binary c.in-Binary.operator (sym c.get-in-Binary.ensures i) (sym c.get-in-Binary-2.ensures i))) c.requires)
+
+pub evaluate::eval_at-returns-in-Binary : goal.evaluate::eval_at-returns-in-Binary
+evaluate::eval_at-returns-in-Binary t c =
+    binary_answers (calls_of c.args.context.now.functions.now c.args.context.now.depth) (world_of c.args.context.now.env.now) c.args.code.now c.args.turns.now c.in-Binary.operator c.get-in-Binary.result.now c.get-in-Binary-2.result.now (c.in-Binary.is ∙ (λ i. C.Binary c.in-Binary.operator (sym c.get-in-Binary.ensures i) (sym c.get-in-Binary-2.ensures i))) _ _ c.binary.ensures
+
+pub evaluate::eval_at-is_true-requires : goal.evaluate::eval_at-is_true-requires
+evaluate::eval_at-is_true-requires t c =
+    (omega (arith, c.in-Some.ensures.0, c.in-Some.ensures.1), (conditional_parts c.args.context.now.functions.now c.args.context.now.env.now c.args.code.now c.requires c.get-in-Conditional.result.now c.in-Conditional.first c.in-Conditional.second (c.in-Conditional.is ∙ (λ i. C.Conditional (sym c.get-in-Conditional.ensures i) c.in-Conditional.first c.in-Conditional.second))).0)
+
+pub evaluate::eval_at-returns-in_err-is_true-in-Conditional : goal.evaluate::eval_at-returns-in_err-is_true-in-Conditional
+evaluate::eval_at-returns-in_err-is_true-in-Conditional t c =
+    conditional_stops (calls_of c.args.context.now.functions.now c.args.context.now.depth) (world_of c.args.context.now.env.now) c.args.code.now c.args.turns.now c.get-in-Conditional.result.now c.in-Conditional.first c.in-Conditional.second (c.in-Conditional.is ∙ (λ i. C.Conditional (sym c.get-in-Conditional.ensures i) c.in-Conditional.first c.in-Conditional.second)) _ _ _ c.from_residual-in_err-is_true-in-Conditional.ensures.1 c.in_err-is_true-in-Conditional.ensures
+
+pub evaluate::eval_at-eval_at-requires-then-branch : goal.evaluate::eval_at-eval_at-requires-then-branch
+evaluate::eval_at-eval_at-requires-then-branch t c =
+    (omega (arith, c.in-Some.ensures.0, c.in-Some.ensures.1), (conditional_parts c.args.context.now.functions.now c.args.context.now.env.now c.args.code.now c.requires c.get-in-Conditional.result.now c.get-then-branch.result.now c.in-Conditional.second (c.in-Conditional.is ∙ (λ i. C.Conditional (sym c.get-in-Conditional.ensures i) (sym c.get-then-branch.ensures i) c.in-Conditional.second))).1)
+
+pub evaluate::eval_at-eval_at-requires-else-branch : goal.evaluate::eval_at-eval_at-requires-else-branch
+evaluate::eval_at-eval_at-requires-else-branch t c =
+    (omega (arith, c.in-Some.ensures.0, c.in-Some.ensures.1), (conditional_parts c.args.context.now.functions.now c.args.context.now.env.now c.args.code.now c.requires c.get-in-Conditional.result.now c.in-Conditional.first c.get-else-branch.result.now (c.in-Conditional.is ∙ (λ i. C.Conditional (sym c.get-in-Conditional.ensures i) c.in-Conditional.first (sym c.get-else-branch.ensures i)))).2)
+
+pub evaluate::eval_at-returns-then-branch : goal.evaluate::eval_at-returns-then-branch
+evaluate::eval_at-returns-then-branch t c =
+    first_answers (calls_of c.args.context.now.functions.now c.args.context.now.depth) (world_of c.args.context.now.env.now) c.args.code.now c.args.turns.now c.get-in-Conditional.result.now c.get-then-branch.result.now c.in-Conditional.second (c.in-Conditional.is ∙ (λ i. C.Conditional (sym c.get-in-Conditional.ensures i) (sym c.get-then-branch.ensures i) c.in-Conditional.second)) _ _ c.in_ok-is_true-in-Conditional.ensures c.if-branch.true _ _ c.eval_at-then-branch.ensures
+
+pub evaluate::eval_at-returns-else-branch : goal.evaluate::eval_at-returns-else-branch
+evaluate::eval_at-returns-else-branch t c =
+    second_answers (calls_of c.args.context.now.functions.now c.args.context.now.depth) (world_of c.args.context.now.env.now) c.args.code.now c.args.turns.now c.get-in-Conditional.result.now c.in-Conditional.first c.get-else-branch.result.now (c.in-Conditional.is ∙ (λ i. C.Conditional (sym c.get-in-Conditional.ensures i) c.in-Conditional.first (sym c.get-else-branch.ensures i))) _ _ c.in_ok-is_true-in-Conditional.ensures c.if-branch.false _ _ c.eval_at-else-branch.ensures
+
+pub evaluate::eval_at-eval_all-requires : goal.evaluate::eval_at-eval_all-requires
+evaluate::eval_at-eval_all-requires t c =
+    (omega (arith, c.in-Some.ensures.0, c.in-Some.ensures.1), list_is_fit c.args.context.now.functions.now c.args.context.now.env.now c.args.code.now c.requires c.as_slice-in-List.result.now (c.in-List.is ∙ (λ i. C.List (sym c.as_slice-in-List.ensures i))))
+
+pub evaluate::eval_at-returns-in_err-values-in-List : goal.evaluate::eval_at-returns-in_err-values-in-List
+evaluate::eval_at-returns-in_err-values-in-List t c =
+    list_stops (calls_of c.args.context.now.functions.now c.args.context.now.depth) (world_of c.args.context.now.env.now) c.args.code.now c.args.turns.now c.as_slice-in-List.result.now (c.in-List.is ∙ (λ i. C.List (sym c.as_slice-in-List.ensures i))) _ _ _ c.from_residual-in_err-values-in-List.ensures.1 c.in_err-values-in-List.ensures
+
+pub evaluate::eval_at-returns-in_ok-values-in-List : goal.evaluate::eval_at-returns-in_ok-values-in-List
+evaluate::eval_at-returns-in_ok-values-in-List t c =
+    list_done (calls_of c.args.context.now.functions.now c.args.context.now.depth) (world_of c.args.context.now.env.now) c.args.code.now c.args.turns.now c.as_slice-in-List.result.now (c.in-List.is ∙ (λ i. C.List (sym c.as_slice-in-List.ensures i))) _ _ c.in_ok-values-in-List.ensures
+
+pub evaluate::eval_at-eval_pairs-requires : goal.evaluate::eval_at-eval_pairs-requires
+evaluate::eval_at-eval_pairs-requires t c =
+    (omega (arith, c.in-Some.ensures.0, c.in-Some.ensures.1), map_is_fit c.args.context.now.functions.now c.args.context.now.env.now c.args.code.now c.requires c.as_slice-in-Map.result.now (c.in-Map.is ∙ (λ i. C.Map (sym c.as_slice-in-Map.ensures i))))
+
+pub evaluate::eval_at-returns-in_err-map-in-Map : goal.evaluate::eval_at-returns-in_err-map-in-Map
+evaluate::eval_at-returns-in_err-map-in-Map t c =
+    map_stops (calls_of c.args.context.now.functions.now c.args.context.now.depth) (world_of c.args.context.now.env.now) c.args.code.now c.args.turns.now c.as_slice-in-Map.result.now (c.in-Map.is ∙ (λ i. C.Map (sym c.as_slice-in-Map.ensures i))) _ _ _ c.from_residual-in_err-map-in-Map.ensures.1 c.in_err-map-in-Map.ensures
+
+pub evaluate::eval_at-returns-in_ok-map-in-Map : goal.evaluate::eval_at-returns-in_ok-map-in-Map
+evaluate::eval_at-returns-in_ok-map-in-Map t c =
+    map_done (calls_of c.args.context.now.functions.now c.args.context.now.depth) (world_of c.args.context.now.env.now) c.args.code.now c.args.turns.now c.as_slice-in-Map.result.now (c.in-Map.is ∙ (λ i. C.Map (sym c.as_slice-in-Map.ensures i))) _ _ c.in_ok-map-in-Map.ensures
+
+pub evaluate::eval_at-eval_fields-requires : goal.evaluate::eval_at-eval_fields-requires
+evaluate::eval_at-eval_fields-requires t c =
+    (omega (arith, c.in-Some.ensures.0, c.in-Some.ensures.1), tuple_is_fit c.args.context.now.functions.now c.args.context.now.env.now c.args.code.now c.requires c.as_slice-in-Tuple.result.now (c.in-Tuple.is ∙ (λ i. C.Tuple (sym c.as_slice-in-Tuple.ensures i))))
+
+pub evaluate::eval_at-returns-in_err-fields-in-Tuple : goal.evaluate::eval_at-returns-in_err-fields-in-Tuple
+evaluate::eval_at-returns-in_err-fields-in-Tuple t c =
+    tuple_stops (calls_of c.args.context.now.functions.now c.args.context.now.depth) (world_of c.args.context.now.env.now) c.args.code.now c.args.turns.now c.as_slice-in-Tuple.result.now (c.in-Tuple.is ∙ (λ i. C.Tuple (sym c.as_slice-in-Tuple.ensures i))) _ _ _ c.from_residual-in_err-fields-in-Tuple.ensures.1 c.in_err-fields-in-Tuple.ensures
+
+pub evaluate::eval_at-tuple_of-requires : goal.evaluate::eval_at-tuple_of-requires
+evaluate::eval_at-tuple_of-requires t c =
+    places_of_fields c.evaluation_law.ensures.never_stuck c.args.context.now.functions.now c.args.context.now.env.now c.args.context.now.depth c.args.code.now c.requires c.as_slice-in-Tuple.result.now (c.in-Tuple.is ∙ (λ i. C.Tuple (sym c.as_slice-in-Tuple.ensures i))) c.args.turns.now _ _ c.in_ok-fields-in-Tuple.ensures
+
+pub evaluate::eval_at-returns-in_err-values-in-Tuple : goal.evaluate::eval_at-returns-in_err-values-in-Tuple
+evaluate::eval_at-returns-in_err-values-in-Tuple t c =
+    memory_held (code_value (calls_of c.args.context.now.functions.now c.args.context.now.depth) c.args.code.now (world_of c.args.context.now.env.now) c.args.turns.now) _ _ _ c.from_residual-in_err-values-in-Tuple.ensures.1 c.in_err-values-in-Tuple.ensures
+
+pub evaluate::eval_at-returns-in_ok-values-in-Tuple : goal.evaluate::eval_at-returns-in_ok-values-in-Tuple
+evaluate::eval_at-returns-in_ok-values-in-Tuple t c =
+    tuple_done (calls_of c.args.context.now.functions.now c.args.context.now.depth) (world_of c.args.context.now.env.now) c.args.code.now c.args.turns.now c.as_slice-in-Tuple.result.now (c.in-Tuple.is ∙ (λ i. C.Tuple (sym c.as_slice-in-Tuple.ensures i))) _ _ c.in_ok-fields-in-Tuple.ensures _ c.in_ok-values-in-Tuple.ensures
+
+pub evaluate::eval_at-built_in-requires : goal.evaluate::eval_at-built_in-requires
+evaluate::eval_at-built_in-requires t c =
+    (omega (arith, c.in-Some.ensures.0, c.in-Some.ensures.1), subst (λ x. IsFit c.args.context.now.functions.now x c.args.context.now.env.now) (c.in-BuiltIn.is ∙ (λ i. C.BuiltIn c.in-BuiltIn.call (sym c.as_slice-in-BuiltIn.ensures i))) c.requires)
+
+pub evaluate::eval_at-returns-in_err-value-in-BuiltIn : goal.evaluate::eval_at-returns-in_err-value-in-BuiltIn
+evaluate::eval_at-returns-in_err-value-in-BuiltIn t c =
+    built_in_stops (calls_of c.args.context.now.functions.now c.args.context.now.depth) (world_of c.args.context.now.env.now) c.args.code.now c.args.turns.now c.in-BuiltIn.call c.as_slice-in-BuiltIn.result.now (c.in-BuiltIn.is ∙ (λ i. C.BuiltIn c.in-BuiltIn.call (sym c.as_slice-in-BuiltIn.ensures i))) _ _ _ c.from_residual-in_err-value-in-BuiltIn.ensures.1 c.in_err-value-in-BuiltIn.ensures
+
+pub evaluate::eval_at-returns-in_ok-value-in-BuiltIn : goal.evaluate::eval_at-returns-in_ok-value-in-BuiltIn
+evaluate::eval_at-returns-in_ok-value-in-BuiltIn t c =
+    built_in_done (calls_of c.args.context.now.functions.now c.args.context.now.depth) (world_of c.args.context.now.env.now) c.args.code.now c.args.turns.now c.in-BuiltIn.call c.as_slice-in-BuiltIn.result.now (c.in-BuiltIn.is ∙ (λ i. C.BuiltIn c.in-BuiltIn.call (sym c.as_slice-in-BuiltIn.ensures i))) _ _ c.in_ok-value-in-BuiltIn.ensures
+
+pub evaluate::eval_at-eval_all-requires-in-Call : goal.evaluate::eval_at-eval_all-requires-in-Call
+evaluate::eval_at-eval_all-requires-in-Call t c =
+    (omega (arith, c.in-Some.ensures.0, c.in-Some.ensures.1), call_is_fit c.args.context.now.functions.now c.args.context.now.env.now c.args.code.now c.requires c.in-Call.place c.as_slice-in-Call.result.now (c.in-Call.is ∙ (λ i. C.Call c.in-Call.place (sym c.as_slice-in-Call.ensures i))))
+
+pub evaluate::eval_at-returns-in_err-values-in-Call : goal.evaluate::eval_at-returns-in_err-values-in-Call
+evaluate::eval_at-returns-in_err-values-in-Call t c =
+    arguments_stop (calls_of c.args.context.now.functions.now c.args.context.now.depth) (world_of c.args.context.now.env.now) c.args.code.now c.args.turns.now c.in-Call.place c.as_slice-in-Call.result.now (c.in-Call.is ∙ (λ i. C.Call c.in-Call.place (sym c.as_slice-in-Call.ensures i))) _ _ _ c.from_residual-in_err-values-in-Call.ensures.1 c.in_err-values-in-Call.ensures
+
+pub evaluate::eval_at-call-requires : goal.evaluate::eval_at-call-requires
+evaluate::eval_at-call-requires t c =
+    (omega (arith, c.in-Some.ensures.0, c.in-Some.ensures.1), call_of_arguments c.evaluation_law.ensures.never_stuck c.args.context.now.functions.now c.args.context.now.env.now c.args.context.now.depth c.args.code.now c.requires c.in-Call.place c.as_slice-in-Call.result.now (c.in-Call.is ∙ (λ i. C.Call c.in-Call.place (sym c.as_slice-in-Call.ensures i))) c.args.turns.now _ _ c.in_ok-values-in-Call.ensures)
+
+pub evaluate::eval_at-returns-in_err-value-in-Call : goal.evaluate::eval_at-returns-in_err-value-in-Call
+evaluate::eval_at-returns-in_err-value-in-Call t c =
+    call_stops (calls_of c.args.context.now.functions.now c.args.context.now.depth) (world_of c.args.context.now.env.now) c.args.code.now c.args.turns.now c.in-Call.place c.as_slice-in-Call.result.now (c.in-Call.is ∙ (λ i. C.Call c.in-Call.place (sym c.as_slice-in-Call.ensures i))) _ _ c.in_ok-values-in-Call.ensures _ _ _ c.from_residual-in_err-value-in-Call.ensures.1 c.in_err-value-in-Call.ensures
+
+pub evaluate::eval_at-returns-in_ok-value-in-Call : goal.evaluate::eval_at-returns-in_ok-value-in-Call
+evaluate::eval_at-returns-in_ok-value-in-Call t c =
+    call_done (calls_of c.args.context.now.functions.now c.args.context.now.depth) (world_of c.args.context.now.env.now) c.args.code.now c.args.turns.now c.in-Call.place c.as_slice-in-Call.result.now (c.in-Call.is ∙ (λ i. C.Call c.in-Call.place (sym c.as_slice-in-Call.ensures i))) _ _ c.in_ok-values-in-Call.ensures _ _ c.in_ok-value-in-Call.ensures
+
+pub evaluate::eval_at-is_marker-requires : goal.evaluate::eval_at-is_marker-requires
+evaluate::eval_at-is_marker-requires t c =
+    has_marker c.args.context.now.functions.now c.args.context.now.env.now c.args.code.now c.requires c.in-IsMarker.marker c.in-IsMarker.is
+
+pub evaluate::eval_at-is_marker-requires-in-IsNotMarker : goal.evaluate::eval_at-is_marker-requires-in-IsNotMarker
+evaluate::eval_at-is_marker-requires-in-IsNotMarker t c =
+    has_other_marker c.args.context.now.functions.now c.args.context.now.env.now c.args.code.now c.requires c.in-IsNotMarker.marker c.in-IsNotMarker.is
+
+pub evaluate::eval_at-returns-in-IsMarker : goal.evaluate::eval_at-returns-in-IsMarker
+evaluate::eval_at-returns-in-IsMarker t c =
+    (let came = has_marker c.args.context.now.functions.now c.args.context.now.env.now c.args.code.now c.requires c.in-IsMarker.marker c.in-IsMarker.is in marker_done (calls_of c.args.context.now.functions.now c.args.context.now.depth) (world_of c.args.context.now.env.now) c.args.code.now c.args.turns.now came.0 came.1 c.in-IsMarker.marker c.in-IsMarker.is _ (c.is_marker.ensures came.0 came.1))
+
+pub evaluate::eval_at-returns-in-IsNotMarker : goal.evaluate::eval_at-returns-in-IsNotMarker
+evaluate::eval_at-returns-in-IsNotMarker t c =
+    (let came = has_other_marker c.args.context.now.functions.now c.args.context.now.env.now c.args.code.now c.requires c.in-IsNotMarker.marker c.in-IsNotMarker.is in other_marker_done (calls_of c.args.context.now.functions.now c.args.context.now.depth) (world_of c.args.context.now.env.now) c.args.code.now c.args.turns.now came.0 came.1 c.in-IsNotMarker.marker c.in-IsNotMarker.is _ (c.is_marker-in-IsNotMarker.ensures came.0 came.1))
+
+pub evaluate::eval_all-loop-code-init : goal.evaluate::eval_all-loop-code-init
+evaluate::eval_all-loop-code-init t c = values_start (calls_of c.args.context.now.functions.now c.args.context.now.depth) (world_of c.args.context.now.env.now) c.args.codes.now c.new-values.result c.args.turns.now c.new-values.ensures
+
+pub evaluate::eval_all-loop-code-preserved : goal.evaluate::eval_all-loop-code-preserved
+evaluate::eval_all-loop-code-preserved t c =
+    c.loop-code.invariant
+    ∙ values_on (calls_of c.args.context.now.functions.now c.args.context.now.depth) (world_of c.args.context.now.env.now) c.args.codes.now c.loop-code.code-index c.loop-code.values c.loop-code.turns
+    c.code-item.result c.loop-code-test.true c.code-item.is _ _ _ c.in_ok-value.ensures c.in_ok-push.ensures.ok
+
+pub evaluate::eval_all-returns : goal.evaluate::eval_all-returns
+evaluate::eval_all-returns t c =
+    c.loop-code.invariant
+    ∙ values_past (calls_of c.args.context.now.functions.now c.args.context.now.depth) (world_of c.args.context.now.env.now) c.args.codes.now c.loop-code.code-index c.loop-code.values c.loop-code.turns c.loop-code-test.false
+
+pub evaluate::eval_all-returns-in_err-value : goal.evaluate::eval_all-returns-in_err-value
+evaluate::eval_all-returns-in_err-value t c =
+    stops _ _ _ _ c.from_residual.ensures.1
+    (stops_by _ _ _ c.loop-code.invariant
+    (values_stop (calls_of c.args.context.now.functions.now c.args.context.now.depth) (world_of c.args.context.now.env.now) c.args.codes.now c.loop-code.code-index c.loop-code.values c.loop-code.turns
+    c.code-item.result c.loop-code-test.true c.code-item.is _ c.in_err-value.ensures))
+
+pub evaluate::eval_pairs-loop-pair-init : goal.evaluate::eval_pairs-loop-pair-init
+evaluate::eval_pairs-loop-pair-init t c = record {
+  comes = pairs_start (calls_of c.args.context.now.functions.now c.args.context.now.depth) (world_of c.args.context.now.env.now) c.args.pairs.now c.new-map.result c.args.turns.now c.new-map.ensures;
+  sorted = ap are_pairs c.new-map.ensures;
+}
+
+pub evaluate::eval_pairs-own_value-requires : goal.evaluate::eval_pairs-own_value-requires
+evaluate::eval_pairs-own_value-requires t c = (
+  omega arith,
+  (c.requires c.loop-pair.pair-index c.pair-item.result
+      (slice_get_read c.args.pairs.now (length c.args.pairs.now) c.loop-pair.pair-index c.pair-item.result refl c.loop-pair-test.true c.pair-item.is)).0,
+)
+
+pub evaluate::eval_pairs-own_value-requires-in-loop-pair : goal.evaluate::eval_pairs-own_value-requires-in-loop-pair
+evaluate::eval_pairs-own_value-requires-in-loop-pair t c = (
+  omega arith,
+  (c.requires c.loop-pair.pair-index c.pair-item.result
+      (slice_get_read c.args.pairs.now (length c.args.pairs.now) c.loop-pair.pair-index c.pair-item.result refl c.loop-pair-test.true c.pair-item.is)).1,
+)
+
+pub evaluate::eval_pairs-put-requires : goal.evaluate::eval_pairs-put-requires
+evaluate::eval_pairs-put-requires t c = c.loop-pair.invariant.sorted
+
+pub evaluate::eval_pairs-loop-pair-preserved : goal.evaluate::eval_pairs-loop-pair-preserved
+evaluate::eval_pairs-loop-pair-preserved t c = record {
+  comes = c.loop-pair.invariant.comes
+      ∙ pairs_on (calls_of c.args.context.now.functions.now c.args.context.now.depth) (world_of c.args.context.now.env.now) c.args.pairs.now c.loop-pair.pair-index c.loop-pair.map c.loop-pair.turns
+      c.pair-item.result c.loop-pair-test.true c.pair-item.is _ _ _ _ _ c.in_ok-key.ensures c.in_ok-value.ensures c.in_ok-put.ensures.ok;
+  sorted = c.in_ok-put.ensures.sorted;
+}
+
+pub evaluate::eval_pairs-returns : goal.evaluate::eval_pairs-returns
+evaluate::eval_pairs-returns t c =
+    c.loop-pair.invariant.comes
+    ∙ pairs_past (calls_of c.args.context.now.functions.now c.args.context.now.depth) (world_of c.args.context.now.env.now) c.args.pairs.now c.loop-pair.pair-index c.loop-pair.map c.loop-pair.turns c.loop-pair-test.false
+
+pub evaluate::eval_pairs-returns-in_err-key : goal.evaluate::eval_pairs-returns-in_err-key
+evaluate::eval_pairs-returns-in_err-key t c =
+    stops _ _ _ _ c.from_residual.ensures.1
+    (stops_by _ _ _ c.loop-pair.invariant.comes
+    (pairs_stop_at_key (calls_of c.args.context.now.functions.now c.args.context.now.depth) (world_of c.args.context.now.env.now) c.args.pairs.now c.loop-pair.pair-index c.loop-pair.map c.loop-pair.turns
+    c.pair-item.result c.loop-pair-test.true c.pair-item.is _ c.in_err-key.ensures))
+
+pub evaluate::eval_pairs-returns-in_err-value : goal.evaluate::eval_pairs-returns-in_err-value
+evaluate::eval_pairs-returns-in_err-value t c =
+    stops _ _ _ _ c.from_residual-in_err-value.ensures.1
+    (stops_by _ _ _ c.loop-pair.invariant.comes
+    (pairs_stop_at_value (calls_of c.args.context.now.functions.now c.args.context.now.depth) (world_of c.args.context.now.env.now) c.args.pairs.now c.loop-pair.pair-index c.loop-pair.map c.loop-pair.turns
+    c.pair-item.result c.loop-pair-test.true c.pair-item.is _ _ _ c.in_ok-key.ensures c.in_err-value.ensures))
+
+pub evaluate::eval_fields-loop-field-init : goal.evaluate::eval_fields-loop-field-init
+evaluate::eval_fields-loop-field-init t c = fields_start (calls_of c.args.context.now.functions.now c.args.context.now.depth) (world_of c.args.context.now.env.now) c.args.fields.now c.new-values.result c.args.turns.now c.new-values.ensures
+
+pub evaluate::eval_fields-own_value-requires : goal.evaluate::eval_fields-own_value-requires
+evaluate::eval_fields-own_value-requires t c = (
+  omega arith,
+  c.requires c.loop-field.field-index c.field-item.result
+      (slice_get_read c.args.fields.now (length c.args.fields.now) c.loop-field.field-index c.field-item.result refl c.loop-field-test.true c.field-item.is),
+)
+
+pub evaluate::eval_fields-loop-field-preserved : goal.evaluate::eval_fields-loop-field-preserved
+evaluate::eval_fields-loop-field-preserved t c =
+    c.loop-field.invariant
+    ∙ fields_on (calls_of c.args.context.now.functions.now c.args.context.now.depth) (world_of c.args.context.now.env.now) c.args.fields.now c.loop-field.field-index c.loop-field.values c.loop-field.turns
+    c.field-item.result c.loop-field-test.true c.field-item.is _ _ _ c.in_ok-value.ensures c.in_ok-push.ensures.ok
+
+pub evaluate::eval_fields-returns : goal.evaluate::eval_fields-returns
+evaluate::eval_fields-returns t c =
+    c.loop-field.invariant
+    ∙ fields_past (calls_of c.args.context.now.functions.now c.args.context.now.depth) (world_of c.args.context.now.env.now) c.args.fields.now c.loop-field.field-index c.loop-field.values c.loop-field.turns c.loop-field-test.false
+
+pub evaluate::eval_fields-returns-in_err-value : goal.evaluate::eval_fields-returns-in_err-value
+evaluate::eval_fields-returns-in_err-value t c =
+    stops _ _ _ _ c.from_residual.ensures.1
+    (stops_by _ _ _ c.loop-field.invariant
+    (fields_stop (calls_of c.args.context.now.functions.now c.args.context.now.depth) (world_of c.args.context.now.env.now) c.args.fields.now c.loop-field.field-index c.loop-field.values c.loop-field.turns
+    c.field-item.result c.loop-field-test.true c.field-item.is _ c.in_err-value.ensures))
+
+pub evaluate::taken_all-loop-taking-init : goal.evaluate::taken_all-loop-taking-init
+evaluate::taken_all-loop-taking-init t c = record { comes = refl; others = c.requires }
+
+pub evaluate::taken_all-taken-requires : goal.evaluate::taken_all-taken-requires
+evaluate::taken_all-taken-requires t c = (
+  omega arith,
+  first_is_fit c.args.context.now.functions.now c.args.context.now.env.now c.args.takings.now c.loop-taking.taking-index (held c.loop-taking.value) c.loop-taking.invariant.others
+      c.taking-item.result c.loop-taking-test.true c.taking-item.is,
+)
+
+pub evaluate::taken_all-loop-taking-preserved : goal.evaluate::taken_all-loop-taking-preserved
+evaluate::taken_all-loop-taking-preserved t c = record {
+  comes = c.loop-taking.invariant.comes
+      ∙ takings_on (calls_of c.args.context.now.functions.now c.args.context.now.depth) (world_of c.args.context.now.env.now) c.args.takings.now c.loop-taking.taking-index (held c.loop-taking.value) c.loop-taking.turns
+      c.taking-item.result c.loop-taking-test.true c.taking-item.is _ _ c.in_ok-value.ensures;
+  others = others_are_fit c.args.context.now.functions.now c.args.context.now.env.now c.args.takings.now c.loop-taking.taking-index (held c.loop-taking.value) c.loop-taking.invariant.others
+      c.taking-item.result c.loop-taking-test.true c.taking-item.is c.evaluation_law.ensures.never_stuck c.args.context.now.depth c.loop-taking.turns _ _ c.in_ok-value.ensures;
+}
+
+pub evaluate::taken_all-returns : goal.evaluate::taken_all-returns
+evaluate::taken_all-returns t c =
+    c.loop-taking.invariant.comes
+    ∙ takings_past (calls_of c.args.context.now.functions.now c.args.context.now.depth) (world_of c.args.context.now.env.now) c.args.takings.now c.loop-taking.taking-index (held c.loop-taking.value) c.loop-taking.turns c.loop-taking-test.false
+
+pub evaluate::taken_all-returns-in_err-value : goal.evaluate::taken_all-returns-in_err-value
+evaluate::taken_all-returns-in_err-value t c =
+    stops_held _ _ _ _ c.from_residual.ensures.1
+    (stops_by _ _ _ c.loop-taking.invariant.comes
+    (takings_stop (calls_of c.args.context.now.functions.now c.args.context.now.depth) (world_of c.args.context.now.env.now) c.args.takings.now c.loop-taking.taking-index (held c.loop-taking.value) c.loop-taking.turns
+    c.taking-item.result c.loop-taking-test.true c.taking-item.is _ c.in_err-value.ensures))
+
+pub evaluate::taken-member-requires : goal.evaluate::taken-member-requires
+evaluate::taken-member-requires t c = has_member c.args.context.now.functions.now c.args.context.now.env.now c.args.taking.now (held c.args.value) c.requires c.in-Member.place c.in-Member.is
+
+pub evaluate::taken-eval_at-requires : goal.evaluate::taken-eval_at-requires
+evaluate::taken-eval_at-requires t c =
+    (omega arith, index_is_fit c.args.context.now.functions.now c.args.context.now.env.now c.args.taking.now (held c.args.value) c.requires c.in-Element.index c.in-Element.is)
+
+pub evaluate::taken-eval_at-requires-in-AtKey : goal.evaluate::taken-eval_at-requires-in-AtKey
+evaluate::taken-eval_at-requires-in-AtKey t c =
+    (omega arith, key_is_fit c.args.context.now.functions.now c.args.context.now.env.now c.args.taking.now (held c.args.value) c.requires c.in-AtKey.key c.in-AtKey.is)
+
+pub evaluate::taken-element-requires : goal.evaluate::taken-element-requires
+evaluate::taken-element-requires t c =
+    subst (HasElements (held c.args.value)) (sym c.value.ensures)
+    (has_elements c.args.context.now.functions.now c.args.context.now.env.now c.args.taking.now (held c.args.value) c.requires c.evaluation_law.ensures.never_stuck c.args.context.now.depth c.args.turns.now _
+    c.in-Element.index _ c.in_ok-index-in-Element.ensures c.in-Element.is)
+
+pub evaluate::taken-at_key-requires : goal.evaluate::taken-at_key-requires
+evaluate::taken-at_key-requires t c =
+    subst (HasKeys (held c.args.value)) (sym c.value-in-AtKey.ensures)
+    (has_keys c.args.context.now.functions.now c.args.context.now.env.now c.args.taking.now (held c.args.value) c.requires c.evaluation_law.ensures.never_stuck c.args.context.now.depth c.args.turns.now _
+    c.in-AtKey.key _ c.in_ok-key-in-AtKey.ensures c.in-AtKey.is)
+
+pub evaluate::is_true-truth_of-requires : goal.evaluate::is_true-truth_of-requires
+evaluate::is_true-truth_of-requires t c =
+    subst (λ v. IsTrue (fits T.Bool v)) (sym c.value.ensures)
+    (of_type c.evaluation_law.ensures.never_stuck c.args.context.now.functions.now c.args.context.now.env.now c.args.context.now.depth c.args.code.now T.Bool c.requires c.args.turns.now _ _ c.in_ok-held.ensures)
+
+pub evaluate::binary-is_true-requires : goal.evaluate::binary-is_true-requires
+evaluate::binary-is_true-requires t c =
+    (omega arith, and_left c.args.context.now.functions.now c.args.context.now.env.now c.args.operator c.args.left.now c.args.right.now c.requires c.in-And.is)
+
+pub evaluate::binary-eval_at-requires : goal.evaluate::binary-eval_at-requires
+evaluate::binary-eval_at-requires t c =
+    (omega arith, right_is_fit c.args.context.now.functions.now c.args.context.now.env.now c.args.operator c.args.left.now c.args.right.now c.requires)
+
+pub evaluate::binary-is_true-requires-in-Or : goal.evaluate::binary-is_true-requires-in-Or
+evaluate::binary-is_true-requires-in-Or t c =
+    (omega arith, or_left c.args.context.now.functions.now c.args.context.now.env.now c.args.operator c.args.left.now c.args.right.now c.requires c.in-Or.is)
+
+pub evaluate::binary-eval_at-requires-in-Or : goal.evaluate::binary-eval_at-requires-in-Or
+evaluate::binary-eval_at-requires-in-Or t c =
+    (omega arith, right_is_fit c.args.context.now.functions.now c.args.context.now.env.now c.args.operator c.args.left.now c.args.right.now c.requires)
+
+pub evaluate::binary-eval_at-requires-in_default : goal.evaluate::binary-eval_at-requires-in_default
+evaluate::binary-eval_at-requires-in_default t c =
+    (omega arith, left_is_fit c.args.context.now.functions.now c.args.context.now.env.now c.args.operator c.args.left.now c.args.right.now c.requires)
+
+pub evaluate::binary-eval_at-requires-in_default-2 : goal.evaluate::binary-eval_at-requires-in_default-2
+evaluate::binary-eval_at-requires-in_default-2 t c =
+    (omega arith, right_is_fit c.args.context.now.functions.now c.args.context.now.env.now c.args.operator c.args.left.now c.args.right.now c.requires)
+
+pub evaluate::binary-binary_of-requires : goal.evaluate::binary-binary_of-requires
+evaluate::binary-binary_of-requires t c =
+    subst (λ v. FitBinary c.args.operator v c.value-in_default.result.now) (sym c.value.ensures)
+    (subst (FitBinary c.args.operator _) (sym c.value-in_default.ensures)
+    (binary_of_operands c.evaluation_law.ensures.never_stuck c.args.context.now.functions.now c.args.context.now.env.now c.args.context.now.depth (C.Binary c.args.operator c.args.left.now c.args.right.now) c.requires
+    c.args.operator c.args.left.now c.args.right.now refl c.args.turns.now _ _ _ _ c.in_ok-left-in_default.ensures c.in_ok-right-in_default.ensures c.in_default.not-And c.in_default.not-Or))
+
+pub evaluate::binary-returns-in_err-binary_of-in_default : goal.evaluate::binary-returns-in_err-binary_of-in_default
+evaluate::binary-returns-in_err-binary_of-in_default t c =
+    stops_held _ _ _ _ c.from_residual-in_err-binary_of-in_default.ensures.1
+    (stops_by _ _ _
+    (operands_are c.args.operator (code_value (calls_of c.args.context.now.functions.now c.args.context.now.depth) c.args.left.now) (code_value (calls_of c.args.context.now.functions.now c.args.context.now.depth) c.args.right.now)
+    (world_of c.args.context.now.env.now) c.args.turns.now c.in_default.not-And c.in_default.not-Or _ _ c.in_ok-left-in_default.ensures _ _ c.in_ok-right-in_default.ensures
+    ∙ (λ i. settled (binary_of c.args.operator (sym c.value.ensures i) (sym c.value-in_default.ensures i)) c.eval_at-in_default-2.new.turns))
+    (settled_stops _ _ c.eval_at-in_default-2.new.turns c.in_err-binary_of-in_default.ensures))
+
+pub evaluate::binary-returns-in_ok-binary_of-in_default : goal.evaluate::binary-returns-in_ok-binary_of-in_default
+evaluate::binary-returns-in_ok-binary_of-in_default t c =
+    operands_are c.args.operator (code_value (calls_of c.args.context.now.functions.now c.args.context.now.depth) c.args.left.now) (code_value (calls_of c.args.context.now.functions.now c.args.context.now.depth) c.args.right.now)
+    (world_of c.args.context.now.env.now) c.args.turns.now c.in_default.not-And c.in_default.not-Or _ _ c.in_ok-left-in_default.ensures _ _ c.in_ok-right-in_default.ensures
+    ∙ (λ i. settled (binary_of c.args.operator (sym c.value.ensures i) (sym c.value-in_default.ensures i)) c.eval_at-in_default-2.new.turns)
+    ∙ ap (λ o. settled o c.eval_at-in_default-2.new.turns) c.in_ok-binary_of-in_default.ensures
+
+pub evaluate::built_in-eval_at-requires : goal.evaluate::built_in-eval_at-requires
+evaluate::built_in-eval_at-requires t c = (
+  omega arith,
+  let within : 0 < length c.args.codes.now = omega arith in
+      built_in_is_fit c.args.context.now.functions.now c.args.context.now.env.now (C.BuiltIn c.args.call c.args.codes.now) c.requires c.args.call c.args.codes.now refl 0 c.first-item.result
+      (slice_get_read c.args.codes.now (length c.args.codes.now) 0 c.first-item.result refl within c.first-item.is),
+)
+
+pub evaluate::built_in-returns-in_err-first-in-len1 : goal.evaluate::built_in-returns-in_err-first-in-len1
+evaluate::built_in-returns-in_err-first-in-len1 t c =
+    called_stops (calls_of c.args.context.now.functions.now c.args.context.now.depth) (world_of c.args.context.now.env.now) c.args.call c.args.codes.now c.args.turns.now _ _ _ c.from_residual.ensures.1
+    (one_stops (calls_of c.args.context.now.functions.now c.args.context.now.depth) (world_of c.args.context.now.env.now) c.args.codes.now c.args.turns.now c.first-item.result (is_one c.args.codes.now c.first-item.result c.in-len1.len_at_least c.in-len1.len_below c.first-item.is) _ c.in_err-first-in-len1.ensures)
+
+pub evaluate::built_in-one_argument-requires : goal.evaluate::built_in-one_argument-requires
+evaluate::built_in-one_argument-requires t c =
+    subst (FitBuiltIn c.args.call) (sym (λ i. c.value.ensures i ∷ []))
+    (built_in_of_arguments c.evaluation_law.ensures.never_stuck c.args.context.now.functions.now c.args.context.now.env.now c.args.context.now.depth (C.BuiltIn c.args.call c.args.codes.now) c.requires c.args.call c.args.codes.now refl c.args.turns.now _ _
+    (one_value (calls_of c.args.context.now.functions.now c.args.context.now.depth) (world_of c.args.context.now.env.now) c.args.codes.now c.args.turns.now c.first-item.result (is_one c.args.codes.now c.first-item.result c.in-len1.len_at_least c.in-len1.len_below c.first-item.is) _ _ c.in_ok-first-in-len1.ensures))
+
+pub evaluate::built_in-returns-in_ok-first-in-len1 : goal.evaluate::built_in-returns-in_ok-first-in-len1
+evaluate::built_in-returns-in_ok-first-in-len1 t c =
+    called_answers (calls_of c.args.context.now.functions.now c.args.context.now.depth) (world_of c.args.context.now.env.now) c.args.call c.args.codes.now c.args.turns.now _ _ _ _
+    (one_value (calls_of c.args.context.now.functions.now c.args.context.now.depth) (world_of c.args.context.now.env.now) c.args.codes.now c.args.turns.now c.first-item.result (is_one c.args.codes.now c.first-item.result c.in-len1.len_at_least c.in-len1.len_below c.first-item.is) _ _ c.in_ok-first-in-len1.ensures)
+    (λ i. c.value.ensures i ∷ []) c.one_argument.ensures
+
+pub evaluate::built_in-eval_at-requires-in-len2 : goal.evaluate::built_in-eval_at-requires-in-len2
+evaluate::built_in-eval_at-requires-in-len2 t c = (
+  omega arith,
+  let within : 0 < length c.args.codes.now = omega arith in
+      built_in_is_fit c.args.context.now.functions.now c.args.context.now.env.now (C.BuiltIn c.args.call c.args.codes.now) c.requires c.args.call c.args.codes.now refl 0 c.first-item-then-codes-lt3.result
+      (slice_get_read c.args.codes.now (length c.args.codes.now) 0 c.first-item-then-codes-lt3.result refl within c.first-item-then-codes-lt3.is),
+)
+
+pub evaluate::built_in-eval_at-requires-in-len2-2 : goal.evaluate::built_in-eval_at-requires-in-len2-2
+evaluate::built_in-eval_at-requires-in-len2-2 t c = (
+  omega arith,
+  let within : 1 < length c.args.codes.now = omega arith in
+      built_in_is_fit c.args.context.now.functions.now c.args.context.now.env.now (C.BuiltIn c.args.call c.args.codes.now) c.requires c.args.call c.args.codes.now refl 1 c.second-item.result
+      (slice_get_read c.args.codes.now (length c.args.codes.now) 1 c.second-item.result refl within c.second-item.is),
+)
+
+pub evaluate::built_in-returns-in_err-first-in-len2 : goal.evaluate::built_in-returns-in_err-first-in-len2
+evaluate::built_in-returns-in_err-first-in-len2 t c =
+    called_stops (calls_of c.args.context.now.functions.now c.args.context.now.depth) (world_of c.args.context.now.env.now) c.args.call c.args.codes.now c.args.turns.now _ _ _ c.from_residual-in_err-first-in-len2.ensures.1
+    (first_of_two_stops (calls_of c.args.context.now.functions.now c.args.context.now.depth) (world_of c.args.context.now.env.now) c.args.codes.now c.args.turns.now c.first-item-then-codes-lt3.result c.second-item.result (are_two c.args.codes.now c.first-item-then-codes-lt3.result c.second-item.result c.in-len2.len_at_least c.in-len2.len_below c.first-item-then-codes-lt3.is c.second-item.is) _ c.in_err-first-in-len2.ensures)
+
+pub evaluate::built_in-returns-in_err-second-in-len2 : goal.evaluate::built_in-returns-in_err-second-in-len2
+evaluate::built_in-returns-in_err-second-in-len2 t c =
+    called_stops (calls_of c.args.context.now.functions.now c.args.context.now.depth) (world_of c.args.context.now.env.now) c.args.call c.args.codes.now c.args.turns.now _ _ _ c.from_residual-in_err-second-in-len2.ensures.1
+    (second_of_two_stops (calls_of c.args.context.now.functions.now c.args.context.now.depth) (world_of c.args.context.now.env.now) c.args.codes.now c.args.turns.now c.first-item-then-codes-lt3.result c.second-item.result (are_two c.args.codes.now c.first-item-then-codes-lt3.result c.second-item.result c.in-len2.len_at_least c.in-len2.len_below c.first-item-then-codes-lt3.is c.second-item.is) _ _ c.in_ok-first-in-len2.ensures _ c.in_err-second-in-len2.ensures)
+
+pub evaluate::built_in-two_arguments-requires : goal.evaluate::built_in-two_arguments-requires
+evaluate::built_in-two_arguments-requires t c =
+    subst (FitBuiltIn c.args.call) (sym (λ i. c.value-in-len2.ensures i ∷ c.value-in-len2-2.ensures i ∷ []))
+    (built_in_of_arguments c.evaluation_law.ensures.never_stuck c.args.context.now.functions.now c.args.context.now.env.now c.args.context.now.depth (C.BuiltIn c.args.call c.args.codes.now) c.requires c.args.call c.args.codes.now refl c.args.turns.now _ _
+    (two_values (calls_of c.args.context.now.functions.now c.args.context.now.depth) (world_of c.args.context.now.env.now) c.args.codes.now c.args.turns.now c.first-item-then-codes-lt3.result c.second-item.result (are_two c.args.codes.now c.first-item-then-codes-lt3.result c.second-item.result c.in-len2.len_at_least c.in-len2.len_below c.first-item-then-codes-lt3.is c.second-item.is) _ _ c.in_ok-first-in-len2.ensures _ _ c.in_ok-second-in-len2.ensures))
+
+pub evaluate::built_in-returns-in_ok-second-in-len2 : goal.evaluate::built_in-returns-in_ok-second-in-len2
+evaluate::built_in-returns-in_ok-second-in-len2 t c =
+    called_answers (calls_of c.args.context.now.functions.now c.args.context.now.depth) (world_of c.args.context.now.env.now) c.args.call c.args.codes.now c.args.turns.now _ _ _ _
+    (two_values (calls_of c.args.context.now.functions.now c.args.context.now.depth) (world_of c.args.context.now.env.now) c.args.codes.now c.args.turns.now c.first-item-then-codes-lt3.result c.second-item.result (are_two c.args.codes.now c.first-item-then-codes-lt3.result c.second-item.result c.in-len2.len_at_least c.in-len2.len_below c.first-item-then-codes-lt3.is c.second-item.is) _ _ c.in_ok-first-in-len2.ensures _ _ c.in_ok-second-in-len2.ensures)
+    (λ i. c.value-in-len2.ensures i ∷ c.value-in-len2-2.ensures i ∷ []) c.two_arguments.ensures
+
+pub evaluate::built_in-eval_at-requires-in-len3 : goal.evaluate::built_in-eval_at-requires-in-len3
+evaluate::built_in-eval_at-requires-in-len3 t c = (
+  omega arith,
+  let within : 0 < length c.args.codes.now = omega arith in
+      built_in_is_fit c.args.context.now.functions.now c.args.context.now.env.now (C.BuiltIn c.args.call c.args.codes.now) c.requires c.args.call c.args.codes.now refl 0 c.first-item-then-codes-lt4.result
+      (slice_get_read c.args.codes.now (length c.args.codes.now) 0 c.first-item-then-codes-lt4.result refl within c.first-item-then-codes-lt4.is),
+)
+
+pub evaluate::built_in-eval_at-requires-in-len3-2 : goal.evaluate::built_in-eval_at-requires-in-len3-2
+evaluate::built_in-eval_at-requires-in-len3-2 t c = (
+  omega arith,
+  let within : 1 < length c.args.codes.now = omega arith in
+      built_in_is_fit c.args.context.now.functions.now c.args.context.now.env.now (C.BuiltIn c.args.call c.args.codes.now) c.requires c.args.call c.args.codes.now refl 1 c.second-item-then-codes-lt4.result
+      (slice_get_read c.args.codes.now (length c.args.codes.now) 1 c.second-item-then-codes-lt4.result refl within c.second-item-then-codes-lt4.is),
+)
+
+pub evaluate::built_in-eval_at-requires-in-len3-3 : goal.evaluate::built_in-eval_at-requires-in-len3-3
+evaluate::built_in-eval_at-requires-in-len3-3 t c = (
+  omega arith,
+  let within : 2 < length c.args.codes.now = omega arith in
+      built_in_is_fit c.args.context.now.functions.now c.args.context.now.env.now (C.BuiltIn c.args.call c.args.codes.now) c.requires c.args.call c.args.codes.now refl 2 c.third-item.result
+      (slice_get_read c.args.codes.now (length c.args.codes.now) 2 c.third-item.result refl within c.third-item.is),
+)
+
+pub evaluate::built_in-returns-in_err-first-in-len3 : goal.evaluate::built_in-returns-in_err-first-in-len3
+evaluate::built_in-returns-in_err-first-in-len3 t c =
+    called_stops (calls_of c.args.context.now.functions.now c.args.context.now.depth) (world_of c.args.context.now.env.now) c.args.call c.args.codes.now c.args.turns.now _ _ _ c.from_residual-in_err-first-in-len3.ensures.1
+    (first_of_three_stops (calls_of c.args.context.now.functions.now c.args.context.now.depth) (world_of c.args.context.now.env.now) c.args.codes.now c.args.turns.now c.first-item-then-codes-lt4.result c.second-item-then-codes-lt4.result c.third-item.result (are_three c.args.codes.now c.first-item-then-codes-lt4.result c.second-item-then-codes-lt4.result c.third-item.result c.in-len3.len_at_least c.in-len3.len_below c.first-item-then-codes-lt4.is c.second-item-then-codes-lt4.is c.third-item.is) _ c.in_err-first-in-len3.ensures)
+
+pub evaluate::built_in-returns-in_err-second-in-len3 : goal.evaluate::built_in-returns-in_err-second-in-len3
+evaluate::built_in-returns-in_err-second-in-len3 t c =
+    called_stops (calls_of c.args.context.now.functions.now c.args.context.now.depth) (world_of c.args.context.now.env.now) c.args.call c.args.codes.now c.args.turns.now _ _ _ c.from_residual-in_err-second-in-len3.ensures.1
+    (second_of_three_stops (calls_of c.args.context.now.functions.now c.args.context.now.depth) (world_of c.args.context.now.env.now) c.args.codes.now c.args.turns.now c.first-item-then-codes-lt4.result c.second-item-then-codes-lt4.result c.third-item.result (are_three c.args.codes.now c.first-item-then-codes-lt4.result c.second-item-then-codes-lt4.result c.third-item.result c.in-len3.len_at_least c.in-len3.len_below c.first-item-then-codes-lt4.is c.second-item-then-codes-lt4.is c.third-item.is) _ _ c.in_ok-first-in-len3.ensures _ c.in_err-second-in-len3.ensures)
+
+pub evaluate::built_in-returns-in_err-third-in-len3 : goal.evaluate::built_in-returns-in_err-third-in-len3
+evaluate::built_in-returns-in_err-third-in-len3 t c =
+    called_stops (calls_of c.args.context.now.functions.now c.args.context.now.depth) (world_of c.args.context.now.env.now) c.args.call c.args.codes.now c.args.turns.now _ _ _ c.from_residual-in_err-third-in-len3.ensures.1
+    (third_of_three_stops (calls_of c.args.context.now.functions.now c.args.context.now.depth) (world_of c.args.context.now.env.now) c.args.codes.now c.args.turns.now c.first-item-then-codes-lt4.result c.second-item-then-codes-lt4.result c.third-item.result (are_three c.args.codes.now c.first-item-then-codes-lt4.result c.second-item-then-codes-lt4.result c.third-item.result c.in-len3.len_at_least c.in-len3.len_below c.first-item-then-codes-lt4.is c.second-item-then-codes-lt4.is c.third-item.is) _ _ c.in_ok-first-in-len3.ensures _ _ c.in_ok-second-in-len3.ensures _ c.in_err-third-in-len3.ensures)
+
+pub evaluate::built_in-three_arguments-requires : goal.evaluate::built_in-three_arguments-requires
+evaluate::built_in-three_arguments-requires t c =
+    subst (FitBuiltIn c.args.call) (sym (λ i. c.value-in-len3.ensures i ∷ c.value-in-len3-2.ensures i ∷ c.value-in-len3-3.ensures i ∷ []))
+    (built_in_of_arguments c.evaluation_law.ensures.never_stuck c.args.context.now.functions.now c.args.context.now.env.now c.args.context.now.depth (C.BuiltIn c.args.call c.args.codes.now) c.requires c.args.call c.args.codes.now refl c.args.turns.now _ _
+    (three_values (calls_of c.args.context.now.functions.now c.args.context.now.depth) (world_of c.args.context.now.env.now) c.args.codes.now c.args.turns.now c.first-item-then-codes-lt4.result c.second-item-then-codes-lt4.result c.third-item.result (are_three c.args.codes.now c.first-item-then-codes-lt4.result c.second-item-then-codes-lt4.result c.third-item.result c.in-len3.len_at_least c.in-len3.len_below c.first-item-then-codes-lt4.is c.second-item-then-codes-lt4.is c.third-item.is) _ _ c.in_ok-first-in-len3.ensures _ _ c.in_ok-second-in-len3.ensures _ _ c.in_ok-third-in-len3.ensures))
+
+pub evaluate::built_in-returns-in_ok-third-in-len3 : goal.evaluate::built_in-returns-in_ok-third-in-len3
+evaluate::built_in-returns-in_ok-third-in-len3 t c =
+    called_answers (calls_of c.args.context.now.functions.now c.args.context.now.depth) (world_of c.args.context.now.env.now) c.args.call c.args.codes.now c.args.turns.now _ _ _ _
+    (three_values (calls_of c.args.context.now.functions.now c.args.context.now.depth) (world_of c.args.context.now.env.now) c.args.codes.now c.args.turns.now c.first-item-then-codes-lt4.result c.second-item-then-codes-lt4.result c.third-item.result (are_three c.args.codes.now c.first-item-then-codes-lt4.result c.second-item-then-codes-lt4.result c.third-item.result c.in-len3.len_at_least c.in-len3.len_below c.first-item-then-codes-lt4.is c.second-item-then-codes-lt4.is c.third-item.is) _ _ c.in_ok-first-in-len3.ensures _ _ c.in_ok-second-in-len3.ensures _ _ c.in_ok-third-in-len3.ensures)
+    (λ i. c.value-in-len3.ensures i ∷ c.value-in-len3-2.ensures i ∷ c.value-in-len3-3.ensures i ∷ []) c.three_arguments.ensures
+
+pub evaluate::built_in-unreachable-requires : goal.evaluate::built_in-unreachable-requires
+evaluate::built_in-unreachable-requires t c =
+    let few = one_to_three c.args.context.now.functions.now c.args.context.now.env.now c.args.call c.args.codes.now c.requires in
+    grind (arith, few.0, few.1)
+
+-- ---- places
+
+pub run::step_values-loop-taking-init : goal.run::step_values-loop-taking-init
+run::step_values-loop-taking-init t c = record {
+  comes = steps_start (bodies_of c.args.context.now.functions.now c.args.context.now.depth) (state c.args.context.now.env.now []) c.args.takings.now c.new-steps.result c.args.turns.now c.new-steps.ensures;
+  others = c.requires;
+}
+
+pub run::step_values-step_value-requires : goal.run::step_values-step_value-requires
+run::step_values-step_value-requires t c = (omega arith, next_step_is_fit c.args.context.now.functions.now c.args.context.now.env.now c.args.takings.now c.loop-taking.taking-index c.loop-taking.invariant.others c.taking-item.result c.loop-taking-test.true c.taking-item.is)
+
+pub run::step_values-loop-taking-preserved : goal.run::step_values-loop-taking-preserved
+run::step_values-loop-taking-preserved t c = record {
+  comes = c.loop-taking.invariant.comes
+      ∙ steps_on (bodies_of c.args.context.now.functions.now c.args.context.now.depth) (state c.args.context.now.env.now []) c.args.takings.now c.loop-taking.taking-index c.loop-taking.steps c.loop-taking.turns c.taking-item.result c.loop-taking-test.true c.taking-item.is _ _ _ c.in_ok-step.ensures c.in_ok-push.ensures.ok;
+  others = later_steps_are_fit c.args.context.now.functions.now c.args.context.now.env.now c.args.takings.now c.loop-taking.taking-index c.loop-taking.invariant.others c.taking-item.result c.loop-taking-test.true c.taking-item.is;
+}
+
+pub run::step_values-returns : goal.run::step_values-returns
+run::step_values-returns t c = c.loop-taking.invariant.comes ∙ steps_past (bodies_of c.args.context.now.functions.now c.args.context.now.depth) (state c.args.context.now.env.now []) c.args.takings.now c.loop-taking.taking-index c.loop-taking.steps c.loop-taking.turns c.loop-taking-test.false
+
+pub run::step_values-returns-in_err-step : goal.run::step_values-returns-in_err-step
+run::step_values-returns-in_err-step t c =
+    stops _ _ _ _ c.from_residual.ensures.1
+    (stops_by _ _ _ c.loop-taking.invariant.comes (steps_stop (bodies_of c.args.context.now.functions.now c.args.context.now.depth) (state c.args.context.now.env.now []) c.args.takings.now c.loop-taking.taking-index c.loop-taking.steps c.loop-taking.turns c.taking-item.result c.loop-taking-test.true c.taking-item.is _ c.in_err-step.ensures))
+
+pub run::steps_taken-loop-taking-init : goal.run::steps_taken-loop-taking-init
+run::steps_taken-loop-taking-init t c = record {
+  comes = taken_begins c.args.context.now.functions.now c.args.place.now c.args.context.now.env.now c.requires c.as_slice.result.now c.as_slice.ensures
+      c.index-as_slice-place.result c.index-as_slice-place.is c.as_slice-taking-items.result.now c.as_slice-taking-items.ensures
+      (bodies_of c.args.context.now.functions.now c.args.context.now.depth) c.new-steps.result c.new-steps.ensures c.args.turns.now;
+  others = steps_begin c.args.context.now.functions.now c.args.place.now c.args.context.now.env.now c.requires c.as_slice.result.now c.as_slice.ensures
+      c.index-as_slice-place.result c.index-as_slice-place.is c.as_slice-taking-items.result.now c.as_slice-taking-items.ensures;
+}
+
+pub run::steps_taken-step_value-requires : goal.run::steps_taken-step_value-requires
+run::steps_taken-step_value-requires t c = (omega arith, first_step_is_fit c.args.context.now.functions.now c.args.context.now.env.now c.as_slice-taking-items.result.now c.loop-taking.taking-index (held c.loop-taking.value) c.loop-taking.invariant.others c.taking-item.result c.loop-taking-test.true c.taking-item.is)
+
+pub run::steps_taken-returns-in_err-step : goal.run::steps_taken-returns-in_err-step
+run::steps_taken-returns-in_err-step t c = λ v at.
+    stops _ _ _ _ c.from_residual.ensures.1
+    (stops_by _ _ _ (c.loop-taking.invariant.comes v at) (taken_stop_at_value (bodies_of c.args.context.now.functions.now c.args.context.now.depth) (state c.args.context.now.env.now []) c.as_slice-taking-items.result.now c.loop-taking.taking-index (held c.loop-taking.value) c.loop-taking.steps c.loop-taking.turns c.taking-item.result c.loop-taking-test.true c.taking-item.is _ c.in_err-step.ensures))
+
+pub run::steps_taken-step_of-requires : goal.run::steps_taken-step_of-requires
+run::steps_taken-step_of-requires t c =
+    step_fits c.args.context.now.functions.now c.args.context.now.env.now c.as_slice-taking-items.result.now c.loop-taking.taking-index (held c.loop-taking.value) c.loop-taking.invariant.others c.taking-item.result c.loop-taking-test.true c.taking-item.is c.evaluation_law.ensures.never_stuck c.args.context.now.depth c.loop-taking.turns _ _ c.in_ok-step.ensures
+
+pub run::steps_taken-returns-in_err-value : goal.run::steps_taken-returns-in_err-value
+run::steps_taken-returns-in_err-value t c = λ v at.
+    stops _ _ _ _ c.from_residual-in_err-value.ensures.1
+    (stops_by _ _ _ (c.loop-taking.invariant.comes v at)
+    (taken_stop_at_step (bodies_of c.args.context.now.functions.now c.args.context.now.depth) (state c.args.context.now.env.now []) c.as_slice-taking-items.result.now c.loop-taking.taking-index (held c.loop-taking.value) c.loop-taking.steps c.loop-taking.turns c.taking-item.result c.loop-taking-test.true c.taking-item.is _ _ c.in_ok-step.ensures _ c.in_err-value.ensures))
+
+pub run::steps_taken-loop-taking-preserved : goal.run::steps_taken-loop-taking-preserved
+run::steps_taken-loop-taking-preserved t c = record {
+  comes = λ v at. c.loop-taking.invariant.comes v at
+      ∙ taken_on (bodies_of c.args.context.now.functions.now c.args.context.now.depth) (state c.args.context.now.env.now []) c.as_slice-taking-items.result.now c.loop-taking.taking-index (held c.loop-taking.value) c.loop-taking.steps c.loop-taking.turns c.taking-item.result c.loop-taking-test.true c.taking-item.is _ _ c.in_ok-step.ensures _ _ c.in_ok-value.ensures c.in_ok-push.ensures.ok;
+  others = others_fit c.args.context.now.functions.now c.args.context.now.env.now c.as_slice-taking-items.result.now c.loop-taking.taking-index (held c.loop-taking.value) c.loop-taking.invariant.others c.taking-item.result c.loop-taking-test.true c.taking-item.is c.evaluation_law.ensures.never_stuck c.args.context.now.depth c.loop-taking.turns _ _ c.in_ok-step.ensures
+      _ c.in_ok-value.ensures;
+}
+
+pub run::steps_taken-returns : goal.run::steps_taken-returns
+run::steps_taken-returns t c = λ v at. c.loop-taking.invariant.comes v at ∙ taken_past (bodies_of c.args.context.now.functions.now c.args.context.now.depth) (state c.args.context.now.env.now []) c.as_slice-taking-items.result.now c.loop-taking.taking-index (held c.loop-taking.value) c.loop-taking.steps c.loop-taking.turns c.loop-taking-test.false
+
+pub run::run_change-returns-in_err-steps : goal.run::run_change-returns-in_err-steps
+run::run_change-returns-in_err-steps t c = λ submits.
+    leads_next_stops _ _ _ _ _ c.from_residual.ensures.1
+    (place_change_stops (bodies_of c.args.program.now.functions.now c.args.program.now.depth) c.args.env.now submits c.args.place.now c.args.change.now c.args.turns.now _ c.in_err-steps.ensures)
+
+pub run::run_change-change_variable-requires : goal.run::run_change-change_variable-requires
+run::run_change-change_variable-requires t c =
+    subst (λ steps. CanChangeAt c.args.place.now.variable steps c.in_ok-steps.change c.args.env.now) (sym c.as_slice.ensures)
+    (can_change c.evaluation_law.ensures.never_stuck c.args.program.now.functions.now c.args.program.now.depth c.args.place.now c.args.env.now c.args.change.now c.requires c.args.turns.now _ (c.in_ok-steps.steps, c.in_ok-steps.change) c.in_ok-steps.ensures)
+
+pub run::run_change-returns : goal.run::run_change-returns
+run::run_change-returns t c = λ submits.
+    leads_next_by _ _ _ _ _
+    (place_change_done (bodies_of c.args.program.now.functions.now c.args.program.now.depth) c.args.env.now submits c.args.place.now c.args.change.now c.args.turns.now (c.in_ok-steps.steps, c.in_ok-steps.change) _ c.in_ok-steps.ensures
+    ∙ ap (λ steps. changed_at c.args.place.now.variable steps c.in_ok-steps.change (state c.args.env.now submits) c.change_values.new.turns) (sym c.as_slice.ensures))
+    (c.change_variable.ensures submits _)
+
+-- ---- functions
+
+pub run::run_function-run_scoped-requires : goal.run::run_function-run_scoped-requires
+run::run_function-run_scoped-requires t c = (omega arith, body_is_fit c.args.context.now.functions.now c.args.place c.args.values c.requires c.in-Some.function.now (sym c.in-Some.ensures.value) c.as_slice-row.result.now c.as_slice-row.ensures c.new.result c.new.ensures)
+
+pub run::run_function-returns-in_err-flow : goal.run::run_function-returns-in_err-flow
+run::run_function-returns-in_err-flow t c =
+    stops _ _ _ _ c.from_residual-in_err-flow.ensures.1
+    (stops_by _ _ _ (ap (λ turns. enter turns (λ turns. bodies_of c.args.context.now.functions.now c.args.context.now.depth c.args.place c.args.values turns)) c.in_ok-enter.ensures)
+    (body_stops c.args.context.now.functions.now c.args.place c.args.values c.requires c.in-Some.function.now (sym c.in-Some.ensures.value) c.args.context.now.depth c.enter.new.turns c.if-context-eq0.false c.as_slice-row.result.now c.as_slice-row.ensures c.new.result c.new.ensures c.new-submits.result c.new-submits.ensures _ c.in_err-flow.ensures))
+
+pub run::run_function-returned_by-requires : goal.run::run_function-returned_by-requires
+run::run_function-returned_by-requires t c =
+    returned_there c.args.context.now.functions.now c.args.place c.args.values c.requires c.in-Some.function.now (sym c.in-Some.ensures.value) c.evaluation_law.ensures.bodies _ c.enter.new.turns c.as_slice-row.result.now c.as_slice-row.ensures c.new.result c.new.ensures c.new-submits.result c.new-submits.ensures _ _ c.in_ok-flow.ensures
+
+pub run::run_function-returns : goal.run::run_function-returns
+run::run_function-returns t c =
+    ap (λ turns. enter turns (λ turns. bodies_of c.args.context.now.functions.now c.args.context.now.depth c.args.place c.args.values turns)) c.in_ok-enter.ensures
+    ∙ body_done c.args.context.now.functions.now c.args.place c.args.values c.requires c.in-Some.function.now (sym c.in-Some.ensures.value) c.args.context.now.depth c.enter.new.turns c.if-context-eq0.false c.as_slice-row.result.now c.as_slice-row.ensures c.new.result c.new.ensures c.new-submits.result c.new-submits.ensures _ _ _ c.in_ok-flow.ensures c.returned_by.ensures
+
+pub evaluate::call-run_function-requires : goal.evaluate::call-run_function-requires
+evaluate::call-run_function-requires t c = (omega arith, called_is_fit c.args.context.now.functions.now c.args.place c.args.values c.requires)
+
+pub evaluate::call-unreachable-requires : goal.evaluate::call-unreachable-requires
+evaluate::call-unreachable-requires t c =
+    result_there c.args.context.now.functions.now c.args.place c.args.values c.requires c.evaluation_law.ensures.bodies c.args.context.now.depth c.args.turns.now _ _ c.in_ok-value.ensures c.in-None.is
+
+pub evaluate::call-returns-in_err-value : goal.evaluate::call-returns-in_err-value
+evaluate::call-returns-in_err-value t c =
+    stops _ _ _ _ c.from_residual.ensures.1 (value_stops c.args.context.now.functions.now c.args.place c.args.values c.args.context.now.depth c.args.turns.now _ c.in_err-value.ensures)
+
+pub evaluate::call-returns : goal.evaluate::call-returns
+evaluate::call-returns t c =
+    value_done c.args.context.now.functions.now c.args.place c.args.values c.args.context.now.depth c.args.turns.now _ _ _ c.in_ok-value.ensures c.in-Some.is
+
+pub run::run_statement-returns-in_err-run_change-in-Change : goal.run::run_statement-returns-in_err-run_change-in-Change
+run::run_statement-returns-in_err-run_change-in-Change t c =
+    change_stops (bodies_of c.args.program.now.functions.now c.args.program.now.depth) c.args.statement.now (state c.args.env.now c.args.submits.now) c.args.turns.now c.in-Change.place c.in-Change.change c.in-Change.is _ _ _ _ c.from_residual-in_err-run_change-in-Change.ensures.1 (c.in_err-run_change-in-Change.ensures c.args.submits.now)
+
+pub run::run_statement-eval_all-requires : goal.run::run_statement-eval_all-requires
+run::run_statement-eval_all-requires t c =
+    (omega (arith, c.in-Some.ensures.0, c.in-Some.ensures.1), arguments_are_fit c.args.program.now.functions.now c.args.statement.now c.args.env.now c.requires c.in-Call.place c.as_slice-in-Call.result.now (c.in-Call.is ∙ (λ i. S.Call c.in-Call.place (sym c.as_slice-in-Call.ensures i))))
+
+pub run::run_statement-returns-in_err-values-in-Call : goal.run::run_statement-returns-in_err-values-in-Call
+run::run_statement-returns-in_err-values-in-Call t c =
+    arguments_stopped (bodies_of c.args.program.now.functions.now c.args.program.now.depth) c.args.statement.now (state c.args.env.now c.args.submits.now) c.args.turns.now c.in-Call.place c.as_slice-in-Call.result.now (c.in-Call.is ∙ (λ i. S.Call c.in-Call.place (sym c.as_slice-in-Call.ensures i))) _ _ _ _ c.from_residual-in_err-values-in-Call.ensures.1 c.in_err-values-in-Call.ensures
+
+pub run::run_statement-run_function-requires : goal.run::run_statement-run_function-requires
+run::run_statement-run_function-requires t c =
+    (omega (arith, c.in-Some.ensures.0, c.in-Some.ensures.1), function_is_fit c.args.program.now.functions.now c.args.statement.now c.args.env.now c.requires c.in-Call.place c.as_slice-in-Call.result.now (c.in-Call.is ∙ (λ i. S.Call c.in-Call.place (sym c.as_slice-in-Call.ensures i))) c.evaluation_law.ensures.never_stuck c.args.program.now.depth c.args.turns.now _ _ c.in_ok-values-in-Call.ensures)
+
+pub run::run_statement-returns-in_err-run_function-in-Call : goal.run::run_statement-returns-in_err-run_function-in-Call
+run::run_statement-returns-in_err-run_function-in-Call t c =
+    function_stops (bodies_of c.args.program.now.functions.now c.args.program.now.depth) c.args.statement.now (state c.args.env.now c.args.submits.now) c.args.turns.now c.in-Call.place c.as_slice-in-Call.result.now (c.in-Call.is ∙ (λ i. S.Call c.in-Call.place (sym c.as_slice-in-Call.ensures i))) _ _ c.in_ok-values-in-Call.ensures _ _ _ _ c.from_residual-in_err-run_function-in-Call.ensures.1 c.in_err-run_function-in-Call.ensures
+
+pub run::run_statement-elements-requires : goal.run::run_statement-elements-requires
+run::run_statement-elements-requires t c =
+    has_loop_values c.args.program.now.functions.now c.args.statement.now c.args.env.now c.requires c.in-For.code c.in-For.row c.in-For.is c.evaluation_law.ensures.never_stuck c.args.program.now.depth c.args.turns.now _ _ c.in_ok-held-in-For.ensures
+
+pub run::run_statement-run_over-requires : goal.run::run_statement-run_over-requires
+run::run_statement-run_over-requires t c =
+    (omega (arith, c.in-Some.ensures.0, c.in-Some.ensures.1), over_is_fit c.args.program.now.functions.now c.args.statement.now c.args.env.now c.requires c.in-For.code c.as_slice-in-For.result.now (c.in-For.is ∙ (λ i. S.For c.in-For.code (sym c.as_slice-in-For.ensures i))) c.evaluation_law.ensures.never_stuck c.args.program.now.depth c.args.turns.now _ _ c.in_ok-held-in-For.ensures _ c.in_ok-values-in-For.ensures)
+
+pub run::run_statement-tuple_values-requires : goal.run::run_statement-tuple_values-requires
+run::run_statement-tuple_values-requires t c =
+    has_tuple c.args.program.now.functions.now c.args.statement.now c.args.env.now c.requires c.in-Submit.port c.in-Submit.code c.in-Submit.is c.evaluation_law.ensures.never_stuck c.args.program.now.depth c.args.turns.now _ _ c.in_ok-value-in-Submit.ensures
+
+pub run::run_statement-returns-in_ok-run_change-in-Change : goal.run::run_statement-returns-in_ok-run_change-in-Change
+run::run_statement-returns-in_ok-run_change-in-Change t c =
+    change_done (bodies_of c.args.program.now.functions.now c.args.program.now.depth) c.args.statement.now (state c.args.env.now c.args.submits.now) c.args.turns.now c.in-Change.place c.in-Change.change c.in-Change.is _ _ (c.in_ok-run_change-in-Change.ensures c.args.submits.now)
+
+pub run::run_statement-returns-in_ok-run_function-in-Call : goal.run::run_statement-returns-in_ok-run_function-in-Call
+run::run_statement-returns-in_ok-run_function-in-Call t c =
+    function_done (bodies_of c.args.program.now.functions.now c.args.program.now.depth) c.args.statement.now (state c.args.env.now c.args.submits.now) c.args.turns.now c.in-Call.place c.as_slice-in-Call.result.now (c.in-Call.is ∙ (λ i. S.Call c.in-Call.place (sym c.as_slice-in-Call.ensures i))) _ _ c.in_ok-values-in-Call.ensures _ _ c.in_ok-run_function-in-Call.ensures
+
+pub run::run_statement-returns-in-If : goal.run::run_statement-returns-in-If
+run::run_statement-returns-in-If t c =
+    if_leads (bodies_of c.args.program.now.functions.now c.args.program.now.depth) c.args.statement.now (state c.args.env.now c.args.submits.now) c.args.turns.now c.as_slice-in-If.result.now c.as_slice-in-If-2.result.now (c.in-If.is ∙ (λ i. S.If (sym c.as_slice-in-If.ensures i) (sym c.as_slice-in-If-2.ensures i))) _ _ _ c.run_if.ensures
+
+pub run::run_statement-returns-in-While : goal.run::run_statement-returns-in-While
+run::run_statement-returns-in-While t c =
+    while_leads (bodies_of c.args.program.now.functions.now c.args.program.now.depth) c.args.statement.now (state c.args.env.now c.args.submits.now) c.args.turns.now c.in-While.code c.as_slice-in-While.result.now (c.in-While.is ∙ (λ i. S.While c.in-While.code (sym c.as_slice-in-While.ensures i))) _ _ _ c.run_while.ensures
+
+pub run::run_statement-own_value-requires-in-Some-result : goal.run::run_statement-own_value-requires-in-Some-result
+run::run_statement-own_value-requires-in-Some-result t c =
+    (omega (arith, c.in-Some.ensures.0, c.in-Some.ensures.1), result_is_fit c.args.program.now.functions.now c.args.statement.now c.args.env.now c.requires c.in-Some-result.code (c.in-Return.is ∙ (λ i. S.Return (c.in-Some-result.is i))))
+
+-- ---- rows and loops
+
+pub run::run_row-run_statement-requires : goal.run::run_row-run_statement-requires
+run::run_row-run_statement-requires t c =
+    (omega arith, statement_is_fit c.args.program.now.functions.now c.args.row.now c.loop-statement.statement-index c.statement-item.result c.loop-statement-test.true c.statement-item.is c.loop-statement.env c.loop-statement.invariant.rest)
+
+pub run::run_row-returns-in_err-flow : goal.run::run_row-returns-in_err-flow
+run::run_row-returns-in_err-flow t c =
+    stops_leading _ _ _ _ _ c.from_residual.ensures.1
+    (stops_by _ _ _ c.loop-statement.invariant.comes
+    (row_stops (bodies_of c.args.program.now.functions.now c.args.program.now.depth) c.args.row.now c.loop-statement.statement-index
+    c.statement-item.result c.loop-statement-test.true c.statement-item.is (state c.loop-statement.env c.loop-statement.submits) c.loop-statement.turns
+    _ c.in_err-flow.ensures))
+
+pub run::run_row-returns-in-Some : goal.run::run_row-returns-in-Some
+run::run_row-returns-in-Some t c =
+    c.loop-statement.invariant.comes
+    ∙ row_ends (bodies_of c.args.program.now.functions.now c.args.program.now.depth) c.args.row.now c.loop-statement.statement-index
+    c.statement-item.result c.loop-statement-test.true c.statement-item.is (state c.loop-statement.env c.loop-statement.submits) c.loop-statement.turns
+    _ _ _ c.in_ok-flow.ensures c.in-Some.end c.in-Some.ensures
+
+pub run::run_row-loop-statement-preserved : goal.run::run_row-loop-statement-preserved
+run::run_row-loop-statement-preserved t c = record {
+  comes = c.loop-statement.invariant.comes
+      ∙ row_on (bodies_of c.args.program.now.functions.now c.args.program.now.depth) c.args.row.now c.loop-statement.statement-index
+      c.statement-item.result c.loop-statement-test.true c.statement-item.is (state c.loop-statement.env c.loop-statement.submits) c.loop-statement.turns
+      _ _ _ c.in_ok-flow.ensures c.in_default.ensures;
+  rest = rest_of_row c.args.program.now.functions.now c.args.row.now c.loop-statement.statement-index c.statement-item.result c.loop-statement-test.true c.statement-item.is c.loop-statement.env
+      c.loop-statement.invariant.rest c.evaluation_law.ensures.statements c.args.program.now.depth c.loop-statement.turns _ c.loop-statement.submits _ _ c.in_ok-flow.ensures;
+}
+
+pub run::run_if-is_true-requires : goal.run::run_if-is_true-requires
+run::run_if-is_true-requires t c =
+    (omega arith, condition_of_arm c.args.program.now.functions.now c.args.arms.now c.args.other.now c.loop-arm.arm-index c.arm-item.result c.loop-arm-test.true c.arm-item.is c.loop-arm.env c.loop-arm.invariant.rest)
+
+pub run::run_if-returns-in_err-is_true : goal.run::run_if-returns-in_err-is_true
+run::run_if-returns-in_err-is_true t c =
+    stops_leading _ _ _ _ _ c.from_residual.ensures.1
+    (stops_by _ _ _ c.loop-arm.invariant.comes
+    (arms_stop (bodies_of c.args.program.now.functions.now c.args.program.now.depth) c.args.arms.now c.args.other.now c.loop-arm.arm-index c.arm-item.result c.loop-arm-test.true c.arm-item.is (state c.loop-arm.env c.loop-arm.submits) c.loop-arm.turns
+    _ c.in_err-is_true.ensures))
+
+pub run::run_if-run_scoped-requires : goal.run::run_if-run_scoped-requires
+run::run_if-run_scoped-requires t c = (
+  omega arith,
+  subst (λ row. RowIsFit c.args.program.now.functions.now row c.loop-arm.env) (sym c.as_slice.ensures)
+      (row_of_arm c.args.program.now.functions.now c.args.arms.now c.args.other.now c.loop-arm.arm-index c.arm-item.result c.loop-arm-test.true c.arm-item.is c.loop-arm.env c.loop-arm.invariant.rest),
+)
+
+pub run::run_if-returns-then-branch : goal.run::run_if-returns-then-branch
+run::run_if-returns-then-branch t c =
+    leads_by _ _ _ _ _
+    (c.loop-arm.invariant.comes
+    ∙ arm_taken (bodies_of c.args.program.now.functions.now c.args.program.now.depth) c.args.arms.now c.args.other.now c.loop-arm.arm-index c.arm-item.result c.loop-arm-test.true c.arm-item.is (state c.loop-arm.env c.loop-arm.submits) c.loop-arm.turns
+    _ _ c.in_ok-is_true.ensures c.if-branch.true
+    ∙ ap (λ row. scoped (row_acts (bodies_of c.args.program.now.functions.now c.args.program.now.depth) row) (state c.loop-arm.env c.loop-arm.submits) c.is_true.new.turns) (sym c.as_slice.ensures))
+    c.run_scoped.ensures
+
+pub run::run_if-loop-arm-preserved : goal.run::run_if-loop-arm-preserved
+run::run_if-loop-arm-preserved t c = record {
+  comes = c.loop-arm.invariant.comes
+      ∙ arm_passed (bodies_of c.args.program.now.functions.now c.args.program.now.depth) c.args.arms.now c.args.other.now c.loop-arm.arm-index c.arm-item.result c.loop-arm-test.true c.arm-item.is (state c.loop-arm.env c.loop-arm.submits) c.loop-arm.turns
+      _ _ c.in_ok-is_true.ensures c.if-branch.false;
+  rest = other_arms c.args.program.now.functions.now c.args.arms.now c.args.other.now c.loop-arm.arm-index c.arm-item.result c.loop-arm-test.true c.arm-item.is c.loop-arm.env c.loop-arm.invariant.rest;
+}
+
+pub run::run_while-returns-in_err-is_true : goal.run::run_while-returns-in_err-is_true
+run::run_while-returns-in_err-is_true t c =
+    stops_leading _ _ _ _ _ c.from_residual.ensures.1
+    (stops_by _ _ _ c.rounds.invariant.comes
+    (while_stops c.rounds.rounds (bodies_of c.args.program.now.functions.now c.args.program.now.depth) c.args.code.now (scoped (row_acts (bodies_of c.args.program.now.functions.now c.args.program.now.depth) c.args.row.now))
+    (state c.rounds.env c.rounds.submits) c.rounds.turns
+    _ c.in_err-is_true.ensures))
+
+pub run::run_while-returns-in_err-enter : goal.run::run_while-returns-in_err-enter
+run::run_while-returns-in_err-enter t c =
+    stops_leading _ _ _ _ _ c.from_residual-in_err-enter.ensures.1
+    (stops_by _ _ _ c.rounds.invariant.comes
+    (while_no_turns c.rounds.rounds (bodies_of c.args.program.now.functions.now c.args.program.now.depth) c.args.code.now (scoped (row_acts (bodies_of c.args.program.now.functions.now c.args.program.now.depth) c.args.row.now))
+    (state c.rounds.env c.rounds.submits) c.rounds.turns
+    _ _ c.in_ok-is_true.ensures c.if-branch.true _ c.in_err-enter.ensures.0 c.in_err-enter.ensures.1))
+
+pub run::run_while-returns-in_err-flow : goal.run::run_while-returns-in_err-flow
+run::run_while-returns-in_err-flow t c =
+    stops_leading _ _ _ _ _ c.from_residual-in_err-flow.ensures.1
+    (stops_by _ _ _ c.rounds.invariant.comes
+    (while_stops_in_turn c.rounds.rounds (bodies_of c.args.program.now.functions.now c.args.program.now.depth) c.args.code.now (scoped (row_acts (bodies_of c.args.program.now.functions.now c.args.program.now.depth) c.args.row.now))
+    (state c.rounds.env c.rounds.submits) c.rounds.turns
+    _ _ c.in_ok-is_true.ensures c.if-branch.true _ c.in_ok-enter.ensures _ c.in_err-flow.ensures))
+
+pub run::run_while-returns-in-Some : goal.run::run_while-returns-in-Some
+run::run_while-returns-in-Some t c =
+    c.rounds.invariant.comes
+    ∙ while_ends c.rounds.rounds (bodies_of c.args.program.now.functions.now c.args.program.now.depth) c.args.code.now (scoped (row_acts (bodies_of c.args.program.now.functions.now c.args.program.now.depth) c.args.row.now))
+    (state c.rounds.env c.rounds.submits) c.rounds.turns
+    _ _ c.in_ok-is_true.ensures c.if-branch.true _ c.in_ok-enter.ensures _ _ _ c.in_ok-flow.ensures c.in-Some.end c.in-Some.ensures
+
+pub run::run_while-rounds-preserved : goal.run::run_while-rounds-preserved
+run::run_while-rounds-preserved t c = record {
+  comes = c.rounds.invariant.comes
+      ∙ while_on c.rounds.rounds (bodies_of c.args.program.now.functions.now c.args.program.now.depth) c.args.code.now (scoped (row_acts (bodies_of c.args.program.now.functions.now c.args.program.now.depth) c.args.row.now))
+      (state c.rounds.env c.rounds.submits) c.rounds.turns
+      _ _ c.in_ok-is_true.ensures c.if-branch.true _ c.in_ok-enter.ensures _ _ _ c.in_ok-flow.ensures c.in_default.ensures c.in-Some-checked_sub.left
+      (omega (arith, c.in-Some-checked_sub.ensures.0, c.in-Some-checked_sub.ensures.1));
+  again = loop_after_turn c.args.program.now.functions.now c.evaluation_law.ensures.statements c.args.code.now c.args.row.now c.rounds.env c.rounds.invariant.again c.args.program.now.depth
+      c.enter.new.turns _ c.rounds.submits _ _ c.in_ok-flow.ensures;
+}
+
+pub run::run_over-values-init : goal.run::run_over-values-init
+run::run_over-values-init t c =
+    let all : c.into_iter-value-iterator.result.rest.items ≡ c.args.values = c.into_iter-value-iterator.ensures.into_iter_gives.0 ∙ c.into_vec-value-items.ensures in record {
+      comes = ap (λ values. turns_over values (row_acts (bodies_of c.args.program.now.functions.now c.args.program.now.depth) c.args.row.now) (state c.args.env.now c.args.submits.now) c.args.turns.now) (sym all);
+      rest = subst (λ values. OverIsFit c.args.program.now.functions.now values c.args.row.now c.args.env.now) (sym all) c.requires;
+    }
+
+pub run::run_over-run_turn-requires : goal.run::run_over-run_turn-requires
+run::run_over-run_turn-requires t c =
+    (omega arith, turn_is_fit c.args.program.now.functions.now c.values.value-iterator.rest.items c.next.new.self.rest.items c.in-Some.value c.args.row.now c.values.env c.in-Some.ensures.steps.0 c.values.invariant.rest)
+
+pub run::run_over-values-preserved : goal.run::run_over-values-preserved
+run::run_over-values-preserved t c = record {
+  comes = c.values.invariant.comes
+      ∙ over_on c.values.value-iterator.rest.items c.next.new.self.rest.items c.in-Some.value (row_acts (bodies_of c.args.program.now.functions.now c.args.program.now.depth) c.args.row.now)
+      c.in-Some.ensures.steps.0 (state c.values.env c.values.submits) c.values.turns _ _ _ c.in_ok-flow.ensures c.in_default.ensures;
+  rest = other_turns c.args.program.now.functions.now c.values.value-iterator.rest.items c.next.new.self.rest.items c.in-Some.value c.args.row.now c.values.env c.in-Some.ensures.steps.0
+      c.values.invariant.rest c.evaluation_law.ensures.statements c.args.program.now.depth c.values.turns _ c.values.submits _ _ c.in_ok-flow.ensures;
+}
+
+pub run::run_turn-run_row-requires : goal.run::run_turn-run_row-requires
+run::run_turn-run_row-requires t c =
+    (omega arith, row_of_turn c.args.program.now.functions.now c.args.value c.args.row.now c.args.env.now c.push.new.self c.requires c.in_ok-push.ensures.ok)

@@ -1,0 +1,455 @@
+//! What statements do, by a call for each form of statement.
+ghost use Rattle.std.specs.Prelude.{◌≡◌, ◌∷◌, [], Some, slice_get};
+ghost use Rattle.std.specs.Prelude.{List};
+ghost use Rattle.stream_model.specs.declared.outs.Output.{Output};
+ghost use Rattle.stream_model.specs.Functions.{bodies_of, runs};
+ghost use Rattle.stream_model.specs.Outcomes.{enter};
+ghost use Rattle.stream_model.specs.Statements.{statement_acts, row_acts, scoped, declared, turns_while, turns_over, change_acts, change_values, step_value, step_values, steps_taken};
+ghost use Rattle.stream_model.specs.StatementLaws.{arms_act};
+ghost use Rattle.expr_eval.specs.Answers.{Answers};
+ghost use Rattle.expr_eval.specs.Running.{StatementIsFit, RowIsFit, ArmsAreFit, LoopIsFit, OverIsFit, PlaceIsFit, ChangeIsFit, StepsAreFit, FunctionIsFit, BodyIsFit, RanAs, ran_as, state, Leads, LeadsNext};
+
+use crate::changes::change_variable;
+use crate::context::{Context, Program};
+use crate::elements::{elements, tuple_values};
+use crate::evaluate::{DEEPEST, eval_all, eval_at, is_true, own_value};
+use crate::flow::{after_statement, after_turn, returned_by};
+use crate::held::Held;
+use crate::slots::{enter, truncate};
+use crate::stop::Stop;
+use crate::taking::step_of;
+use spl_tree::{Body, Change, Code, Functions, Place, Slot, Statement, Taking};
+use spl_value::{FaultKind, Item, Items, Value, Values};
+use std::alloc::Global;
+use stream_model::{Env, Flow, Output, Outs, evaluation_law, statements_law};
+
+/// How the run of a body ended.
+#[derive(Clone, Copy, Debug, PartialEq, Eq)]
+pub enum Ran {
+    Done,
+    Bad(FaultKind),
+    /// There was no memory, or no room for a deeper code or statement.
+    Memory,
+}
+
+/// What a body does to the variables of an environment, and what it submits, behind what `submits`
+/// has. `turns` are those that there are, and then those that are left.
+///
+/// Each turn of a loop and each call of a function takes a turn, and the fault `Turns` comes where none
+/// is left. After a fault, and after `Memory`, variables and submits are such as a part of the body left
+/// them. `Memory` also stands for codes and statements that nest deeper than `DEEPEST`.
+pub fn run_body(
+    alloc: Global,
+    functions: &Functions,
+    body: &Body,
+    env: &mut Env,
+    turns: &mut u32,
+    submits: &mut Outs,
+) -> Ran
+    requires { BodyIsFit functions.now body.now env.old }
+    ensures { RanAs (runs functions.now body.now env.old turns.old) result env.old env.new submits.old submits.new turns.new }
+{
+    evaluation_law();
+    statements_law();
+    let program = Program {
+        alloc,
+        functions,
+        depth: *turns,
+    };
+    let row = body.as_slice();
+    ran_as(&run_scoped(&program, DEEPEST, row, env, turns, submits))
+}
+
+/// How a body ended, by what its row answered.
+fn ran_as(answer: &Result<Flow, Stop>) -> Ran
+    ensures { result ≡ ran_as answer.now }
+{
+    match answer {
+        Ok(_) => Ran::Done,
+        Err(Stop::Fault(kind)) => Ran::Bad(*kind),
+        Err(Stop::Memory) => Ran::Memory,
+    }
+}
+
+// What the codes of a statement are evaluated in.
+macro_rules! in_env {
+    ($program:expr, $env:expr) => {
+        Context {
+            alloc: $program.alloc,
+            functions: &*$program.functions,
+            env: &*$env,
+            depth: $program.depth,
+        }
+    };
+}
+
+/// What a statement does, where codes and statements may nest `room` deep.
+#[cycle(eval)]
+#[tactic(auto, using(stream_model::specs::StatementLaws::statement_laws))]
+fn run_statement<'p>(
+    program: &Program<'p>,
+    room: u32,
+    statement: &'p Statement,
+    env: &mut Env,
+    turns: &mut u32,
+    submits: &mut Outs,
+) -> Result<Flow, Stop>
+    requires { StatementIsFit program.now.functions.now statement.now env.old }
+    ensures { Leads (statement_acts (bodies_of program.now.functions.now program.now.depth) statement.now (state env.old submits.old) turns.old) result (state env.new submits.new) turns.new }
+{
+    evaluation_law();
+    let Some(room) = room.checked_sub(1) else {
+        return Err(Stop::Memory);
+    };
+    match statement {
+        Statement::Block(row) => run_scoped(program, room, row.as_slice(), env, turns, submits),
+        Statement::Declare(code) => {
+            let value = own_value(&in_env!(program, env), room, code, turns)?;
+            env.vars.push(value)?;
+            Ok(Flow::Next)
+        }
+        Statement::Change(place, change) => {
+            run_change(program, room, place, change, env, turns)?;
+            Ok(Flow::Next)
+        }
+        Statement::Evaluate(code) => {
+            eval_at(&in_env!(program, env), room, code, turns)?;
+            Ok(Flow::Next)
+        }
+        Statement::Call(place, codes) => {
+            let context = in_env!(program, env);
+            let values = eval_all(&context, room, codes.as_slice(), turns)?;
+            run_function(&context, room, *place, values, turns)?;
+            Ok(Flow::Next)
+        }
+        Statement::If(arms, other) => run_if(
+            program,
+            room,
+            arms.as_slice(),
+            other.as_slice(),
+            env,
+            turns,
+            submits,
+        ),
+        Statement::While(code, row) => {
+            run_while(program, room, code, row.as_slice(), env, turns, submits)
+        }
+        Statement::For(code, row) => {
+            let held = eval_at(&in_env!(program, env), room, code, turns)?;
+            let values = elements(program.alloc, held)?;
+            run_over(program, room, values, row.as_slice(), env, turns, submits)
+        }
+        Statement::Break => Ok(Flow::Broken),
+        Statement::Continue => Ok(Flow::Continued),
+        Statement::Return(result) => match result {
+            None => Ok(Flow::Returned(None)),
+            Some(code) => {
+                let value = own_value(&in_env!(program, env), room, code, turns)?;
+                Ok(Flow::Returned(Some(value)))
+            }
+        },
+        Statement::Submit(port, code) => {
+            let value = own_value(&in_env!(program, env), room, code, turns)?;
+            let item = Item::Tuple(tuple_values(value));
+            submits.push(Output { port: *port, item })?;
+            Ok(Flow::Next)
+        }
+        Statement::SubmitWindow(port) => {
+            let window = Item::Window;
+            submits.push(Output {
+                port: *port,
+                item: window,
+            })?;
+            Ok(Flow::Next)
+        }
+    }
+}
+
+/// Statements one after another, until one of them ends the row.
+#[cycle(eval)]
+fn run_row<'p>(
+    program: &Program<'p>,
+    room: u32,
+    row: &'p [Statement],
+    env: &mut Env,
+    turns: &mut u32,
+    submits: &mut Outs,
+) -> Result<Flow, Stop>
+    requires { RowIsFit program.now.functions.now row.now env.old }
+    ensures { Leads (row_acts (bodies_of program.now.functions.now program.now.depth) row.now (state env.old submits.old) turns.old) result (state env.new submits.new) turns.new }
+{
+    evaluation_law();
+    for statement in row {
+        let flow = run_statement(program, room, statement, env, turns, submits)?;
+        if let Some(end) = after_statement(flow) {
+            return Ok(end);
+        }
+    }
+    Ok(Flow::Next)
+}
+
+/// The same. The variables that are declared in the row end with it.
+#[cycle(eval)]
+fn run_scoped<'p>(
+    program: &Program<'p>,
+    room: u32,
+    row: &'p [Statement],
+    env: &mut Env,
+    turns: &mut u32,
+    submits: &mut Outs,
+) -> Result<Flow, Stop>
+    requires { RowIsFit program.now.functions.now row.now env.old }
+    ensures { Leads (scoped (row_acts (bodies_of program.now.functions.now program.now.depth) row.now) (state env.old submits.old) turns.old) result (state env.new submits.new) turns.new }
+{
+    let count = env.vars.len();
+    let flow = run_row(program, room, row, env, turns, submits)?;
+    truncate(&mut env.vars, count);
+    Ok(flow)
+}
+
+/// The statements behind the first condition that is true, or else the others.
+#[cycle(eval)]
+fn run_if<'p>(
+    program: &Program<'p>,
+    room: u32,
+    arms: &'p [(Code<Slot>, Body)],
+    other: &'p [Statement],
+    env: &mut Env,
+    turns: &mut u32,
+    submits: &mut Outs,
+) -> Result<Flow, Stop>
+    requires { ArmsAreFit program.now.functions.now arms.now other.now env.old }
+    ensures { Leads (arms_act (bodies_of program.now.functions.now program.now.depth) arms.now other.now (state env.old submits.old) turns.old) result (state env.new submits.new) turns.new }
+{
+    for arm in arms {
+        if is_true(&in_env!(program, env), room, &arm.0, turns)? {
+            return run_scoped(program, room, arm.1.as_slice(), env, turns, submits);
+        }
+    }
+    run_scoped(program, room, other, env, turns, submits)
+}
+
+/// Turns of a loop, while the condition is true.
+#[cycle(eval)]
+fn run_while<'p>(
+    program: &Program<'p>,
+    room: u32,
+    code: &'p Code<Slot>,
+    row: &'p [Statement],
+    env: &mut Env,
+    turns: &mut u32,
+    submits: &mut Outs,
+) -> Result<Flow, Stop>
+    requires { LoopIsFit program.now.functions.now code.now row.now env.old }
+    ensures { Leads (turns_while turns.old (bodies_of program.now.functions.now program.now.depth) code.now (scoped (row_acts (bodies_of program.now.functions.now program.now.depth) row.now)) (state env.old submits.old) turns.old) result (state env.new submits.new) turns.new }
+{
+    evaluation_law();
+    let mut rounds = *turns;
+    'rounds: while is_true(&in_env!(program, env), room, code, turns)? {
+        enter(turns)?;
+        let flow = run_scoped(program, room, row, env, turns, submits)?;
+        if let Some(end) = after_turn(flow) {
+            return Ok(end);
+        }
+        let Some(left) = rounds.checked_sub(1) else {
+            return Err(Stop::Fault(FaultKind::Turns));
+        };
+        rounds = left;
+    }
+    Ok(Flow::Next)
+}
+
+/// A turn of a loop for each value.
+#[cycle(eval)]
+fn run_over<'p>(
+    program: &Program<'p>,
+    room: u32,
+    values: Values,
+    row: &'p [Statement],
+    env: &mut Env,
+    turns: &mut u32,
+    submits: &mut Outs,
+) -> Result<Flow, Stop>
+    requires { OverIsFit program.now.functions.now values row.now env.old }
+    ensures { Leads (turns_over values (row_acts (bodies_of program.now.functions.now program.now.depth) row.now) (state env.old submits.old) turns.old) result (state env.new submits.new) turns.new }
+{
+    evaluation_law();
+    'values: for value in values.into_vec() {
+        let flow = run_turn(program, room, value, row, env, turns, submits)?;
+        if let Some(end) = after_turn(flow) {
+            return Ok(end);
+        }
+    }
+    Ok(Flow::Next)
+}
+
+/// A turn of a loop where its variable has the value.
+#[cycle(eval)]
+fn run_turn<'p>(
+    program: &Program<'p>,
+    room: u32,
+    value: Value,
+    row: &'p [Statement],
+    env: &mut Env,
+    turns: &mut u32,
+    submits: &mut Outs,
+) -> Result<Flow, Stop>
+    requires { OverIsFit program.now.functions.now (value ∷ []) row.now env.old }
+    ensures { Leads (enter turns.old (λ turns. scoped (λ s turns. row_acts (bodies_of program.now.functions.now program.now.depth) row.now (declared s value) turns) (state env.old submits.old) turns)) result (state env.new submits.new) turns.new }
+{
+    enter(turns)?;
+    let count = env.vars.len();
+    env.vars.push(value)?;
+    let flow = run_row(program, room, row, env, turns, submits)?;
+    truncate(&mut env.vars, count);
+    Ok(flow)
+}
+
+/// The steps of a place and the argument of a change, in the order in which the change has them.
+#[cycle(eval)]
+fn change_values<'e>(
+    context: &Context<'e>,
+    room: u32,
+    place: &'e Place,
+    change: &'e Change<Code<Slot>>,
+    turns: &mut u32,
+) -> Result<(Items<Taking<Value>>, Change<Value>), Stop>
+    requires { ChangeIsFit context.now.functions.now place.now change.now context.now.env.now }
+    ensures { Answers (change_values (bodies_of context.now.functions.now context.now.depth) place.now change.now (state context.now.env.now []) turns.old) result turns.new }
+{
+    let takings = place.takings.as_slice();
+    match change {
+        Change::Put(code) => {
+            let value = own_value(context, room, code, turns)?;
+            let steps = step_values(context, room, takings, turns)?;
+            Ok((steps, Change::Put(value)))
+        }
+        Change::Append(code) => {
+            let steps = steps_taken(context, room, place, turns)?;
+            let value = own_value(context, room, code, turns)?;
+            Ok((steps, Change::Append(value)))
+        }
+        Change::Remove(code) => {
+            let steps = steps_taken(context, room, place, turns)?;
+            let key = own_value(context, room, code, turns)?;
+            Ok((steps, Change::Remove(key)))
+        }
+        Change::Clear => {
+            let steps = steps_taken(context, room, place, turns)?;
+            Ok((steps, Change::Clear))
+        }
+    }
+}
+
+/// Steps with the values of their indexes and keys, from left to right.
+#[cycle(eval)]
+fn step_values<'e>(
+    context: &Context<'e>,
+    room: u32,
+    takings: &'e [Taking<Code<Slot>>],
+    turns: &mut u32,
+) -> Result<Items<Taking<Value>>, Stop>
+    requires { StepsAreFit context.now.functions.now takings.now context.now.env.now }
+    ensures { Answers (step_values (bodies_of context.now.functions.now context.now.depth) takings.now (state context.now.env.now []) turns.old) result turns.new }
+{
+    let mut steps = Items::new(context.alloc);
+    for taking in takings {
+        let step = step_value(context, room, taking, turns)?;
+        steps.push(step)?;
+    }
+    Ok(steps)
+}
+
+#[cycle(eval)]
+fn step_value<'e>(
+    context: &Context<'e>,
+    room: u32,
+    taking: &'e Taking<Code<Slot>>,
+    turns: &mut u32,
+) -> Result<Taking<Value>, Stop>
+    requires { StepsAreFit context.now.functions.now (taking.now ∷ []) context.now.env.now }
+    ensures { Answers (step_value (bodies_of context.now.functions.now context.now.depth) taking.now (state context.now.env.now []) turns.old) result turns.new }
+{
+    match taking {
+        Taking::Member(place) => Ok(Taking::Member(*place)),
+        Taking::Element(code) => Ok(Taking::Element(own_value(context, room, code, turns)?)),
+        Taking::AtKey(code) => Ok(Taking::AtKey(own_value(context, room, code, turns)?)),
+    }
+}
+
+/// Steps that are taken in turn of what a variable holds.
+#[cycle(eval)]
+fn steps_taken<'e>(
+    context: &Context<'e>,
+    room: u32,
+    place: &'e Place,
+    turns: &mut u32,
+) -> Result<Items<Taking<Value>>, Stop>
+    requires { PlaceIsFit context.now.functions.now place.now context.now.env.now }
+    ensures { (v : Value) → slice_get context.now.env.now.vars place.now.variable ≡ Some v → Answers (steps_taken (bodies_of context.now.functions.now context.now.depth) place.now.takings v (state context.now.env.now []) turns.old) result turns.new }
+{
+    evaluation_law();
+    let mut steps = Items::new(context.alloc);
+    let mut value = Held::Lent(&context.env.vars.as_slice()[place.variable as usize]);
+    for taking in place.takings.as_slice() {
+        let step = step_value(context, room, taking, turns)?;
+        value = step_of(value, &step)?;
+        steps.push(step)?;
+    }
+    Ok(steps)
+}
+
+/// A change of a place.
+#[cycle(eval)]
+fn run_change<'p>(
+    program: &Program<'p>,
+    room: u32,
+    place: &'p Place,
+    change: &'p Change<Code<Slot>>,
+    env: &mut Env,
+    turns: &mut u32,
+) -> Result<(), Stop>
+    requires { ChangeIsFit program.now.functions.now place.now change.now env.old }
+    ensures { (submits : List Output) → LeadsNext (change_acts (bodies_of program.now.functions.now program.now.depth) place.now change.now (state env.old submits) turns.old) result (state env.new submits) turns.new }
+{
+    evaluation_law();
+    let context = in_env!(program, env);
+    let (steps, change) = change_values(&context, room, place, change, turns)?;
+    change_variable(program.alloc, env, place.variable, steps.as_slice(), change)
+}
+
+/// What a function returns for arguments. The call takes a turn.
+#[cycle(eval)]
+pub(crate) fn run_function<'e>(
+    context: &Context<'e>,
+    room: u32,
+    place: u32,
+    values: Values,
+    turns: &mut u32,
+) -> Result<Option<Value>, Stop>
+    requires { FunctionIsFit context.now.functions.now place values }
+    ensures { Answers (enter turns.old (λ turns. bodies_of context.now.functions.now context.now.depth place values turns)) result turns.new }
+{
+    evaluation_law();
+    enter(turns)?;
+    if context.depth == 0 {
+        return Err(Stop::Fault(FaultKind::Turns));
+    }
+    let Some(function) = context.functions.get(place as usize) else {
+        unreachable!()
+    };
+    let mut env = Env {
+        inputs: Items::new(context.alloc),
+        vars: values,
+        punct: None,
+    };
+    let mut submits = Items::new(context.alloc);
+    let program = Program {
+        alloc: context.alloc,
+        functions: &*context.functions,
+        depth: context.depth - 1,
+    };
+    let row = function.body.as_slice();
+    let flow = run_scoped(&program, room, row, &mut env, turns, &mut submits)?;
+    Ok(returned_by(flow))
+}
