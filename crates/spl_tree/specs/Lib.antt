@@ -4,6 +4,11 @@ pub mod Tokens
 pub mod Weights
 pub mod Operators
 pub mod Grammar
+pub mod Phrases
+pub mod TypeGrammar
+pub mod StatementGrammar
+pub mod UnitGrammar
+pub mod UnitExamples
 pub mod Induction
 pub mod Ranges
 pub mod Laws

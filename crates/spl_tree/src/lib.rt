@@ -6,8 +6,11 @@ mod code;
 mod expression;
 mod keyword;
 mod laws;
+mod shape;
+mod statement;
 mod symbol;
 mod token;
+mod unit;
 
 pub use body::{Body, Change, Function, Functions, Place, Statement};
 pub use code::{
@@ -20,7 +23,15 @@ pub use expression::{
 };
 pub use keyword::{KEYWORDS, Keyword, LeftOut};
 pub use laws::{
-    ranges_law, texts_law, tokens_law, tokens_on_literals, weights_law, weights_on_literals,
+    ranges_law, texts_law, tokens_law, tokens_on_literals, units_on_literals, weights_law,
+    weights_on_literals,
 };
+pub use shape::{Attribute, Attributes, Shape, ShapeKind, TypeExpr, TypeKind};
+pub use statement::{Block, Declaration, Stmt, StmtKind};
 pub use symbol::Symbol;
 pub use token::{LexicalError, MOST_BYTES, Number, Token, TokenKind, TokenList, Tokens};
+pub use unit::{
+    Clauses, Composite, CompositeParameter, Definition, FunctionDefinition, HandledEvent, Handler,
+    HeadPort, InputPort, Invocation, Logic, OutputAssignments, OutputStream, Parameter, PortWindow,
+    TypeDefinition, Unit, WindowPart,
+};

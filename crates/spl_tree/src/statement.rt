@@ -1,0 +1,40 @@
+use crate::{Attribute, BinaryOperator, Expr, Placed, TypeExpr};
+use spl_value::{Boxed, Items, Name};
+
+/// A statement as it is written, at its first token.
+pub type Stmt = Placed<StmtKind>;
+
+/// Statements between braces.
+pub type Block = Items<Stmt>;
+
+/// What a written statement is.
+#[derive(Debug, PartialEq, Eq, Drop)]
+pub enum StmtKind {
+    Block(Items<Stmt>),
+    Declare(Declaration),
+    /// `place = value;`, or `place op= value;` with that operator. A place is a name, and the members
+    /// and elements that are taken of it.
+    Assign(Expr, Option<BinaryOperator>, Expr),
+    /// A call, whose value isn't used.
+    Call(Expr),
+    /// The condition and the statement of `if` and of each `else if` behind it, one or more; and the
+    /// statement behind an `else` without `if`, where there is one.
+    If(Items<(Expr, Stmt)>, Option<Boxed<Stmt>>),
+    While(Expr, Boxed<Stmt>),
+    /// `for (type name in value) statement`
+    For(Attribute<TypeExpr>, Expr, Boxed<Stmt>),
+    Break,
+    Continue,
+    Return(Option<Expr>),
+    /// `submit(value, stream);`
+    Submit(Expr, Placed<Name>),
+}
+
+/// `mutable type name = value;`, where `mutable` and the value may be absent.
+#[derive(Debug, PartialEq, Eq, Drop)]
+pub struct Declaration {
+    pub mutable: bool,
+    pub kind: TypeExpr,
+    pub name: Placed<Name>,
+    pub value: Option<Expr>,
+}
