@@ -54,7 +54,7 @@ use Rattle.stream_model.specs.declared.scope.Signature.{Signature}
 use Rattle.stream_model.specs.declared.scope.Typed.{Typed}
 use Rattle.stream_model.specs.declared.scope.Variable.{Variable}
 use Rattle.stream_model.specs.Scopes.{At, Meant, OfVariable, OfAttribute, OfPort, Nothing, PortAttribute, meant, variable_meant, variable_of, attributes_of, port_of, attribute_of, function_of}
-use Rattle.stream_model.specs.Typing.{Wanted, Found, after, mismatch, typed, as_wanted, number_typed, same_types, Part, part_typed, meant_typed, Wants, Anything, This, Another, wants_list, wants_map, wants_tuple, elements_typed, list_typed, entries_typed, map_typed, are_distinct, gives_each, field_typed, fields_typed, own_fields, tuple_typed, level_index, member_typed, level_step, steps_typed, selected, select_typed, port_attribute, of_port, of_base, level_prefix, prefix_typed, prefixes_at, prefixes_typed, unary_typed, integer_operator, order_operator, on_integers, ordering_of, or_else, level_operator, operands_typed, level_in, binary_typed, marker_asked, binary_or_marker, branch_wanted, conditional_typed, arguments_typed, value_given, function_typed, call_of, int32, OnFirst, level_first, first_typed, argument_count, fixed_typed, no_value, arguments_of, call_typed, level_part, part, typing}
+use Rattle.stream_model.specs.Typing.{Wanted, Found, after, mismatch, typed, as_wanted, number_typed, same_types, Part, part_typed, meant_typed, Wants, Anything, This, Another, wants_list, wants_map, wants_tuple, elements_typed, list_typed, entries_typed, map_typed, are_distinct, gives_each, field_typed, fields_typed, own_fields, tuple_typed, level_index, member_typed, level_step, steps_typed, selected, select_typed, port_attribute, of_port, of_base, level_prefix, prefix_typed, prefixes_at, prefixes_typed, unary_typed, integer_operator, order_operator, on_integers, ordering_of, or_else, level_operator, operands_typed, level_in, binary_typed, marker_asked, binary_or_marker, branch_wanted, conditional_typed, arguments_typed, value_given, function_typed, call_of, int32, OnFirst, level_first, first_typed, argument_count, fixed_typed, no_value, arguments_of, built_in_typed, call_typed, level_part, part, typing}
 use Rattle.stream_model.specs.CodeFits as F
 use Rattle.stream_model.specs.CodeFits.{CodeFits, SlotFits, ElementsFit, PairsFit, FieldsFit, ArgumentsFit, StepsLead, UnaryGives, UnariesGive, BinaryGives, BuiltInGives, OneEach}
 use Rattle.stream_model.specs.FitLaws.{FitLaw}
@@ -77,10 +77,10 @@ Sound p = (at : ℕ) (scope : Scope) (wanted : Wanted) → Gives (Fits scope) (p
 abbrev pub Good : Placed Part → Type 0
 Good e = Keeps e.what × Sound e.what
 
-good_any : (e : Placed Part) → Good e → (scope : Scope) (wanted : Wanted) → Gives (Fits scope) (part_typed e scope wanted)
+pub good_any : (e : Placed Part) → Good e → (scope : Scope) (wanted : Wanted) → Gives (Fits scope) (part_typed e scope wanted)
 good_any e h scope wanted = h.1 e.at scope wanted
 
-good_at : (e : Placed Part) → Good e → (scope : Scope) (t : SplType) → Gives (FitsAt scope t) (part_typed e scope (Some t))
+pub good_at : (e : Placed Part) → Good e → (scope : Scope) (t : SplType) → Gives (FitsAt scope t) (part_typed e scope (Some t))
 good_at e h scope t =
     gives_on (λ x. MeetsIn (Some t) x × Fits scope x) (FitsAt scope t) (part_typed e scope (Some t))
     (gives_both (MeetsIn (Some t)) (Fits scope) (part_typed e scope (Some t)) (h.0 e.at scope (Some t)) (h.1 e.at scope (Some t)))
@@ -363,7 +363,7 @@ unary_fits scope ps e h =
 -- ---- operators between two operands
 
 -- where there is an operator, it gives a value of its type from two of this type
-abbrev OnOperands : SplType → Option (BinaryCode × SplType) → Type 0
+abbrev pub OnOperands : SplType → Option (BinaryCode × SplType) → Type 0
 OnOperands t None = Unit {0}
 OnOperands t (Some op) = BinaryGives op.0 t t op.1
 
@@ -376,7 +376,7 @@ texts_fit : (r : Option OrderOperator) → OnOperands S.Text (ordering_of r)
 texts_fit (Some op) = F.orders_texts op
 texts_fit None = tt
 
-operator_fits : (op : BinaryOperator) (t : SplType) (y : SplType-F SplType) → out-SplType t ≡ y → OnOperands t (level_operator op y)
+pub operator_fits : (op : BinaryOperator) (t : SplType) (y : SplType-F SplType) → out-SplType t ≡ y → OnOperands t (level_operator op y)
 operator_fits B.Equal t y e = F.equals t
 operator_fits B.NotEqual t y e = F.differs t
 operator_fits B.And t T.Bool e = subst (λ t. BinaryGives D.And t t S.Bool) (sym (rolled t T.Bool S.Bool e S.rolls-Bool)) F.both
@@ -388,7 +388,7 @@ operator_fits op t (T.Int k) e =
 operator_fits op t T.Text e = subst (λ t. OnOperands t (ordering_of (order_operator op))) (sym (rolled t T.Text S.Text e S.rolls-Text)) (texts_fit (order_operator op))
 operator_fits _ t _ e = tt
 
-operands_fit : (scope : Scope) (x : Typed) (left right : Placed Part) (o : Option (BinaryCode × SplType)) → Fits scope x → Good right → OnOperands x.kind o
+pub operands_fit : (scope : Scope) (x : Typed) (left right : Placed Part) (o : Option (BinaryCode × SplType)) → Fits scope x → Good right → OnOperands x.kind o
     → Gives (Fits scope) (operands_typed scope x left right o)
 operands_fit scope x left right None f h g = tt
 operands_fit scope x left right (Some op) f h g =
@@ -451,7 +451,7 @@ conditional_fits scope wanted c a b f g h =
 
 -- ---- calls
 
-arguments_fit : (scope : Scope) (ts : List SplType) (es : List (Placed Part)) → length es ≡ length ts → AllByRecursion Good es
+pub arguments_fit : (scope : Scope) (ts : List SplType) (es : List (Placed Part)) → length es ≡ length ts → AllByRecursion Good es
     → Gives (λ xs. ArgumentsFit scope xs ts) (arguments_typed scope ts es)
 arguments_fit scope [] [] long h = F.no_arguments
 arguments_fit scope (t ∷ ts) (e ∷ es) long h =
@@ -535,10 +535,13 @@ arguments_of_fit at scope A.Min (e ∷ es) long h = on_argument_fits at scope A.
 arguments_of_fit at scope A.Max (e ∷ es) long h = on_argument_fits at scope A.Max e es long h.0 h.1
 arguments_of_fit at scope _ [] long h = tt
 
+pub built_in_fits : (at : ℕ) (scope : Scope) (call : CallName) (es : List (Placed Part)) → AllByRecursion Good es → Gives (Fits scope) (built_in_typed at scope call es)
+built_in_fits at scope call es h =
+    gives_if (Fits scope) (length es == argument_count call) _ _ (λ same. arguments_of_fit at scope call es (eqb-true (length es) (argument_count call) same) h) tt
+
 call_fits : (at : ℕ) (scope : Scope) (name : List ℕ) (es : List (Placed Part)) (o : Option CallName) → AllByRecursion Good es
     → Gives (Fits scope) (call_typed at scope name es o)
-call_fits at scope name es (Some call) h =
-    gives_if (Fits scope) (length es == argument_count call) _ _ (λ same. arguments_of_fit at scope call es (eqb-true (length es) (argument_count call) same) h) tt
+call_fits at scope name es (Some call) h = built_in_fits at scope call es h
 call_fits at scope name es None h = function_fits at scope name es (function_of scope name) (function_there scope name) h
 
 -- ---- expressions
@@ -623,5 +626,13 @@ fit_steps = record {
 sound : (e : ExprKind) → Sound (part e)
 sound = expr_ind IsSound fit_steps
 
+-- an expression, as a part of another or of a statement
+pub good : (e : Expr) → Good (part_of e)
+good e = good_part e (sound e.what)
+
+pub all_good : (es : List Expr) → AllByRecursion Good (map part_of es)
+all_good [] = tt
+all_good (e ∷ es) = (good e, all_good es)
+
 pub fit_law : FitLaw
-fit_law scope e wanted t found = gives_from (Fits scope) (typing scope e wanted) t (sound e.what e.at scope wanted) found
+fit_law scope e wanted t found = gives_from (Fits scope) (typing scope e wanted) t (good_any (part_of e) (good e) scope wanted) found

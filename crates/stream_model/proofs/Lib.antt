@@ -10,6 +10,12 @@ pub mod Wanting
 pub mod Counting
 pub mod Places
 pub mod Fitting
+pub mod PlaceTyping
+pub mod GivenPlaces
+pub mod ChangingCalls
+pub mod StatementTypes
+pub mod ValueCalls
+pub mod WrittenOut
 pub mod Yielding
 pub mod Operating
 pub mod Filling

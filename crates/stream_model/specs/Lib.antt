@@ -35,3 +35,5 @@ pub mod Laws
 pub mod StageLaws
 pub mod OrderLaws
 pub mod PathLaws
+pub mod StatementTyping
+pub mod PlaceLaws

@@ -17,6 +17,7 @@ ghost use Rattle.spl_tree.specs.declared.code.OrderOperator.TheVariants.{Less};
 ghost use Rattle.spl_tree.specs.declared.code.Slot.{Slot};
 ghost use Rattle.spl_tree.specs.declared.code.Slot.TheVariants as L;
 ghost use Rattle.stream_model.specs.PathLaws.{path_graph};
+ghost use Rattle.stream_model.specs.PlaceLaws.{PlaceTypeLaw, PlaceReadsLaw, NamePlaceLaw, PlaceGivenLaw, PlaceRefusedLaw, AssignmentTypeLaw, CompoundTypeLaw, CompoundLaw, CallTypeLaw, ValueCallLaw, AppendLaw, RemoveLaw, ClearLaw};
 ghost use Rattle.stream_model.specs.TwoSinks.{two_sinks, unread_source, bad_row, fault_of_run};
 ghost use Rattle.stream_model.specs.TwoPorts.{two_ports, variable, comparison};
 ghost use Rattle.stream_model.specs.TwoStatements.{two_statements};
@@ -101,6 +102,31 @@ pub fn typing_law()
     ensures one { OneTypeLaw }
     ensures wanted { WantedLaw }
     ensures fits { FitLaw }
+{}
+
+/// A place that has a type is one of a variable that may be changed, and fits the scope at that type. An
+/// assignment and a call that have code fit as statements in every body.
+pub fn places_law()
+    ensures places { PlaceTypeLaw }
+    ensures assignments { AssignmentTypeLaw }
+    ensures compounds { CompoundTypeLaw }
+    ensures calls { CallTypeLaw }
+{}
+
+/// A place is what its expression reads. A name, or what is taken of one, is a place wherever it has a
+/// type and its variable may be changed, and is refused where it may not. `a op= b` is `a = a op b`. A
+/// call that has a value may stand as a statement, and the calls that change a place change the one that
+/// their first argument reads.
+pub fn changes_law()
+    ensures reads { PlaceReadsLaw }
+    ensures whole { NamePlaceLaw }
+    ensures given { PlaceGivenLaw }
+    ensures not_mutable { PlaceRefusedLaw }
+    ensures written_out { CompoundLaw }
+    ensures valued { ValueCallLaw }
+    ensures appends { AppendLaw }
+    ensures removes { RemoveLaw }
+    ensures clears { ClearLaw }
 {}
 
 /// Rows of some files.
