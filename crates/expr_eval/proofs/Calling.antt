@@ -24,7 +24,7 @@ use Rattle.expr_eval.specs.Answers.{StopsAs}
 use Rattle.expr_eval.specs.declared.stop.Stop.{Stop}
 use Rattle.expr_eval.specs.Fitting.{FitCall}
 use Rattle.expr_eval.specs.Running.{RowIsFit, FunctionIsFit, state}
-use Rattle.expr_eval.proofs.Following.{followed_stops, stops_by}
+use Rattle.expr_eval.proofs.Following.{enter_followed, followed_stops, stops_by}
 use Rattle.expr_eval.proofs.ValueTypes.{done_followed}
 
 abbrev kinds : List Variable → List SplType
@@ -135,11 +135,6 @@ module _ (functions : List Function) (i : ℕ) (vs : List Value) (h : FunctionIs
           call_acts ∙ ap returns q ∙ ap (λ (o : Option (Option Value)). followed {A = Left} (need o (left_after w after)) (λ left turns. Done left.returned turns)) some
 
 -- ---- a function with a result
-
--- the turn that a call takes
-enter_followed : {A B : Type 0} (turns : ℕ) (f : ℕ → Outcome A) (g : A → ℕ → Outcome B) → enter turns (λ turns. followed (f turns) g) ≡ followed (enter turns f) g
-enter_followed zero f g = refl
-enter_followed (suc turns) f g = refl
 
 -- what is returned has to be there
 abbrev wanted : Option Value → ℕ → Outcome Value

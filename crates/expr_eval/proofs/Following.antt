@@ -1,11 +1,14 @@
 -- How what is answered goes together, as outcomes do.
-use Rattle.std.specs.Prelude.{◌≡◌, ℕ, Option, Result, Ok, Err, IsErrAnd}
+use Rattle.std.specs.Prelude.{◌≡◌, ℕ, zero, suc, Option, Result, Ok, Err, IsErrAnd}
 use Rattle.std.proofs.Common.{refl, sym, ap, ◌∙◌, subst}
 use Rattle.std.proofs.lemmas.Result.{err_from_is_err_and}
 use Rattle.spl_value.specs.Calls.{CallOutcome}
 use Rattle.spl_value.specs.declared.value.Value.{Value}
-use Rattle.stream_model.specs.Outcomes.{Outcome, Done, Faulted, Stuck, followed, need, settled}
+use Rattle.stream_model.specs.declared.flow.Flow.{Flow}
+use Rattle.stream_model.specs.Outcomes.{Outcome, Done, Faulted, Stuck, followed, need, settled, enter}
+use Rattle.stream_model.specs.Statements.{State}
 use Rattle.expr_eval.specs.Answers.{StopsAs, Answers, AnswersHeld, Settles, ReadsHeld}
+use Rattle.expr_eval.specs.Running.{Leads}
 use Rattle.expr_eval.specs.declared.held.Held.{Held}
 use Rattle.expr_eval.specs.declared.stop.Stop.{Stop}
 use Rattle.expr_eval.specs.declared.stop.Stop.TheVariants as S
@@ -20,6 +23,11 @@ pub followed_done : {A : Type 0} (o : Outcome A) → followed o (λ x turns. Don
 followed_done (Done x turns) = refl
 followed_done (Faulted kind) = refl
 followed_done Stuck = refl
+
+-- a turn is taken first
+pub enter_followed : {A B : Type 0} (turns : ℕ) (f : ℕ → Outcome A) (g : A → ℕ → Outcome B) → enter turns (λ turns. followed (f turns) g) ≡ followed (enter turns f) g
+enter_followed zero f g = refl
+enter_followed (suc turns) f g = refl
 
 -- ---- stops
 
@@ -63,3 +71,11 @@ read_answers o (Err s) turns e = subst (λ s. StopsAs (need o (λ v. Done v turn
 
 pub memory_held : (o : Outcome Value) (r : Result Held Stop) (turns : ℕ) (s : Stop) → IsErrAnd r (λ y. y ≡ s) → s ≡ S.Memory → AnswersHeld o r turns
 memory_held o r turns s h e = stops_held o r turns s h (subst (λ s. StopsAs o s) (sym e) tt)
+
+-- ---- where statements lead
+
+pub leads_by : (o p : Outcome (Flow × State)) (r : Result Flow Stop) (s : State) (turns : ℕ) → o ≡ p → Leads p r s turns → Leads o r s turns
+leads_by o p r s turns e h = subst (λ o. Leads o r s turns) (sym e) h
+
+pub stops_leading : (o : Outcome (Flow × State)) (r : Result Flow Stop) (s : State) (turns : ℕ) (stop : Stop) → IsErrAnd r (λ y. y ≡ stop) → StopsAs o stop → Leads o r s turns
+stops_leading o r s turns stop h q = exit (λ r. Leads o r s turns) r stop h q

@@ -1,31 +1,26 @@
 -- An index as a place in a list.
 use Rattle.std.specs.Prelude.{◌≡◌, ℕ, ◌<◌, ◌≤◌, ℤ, pos, negsuc, nat_abs, IsTrue, List, Some, None}
 use Rattle.std.specs.Int.{w64, w128, FitsUnsigned}
-use Rattle.std.proofs.Common.{sym, ap, subst, refl, ◌∙◌, arith, to_z, of_z}
+use Rattle.std.proofs.Common.{sym, ap, subst, ◌∙◌, arith, to_z, of_z}
 use Rattle.std.proofs.lemmas.Int.{ints}
 use Rattle.std.proofs.lemmas.Option.{slice_get_past}
 use Rattle.spl_value.specs.declared.item.FaultKind.TheVariants as K
-use Rattle.spl_value.specs.declared.types.IntKind.{IntKind}
 use Rattle.spl_value.specs.declared.types.SplType.TheVariants as S
 use Rattle.spl_value.specs.declared.value.Value.{Value}
 use Rattle.spl_value.specs.declared.value.Value.TheVariants as V
 use Rattle.spl_value.specs.declared.value.Value.TheOpen as O
 use Rattle.spl_value.specs.declared.value.Value.TheViews.{out-Value}
-use Rattle.spl_value.specs.Calls.{Faults}
 use Rattle.spl_value.specs.FitsLaws.{fits_int, int_from_fits}
 use Rattle.spl_value.specs.Values.{fits, kind_holds}
 use Rattle.stream_model.specs.Changes.{level_index}
 use Rattle.stream_model.specs.Operators.{found, element_at, level_element}
 use Rattle.expr_eval.specs.Changing.{IsIndex, IsPlaceIn}
-use Rattle.expr_eval.proofs.Sizes.{kept_in_128, natural_fits}
+use Rattle.expr_eval.proofs.Parts.{below}
+use Rattle.expr_eval.proofs.Sizes.{kept_in_128}
 
 natural : (n : ℤ) (at : ℕ) → FitsUnsigned w64 n → at ≡ nat_abs n → n ≡ pos at
 natural (pos m) at f e = ap pos (sym e)
 natural (negsuc m) at f e = absurd (omega (arith, ints, f.0))
-
-below : (k : IntKind) (vs : List Value) (n : ℤ) → IsTrue (kind_holds k n) → (FitsUnsigned w64 n → ⊥) → element_at vs n ≡ Faults K.Index
-below k vs (pos m) h never = absurd (never (natural_fits k m h))
-below k vs (negsuc m) h never = refl
 
 module _ (v : Value) (fit : IsIndex v) where
   pub not_integer : ((n : ℤ) → v ≡ V.Int n → ⊥) → ⊥

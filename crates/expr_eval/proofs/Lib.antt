@@ -6,6 +6,7 @@ mod BuiltIns
 mod Calling
 mod Changed
 mod CodeParts
+mod Counter
 mod Exact
 mod Following
 mod Forms

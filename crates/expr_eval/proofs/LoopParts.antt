@@ -1,5 +1,5 @@
 -- What rows and loops come to from where they have come.
-use Rattle.std.specs.Prelude.{◌≡◌, ◌≤◌, ◌<◌, ◌+◌, ℕ, zero, suc, Bool, true, false, if◌then◌else◌, List, ◌∷◌, length, drop, get_or, None, Some, Result, IsErrAnd}
+use Rattle.std.specs.Prelude.{◌≡◌, ◌≤◌, ◌<◌, ◌+◌, ℕ, zero, suc, Bool, true, false, if◌then◌else◌, List, ◌∷◌, length, drop, get_or, None, Some}
 use Rattle.std.proofs.Common.{refl, sym, ap, ◌∙◌, subst}
 use Rattle.std.proofs.lemmas.List.{drop_all}
 use Rattle.spl_value.specs.declared.item.FaultKind.TheVariants as K
@@ -15,19 +15,11 @@ use Rattle.stream_model.specs.Outcomes.{Outcome, Done, Faulted, followed, enter}
 use Rattle.stream_model.specs.Statements.{State, Acts, Bodies, truth_in, statement_acts, row_acts, scoped, declared, then_rest, then_again, turns_while, turns_over}
 use Rattle.stream_model.specs.StatementLaws.{arms_act}
 use Rattle.expr_eval.specs.Answers.{StopsAs}
-use Rattle.expr_eval.specs.Running.{Leads, EndsRow, EndsLoop}
+use Rattle.expr_eval.specs.Running.{EndsRow, EndsLoop}
 use Rattle.expr_eval.specs.declared.stop.Stop.{Stop}
 use Rattle.expr_eval.specs.declared.stop.Stop.TheVariants as P
-use Rattle.expr_eval.proofs.Following.{followed_stops, stops_by, exit}
+use Rattle.expr_eval.proofs.Following.{enter_followed, followed_stops, stops_by}
 use Rattle.expr_eval.proofs.Rows.{drop_at}
-
--- ---- answers
-
-pub leads_by : (o p : Outcome (Flow × State)) (r : Result Flow Stop) (s : State) (turns : ℕ) → o ≡ p → Leads p r s turns → Leads o r s turns
-leads_by o p r s turns e h = subst (λ o. Leads o r s turns) (sym e) h
-
-pub stops_leading : (o : Outcome (Flow × State)) (r : Result Flow Stop) (s : State) (turns : ℕ) (stop : Stop) → IsErrAnd r (λ y. y ≡ stop) → StopsAs o stop → Leads o r s turns
-stops_leading o r s turns stop h q = exit (λ r. Leads o r s turns) r stop h q
 
 -- ---- rows
 
@@ -139,10 +131,6 @@ module _ (values others : List Value) (v : Value) (body : Acts) (is : values ≡
   pub over_on : (flow : Flow) (w : State) (left : ℕ) → enter turns (λ turns. scoped (λ s turns. body (declared s v) turns) s turns) ≡ Done (flow, w) left → EndsLoop flow None
       → turns_over values body s turns ≡ turns_over others body w left
   over_on flow w left led on =
-      ap (λ values. turns_over values body s turns) is ∙ sym (entered turns)
+      ap (λ values. turns_over values body s turns) is
+      ∙ enter_followed turns (λ turns. scoped (λ s turns. body (declared s v) turns) s turns) (λ w turns. then_again w turns (turns_over others body))
       ∙ ap (λ o. followed o (λ w turns. then_again w turns (turns_over others body))) led ∙ on w left (turns_over others body)
-    where
-      entered : (turns : ℕ) → followed (enter turns (λ turns. scoped (λ s turns. body (declared s v) turns) s turns)) (λ w turns. then_again w turns (turns_over others body))
-          ≡ turns_over (v ∷ others) body s turns
-      entered zero = refl
-      entered (suc turns) = refl

@@ -43,6 +43,11 @@ module _ (i : ℕ) (v : Value) where
 
 -- ---- lists
 
+-- an index that is no natural number
+pub below : (k : IntKind) (vs : List Value) (n : ℤ) → IsTrue (kind_holds k n) → (FitsUnsigned w64 n → ⊥) → element_at vs n ≡ Faults K.Index
+below k vs (pos m) h never = absurd (never (natural_fits k m h))
+below k vs (negsuc m) h never = refl
+
 module _ (v index : Value) where
   pub not_list : HasElements v index → ((vs : List Value) → v ≡ V.List vs → ⊥) → ⊥
   not_list (t, k, h, g) never = let is = list_from_fits t v h in never is.0 is.1
@@ -63,11 +68,6 @@ module _ (v index : Value) where
       let holds : IsTrue (kind_holds k n) = sym (fits_int k n) ∙ subst (λ (w : Value). IsTrue (fits (S.Int k) w)) f g in
       element_is vs n e f ∙ past vs n at (is ∙ ap nat_abs (kept_in_128 k n holds)) le
 
-  below : (k : IntKind) (vs : List Value) (n : ℤ) → IsTrue (kind_holds k n) → (FitsUnsigned w64 n → ⊥) → element_at vs n ≡ Faults K.Index
-  below k vs (pos m) h never = absurd (never (natural_fits k m h))
-  below k vs (negsuc m) h never = refl
-
-  -- an index that is no natural number
   pub element_below : (n : ℤ) → HasElements v index → index ≡ V.Int n → (FitsUnsigned w64 (to_z w128 (of_z w128 n)) → ⊥)
       → level_element (out-Value v) (out-Value index) ≡ Faults K.Index
   element_below n (t, k, h, g) f never =

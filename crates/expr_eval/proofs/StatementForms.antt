@@ -1,7 +1,7 @@
 -- What a statement leads to, by what its parts answered.
-use Rattle.std.specs.Prelude.{◌≡◌, ℕ, zero, suc, List, Option, Result}
+use Rattle.std.specs.Prelude.{◌≡◌, ℕ, List, Option, Result}
 use Rattle.std.specs.Result.{IsErrAnd}
-use Rattle.std.proofs.Common.{refl, sym, ap, subst, ◌∙◌}
+use Rattle.std.proofs.Common.{ap, ◌∙◌}
 use Rattle.spl_value.specs.declared.value.Value.{Value}
 use Rattle.spl_tree.specs.declared.body.Change.{Change}
 use Rattle.spl_tree.specs.declared.body.Place.{Place}
@@ -19,18 +19,7 @@ use Rattle.stream_model.specs.StatementLaws.{arms_act, change_is, call_is, if_is
 use Rattle.expr_eval.specs.Answers.{StopsAs}
 use Rattle.expr_eval.specs.Running.{Leads}
 use Rattle.expr_eval.specs.declared.stop.Stop.{Stop}
-use Rattle.expr_eval.proofs.Following.{followed_stops, stops_by, exit}
-
-pub leads_by : (o p : Outcome (Flow × State)) (r : Result Flow Stop) (to : State) (left : ℕ) → o ≡ p → Leads p r to left → Leads o r to left
-leads_by o p r to left e h = subst (λ o. Leads o r to left) (sym e) h
-
-pub leads_stopped : (o : Outcome (Flow × State)) (r : Result Flow Stop) (to : State) (left : ℕ) (stop : Stop) → IsErrAnd r (λ y. y ≡ stop) → StopsAs o stop → Leads o r to left
-leads_stopped o r to left stop h q = exit (λ r. Leads o r to left) r stop h q
-
--- a turn is taken first
-entered : {A B : Type 0} (turns : ℕ) (f : ℕ → Outcome A) (g : A → ℕ → Outcome B) → enter turns (λ turns. followed (f turns) g) ≡ followed (enter turns f) g
-entered zero f g = refl
-entered (suc turns) f g = refl
+use Rattle.expr_eval.proofs.Following.{enter_followed, followed_stops, leads_by, stops_by, stops_leading}
 
 module _ (bodies : Bodies) (x : Statement) (s : State) (turns : ℕ) where
   module _ (place : Place) (change : Change (Code Slot)) (is : x ≡ T.Change place change) where
@@ -39,7 +28,7 @@ module _ (bodies : Bodies) (x : Statement) (s : State) (turns : ℕ) where
 
     pub change_stops : (r : Result Flow Stop) (to : State) (left : ℕ) (stop : Stop) → IsErrAnd r (λ y. y ≡ stop) → StopsAs (change_acts bodies place change s turns) stop
         → Leads (statement_acts bodies x s turns) r to left
-    change_stops r to left stop h q = leads_stopped (statement_acts bodies x s turns) r to left stop h (stops_by (statement_acts bodies x s turns) (change_acts bodies place change s turns) stop change_form q)
+    change_stops r to left stop h q = stops_leading (statement_acts bodies x s turns) r to left stop h (stops_by (statement_acts bodies x s turns) (change_acts bodies place change s turns) stop change_form q)
 
     pub change_done : (to : State) (left : ℕ) → change_acts bodies place change s turns ≡ Done (F.Next, to) left → statement_acts bodies x s turns ≡ Done (F.Next, to) left
     change_done to left d = change_form ∙ d
@@ -54,17 +43,17 @@ module _ (bodies : Bodies) (x : Statement) (s : State) (turns : ℕ) where
     pub arguments_stopped : (r : Result Flow Stop) (to : State) (left : ℕ) (stop : Stop) → IsErrAnd r (λ y. y ≡ stop) → StopsAs (values_of (calls_by bodies) codes (world_of s.env) turns) stop
         → Leads (statement_acts bodies x s turns) r to left
     arguments_stopped r to left stop h q =
-        leads_stopped (statement_acts bodies x s turns) r to left stop h
+        stops_leading (statement_acts bodies x s turns) r to left stop h
         (stops_by (statement_acts bodies x s turns) _ stop call_form (followed_stops (values_of (calls_by bodies) codes (world_of s.env) turns) goes_on stop q))
 
     module _ (values : List Value) (after : ℕ) (d : values_of (calls_by bodies) codes (world_of s.env) turns ≡ Done values after) where
       called : statement_acts bodies x s turns ≡ followed (enter after (λ turns. bodies i values turns)) (λ returned turns. Done (F.Next, s) turns)
-      called = call_form ∙ ap (λ o. followed o goes_on) d ∙ entered after (λ turns. bodies i values turns) (λ returned turns. Done (F.Next, s) turns)
+      called = call_form ∙ ap (λ o. followed o goes_on) d ∙ enter_followed after (λ turns. bodies i values turns) (λ returned turns. Done (F.Next, s) turns)
 
       pub function_stops : (r : Result Flow Stop) (to : State) (left : ℕ) (stop : Stop) → IsErrAnd r (λ y. y ≡ stop) → StopsAs (enter after (λ turns. bodies i values turns)) stop
           → Leads (statement_acts bodies x s turns) r to left
       function_stops r to left stop h q =
-          leads_stopped (statement_acts bodies x s turns) r to left stop h
+          stops_leading (statement_acts bodies x s turns) r to left stop h
           (stops_by (statement_acts bodies x s turns) _ stop called (followed_stops (enter after (λ turns. bodies i values turns)) (λ returned turns. Done (F.Next, s) turns) stop q))
 
       pub function_done : (returned : Option Value) (left : ℕ) → enter after (λ turns. bodies i values turns) ≡ Done returned left → statement_acts bodies x s turns ≡ Done (F.Next, s) left

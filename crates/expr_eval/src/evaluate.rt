@@ -24,15 +24,15 @@ use spl_value::{Evaluated, Items, Pairs, Value, Values};
 use std::alloc::Global;
 use stream_model::{Env, evaluation_law};
 
-/// How many codes may be evaluated inside one another, those of called functions too, since the stack
-/// is memory: so many calls take less than 3 MiB of it. The code of one expression that is parsed nests
-/// no deeper than 1,000.
+/// How many codes and statements may stand inside one another, those of called functions too, since
+/// the stack is memory. So many codes, or half as many calls, take less than 3 MiB of it. The code of
+/// one expression that is parsed nests no deeper than 1,000.
 pub const DEEPEST: u32 = 1500;
 
 /// The value of a code in an environment, or its fault, with the turns that are left.
 ///
 /// Each call of a function takes a turn, and the fault `Turns` comes where none is left. `Memory` also
-/// stands for codes that nest deeper than `DEEPEST`.
+/// stands for codes and statements that nest deeper than `DEEPEST`.
 pub fn eval(
     alloc: Global,
     functions: &Functions,

@@ -12,9 +12,7 @@ pub(crate) fn after_statement(flow: Flow) -> Option<Flow>
 {
     match flow {
         Flow::Next => None,
-        Flow::Broken => Some(Flow::Broken),
-        Flow::Continued => Some(Flow::Continued),
-        Flow::Returned(value) => Some(Flow::Returned(value)),
+        end => Some(end),
     }
 }
 

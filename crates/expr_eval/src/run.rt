@@ -1,6 +1,5 @@
 //! What statements do, by a call for each form of statement.
-ghost use Rattle.std.specs.Prelude.{◌≡◌, ◌∷◌, [], Some, slice_get};
-ghost use Rattle.std.specs.Prelude.{List};
+ghost use Rattle.std.specs.Prelude.{◌≡◌, ◌∷◌, [], List, Some, slice_get};
 ghost use Rattle.stream_model.specs.declared.outs.Output.{Output};
 ghost use Rattle.stream_model.specs.Functions.{bodies_of, runs};
 ghost use Rattle.stream_model.specs.Outcomes.{enter};

@@ -2,17 +2,25 @@ ghost use Rattle.std.specs.Prelude.{◌≡◌, ◌<◌, [], ◌∷◌, Some, IsT
 ghost use Rattle.spl_value.specs.declared.types.IntKind.TheVariants.{I64};
 ghost use Rattle.spl_value.specs.declared.types.SplType.TheVariants as T;
 ghost use Rattle.spl_value.specs.Values.{fits};
+ghost use Rattle.spl_tree.specs.declared.body.Change.TheVariants as H;
 ghost use Rattle.spl_tree.specs.declared.body.Statement.TheVariants as S;
+ghost use Rattle.spl_tree.specs.declared.code.Code.TheVariants as C;
+ghost use Rattle.spl_tree.specs.declared.code.Slot.TheVariants as L;
 ghost use Rattle.stream_model.specs.declared.scope.Scope.{Scope};
-ghost use Rattle.stream_model.specs.CodeFits.{CodeFits};
+ghost use Rattle.stream_model.specs.CodeFits.{SlotFits, BinaryGives, CodeFits};
 ghost use Rattle.stream_model.specs.Functions.{function_env};
 ghost use Rattle.expr_eval.specs.Fitting.{IsFit};
+ghost use Rattle.expr_eval.specs.Running.{BodyIsFit};
 
-use crate::{DEEPEST, Env, eval};
-use spl_tree::{BinaryCode, Code, Function, Functions, OrderOperator, Slot, Statement, UnaryCode};
-use spl_value::{Boxed, Evaluated, FaultKind, IntKind, Items, SplType, Value, wrap};
+use crate::{DEEPEST, Env, Ran, eval, run_body};
+use spl_tree::{
+    BinaryCode, Body, Change, Code, Function, Functions, IntegerOperator, OrderOperator, Place,
+    Slot, Statement, UnaryCode,
+};
+use spl_value::{Boxed, Evaluated, FaultKind, IntKind, Item, Items, SplType, Value, Values, wrap};
 use std::alloc::Global;
 use std::test::Fail;
+use stream_model::{Output, Outs};
 
 // The value of a code where nothing but functions can be named, and the turns that are left.
 fn evaluated(
@@ -163,6 +171,99 @@ fn attributes_are_compared(rt: HostRuntime) -> Result<(), Fail> {
     for (price, want) in [(-11, false), (9, false), (10, false), (11, true)] {
         let seen = is_above_ten(rt.alloc(), price)?;
         assert_eq!(rt; seen, Evaluated::Value(Value::Bool(want)), "{price}");
+    }
+    Ok(())
+}
+
+// The first variable, an integer, with an operator and a number behind it.
+fn with_number(alloc: Global, operator: BinaryCode, number: i128) -> Result<Code<Slot>, Fail>
+    ensures { IfOk result (λ code. (scope : Scope) (t : SplType) → SlotFits scope (L.Variable 0) (T.Int I64) → BinaryGives operator (T.Int I64) (T.Int I64) t → CodeFits scope code t) }
+{
+    let variable = Boxed::new(alloc, Code::Name(Slot::Variable(0)))?;
+    let number = Boxed::new(alloc, Code::Literal(integer(number)))?;
+    Ok(Code::Binary(operator, variable, number))
+}
+
+// A turn of a loop: the variable gets the value of a code, and is submitted.
+fn turn_of_loop(alloc: Global, code: Code<Slot>) -> Result<Body, Fail>
+    ensures { IfOk result (λ row. row ≡ S.Change (record { variable = 0; takings = [] }) (H.Put code) ∷ S.Submit 0 (C.Tuple ((0, C.Name (L.Variable 0)) ∷ [])) ∷ []) }
+{
+    let place = Place {
+        variable: 0,
+        takings: Items::new(alloc),
+    };
+    let mut fields = Items::new(alloc);
+    fields.push((0, Code::Name(Slot::Variable(0))))?;
+    let mut row = Items::new(alloc);
+    row.push(Statement::Change(place, Change::Put(code)))?;
+    row.push(Statement::Submit(0, Code::Tuple(fields)))?;
+    Ok(row)
+}
+
+// A body that counts its only variable up to 10, and submits each number that it comes to.
+fn loop_to_ten(alloc: Global) -> Result<Body, Fail>
+    ensures { IfOk result (λ body. (n : Value) → IsTrue (fits (T.Int I64) n) → BodyIsFit [] body (function_env (n ∷ []))) }
+{
+    let below_ten = with_number(alloc, BinaryCode::Order(OrderOperator::Less), 10)?;
+    let sum = BinaryCode::Integers(IntegerOperator::Add, IntKind::I64);
+    let next = with_number(alloc, sum, 1)?;
+    let mut body = Items::new(alloc);
+    body.push(Statement::While(below_ten, turn_of_loop(alloc, next)?))?;
+    Ok(body)
+}
+
+// How that body ends, from a number and with so many turns: the answer, the variables, the submits and
+// the turns that are left.
+fn counted(alloc: Global, from: i128, turns: u32) -> Result<(Ran, Values, Outs, u32), Fail> {
+    let body = loop_to_ten(alloc)?;
+    let mut vars = Items::new(alloc);
+    vars.push(integer(from))?;
+    let mut env = Env {
+        inputs: Items::new(alloc),
+        vars,
+        punct: None,
+    };
+    let mut left = turns;
+    let mut submits = Items::new(alloc);
+    let functions = Items::new(alloc);
+    let ran = run_body(alloc, &functions, &body, &mut env, &mut left, &mut submits);
+    Ok((ran, env.vars, submits, left))
+}
+
+// A submit of each number from 1 to 10 that is above another.
+fn submits_above(alloc: Global, from: i128) -> Result<Outs, Fail> {
+    let mut submits = Items::new(alloc);
+    for number in 1..11u8 {
+        let number = i128::from(number);
+        if number > from {
+            let mut values = Items::new(alloc);
+            values.push(integer(number))?;
+            let item = Item::Tuple(values);
+            submits.push(Output { port: 0, item })?;
+        }
+    }
+    Ok(submits)
+}
+
+#[test]
+fn a_loop_takes_its_turns(rt: HostRuntime) -> Result<(), Fail> {
+    for (from, turns, left) in [
+        (0, 20, Some(10)),
+        (0, 10, Some(0)),
+        (7, 3, Some(0)),
+        (10, 0, Some(0)),
+        (-1, 10, None),
+        (9, 0, None),
+    ] {
+        let (ran, vars, submits, now) = counted(rt.alloc(), from, turns)?;
+        let Some(left) = left else {
+            assert_eq!(rt; ran, Ran::Bad(FaultKind::Turns), "{from} {turns}");
+            continue;
+        };
+        assert_eq!(rt; ran, Ran::Done, "{from} {turns}");
+        assert_eq!(rt; vars.as_slice(), [integer(10)].as_slice(), "{from} {turns}");
+        assert_eq!(rt; submits, submits_above(rt.alloc(), from)?, "{from} {turns}");
+        assert_eq!(rt; now, left, "{from} {turns}");
     }
     Ok(())
 }

@@ -1,9 +1,9 @@
 use Rattle.expr_eval.proofs.Binary.{and_left, left_is_fit, operands_are, or_left, right_is_fit}
 use Rattle.expr_eval.proofs.BuiltIns.{are_three, are_two, called_answers, called_stops, first_of_three_stops, first_of_two_stops, is_one, one_stops, one_to_three, one_value, second_of_three_stops, second_of_two_stops, third_of_three_stops, three_values, two_values}
 use Rattle.expr_eval.proofs.CodeParts.{built_in_is_fit, call_is_fit, conditional_parts, has_marker, has_other_marker, has_slot, list_is_fit, map_is_fit, select_parts, tuple_is_fit, unary_parts}
-use Rattle.expr_eval.proofs.Following.{memory_held, settled_stops, stops, stops_by, stops_held}
+use Rattle.expr_eval.proofs.Following.{leads_by, memory_held, settled_stops, stops, stops_by, stops_held, stops_leading}
 use Rattle.expr_eval.proofs.Forms.{arguments_stop, binary_answers, built_in_done, built_in_stops, call_done, call_stops, conditional_stops, first_answers, list_done, list_stops, literal_done, map_done, map_stops, marker_done, name_answers, other_marker_done, second_answers, select_answers, select_stops, tuple_done, tuple_stops, unary_answers, unary_stops}
-use Rattle.expr_eval.proofs.LoopParts.{arm_passed, arm_taken, arms_stop, leads_by, over_on, row_ends, row_on, row_stops, stops_leading, while_ends, while_no_turns, while_on, while_stops, while_stops_in_turn}
+use Rattle.expr_eval.proofs.LoopParts.{arm_passed, arm_taken, arms_stop, over_on, row_ends, row_on, row_stops, while_ends, while_no_turns, while_on, while_stops, while_stops_in_turn}
 use Rattle.expr_eval.proofs.RowParts.{condition_of_arm, loop_after_turn, other_arms, other_turns, rest_of_row, row_of_arm, row_of_turn, statement_is_fit, turn_is_fit}
 use Rattle.expr_eval.proofs.Rows.{fields_on, fields_past, fields_start, fields_stop, pairs_on, pairs_past, pairs_start, pairs_stop_at_key, pairs_stop_at_value, takings_on, takings_past, takings_stop, values_on, values_past, values_start, values_stop}
 use Rattle.expr_eval.proofs.StepParts.{first_is_fit, has_elements, has_keys, has_member, index_is_fit, key_is_fit, others_are_fit}
