@@ -1,5 +1,5 @@
 -- What reading comes to, by the places of tokens in the list.
-use Rattle.std.proofs.Common.{◌≡◌, ◌∙◌, ℕ, ◌+◌, ◌-◌, ◌≤◌, List, ◌++◌, length, take, drop, None, sym, ap, subst, arith, length-append, length-drop}
+use Rattle.std.proofs.Common.{◌≡◌, ◌∙◌, ℕ, ◌+◌, ◌-◌, ◌≤◌, List, ◌++◌, length, take, drop, None, Err, sym, ap, subst, arith, length-append, length-drop}
 use Rattle.std.proofs.Math.Seq.{drop-append_seam}
 use Rattle.std.proofs.lemmas.List.{take_rest, drop-drop}
 use Rattle.spl_tree.specs.declared.token.Token.{Token}
@@ -10,6 +10,9 @@ use Rattle.expr_parser.specs.Rules.{Took, Refused, Reads}
 use Rattle.expr_parser.specs.Lines.{Whole, rule}
 use Rattle.expr_parser.specs.Phrases.{IsPhrase, IsUnexpected}
 use Rattle.expr_parser.specs.Expressions.{exact_took, exact_refused}
+use Rattle.expr_parser.specs.declared.stop.Stop.{Stop}
+use Rattle.expr_parser.specs.declared.stop.Stop.TheVariants as S
+use Rattle.expr_parser.specs.Gives.{Gives, Begun}
 use Rattle.expr_parser.specs.Parses.{place_of, IsParsed, IsUnexpectedAt}
 
 -- what stands behind a front of the tokens from a place on
@@ -73,3 +76,8 @@ module _ (tokens : Tokens) (from : ℕ) (list rest : List Token) (same : list �
           place = place;
           unexpected = subst (λ us. IsUnexpected Spells (drop from tokens.list) us) (refused_ends.is ∙ ap (λ n. drop (n - length rest) tokens.list) (sym n)) unexpected;
         }
+
+-- a refusal of an expression
+pub begun_stop : (ts : List Token) (e : Stop) → Gives Whole ts (Err e) → Begun ts (Err e)
+begun_stop ts (S.At rest) g = exact_refused g
+begun_stop ts S.Memory g = tt

@@ -23,7 +23,7 @@ use Rattle.expr_parser.specs.TestLaws.{opens, opens_kind, opens_symbol, is-opens
 -- What a phrase begins with
 
 -- whatever comes behind them, the tokens begin with one that begins an expression
-abbrev Opens : List Token → Type 0
+abbrev pub Opens : List Token → Type 0
 Opens a = (rest : List Token) → begins_with opens (a ++ rest) ≡ true
 
 -- what the tests say of a token that is an expression by itself
@@ -85,7 +85,7 @@ at_opens (unary e a d) rest = unary_opens d rest
 at_opens (tighter k e a d) rest = at_opens d rest
 at_opens (binary k l r op t a b d known at dr) rest = rw (append_assoc a (t ∷ b) rest) (at_opens d (t ∷ (b ++ rest)))
 
-spells_opens : {e : Expr} {a : List Token} → Spells e a → Opens a
+pub spells_opens : {e : Expr} {a : List Token} → Spells e a → Opens a
 spells_opens (plain e a d) rest = at_opens d rest
 spells_opens (conditional c x y q k a b d dc question dx colon dy) rest =
     rw (append_assoc a (q ∷ (b ++ k ∷ d)) rest) (at_opens dc (q ∷ ((b ++ k ∷ d) ++ rest)))
@@ -109,7 +109,7 @@ module _ {A : Type 0} {p : Token → Bool} {f : Token → R A} {d : R A} {o : An
 -- Where lines end
 
 -- nothing more is taken of an expression
-steps_end : (e : Expr) (ss : List (Step Expr)) (rest : List Token) → Stops 0 rest
+pub steps_end : (e : Expr) (ss : List (Step Expr)) (rest : List Token) → Stops 0 rest
     → Reads rule (lines.Steps e ss) rest (Took (selected e ss) rest)
 unfolding rule
 steps_end e ss rest stops =
@@ -147,14 +147,14 @@ steps_front (index ss i o c a b ds left d right) rest e =
     rw (append_assoc a (o ∷ (b ++ c ∷ [])) rest) (steps_front ds (o ∷ ((b ++ c ∷ []) ++ rest)) (rw left))
 
 -- a symbol that ends a list of expressions
-record Closes (s : Symbol) : Type 0 where
-  opens_none : opens_symbol s ≡ false
-  stops : 10 < symbol_binds s
-  no_comma : is_symbol S.Comma (T.Symbol s) ≡ false
-  itself : is_symbol s (T.Symbol s) ≡ true
+pub record Closes (s : Symbol) : Type 0 where
+  pub opens_none : opens_symbol s ≡ false
+  pub stops : 10 < symbol_binds s
+  pub no_comma : is_symbol S.Comma (T.Symbol s) ≡ false
+  pub itself : is_symbol s (T.Symbol s) ≡ true
 
 -- those of calls
-closes_parens : Closes S.RightParen
+pub closes_parens : Closes S.RightParen
 closes_parens = record { opens_none = refl; stops = omega arith; no_comma = refl; itself = refl }
 
 -- and those of list literals
@@ -162,7 +162,7 @@ closes_brackets : Closes S.RightBracket
 closes_brackets = record { opens_none = refl; stops = omega arith; no_comma = refl; itself = refl }
 
 -- what comes behind expressions with commas between them
-abbrev behind_items : Symbol → List Expr → R (List Expr)
+abbrev pub behind_items : Symbol → List Expr → R (List Expr)
 behind_items close es = look (is S.Comma) (λ _. rules.call (lines.Items close es) done) (expect close (done es))
 
 -- what comes behind entries of a map
@@ -271,7 +271,7 @@ mutual
       (by_brace ps left (fields_reads d o.start (c ∷ rest) (rw right (omega arith)) (skips (rw right) (takes (rw right) runs_done))) r)
 
   -- expressions with commas between them, or none, and the closing bracket
-  elements_reads : {es : List Expr} {a : List Token} → Elements es a → (close : Symbol) → Closes close → (c : Token) (rest : List Token)
+  pub elements_reads : {es : List Expr} {a : List Token} → Elements es a → (close : Symbol) → Closes close → (c : Token) (rest : List Token)
       → Is close c → Reads rule (lines.Elements close) (a ++ c ∷ rest) (Took es rest)
   elements_reads no_elements close closes c rest right = line (takes (rw right closes.itself) runs_done)
   elements_reads (elements es a d) close closes c rest right =
@@ -280,7 +280,7 @@ mutual
       (skips (rw right closes.no_comma) (takes (rw right closes.itself) runs_done))) runs_done))
 
   -- expressions with commas between them, and then what comes behind them
-  items_reads : {es : List Expr} {a : List Token} → Items es a → (close : Symbol) (rest : List Token) {w : List Expr} {out : List Token}
+  pub items_reads : {es : List Expr} {a : List Token} → Items es a → (close : Symbol) (rest : List Token) {w : List Expr} {out : List Token}
       → Stops 10 rest → RunsTo rule (behind_items close es) rest (Took w out) → Reads rule (lines.Items close []) (a ++ rest) (Took w out)
   items_reads (first_item e a d) close rest stops r = line (runs_call (spells_reads d rest stops) r)
   items_reads (next_item es e t a b ds comma d) close rest stops r =
@@ -311,7 +311,7 @@ mutual
       (takes (rw comma) (takes (rw named) (takes (rw assign) (rw named (runs_call (line (runs_call (spells_reads d rest stops) r)) runs_done))))))
 
   -- what is taken of an expression, and then more of it
-  steps_reads : {ss : List (Step Expr)} {b : List Token} → Steps ss b → (e : Expr) (rest : List Token) {w : Expr} {out : List Token}
+  pub steps_reads : {ss : List (Step Expr)} {b : List Token} → Steps ss b → (e : Expr) (rest : List Token) {w : Expr} {out : List Token}
       → Reads rule (lines.Steps e ss) rest (Took w out) → Reads rule (lines.Steps e []) (b ++ rest) (Took w out)
   steps_reads no_steps e rest r = r
   steps_reads (member ss a d t n ds dot named) e rest r =

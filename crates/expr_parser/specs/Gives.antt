@@ -9,7 +9,8 @@ use Rattle.spl_tree.specs.declared.symbol.Symbol.{Symbol}
 use Rattle.spl_tree.specs.declared.expression.Step.{Step}
 use Rattle.spl_tree.specs.declared.symbol.Symbol.TheVariants as K
 use Rattle.spl_tree.specs.declared.expression.Placed.{Placed}
-use Rattle.spl_tree.specs.Grammar.{Expr, Prefix, placed}
+use Rattle.spl_tree.specs.Grammar.{Expr, Prefix, placed, Spells}
+use Rattle.expr_parser.specs.Phrases.{IsPhrase, IsUnexpected}
 use Rattle.expr_parser.specs.RuleLaws.{begins_with}
 use Rattle.expr_parser.specs.Taken.{Taken, TakenAs}
 use Rattle.expr_parser.specs.Lines.{Line, Value, Prefixed, Primary, Group, Steps, rule, R, is, is_name, name_of, operand_rule}
@@ -31,6 +32,17 @@ Comes r ts res = Says (RunsTo rule r ts) res
 -- the line comes to it
 abbrev pub Gives : (x : Line) → List Token → Answered (Value x) → Type 0
 Gives x ts res = Says (Reads rule x ts) res
+
+-- the same of a call that answers no height
+abbrev pub Answers : (x : Line) → List Token → Result (Value x × Bor (List Token)) Stop → Type 0
+Answers x ts (Ok found) = Reads rule x ts (Took found.0 found.1.now)
+Answers x ts (Err e) = Gives x ts (Err e)
+
+-- the longest front of the tokens that starts an expression is this one, or is none
+abbrev pub Begun : List Token → Result (Expr × Bor (List Token)) Stop → Type 0
+Begun ts (Ok found) = IsPhrase Spells ts found.0 found.1.now
+Begun ts (Err (S.At rest)) = IsUnexpected Spells ts rest.now
+Begun ts (Err S.Memory) = Unit {0}
 
 -- the symbol comes first, with these tokens behind it, or else it is refused where they begin
 abbrev pub Passes : Symbol → List Token → Result (Bor (List Token)) Stop → Type 0

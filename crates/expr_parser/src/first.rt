@@ -24,7 +24,7 @@ fn is(token: &Token, symbol: Symbol) -> bool
 }
 
 /// The first token, where it is the symbol, and the tokens behind it.
-pub(crate) fn after(ts: &[Token], symbol: Symbol) -> Option<(&Token, &[Token])>
+pub fn after(ts: &[Token], symbol: Symbol) -> Option<(&Token, &[Token])>
     ensures { MatchOption result (begins_with (is symbol) ts.now ≡ false)
         (λ found. Taken (is symbol) ts.now found.0.now found.1.now) }
 {
@@ -37,7 +37,7 @@ pub(crate) fn after(ts: &[Token], symbol: Symbol) -> Option<(&Token, &[Token])>
 }
 
 /// The tokens behind a symbol that has to come first.
-pub(crate) fn pass<'t>(ts: &'t [Token], symbol: Symbol) -> Result<&'t [Token], Stop<'t>>
+pub fn pass<'t>(ts: &'t [Token], symbol: Symbol) -> Result<&'t [Token], Stop<'t>>
     ensures { Passes symbol ts.now result }
 {
     match after(ts, symbol) {
@@ -47,7 +47,7 @@ pub(crate) fn pass<'t>(ts: &'t [Token], symbol: Symbol) -> Result<&'t [Token], S
 }
 
 /// A name that has to come first, with its place, and the tokens behind it.
-pub(crate) fn pass_name<'t>(
+pub fn pass_name<'t>(
     alloc: Global,
     ts: &'t [Token],
 ) -> Result<(Placed<Name>, &'t [Token]), Stop<'t>>
@@ -64,7 +64,7 @@ pub(crate) fn pass_name<'t>(
 }
 
 /// The first token, where it is a name, with the name and the tokens behind it.
-pub(crate) fn name_first(ts: &[Token]) -> Option<(&Token, &Name, &[Token])>
+pub fn name_first(ts: &[Token]) -> Option<(&Token, &Name, &[Token])>
     ensures { MatchOption result (begins_with is_name ts.now ≡ false)
         (λ found. Taken is_name ts.now found.0.now found.2.now × (found.1.now ≡ name_of found.0.now)) }
 {

@@ -6,6 +6,7 @@ mod first;
 mod laws;
 mod making;
 mod parse;
+mod parts;
 mod prefixes;
 mod reading;
 mod stop;
@@ -14,5 +15,9 @@ mod tests;
 mod weight;
 
 pub use answer::{ParsedExpr, SyntaxAnswer};
+pub use first::{after, name_first, pass, pass_name};
 pub use laws::expressions_law;
 pub use parse::parse_expr;
+pub use parts::{Taken, read_elements, read_expression, read_items, read_steps};
+pub use stop::Stop;
+pub use weight::too_deep;

@@ -11,7 +11,7 @@ use std::alloc::Global;
 
 /// How deep expressions may nest in one another: deeper than the weights of ordinary programs allow.
 /// The stack is memory.
-const MOST_NESTED: u32 = 256;
+pub(crate) const MOST_NESTED: u32 = 256;
 
 /// The byte at which that token of the list begins, or the program's end where there is none.
 fn place(tokens: &Tokens, at: usize) -> u32

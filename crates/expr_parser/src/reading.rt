@@ -3,6 +3,7 @@
 ghost use Rattle.std.specs.Prelude.{◌≤◌, ◌<◌, []};
 ghost use Rattle.expr_parser.specs.Gives.{Gives, Comes, StepsOn};
 ghost use Rattle.expr_parser.specs.Lines.{Whole, Rest, Climb, Chain, Prefixed, Primary, Group, Named, Elements, Brace, Entries, Fields, Steps, operand_rule, list_rule, choice_rule};
+ghost use Rattle.expr_parser.specs.Lines as lines;
 
 use crate::first::{after, literal, literal_first, name_first, operator_first, pass, pass_name};
 use crate::making;
@@ -207,13 +208,31 @@ fn list<'t>(alloc: Global, depth: u32, at: u32, ts: &'t [Token]) -> Read<'t, Exp
 
 /// Expressions with commas between them, or none, and the symbol that closes them.
 #[cycle(reader)]
-fn elements<'t>(alloc: Global, depth: u32, close: Symbol, ts: &'t [Token]) -> Read<'t, Exprs>
+pub(crate) fn elements<'t>(
+    alloc: Global,
+    depth: u32,
+    close: Symbol,
+    ts: &'t [Token],
+) -> Read<'t, Exprs>
     ensures { Gives (Elements close) ts.now result }
 {
-    let mut all = Items::new(alloc);
-    if let Some((_, behind)) = after(ts, close) {
-        return Ok((all, 0, behind));
+    match after(ts, close) {
+        Some((_, behind)) => Ok((Items::new(alloc), 0, behind)),
+        None => items(alloc, depth, close, ts),
     }
+}
+
+/// One expression or more, with commas between them, and the symbol that closes them.
+#[cycle(reader)]
+pub(crate) fn items<'t>(
+    alloc: Global,
+    depth: u32,
+    close: Symbol,
+    ts: &'t [Token],
+) -> Read<'t, Exprs>
+    ensures { Gives (lines.Items close []) ts.now result }
+{
+    let mut all = Items::new(alloc);
     let mut height = 0;
     let mut at = ts;
     'items: loop {
@@ -317,7 +336,7 @@ fn fields<'t>(
 
 /// What is taken of a primary expression: members and indices in a row.
 #[cycle(reader)]
-fn steps<'t>(
+pub(crate) fn steps<'t>(
     alloc: Global,
     depth: u32,
     primary: Expr,

@@ -8,7 +8,7 @@ use std::alloc::AllocError;
 
 /// Why a line isn't read.
 #[derive(Debug, Drop)]
-pub(crate) enum Stop<'t> {
+pub enum Stop<'t> {
     /// The tokens from the first one on at which the line doesn't go on.
     At(&'t [Token]),
     /// No memory, or no room on the stack.

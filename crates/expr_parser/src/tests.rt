@@ -1,7 +1,10 @@
-use crate::{ParsedExpr, SyntaxAnswer, parse_expr};
+use crate::{
+    ParsedExpr, Stop, SyntaxAnswer, Taken, after, name_first, parse_expr, pass, pass_name,
+    read_elements, read_expression, read_items, read_steps, too_deep,
+};
 use spl_tree::{
-    BinaryOperator, CastTarget, Expr, ExprKind, KEYWORDS, Keyword, Number, PrefixOperator, Step,
-    Symbol, Token, TokenKind, Tokens,
+    BinaryOperator, CastTarget, Expr, ExprKind, Exprs, KEYWORDS, Keyword, Number, Placed,
+    PrefixOperator, Step, Symbol, Token, TokenKind, Tokens,
 };
 use spl_value::{IntKind, Items};
 use std::alloc::{AllocError, Global};
@@ -137,6 +140,22 @@ struct TreeText {
 }
 
 impl TreeText {
+    fn new(alloc: Global) -> TreeText {
+        TreeText {
+            text: String::new(alloc),
+            outcome: Ok(()),
+        }
+    }
+
+    // The text, with the number behind it.
+    fn finish(self, number: u64) -> Result<String, AllocError> {
+        let mut shown = self;
+        shown.add(" ");
+        shown.add_number(number);
+        shown.outcome?;
+        Ok(shown.text)
+    }
+
     fn add(&mut self, piece: &str) {
         if self.outcome.is_ok() {
             self.outcome = self.text.push_str(piece);
@@ -289,15 +308,9 @@ impl TreeText {
 
 // The tree and the place in the list behind it.
 fn tree(alloc: Global, parsed: &ParsedExpr) -> Result<String, AllocError> {
-    let mut shown = TreeText {
-        text: String::new(alloc),
-        outcome: Ok(()),
-    };
+    let mut shown = TreeText::new(alloc);
     shown.add_tree(&parsed.expr);
-    shown.add(" ");
-    shown.add_number(u64::from(parsed.next));
-    shown.outcome?;
-    Ok(shown.text)
+    shown.finish(u64::from(parsed.next))
 }
 
 // The tree, or why there is none.
@@ -572,5 +585,133 @@ fn a_hundred_thousand_tokens_are_read(rt: HostRuntime) -> Result<(), Fail> {
     let want = format!(in alloc; "[{items}a] 100001")?;
     let seen = shown(alloc, program.as_str(), 0)?;
     assert!(rt; seen.as_str() == want.as_str());
+    Ok(())
+}
+
+// A part of a program that has expressions: one; arguments up to a closing parenthesis; one or more
+// up to a `;`; or what is taken of `m`.
+#[derive(Clone, Copy)]
+enum Part {
+    Expression,
+    Elements,
+    Items,
+    Steps,
+}
+
+fn stopped(alloc: Global, stop: Stop<'_>) -> Result<String, AllocError> {
+    match stop {
+        Stop::At(rest) => format!(in alloc; "stops {}", rest.len()),
+        Stop::Memory => "memory".to_string(alloc),
+    }
+}
+
+// The tree, and the number of tokens behind it.
+fn one(alloc: Global, taken: Taken<'_, Expr>) -> Result<String, AllocError> {
+    match taken {
+        Ok((expr, rest)) => {
+            let mut shown = TreeText::new(alloc);
+            shown.add_tree(&expr);
+            shown.finish(rest.len() as u64)
+        }
+        Err(stop) => stopped(alloc, stop),
+    }
+}
+
+// The trees, and the number of tokens behind them.
+fn several(alloc: Global, taken: Taken<'_, Exprs>) -> Result<String, AllocError> {
+    match taken {
+        Ok((exprs, rest)) => {
+            let mut shown = TreeText::new(alloc);
+            shown.add("of");
+            for expr in exprs.as_slice() {
+                shown.add(" ");
+                shown.add_tree(expr);
+            }
+            shown.finish(rest.len() as u64)
+        }
+        Err(stop) => stopped(alloc, stop),
+    }
+}
+
+fn part_shown(alloc: Global, part: Part, text: &str) -> Result<String, AllocError> {
+    let tokens = tokens(alloc, text)?;
+    let ts = tokens.list.as_slice();
+    match part {
+        Part::Expression => one(alloc, read_expression(alloc, ts)),
+        Part::Elements => several(alloc, read_elements(alloc, Symbol::RightParen, ts)),
+        Part::Items => several(alloc, read_items(alloc, Symbol::Semicolon, ts)),
+        Part::Steps => {
+            let what = ExprKind::Name(Items::from_slice(alloc, b"m")?);
+            one(alloc, read_steps(alloc, Placed { at: 0, what }, ts))
+        }
+    }
+}
+
+const PARTS: &[(Part, &str, &str)] = &[
+    (Part::Expression, "a + b ; c", "(a + b) 2"),
+    (Part::Expression, "a", "a 0"),
+    (Part::Expression, "a + ; b", "stops 2"),
+    (Part::Expression, "a +", "stops 0"),
+    (Part::Elements, ") ;", "of 1"),
+    (Part::Elements, "a , b + c ) ;", "of a (b + c) 1"),
+    (Part::Elements, "a , ) ;", "stops 2"),
+    (Part::Elements, "a ; b )", "stops 3"),
+    (Part::Items, "a , b ; c", "of a b 1"),
+    (Part::Items, "; a", "stops 2"),
+    (Part::Items, "a b ;", "stops 2"),
+    (Part::Steps, ". n [ 1 ] = 2", "(m.n[1]) 2"),
+    (Part::Steps, "= 2", "m 2"),
+    (Part::Steps, "[ ] = 2", "stops 3"),
+];
+
+#[test]
+fn parts_with_expressions_are_read(rt: HostRuntime) -> Result<(), Fail> {
+    let alloc = rt.alloc();
+    for (kind, text, want) in PARTS {
+        let seen = part_shown(alloc, *kind, text)?;
+        assert_eq!(rt; seen.as_str(), *want, "{text}");
+    }
+    Ok(())
+}
+
+#[test]
+fn the_first_token_is_a_symbol_or_a_name(rt: HostRuntime) -> Result<(), Fail> {
+    let alloc = rt.alloc();
+    let tokens = tokens(alloc, "( a ;")?;
+    let ts = tokens.list.as_slice();
+    assert!(rt; after(ts, Symbol::Comma).is_none());
+    assert!(rt; name_first(ts).is_none());
+    assert!(rt; pass(ts, Symbol::Comma).is_err());
+    assert!(rt; pass_name(alloc, ts).is_err());
+    let Some((open, behind)) = after(ts, Symbol::LeftParen) else {
+        return Err(Fail::from("no parenthesis"));
+    };
+    assert_eq!(rt; open.start, 0);
+    let Some((token, name, rest)) = name_first(behind) else {
+        return Err(Fail::from("no name"));
+    };
+    assert_eq!(rt; token.start, 10);
+    assert!(rt; name.as_slice() == b"a".as_slice());
+    assert_eq!(rt; rest.len(), 1);
+    let Ok((passed, rest)) = pass_name(alloc, behind) else {
+        return Err(Fail::from("no name passed"));
+    };
+    assert_eq!(rt; passed.at, 10);
+    assert!(rt; passed.what.as_slice() == b"a".as_slice());
+    let Ok(end) = pass(rest, Symbol::Semicolon) else {
+        return Err(Fail::from("no semicolon"));
+    };
+    assert!(rt; end.is_empty());
+    Ok(())
+}
+
+#[test]
+fn the_first_token_that_weighs_too_much_is_found(rt: HostRuntime) -> Result<(), Fail> {
+    let alloc = rt.alloc();
+    for (depth, want) in [(200, None), (201, Some(200)), (300, Some(200))] {
+        let tokens = tokens(alloc, repeated(alloc, "( ", depth)?.as_str())?;
+        let found = too_deep(alloc, tokens.list.as_slice(), 0)?;
+        assert_eq!(rt; found, want);
+    }
     Ok(())
 }

@@ -109,11 +109,7 @@ impl Weighing {
 
 /// The place in the list of the first token from `from` on that weighs too much. It is weighed with
 /// all tokens of the list.
-pub(crate) fn too_deep(
-    alloc: Global,
-    tokens: &[Token],
-    from: usize,
-) -> Result<Option<usize>, NoMemory>
+pub fn too_deep(alloc: Global, tokens: &[Token], from: usize) -> Result<Option<usize>, NoMemory>
     requires { from ≤ length tokens.now }
     ensures { IfOk result (λ at. at ≡ too_deep_from from tokens.now) }
 {

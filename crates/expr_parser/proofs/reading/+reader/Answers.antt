@@ -189,38 +189,42 @@ list-returns t c =
 
 pub elements-returns-in-Some : goal.elements-returns-in-Some
 elements-returns-in-Some t c =
-    subst (λ es. Reads rule (Elements c.args.close) c.args.ts.now (Took es c.in-Some.behind.now)) (sym c.new-all.ensures)
+    subst (λ es. Reads rule (Elements c.args.close) c.args.ts.now (Took es c.in-Some.behind.now)) (sym c.new.ensures)
     (elements_none c.args.close c.args.ts.now c.in-Some.field-0-0.now c.in-Some.behind.now c.in-Some.ensures)
 
-pub elements-items-init : goal.elements-items-init
-elements-items-init t c =
-    λ o r. elements_start c.args.close c.args.ts.now c.in_default.ensures o (subst (λ es. Reads rule (Items c.args.close es) c.args.ts.now o) c.new-all.ensures r)
+pub elements-returns-in-None : goal.elements-returns-in-None
+elements-returns-in-None t c =
+    says_on (elements_start c.args.close c.args.ts.now c.in-None.ensures) c.items.result c.items.ensures
 
-pub elements-returns-in_err-item : goal.elements-returns-in_err-item
-elements-returns-in_err-item t c =
-    exit (Gives (Elements c.args.close) c.args.ts.now) c.from_residual.result c.in_err-item.field-0.0 c.from_residual.ensures.1
+pub items-items-init : goal.items-items-init
+items-items-init t c =
+    λ o r. subst (λ es. Reads rule (Items c.args.close es) c.args.ts.now o) c.new-all.ensures r
+
+pub items-returns-in_err-item : goal.items-returns-in_err-item
+items-returns-in_err-item t c =
+    exit (Gives (Items c.args.close []) c.args.ts.now) c.from_residual.result c.in_err-item.field-0.0 c.from_residual.ensures.1
     (says_on c.items.invariant (Err c.in_err-item.field-0.0) (item_fails c.args.close c.items.at.now c.items.all c.in_err-item.field-0.0 c.in_err-item.ensures))
 
-pub elements-returns-in_err-behind : goal.elements-returns-in_err-behind
-elements-returns-in_err-behind t c =
-    exit (Gives (Elements c.args.close) c.args.ts.now) c.from_residual-in_err-behind.result c.in_err-behind.field-0.0 c.from_residual-in_err-behind.ensures.1
-    (says_on c.items.invariant (Err c.in_err-behind.field-0.0) (items_stops c.args.close c.items.at.now c.items.all c.in_ok-item.item c.in_ok-item.behind.now c.in_ok-item.ensures c.in_default-after.ensures c.in_err-behind.field-0.0 c.in_err-behind.ensures))
+pub items-returns-in_err-behind : goal.items-returns-in_err-behind
+items-returns-in_err-behind t c =
+    exit (Gives (Items c.args.close []) c.args.ts.now) c.from_residual-in_err-behind.result c.in_err-behind.field-0.0 c.from_residual-in_err-behind.ensures.1
+    (says_on c.items.invariant (Err c.in_err-behind.field-0.0) (items_stops c.args.close c.items.at.now c.items.all c.in_ok-item.item c.in_ok-item.behind.now c.in_ok-item.ensures c.in_default.ensures c.in_err-behind.field-0.0 c.in_err-behind.ensures))
 
-pub elements-returns-in_default-after : goal.elements-returns-in_default-after
-elements-returns-in_default-after t c =
+pub items-returns-in_default : goal.items-returns-in_default
+items-returns-in_default t c =
     c.items.invariant (Took c.push.new.self c.in_ok-behind.behind.now)
     (subst (λ es. Reads rule (Items c.args.close c.items.all) c.items.at.now (Took es c.in_ok-behind.behind.now)) (sym c.in_ok-push.ensures.ok)
-    (items_end c.args.close c.items.at.now c.items.all c.in_ok-item.item c.in_ok-item.behind.now c.in_ok-item.ensures c.in_default-after.ensures c.in_ok-behind.behind c.in_ok-behind.ensures))
+    (items_end c.args.close c.items.at.now c.items.all c.in_ok-item.item c.in_ok-item.behind.now c.in_ok-item.ensures c.in_default.ensures c.in_ok-behind.behind c.in_ok-behind.ensures))
 
-pub elements-items-preserved : goal.elements-items-preserved
-elements-items-preserved t c =
-    λ o r. c.items.invariant o (items_go c.args.close c.items.at.now c.items.all c.in_ok-item.item c.in_ok-item.behind.now c.in_ok-item.ensures c.in-Some-after.field-0-0.now c.in-Some-after.behind.now c.in-Some-after.ensures o
-    (subst (λ es. Reads rule (Items c.args.close es) c.in-Some-after.behind.now o) c.in_ok-push.ensures.ok r))
+pub items-items-preserved : goal.items-items-preserved
+items-items-preserved t c =
+    λ o r. c.items.invariant o (items_go c.args.close c.items.at.now c.items.all c.in_ok-item.item c.in_ok-item.behind.now c.in_ok-item.ensures c.in-Some.field-0-0.now c.in-Some.behind.now c.in-Some.ensures o
+    (subst (λ es. Reads rule (Items c.args.close es) c.in-Some.behind.now o) c.in_ok-push.ensures.ok r))
 
-pub elements-items-smaller : goal.elements-items-smaller
-elements-items-smaller t c =
+pub items-items-smaller : goal.items-items-smaller
+items-items-smaller t c =
     let one = reads_shrinks c.in_ok-item.ensures in
-    let two = taken_shrinks c.in-Some-after.ensures in
+    let two = taken_shrinks c.in-Some.ensures in
     omega arith
 
 pub brace-returns-in-Some : goal.brace-returns-in-Some

@@ -13,6 +13,9 @@ decreases-step l = l.depth * 64 + 2
 abbrev pub decreases-steps : goal.decreases-steps
 decreases-steps l = l.depth * 64 + 3
 
+abbrev pub decreases-items : goal.decreases-items
+decreases-items l = l.depth * 64 + 2
+
 abbrev pub decreases-elements : goal.decreases-elements
 decreases-elements l = l.depth * 64 + 3
 
@@ -64,11 +67,11 @@ invariant-chain-operators l = (o : Answer Expr) → Reads rule (Chain l.below l.
 abbrev pub decreases-chain-operators : goal.decreases-chain-operators
 decreases-chain-operators l = length l.at
 
-abbrev pub invariant-elements-items : goal.invariant-elements-items
-invariant-elements-items l = (o : Answer (List Expr)) → Reads rule (Items l.close l.all) l.at o → Reads rule (Elements l.fn.close) l.fn.ts o
+abbrev pub invariant-items-items : goal.invariant-items-items
+invariant-items-items l = (o : Answer (List Expr)) → Reads rule (Items l.close l.all) l.at o → Reads rule (Items l.fn.close []) l.fn.ts o
 
-abbrev pub decreases-elements-items : goal.decreases-elements-items
-decreases-elements-items l = length l.at
+abbrev pub decreases-items-items : goal.decreases-items-items
+decreases-items-items l = length l.at
 
 abbrev pub invariant-entries-entries : goal.invariant-entries-entries
 invariant-entries-entries l = (o : Answer Expr) → Reads rule (Entries l.at l.all l.key) l.left o → Reads rule (Entries l.fn.at [] l.fn.key) l.fn.ts o
