@@ -21,11 +21,12 @@ use Rattle.spl_tree.specs.declared.code.Taking.{Taking}
 use Rattle.spl_tree.specs.declared.body.Function.{Function}
 use Rattle.stream_model.specs.declared.env.Env.{Env}
 use Rattle.stream_model.specs.declared.scope.Scope.{Scope}
+use Rattle.stream_model.specs.declared.scope.Signature.{Signature}
 use Rattle.stream_model.specs.declared.scope.Variable.{Variable}
 use Rattle.stream_model.specs.BodyFits as B
-use Rattle.stream_model.specs.BodyFits.{Purpose, OfHandler, result_of, outputs_of, PlaceFits, GoesOver, ReturnFits, StatementFits, RowFits, ArmsFit}
+use Rattle.stream_model.specs.BodyFits.{Purpose, OfHandler, result_of, outputs_of, PlaceFits, GoesOver, ReturnFits, StatementFits, RowFits, ArmsFit, Returns, RowReturns, ArmsReturn}
 use Rattle.stream_model.specs.CodeFits as F
-use Rattle.stream_model.specs.CodeFits.{CodeFits, SlotFits, StepsLead}
+use Rattle.stream_model.specs.CodeFits.{CodeFits, ArgumentsFit, SlotFits, StepsLead}
 use Rattle.expr_eval.specs.Running.{BodyIsFit}
 use Rattle.language_tests.specs.Contexts.{Holds}
 use Rattle.language_tests.specs.Building.{Serves, Grown, Stands, Keeps, KeepsIn}
@@ -105,6 +106,21 @@ module _ (scope : Scope) where
   pub evaluated : (code : Code Slot) (t : SplType) (call : BuiltIn) (codes : List (Code Slot)) → code ≡ C.BuiltIn call codes → CodeFits scope code t
       → Keeps scope (T.Evaluate (C.BuiltIn call codes))
   evaluated code t call codes is fit purpose l = B.evaluate l scope call codes t (subst (λ x. CodeFits scope x t) is fit)
+
+  pub called : (i : ℕ) (xs : List (Code Slot)) (f : Signature) → slice_get scope.functions i ≡ Some f → ArgumentsFit scope xs f.parameters
+      → Keeps scope (T.Call i xs)
+  called i xs f at fit purpose l = B.call l scope i xs f at fit
+
+  pub arguments_none : (xs : List (Code Slot)) → xs ≡ [] → ArgumentsFit scope xs []
+  arguments_none xs e = subst (λ xs. ArgumentsFit scope xs []) (sym e) F.no_arguments
+
+  pub argument_more : (xs more : List (Code Slot)) (ts longer : List SplType) (x : Code Slot) (t : SplType) → more ≡ xs ++ x ∷ [] → longer ≡ ts ++ t ∷ []
+      → ArgumentsFit scope xs ts → CodeFits scope x t → ArgumentsFit scope more longer
+  argument_more xs more ts longer x t e d fit h = rw (e, d) (behind xs ts fit)
+    where
+      behind : (xs : List (Code Slot)) (ts : List SplType) → ArgumentsFit scope xs ts → ArgumentsFit scope (xs ++ x ∷ []) (ts ++ t ∷ [])
+      behind _ _ F.no_arguments = F.argument x [] t [] h F.no_arguments
+      behind _ _ (F.argument y ys u us g rest) = F.argument y (ys ++ x ∷ []) u (us ++ t ∷ []) g (behind ys us rest)
 
   pub returns_nothing : (result : Option SplType) (outputs : List (List (Named SplType))) → result ≡ None → KeepsIn scope result outputs (T.Return None)
   returns_nothing result outputs is purpose serves l = B.return l scope None (subst (ReturnFits scope None) (sym (serves.0 ∙ is)) B.nothing)
@@ -205,9 +221,6 @@ pub behind_variable : (purpose : Purpose) (scope : Scope) (v : Variable) (vars :
     → RowFits purpose true (having scope vars) row → RowFits purpose true (B.with_variable scope v) row
 behind_variable purpose scope v vars row e h = subst (λ vs. RowFits purpose true (having scope vs) row) e h
 
-pub grown_same : (old new : Scope) → new ≡ old → Grown old new
-grown_same old new e = subst (Grown old) (sym e) (grown_none old)
-
 pub arms_none : (purpose : Purpose) (l : Bool) (scope : Scope) (arms : List (Code Slot × List Statement)) → arms ≡ [] → ArmsFit purpose l scope arms
 arms_none purpose l scope arms e = subst (ArmsFit purpose l scope) (sym e) (B.no_arms l scope)
 
@@ -232,15 +245,6 @@ module _ {E : Type 0} (l : Bool) (result : Option SplType) (outputs : List (List
   jumps_there scope (Ok x) h = λ purpose serves. h purpose
   jumps_there scope (Err e) h = h
 
-  pub declared_there : (old new : Scope) (r : Result Statement E) → IfOk r (λ x. (purpose : Purpose) (l : Bool) → StatementFits purpose l old x new)
-      → FitsThere old new r
-  declared_there old new (Ok x) h = λ purpose serves. h purpose l
-  declared_there old new (Err e) h = h
-
-pub grown_none_there : {A E : Type 0} (scope : Scope) (r : Result A E) → IfOk r (λ x. Grown scope scope)
-grown_none_there scope (Ok x) = grown_none scope
-grown_none_there scope (Err e) = tt
-
 module _ (purpose : Purpose) (l : Bool) (old new : Scope) (same : new ≡ old) where
   there : (x : Statement) → StatementFits purpose l old x old → StatementFits purpose l old x new
   there x h = subst (λ z. StatementFits purpose l old x z) (sym same) h
@@ -259,7 +263,30 @@ module _ (purpose : Purpose) (l : Bool) (old new : Scope) (same : new ≡ old) w
       → RowFits purpose l between other → StatementFits purpose l old (T.If arms other) new
   branched between arms other e f h = there (T.If arms other) (B.if_else l old arms other f (subst (λ z. RowFits purpose l z other) e h))
 
+-- ---- rows that return
+
+pub row_ends : (row more : List Statement) (x : Statement) → more ≡ row ++ x ∷ [] → Returns x → RowReturns more
+row_ends row more x e h = subst RowReturns (sym e) (ends row)
+  where
+    ends : (row : List Statement) → RowReturns (row ++ x ∷ [])
+    ends [] = RowReturns.last x h
+    ends (y ∷ []) = RowReturns.later y x [] (RowReturns.last x h)
+    ends (y ∷ z ∷ row) = RowReturns.later y z (row ++ x ∷ []) (ends (z ∷ row))
+
+pub arm_ends : (arms more : List (Code Slot × List Statement)) (x : Code Slot) (row : List Statement) → more ≡ arms ++ (x, row) ∷ [] → ArmsReturn arms
+    → RowReturns row → ArmsReturn more
+arm_ends arms more x row e h ended = subst ArmsReturn (sym e) (behind arms h)
+  where
+    behind : (arms : List (Code Slot × List Statement)) → ArmsReturn arms → ArmsReturn (arms ++ (x, row) ∷ [])
+    behind _ ArmsReturn.no_arms = ArmsReturn.arm x row [] ended ArmsReturn.no_arms
+    behind _ (ArmsReturn.arm y other rest g later) = ArmsReturn.arm y other (rest ++ (x, row) ∷ []) g (behind rest later)
+
 -- ---- bodies
+
+pub handler_there : {E : Type 0} (outputs : List (List (Named SplType))) (scope : Scope) (r : Result (List Statement) E)
+    → IfOk r (λ row. (purpose : Purpose) → Serves purpose None outputs → RowFits purpose false scope row) → IfOk r (λ row. RowFits (OfHandler outputs) false scope row)
+handler_there outputs scope (Ok row) h = h (OfHandler outputs) (refl, refl)
+handler_there outputs scope (Err e) h = h
 
 -- a handler's body that fits the scope can be run
 pub handler_is_fit : (scope : Scope) (env : Env) (functions : List Function) (outputs : List (List (Named SplType))) (row : List Statement)

@@ -108,7 +108,7 @@ with_functions scope env functions vars ports values inputs punct h = record {
 
 -- ---- functions
 
-variables_alone : (scope : Scope) (vars : List Variable) → SeesVariables scope → body_scope scope.functions vars ≡ record scope { vars = vars }
+pub variables_alone : (scope : Scope) (vars : List Variable) → SeesVariables scope → body_scope scope.functions vars ≡ record scope { vars = vars }
 variables_alone scope vars sees = λ i. record { vars = vars; ports = sym sees.ports i; functions = scope.functions; punct = sym sees.punct i }
 
 returning_fits : (scope : Scope) (code : Code Slot) (t : SplType) → CodeFits scope code t → RowFits (OfFunction (Some t)) false scope (returning code)
@@ -132,6 +132,21 @@ function_fits scope vars s t code f sees is kinds immutable fit parameters resul
       (subst (RowFits (OfFunction (Some t)) false (body_scope scope.functions vars)) (sym body)
       (returning_fits (body_scope scope.functions vars) code t (subst (λ z. CodeFits z code t) (sym (variables_alone scope vars sees)) fit)));
   returns = λ u e. subst RowReturns (sym body) (RowReturns.last (T.Return (Some code)) (Returns.return (Some code)));
+}
+
+-- a function fits whose body fits and, where the function has a result, ends with one
+pub lines_fit : (scope : Scope) (vars : List Variable) (s : Signature) (f : Function) → SeesVariables scope
+    → map {A = Variable} (λ x. x.kind) vars ≡ s.parameters → IsTrue (list_all (λ (x : Variable). not x.mutable) vars)
+    → RowFits (OfFunction s.result) false (record scope { vars = vars }) f.body → ((t : SplType) → s.result ≡ Some t → RowReturns f.body)
+    → f.parameters ≡ s.parameters → f.result ≡ s.result → FunctionFits scope.functions s f
+lines_fit scope vars s f sees kinds immutable fit returns parameters result = record {
+  parameters = parameters;
+  result = result;
+  variables = vars;
+  kinds = kinds;
+  immutable = immutable;
+  body = subst (λ z. RowFits (OfFunction s.result) false z f.body) (sym (variables_alone scope vars sees)) fit;
+  returns = returns;
 }
 
 -- the functions of the first signatures are there, and fit

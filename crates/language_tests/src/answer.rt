@@ -22,7 +22,8 @@ fn add_typed(shown: &mut Shown, typed: &Typed) {
     add_code(shown, typed.code.get());
 }
 
-fn error(error: TypeError) -> &'static str {
+/// The name of a refusal.
+pub(crate) fn error(error: TypeError) -> &'static str {
     match error {
         TypeError::Unknown => "Unknown",
         TypeError::Mismatch => "Mismatch",

@@ -1,29 +1,40 @@
 //! Bodies of statements against what they leave.
-ghost use Rattle.std.specs.Prelude.{IfOk};
+ghost use Rattle.std.specs.Prelude.{◌≡◌, false, IfOk};
+ghost use Rattle.stream_model.specs.BodyFits.{OfHandler, RowFits};
 ghost use Rattle.language_tests.specs.Contexts.{Holds};
 
 mod build;
+mod call;
+mod calls;
 mod faults;
+mod functions;
 mod leaves;
 mod line;
 mod loops;
 mod places;
+mod program;
+mod refused;
+mod returns;
+pub(crate) mod unbuilt;
 mod variables;
 
 use crate::context::Context;
-use crate::functions::FunctionText;
 use crate::kinds::Kinds;
 use crate::shown::Shown;
 use crate::value::{add_value, fault};
-use build::{Builder, scoped};
+use build::{Builder, ROOM, scoped};
 use expr_eval::{Ran, run_body};
+use functions::functions_of;
 use leaves::Ends;
 use line::Lines;
+use program::FUNCTIONS;
+use spl_tree::Body;
 use spl_value::{Item, Items, Schema, Value};
 use std::alloc::{AllocError, Global};
 use std::process::Abort;
 use std::test::Fail;
-use stream_model::{Output, Outs};
+use stream_model::{Output, Outs, Scope};
+use unbuilt::Unbuilt;
 
 /// Variables of a handler, which may be changed: the name, the type and the first value of each.
 pub(crate) type State = &'static [(&'static str, &'static str, &'static str)];
@@ -33,27 +44,12 @@ pub(crate) type State = &'static [(&'static str, &'static str, &'static str)];
 /// name of the fault.
 pub(crate) type Row = (State, Lines, u32, &'static str);
 
-// Functions that can be called.
-const FUNCTIONS: &[FunctionText<'static>] = &[
-    ("inc", &[("n", "int32")], "int32", "n + 1"),
-    ("zero", &[], "int32", "0"),
-    (
-        "at",
-        &[("xs", "list<int32>"), ("i", "int32")],
-        "int32",
-        "xs[i]",
-    ),
-    ("twice", &[("n", "int32")], "int32", "inc(inc(n))"),
-];
-
-// How deep the statements of a body may nest.
-const ROOM: u32 = 100;
-
 // Where a body runs.
 fn context(alloc: Global, kinds: &Kinds, state: State) -> Result<Context, Fail>
     ensures { IfOk result (λ it. Holds it.scope it.env it.functions) }
 {
-    let mut context = Context::new(alloc, kinds, FUNCTIONS, None)?;
+    let (signatures, functions) = functions_of(alloc, kinds, FUNCTIONS)?;
+    let mut context = Context::calling(alloc, signatures, functions, None);
     for (name, kind, text) in state {
         let kind = kinds.get(kind).ok_or(*kind)?;
         context.add_variable(alloc, name, kind, text)?;
@@ -125,6 +121,29 @@ fn left(
     shown.finish()
 }
 
+// The body of a handler.
+fn handler(
+    alloc: Global,
+    kinds: &Kinds,
+    scope: &mut Scope,
+    outputs: Items<Schema>,
+    lines: Lines,
+) -> Result<Body, Unbuilt>
+    ensures fits { IfOk result (λ row. RowFits (OfHandler outputs) false scope.old row) }
+    ensures same { IfOk result (λ row. scope.new ≡ scope.old) }
+{
+    let ends = Ends {
+        result: None,
+        outputs,
+    };
+    let builder = Builder {
+        alloc,
+        kinds,
+        ends: &ends,
+    };
+    scoped(&builder, scope, false, ROOM, lines)
+}
+
 // What a handler's body comes to.
 fn outcome(
     alloc: Global,
@@ -140,16 +159,8 @@ fn outcome(
         mut env,
         functions,
     } = context;
-    let ends = Ends {
-        result: None,
-        outputs: outputs(alloc, kinds)?,
-    };
-    let builder = Builder {
-        alloc,
-        kinds,
-        ends: &ends,
-    };
-    let body = scoped(&builder, &mut scope, false, ROOM, lines)?;
+    let outputs = outputs(alloc, kinds)?;
+    let body = handler(alloc, kinds, &mut scope, outputs, lines)?;
     let mut left_turns = turns;
     let mut submits = Items::new(alloc);
     let ran = run_body(
@@ -193,4 +204,16 @@ pub(crate) fn expect(rt: &impl Abort, alloc: Global, rows: &[Row]) -> Result<(),
     let others = others(alloc, &kinds, rows)?;
     finish(rt, others.as_str());
     Ok(())
+}
+
+// Why no body of a handler is made, or nothing where one is.
+fn refusal(alloc: Global, state: State, lines: Lines) -> Result<&'static str, Fail> {
+    let kinds = Kinds::new(alloc)?;
+    let mut context = context(alloc, &kinds, state)?;
+    let outputs = outputs(alloc, &kinds)?;
+    match handler(alloc, &kinds, &mut context.scope, outputs, lines) {
+        Ok(_) => Ok(""),
+        Err(Unbuilt::Refused(why)) => Ok(why),
+        Err(other) => Err(Fail::from(other)),
+    }
 }

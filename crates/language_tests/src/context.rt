@@ -2,6 +2,7 @@
 ghost use Rattle.std.specs.Prelude.{IsTrue, IfOk, OnOk};
 ghost use Rattle.spl_value.specs.Values.{fits};
 ghost use Rattle.stream_model.specs.CodeFits.{CodeFits};
+ghost use Rattle.stream_model.specs.WorldFits.{FunctionsFit};
 ghost use Rattle.language_tests.specs.Contexts.{Holds};
 
 use crate::functions::{FunctionText, functions, signatures};
@@ -13,7 +14,7 @@ use spl_tree::{Functions, Marker};
 use spl_value::{Evaluated, FaultKind, Items, SplType, Value, same};
 use std::alloc::Global;
 use std::test::Fail;
-use stream_model::{Env, Port, Scope, Typed, Variable, evaluation_law};
+use stream_model::{Env, Port, Scope, Signature, Typed, Variable, evaluation_law};
 
 /// A scope, the values of what can be named in it, and the functions that can be called.
 #[derive(Drop)]
@@ -65,18 +66,39 @@ impl Context {
             punct: false,
         };
         let functions = functions(alloc, &mut scope, from)?;
-        scope.vars = Items::new(alloc);
-        scope.punct = came.is_some();
+        let Scope {
+            functions: signatures,
+            ..
+        } = scope;
+        Ok(Context::calling(alloc, signatures, functions, came))
+    }
+
+    /// A context with these functions alone, where a marker came or, as `None`, a tuple.
+    pub(crate) fn calling(
+        alloc: Global,
+        signatures: Items<Signature>,
+        functions: Functions,
+        came: Option<Marker>,
+    ) -> Context
+        requires { FunctionsFit signatures functions }
+        ensures { Holds result.scope result.env result.functions }
+    {
+        let scope = Scope {
+            vars: Items::new(alloc),
+            ports: Items::new(alloc),
+            functions: signatures,
+            punct: came.is_some(),
+        };
         let env = Env {
             inputs: Items::new(alloc),
             vars: Items::new(alloc),
             punct: came,
         };
-        Ok(Context {
+        Context {
             scope,
             env,
             functions,
-        })
+        }
     }
 
     // The value of a code, and of the turns those that are left. A plain evaluation has to come to the

@@ -6,6 +6,7 @@ ghost use Rattle.stream_model.specs.declared.scope.Variable.{Variable};
 ghost use Rattle.stream_model.specs.WorldFits.{FunctionFits, FunctionsFit};
 ghost use Rattle.language_tests.specs.Contexts.{SeesVariables, returning};
 
+use crate::bodies::unbuilt::Unbuilt;
 use crate::kinds::Kinds;
 use crate::typed::typed;
 use spl_tree::{Body, Code, Function, Functions, Slot, Statement};
@@ -49,7 +50,8 @@ pub(crate) fn signatures(
     Ok(made)
 }
 
-fn copies(alloc: Global, kinds: &[SplType]) -> Result<Items<SplType>, NoMemory>
+/// Copies of types.
+pub(crate) fn copies(alloc: Global, kinds: &[SplType]) -> Result<Items<SplType>, NoMemory>
     ensures { IfOk result (λ copied. copied ≡ kinds.now) }
 {
     let mut copied = Items::new(alloc);
@@ -59,18 +61,20 @@ fn copies(alloc: Global, kinds: &[SplType]) -> Result<Items<SplType>, NoMemory>
     Ok(copied)
 }
 
-// Variables of these types that can't be changed, with the names of parameters.
-fn variables(
+/// Variables of these types that can't be changed, with the names of parameters.
+pub(crate) fn variables(
     alloc: Global,
     named: NamedKinds<'_>,
     kinds: &[SplType],
-) -> Result<Items<Variable>, Fail>
+) -> Result<Items<Variable>, Unbuilt>
     ensures kinds { IfOk result (λ xs. map {A = Variable} (λ x. x.kind) xs ≡ kinds.now) }
     ensures immutable { IfOk result (λ xs. IsTrue (list_all (λ (x : Variable). not x.mutable) xs)) }
 {
     let mut made = Items::new(alloc);
     for (at, kind) in kinds.iter().enumerate() {
-        let (name, _) = named.get(at).ok_or("a parameter has no name")?;
+        let Some((name, _)) = named.get(at) else {
+            return Err(Unbuilt::Unread("a parameter has no name"));
+        };
         let name = Items::from_slice(alloc, name.as_bytes())?;
         let kind = copy_type(alloc, kind)?;
         made.push(Variable {

@@ -5,6 +5,7 @@ ghost use Rattle.spl_value.specs.declared.types.SplType.{SplType};
 ghost use Rattle.stream_model.specs.CodeFits.{CodeFits};
 
 use crate::reading::read;
+use spl_tree::Expr;
 use spl_value::{FaultKind, SplType};
 use std::alloc::Global;
 use stream_model::{Scope, Typed, typing_law};
@@ -33,12 +34,25 @@ pub(crate) fn typed(
     ensures wanted { (u : SplType) → option_copied wanted.entry ≡ Some u
         → IfOk result (λ t. t.kind ≡ u) }
 {
+    match read(alloc, text) {
+        Ok(expr) => typed_expr(alloc, scope, &expr, wanted),
+        Err(why) => Err(Unvalued::Unread(why)),
+    }
+}
+
+/// The type and the code of an expression.
+pub(crate) fn typed_expr(
+    alloc: Global,
+    scope: &Scope,
+    expr: &Expr,
+    wanted: Option<&SplType>,
+) -> Result<Typed, Unvalued>
+    ensures fits { IfOk result (λ t. CodeFits scope.now t.code t.kind) }
+    ensures wanted { (u : SplType) → option_copied wanted.entry ≡ Some u
+        → IfOk result (λ t. t.kind ≡ u) }
+{
     typing_law();
-    let expr = match read(alloc, text) {
-        Ok(expr) => expr,
-        Err(why) => return Err(Unvalued::Unread(why)),
-    };
-    match type_of(alloc, scope, &expr, wanted) {
+    match type_of(alloc, scope, expr, wanted) {
         Ok(typed) => Ok(typed),
         Err(answer) => Err(Unvalued::Untyped(answer)),
     }

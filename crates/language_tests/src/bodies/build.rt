@@ -3,19 +3,23 @@ ghost use Rattle.std.specs.Prelude.{◌≡◌, true, false, IfOk, take};
 ghost use Rattle.stream_model.specs.BodyFits.{Purpose, StatementFits, RowFits, ArmsFit, with_variable};
 ghost use Rattle.language_tests.specs.Building.{Serves, Grown, IsOver};
 
+use crate::bodies::call::call;
 use crate::bodies::leaves::{
     Ends, append, assign, break_here, clear, continue_here, declare, evaluate, remove,
     return_nothing, return_value, submit, submit_window,
 };
 use crate::bodies::line::{Line, Lines};
-use crate::bodies::places::{code_of, gone_over};
+use crate::bodies::places::{code_of, gone_over, kind_of};
+use crate::bodies::unbuilt::Unbuilt;
 use crate::kinds::Kinds;
 use crate::typed::typed;
 use spl_tree::{Body, Code, Slot, Statement};
 use spl_value::{Items, SplType, same_type};
 use std::alloc::Global;
-use std::test::Fail;
 use stream_model::{Scope, Variable};
+
+/// How deep the statements of a body may nest.
+pub(crate) const ROOM: u32 = 100;
 
 /// What lines are built for.
 #[derive(Clone, Copy)]
@@ -35,7 +39,12 @@ fn forget(variables: &mut Items<Variable>, count: usize)
 }
 
 // A statement without statements in it, that declares nothing.
-fn leaf(builder: &Builder<'_>, scope: &Scope, in_loop: bool, line: &Line) -> Result<Statement, Fail>
+fn leaf(
+    builder: &Builder<'_>,
+    scope: &Scope,
+    in_loop: bool,
+    line: &Line,
+) -> Result<Statement, Unbuilt>
     ensures { IfOk result (λ x. (purpose : Purpose)
         → Serves purpose builder.now.ends.now.result builder.now.ends.now.outputs
         → StatementFits purpose in_loop scope.now x scope.now) }
@@ -47,13 +56,14 @@ fn leaf(builder: &Builder<'_>, scope: &Scope, in_loop: bool, line: &Line) -> Res
         Line::Remove(place, text) => remove(alloc, scope, place, text),
         Line::Clear(place) => clear(alloc, scope, place),
         Line::Evaluate(text) => evaluate(alloc, scope, text),
+        Line::Call(text) => call(alloc, scope, text),
         Line::Return => return_nothing(builder.ends, scope),
         Line::ReturnValue(text) => return_value(alloc, scope, builder.ends, text),
         Line::Submit(port, text) => submit(alloc, scope, builder.ends, *port, text),
         Line::SubmitWindow(port) => submit_window(scope, builder.ends, *port),
         Line::Break => break_here(scope, in_loop),
         Line::Continue => continue_here(scope, in_loop),
-        _ => Err(Fail::from("no leaf")),
+        _ => Err(Unbuilt::Unread("no leaf")),
     }
 }
 
@@ -64,15 +74,15 @@ fn over(
     kind: &'static str,
     name: &str,
     text: &str,
-) -> Result<(Code<Slot>, Variable), Fail>
+) -> Result<(Code<Slot>, Variable), Unbuilt>
     ensures { IfOk result (λ p. IsOver scope.now p.0 p.1) }
 {
     let alloc = builder.alloc;
-    let wanted = builder.kinds.copy(alloc, kind)?;
+    let wanted = kind_of(alloc, builder.kinds, kind)?;
     let typed = typed(alloc, scope, text, None)?;
     let kind = gone_over(typed.kind.into_inner())?;
     if !same_type(&kind, &wanted) {
-        return Err(Fail::from("another type"));
+        return Err(Unbuilt::Refused("another type"));
     }
     let name = Items::from_slice(alloc, name.as_bytes())?;
     let variable = Variable {
@@ -91,7 +101,7 @@ pub(crate) fn scoped(
     in_loop: bool,
     room: u32,
     lines: &'static [Line],
-) -> Result<Body, Fail>
+) -> Result<Body, Unbuilt>
     ensures fits { IfOk result (λ row. (purpose : Purpose)
         → Serves purpose builder.now.ends.now.result builder.now.ends.now.outputs
         → RowFits purpose in_loop scope.old row) }
@@ -110,7 +120,7 @@ fn row(
     in_loop: bool,
     room: u32,
     lines: &'static [Line],
-) -> Result<Body, Fail>
+) -> Result<Body, Unbuilt>
     ensures fits { IfOk result (λ row. (purpose : Purpose)
         → Serves purpose builder.now.ends.now.result builder.now.ends.now.outputs
         → RowFits purpose in_loop scope.old row) }
@@ -130,7 +140,7 @@ fn statement(
     in_loop: bool,
     room: u32,
     line: &'static Line,
-) -> Result<Statement, Fail>
+) -> Result<Statement, Unbuilt>
     ensures fits { IfOk result (λ x. (purpose : Purpose)
         → Serves purpose builder.now.ends.now.result builder.now.ends.now.outputs
         → StatementFits purpose in_loop scope.old x scope.new) }
@@ -138,7 +148,7 @@ fn statement(
 {
     let alloc = builder.alloc;
     let Some(room) = room.checked_sub(1) else {
-        return Err(Fail::from("too deep"));
+        return Err(Unbuilt::Unread("too deep"));
     };
     match line {
         Line::Declare(mutable, kind, name, text) => {
@@ -176,7 +186,7 @@ fn turn(
     room: u32,
     variable: Variable,
     lines: &'static [Line],
-) -> Result<Body, Fail>
+) -> Result<Body, Unbuilt>
     ensures fits { IfOk result (λ row. (purpose : Purpose)
         → Serves purpose builder.now.ends.now.result builder.now.ends.now.outputs
         → RowFits purpose true (with_variable scope.old variable) row) }
@@ -196,7 +206,7 @@ fn branches(
     in_loop: bool,
     room: u32,
     texts: &'static [(&'static str, Lines)],
-) -> Result<Items<(Code<Slot>, Body)>, Fail>
+) -> Result<Items<(Code<Slot>, Body)>, Unbuilt>
     ensures fits { IfOk result (λ arms. (purpose : Purpose)
         → Serves purpose builder.now.ends.now.result builder.now.ends.now.outputs
         → ArmsFit purpose in_loop scope.old arms) }

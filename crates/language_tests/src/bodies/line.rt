@@ -13,6 +13,8 @@ pub(crate) enum Line {
     Clear(&'static str),
     /// A call that the language has built in.
     Evaluate(&'static str),
+    /// A call of a function of the program, whose value isn't used where it has one.
+    Call(&'static str),
     /// Conditions, each with its branch, and the branch behind `else`.
     If(&'static [(&'static str, Lines)], Lines),
     While(&'static str, Lines),

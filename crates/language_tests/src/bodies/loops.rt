@@ -165,6 +165,32 @@ const JUMPS: &[Row] = &[
         100,
         "3, [10, 20, 30] | none | 91",
     ),
+    // Both: the inner loop counts 20 at 10, and 10 and 20 at 30, and doesn't begin at 20.
+    (
+        LIST,
+        &[Line::For(
+            "int32",
+            "x",
+            "xs",
+            &[
+                Line::If(&[("x == 20", &[Line::Continue])], &[]),
+                Line::For(
+                    "int32",
+                    "y",
+                    "xs",
+                    &[
+                        Line::If(
+                            &[("y == x", &[Line::Continue]), ("y == 30", &[Line::Break])],
+                            &[],
+                        ),
+                        Line::Assign("n", "n + 1"),
+                    ],
+                ),
+            ],
+        )],
+        100,
+        "3, [10, 20, 30] | none | 91",
+    ),
     // 1, 3 and 5 are added.
     (
         NUMBER,
@@ -270,6 +296,41 @@ const GONE_OVER: &[Row] = &[
         )],
         100,
         "60, [] | none | 97",
+    ),
+    (
+        LIST,
+        &[Line::For(
+            "int32",
+            "x",
+            "xs",
+            &[Line::Assign("xs[2]", "0"), Line::Assign("n", "n + x")],
+        )],
+        100,
+        "60, [10, 20, 0] | none | 97",
+    ),
+    // The first turn adds a key and replaces the value of another, the second removes the first key.
+    (
+        MAP,
+        &[Line::For(
+            "rstring",
+            "x",
+            "m",
+            &[
+                Line::If(
+                    &[(
+                        "x == 'a'",
+                        &[
+                            Line::Assign("m['c']", "3l"),
+                            Line::Assign("m['b']", "m['b'] * 10l"),
+                        ],
+                    )],
+                    &[Line::Remove("m", "'a'")],
+                ),
+                Line::Submit(1, "{s = x}"),
+            ],
+        )],
+        100,
+        "0, {'b': 20, 'c': 3} | 1:<'a'>, 1:<'b'> | 98",
     ),
     // Keys come in ascending order, capitals before small letters.
     (

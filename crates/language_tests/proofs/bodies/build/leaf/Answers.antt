@@ -16,6 +16,9 @@ returns-in-Clear c = keeps_there c.args.in_loop _ _ c.args.scope.now c.clear.res
 pub returns-in-Evaluate : goal.returns-in-Evaluate
 returns-in-Evaluate c = keeps_there c.args.in_loop _ _ c.args.scope.now c.evaluate.result c.evaluate.ensures
 
+pub returns-in-Call : goal.returns-in-Call
+returns-in-Call c = keeps_there c.args.in_loop _ _ c.args.scope.now c.call.result c.call.ensures
+
 pub returns-in-Break : goal.returns-in-Break
 returns-in-Break c = jumps_there c.args.in_loop _ _ c.args.scope.now c.break_here.result c.break_here.ensures
 
