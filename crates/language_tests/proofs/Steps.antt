@@ -10,7 +10,6 @@ use Rattle.spl_value.specs.declared.value.Value.{Value}
 use Rattle.spl_value.specs.declared.value.Value.TheVariants as V
 use Rattle.spl_value.specs.Values.{fits}
 use Rattle.spl_tree.specs.declared.body.Function.{Function}
-use Rattle.spl_tree.specs.declared.body.Statement.{Statement}
 use Rattle.spl_tree.specs.declared.body.Statement.TheVariants as T
 use Rattle.spl_tree.specs.declared.code.Code.{Code}
 use Rattle.spl_tree.specs.declared.code.Marker.{Marker}

@@ -1,4 +1,4 @@
-use Rattle.std.proofs.Common.{◌≡◌, ◌*◌, ◌+◌, List}
+use Rattle.std.proofs.Common.{◌≡◌, ◌*◌, ◌+◌}
 use Rattle.stream_model.specs.BodyFits.{Purpose, ArmsFit}
 use Rattle.language_tests.specs.Building.{Serves, Grown}
 use Rattle.language_tests.proofs.Building.{Leads}
