@@ -11,7 +11,28 @@ const LISTS: State = &[("g", "list<list<int32>>", "[[1], [2]]")];
 
 const TEXTS: State = &[("k", "map<int32,list<rstring>>", "{1 : ['p']}")];
 
+const MAPS: State = &[("h", "list<map<rstring,int64>>", "[{'a' : 1l}]")];
+
+const TUPLE: State = &[(
+    "t",
+    "tuple<int64 a,tuple<rstring b,boolean c> d>",
+    "{a = 1l, d = {b = 'p', c = true}}",
+)];
+
 const PLACES: &[Row] = &[
+    // A member of a member.
+    (
+        TUPLE,
+        &[Line::Assign("t.d.b", "t.d.b + 'q'")],
+        0,
+        "<1, <'pq', true>> | none | 0",
+    ),
+    (
+        TUPLE,
+        &[Line::Assign("t.d", "{c = false, b = 'r'}")],
+        0,
+        "<1, <'r', false>> | none | 0",
+    ),
     (
         LISTS,
         &[Line::Assign("g[1][0]", "7")],
@@ -27,6 +48,13 @@ const PLACES: &[Row] = &[
     (LIST, &[Line::Assign("xs[1 / 0]", "xs[9]")], 0, "Index"),
     (LIST, &[Line::Assign("xs[9]", "1 / 0")], 0, "DivZero"),
     // A key is added where it is the last step, and nowhere else.
+    (
+        MAPS,
+        &[Line::Assign("h[0]['b']", "2l")],
+        0,
+        "[{'a': 1, 'b': 2}] | none | 0",
+    ),
+    (MAPS, &[Line::Assign("h[1]['b']", "2l")], 0, "Index"),
     (
         TEXTS,
         &[Line::Assign("k[2]", "['x']")],
@@ -56,6 +84,14 @@ const CHANGES: &[Row] = &[
         "{1: ['p', 'q']} | none | 0",
     ),
     (TEXTS, &[Line::Append("k[2]", "'q'")], 0, "NoKey"),
+    // The place's index is evaluated once, and so is the call in it.
+    (
+        LISTS,
+        &[Line::Append("g[zero()]", "7")],
+        1,
+        "[[1, 7], [2]] | none | 0",
+    ),
+    (LISTS, &[Line::Append("g[zero()]", "7")], 0, "Turns"),
     // The argument is evaluated behind the place.
     (
         TEXTS,

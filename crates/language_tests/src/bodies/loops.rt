@@ -14,6 +14,8 @@ const MAP: State = &[
     ("m", "map<rstring,int64>", "{'a' : 1l, 'b' : 2l}"),
 ];
 
+const TEXTS: State = &[("k", "map<int32,list<rstring>>", "{2 : ['p']}")];
+
 const BUDGETS: &[Row] = &[
     // Neither takes a turn: no loop, and loops that don't begin.
     (NUMBER, &[Line::Assign("n", "n + 1")], 0, "1 | none | 0"),
@@ -341,6 +343,16 @@ const GONE_OVER: &[Row] = &[
         ],
         100,
         "0, {'A': 0, 'a': 1, 'b': 2} | 1:<'A'>, 1:<'a'>, 1:<'b'> | 97",
+    ),
+    (
+        TEXTS,
+        &[
+            Line::Assign("k[10]", "[]"),
+            Line::Assign("k[-1]", "['q']"),
+            Line::For("int32", "x", "k", &[Line::Submit(0, "{n = x}")]),
+        ],
+        100,
+        "{-1: ['q'], 2: ['p'], 10: []} | 0:<-1>, 0:<2>, 0:<10> | 97",
     ),
 ];
 
