@@ -1,5 +1,5 @@
 -- What operators and calls come to, by what the calls in them came to.
-use Rattle.std.specs.Prelude.{◌≡◌, ℕ, List, ◌∷◌, Some, None, Result, Ok, Err}
+use Rattle.std.specs.Prelude.{◌≡◌, ℕ, Bool, true, false, if◌then◌else◌, List, ◌∷◌, Option, Some, None, Result, Ok, Err}
 use Rattle.std.proofs.Common.{refl, ap, sym, ◌∙◌}
 use Rattle.spl_value.specs.declared.types.SplType.{SplType}
 use Rattle.spl_value.specs.declared.types.SplType.TheViews.{out-SplType}
@@ -12,8 +12,9 @@ use Rattle.spl_tree.specs.declared.code.Code.TheVariants as C
 use Rattle.spl_tree.specs.declared.code.Slot.{Slot}
 use Rattle.spl_tree.specs.declared.code.BuiltIn.{BuiltIn}
 use Rattle.stream_model.specs.declared.scope.Scope.{Scope}
+use Rattle.stream_model.specs.declared.scope.TypeError.TheVariants as E
 use Rattle.stream_model.specs.declared.scope.Typed.{Typed}
-use Rattle.stream_model.specs.Typing.{Found, Part, part_typed, binary_typed, operands_typed, level_operator, after, typed, arguments_typed, first_typed, OnFirst}
+use Rattle.stream_model.specs.Typing.{Found, Part, part_typed, binary_typed, operands_typed, level_operator, after, if_mutable, is_mutable, refused, typed, arguments_typed, first_typed, OnFirst}
 use Rattle.stream_model.specs.TypingLaws.{parts}
 use Rattle.type_rules.specs.declared.answer.TypeAnswer.{TypeAnswer}
 use Rattle.type_rules.specs.Finds.{Finds}
@@ -24,6 +25,18 @@ pub same_operands : (scope : Scope) (op : BinaryOperator) (l r : Placed Part) �
     → binary_typed scope op l r ≡ after (part_typed l scope None) (λ x. operands_typed scope x l r (level_operator op (out-SplType x.kind)))
 same_operands scope B.In l r h = absurd (h refl)
 same_operands scope op l r h = refl
+
+-- ---- what is changed
+
+if_named : {A : Type 0} (at : ℕ) (scope : Scope) (e : Placed Part) (found : Found A) (b : Bool)
+    → (if b then found else refused E.NotMutable e.at None) ≡ after (if b then Ok (tt {0}) else refused E.NotMutable e.at None) (λ u. found)
+if_named at scope e found true = refl
+if_named at scope e found false = refl
+
+pub if_changed : {A : Type 0} (at : ℕ) (scope : Scope) (e : Placed Part) (root : Option (List ℕ)) (found : Found A)
+    → if_mutable at scope e root found ≡ after (if_mutable at scope e root (Ok (tt {0}))) (λ u. found)
+if_changed at scope e None found = refl
+if_changed at scope e (Some name) found = if_named at scope e found (is_mutable scope name)
 
 -- ---- calls whose first argument's type says those of the others
 

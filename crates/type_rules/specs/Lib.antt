@@ -2,3 +2,4 @@ pub mod Finds
 pub mod Names
 pub mod Kinds
 pub mod Members
+pub mod Places

@@ -2,13 +2,15 @@
 ghost use Rattle.std.specs.Prelude.{◌≡◌, Ok, Some, [], ◌∷◌};
 ghost use Rattle.std.specs.Option.{option_copied};
 ghost use Rattle.spl_value.specs.declared.types.SplType.TheViews.{out-SplType};
-ghost use Rattle.stream_model.specs.Typing.{call_of, argument_count, level_first, level_changed, is_mutable, value_given};
+ghost use Rattle.stream_model.specs.Typing.{call_of, argument_count, level_first, level_changed, is_mutable, if_mutable, part, value_given};
+ghost use Rattle.stream_model.specs.TypingLaws.{parted};
 ghost use Rattle.type_rules.specs.Finds.{Finds};
 
-use crate::answer::{TypeAnswer, mismatch};
+use crate::answer::{TypeAnswer, mismatch, not_mutable, wrong_call};
 use crate::boxing::boxed_copy;
+use crate::forms::root_name;
 use crate::names::variable;
-use spl_tree::{BuiltIn, CallName, Code, Slot};
+use spl_tree::{BuiltIn, CallName, Code, Expr, Slot};
 use spl_value::{Boxed, IntKind, Items, SplType, copy_type};
 use std::alloc::Global;
 use stream_model::{Scope, Typed};
@@ -103,16 +105,16 @@ pub(crate) fn on_first(
     }
 }
 
-/// The types that the arguments behind the first have to have, of a call that changes it, or nothing
-/// where the call changes no such one.
+/// The types that the arguments behind the first have to have, of a call that changes a first one of
+/// a type, or nothing where the call changes no such one.
 pub(crate) fn on_changed(
     alloc: Global,
     call: CallName,
-    first: Typed,
+    kind: &SplType,
 ) -> Result<Option<Items<SplType>>, TypeAnswer>
-    ensures { Finds (Ok (level_changed call (out-SplType first.kind))) result }
+    ensures { Finds (Ok (level_changed call (out-SplType kind.now))) result }
 {
-    match (call, first.kind.get()) {
+    match (call, kind) {
         (CallName::AppendM, SplType::List(element)) => Ok(Some(one_type(alloc, element.get())?)),
         (CallName::RemoveM, SplType::Map(key, _)) => Ok(Some(one_type(alloc, key.get())?)),
         (CallName::ClearM, SplType::List(_) | SplType::Map(_, _)) => Ok(Some(Items::new(alloc))),
@@ -121,13 +123,27 @@ pub(crate) fn on_changed(
 }
 
 /// Whether the name is a variable that may be changed.
-pub(crate) fn is_mutable(scope: &Scope, name: &[u8]) -> bool
+fn is_mutable(scope: &Scope, name: &[u8]) -> bool
     ensures { result ≡ is_mutable scope.now name.now }
 {
     match variable(scope, name) {
         Some((_, found)) => found.mutable,
         None => false,
     }
+}
+
+/// What is changed has to be a place, and its variable one that may be changed. The change begins at
+/// `at`, where what is no place is refused.
+pub(crate) fn may_change(scope: &Scope, at: u32, expr: &Expr) -> Result<(), TypeAnswer>
+    ensures { Finds (if_mutable at scope.now (parted expr.now) (part expr.now.what).form.root (Ok tt)) result }
+{
+    let Some(name) = root_name(expr) else {
+        return Err(wrong_call(at));
+    };
+    if !is_mutable(scope, name.as_slice()) {
+        return Err(not_mutable(expr.at));
+    }
+    Ok(())
 }
 
 /// A call gives a value of a type, or nothing.

@@ -1,4 +1,4 @@
-//! The types of expressions.
+//! The types of expressions, of assignments and of calls as statements.
 #![tactic(auto)]
 
 mod answer;
@@ -9,8 +9,11 @@ mod kinds;
 mod making;
 mod names;
 mod operators;
+mod places;
 mod rules;
+mod statements;
 
 pub use answer::TypeAnswer;
 pub use rules::type_of;
+pub use statements::{assignment_of, call_of, compound_of};
 pub use stream_model::{Port, Scope, Signature, TypeError, TypeRefusal, Typed, Variable};

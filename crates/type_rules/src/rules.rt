@@ -8,10 +8,10 @@ ghost use Rattle.stream_model.specs.Typing.{Anything, typing, part, elements_typ
 ghost use Rattle.stream_model.specs.TypingLaws.{parted, parts, entry_parts, field_parts, step_part, step_parts};
 ghost use Rattle.type_rules.specs.Finds.{Finds, with_front};
 
-use crate::answer::{TypeAnswer, mismatch, narrow, not_mutable, unknown, wrong_call};
+use crate::answer::{TypeAnswer, mismatch, narrow, unknown, wrong_call};
 use crate::boxing::{boxed, boxed_copy};
-use crate::calls::{argument_count, call_named, is_mutable, on_changed, on_first, value_given};
-use crate::forms::{asks, marker, marker_test, port_member, root_name};
+use crate::calls::{argument_count, call_named, may_change, on_changed, on_first, value_given};
+use crate::forms::{asks, marker, marker_test, port_member};
 use crate::kinds::{
     are_distinct, as_wanted, element_of, gives_each, index_typed, pair_of, schema_of,
 };
@@ -416,7 +416,7 @@ fn operands(
 
 /// An operator whose right operand has to have the type of the left one.
 #[cycle(types)]
-fn same_operands(
+pub(crate) fn same_operands(
     alloc: Global,
     scope: &Scope,
     operator: BinaryOperator,
@@ -470,7 +470,7 @@ fn second_branch(
 
 /// The codes of arguments that have to be of these types, one of each.
 #[cycle(types)]
-fn arguments(
+pub(crate) fn arguments(
     alloc: Global,
     scope: &Scope,
     kinds: &[SplType],
@@ -534,7 +534,7 @@ fn function_call(
 }
 
 #[cycle(types)]
-fn built_in(
+pub(crate) fn built_in(
     alloc: Global,
     scope: &Scope,
     at: u32,
@@ -644,15 +644,28 @@ fn change(
     ensures { Finds (no_value at (after (typing scope.now first.now None) (λ x. changed_typed at scope.now (parted first.now) (parts rest.now) (level_changed call (out-SplType x.kind))))) result }
 {
     let typed = type_at(alloc, scope, first, None)?;
-    let Some(kinds) = on_changed(alloc, call, typed)? else {
-        return Err(wrong_call(at));
-    };
-    let Some(name) = root_name(first) else {
-        return Err(wrong_call(at));
-    };
-    if !is_mutable(scope, name.as_slice()) {
-        return Err(not_mutable(first.at));
-    }
-    arguments(alloc, scope, kinds.as_slice(), rest, Items::new(alloc))?;
+    changed(alloc, scope, at, call, typed.kind.get(), first, rest)?;
     Err(mismatch(at))
+}
+
+/// The codes of the arguments behind the first, of a call that changes that. The first one has this
+/// type; it has to be a place that may be changed.
+#[cycle(types)]
+#[tactic(auto, using(crate::proofs::Exits::if_changed))]
+pub(crate) fn changed(
+    alloc: Global,
+    scope: &Scope,
+    at: u32,
+    call: CallName,
+    kind: &SplType,
+    first: &Expr,
+    rest: &[Expr],
+) -> Result<Codes, TypeAnswer>
+    ensures { Finds (changed_typed at scope.now (parted first.now) (parts rest.now) (level_changed call (out-SplType kind.now))) result }
+{
+    let Some(kinds) = on_changed(alloc, call, kind)? else {
+        return Err(wrong_call(at));
+    };
+    may_change(scope, at, first)?;
+    arguments(alloc, scope, kinds.as_slice(), rest, Items::new(alloc))
 }

@@ -116,6 +116,9 @@ decreases-first_decides l = expr_weight l.first.now + weights l.rest.now + 4
 abbrev pub decreases-change : goal.decreases-change
 decreases-change l = expr_weight l.first.now + weights l.rest.now + 3
 
+abbrev pub decreases-changed : goal.decreases-changed
+decreases-changed l = weights l.rest.now + 2
+
 abbrev pub decreases-with_first : goal.decreases-with_first
 decreases-with_first l = weights l.rest.now + 3
 

@@ -1,0 +1,18 @@
+use Rattle.std.proofs.Common.{ap, sym, ◌∙◌}
+use Rattle.spl_tree.specs.declared.expression.ExprKind.TheVariants as V
+use Rattle.spl_tree.specs.declared.expression.ExprKind.TheViews.{out-ExprKind}
+use Rattle.stream_model.specs.Typing.{call_of}
+use Rattle.stream_model.specs.TypingLaws.{parts}
+use Rattle.stream_model.specs.StatementTyping.{call_statement, level_call}
+use Rattle.type_rules.proofs.Steps.{finds_by}
+use Rattle.type_rules.proofs.statements.call_of.Goals as goal
+
+pub returns-in-Call : goal.returns-in-Call
+returns-in-Call c =
+    let at = c.args.call.now.at in
+    let scope = c.args.scope.now in
+    finds_by _ _ _
+    (ap (λ k. level_call at scope (out-ExprKind k)) c.in-Call.is
+    ∙ ap (level_call at scope) (V.outs-Call c.in-Call.name c.in-Call.all)
+    ∙ (λ i. call_statement at scope (sym c.as_slice.ensures i) (parts (sym c.as_slice-in-Call.ensures i)) (call_of (sym c.as_slice.ensures i))))
+    c.call_statement.ensures

@@ -1,0 +1,205 @@
+//! Assignments, and calls as statements.
+ghost use Rattle.std.specs.Prelude.{◌≡◌, None};
+ghost use Rattle.stream_model.specs.Scopes.{function_of};
+ghost use Rattle.stream_model.specs.Typing.{call_of};
+ghost use Rattle.stream_model.specs.TypingLaws.{parts};
+ghost use Rattle.stream_model.specs.StatementTyping.{assignment_typing, compound_typing, call_typing, call_statement, built_in_statement, function_statement, change_typing, change_made};
+ghost use Rattle.type_rules.specs.Finds.{Finds};
+ghost use Rattle.type_rules.specs.Places.{only};
+
+use crate::answer::{TypeAnswer, narrow, unknown, wrong_call};
+use crate::calls::{argument_count, call_named};
+use crate::kinds::as_wanted;
+use crate::making::{Codes, code_of};
+use crate::names::function;
+use crate::places::{place_given, place_of};
+use crate::rules::{arguments, built_in, changed, same_operands, type_of};
+use spl_tree::{BinaryOperator, CallName, Change, Code, Expr, ExprKind, Place, Slot, Statement};
+use spl_value::Items;
+use std::alloc::Global;
+use stream_model::Scope;
+
+/// The statement `place = value;` in a scope.
+///
+/// The place is a mutable variable, or what is taken of one in turn, and the value has to be of the
+/// type of what the place holds. The statement evaluates the value, then the place's indexes from
+/// left to right, and then changes the place.
+///
+/// `Refused` comes with the first of these: a refusal of the place as an expression; `WrongCall` at
+/// the place where it isn't one; `NotMutable` at the place where its variable isn't mutable; a
+/// refusal of the value, under the type that is wanted of it. `Memory` is as that of `type_of`.
+pub fn assignment_of(
+    alloc: Global,
+    scope: &Scope,
+    place: &Expr,
+    value: &Expr,
+) -> Result<Statement, TypeAnswer>
+    ensures { Finds (assignment_typing scope.now place.now value.now) result }
+{
+    let (target, kind) = place_of(alloc, scope, place)?;
+    let typed = type_of(alloc, scope, value, Some(kind.get()))?;
+    Ok(Statement::Change(target, Change::Put(code_of(typed))))
+}
+
+/// The statement `place op= value;` in a scope, which is that of `place = place op value;`. So the
+/// place's indexes are evaluated with the value, and then once more to change it.
+///
+/// `Refused` comes with the first of these: a refusal of the place, as in an assignment; `Mismatch`
+/// at the place where the operator isn't one of the type of what it holds; a refusal of the value,
+/// which has to be of that type; `Mismatch` at the place where the operator gives another type.
+/// `Memory` is as that of `type_of`.
+pub fn compound_of(
+    alloc: Global,
+    scope: &Scope,
+    operator: BinaryOperator,
+    place: &Expr,
+    value: &Expr,
+) -> Result<Statement, TypeAnswer>
+    ensures { Finds (compound_typing scope.now operator place.now value.now) result }
+{
+    let (target, held) = place_of(alloc, scope, place)?;
+    let first = type_of(alloc, scope, place, None)?;
+    let typed = same_operands(alloc, scope, operator, first, place, value)?;
+    let typed = as_wanted(place.at, Some(held.get()), typed)?;
+    Ok(Statement::Change(target, Change::Put(code_of(typed))))
+}
+
+/// A call as a statement, in a scope. `appendM(list, value)`, `removeM(map, key)`, `clearM(list)` and
+/// `clearM(map)` change a mutable place. The value of every other call isn't used, and a function
+/// that is called may give none.
+///
+/// `Refused` comes with the first of these: `WrongCall` where the expression is no call; `Unknown`
+/// where no function has its name; `WrongCall` where it takes another number of arguments; the
+/// refusals of its arguments, from left to right. Behind the first argument comes `WrongCall` where
+/// the call doesn't take its type. Where the call changes it, `WrongCall` comes too where it is no
+/// place, and then `NotMutable`, at the argument, where its variable isn't mutable. All others stand
+/// where the expression begins, but for those of arguments. `Memory` is as that of `type_of`.
+pub fn call_of(alloc: Global, scope: &Scope, call: &Expr) -> Result<Statement, TypeAnswer>
+    ensures { Finds (call_typing scope.now call.now) result }
+{
+    match &call.what {
+        ExprKind::Call(name, all) => {
+            call_statement(alloc, scope, call.at, name.as_slice(), all.as_slice())
+        }
+        _ => Err(wrong_call(call.at)),
+    }
+}
+
+fn call_statement(
+    alloc: Global,
+    scope: &Scope,
+    at: u32,
+    name: &[u8],
+    all: &[Expr],
+) -> Result<Statement, TypeAnswer>
+    ensures { Finds (call_statement at scope.now name.now (parts all.now) (call_of name.now)) result }
+{
+    match call_named(name) {
+        Some(call) => built_in_statement(alloc, scope, at, call, all),
+        None => function_statement(alloc, scope, at, name, all),
+    }
+}
+
+/// A call that the language has built in: one that changes a place, or one that gives a value.
+fn built_in_statement(
+    alloc: Global,
+    scope: &Scope,
+    at: u32,
+    call: CallName,
+    all: &[Expr],
+) -> Result<Statement, TypeAnswer>
+    ensures { Finds (built_in_statement at scope.now call (parts all.now)) result }
+{
+    if all.len() != argument_count(call) {
+        return Err(wrong_call(at));
+    }
+    match call {
+        CallName::AppendM | CallName::RemoveM | CallName::ClearM => {
+            change(alloc, scope, at, call, all)
+        }
+        CallName::Length
+        | CallName::Size
+        | CallName::Has
+        | CallName::Abs
+        | CallName::Min
+        | CallName::Max
+        | CallName::Substring
+        | CallName::CurrentPunct => {
+            let typed = built_in(alloc, scope, at, call, all)?;
+            Ok(Statement::Evaluate(code_of(typed)))
+        }
+    }
+}
+
+/// A call that changes its first argument.
+fn change(
+    alloc: Global,
+    scope: &Scope,
+    at: u32,
+    call: CallName,
+    all: &[Expr],
+) -> Result<Statement, TypeAnswer>
+    ensures { Finds (change_typing at scope.now call (parts all.now)) result }
+{
+    let Some((first, rest)) = all.split_first() else {
+        return Err(wrong_call(at));
+    };
+    let typed = type_of(alloc, scope, first, None)?;
+    let others = changed(alloc, scope, at, call, typed.kind.get(), first, rest)?;
+    let (place, _) = place_given(alloc, first.at, typed)?;
+    change_made(at, call, place, others)
+}
+
+/// The only code of a row.
+fn only(codes: Codes) -> Option<Code<Slot>>
+    ensures { result ≡ only codes }
+{
+    let mut codes = codes;
+    let last = codes.pop()?;
+    if codes.is_empty() { Some(last) } else { None }
+}
+
+/// The change that a call makes, by the codes of its arguments behind the place.
+fn change_made(
+    at: u32,
+    call: CallName,
+    place: Place,
+    others: Codes,
+) -> Result<Statement, TypeAnswer>
+    ensures { Finds (change_made at call place others) result }
+{
+    match call {
+        CallName::AppendM => match only(others) {
+            Some(value) => Ok(Statement::Change(place, Change::Append(value))),
+            None => Err(wrong_call(at)),
+        },
+        CallName::RemoveM => match only(others) {
+            Some(key) => Ok(Statement::Change(place, Change::Remove(key))),
+            None => Err(wrong_call(at)),
+        },
+        CallName::ClearM if others.is_empty() => Ok(Statement::Change(place, Change::Clear)),
+        _ => Err(wrong_call(at)),
+    }
+}
+
+/// A call of a function, with a result or without.
+fn function_statement(
+    alloc: Global,
+    scope: &Scope,
+    at: u32,
+    name: &[u8],
+    all: &[Expr],
+) -> Result<Statement, TypeAnswer>
+    ensures { Finds (function_statement at scope.now name.now (parts all.now) (function_of scope.now name.now)) result }
+{
+    let Some((place, found)) = function(scope, name) else {
+        return Err(unknown(alloc, at, name));
+    };
+    let kinds = found.parameters.as_slice();
+    if all.len() != kinds.len() {
+        return Err(wrong_call(at));
+    }
+    let codes = arguments(alloc, scope, kinds, all, Items::new(alloc))?;
+    let place = narrow(place)?;
+    Ok(Statement::Call(place, codes))
+}
