@@ -44,8 +44,8 @@ fn add_literal(shown: &mut Shown, value: &Value) {
     }
 }
 
-// A letter and a place.
-fn add_place(shown: &mut Shown, letter: &str, place: u32) {
+/// Adds a letter and a place.
+pub(crate) fn add_place(shown: &mut Shown, letter: &str, place: u32) {
     shown.add(letter);
     shown.add_number(i128::from(place));
 }
@@ -196,9 +196,9 @@ pub(crate) fn add_code(shown: &mut Shown, code: &Code<Slot>) {
     }
 }
 
-// The last codes in parentheses.
+/// Adds the last codes in parentheses.
 #[cycle(code)]
-fn add_codes(shown: &mut Shown, codes: &[Code<Slot>]) {
+pub(crate) fn add_codes(shown: &mut Shown, codes: &[Code<Slot>]) {
     for code in codes {
         shown.add(" ");
         add_code(shown, code);
@@ -229,8 +229,9 @@ fn add_fields(shown: &mut Shown, fields: &[(u32, Code<Slot>)]) {
     shown.add(")");
 }
 
+/// Adds what is taken, the last in parentheses.
 #[cycle(code)]
-fn add_takings(shown: &mut Shown, takings: &[Taking<Code<Slot>>]) {
+pub(crate) fn add_takings(shown: &mut Shown, takings: &[Taking<Code<Slot>>]) {
     for taking in takings {
         match taking {
             Taking::Member(place) => add_place(shown, " .", *place),

@@ -40,6 +40,8 @@ mod reading;
 #[cfg(test)]
 mod shown;
 #[cfg(test)]
+mod statements;
+#[cfg(test)]
 mod takings;
 #[cfg(test)]
 mod typed;
