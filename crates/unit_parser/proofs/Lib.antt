@@ -1,0 +1,9 @@
+pub mod Readings
+pub mod TypeReadings
+pub mod DeclarationReadings
+pub mod Rows
+pub mod StatementReadings
+pub mod CompositeReadings
+pub mod DefinitionReadings
+pub mod OneAnswer
+pub mod Parsed

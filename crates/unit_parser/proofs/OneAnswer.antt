@@ -1,0 +1,37 @@
+-- What is answered of the tokens of a program is one thing.
+use Rattle.std.proofs.Common.{◌≡◌, ◌∙◌, inl, inr, ℕ, ◌-◌, ◌≤◌, List, length, take, drop, Option, Some, None, Ok, Err, refl, sym, ap, arith, length-drop}
+use Rattle.spl_tree.specs.declared.token.Token.{Token}
+use Rattle.spl_tree.specs.UnitGrammar.{SpellsUnit}
+use Rattle.expr_parser.specs.declared.answer.SyntaxAnswer.TheVariants as A
+use Rattle.expr_parser.specs.PhraseLaws.{longest_one}
+use Rattle.expr_parser.specs.Parses.{place_of}
+use Rattle.unit_parser.specs.Parses.{OneAnswerLaw}
+use Rattle.unit_parser.specs.Units.{one_unit}
+
+-- the rest of a list begins at one place
+one_place : (ts : List Token) (m n : ℕ) → m ≤ length ts → n ≤ length ts → drop m ts ≡ drop n ts → m ≡ n
+one_place ts m n first second same =
+    let lengths : length ts - m ≡ length ts - n = sym (length-drop m ts) ∙ ap length same ∙ length-drop n ts in
+    omega arith
+
+two_deep : {o : Option ℕ} {i : ℕ} → o ≡ None → o ≡ Some i → ⊥
+two_deep none some = let clash = sym none ∙ some in cc
+
+pub one_answer : OneAnswerLaw
+one_answer tokens (Ok u) (Ok v) x y = let same = one_unit u v tokens.list x.spells y.spells in inr (inr (ap (λ w. Ok w) same))
+one_answer tokens (Ok u) (Err (A.Unexpected at)) x y = absurd (y.none u x.spells)
+one_answer tokens (Ok u) (Err (A.TooDeep at)) x y = absurd (two_deep x.shallow y.first)
+one_answer tokens (Err (A.Unexpected at)) (Ok v) x y = absurd (x.none v y.spells)
+one_answer tokens (Err (A.Unexpected at)) (Err (A.Unexpected to)) x y =
+    let both = longest_one SpellsUnit tokens.list (take x.token tokens.list) (drop x.token tokens.list) (take y.token tokens.list) (drop y.token tokens.list) x.longest y.longest in
+    let same = one_place tokens.list x.token y.token x.within y.within both.1 in
+    inr (inr (ap (λ n. Err (A.Unexpected n)) (x.place ∙ ap (place_of tokens) same ∙ sym y.place)))
+one_answer tokens (Err (A.Unexpected at)) (Err (A.TooDeep to)) x y = absurd (two_deep x.shallow y.first)
+one_answer tokens (Err (A.TooDeep at)) (Ok v) x y = absurd (two_deep y.shallow x.first)
+one_answer tokens (Err (A.TooDeep at)) (Err (A.Unexpected to)) x y = absurd (two_deep y.shallow x.first)
+one_answer tokens (Err (A.TooDeep at)) (Err (A.TooDeep to)) x y =
+    let both : Some x.token ≡ Some y.token = sym x.first ∙ y.first in
+    let same : x.token ≡ y.token = cc in
+    inr (inr (ap (λ n. Err (A.TooDeep n)) (x.place ∙ ap (place_of tokens) same ∙ sym y.place)))
+one_answer tokens (Err A.Memory) y here there = inl refl
+one_answer tokens x (Err A.Memory) here there = inr (inl refl)

@@ -1,0 +1,15 @@
+use Rattle.std.proofs.Common.{[]}
+use Rattle.unit_parser.specs.Lines as lines
+use Rattle.unit_parser.proofs.Readings.{reads, taken, skipped}
+use Rattle.unit_parser.proofs.Rows.{made, goes_as, comes_last}
+use Rattle.unit_parser.proofs.clauses.parameter_clause.Goals as goal
+
+pub returns-in-Some : goal.returns-in-Some
+unfolding lines.rule
+returns-in-Some c =
+    goes_as (lines.ParameterClause c.args.word) c.args.ts.now c.in-Some.behind.now _ c.parameters.result (λ o q. reads (taken c.in-Some.ensures q))
+    (comes_last (lines.Parameters []) _ c.parameters.result c.parameters.ensures)
+
+pub returns-in-None : goal.returns-in-None
+unfolding lines.rule
+returns-in-None c = reads (skipped c.in-None.ensures (made c.new.ensures))

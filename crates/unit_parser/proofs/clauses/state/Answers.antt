@@ -1,0 +1,37 @@
+use Rattle.std.proofs.Common.{ap, [], ◌∷◌, ◌++◌, ◌∙◌}
+use Rattle.spl_tree.specs.declared.symbol.Symbol.TheVariants as S
+use Rattle.unit_parser.specs.Lines as lines
+use Rattle.unit_parser.proofs.Readings.{reads, taken, skipped, passed, line_read, fails, pass_fails, line_fails}
+use Rattle.unit_parser.proofs.Rows.{made, goes_as, comes_last}
+use Rattle.unit_parser.proofs.clauses.state.Goals as goal
+
+pub returns-in_default : goal.returns-in_default
+unfolding lines.rule
+returns-in_default c = reads (skipped c.in_default.ensures (made c.new.ensures))
+
+pub returns-in_err-behind : goal.returns-in_err-behind
+unfolding lines.rule
+returns-in_err-behind c =
+    fails lines.State c.args.ts.now c.in-Some.behind.now _ c.from_residual.result c.in_err-behind.field-0.0 c.from_residual.ensures.1
+    (λ o q. reads (taken c.in-Some.ensures q))
+    (pass_fails _ S.Colon _ _ c.in_err-behind.ensures)
+
+pub returns-in-Some-after : goal.returns-in-Some-after
+unfolding lines.rule
+returns-in-Some-after c =
+    goes_as lines.State c.args.ts.now c.in-Some-after.behind.now _ c.declarations.result (λ o q. reads (taken c.in-Some.ensures (passed S.Colon c.in_ok-behind.ensures
+    (taken c.in-Some-after.ensures q))))
+    (comes_last (lines.Declarations []) _ c.declarations.result c.declarations.ensures)
+
+pub returns-in_err-one : goal.returns-in_err-one
+unfolding lines.rule
+returns-in_err-one c =
+    fails lines.State c.args.ts.now c.in_ok-behind.behind.now _ c.from_residual-in_err-one.result c.in_err-one.field-0.0 c.from_residual-in_err-one.ensures.1
+    (λ o q. reads (taken c.in-Some.ensures (passed S.Colon c.in_ok-behind.ensures (skipped c.in_default-after.ensures q))))
+    (line_fails _ lines.Declare _ _ c.in_err-one.ensures)
+
+pub returns : goal.returns
+unfolding lines.rule
+returns c =
+    let one = c.in_ok-push.ensures.ok ∙ ap (λ ds. ds ++ c.in_ok-one.one ∷ []) c.new-all.ensures in
+    reads (taken c.in-Some.ensures (passed S.Colon c.in_ok-behind.ensures (skipped c.in_default-after.ensures (line_read c.in_ok-one.ensures (made one)))))

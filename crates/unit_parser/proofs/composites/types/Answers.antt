@@ -1,0 +1,25 @@
+use Rattle.std.proofs.Common.{[], subst}
+use Rattle.expr_parser.specs.Rules.{Took, Reads}
+use Rattle.unit_parser.proofs.Readings.{finished, reads, skipped, fails}
+use Rattle.unit_parser.proofs.CompositeReadings.{bound, bound_fails, rule_comes, one_more}
+use Rattle.unit_parser.specs.Lines as lines
+use Rattle.unit_parser.proofs.CompositeReadings.{more_types, taken_begins, type_shrinks, type_read}
+use Rattle.unit_parser.proofs.composites.types.Goals as goal
+
+pub returns-in_default : goal.returns-in_default
+unfolding lines.rule
+returns-in_default c = c.types.invariant (Took c.types.all c.types.at.now) (reads (skipped c.in_default.ensures finished))
+
+pub returns-in_err-one : goal.returns-in_err-one
+unfolding lines.rule
+returns-in_err-one c =
+    fails (lines.Types []) c.args.ts.now c.types.at.now (bound (lines.rule lines.TypeOf) (one_more c.types.all)) c.from_residual.result c.in_err-one.field-0.0 c.from_residual.ensures.1
+    (λ o q. c.types.invariant o (more_types (taken_begins c.in-Some.ensures.0) q))
+    (bound_fails (one_more c.types.all) (lines.rule lines.TypeOf) _ _ (rule_comes lines.TypeOf _ _ c.in_err-one.ensures))
+
+pub types-smaller : goal.types-smaller
+types-smaller c = type_shrinks c.in_ok-one.ensures
+
+pub types-preserved : goal.types-preserved
+types-preserved c =
+    λ o r. c.types.invariant o (type_read (taken_begins c.in-Some.ensures.0) c.in_ok-one.ensures (subst (λ ds. Reads lines.rule (lines.Types ds) c.in_ok-one.behind.now o) c.in_ok-push.ensures.ok r))

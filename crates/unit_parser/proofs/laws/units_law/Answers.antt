@@ -1,0 +1,6 @@
+use Rattle.unit_parser.specs.Units.{one_unit}
+use Rattle.unit_parser.proofs.OneAnswer.{one_answer}
+use Rattle.unit_parser.proofs.laws.units_law.Goals as goal
+
+pub returns : goal.returns
+returns c = record { one = one_unit; answer = one_answer }

@@ -1,0 +1,266 @@
+//! The clauses of an invocation.
+ghost use Rattle.std.specs.Prelude.{[]};
+ghost use Rattle.unit_parser.specs.Gives.{Gives};
+ghost use Rattle.unit_parser.specs.GivesClauses.{EventFirst};
+ghost use Rattle.unit_parser.specs.Lines as lines;
+
+use crate::declarations::{declaration, declarations};
+use crate::first::word_first;
+use crate::statements::block;
+use expr_parser::{
+    Taken, after, name_first, pass, pass_name, read_elements, read_expression, read_items,
+};
+use spl_tree::{
+    Clauses, Declaration, Exprs, Field, Fields, HandledEvent, Handler, Keyword, Logic,
+    OutputAssignments, Parameter, Placed, PortWindow, Symbol, Token, WindowPart,
+};
+use spl_value::Items;
+use std::alloc::Global;
+
+/// What ends an invocation: `;`, or its clauses between braces.
+pub(crate) fn end<'t>(alloc: Global, ts: &'t [Token]) -> Taken<'t, Clauses>
+    ensures { Gives lines.End ts.now result }
+{
+    if let Some((_, behind)) = after(ts, Symbol::Semicolon) {
+        let clauses = Clauses {
+            logic: None,
+            window: None,
+            parameters: Items::new(alloc),
+            output: None,
+            config: Items::new(alloc),
+        };
+        return Ok((clauses, behind));
+    }
+    let behind = pass(ts, Symbol::LeftBrace)?;
+    let (logic, behind) = logic(alloc, behind)?;
+    let (window, behind) = window(alloc, behind)?;
+    let (parameters, behind) = parameter_clause(alloc, Keyword::Param, behind)?;
+    let (output, behind) = output(alloc, behind)?;
+    let (config, behind) = parameter_clause(alloc, Keyword::Config, behind)?;
+    let behind = pass(behind, Symbol::RightBrace)?;
+    let clauses = Clauses {
+        logic,
+        window,
+        parameters,
+        output,
+        config,
+    };
+    Ok((clauses, behind))
+}
+
+/// `logic` and what follows, or nothing.
+fn logic<'t>(alloc: Global, ts: &'t [Token]) -> Taken<'t, Option<Placed<Logic>>>
+    ensures { Gives lines.LogicClause ts.now result }
+{
+    let Some((word, behind)) = word_first(ts, Keyword::Logic) else {
+        return Ok((None, ts));
+    };
+    let (state, behind) = state(alloc, behind)?;
+    let (handlers, behind) = handlers(alloc, behind)?;
+    let at = word.start;
+    let what = Logic { state, handlers };
+    Ok((Some(Placed { at, what }), behind))
+}
+
+/// The variables of a state, or none.
+fn state<'t>(alloc: Global, ts: &'t [Token]) -> Taken<'t, Items<Declaration>>
+    ensures { Gives lines.State ts.now result }
+{
+    let Some((_, behind)) = word_first(ts, Keyword::State) else {
+        return Ok((Items::new(alloc), ts));
+    };
+    let behind = pass(behind, Symbol::Colon)?;
+    if let Some((_, behind)) = after(behind, Symbol::LeftBrace) {
+        return declarations(alloc, behind);
+    }
+    let (one, behind) = declaration(alloc, behind)?;
+    let mut all = Items::new(alloc);
+    all.push(one)?;
+    Ok((all, behind))
+}
+
+/// Handlers of events, as many as follow.
+fn handlers<'t>(alloc: Global, ts: &'t [Token]) -> Taken<'t, Items<Placed<Handler>>>
+    ensures { Gives (lines.Handlers []) ts.now result }
+{
+    let mut all = Items::new(alloc);
+    let mut at = ts;
+    'handlers: loop {
+        let Some((place, event, behind)) = event_first(at) else {
+            return Ok((all, at));
+        };
+        let (one, behind) = handler(alloc, place, event, behind)?;
+        all.push(one)?;
+        at = behind;
+    }
+}
+
+/// The event that the first word handles, with its place, and the tokens behind it.
+fn event_first(ts: &[Token]) -> Option<(u32, HandledEvent, &[Token])>
+    ensures { EventFirst ts.now result }
+{
+    if let Some((word, behind)) = word_first(ts, Keyword::OnTuple) {
+        return Some((word.start, HandledEvent::Tuple, behind));
+    }
+    let (word, behind) = word_first(ts, Keyword::OnPunct)?;
+    Some((word.start, HandledEvent::Punctuation, behind))
+}
+
+/// A handler, behind its first word.
+fn handler<'t>(
+    alloc: Global,
+    at: u32,
+    event: HandledEvent,
+    ts: &'t [Token],
+) -> Taken<'t, Placed<Handler>>
+    ensures { Gives (lines.HandlerOf at event) ts.now result }
+{
+    let (port, behind) = pass_name(alloc, ts)?;
+    let behind = pass(behind, Symbol::Colon)?;
+    let (body, behind) = block(alloc, behind)?;
+    let what = Handler { event, port, body };
+    Ok((Placed { at, what }, behind))
+}
+
+/// `window` and what follows, or nothing.
+fn window<'t>(alloc: Global, ts: &'t [Token]) -> Taken<'t, Option<Placed<Items<PortWindow>>>>
+    ensures { Gives lines.WindowClause ts.now result }
+{
+    let Some((word, behind)) = word_first(ts, Keyword::Window) else {
+        return Ok((None, ts));
+    };
+    let (what, behind) = windows(alloc, behind)?;
+    let at = word.start;
+    Ok((Some(Placed { at, what }), behind))
+}
+
+/// The windows of ports, as many as follow.
+fn windows<'t>(alloc: Global, ts: &'t [Token]) -> Taken<'t, Items<PortWindow>>
+    ensures { Gives (lines.Windows []) ts.now result }
+{
+    let mut all = Items::new(alloc);
+    let mut at = ts;
+    'windows: loop {
+        if name_first(at).is_none() {
+            return Ok((all, at));
+        }
+        let (port, behind) = pass_name(alloc, at)?;
+        let behind = pass(behind, Symbol::Colon)?;
+        let (parts, behind) = window_parts(alloc, behind)?;
+        all.push(PortWindow { port, parts })?;
+        at = behind;
+    }
+}
+
+/// One part of a window or more, with commas between them, up to the `;`.
+fn window_parts<'t>(alloc: Global, ts: &'t [Token]) -> Taken<'t, Items<WindowPart>>
+    ensures { Gives (lines.WindowParts []) ts.now result }
+{
+    let mut all = Items::new(alloc);
+    let mut at = ts;
+    'parts: loop {
+        let (name, behind) = pass_name(alloc, at)?;
+        let (arguments, behind) = part_arguments(alloc, behind)?;
+        all.push(WindowPart { name, arguments })?;
+        let Some((_, behind)) = after(behind, Symbol::Comma) else {
+            let behind = pass(behind, Symbol::Semicolon)?;
+            return Ok((all, behind));
+        };
+        at = behind;
+    }
+}
+
+/// Arguments in parentheses, or none.
+fn part_arguments<'t>(alloc: Global, ts: &'t [Token]) -> Taken<'t, Option<Exprs>>
+    ensures { Gives lines.PartArguments ts.now result }
+{
+    let Some((_, behind)) = after(ts, Symbol::LeftParen) else {
+        return Ok((None, ts));
+    };
+    let (arguments, behind) = read_elements(alloc, Symbol::RightParen, behind)?;
+    Ok((Some(arguments), behind))
+}
+
+/// `param` or `config`, and what follows, or nothing.
+pub(crate) fn parameter_clause<'t>(
+    alloc: Global,
+    word: Keyword,
+    ts: &'t [Token],
+) -> Taken<'t, Items<Parameter>>
+    ensures { Gives (lines.ParameterClause word) ts.now result }
+{
+    match word_first(ts, word) {
+        Some((_, behind)) => parameters(alloc, behind),
+        None => Ok((Items::new(alloc), ts)),
+    }
+}
+
+/// Names with values, as many as follow.
+fn parameters<'t>(alloc: Global, ts: &'t [Token]) -> Taken<'t, Items<Parameter>>
+    ensures { Gives (lines.Parameters []) ts.now result }
+{
+    let mut all = Items::new(alloc);
+    let mut at = ts;
+    'parameters: loop {
+        if name_first(at).is_none() {
+            return Ok((all, at));
+        }
+        let (name, behind) = pass_name(alloc, at)?;
+        let behind = pass(behind, Symbol::Colon)?;
+        let (values, behind) = read_items(alloc, Symbol::Semicolon, behind)?;
+        all.push(Parameter { name, values })?;
+        at = behind;
+    }
+}
+
+/// `output` and what follows, or nothing.
+fn output<'t>(alloc: Global, ts: &'t [Token]) -> Taken<'t, Option<Placed<Items<OutputAssignments>>>>
+    ensures { Gives lines.OutputClause ts.now result }
+{
+    let Some((word, behind)) = word_first(ts, Keyword::Output) else {
+        return Ok((None, ts));
+    };
+    let (what, behind) = outputs(alloc, behind)?;
+    let at = word.start;
+    Ok((Some(Placed { at, what }), behind))
+}
+
+/// Assignments for streams, as many as follow.
+fn outputs<'t>(alloc: Global, ts: &'t [Token]) -> Taken<'t, Items<OutputAssignments>>
+    ensures { Gives (lines.Outputs []) ts.now result }
+{
+    let mut all = Items::new(alloc);
+    let mut at = ts;
+    'outputs: loop {
+        if name_first(at).is_none() {
+            return Ok((all, at));
+        }
+        let (stream, behind) = pass_name(alloc, at)?;
+        let behind = pass(behind, Symbol::Colon)?;
+        let (assignments, behind) = assignments(alloc, behind)?;
+        all.push(OutputAssignments {
+            stream,
+            assignments,
+        })?;
+        at = behind;
+    }
+}
+
+/// One assignment of an attribute or more, with commas between them, up to the `;`.
+fn assignments<'t>(alloc: Global, ts: &'t [Token]) -> Taken<'t, Fields>
+    ensures { Gives (lines.Assignments []) ts.now result }
+{
+    let mut all = Items::new(alloc);
+    let mut at = ts;
+    'assignments: loop {
+        let (name, behind) = pass_name(alloc, at)?;
+        let behind = pass(behind, Symbol::Assign)?;
+        let (value, behind) = read_expression(alloc, behind)?;
+        all.push(Field { name, value })?;
+        let Some((_, behind)) = after(behind, Symbol::Comma) else {
+            let behind = pass(behind, Symbol::Semicolon)?;
+            return Ok((all, behind));
+        };
+        at = behind;
+    }
+}

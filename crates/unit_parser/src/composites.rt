@@ -1,0 +1,222 @@
+//! Composites.
+ghost use Rattle.std.specs.Prelude.{[]};
+ghost use Rattle.unit_parser.specs.Gives.{Comes, Gives};
+ghost use Rattle.unit_parser.specs.GivesComposites.{other_ports_rule};
+ghost use Rattle.unit_parser.specs.Lines as lines;
+
+use crate::clauses::parameter_clause;
+use crate::first::{pass_dollar, pass_word, word_first};
+use crate::invocations::graph;
+use crate::types::{read_type, shape};
+use expr_parser::{Taken, after, name_first, pass, pass_name, read_expression};
+use spl_tree::{
+    Composite, CompositeParameter, HeadPort, Invocation, Keyword, Placed, Symbol, Token,
+    TypeDefinition, TypeExpr,
+};
+use spl_value::{Items, Name};
+use std::alloc::Global;
+
+/// The outputs and the inputs of a head.
+type Ports = (Items<HeadPort>, Items<HeadPort>);
+
+/// A composite, behind its first word.
+pub(crate) fn composite<'t>(alloc: Global, ts: &'t [Token]) -> Taken<'t, Composite>
+    ensures { Gives lines.CompositeOf ts.now result }
+{
+    let (name, behind) = pass_name(alloc, ts)?;
+    let ((outputs, inputs), behind) = head_ports(alloc, behind)?;
+    let behind = pass(behind, Symbol::LeftBrace)?;
+    let (parameters, behind) = composite_parameter_clause(alloc, behind)?;
+    let (types, behind) = type_clause(alloc, behind)?;
+    let (graph, behind) = graph_clause(alloc, behind)?;
+    let (config, behind) = parameter_clause(alloc, Keyword::Config, behind)?;
+    let behind = pass(behind, Symbol::RightBrace)?;
+    let composite = Composite {
+        name,
+        outputs,
+        inputs,
+        parameters,
+        types,
+        graph,
+        config,
+    };
+    Ok((composite, behind))
+}
+
+/// The ports of a head in parentheses, or none.
+fn head_ports<'t>(alloc: Global, ts: &'t [Token]) -> Taken<'t, Ports>
+    ensures { Gives lines.HeadPorts ts.now result }
+{
+    let Some((_, behind)) = after(ts, Symbol::LeftParen) else {
+        return Ok(((Items::new(alloc), Items::new(alloc)), ts));
+    };
+    match word_first(behind, Keyword::Output) {
+        Some((_, behind)) => {
+            let (outputs, behind) = ports(alloc, behind)?;
+            let (inputs, behind) = other_ports(alloc, Keyword::Input, behind)?;
+            Ok(((outputs, inputs), behind))
+        }
+        None => {
+            let behind = pass_word(behind, Keyword::Input)?;
+            let (inputs, behind) = ports(alloc, behind)?;
+            let (outputs, behind) = other_ports(alloc, Keyword::Output, behind)?;
+            Ok(((outputs, inputs), behind))
+        }
+    }
+}
+
+/// `;` and the ports behind the word, or none, and the closing parenthesis.
+fn other_ports<'t>(alloc: Global, word: Keyword, ts: &'t [Token]) -> Taken<'t, Items<HeadPort>>
+    ensures { Comes (other_ports_rule word) ts.now result }
+{
+    let Some((_, behind)) = after(ts, Symbol::Semicolon) else {
+        let behind = pass(ts, Symbol::RightParen)?;
+        return Ok((Items::new(alloc), behind));
+    };
+    let behind = pass_word(behind, word)?;
+    let (all, behind) = ports(alloc, behind)?;
+    let behind = pass(behind, Symbol::RightParen)?;
+    Ok((all, behind))
+}
+
+/// One port or more, with commas between them.
+fn ports<'t>(alloc: Global, ts: &'t [Token]) -> Taken<'t, Items<HeadPort>>
+    ensures { Gives (lines.Ports []) ts.now result }
+{
+    let mut all = Items::new(alloc);
+    let mut at = ts;
+    'ports: loop {
+        let (one, behind) = port(alloc, at)?;
+        all.push(one)?;
+        let Some((_, after_comma)) = after(behind, Symbol::Comma) else {
+            return Ok((all, behind));
+        };
+        at = after_comma;
+    }
+}
+
+/// A port, with its shape or without.
+fn port<'t>(alloc: Global, ts: &'t [Token]) -> Taken<'t, HeadPort>
+    ensures { Gives lines.Port ts.now result }
+{
+    let Some((_, behind)) = word_first(ts, Keyword::Stream) else {
+        let (name, behind) = pass_name(alloc, ts)?;
+        return Ok((HeadPort { shape: None, name }, behind));
+    };
+    let behind = pass(behind, Symbol::Less)?;
+    let (shape, behind) = shape(alloc, Symbol::Greater, behind)?;
+    let (name, behind) = pass_name(alloc, behind)?;
+    let shape = Some(shape);
+    Ok((HeadPort { shape, name }, behind))
+}
+
+/// `param` and what follows, or nothing.
+fn composite_parameter_clause<'t>(
+    alloc: Global,
+    ts: &'t [Token],
+) -> Taken<'t, Items<CompositeParameter>>
+    ensures { Gives lines.CompositeParameterClause ts.now result }
+{
+    match word_first(ts, Keyword::Param) {
+        Some((_, behind)) => composite_parameters(alloc, behind),
+        None => Ok((Items::new(alloc), ts)),
+    }
+}
+
+/// Parameters, as many as follow.
+fn composite_parameters<'t>(alloc: Global, ts: &'t [Token]) -> Taken<'t, Items<CompositeParameter>>
+    ensures { Gives (lines.CompositeParameters []) ts.now result }
+{
+    let mut all = Items::new(alloc);
+    let mut at = ts;
+    'parameters: loop {
+        let Some((_, behind)) = word_first(at, Keyword::Expression) else {
+            return Ok((all, at));
+        };
+        let behind = pass(behind, Symbol::Less)?;
+        let (kind, behind) = read_type(alloc, behind)?;
+        let behind = pass(behind, Symbol::Greater)?;
+        let (name, behind) = pass_dollar(alloc, behind)?;
+        let (one, behind) = defaulted(alloc, kind, name, behind)?;
+        all.push(one)?;
+        at = behind;
+    }
+}
+
+/// A parameter, behind its name.
+fn defaulted<'t>(
+    alloc: Global,
+    kind: TypeExpr,
+    name: Placed<Name>,
+    ts: &'t [Token],
+) -> Taken<'t, CompositeParameter>
+    ensures { Gives (lines.Default kind name) ts.now result }
+{
+    let Some((_, behind)) = after(ts, Symbol::Colon) else {
+        let behind = pass(ts, Symbol::Semicolon)?;
+        let default = None;
+        return Ok((
+            CompositeParameter {
+                kind,
+                name,
+                default,
+            },
+            behind,
+        ));
+    };
+    let (value, behind) = read_expression(alloc, behind)?;
+    let behind = pass(behind, Symbol::Semicolon)?;
+    let default = Some(value);
+    let one = CompositeParameter {
+        kind,
+        name,
+        default,
+    };
+    Ok((one, behind))
+}
+
+/// `type` and what follows, or nothing.
+fn type_clause<'t>(alloc: Global, ts: &'t [Token]) -> Taken<'t, Items<TypeDefinition>>
+    ensures { Gives lines.TypeClause ts.now result }
+{
+    match word_first(ts, Keyword::Type) {
+        Some((_, behind)) => types(alloc, behind),
+        None => Ok((Items::new(alloc), ts)),
+    }
+}
+
+/// Names with shapes, as many as follow.
+fn types<'t>(alloc: Global, ts: &'t [Token]) -> Taken<'t, Items<TypeDefinition>>
+    ensures { Gives (lines.Types []) ts.now result }
+{
+    let mut all = Items::new(alloc);
+    let mut at = ts;
+    'types: loop {
+        let Some(_) = name_first(at) else {
+            return Ok((all, at));
+        };
+        let (one, behind) = type_definition(alloc, at)?;
+        all.push(one)?;
+        at = behind;
+    }
+}
+
+/// A name and its shape.
+pub(crate) fn type_definition<'t>(alloc: Global, ts: &'t [Token]) -> Taken<'t, TypeDefinition>
+    ensures { Gives lines.TypeOf ts.now result }
+{
+    let (name, behind) = pass_name(alloc, ts)?;
+    let behind = pass(behind, Symbol::Assign)?;
+    let (shape, behind) = shape(alloc, Symbol::Semicolon, behind)?;
+    Ok((TypeDefinition { name, shape }, behind))
+}
+
+/// `graph` and what follows, or nothing.
+fn graph_clause<'t>(alloc: Global, ts: &'t [Token]) -> Taken<'t, Items<Invocation>>
+    ensures { Gives lines.GraphClause ts.now result }
+{
+    match word_first(ts, Keyword::Graph) {
+        Some((_, behind)) => graph(alloc, behind),
+        None => Ok((Items::new(alloc), ts)),
+    }
+}

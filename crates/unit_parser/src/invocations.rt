@@ -1,0 +1,178 @@
+//! Invocations of operators and composites.
+ghost use Rattle.std.specs.Prelude.{[]};
+ghost use Rattle.unit_parser.specs.Gives.{Gives};
+ghost use Rattle.unit_parser.specs.GivesClauses.{InvocationsOn};
+ghost use Rattle.unit_parser.specs.Lines as lines;
+
+use crate::clauses::end;
+use crate::first::{pass_word, word_first};
+use crate::types::shape;
+use expr_parser::{Stop, Taken, after, pass, pass_name};
+use spl_tree::{InputPort, Invocation, Keyword, OutputStream, Placed, Symbol, Token};
+use spl_value::{Items, Name};
+use std::alloc::Global;
+
+/// The streams that an invocation makes, and its alias.
+type Head = (Items<OutputStream>, Option<Placed<Name>>);
+
+/// Invocations, as many as follow.
+pub(crate) fn graph<'t>(alloc: Global, ts: &'t [Token]) -> Taken<'t, Items<Invocation>>
+    ensures { Gives (lines.Graph []) ts.now result }
+{
+    let mut all = Items::new(alloc);
+    let mut at = ts;
+    'invocations: loop {
+        let (found, behind) = invocation(alloc, at)?;
+        let Some(one) = found else {
+            return Ok((all, behind));
+        };
+        all.push(one)?;
+        at = behind;
+    }
+}
+
+/// An invocation, or none where none begins.
+fn invocation<'t>(alloc: Global, ts: &'t [Token]) -> Taken<'t, Option<Invocation>>
+    ensures { InvocationsOn ts.now result }
+{
+    if let Some((word, behind)) = word_first(ts, Keyword::Stream) {
+        let (head, behind) = stream_head(alloc, behind)?;
+        let (one, behind) = invoked(alloc, word.start, head, behind)?;
+        return Ok((Some(one), behind));
+    }
+    let Some((open, behind)) = after(ts, Symbol::LeftParen) else {
+        return Ok((None, ts));
+    };
+    let (head, behind) = list_head(alloc, behind)?;
+    let (one, behind) = invoked(alloc, open.start, head, behind)?;
+    Ok((Some(one), behind))
+}
+
+/// A head of one stream, behind the word `stream`.
+fn stream_head<'t>(alloc: Global, ts: &'t [Token]) -> Taken<'t, Head>
+    ensures { Gives lines.StreamHead ts.now result }
+{
+    let (one, behind) = stream(alloc, ts)?;
+    let (alias, behind) = alias(alloc, behind)?;
+    let mut outputs = Items::new(alloc);
+    outputs.push(one)?;
+    Ok(((outputs, alias), behind))
+}
+
+/// A head in parentheses, behind the opening one.
+fn list_head<'t>(alloc: Global, ts: &'t [Token]) -> Taken<'t, Head>
+    ensures { Gives lines.ListHead ts.now result }
+{
+    if let Some((_, behind)) = after(ts, Symbol::RightParen) {
+        let behind = pass_word(behind, Keyword::As)?;
+        let (name, behind) = pass_name(alloc, behind)?;
+        return Ok(((Items::new(alloc), Some(name)), behind));
+    }
+    let (outputs, behind) = streams(alloc, ts)?;
+    let (alias, behind) = alias(alloc, behind)?;
+    Ok(((outputs, alias), behind))
+}
+
+/// A stream, behind the word `stream`.
+fn stream<'t>(alloc: Global, ts: &'t [Token]) -> Taken<'t, OutputStream>
+    ensures { Gives lines.Stream ts.now result }
+{
+    let behind = pass(ts, Symbol::Less)?;
+    let (shape, behind) = shape(alloc, Symbol::Greater, behind)?;
+    let (name, behind) = pass_name(alloc, behind)?;
+    Ok((OutputStream { shape, name }, behind))
+}
+
+/// One stream or more, with `;` between them, up to the closing parenthesis.
+fn streams<'t>(alloc: Global, ts: &'t [Token]) -> Taken<'t, Items<OutputStream>>
+    ensures { Gives (lines.Streams []) ts.now result }
+{
+    let mut all = Items::new(alloc);
+    let mut at = ts;
+    'streams: loop {
+        let behind = pass_word(at, Keyword::Stream)?;
+        let (one, behind) = stream(alloc, behind)?;
+        all.push(one)?;
+        let Some((_, behind)) = after(behind, Symbol::Semicolon) else {
+            let behind = pass(behind, Symbol::RightParen)?;
+            return Ok((all, behind));
+        };
+        at = behind;
+    }
+}
+
+/// `as` and a name, or neither.
+fn alias<'t>(alloc: Global, ts: &'t [Token]) -> Taken<'t, Option<Placed<Name>>>
+    ensures { Gives lines.Alias ts.now result }
+{
+    let Some((_, behind)) = word_first(ts, Keyword::As) else {
+        return Ok((None, ts));
+    };
+    let (name, behind) = pass_name(alloc, behind)?;
+    Ok((Some(name), behind))
+}
+
+/// An invocation, behind its head.
+fn invoked<'t>(alloc: Global, at: u32, head: Head, ts: &'t [Token]) -> Taken<'t, Invocation>
+    ensures { Gives (lines.Invoked at head.0 head.1) ts.now result }
+{
+    let (outputs, alias) = head;
+    let behind = pass(ts, Symbol::Assign)?;
+    let (operator, behind) = pass_name(alloc, behind)?;
+    let behind = pass(behind, Symbol::LeftParen)?;
+    let (inputs, behind) = inputs(alloc, behind)?;
+    let (clauses, behind) = end(alloc, behind)?;
+    let one = Invocation {
+        at,
+        outputs,
+        alias,
+        operator,
+        inputs,
+        clauses,
+    };
+    Ok((one, behind))
+}
+
+/// Input ports up to the closing parenthesis, or none.
+fn inputs<'t>(alloc: Global, ts: &'t [Token]) -> Taken<'t, Items<InputPort>>
+    ensures { Gives lines.Inputs ts.now result }
+{
+    match after(ts, Symbol::RightParen) {
+        Some((_, behind)) => Ok((Items::new(alloc), behind)),
+        None => more_inputs(alloc, ts),
+    }
+}
+
+/// One input port or more, with `;` between them, up to the closing parenthesis.
+fn more_inputs<'t>(alloc: Global, ts: &'t [Token]) -> Taken<'t, Items<InputPort>>
+    ensures { Gives (lines.MoreInputs []) ts.now result }
+{
+    let mut all = Items::new(alloc);
+    let mut at = ts;
+    'inputs: loop {
+        let (streams, behind) = input_streams(alloc, at)?;
+        let (alias, behind) = alias(alloc, behind)?;
+        all.push(InputPort { streams, alias })?;
+        let Some((_, behind)) = after(behind, Symbol::Semicolon) else {
+            let behind = pass(behind, Symbol::RightParen)?;
+            return Ok((all, behind));
+        };
+        at = behind;
+    }
+}
+
+/// One stream of a port or more, with commas between them.
+fn input_streams<'t>(alloc: Global, ts: &'t [Token]) -> Taken<'t, Items<Placed<Name>>>
+    ensures { Gives (lines.InputStreams []) ts.now result }
+{
+    let mut all = Items::new(alloc);
+    let mut at = ts;
+    'streams: loop {
+        let (name, behind) = pass_name(alloc, at)?;
+        all.push(name)?;
+        let Some((_, after_comma)) = after(behind, Symbol::Comma) else {
+            return Ok((all, behind));
+        };
+        at = after_comma;
+    }
+}

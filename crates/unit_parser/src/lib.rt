@@ -1,0 +1,17 @@
+//! Programs, read from tokens.
+#![tactic(auto)]
+
+mod clauses;
+mod composites;
+mod declarations;
+mod first;
+mod invocations;
+mod laws;
+mod parse;
+mod simple;
+mod statements;
+mod types;
+mod units;
+
+pub use laws::units_law;
+pub use parse::parse_unit;

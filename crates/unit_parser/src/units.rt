@@ -1,0 +1,143 @@
+//! Units, and what they define.
+ghost use Rattle.std.specs.Prelude.{◌≡◌, []};
+ghost use Rattle.expr_parser.specs.RuleLaws.{begins_with};
+ghost use Rattle.unit_parser.specs.Gives.{Gives};
+ghost use Rattle.unit_parser.specs.GivesComposites.{PassesNames, DefinesOn, begins_type, is_type_front, word_begins_type};
+ghost use Rattle.unit_parser.specs.Lines as lines;
+
+use crate::composites::{composite, type_definition};
+use crate::first::{pass_word, word_first};
+use crate::statements::block;
+use crate::types::{function_parameters, read_type};
+use expr_parser::{Stop, Taken, after, pass, pass_name};
+use spl_tree::{Definition, FunctionDefinition, Keyword, Symbol, Token, TokenKind, TypeExpr, Unit};
+use spl_value::Items;
+use std::alloc::Global;
+
+/// A unit.
+pub(crate) fn unit<'t>(alloc: Global, ts: &'t [Token]) -> Taken<'t, Unit>
+    ensures { Gives lines.Whole ts.now result }
+{
+    match word_first(ts, Keyword::Namespace) {
+        Some((_, behind)) => {
+            let behind = namespace(alloc, behind)?;
+            definitions(alloc, behind)
+        }
+        None => definitions(alloc, ts),
+    }
+}
+
+/// The names of a namespace, up to the `;`, and the tokens behind it.
+fn namespace<'t>(alloc: Global, ts: &'t [Token]) -> Result<&'t [Token], Stop<'t>>
+    ensures { PassesNames ts.now result }
+{
+    let mut at = ts;
+    'names: loop {
+        let (_, behind) = pass_name(alloc, at)?;
+        let Some((_, behind)) = after(behind, Symbol::Dot) else {
+            return pass(behind, Symbol::Semicolon);
+        };
+        at = behind;
+    }
+}
+
+/// Definitions, as many as follow.
+fn definitions<'t>(alloc: Global, ts: &'t [Token]) -> Taken<'t, Unit>
+    ensures { Gives (lines.Definitions []) ts.now result }
+{
+    let mut all = Items::new(alloc);
+    let mut at = ts;
+    'definitions: loop {
+        let (found, behind) = definition(alloc, at)?;
+        let Some(one) = found else {
+            return Ok((all, behind));
+        };
+        all.push(one)?;
+        at = behind;
+    }
+}
+
+/// A definition, or none where none begins.
+fn definition<'t>(alloc: Global, ts: &'t [Token]) -> Taken<'t, Option<Definition>>
+    ensures { DefinesOn ts.now result }
+{
+    if let Some((_, behind)) = word_first(ts, Keyword::Type) {
+        let (one, behind) = type_definition(alloc, behind)?;
+        return Ok((Some(Definition::Type(one)), behind));
+    }
+    if let Some((_, behind)) = word_first(ts, Keyword::Public) {
+        let behind = pass_word(behind, Keyword::Composite)?;
+        let (one, behind) = composite(alloc, behind)?;
+        return Ok((Some(Definition::Composite(one)), behind));
+    }
+    if let Some((_, behind)) = word_first(ts, Keyword::Composite) {
+        let (one, behind) = composite(alloc, behind)?;
+        return Ok((Some(Definition::Composite(one)), behind));
+    }
+    if let Some((_, behind)) = word_first(ts, Keyword::Void) {
+        let (one, behind) = function(alloc, None, behind)?;
+        return Ok((Some(Definition::Function(one)), behind));
+    }
+    if !type_begins(ts) {
+        return Ok((None, ts));
+    }
+    let (kind, behind) = read_type(alloc, ts)?;
+    let (one, behind) = function(alloc, Some(kind), behind)?;
+    Ok((Some(Definition::Function(one)), behind))
+}
+
+/// Whether the first token can begin a type.
+fn type_begins(ts: &[Token]) -> bool
+    ensures { result ≡ begins_with is_type_front ts.now }
+{
+    match ts.first() {
+        Some(token) => begins_type(&token.kind),
+        None => false,
+    }
+}
+
+fn begins_type(kind: &TokenKind) -> bool
+    ensures { result ≡ begins_type kind.now }
+{
+    match kind {
+        TokenKind::Word(_) => true,
+        TokenKind::Keyword(word) => word_begins_type(*word),
+        _ => false,
+    }
+}
+
+fn word_begins_type(word: Keyword) -> bool
+    ensures { result ≡ word_begins_type word }
+{
+    matches!(
+        word,
+        Keyword::Boolean
+            | Keyword::Rstring
+            | Keyword::Int(_)
+            | Keyword::LeftOut(_)
+            | Keyword::List
+            | Keyword::Map
+            | Keyword::Tuple
+    )
+}
+
+/// A function, behind the type of its result.
+fn function<'t>(
+    alloc: Global,
+    kind: Option<TypeExpr>,
+    ts: &'t [Token],
+) -> Taken<'t, FunctionDefinition>
+    ensures { Gives (lines.FunctionOf kind) ts.now result }
+{
+    let (name, behind) = pass_name(alloc, ts)?;
+    let behind = pass(behind, Symbol::LeftParen)?;
+    let (parameters, behind) = function_parameters(alloc, behind)?;
+    let (body, behind) = block(alloc, behind)?;
+    let function = FunctionDefinition {
+        result: kind,
+        name,
+        parameters,
+        body,
+    };
+    Ok((function, behind))
+}
