@@ -4,6 +4,7 @@
 mod body;
 mod code;
 mod expression;
+mod graph;
 mod keyword;
 mod laws;
 mod shape;
@@ -21,6 +22,7 @@ pub use expression::{
     BinaryOperator, CastTarget, Entries, Expr, ExprKind, Exprs, Field, Fields, Placed, Prefix,
     PrefixOperator, Prefixes, Step, Steps,
 };
+pub use graph::{Expansion, Graph, InputStreams, Op, OpKind, Site, Stream};
 pub use keyword::{KEYWORDS, Keyword, LeftOut};
 pub use laws::{
     ranges_law, texts_law, tokens_law, tokens_on_literals, units_on_literals, weights_law,

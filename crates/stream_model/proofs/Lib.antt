@@ -42,3 +42,8 @@ pub mod Naming
 pub mod TwoPorts
 pub mod TwoStatements
 pub mod KeptInputs
+pub mod Flattening
+pub mod OneFlat
+pub mod Inlining
+pub mod Ordering
+pub mod Nesting

@@ -37,3 +37,15 @@ pub mod OrderLaws
 pub mod PathLaws
 pub mod StatementTyping
 pub mod PlaceLaws
+pub mod Mentions
+pub mod Declarations
+pub mod Composites
+pub mod Recursion
+pub mod Invoking
+pub mod Expansion
+pub mod Numbering
+pub mod Taking
+pub mod SinkFiles
+pub mod Flat
+pub mod FlatExamples
+pub mod FlatLaws

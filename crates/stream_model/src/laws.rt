@@ -1,6 +1,14 @@
 //! What the definitions come to.
+ghost use Rattle.spl_tree.specs.Grammar.{placed};
+ghost use Rattle.stream_model.specs.declared.expansion.ExpansionRefusal.TheVariants as R;
+ghost use Rattle.stream_model.specs.Composites.{main_of};
+ghost use Rattle.stream_model.specs.Declarations.{declared_twice};
+ghost use Rattle.stream_model.specs.Flat.{flat_from};
+ghost use Rattle.stream_model.specs.FlatLaws.{ConnectedLaw, MakerLaw, OneFlatLaw, OperatorLaw, TopoLaw};
+ghost use Rattle.stream_model.specs.FlatExamples.{two_types, reversed, unknown_composite, reversed_main, reversed_graph, loop_of_two, only_composite};
+ghost use Rattle.stream_model.specs.Scopes.{at_place};
 ghost use Rattle.stream_model.specs.ValueLaws.{NeverStuckLaw, StatementLeadsLaw, BodyLeavesLaw, RenamingLaw, WrittenLaw, NamesLaw};
-ghost use Rattle.std.specs.Prelude.{◌≡◌, ◌≤◌, ℕ, List, [], ◌∷◌, Option, Some, None, Ok, codes, pos, negsuc, true, false};
+ghost use Rattle.std.specs.Prelude.{◌≡◌, ◌≤◌, ℕ, List, [], ◌∷◌, Option, Some, None, Ok, Err, codes, pos, negsuc, true, false};
 ghost use Rattle.spl_value.specs.Script.{End, Failed};
 ghost use Rattle.spl_value.specs.declared.item.Item.TheVariants as I;
 ghost use Rattle.spl_value.specs.declared.item.FaultKind.TheVariants as K;
@@ -235,4 +243,27 @@ pub fn names_on_literals()
         ≡ Ok (record { kind = T.Bool; code = C.Binary (D.Order Less) (C.Name (L.Attribute 0 0)) (C.Name (L.Attribute 1 1)) }) }
     ensures over_names { renamed (written (two_ports [] (codes "B"))) (C.Binary (D.Order Less) (C.Name (L.Attribute 0 0)) (C.Name (L.Attribute 1 1)))
         ≡ C.Binary (D.Order Less) (C.Name (Of (codes "A") (codes "k"))) (C.Name (Of (codes "B") (codes "m"))) }
+{}
+
+/// A unit has one answer. Each operator of its graph is one of the unit's, and each stream has one
+/// maker. The order has each operator once, behind those that make what it takes.
+pub fn flat_law()
+    ensures one { OneFlatLaw }
+    ensures operators { OperatorLaw }
+    ensures makers { MakerLaw }
+    ensures in_order { TopoLaw }
+    ensures connected { ConnectedLaw }
+{}
+
+/// Some units, and what they come to: a name that is declared twice, the main composite, the graph of
+/// a program in which a composite stands twice and each operator before those that it reads, and two
+/// refusals.
+pub fn graphs_on_literals()
+    ensures none_twice { declared_twice [] ≡ None }
+    ensures twice { declared_twice two_types ≡ Some (placed 21 (codes "T")) }
+    ensures no_main { main_of [] ≡ None }
+    ensures main { main_of reversed ≡ Some 1 }
+    ensures graph { flat_from reversed [] (at_place 1 reversed_main) ≡ Ok reversed_graph }
+    ensures waits { flat_from loop_of_two [] (only_composite loop_of_two) ≡ Err (R.Loop (placed 20 (codes "A"))) }
+    ensures undeclared { flat_from unknown_composite [] (at_place 0 reversed_main) ≡ Err (R.Unknown (placed 318 (codes "P"))) }
 {}

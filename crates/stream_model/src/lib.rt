@@ -2,6 +2,7 @@
 #![tactic(auto)]
 
 mod env;
+mod expansion;
 mod flow;
 mod laws;
 mod outs;
@@ -9,11 +10,13 @@ mod record;
 mod scope;
 
 pub use env::{Env, Tuples};
+pub use expansion::{ExpansionRefusal, Operation, Source};
 pub use flow::Flow;
 pub use laws::{
-    chain_is_ordered, changes_law, ends_on_literals, evaluation_law, graph_law, history_law,
-    kinds_law, names_on_literals, order_law, places_law, renaming_law, rows_law, rows_on_literals,
-    slots_on_literals, statements_law, text_on_literals, typing_law, value_law,
+    chain_is_ordered, changes_law, ends_on_literals, evaluation_law, flat_law, graph_law,
+    graphs_on_literals, history_law, kinds_law, names_on_literals, order_law, places_law,
+    renaming_law, rows_law, rows_on_literals, slots_on_literals, statements_law, text_on_literals,
+    typing_law, value_law,
 };
 pub use outs::{Output, Outs};
 pub use record::{
