@@ -29,11 +29,11 @@ use Rattle.stream_model.proofs.Standing.{first_stands}
 -- ---- what stands in what was made
 
 -- a composite of the unit
-abbrev IsIn : List Definition → Inlined → Type 0
+abbrev pub IsIn : List Definition → Inlined → Type 0
 IsIn unit e = slice_get (composites unit) e.composite.place ≡ Some e.composite.what
 
 -- an operator, and the invocation in a body that it is of
-record Stands (unit : List Definition) (bodies : List Inlined) (o : Operation) : Type 0 where
+pub record Stands (unit : List Definition) (bodies : List Inlined) (o : Operation) : Type 0 where
   pub body : Inlined
   pub invocation : Invocation
   pub in_bodies : slice_get bodies o.site.expansion ≡ Some body
@@ -43,15 +43,15 @@ record Stands (unit : List Definition) (bodies : List Inlined) (o : Operation) :
   pub ins : length o.ins ≡ length invocation.inputs
   pub outputs : o.outputs ≡ length invocation.outputs
 
-record Holds (unit : List Definition) (made : Made) : Type 0 where
+pub record Holds (unit : List Definition) (made : Made) : Type 0 where
   pub bodies : (k : ℕ) (e : Inlined) → slice_get made.expansions k ≡ Some e → IsIn unit e
   pub ops : (n : ℕ) (o : Operation) → slice_get made.ops n ≡ Some o → Stands unit made.expansions o
 
 -- the bodies are kept
-abbrev Grows : List Inlined → List Inlined → Type 0
+abbrev pub Grows : List Inlined → List Inlined → Type 0
 Grows xs ys = (k : ℕ) (e : Inlined) → slice_get xs k ≡ Some e → slice_get ys k ≡ Some e
 
-grown : {A : Type 0} (xs ys : List A) (i : ℕ) (x : A) → slice_get xs i ≡ Some x → slice_get (xs ++ ys) i ≡ Some x
+pub grown : {A : Type 0} (xs ys : List A) (i : ℕ) (x : A) → slice_get xs i ≡ Some x → slice_get (xs ++ ys) i ≡ Some x
 grown xs ys i x e = in_front xs ys i (slice_get_within xs i x e) ∙ e
 
 -- what stands in a list with one more: in the list, or that one
@@ -92,7 +92,7 @@ kept unit made h = record { holds = h; grows = λ k e is. is }
 keeps_on : (unit : List Definition) (x y z : Made) → Keeps unit x y → Keeps unit y z → Keeps unit x z
 keeps_on unit x y z f g = record { holds = g.holds; grows = λ k e is. g.grows k e (f.grows k e is) }
 
-within_is : (at : ℕ) (made next : Made) → if_within at made ≡ Ok next → made ≡ next
+pub within_is : (at : ℕ) (made next : Made) → if_within at made ≡ Ok next → made ≡ next
 within_is at made next e = elim (is_within made.ops) as (λ b. (if b then Ok made else Err (R.TooMany at)) ≡ Ok next → made ≡ next) [ true ↦ λ is. cc | false ↦ λ is. absurd cc ] e
 
 module _ (unit : List Definition) (p : Opened) (number : ℕ) (i : Invocation) (before next : Made) (h : Holds unit before) (stands : StandsIn p before)
@@ -158,7 +158,7 @@ if_grown_keeps unit before m next h k e =
       | false ↦ λ is. subst (Keeps unit before) is k
     ] e
 
-last_stands : {A : Type 0} (xs : List A) (x : A) → slice_get (xs ++ x ∷ []) (length xs) ≡ Some x
+pub last_stands : {A : Type 0} (xs : List A) (x : A) → slice_get (xs ++ x ∷ []) (length xs) ≡ Some x
 last_stands xs x = behind xs (x ∷ []) (length xs) 0 (omega arith)
 
 module _ (unit : List Definition) (expands : Expands) (all : KeepsAll unit expands) (p : Opened) (number : ℕ) (i : Invocation) (before next : Made)
@@ -192,7 +192,7 @@ module _ (unit : List Definition) (expands : Expands) (all : KeepsAll unit expan
 
 -- ---- a graph
 
-declared_gives : (o : Option (Placed (List ℕ))) (found : Found Made) (made : Made) → if_declared o found ≡ Ok made → found ≡ Ok made
+pub declared_gives : (o : Option (Placed (List ℕ))) (found : Found Made) (made : Made) → if_declared o found ≡ Ok made → found ≡ Ok made
 declared_gives None found made e = e
 declared_gives (Some n) found made e = absurd cc
 
@@ -223,9 +223,9 @@ keeps unit (suc depth) p before next h stands e =
 
 -- ---- the whole
 
-main_holds : (unit : List Definition) (main : At Composite) (made : Made) → slice_get (composites unit) main.place ≡ Some main.what → expanded_main unit main ≡ Ok made → Holds unit made
+pub main_holds : (unit : List Definition) (main : At Composite) (made : Made) → slice_get (composites unit) main.place ≡ Some main.what → expanded_main unit main ≡ Ok made → Holds unit made
 main_holds unit main made is e =
-    (keeps unit (length (composites unit)) (record { number = 0; prefix = []; body = main_body main }) (record { ops = []; expansions = main_body main ∷ [] }) made
+    (keeps unit _ (record { number = 0; prefix = []; body = main_body main }) (record { ops = []; expansions = main_body main ∷ [] }) made
     (record { bodies = only; ops = λ n o none. absurd cc }) refl e).holds
   where
     only : (k : ℕ) (x : Inlined) → slice_get (main_body main ∷ []) k ≡ Some x → IsIn unit x

@@ -47,3 +47,4 @@ pub mod OneFlat
 pub mod Inlining
 pub mod Ordering
 pub mod Nesting
+pub mod KeptInvocations

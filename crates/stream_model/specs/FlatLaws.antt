@@ -1,8 +1,11 @@
 -- What holds of the answer for every unit, and of its graph where it has one.
-use Rattle.std.specs.Prelude.{◌≡◌, ◌↔◌, ◌<◌, ℕ, List, ◌∷◌, ◌++◌, length, Some, Ok, slice_get}
+use Rattle.std.specs.Prelude.{◌≡◌, ◌↔◌, ◌<◌, ℕ, List, [], ◌∷◌, ◌++◌, length, Some, None, Ok, slice_get}
 use Rattle.std.specs.List.{concat, Contains}
+use Rattle.spl_tree.specs.declared.graph.Expansion.{Expansion}
 use Rattle.spl_tree.specs.declared.graph.Graph.{Graph}
 use Rattle.spl_tree.specs.declared.graph.Op.{Op}
+use Rattle.spl_tree.specs.declared.graph.OpKind.{OpKind}
+use Rattle.spl_tree.specs.declared.graph.Site.{Site}
 use Rattle.spl_tree.specs.declared.graph.Stream.{Stream}
 use Rattle.spl_tree.specs.declared.unit.Composite.{Composite}
 use Rattle.spl_tree.specs.declared.unit.Definition.{Definition}
@@ -10,7 +13,8 @@ use Rattle.spl_tree.specs.declared.unit.Invocation.{Invocation}
 use Rattle.stream_model.specs.Composites.{composites}
 use Rattle.stream_model.specs.Expansion.{Found}
 use Rattle.stream_model.specs.Flat.{IsFlat, flat_from}
-use Rattle.stream_model.specs.Invoking.{Operator, target_of}
+use Rattle.stream_model.specs.Invoking.{Operator, Body, target_of}
+use Rattle.stream_model.specs.Recursion.{HasNoRecursion, composite_callers}
 use Rattle.stream_model.specs.Scopes.{At}
 use Rattle.stream_model.specs.SinkFiles.{invocation_at}
 
@@ -35,6 +39,30 @@ pub record IsInvoked (unit : List Definition) (g : Graph) (op : Op) : Type 0 whe
 -- no composite is left, where the main one is of the unit: each operator is that of an invocation of one
 abbrev pub OperatorLaw : Type 0
 OperatorLaw = OfGraphs (λ unit main g. slice_get (composites unit) main.place ≡ Some main.what → (n : ℕ) (op : Op) → slice_get g.ops n ≡ Some op → IsInvoked unit g op)
+
+-- invocations of which no operator comes: each is of a composite, and none comes of those in its graph
+pub data MakesNone (unit : List Definition) : List Invocation → Type 0 where
+  of_none : MakesNone unit []
+  one_more : (i : Invocation) (is : List Invocation) (c : At Composite) → target_of unit i.operator.what ≡ Body c → MakesNone unit c.what.graph
+      → MakesNone unit is → MakesNone unit (i ∷ is)
+
+-- what an invocation comes to: the operator that it invokes stands at its site, or the body of the composite that it invokes does, or no
+-- operator comes of that composite
+pub data IsKept (unit : List Definition) (g : Graph) (s : Site) (i : Invocation) : Type 0 where
+  as_operator : (kind : OpKind) (n : ℕ) (op : Op) → target_of unit i.operator.what ≡ Operator kind
+      → slice_get g.ops n ≡ Some op → op.site ≡ s → op.kind ≡ kind → IsKept unit g s i
+  as_body : (c : At Composite) (k : ℕ) (x : Expansion) → target_of unit i.operator.what ≡ Body c
+      → slice_get g.expansions k ≡ Some x → x.site ≡ Some s → x.composite ≡ c.place → IsKept unit g s i
+  without_operators : (c : At Composite) → target_of unit i.operator.what ≡ Body c → MakesNone unit c.what.graph → IsKept unit g s i
+
+-- the main body is the first, and each invocation in a body is kept
+pub record IsWhole (unit : List Definition) (main : At Composite) (g : Graph) : Type 0 where
+  pub main_body : (x : Expansion) × (slice_get g.expansions 0 ≡ Some x) × (x.composite ≡ main.place) × (x.site ≡ None)
+  pub kept : (s : Site) (i : Invocation) → invocation_at unit g.expansions s ≡ Some i → IsKept unit g s i
+
+-- no operator is left out, where no composite reaches itself
+abbrev pub WholeLaw : Type 0
+WholeLaw = OfGraphs (λ unit main g. slice_get (composites unit) main.place ≡ Some main.what → HasNoRecursion (composite_callers unit) → IsWhole unit main g)
 
 -- the operator that is said to make the stream gives that number on that port
 abbrev pub IsMadeAs : Graph → Stream → ℕ → Type 0

@@ -4,7 +4,7 @@ ghost use Rattle.stream_model.specs.declared.expansion.ExpansionRefusal.TheVaria
 ghost use Rattle.stream_model.specs.Composites.{main_of};
 ghost use Rattle.stream_model.specs.Declarations.{declared_twice};
 ghost use Rattle.stream_model.specs.Flat.{flat_from};
-ghost use Rattle.stream_model.specs.FlatLaws.{ConnectedLaw, MakerLaw, OneFlatLaw, OperatorLaw, TopoLaw};
+ghost use Rattle.stream_model.specs.FlatLaws.{ConnectedLaw, MakerLaw, OneFlatLaw, OperatorLaw, TopoLaw, WholeLaw};
 ghost use Rattle.stream_model.specs.FlatExamples.{two_types, reversed, unknown_composite, reversed_main, reversed_graph, loop_of_two, only_composite};
 ghost use Rattle.stream_model.specs.Scopes.{at_place};
 ghost use Rattle.stream_model.specs.ValueLaws.{NeverStuckLaw, StatementLeadsLaw, BodyLeavesLaw, RenamingLaw, WrittenLaw, NamesLaw};
@@ -245,11 +245,13 @@ pub fn names_on_literals()
         ≡ C.Binary (D.Order Less) (C.Name (Of (codes "A") (codes "k"))) (C.Name (Of (codes "B") (codes "m"))) }
 {}
 
-/// A unit has one answer. Each operator of its graph is one of the unit's, and each stream has one
-/// maker. The order has each operator once, behind those that make what it takes.
+/// A unit has one answer. Each operator of its graph is one of the unit's, none is left out where no
+/// composite reaches itself, and each stream has one maker. The order has each operator once, behind
+/// those that make what it takes.
 pub fn flat_law()
     ensures one { OneFlatLaw }
     ensures operators { OperatorLaw }
+    ensures whole { WholeLaw }
     ensures makers { MakerLaw }
     ensures in_order { TopoLaw }
     ensures connected { ConnectedLaw }

@@ -1,5 +1,6 @@
 use Rattle.stream_model.proofs.Flattening.{maker_law}
 use Rattle.stream_model.proofs.Inlining.{operator_law}
+use Rattle.stream_model.proofs.KeptInvocations.{whole_law}
 use Rattle.stream_model.proofs.OneFlat.{one_flat_law}
 use Rattle.stream_model.proofs.Ordering.{topo_law, connected_law}
 use Rattle.stream_model.proofs.laws.flat_law.Goals as goal
@@ -9,6 +10,9 @@ returns-clause-one c = one_flat_law
 
 pub returns-clause-operators : goal.returns-clause-operators
 returns-clause-operators c = operator_law
+
+pub returns-clause-whole : goal.returns-clause-whole
+returns-clause-whole c = whole_law
 
 pub returns-clause-makers : goal.returns-clause-makers
 returns-clause-makers c = maker_law
