@@ -6,6 +6,7 @@ ghost use Rattle.stream_model.specs.Declarations.{declared_twice};
 ghost use Rattle.stream_model.specs.Flat.{flat_from};
 ghost use Rattle.stream_model.specs.FlatLaws.{ConnectedLaw, MakerLaw, OneFlatLaw, OperatorLaw, TopoLaw, WholeLaw};
 ghost use Rattle.stream_model.specs.FlatExamples.{two_types, reversed, unknown_composite, reversed_main, reversed_graph, loop_of_two, only_composite};
+ghost use Rattle.stream_model.specs.Recursion.{HasNoRecursion, composite_callers};
 ghost use Rattle.stream_model.specs.Scopes.{at_place};
 ghost use Rattle.stream_model.specs.ValueLaws.{NeverStuckLaw, StatementLeadsLaw, BodyLeavesLaw, RenamingLaw, WrittenLaw, NamesLaw};
 ghost use Rattle.std.specs.Prelude.{◌≡◌, ◌≤◌, ℕ, List, [], ◌∷◌, Option, Some, None, Ok, Err, codes, pos, negsuc, true, false};
@@ -258,13 +259,14 @@ pub fn flat_law()
 {}
 
 /// Some units, and what they come to: a name that is declared twice, the main composite, the graph of
-/// a program in which a composite stands twice and each operator before those that it reads, and two
-/// refusals.
+/// a program in which a composite stands twice and each operator before those that it reads, that none
+/// of its composites reaches itself, and two refusals.
 pub fn graphs_on_literals()
     ensures none_twice { declared_twice [] ≡ None }
     ensures twice { declared_twice two_types ≡ Some (placed 21 (codes "T")) }
     ensures no_main { main_of [] ≡ None }
     ensures main { main_of reversed ≡ Some 1 }
+    ensures acyclic { HasNoRecursion (composite_callers reversed) }
     ensures graph { flat_from reversed [] (at_place 1 reversed_main) ≡ Ok reversed_graph }
     ensures waits { flat_from loop_of_two [] (only_composite loop_of_two) ≡ Err (R.Loop (placed 20 (codes "A"))) }
     ensures undeclared { flat_from unknown_composite [] (at_place 0 reversed_main) ≡ Err (R.Unknown (placed 318 (codes "P"))) }
