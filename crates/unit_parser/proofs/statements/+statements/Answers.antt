@@ -1,7 +1,8 @@
 use Rattle.std.proofs.Common.{ℕ, Bool, false, List, [], ◌∷◌, ◌++◌, None, sym, subst, arith}
-use Rattle.expr_parser.specs.Rules.{done, call, Took, RunsTo, Reads}
+use Rattle.expr_parser.specs.Rules.{done, call, Answer, Took, RunsTo, Reads}
 use Rattle.spl_tree.specs.declared.shape.Attribute.{Attribute}
 use Rattle.spl_tree.specs.declared.statement.StmtKind.TheVariants as Z
+use Rattle.spl_tree.specs.declared.token.Token.{Token}
 use Rattle.spl_tree.specs.Grammar.{Expr, placed}
 use Rattle.spl_tree.specs.StatementGrammar.{Stmt}
 use Rattle.spl_tree.specs.TypeGrammar.{TypeExpr}
@@ -113,46 +114,45 @@ other-returns-in-None t c =
 abbrev armed : ℕ → List (Expr × Stmt) → Expr → R (Stmt × Bool)
 armed at arms e = call Statement (λ s. lines.arms_end at (arms ++ (e, s.0) ∷ []) s.1)
 
+arms_read : {at : ℕ} {arms : List (Expr × Stmt)} {ts : List Token} {o : Answer (Stmt × Bool)} → RunsTo rule (lines.arms_rule at arms) ts o → Reads rule (Arms at arms) ts o
+unfolding lines.rule
+arms_read r = reads r
+
 pub arms-arms-init : goal.arms-arms-init
 arms-arms-init t c = λ o r. subst (λ xs. Reads rule (Arms c.args.at xs) c.args.ts.now o) c.new-all.ensures r
 
 pub arms-returns-in_err-condition : goal.arms-returns-in_err-condition
-unfolding lines.rule
 arms-returns-in_err-condition t c =
     fails (Arms c.args.at []) c.args.ts.now c.arms.left.now (lines.arms_rule c.args.at c.arms.all) _ c.in_err-condition.field-0.0 c.from_residual.ensures.1
-    (λ o q. c.arms.invariant o (reads q)) (part_fails parts.condition (armed c.args.at c.arms.all) _ _ c.in_err-condition.ensures)
+    (λ o q. c.arms.invariant o (arms_read q)) (part_fails parts.condition (armed c.args.at c.arms.all) _ _ c.in_err-condition.ensures)
 
 pub arms-returns-in_err-body : goal.arms-returns-in_err-body
-unfolding lines.rule
 arms-returns-in_err-body t c =
     fails (Arms c.args.at []) c.args.ts.now c.in_ok-condition.behind.now (armed c.args.at c.arms.all c.in_ok-condition.condition) _ c.in_err-body.field-0.0 c.from_residual-in_err-body.ensures.1
-    (λ o q. c.arms.invariant o (reads (part_read parts.condition (armed c.args.at c.arms.all) c.in_ok-condition.ensures q)))
+    (λ o q. c.arms.invariant o (arms_read (part_read parts.condition (armed c.args.at c.arms.all) c.in_ok-condition.ensures q)))
     (line_fails _ Statement (λ s. lines.arms_end c.args.at (c.arms.all ++ (c.in_ok-condition.condition, s.0) ∷ []) s.1) _ c.in_err-body.ensures)
 
 pub arms-returns-in_default : goal.arms-returns-in_default
-unfolding lines.rule
 arms-returns-in_default t c =
     let all = c.arms.all ++ (c.in_ok-condition.condition, c.in_ok-body.body) ∷ [] in
     subst (λ xs. Reads rule (Arms c.args.at []) c.args.ts.now (Took (placed c.args.at (Z.If xs None), false) c.in_ok-body.behind.now)) (sym c.in_ok-push.ensures.ok)
     (c.arms.invariant (Took (placed c.args.at (Z.If all None), false) c.in_ok-body.behind.now)
-    (reads (part_read parts.condition (armed c.args.at c.arms.all) c.in_ok-condition.ensures (line_read c.in_ok-body.ensures
+    (arms_read (part_read parts.condition (armed c.args.at c.arms.all) c.in_ok-condition.ensures (line_read c.in_ok-body.ensures
     (arms_none c.args.at all c.in_ok-body.closed c.in_default.ensures)))))
 
 pub arms-returns-in_default-word_first : goal.arms-returns-in_default-word_first
-unfolding lines.rule
 arms-returns-in_default-word_first t c =
     let all = c.arms.all ++ (c.in_ok-condition.condition, c.in_ok-body.body) ∷ [] in
     says_on {P = RunsTo rule (lines.last_branch_rule c.args.at c.push.new.self) c.in-Some.behind.now} {Q = Reads rule (Arms c.args.at []) c.args.ts.now}
-    (λ o q. c.arms.invariant o (reads (part_read parts.condition (armed c.args.at c.arms.all) c.in_ok-condition.ensures (line_read c.in_ok-body.ensures
+    (λ o q. c.arms.invariant o (arms_read (part_read parts.condition (armed c.args.at c.arms.all) c.in_ok-condition.ensures (line_read c.in_ok-body.ensures
     (arms_else c.args.at all c.in_ok-body.closed c.in-Some.ensures (skipped c.in_default-word_first.ensures
     (subst (λ xs. RunsTo rule (lines.last_branch_rule c.args.at xs) c.in-Some.behind.now o) c.in_ok-push.ensures.ok q)))))))
     c.last_branch.result c.last_branch.ensures
 
 pub arms-arms-preserved : goal.arms-arms-preserved
-unfolding lines.rule
 arms-arms-preserved t c = λ o r.
     let all = c.arms.all ++ (c.in_ok-condition.condition, c.in_ok-body.body) ∷ [] in
-    c.arms.invariant o (reads (part_read parts.condition (armed c.args.at c.arms.all) c.in_ok-condition.ensures (line_read c.in_ok-body.ensures
+    c.arms.invariant o (arms_read (part_read parts.condition (armed c.args.at c.arms.all) c.in_ok-condition.ensures (line_read c.in_ok-body.ensures
     (arms_else c.args.at all c.in_ok-body.closed c.in-Some.ensures (taken c.in-Some-word_first.ensures
     (last (subst (λ xs. Reads rule (Arms c.args.at xs) c.in-Some-word_first.behind.now o) c.in_ok-push.ensures.ok r)))))))
 
