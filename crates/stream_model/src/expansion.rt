@@ -12,8 +12,8 @@ pub enum ExpansionRefusal {
     Recursive(Placed<Name>),
     /// A name is declared twice in one place: the later one.
     Twice(Placed<Name>),
-    /// The invocation of the first operator that waits for itself, and the operator's first stream, or
-    /// its own name where it makes none.
+    /// The invocation of the first operator that waits for itself, or for one that does, and the
+    /// operator's first stream, or its own name where it makes none.
     Loop(Placed<Name>),
     /// The invocation of an operator with a file that another one or the command line has as well, and
     /// the file.

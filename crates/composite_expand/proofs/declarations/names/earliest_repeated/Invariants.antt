@@ -1,0 +1,13 @@
+use Rattle.std.proofs.Common.{◌≡◌, drop}
+use Rattle.std.specs.Prelude.{List, filter_map}
+use Rattle.std.specs.Option.{option_copied}
+use Rattle.stream_model.specs.Declarations.{Name, repeated_names}
+use Rattle.composite_expand.specs.Earliest.{earliest}
+use Rattle.composite_expand.specs.NamesBefore.{Hold, again}
+use Rattle.composite_expand.proofs.declarations.names.earliest_repeated.Given as goal
+
+abbrev pub invariant-loop-part : goal.invariant-loop-part
+invariant-loop-part g l =
+    (before : List Name) × Hold l.before before
+    × (earliest (option_copied l.fn.best) (repeated_names (filter_map g.T.Declares.own l.row))
+    ≡ earliest (option_copied l.found) (again before (filter_map g.T.Declares.own (drop l.part-index l.row))))

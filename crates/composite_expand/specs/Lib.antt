@@ -1,0 +1,12 @@
+pub mod Backs
+pub mod Callers
+pub mod Earliest
+pub mod Graphs
+pub mod Makers
+pub mod Mentioned
+pub mod Named
+pub mod NamesBefore
+pub mod Seen
+pub mod Standing
+pub mod Taking
+pub mod Variables

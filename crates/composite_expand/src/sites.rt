@@ -1,0 +1,95 @@
+//! What stands at the places that operators come from.
+ghost use Rattle.std.specs.Prelude.{◌≡◌, map, slice_get, IfOk};
+ghost use Rattle.std.specs.Option.{option_copied};
+ghost use Rattle.stream_model.specs.Composites.{composites};
+ghost use Rattle.stream_model.specs.SinkFiles.{composite_of, invocation_at, arguments_of, heads_of};
+
+use spl_tree::{
+    Composite, CompositeParameter, Definition, Expansion, Invocation, Parameter, Site, Unit,
+};
+use spl_value::NoMemory;
+use std::alloc::Global;
+
+/// A unit with its expansions.
+#[derive(Drop)]
+pub(crate) struct Sites<'a> {
+    pub(crate) unit: &'a Unit,
+    /// The composites of the unit, by their places.
+    bodies: Vec<&'a Composite>,
+    pub(crate) expansions: &'a [Expansion],
+    ghost all: { map (λ c. c.now) bodies.items ≡ composites unit.now },
+}
+
+impl<'a> Sites<'a> {
+    pub(crate) fn new(
+        alloc: Global,
+        unit: &'a Unit,
+        expansions: &'a [Expansion],
+    ) -> Result<Sites<'a>, NoMemory>
+        ensures unit { IfOk result (λ sites. sites.unit.now ≡ unit.now) }
+        ensures expansions { IfOk result (λ sites. sites.expansions.now ≡ expansions.now) }
+    {
+        let bodies = composites_of(alloc, unit)?;
+        Ok(Sites {
+            unit,
+            bodies,
+            expansions,
+        })
+    }
+
+    pub(crate) fn expansion(&self, number: u32) -> Option<&'a Expansion>
+        ensures { option_copied result ≡ slice_get self.now.expansions.now number }
+    {
+        self.expansions.get(number as usize)
+    }
+
+    fn composite(&self, expansion: &Expansion) -> Option<&'a Composite>
+        ensures { option_copied result ≡ composite_of self.now.unit.now expansion.now }
+    {
+        self.bodies.get(expansion.composite as usize).copied()
+    }
+
+    pub(crate) fn invocation(&self, site: Site) -> Option<&'a Invocation>
+        ensures { option_copied result ≡ invocation_at self.now.unit.now self.now.expansions.now site }
+    {
+        let expansion = self.expansion(site.expansion)?;
+        let composite = self.composite(expansion)?;
+        composite.graph.get(site.invocation as usize)
+    }
+
+    /// The arguments that an expansion has; the main one has none.
+    pub(crate) fn arguments(&self, expansion: &Expansion) -> &'a [Parameter]
+        ensures { result.now ≡ arguments_of self.now.unit.now self.now.expansions.now expansion.now }
+    {
+        let Some(site) = expansion.site else {
+            return &[];
+        };
+        match self.invocation(site) {
+            Some(invocation) => invocation.clauses.parameters.as_slice(),
+            None => &[],
+        }
+    }
+
+    /// The parameters of its composite.
+    pub(crate) fn heads(&self, expansion: &Expansion) -> &'a [CompositeParameter]
+        ensures { result.now ≡ heads_of self.now.unit.now expansion.now }
+    {
+        match self.composite(expansion) {
+            Some(composite) => composite.parameters.as_slice(),
+            None => &[],
+        }
+    }
+}
+
+/// The composites of a unit, in the order of the text.
+fn composites_of(alloc: Global, unit: &Unit) -> Result<Vec<&Composite>, NoMemory>
+    ensures { IfOk result (λ bodies. map (λ c. c.now) bodies.items ≡ composites unit.now) }
+{
+    let mut bodies = Vec::new(alloc);
+    for definition in unit.as_slice() {
+        if let Definition::Composite(composite) = definition {
+            bodies.push(composite)?;
+        }
+    }
+    Ok(bodies)
+}
