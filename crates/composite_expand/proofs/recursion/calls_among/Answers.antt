@@ -5,7 +5,7 @@ use Rattle.std.specs.Str.{bytes_eq}
 use Rattle.composite_expand.specs.Taking.{AreAmong}
 use Rattle.composite_expand.specs.Named.{callers_seen, found_place}
 use Rattle.composite_expand.proofs.Gets.{take_whole}
-use Rattle.composite_expand.proofs.Tables.{calls_by_table, are_among}
+use Rattle.composite_expand.proofs.CallTables.{calls_by_table, are_among}
 use Rattle.composite_expand.proofs.recursion.calls_among.Goals as goal
 
 pub returns : goal.returns

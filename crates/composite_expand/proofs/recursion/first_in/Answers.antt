@@ -4,7 +4,7 @@ use Rattle.std.proofs.lemmas.Option.{slice_get-get_or}
 use Rattle.stream_model.specs.Recursion.{call_among, calls_among, IsAcyclic, IsFirstRecursion}
 use Rattle.composite_expand.specs.Named.{caller_seen, callers_seen}
 use Rattle.composite_expand.proofs.Gets.{get_below}
-use Rattle.composite_expand.proofs.Tables.{get_map, get_back}
+use Rattle.composite_expand.proofs.CallTables.{get_map, get_back}
 use Rattle.composite_expand.proofs.recursion.first_in.Goals as goal
 
 pub returns-in-Some : goal.returns-in-Some

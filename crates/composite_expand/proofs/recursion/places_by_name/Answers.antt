@@ -5,7 +5,7 @@ use Rattle.std.specs.Str.{bytes_eq}
 use Rattle.std.proofs.lemmas.Option.{slice_get-get_or}
 use Rattle.std.proofs.lemmas.Map.Text.{hash_map_updates_str}
 use Rattle.composite_expand.specs.Named.{callers_seen, place_from}
-use Rattle.composite_expand.proofs.Tables.{table_more}
+use Rattle.composite_expand.proofs.CallTables.{table_more}
 use Rattle.composite_expand.proofs.recursion.places_by_name.Goals as goal
 
 pub loop-place-preserved : goal.loop-place-preserved

@@ -1,0 +1,103 @@
+//! The graph of a unit.
+ghost use Rattle.std.specs.Prelude.{◌≡◌, map, IfOk};
+ghost use Rattle.spl_tree.specs.Grammar.{placed};
+ghost use Rattle.stream_model.specs.Flat.{flat_from};
+ghost use Rattle.stream_model.specs.Scopes.{At};
+ghost use Rattle.spl_tree.specs.declared.unit.Composite.{Composite};
+ghost use Rattle.composite_expand.specs.Expands.{Expands, IsAnswer};
+ghost use Rattle.composite_expand.specs.Walks.{IsExpanded};
+
+use crate::answer::ExpandAnswer;
+use crate::declarations::declared_twice;
+use crate::files::same_file;
+use crate::main_composite::main_of;
+use crate::numbering::number_streams;
+use crate::order::{first_outside, topological_order};
+use crate::recursion::first_recursion;
+use crate::tables::Composites;
+use crate::walk::{Walk, expand_main};
+use spl_tree::{Graph, Placed, Unit};
+use spl_value::{Items, Name, NoMemory};
+use std::alloc::Global;
+use stream_model::{ExpansionRefusal, Operation};
+
+/// The operators, at their invocations, by their first streams.
+fn labels_of(alloc: Global, ops: &[Operation]) -> Result<Items<Placed<Name>>, NoMemory>
+    ensures { IfOk result (λ labels. labels ≡ map (λ op. placed op.at op.label) ops.now) }
+{
+    let mut labels = Items::new(alloc);
+    for op in ops {
+        labels.push(Placed {
+            at: op.at,
+            what: Items::from_slice(alloc, op.label.as_slice())?,
+        })?;
+    }
+    Ok(labels)
+}
+
+/// The graph of what the main composite came to.
+fn graph_of(
+    alloc: Global,
+    composites: &Composites<'_>,
+    names: &[Name],
+    walk: Walk,
+) -> Result<Graph, ExpandAnswer>
+    ensures { (main : At Composite) → IsExpanded composites.now.unit.now main walk → IsAnswer (flat_from composites.now.unit.now names.now main) result }
+{
+    let Walk {
+        opened: _,
+        names: _,
+        ops,
+        bodies,
+        inputs,
+        connections: _,
+        idle: _,
+    } = walk;
+    let mut labels = labels_of(alloc, ops.as_slice())?;
+    let parts = number_streams(alloc, composites, bodies.as_slice(), inputs.as_slice(), ops)?;
+    let topo = topological_order(alloc, parts.streams.as_slice(), parts.ops.as_slice())?;
+    if let Some(op) = first_outside(topo.as_slice(), labels.len()) {
+        return Err(ExpandAnswer::Refused(ExpansionRefusal::Loop(labels.remove(op))));
+    }
+    let expansions = parts.expansions.as_slice();
+    if let Some(file) = same_file(
+        alloc,
+        composites.unit,
+        names,
+        expansions,
+        parts.ops.as_slice(),
+    )? {
+        return Err(ExpandAnswer::Refused(ExpansionRefusal::SameFile(file)));
+    }
+    Ok(Graph {
+        ops: parts.ops,
+        streams: parts.streams,
+        expansions: parts.expansions,
+        topo,
+    })
+}
+
+/// The graph of a unit, in which each composite has given way to its body, from the main composite on;
+/// or the first refusal: of names that are declared twice, of a missing main composite, of recursion,
+/// of what invocations name and how many operators and connections they make, of operators that wait
+/// for themselves, and of files that a FileSink has together with another operator or with `names`,
+/// the file names of the command line that no sink may have.
+pub fn expand(alloc: Global, unit: &Unit, names: &Items<Name>) -> Result<Graph, ExpandAnswer>
+    ensures { Expands unit.now names.now result }
+{
+    if let Some(name) = declared_twice(alloc, unit)? {
+        return Err(ExpandAnswer::Refused(ExpansionRefusal::Twice(name)));
+    }
+    let composites = Composites::new(alloc, unit)?;
+    let Some(main) = main_of(&composites) else {
+        return Err(ExpandAnswer::Refused(ExpansionRefusal::NoMain));
+    };
+    if let Some(name) = first_recursion(alloc, unit)? {
+        return Err(ExpandAnswer::Refused(ExpansionRefusal::Recursive(name)));
+    }
+    let walk = match expand_main(alloc, &composites, main) {
+        Ok(walk) => walk,
+        Err(answer) => return Err(answer),
+    };
+    graph_of(alloc, &composites, names.as_slice(), walk)
+}
