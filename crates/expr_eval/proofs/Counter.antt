@@ -31,7 +31,7 @@ abbrev number : Named SplType
 number = record { name = []; kind = T.Int I64 }
 
 abbrev pub scope : Scope
-scope = record { vars = counter ∷ []; ports = []; functions = []; punct = false }
+scope = record { vars = counter ∷ []; ports = []; functions = []; unresolved = []; dollars = []; punct = false }
 
 -- the only output port has that one attribute
 abbrev purpose : Purpose

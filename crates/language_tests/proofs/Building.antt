@@ -143,7 +143,7 @@ module _ (scope : Scope) where
   -- ---- variables
 
   abbrev pub having : List Variable → Scope
-  having vars = record { vars = vars; ports = scope.ports; functions = scope.functions; punct = scope.punct }
+  having vars = record scope { vars = vars }
 
   pub declared : (x : Code Slot) (v : Variable) (vars : List Variable) → vars ≡ scope.vars ++ v ∷ [] → CodeFits scope x v.kind → (purpose : Purpose) (l : Bool)
       → StatementFits purpose l scope (T.Declare x) (having vars)
@@ -207,15 +207,14 @@ grown_none scope = ([], ap (having scope) (sym (append_nothing scope.vars)))
 pub grown_on : (first now next : Scope) → Grown first now → Grown now next → Grown first next
 grown_on first now next g h = (
   g.0 ++ h.0,
-  h.1 ∙ (λ i. record { vars = (g.1 i).vars ++ h.0; ports = (g.1 i).ports; functions = (g.1 i).functions; punct = (g.1 i).punct })
-      ∙ ap (having first) (append_twice first.vars g.0 h.0),
+  h.1 ∙ (λ i. record (g.1 i) { vars = (g.1 i).vars ++ h.0 }) ∙ ap (having first) (append_twice first.vars g.0 h.0),
 )
 
 -- what a row declares is taken out again
 pub back : (old new : Scope) (vars : List Variable) → Grown old new → vars ≡ take (length old.vars) new.vars → having new vars ≡ old
 back old new vars g e =
     let same : vars ≡ old.vars = e ∙ ap (λ (s : Scope). take (length old.vars) s.vars) g.1 ∙ take-append_seam old.vars g.0 in
-    λ i. record { vars = same i; ports = (g.1 i).ports; functions = (g.1 i).functions; punct = (g.1 i).punct }
+    λ i. record (g.1 i) { vars = same i }
 
 pub behind_variable : (purpose : Purpose) (scope : Scope) (v : Variable) (vars : List Variable) (row : List Statement) → vars ≡ scope.vars ++ v ∷ []
     → RowFits purpose true (having scope vars) row → RowFits purpose true (B.with_variable scope v) row

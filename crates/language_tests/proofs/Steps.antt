@@ -108,7 +108,14 @@ with_functions scope env functions vars ports values inputs punct h = record {
 -- ---- functions
 
 pub variables_alone : (scope : Scope) (vars : List Variable) → SeesVariables scope → body_scope scope.functions vars ≡ record scope { vars = vars }
-variables_alone scope vars sees = λ i. record { vars = vars; ports = sym sees.ports i; functions = scope.functions; punct = sym sees.punct i }
+variables_alone scope vars sees = λ i. record {
+  vars = vars;
+  ports = sym sees.ports i;
+  functions = scope.functions;
+  unresolved = sym sees.unresolved i;
+  dollars = sym sees.dollars i;
+  punct = sym sees.punct i;
+}
 
 returning_fits : (scope : Scope) (code : Code Slot) (t : SplType) → CodeFits scope code t → RowFits (OfFunction (Some t)) false scope (returning code)
 returning_fits scope code t fit =

@@ -18,7 +18,7 @@ Serves purpose result outputs = (result_of purpose ≡ result) × (outputs_of pu
 
 -- there may be more variables, and nothing else
 abbrev pub Grown : Scope → Scope → Type 0
-Grown old new = (more : List Variable) × (new ≡ record { vars = old.vars ++ more; ports = old.ports; functions = old.functions; punct = old.punct })
+Grown old new = (more : List Variable) × (new ≡ record old { vars = old.vars ++ more })
 
 -- a place of the type stands in a variable that can be named
 abbrev pub Stands : Scope → Place → SplType → Type 0

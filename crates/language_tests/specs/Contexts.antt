@@ -20,6 +20,8 @@ pub record Holds (scope : Scope) (env : Env) (functions : List Function) : Type 
 -- variables and functions alone can be named, as in the body of a function
 pub record SeesVariables (scope : Scope) : Type 0 where
   pub ports : scope.ports ≡ []
+  pub unresolved : scope.unresolved ≡ []
+  pub dollars : scope.dollars ≡ []
   pub punct : scope.punct ≡ false
 
 -- the body that returns the value of an expression

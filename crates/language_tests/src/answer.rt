@@ -8,7 +8,7 @@ use spl_value::SplType;
 use std::alloc::{AllocError, Global};
 use std::process::Abort;
 use std::test::Fail;
-use stream_model::{Scope, TypeError, TypeRefusal, Typed};
+use stream_model::{CheckError, CheckRefusal, Scope, Typed};
 use type_rules::{TypeAnswer, type_of};
 
 /// A text, the type that its place wants or nothing, and what is answered: the type and the code as
@@ -23,16 +23,24 @@ fn add_typed(shown: &mut Shown, typed: &Typed) {
 }
 
 /// The name of a refusal.
-pub(crate) fn error(error: TypeError) -> &'static str {
+pub(crate) fn error(error: CheckError) -> &'static str {
     match error {
-        TypeError::Unknown => "Unknown",
-        TypeError::Mismatch => "Mismatch",
-        TypeError::NotMutable => "NotMutable",
-        TypeError::WrongCall => "WrongCall",
+        CheckError::Unknown => "Unknown",
+        CheckError::Mismatch => "Mismatch",
+        CheckError::NotMutable => "NotMutable",
+        CheckError::WrongCall => "WrongCall",
+        CheckError::LeftOut => "LeftOut",
+        CheckError::NoReturn => "NoReturn",
+        CheckError::MissingParameter => "MissingParameter",
+        CheckError::ExtraParameter => "ExtraParameter",
+        CheckError::BadWindow => "BadWindow",
+        CheckError::BadOutput => "BadOutput",
+        CheckError::PortCount => "PortCount",
+        CheckError::NoTextForm => "NoTextForm",
     }
 }
 
-fn add_refusal(shown: &mut Shown, refusal: &TypeRefusal) {
+fn add_refusal(shown: &mut Shown, refusal: &CheckRefusal) {
     shown.add(error(refusal.error));
     shown.add(" at ");
     shown.add_number(i128::from(refusal.at));

@@ -60,6 +60,28 @@ fn a_function_takes_its_parameters(rt: HostRuntime) -> Result<(), Fail> {
     expect(&rt, rt.alloc(), Place::Tuple, FUNCTIONS)
 }
 
+const UNRESOLVED: &[Row] = &[
+    // The types of the function are refused.
+    ("odd(1)", "", "Unknown at 90 T"),
+    ("odd()", "", "Unknown at 90 T"),
+    ("odd(z)", "", "Unknown at 90 T"),
+    ("odd(1)", "int32", "Unknown at 90 T"),
+    ("1 + even()", "", "LeftOut at 92"),
+    ("inc(even(1))", "", "LeftOut at 92"),
+    // One that has types comes first, as does a call that is built in.
+    ("inc(1)", "", "int32 | (f0 1)"),
+    ("inc(1l)", "", "Mismatch at 4"),
+    ("size([1])", "", "int32 | (size (list 1))"),
+    // Names of no function.
+    ("nope()", "", "Unknown at 0 nope"),
+    ("odd", "", "Unknown at 0 odd"),
+];
+
+#[test]
+fn a_function_may_have_no_types(rt: HostRuntime) -> Result<(), Fail> {
+    expect(&rt, rt.alloc(), Place::Composite, UNRESOLVED)
+}
+
 const MEASURES: &[Row] = &[
     // `length`
     ("length(s)", "", "int32 | (length v5)"),

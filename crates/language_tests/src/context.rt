@@ -63,6 +63,8 @@ impl Context {
             vars: Items::new(alloc),
             ports: Items::new(alloc),
             functions: signatures(alloc, kinds, from)?,
+            unresolved: Items::new(alloc),
+            dollars: Items::new(alloc),
             punct: false,
         };
         let functions = functions(alloc, &mut scope, from)?;
@@ -87,6 +89,8 @@ impl Context {
             vars: Items::new(alloc),
             ports: Items::new(alloc),
             functions: signatures,
+            unresolved: Items::new(alloc),
+            dollars: Items::new(alloc),
             punct: came.is_some(),
         };
         let env = Env {

@@ -1,9 +1,13 @@
 //! The scopes that the texts stand in.
 use crate::kinds::Kinds;
+use crate::reading::read;
 use spl_value::{Items, SplType};
 use std::alloc::Global;
 use std::test::Fail;
-use stream_model::{Port, Scope, Signature, Variable};
+use stream_model::{
+    CheckError, CheckRefusal, Dollar, Port, Scope, Signature, Typed, Unresolved, Variable,
+};
+use type_rules::type_of;
 
 /// Which scope a text stands in.
 #[derive(Clone, Copy)]
@@ -16,6 +20,8 @@ pub(crate) enum Place {
     MarkerSys,
     /// A tuple has come, and variables and attributes have names that stand for something else too.
     Hidden,
+    /// A tuple has come in the body of a composite: there are `$` parameters too.
+    Composite,
 }
 
 // Names and the texts of their types.
@@ -101,6 +107,53 @@ const HIDING_PORTS: &[(&str, Parts)] = &[
     ("R", &[("key", "rstring"), ("R", "tuple<int64 rank>")]),
 ];
 
+// Why something is refused, the byte of the program at which it is, and the name that it is about.
+type Why = (CheckError, u32, Option<&'static str>);
+
+// What stands for a `$` parameter: an expression without names, or a refusal.
+enum Stands {
+    For(&'static str),
+    Refused(Why),
+}
+
+// `$` parameters. Of the two with the name `n` the first counts.
+const DOLLARS: &[(&str, Stands)] = &[
+    ("n", Stands::For("5")),
+    ("s", Stands::For("'a'")),
+    ("xs", Stands::For("[1, 2]")),
+    ("m", Stands::For("{'a' : 1l, 'b' : 2l}")),
+    ("t", Stands::For("{a = 1l, d = {b = 'in', c = true}}")),
+    ("element", Stands::For("[[1], [2, 3]][1][0]")),
+    ("at", Stands::For("{1 : ['p']}[1]")),
+    ("member", Stands::For("{a = 1l, d = true}.d")),
+    ("far", Stands::For("-(int32)~2b")),
+    ("first", Stands::For("size([1]) < 2 ? 'x' : 'y'")),
+    ("if", Stands::For("true")),
+    (
+        "unknown",
+        Stands::Refused((CheckError::Unknown, 70, Some("T"))),
+    ),
+    (
+        "missing",
+        Stands::Refused((CheckError::MissingParameter, 71, None)),
+    ),
+    ("n", Stands::For("true")),
+];
+
+const NO_DOLLARS: &[(&str, Stands)] = &[];
+
+// Functions whose types aren't any. One of the others has the name `inc` too, and of the two with the
+// name `odd` the first counts.
+const UNRESOLVED: &[(&str, Why)] = &[
+    ("odd", (CheckError::Unknown, 90, Some("T"))),
+    ("inc", (CheckError::Unknown, 91, Some("T"))),
+    ("even", (CheckError::LeftOut, 92, None)),
+    ("odd", (CheckError::Mismatch, 93, None)),
+    ("size", (CheckError::Mismatch, 94, None)),
+];
+
+const NO_UNRESOLVED: &[(&str, Why)] = &[];
+
 type Variables = &'static [(&'static str, &'static str, bool)];
 
 fn variables(alloc: Global, kinds: &Kinds, from: Variables) -> Result<Items<Variable>, Fail> {
@@ -169,18 +222,84 @@ fn functions(alloc: Global, kinds: &Kinds) -> Result<Items<Signature>, Fail> {
     Ok(made)
 }
 
+fn refusal(alloc: Global, why: Why) -> Result<CheckRefusal, Fail> {
+    let (error, at, name) = why;
+    let name = match name {
+        Some(name) => Some(Items::from_slice(alloc, name.as_bytes())?),
+        None => None,
+    };
+    Ok(CheckRefusal { error, at, name })
+}
+
+// A scope without a name.
+fn no_names(alloc: Global) -> Scope {
+    Scope {
+        vars: Items::new(alloc),
+        ports: Items::new(alloc),
+        functions: Items::new(alloc),
+        unresolved: Items::new(alloc),
+        dollars: Items::new(alloc),
+        punct: false,
+    }
+}
+
+fn found(alloc: Global, stands: &'static Stands) -> Result<Result<Typed, CheckRefusal>, Fail> {
+    match stands {
+        Stands::For(text) => {
+            let expr = read(alloc, text)?;
+            match type_of(alloc, &no_names(alloc), &expr, None) {
+                Ok(typed) => Ok(Ok(typed)),
+                Err(_) => Err(Fail::from(*text)),
+            }
+        }
+        Stands::Refused(why) => Ok(Err(refusal(alloc, *why)?)),
+    }
+}
+
+fn dollars(alloc: Global, from: &'static [(&'static str, Stands)]) -> Result<Items<Dollar>, Fail> {
+    let mut made = Items::new(alloc);
+    for (name, stands) in from {
+        let name = Items::from_slice(alloc, name.as_bytes())?;
+        let found = found(alloc, stands)?;
+        made.push(Dollar { name, found })?;
+    }
+    Ok(made)
+}
+
+fn unresolved(
+    alloc: Global,
+    from: &'static [(&'static str, Why)],
+) -> Result<Items<Unresolved>, Fail> {
+    let mut made = Items::new(alloc);
+    for (name, why) in from {
+        let name = Items::from_slice(alloc, name.as_bytes())?;
+        let refusal = refusal(alloc, *why)?;
+        made.push(Unresolved { name, refusal })?;
+    }
+    Ok(made)
+}
+
 /// The scope of that place.
 pub(crate) fn scope(alloc: Global, kinds: &Kinds, place: Place) -> Result<Scope, Fail> {
     let (vars, ports_of, punct) = match place {
-        Place::Tuple => (VARIABLES, PORTS, false),
+        Place::Tuple | Place::Composite => (VARIABLES, PORTS, false),
         Place::Marker => (VARIABLES, NO_PORTS, true),
         Place::MarkerSys => (SYS_VARIABLES, NO_PORTS, true),
         Place::Hidden => (HIDING_VARIABLES, HIDING_PORTS, false),
+    };
+    let (given, without_types) = match place {
+        Place::Composite => (DOLLARS, UNRESOLVED),
+        Place::Tuple | Place::Marker | Place::MarkerSys | Place::Hidden => (
+            NO_DOLLARS,
+            NO_UNRESOLVED,
+        ),
     };
     Ok(Scope {
         vars: variables(alloc, kinds, vars)?,
         ports: ports(alloc, kinds, ports_of)?,
         functions: functions(alloc, kinds)?,
+        unresolved: unresolved(alloc, without_types)?,
+        dollars: dollars(alloc, given)?,
         punct,
     })
 }

@@ -166,3 +166,67 @@ const HIDDEN: &[Row] = &[
 fn a_name_may_hide_others(rt: HostRuntime) -> Result<(), Fail> {
     expect(&rt, rt.alloc(), Place::Hidden, HIDDEN)
 }
+
+const PARAMETERS: &[Row] = &[
+    // What stands for a parameter.
+    ("$n", "", "int32 | 5"),
+    ("$s", "", "rstring | 'a'"),
+    ("$if", "", "boolean | true"),
+    ("$xs", "", "list<int32> | (list 1 2)"),
+    ("$m", "", "map<rstring,int64> | (map 'a':1 'b':2)"),
+    (
+        "$t",
+        "",
+        "tuple<int64 a,tuple<rstring b,boolean c> d> | (tuple 0=1 1=(tuple 0='in' 1=true))",
+    ),
+    (
+        "$element",
+        "",
+        "int32 | (of (list (list 1) (list 2 3)) [1] [0])",
+    ),
+    ("$at", "", "list<rstring> | (of (map 1:(list 'p')) {1})"),
+    ("$member", "", "boolean | (of (tuple 0=1 1=true) .1)"),
+    ("$far", "", "int32 | (unary -int32 as-int32 ~int8 2)"),
+    ("$first", "", "rstring | (? (< (size (list 1)) 2) 'x' 'y')"),
+    ("($n)", "", "int32 | 5"),
+    // A variable of the name is another thing.
+    ("n", "", "int64 | v2"),
+    ("s + $s", "", "rstring | (join v5 'a')"),
+    // A part of something else.
+    ("$n + 1", "", "int32 | (+int32 5 1)"),
+    ("1 + $n", "", "int32 | (+int32 1 5)"),
+    ("$xs[$n]", "", "int32 | (of (list 1 2) [5])"),
+    (
+        "$t.a",
+        "",
+        "int64 | (of (tuple 0=1 1=(tuple 0='in' 1=true)) .0)",
+    ),
+    ("[$n, $n]", "", "list<int32> | (list 5 5)"),
+    ("inc($n)", "", "int32 | (f0 5)"),
+    ("$if ? $n : 2", "", "int32 | (? true 5 2)"),
+    // Another type is wanted.
+    ("$n", "int32", "int32 | 5"),
+    ("$s", "int32", "Mismatch at 0"),
+    ("($s)", "int32", "Mismatch at 1"),
+    ("inc($s)", "", "Mismatch at 4"),
+    ("$n + 1b", "", "Mismatch at 5"),
+    ("1b + $n", "", "Mismatch at 5"),
+    ("!$n", "", "Mismatch at 1"),
+    // A parameter that isn't there.
+    ("$z", "", "Unknown at 0 z"),
+    ("$i", "", "Unknown at 0 i"),
+    ("$n + $z", "", "Unknown at 5 z"),
+    ("$z", "int32", "Unknown at 0 z"),
+    // One that stands for a refusal.
+    ("$unknown", "", "Unknown at 70 T"),
+    ("$unknown", "int32", "Unknown at 70 T"),
+    ("$missing", "", "MissingParameter at 71"),
+    ("1 + $missing", "", "MissingParameter at 71"),
+    ("z + $missing", "", "Unknown at 0 z"),
+    ("inc($unknown)", "", "Unknown at 70 T"),
+];
+
+#[test]
+fn a_parameter_is_what_stands_for_it(rt: HostRuntime) -> Result<(), Fail> {
+    expect(&rt, rt.alloc(), Place::Composite, PARAMETERS)
+}

@@ -8,13 +8,13 @@ use crate::reading::read;
 use spl_tree::Expr;
 use spl_value::{FaultKind, SplType};
 use std::alloc::Global;
-use stream_model::{Scope, Typed, typing_law};
+use stream_model::{Scope, Typed, dollars_law, typing_law};
 use type_rules::{TypeAnswer, type_of};
 
 /// Why a text has no value.
 #[derive(Debug, Drop)]
 pub(crate) enum Unvalued {
-    /// It is no expression.
+    /// It is no expression, or stands in a scope with `$` parameters.
     Unread(&'static str),
     Untyped(TypeAnswer),
     Fault(FaultKind),
@@ -52,6 +52,10 @@ pub(crate) fn typed_expr(
         → IfOk result (λ t. t.kind ≡ u) }
 {
     typing_law();
+    dollars_law();
+    if !scope.dollars.is_empty() {
+        return Err(Unvalued::Unread("parameters without values"));
+    }
     match type_of(alloc, scope, expr, wanted) {
         Ok(typed) => Ok(typed),
         Err(answer) => Err(Unvalued::Untyped(answer)),

@@ -102,7 +102,7 @@ refused_law bytes refusal = ((λ h. h.1 ∙ ap Err (sym (same_refusal refusal h.
 condition_fits : FitLaw → WantedLaw → (e : Expr) (c : Code Slot) (r : Found Typed) → typing filter_scope e (Some S.Bool) ≡ r → code_in r ≡ Some c → IsCondition c
 condition_fits fit wanted e c (Ok t) is found =
     let same : t.code ≡ c = cc in
-    subst IsCondition same (subst (λ k. CodeFits filter_scope t.code k) (wanted filter_scope e S.Bool t is) (fit filter_scope e (Some S.Bool) t is))
+    subst IsCondition same (subst (λ k. CodeFits filter_scope t.code k) (wanted filter_scope e S.Bool t is) (fit filter_scope e (Some S.Bool) t (λ name u none. absurd cc) is))
 condition_fits fit wanted e c (Err refusal) is found = absurd cc
 
 pub condition_law : FitLaw → WantedLaw → ConditionLaw

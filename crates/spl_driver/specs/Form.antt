@@ -36,7 +36,7 @@ kinds_of bytes = kinds_in (tokens bytes)
 
 -- what the filter's value may name: the tuple that comes from T, and its price
 abbrev pub filter_scope : Scope
-filter_scope = record { vars = []; ports = record { name = codes "T"; schema = price_schema } ∷ []; functions = []; punct = false }
+filter_scope = record { vars = []; ports = record { name = codes "T"; schema = price_schema } ∷ []; functions = []; unresolved = []; dollars = []; punct = false }
 
 abbrev pub code_in : Found Typed → Option (Code Slot)
 code_in (Ok typed) = Some typed.code

@@ -100,6 +100,8 @@ fn filter_scope(alloc: Global) -> Result<Scope, NoMemory>
         vars: Items::new(alloc),
         ports,
         functions: Items::new(alloc),
+        unresolved: Items::new(alloc),
+        dollars: Items::new(alloc),
         punct: false,
     })
 }

@@ -15,7 +15,7 @@ use Rattle.spl_tree.specs.declared.expression.ExprKind.TheVariants as E
 use Rattle.spl_tree.specs.declared.expression.ExprKind.TheOpen as X
 use Rattle.spl_tree.specs.declared.expression.Placed.{Placed}
 use Rattle.stream_model.specs.declared.scope.Scope.{Scope}
-use Rattle.stream_model.specs.declared.scope.TypeError.TheVariants as N
+use Rattle.stream_model.specs.declared.scope.CheckError.TheVariants as N
 use Rattle.stream_model.specs.declared.scope.Typed.{Typed}
 use Rattle.stream_model.specs.BodyFits as B
 use Rattle.stream_model.specs.BodyFits.{ChangeFits}

@@ -1,5 +1,5 @@
 -- The code of an expression fits the scope at its type.
-use Rattle.std.specs.Prelude.{◌≡◌, ◌==◌, ◌&&◌, ℕ, suc, pos, nat_lt, is_some, Bool, true, IsTrue, List, [], ◌∷◌, ◌++◌, length, map, slice_get, Option, Some, None, Ok}
+use Rattle.std.specs.Prelude.{◌≡◌, ◌==◌, ◌&&◌, ℕ, suc, pos, nat_lt, is_some, Bool, true, IsTrue, List, [], ◌∷◌, ◌++◌, length, map, slice_get, Option, Some, None, Ok, Err}
 use Rattle.std.specs.List.{AllByRecursion, list_all}
 use Rattle.std.specs.Str.{bytes_eq}
 use Rattle.std.specs.Cmp.{first_so, second_so}
@@ -53,15 +53,16 @@ use Rattle.stream_model.specs.declared.scope.Scope.{Scope}
 use Rattle.stream_model.specs.declared.scope.Signature.{Signature}
 use Rattle.stream_model.specs.declared.scope.Typed.{Typed}
 use Rattle.stream_model.specs.declared.scope.Variable.{Variable}
-use Rattle.stream_model.specs.Scopes.{At, Meant, OfVariable, OfAttribute, OfPort, Nothing, PortAttribute, meant, variable_meant, variable_of, attributes_of, port_of, attribute_of, function_of}
-use Rattle.stream_model.specs.Typing.{Wanted, Found, after, mismatch, typed, as_wanted, number_typed, same_types, Part, part_typed, meant_typed, Wants, Anything, This, Another, wants_list, wants_map, wants_tuple, elements_typed, list_typed, entries_typed, map_typed, are_distinct, gives_each, field_typed, fields_typed, own_fields, tuple_typed, level_index, member_typed, level_step, steps_typed, selected, select_typed, port_attribute, of_port, of_base, level_prefix, prefix_typed, prefixes_at, prefixes_typed, unary_typed, integer_operator, order_operator, on_integers, ordering_of, or_else, level_operator, operands_typed, level_in, binary_typed, marker_asked, binary_or_marker, branch_wanted, conditional_typed, arguments_typed, value_given, function_typed, call_of, int32, OnFirst, level_first, first_typed, argument_count, fixed_typed, no_value, arguments_of, built_in_typed, call_typed, level_part, part, typing}
+use Rattle.stream_model.specs.Scopes.{At, Meant, OfVariable, OfAttribute, OfPort, Nothing, PortAttribute, meant, variable_meant, variable_of, attributes_of, port_of, attribute_of, function_of, unresolved_of, dollar_of}
+use Rattle.stream_model.specs.Typing.{Wanted, Found, after, mismatch, typed, as_wanted, number_typed, same_types, Part, part_typed, meant_typed, dollar_typed, Wants, Anything, This, Another, wants_list, wants_map, wants_tuple, elements_typed, list_typed, entries_typed, map_typed, are_distinct, gives_each, field_typed, fields_typed, own_fields, tuple_typed, level_index, member_typed, level_step, steps_typed, selected, select_typed, port_attribute, of_port, of_base, level_prefix, prefix_typed, prefixes_at, prefixes_typed, unary_typed, integer_operator, order_operator, on_integers, ordering_of, or_else, level_operator, operands_typed, level_in, binary_typed, marker_asked, binary_or_marker, branch_wanted, conditional_typed, arguments_typed, value_given, function_typed, call_of, int32, OnFirst, level_first, first_typed, argument_count, fixed_typed, no_value, arguments_of, built_in_typed, call_typed, level_part, part, typing}
 use Rattle.stream_model.specs.CodeFits as F
 use Rattle.stream_model.specs.CodeFits.{CodeFits, SlotFits, ElementsFit, PairsFit, FieldsFit, ArgumentsFit, StepsLead, UnaryGives, UnariesGive, BinaryGives, BuiltInGives, OneEach}
-use Rattle.stream_model.specs.FitLaws.{FitLaw}
+use Rattle.stream_model.specs.FitLaws.{DollarsFit, FitLaw}
+use Rattle.stream_model.proofs.Closed.{closed_law}
 use Rattle.stream_model.proofs.Standing.{Stands, first_stands, Bears, variable_there, attribute_there, port_there, function_there, InPorts, FirstOf, attributes_there}
 use Rattle.stream_model.proofs.Places.{AtNames, names_one_each, InRow, row_one_each}
 use Rattle.stream_model.proofs.SameTypes.{equal_from_same}
-use Rattle.stream_model.proofs.Wanting.{Gives, gives_after, gives_on, gives_both, gives_if, gives_from, Some_thing, gives_some, Meets, MeetsIn, rolled, Keeps, keeps, part_of, part_at}
+use Rattle.stream_model.proofs.Wanting.{Gives, gives_after, gives_on, gives_both, gives_if, gives_from, gives_no_call, Some_thing, gives_some, Meets, MeetsIn, rolled, Keeps, keeps, part_of, part_at}
 
 -- the code fits at its type, and at a type
 abbrev pub Fits : Scope → Typed → Type 0
@@ -71,19 +72,19 @@ abbrev pub FitsAt : Scope → SplType → Typed → Type 0
 FitsAt scope u t = CodeFits scope t.code u
 
 -- what is known of a part
-abbrev pub Sound : Part → Type 0
-Sound p = (at : ℕ) (scope : Scope) (wanted : Wanted) → Gives (Fits scope) (p.found at scope wanted)
+abbrev pub Sound : Scope → Part → Type 0
+Sound scope p = (at : ℕ) (wanted : Wanted) → Gives (Fits scope) (p.found at scope wanted)
 
-abbrev pub Good : Placed Part → Type 0
-Good e = Keeps e.what × Sound e.what
+abbrev pub Good : Scope → Placed Part → Type 0
+Good scope e = Keeps e.what × Sound scope e.what
 
-pub good_any : (e : Placed Part) → Good e → (scope : Scope) (wanted : Wanted) → Gives (Fits scope) (part_typed e scope wanted)
-good_any e h scope wanted = h.1 e.at scope wanted
+pub good_any : (scope : Scope) (e : Placed Part) → Good scope e → (wanted : Wanted) → Gives (Fits scope) (part_typed e scope wanted)
+good_any scope e h wanted = h.1 e.at wanted
 
-pub good_at : (e : Placed Part) → Good e → (scope : Scope) (t : SplType) → Gives (FitsAt scope t) (part_typed e scope (Some t))
-good_at e h scope t =
+pub good_at : (scope : Scope) (e : Placed Part) → Good scope e → (t : SplType) → Gives (FitsAt scope t) (part_typed e scope (Some t))
+good_at scope e h t =
     gives_on (λ x. MeetsIn (Some t) x × Fits scope x) (FitsAt scope t) (part_typed e scope (Some t))
-    (gives_both (MeetsIn (Some t)) (Fits scope) (part_typed e scope (Some t)) (h.0 e.at scope (Some t)) (h.1 e.at scope (Some t)))
+    (gives_both (MeetsIn (Some t)) (Fits scope) (part_typed e scope (Some t)) (h.0 e.at scope (Some t)) (h.1 e.at (Some t)))
     (λ x both. subst (CodeFits scope x.code) both.0 both.1)
 
 as_wanted_fits : (at : ℕ) (scope : Scope) (wanted : Wanted) (t : Typed) → Fits scope t → Gives (Fits scope) (as_wanted at wanted t)
@@ -135,43 +136,43 @@ name_fits scope at name = meant_fits scope at name (meant scope name) (name_mean
 
 -- ---- literals
 
-elements_fit : (scope : Scope) (t : SplType) (es : List (Placed Part)) → AllByRecursion Good es → Gives (λ xs. ElementsFit scope xs t) (elements_typed scope t es)
+elements_fit : (scope : Scope) (t : SplType) (es : List (Placed Part)) → AllByRecursion (Good scope) es → Gives (λ xs. ElementsFit scope xs t) (elements_typed scope t es)
 elements_fit scope t [] h = F.no_elements t
 elements_fit scope t (e ∷ es) h =
-    gives_after (FitsAt scope t) (λ xs. ElementsFit scope xs t) (part_typed e scope (Some t)) _ (good_at e h.0 scope t) (λ x f.
+    gives_after (FitsAt scope t) (λ xs. ElementsFit scope xs t) (part_typed e scope (Some t)) _ (good_at scope e h.0 t) (λ x f.
     gives_after (λ xs. ElementsFit scope xs t) (λ xs. ElementsFit scope xs t) (elements_typed scope t es) _ (elements_fit scope t es h.1) (λ xs g. F.element x.code xs t f g))
 
-list_fits : (at : ℕ) (scope : Scope) (wants : Wants SplType) (es : List (Placed Part)) → AllByRecursion Good es → Gives (Fits scope) (list_typed at scope wants es)
+list_fits : (at : ℕ) (scope : Scope) (wants : Wants SplType) (es : List (Placed Part)) → AllByRecursion (Good scope) es → Gives (Fits scope) (list_typed at scope wants es)
 list_fits at scope Another es h = tt
 list_fits at scope (This t) es h =
     gives_after (λ xs. ElementsFit scope xs t) (Fits scope) (elements_typed scope t es) _ (elements_fit scope t es h) (λ xs f. F.list xs t f)
 list_fits at scope Anything [] h = tt
 list_fits at scope Anything (e ∷ es) h =
-    gives_after (Fits scope) (Fits scope) (part_typed e scope None) _ (good_any e h.0 scope None) (λ x f.
+    gives_after (Fits scope) (Fits scope) (part_typed e scope None) _ (good_any scope e h.0 None) (λ x f.
     gives_after (λ xs. ElementsFit scope xs x.kind) (Fits scope) (elements_typed scope x.kind es) _ (elements_fit scope x.kind es h.1) (λ xs g.
     F.list (x.code ∷ xs) x.kind (F.element x.code xs x.kind f g)))
 
-abbrev pub GoodEntry : Placed Part × Placed Part → Type 0
-GoodEntry e = Good e.0 × Good e.1
+abbrev pub GoodEntry : Scope → Placed Part × Placed Part → Type 0
+GoodEntry scope e = Good scope e.0 × Good scope e.1
 
-entries_fit : (scope : Scope) (k t : SplType) (es : List (Placed Part × Placed Part)) → AllByRecursion GoodEntry es
+entries_fit : (scope : Scope) (k t : SplType) (es : List (Placed Part × Placed Part)) → AllByRecursion (GoodEntry scope) es
     → Gives (λ xs. PairsFit scope xs k t) (entries_typed scope k t es)
 entries_fit scope k t [] h = F.no_pairs k t
 entries_fit scope k t (e ∷ es) h =
-    gives_after (FitsAt scope k) (λ xs. PairsFit scope xs k t) (part_typed e.0 scope (Some k)) _ (good_at e.0 h.0.0 scope k) (λ x f.
-    gives_after (FitsAt scope t) (λ xs. PairsFit scope xs k t) (part_typed e.1 scope (Some t)) _ (good_at e.1 h.0.1 scope t) (λ y g.
+    gives_after (FitsAt scope k) (λ xs. PairsFit scope xs k t) (part_typed e.0 scope (Some k)) _ (good_at scope e.0 h.0.0 k) (λ x f.
+    gives_after (FitsAt scope t) (λ xs. PairsFit scope xs k t) (part_typed e.1 scope (Some t)) _ (good_at scope e.1 h.0.1 t) (λ y g.
     gives_after (λ xs. PairsFit scope xs k t) (λ xs. PairsFit scope xs k t) (entries_typed scope k t es) _ (entries_fit scope k t es h.1) (λ xs i.
     F.pair x.code y.code xs k t f g i)))
 
-map_fits : (at : ℕ) (scope : Scope) (wants : Wants (SplType × SplType)) (es : List (Placed Part × Placed Part)) → AllByRecursion GoodEntry es
+map_fits : (at : ℕ) (scope : Scope) (wants : Wants (SplType × SplType)) (es : List (Placed Part × Placed Part)) → AllByRecursion (GoodEntry scope) es
     → Gives (Fits scope) (map_typed at scope wants es)
 map_fits at scope Another es h = tt
 map_fits at scope (This p) es h =
     gives_after (λ xs. PairsFit scope xs p.0 p.1) (Fits scope) (entries_typed scope p.0 p.1 es) _ (entries_fit scope p.0 p.1 es h) (λ xs f. F.map xs p.0 p.1 f)
 map_fits at scope Anything [] h = tt
 map_fits at scope Anything (e ∷ es) h =
-    gives_after (Fits scope) (Fits scope) (part_typed e.0 scope None) _ (good_any e.0 h.0.0 scope None) (λ x f.
-    gives_after (Fits scope) (Fits scope) (part_typed e.1 scope None) _ (good_any e.1 h.0.1 scope None) (λ y g.
+    gives_after (Fits scope) (Fits scope) (part_typed e.0 scope None) _ (good_any scope e.0 h.0.0 None) (λ x f.
+    gives_after (Fits scope) (Fits scope) (part_typed e.1 scope None) _ (good_any scope e.1 h.0.1 None) (λ y g.
     gives_after (λ xs. PairsFit scope xs x.kind y.kind) (Fits scope) (entries_typed scope x.kind y.kind es) _ (entries_fit scope x.kind y.kind es h.1) (λ xs i.
     F.map ((x.code, y.code) ∷ xs) x.kind y.kind (F.pair x.code y.code xs x.kind y.kind f g i))))
 
@@ -179,18 +180,18 @@ map_fits at scope Anything (e ∷ es) h =
 abbrev FieldAt : Scope → List (Named SplType) → List ℕ → ℕ × Code Slot → Type 0
 FieldAt scope schema name x = (a : Named SplType) × (slice_get schema x.0 ≡ Some a) × (bytes_eq a.name name ≡ true) × CodeFits scope x.1 a.kind
 
-abbrev pub GoodField : Field (Placed Part) → Type 0
-GoodField f = Good f.value
+abbrev pub GoodField : Scope → Field (Placed Part) → Type 0
+GoodField scope f = Good scope f.value
 
-field_fits : (scope : Scope) (schema : List (Named SplType)) (f : Field (Placed Part)) (o : Option (At (Named SplType))) → GoodField f
+field_fits : (scope : Scope) (schema : List (Named SplType)) (f : Field (Placed Part)) (o : Option (At (Named SplType))) → GoodField scope f
     → Stands (λ a. bytes_eq a.name f.name.what) schema 0 o → Gives (FieldAt scope schema f.name.what) (field_typed scope schema f o)
 field_fits scope schema f None h stands = tt
 field_fits scope schema f (Some a) h stands =
     let place : a.place ≡ stands.0 = omega (arith, stands.1) in
-    gives_after (FitsAt scope a.what.kind) (FieldAt scope schema f.name.what) (part_typed f.value scope (Some a.what.kind)) _ (good_at f.value h scope a.what.kind)
+    gives_after (FitsAt scope a.what.kind) (FieldAt scope schema f.name.what) (part_typed f.value scope (Some a.what.kind)) _ (good_at scope f.value h a.what.kind)
     (λ x g. (a.what, ap (slice_get schema) place ∙ stands.2, stands.3, g))
 
-fields_fit : (scope : Scope) (schema : List (Named SplType)) (fs : List (Field (Placed Part))) → AllByRecursion GoodField fs
+fields_fit : (scope : Scope) (schema : List (Named SplType)) (fs : List (Field (Placed Part))) → AllByRecursion (GoodField scope) fs
     → Gives (λ xs. FieldsFit scope xs schema × AtNames schema fs xs) (fields_typed scope schema fs)
 fields_fit scope schema [] h = (F.no_fields schema, tt)
 fields_fit scope schema (f ∷ fs) h =
@@ -224,14 +225,14 @@ own_more scope i xs a x f own = record {
       F.field i x xs.1 (before ++ a ∷ xs.0) a (ap (slice_get (before ++ a ∷ xs.0)) (sym long) ∙ get_behind before xs.0 a) f rest;
 }
 
-own_fit : (scope : Scope) (i : ℕ) (fs : List (Field (Placed Part))) → AllByRecursion GoodField fs → Gives (OwnFields scope i) (own_fields scope i fs)
+own_fit : (scope : Scope) (i : ℕ) (fs : List (Field (Placed Part))) → AllByRecursion (GoodField scope) fs → Gives (OwnFields scope i) (own_fields scope i fs)
 own_fit scope i [] h = record { long = refl; row = tt; fit = λ before long. F.no_fields (before ++ []) }
 own_fit scope i (f ∷ fs) h =
-    gives_after (Fits scope) (OwnFields scope i) (part_typed f.value scope None) _ (good_any f.value h.0 scope None) (λ x g.
+    gives_after (Fits scope) (OwnFields scope i) (part_typed f.value scope None) _ (good_any scope f.value h.0 None) (λ x g.
     gives_after (OwnFields scope (suc i)) (OwnFields scope i) (own_fields scope (suc i) fs) _ (own_fit scope (suc i) fs h.1) (λ xs own.
     own_more scope i xs (record { name = f.name.what; kind = x.kind }) x.code g own))
 
-tuple_fits : (at : ℕ) (scope : Scope) (wants : Wants (List (Named SplType))) (fs : List (Field (Placed Part))) → AllByRecursion GoodField fs
+tuple_fits : (at : ℕ) (scope : Scope) (wants : Wants (List (Named SplType))) (fs : List (Field (Placed Part))) → AllByRecursion (GoodField scope) fs
     → Gives (Fits scope) (tuple_typed at scope wants fs)
 tuple_fits at scope Another fs h = tt
 tuple_fits at scope (This schema) fs h =
@@ -248,9 +249,9 @@ tuple_fits at scope Anything fs h =
 
 -- ---- what is taken of a value
 
-abbrev pub GoodStep : Step (Placed Part) → Type 0
-GoodStep (N.Member m) = Unit {0}
-GoodStep (N.Index e) = Good e
+abbrev pub GoodStep : Scope → Step (Placed Part) → Type 0
+GoodStep scope (N.Member m) = Unit {0}
+GoodStep scope (N.Index e) = Good scope e
 
 -- a step from a type, with those behind it
 abbrev Leads : Scope → SplType → Taking (Code Slot) × SplType → Type 0
@@ -266,17 +267,17 @@ index_fits : (at : ℕ) (scope : Scope) (x : Typed) (y : SplType-F SplType) → 
 index_fits at scope x (T.Int k) e f = (k, subst (CodeFits scope x.code) (rolled x.kind (T.Int k) (S.Int k) e (S.rolls-Int k)) f)
 index_fits at scope x _ e f = tt
 
-element_fits : (base : ℕ) (scope : Scope) (t : SplType) (e : Placed Part) → Good e → Gives (Leads scope (S.List t)) (level_step base scope (T.List t) (N.Index e))
+element_fits : (base : ℕ) (scope : Scope) (t : SplType) (e : Placed Part) → Good scope e → Gives (Leads scope (S.List t)) (level_step base scope (T.List t) (N.Index e))
 element_fits base scope t e h =
-    gives_after (Fits scope) (Leads scope (S.List t)) (part_typed e scope None) _ (good_any e h scope None) (λ x f.
+    gives_after (Fits scope) (Leads scope (S.List t)) (part_typed e scope None) _ (good_any scope e h None) (λ x f.
     gives_after (λ code. (k : IntKind) × CodeFits scope code (S.Int k)) (Leads scope (S.List t)) (level_index e.at x.code (out-SplType x.kind)) _
     (index_fits e.at scope x (out-SplType x.kind) refl f) (λ code g steps u rest. F.index code steps g.0 t u g.1 rest))
 
-key_fits : (base : ℕ) (scope : Scope) (k t : SplType) (e : Placed Part) → Good e → Gives (Leads scope (S.Map k t)) (level_step base scope (T.Map k t) (N.Index e))
+key_fits : (base : ℕ) (scope : Scope) (k t : SplType) (e : Placed Part) → Good scope e → Gives (Leads scope (S.Map k t)) (level_step base scope (T.Map k t) (N.Index e))
 key_fits base scope k t e h =
-    gives_after (FitsAt scope k) (Leads scope (S.Map k t)) (part_typed e scope (Some k)) _ (good_at e h scope k) (λ x f steps u rest. F.at_key x.code steps k t u f rest)
+    gives_after (FitsAt scope k) (Leads scope (S.Map k t)) (part_typed e scope (Some k)) _ (good_at scope e h k) (λ x f steps u rest. F.at_key x.code steps k t u f rest)
 
-step_fits : (base : ℕ) (scope : Scope) (t : SplType) (y : SplType-F SplType) (s : Step (Placed Part)) → out-SplType t ≡ y → GoodStep s
+step_fits : (base : ℕ) (scope : Scope) (t : SplType) (y : SplType-F SplType) (s : Step (Placed Part)) → out-SplType t ≡ y → GoodStep scope s
     → Gives (Leads scope t) (level_step base scope y s)
 step_fits base scope t (T.Tuple schema) (N.Member m) e h =
     subst (λ t. Gives (Leads scope t) (member_typed m.at m.what (attribute_of schema m.what))) (sym (rolled t (T.Tuple schema) (S.Tuple schema) e (S.rolls-Tuple schema)))
@@ -287,7 +288,7 @@ step_fits base scope t (T.Map k u) (N.Index i) e h =
     subst (λ t. Gives (Leads scope t) (level_step base scope (T.Map k u) (N.Index i))) (sym (rolled t (T.Map k u) (S.Map k u) e (S.rolls-Map k u))) (key_fits base scope k u i h)
 step_fits base scope t _ _ e h = tt
 
-steps_fit : (base : ℕ) (scope : Scope) (t : SplType) (ss : List (Step (Placed Part))) → AllByRecursion GoodStep ss
+steps_fit : (base : ℕ) (scope : Scope) (t : SplType) (ss : List (Step (Placed Part))) → AllByRecursion (GoodStep scope) ss
     → Gives (λ xs. StepsLead scope xs.0 t xs.1) (steps_typed base scope t ss)
 steps_fit base scope t [] h = F.here t
 steps_fit base scope t (s ∷ ss) h =
@@ -300,7 +301,7 @@ selected_fits : (scope : Scope) (x : Code Slot) (steps : List (Taking (Code Slot
 selected_fits scope x [] t u f (F.here v) = f
 selected_fits scope x (s ∷ ss) t u f leads = F.select x (s ∷ ss) t u f leads
 
-select_fits : (base : ℕ) (scope : Scope) (x : Typed) (ss : List (Step (Placed Part))) → Fits scope x → AllByRecursion GoodStep ss
+select_fits : (base : ℕ) (scope : Scope) (x : Typed) (ss : List (Step (Placed Part))) → Fits scope x → AllByRecursion (GoodStep scope) ss
     → Gives (Fits scope) (select_typed base scope x ss)
 select_fits base scope x ss f h =
     gives_after (λ xs. StepsLead scope xs.0 x.kind xs.1) (Fits scope) (steps_typed base scope x.kind ss) _ (steps_fit base scope x.kind ss h) (λ xs leads.
@@ -314,12 +315,12 @@ port_attribute_fits scope p at name (Some a) finds port h =
     (F.attribute p.place a.place p.what a.what port.0 h.0 (ap (attribute_of p.what.schema) h.1 ∙ finds) (inr port.1))
 
 -- what is taken of an expression
-of_part_fits : (base : Placed Part) (scope : Scope) (ss : List (Step (Placed Part))) → Good base → AllByRecursion GoodStep ss
+of_part_fits : (base : Placed Part) (scope : Scope) (ss : List (Step (Placed Part))) → Good scope base → AllByRecursion (GoodStep scope) ss
     → Gives (Fits scope) (after (part_typed base scope None) (λ x. select_typed base.at scope x ss))
 of_part_fits base scope ss h g =
-    gives_after (Fits scope) (Fits scope) (part_typed base scope None) _ (good_any base h scope None) (λ x f. select_fits base.at scope x ss f g)
+    gives_after (Fits scope) (Fits scope) (part_typed base scope None) _ (good_any scope base h None) (λ x f. select_fits base.at scope x ss f g)
 
-of_port_fits : (m : Meant) (base : Placed Part) (scope : Scope) (ss : List (Step (Placed Part))) → MeantFits scope m → Good base → AllByRecursion GoodStep ss
+of_port_fits : (m : Meant) (base : Placed Part) (scope : Scope) (ss : List (Step (Placed Part))) → MeantFits scope m → Good scope base → AllByRecursion (GoodStep scope) ss
     → Gives (Fits scope) (of_port m base scope ss)
 of_port_fits (OfPort p) base scope (N.Member m ∷ ss) port h g =
     gives_after (Fits scope) (Fits scope) (port_attribute p.place m.at m.what (attribute_of p.what.schema m.what)) _
@@ -331,7 +332,7 @@ of_port_fits (OfVariable v) base scope ss port h g = of_part_fits base scope ss 
 of_port_fits (OfAttribute a) base scope ss port h g = of_part_fits base scope ss h g
 of_port_fits Nothing base scope ss port h g = of_part_fits base scope ss h g
 
-of_base_fits : (name : Option (List ℕ)) (base : Placed Part) (scope : Scope) (ss : List (Step (Placed Part))) → Good base → AllByRecursion GoodStep ss
+of_base_fits : (name : Option (List ℕ)) (base : Placed Part) (scope : Scope) (ss : List (Step (Placed Part))) → Good scope base → AllByRecursion (GoodStep scope) ss
     → Gives (Fits scope) (of_base name base scope ss)
 of_base_fits (Some name) base scope ss h g = of_port_fits (meant scope name) base scope ss (name_meant scope name) h g
 of_base_fits None base scope ss h g = of_part_fits base scope ss h g
@@ -354,9 +355,9 @@ prefixes_fit (p ∷ ps) operand t =
     gives_after (λ x. UnaryGives x.0 xs.1 x.1) (λ xs. UnariesGive xs.0 t xs.1) (prefix_typed (prefixes_at ps operand) (level_prefix p.what (out-SplType xs.1))) _
     (prefix_fits (prefixes_at ps operand) p.what xs.1 (out-SplType xs.1) refl) (λ x one. F.outer x.0 xs.0 t xs.1 x.1 inner one))
 
-unary_fits : (scope : Scope) (ps : List (Placed PrefixOperator)) (e : Placed Part) → Good e → Gives (Fits scope) (unary_typed scope ps e)
+unary_fits : (scope : Scope) (ps : List (Placed PrefixOperator)) (e : Placed Part) → Good scope e → Gives (Fits scope) (unary_typed scope ps e)
 unary_fits scope ps e h =
-    gives_after (Fits scope) (Fits scope) (part_typed e scope None) _ (good_any e h scope None) (λ x f.
+    gives_after (Fits scope) (Fits scope) (part_typed e scope None) _ (good_any scope e h None) (λ x f.
     gives_after (λ xs. UnariesGive xs.0 x.kind xs.1) (Fits scope) (prefixes_typed ps e.at x.kind) _ (prefixes_fit ps e.at x.kind) (λ xs g.
     F.unary xs.0 x.code x.kind xs.1 f g))
 
@@ -388,11 +389,11 @@ operator_fits op t (T.Int k) e =
 operator_fits op t T.Text e = subst (λ t. OnOperands t (ordering_of (order_operator op))) (sym (rolled t T.Text S.Text e S.rolls-Text)) (texts_fit (order_operator op))
 operator_fits _ t _ e = tt
 
-pub operands_fit : (scope : Scope) (x : Typed) (left right : Placed Part) (o : Option (BinaryCode × SplType)) → Fits scope x → Good right → OnOperands x.kind o
+pub operands_fit : (scope : Scope) (x : Typed) (left right : Placed Part) (o : Option (BinaryCode × SplType)) → Fits scope x → Good scope right → OnOperands x.kind o
     → Gives (Fits scope) (operands_typed scope x left right o)
 operands_fit scope x left right None f h g = tt
 operands_fit scope x left right (Some op) f h g =
-    gives_after (FitsAt scope x.kind) (Fits scope) (part_typed right scope (Some x.kind)) _ (good_at right h scope x.kind) (λ y i.
+    gives_after (FitsAt scope x.kind) (Fits scope) (part_typed right scope (Some x.kind)) _ (good_at scope right h x.kind) (λ y i.
     F.binary op.0 x.code y.code x.kind x.kind op.1 f i g)
 
 in_fits : (scope : Scope) (x y : Typed) (at : ℕ) (z : SplType-F SplType) → out-SplType y.kind ≡ z → Fits scope x → Fits scope y → Gives (Fits scope) (level_in x y.code at z)
@@ -406,16 +407,16 @@ in_fits scope x y at (T.Map k t) e f g =
     (subst (λ u. BinaryGives D.InMap k u S.Bool) (sym (rolled y.kind (T.Map k t) (S.Map k t) e (S.rolls-Map k t))) (F.in_map k t))) tt
 in_fits scope x y at _ e f g = tt
 
-of_operands_fits : (scope : Scope) (op : BinaryOperator) (left right : Placed Part) → Good left → Good right
+of_operands_fits : (scope : Scope) (op : BinaryOperator) (left right : Placed Part) → Good scope left → Good scope right
     → Gives (Fits scope) (after (part_typed left scope None) (λ x. operands_typed scope x left right (level_operator op (out-SplType x.kind))))
 of_operands_fits scope op left right h g =
-    gives_after (Fits scope) (Fits scope) (part_typed left scope None) _ (good_any left h scope None) (λ x f.
+    gives_after (Fits scope) (Fits scope) (part_typed left scope None) _ (good_any scope left h None) (λ x f.
     operands_fit scope x left right (level_operator op (out-SplType x.kind)) f g (operator_fits op x.kind (out-SplType x.kind) refl))
 
-binary_fits : (scope : Scope) (op : BinaryOperator) (left right : Placed Part) → Good left → Good right → Gives (Fits scope) (binary_typed scope op left right)
+binary_fits : (scope : Scope) (op : BinaryOperator) (left right : Placed Part) → Good scope left → Good scope right → Gives (Fits scope) (binary_typed scope op left right)
 binary_fits scope B.In left right h g =
-    gives_after (Fits scope) (Fits scope) (part_typed left scope None) _ (good_any left h scope None) (λ x f.
-    gives_after (Fits scope) (Fits scope) (part_typed right scope None) _ (good_any right g scope None) (λ y i.
+    gives_after (Fits scope) (Fits scope) (part_typed left scope None) _ (good_any scope left h None) (λ x f.
+    gives_after (Fits scope) (Fits scope) (part_typed right scope None) _ (good_any scope right g None) (λ y i.
     in_fits scope x y right.at (out-SplType y.kind) refl f i))
 binary_fits scope op left right h g = of_operands_fits scope op left right h g
 
@@ -429,33 +430,33 @@ asks_fits scope true B.Equal (Some m) h = F.is_marker m (h refl)
 asks_fits scope true B.NotEqual (Some m) h = F.is_not_marker m (h refl)
 asks_fits scope _ _ _ h = tt
 
-binary_or_marker_fits : (o : Option (Code Slot)) (scope : Scope) (op : BinaryOperator) (left right : Placed Part) → Asks scope o → Good left → Good right
+binary_or_marker_fits : (o : Option (Code Slot)) (scope : Scope) (op : BinaryOperator) (left right : Placed Part) → Asks scope o → Good scope left → Good scope right
     → Gives (Fits scope) (binary_or_marker o scope op left right)
 binary_or_marker_fits (Some code) scope op left right asks h g = asks
 binary_or_marker_fits None scope op left right asks h g = binary_fits scope op left right h g
 
 -- ---- the conditional
 
-branch_fits : (scope : Scope) (wanted : Wanted) (t : SplType) (b : Placed Part) → Meets wanted t → Good b
+branch_fits : (scope : Scope) (wanted : Wanted) (t : SplType) (b : Placed Part) → Meets wanted t → Good scope b
     → Gives (FitsAt scope t) (part_typed b scope (branch_wanted wanted t))
-branch_fits scope None t b meets h = good_at b h scope t
-branch_fits scope (Some u) t b meets h = subst (λ t. Gives (FitsAt scope t) (part_typed b scope (Some u))) (sym meets) (good_at b h scope u)
+branch_fits scope None t b meets h = good_at scope b h t
+branch_fits scope (Some u) t b meets h = subst (λ t. Gives (FitsAt scope t) (part_typed b scope (Some u))) (sym meets) (good_at scope b h u)
 
-conditional_fits : (scope : Scope) (wanted : Wanted) (c a b : Placed Part) → Good c → Good a → Good b → Gives (Fits scope) (conditional_typed scope wanted c a b)
+conditional_fits : (scope : Scope) (wanted : Wanted) (c a b : Placed Part) → Good scope c → Good scope a → Good scope b → Gives (Fits scope) (conditional_typed scope wanted c a b)
 conditional_fits scope wanted c a b f g h =
-    gives_after (FitsAt scope S.Bool) (Fits scope) (part_typed c scope (Some S.Bool)) _ (good_at c f scope S.Bool) (λ x i.
+    gives_after (FitsAt scope S.Bool) (Fits scope) (part_typed c scope (Some S.Bool)) _ (good_at scope c f S.Bool) (λ x i.
     gives_after (λ y. MeetsIn wanted y × Fits scope y) (Fits scope) (part_typed a scope wanted) _
-    (gives_both (MeetsIn wanted) (Fits scope) (part_typed a scope wanted) (g.0 a.at scope wanted) (g.1 a.at scope wanted)) (λ y j.
+    (gives_both (MeetsIn wanted) (Fits scope) (part_typed a scope wanted) (g.0 a.at scope wanted) (g.1 a.at wanted)) (λ y j.
     gives_after (FitsAt scope y.kind) (Fits scope) (part_typed b scope (branch_wanted wanted y.kind)) _ (branch_fits scope wanted y.kind b j.0 h) (λ z k.
     F.conditional x.code y.code z.code y.kind i j.1 k)))
 
 -- ---- calls
 
-pub arguments_fit : (scope : Scope) (ts : List SplType) (es : List (Placed Part)) → length es ≡ length ts → AllByRecursion Good es
+pub arguments_fit : (scope : Scope) (ts : List SplType) (es : List (Placed Part)) → length es ≡ length ts → AllByRecursion (Good scope) es
     → Gives (λ xs. ArgumentsFit scope xs ts) (arguments_typed scope ts es)
 arguments_fit scope [] [] long h = F.no_arguments
 arguments_fit scope (t ∷ ts) (e ∷ es) long h =
-    gives_after (FitsAt scope t) (λ xs. ArgumentsFit scope xs (t ∷ ts)) (part_typed e scope (Some t)) _ (good_at e h.0 scope t) (λ x f.
+    gives_after (FitsAt scope t) (λ xs. ArgumentsFit scope xs (t ∷ ts)) (part_typed e scope (Some t)) _ (good_at scope e h.0 t) (λ x f.
     gives_after (λ xs. ArgumentsFit scope xs ts) (λ xs. ArgumentsFit scope xs (t ∷ ts)) (arguments_typed scope ts es) _ (arguments_fit scope ts es (omega arith) h.1) (λ xs g.
     F.argument x.code xs t ts f g))
 arguments_fit scope [] (e ∷ es) long h = absurd (omega arith)
@@ -466,9 +467,9 @@ value_fits : (at : ℕ) (scope : Scope) (f : At Signature) (xs : List (Code Slot
 value_fits at scope f xs None e h g = tt
 value_fits at scope f xs (Some t) e h g = F.call f.place xs f.what t h e g
 
-function_fits : (at : ℕ) (scope : Scope) (name : List ℕ) (es : List (Placed Part)) (o : Option (At Signature)) → Bears (λ f. f.name) scope.functions name o → AllByRecursion Good es
+function_fits : (at : ℕ) (scope : Scope) (name : List ℕ) (es : List (Placed Part)) (o : Option (At Signature)) → Bears (λ f. f.name) scope.functions name o → AllByRecursion (Good scope) es
     → Gives (Fits scope) (function_typed at scope name es o)
-function_fits at scope name es None h g = tt
+function_fits at scope name es None h g = gives_no_call (Fits scope) at name (unresolved_of scope name)
 function_fits at scope name es (Some f) h g =
     gives_if (Fits scope) (length es == length f.what.parameters) _ _ (λ same.
     gives_after (λ xs. ArgumentsFit scope xs f.what.parameters) (Fits scope) (arguments_typed scope f.what.parameters es) _
@@ -499,20 +500,20 @@ on_first_fits A.Max t T.Text n e count =
     (subst (λ t. BuiltInGives Q.Max (t ∷ t ∷ []) t) (sym (rolled t T.Text S.Text e S.rolls-Text)) F.max_text, omega arith)
 on_first_fits _ t _ n e count = tt
 
-first_fits : (at : ℕ) (scope : Scope) (x : Typed) (es : List (Placed Part)) (o : OnFirst) → Fits scope x → AllByRecursion Good es → OnFirstFits x.kind (length es) o
+first_fits : (at : ℕ) (scope : Scope) (x : Typed) (es : List (Placed Part)) (o : OnFirst) → Fits scope x → AllByRecursion (Good scope) es → OnFirstFits x.kind (length es) o
     → Gives (Fits scope) (first_typed at scope x.code es o)
 first_fits at scope x es None f h g = tt
 first_fits at scope x es (Some on) f h g =
     gives_after (λ xs. ArgumentsFit scope xs on.2) (Fits scope) (arguments_typed scope on.2 es) _ (arguments_fit scope on.2 es (sym g.1) h) (λ xs i.
     F.built_in on.0 (x.code ∷ xs) (x.kind ∷ on.2) on.1 (F.argument x.code xs x.kind on.2 f i) g.0)
 
-on_argument_fits : (at : ℕ) (scope : Scope) (call : CallName) (e : Placed Part) (es : List (Placed Part)) → length (e ∷ es) ≡ argument_count call → Good e → AllByRecursion Good es
+on_argument_fits : (at : ℕ) (scope : Scope) (call : CallName) (e : Placed Part) (es : List (Placed Part)) → length (e ∷ es) ≡ argument_count call → Good scope e → AllByRecursion (Good scope) es
     → Gives (Fits scope) (after (part_typed e scope None) (λ x. first_typed at scope x.code es (level_first call x.kind (out-SplType x.kind))))
 on_argument_fits at scope call e es long g h =
-    gives_after (Fits scope) (Fits scope) (part_typed e scope None) _ (good_any e g scope None) (λ x f.
+    gives_after (Fits scope) (Fits scope) (part_typed e scope None) _ (good_any scope e g None) (λ x f.
     first_fits at scope x es (level_first call x.kind (out-SplType x.kind)) f h (on_first_fits call x.kind (out-SplType x.kind) (length es) refl (sym long)))
 
-fixed_fits : (scope : Scope) (call : BuiltIn) (t : SplType) (ts : List SplType) (es : List (Placed Part)) → length es ≡ length ts → AllByRecursion Good es → BuiltInGives call ts t
+fixed_fits : (scope : Scope) (call : BuiltIn) (t : SplType) (ts : List SplType) (es : List (Placed Part)) → length es ≡ length ts → AllByRecursion (Good scope) es → BuiltInGives call ts t
     → Gives (Fits scope) (fixed_typed scope call t ts es)
 fixed_fits scope call t ts es long h g =
     gives_after (λ xs. ArgumentsFit scope xs ts) (Fits scope) (arguments_typed scope ts es) _ (arguments_fit scope ts es long h) (λ xs f. F.built_in call xs ts t f g)
@@ -520,7 +521,7 @@ fixed_fits scope call t ts es long h g =
 no_value_fits : (scope : Scope) (at : ℕ) (found : Found (List (Code Slot))) → Gives (Fits scope) (no_value at found)
 no_value_fits scope at found = gives_after Some_thing (Fits scope) found (λ xs. mismatch at) (gives_some found) (λ xs s. tt)
 
-arguments_of_fit : (at : ℕ) (scope : Scope) (call : CallName) (es : List (Placed Part)) → length es ≡ argument_count call → AllByRecursion Good es
+arguments_of_fit : (at : ℕ) (scope : Scope) (call : CallName) (es : List (Placed Part)) → length es ≡ argument_count call → AllByRecursion (Good scope) es
     → Gives (Fits scope) (arguments_of at scope call es)
 arguments_of_fit at scope A.Length es long h = fixed_fits scope Q.Length int32 (S.Text ∷ []) es long h F.text_length
 arguments_of_fit at scope A.Substring es long h = fixed_fits scope Q.Substring S.Text (S.Text ∷ int32 ∷ int32 ∷ []) es long h F.substring
@@ -535,104 +536,111 @@ arguments_of_fit at scope A.Min (e ∷ es) long h = on_argument_fits at scope A.
 arguments_of_fit at scope A.Max (e ∷ es) long h = on_argument_fits at scope A.Max e es long h.0 h.1
 arguments_of_fit at scope _ [] long h = tt
 
-pub built_in_fits : (at : ℕ) (scope : Scope) (call : CallName) (es : List (Placed Part)) → AllByRecursion Good es → Gives (Fits scope) (built_in_typed at scope call es)
+pub built_in_fits : (at : ℕ) (scope : Scope) (call : CallName) (es : List (Placed Part)) → AllByRecursion (Good scope) es → Gives (Fits scope) (built_in_typed at scope call es)
 built_in_fits at scope call es h =
     gives_if (Fits scope) (length es == argument_count call) _ _ (λ same. arguments_of_fit at scope call es (eqb-true (length es) (argument_count call) same) h) tt
 
-call_fits : (at : ℕ) (scope : Scope) (name : List ℕ) (es : List (Placed Part)) (o : Option CallName) → AllByRecursion Good es
+call_fits : (at : ℕ) (scope : Scope) (name : List ℕ) (es : List (Placed Part)) (o : Option CallName) → AllByRecursion (Good scope) es
     → Gives (Fits scope) (call_typed at scope name es o)
 call_fits at scope name es (Some call) h = built_in_fits at scope call es h
 call_fits at scope name es None h = function_fits at scope name es (function_of scope name) (function_there scope name) h
 
 -- ---- expressions
 
--- what is known of the parts of an expression, as its parts
-good_part : (e : Expr) → Sound (part e.what) → Good (part_of e)
-good_part e h = (keeps e.what, h)
+module _ (scope : Scope) (fine : DollarsFit scope.dollars) where
+  -- what is known of the parts of an expression, as its parts
+  good_part : (e : Expr) → Sound scope (part e.what) → Good scope (part_of e)
+  good_part e h = (keeps e.what, h)
 
-abbrev IsSound : ExprKind → Type 0
-IsSound e = Sound (part e)
+  abbrev IsSound : ExprKind → Type 0
+  IsSound e = Sound scope (part e)
 
-good_parts : (es : List Expr) → AllByRecursion (OfExpr IsSound) es → AllByRecursion Good (map part_of es)
-good_parts [] h = tt
-good_parts (e ∷ es) h = (good_part e h.0, good_parts es h.1)
+  good_parts : (es : List Expr) → AllByRecursion (OfExpr IsSound) es → AllByRecursion (Good scope) (map part_of es)
+  good_parts [] h = tt
+  good_parts (e ∷ es) h = (good_part e h.0, good_parts es h.1)
 
-good_entries : (es : List (Expr × Expr)) → AllByRecursion (OfEntry IsSound) es → AllByRecursion GoodEntry (map (λ e. (part_of e.0, part_of e.1)) es)
-good_entries [] h = tt
-good_entries (e ∷ es) h = ((good_part e.0 h.0.0, good_part e.1 h.0.1), good_entries es h.1)
+  good_entries : (es : List (Expr × Expr)) → AllByRecursion (OfEntry IsSound) es → AllByRecursion (GoodEntry scope) (map (λ e. (part_of e.0, part_of e.1)) es)
+  good_entries [] h = tt
+  good_entries (e ∷ es) h = ((good_part e.0 h.0.0, good_part e.1 h.0.1), good_entries es h.1)
 
-abbrev part_in : Field Expr → Field (Placed Part)
-part_in f = record { name = f.name; value = part_of f.value }
+  abbrev part_in : Field Expr → Field (Placed Part)
+  part_in f = record { name = f.name; value = part_of f.value }
 
-good_fields : (fs : List (Field Expr)) → AllByRecursion (OfField IsSound) fs → AllByRecursion GoodField (map part_in fs)
-good_fields [] h = tt
-good_fields (f ∷ fs) h = (good_part f.value h.0, good_fields fs h.1)
+  good_fields : (fs : List (Field Expr)) → AllByRecursion (OfField IsSound) fs → AllByRecursion (GoodField scope) (map part_in fs)
+  good_fields [] h = tt
+  good_fields (f ∷ fs) h = (good_part f.value h.0, good_fields fs h.1)
 
--- for what keeps members and hands on indices
-good_step : (g : Step Expr → Step (Placed Part)) → ((m : Placed (List ℕ)) → N.Member m ≡ g (N.Member m)) → ((e : Expr) → N.Index (part_of e) ≡ g (N.Index e))
-    → (s : Step Expr) → OfStep IsSound s → GoodStep (g s)
-good_step g members indices (N.Member m) h = subst GoodStep (members m) tt
-good_step g members indices (N.Index e) h = subst GoodStep (indices e) (good_part e h)
+  -- for what keeps members and hands on indices
+  good_step : (g : Step Expr → Step (Placed Part)) → ((m : Placed (List ℕ)) → N.Member m ≡ g (N.Member m)) → ((e : Expr) → N.Index (part_of e) ≡ g (N.Index e))
+      → (s : Step Expr) → OfStep IsSound s → GoodStep scope (g s)
+  good_step g members indices (N.Member m) h = subst (GoodStep scope) (members m) tt
+  good_step g members indices (N.Index e) h = subst (GoodStep scope) (indices e) (good_part e h)
 
-good_steps : (g : Step Expr → Step (Placed Part)) → ((m : Placed (List ℕ)) → N.Member m ≡ g (N.Member m)) → ((e : Expr) → N.Index (part_of e) ≡ g (N.Index e))
-    → (ss : List (Step Expr)) → AllByRecursion (OfStep IsSound) ss → AllByRecursion GoodStep (map g ss)
-good_steps g members indices [] h = tt
-good_steps g members indices (s ∷ ss) h = (good_step g members indices s h.0, good_steps g members indices ss h.1)
+  good_steps : (g : Step Expr → Step (Placed Part)) → ((m : Placed (List ℕ)) → N.Member m ≡ g (N.Member m)) → ((e : Expr) → N.Index (part_of e) ≡ g (N.Index e))
+      → (ss : List (Step Expr)) → AllByRecursion (OfStep IsSound) ss → AllByRecursion (GoodStep scope) (map g ss)
+  good_steps g members indices [] h = tt
+  good_steps g members indices (s ∷ ss) h = (good_step g members indices s h.0, good_steps g members indices ss h.1)
 
-number_fits : (scope : Scope) (at : ℕ) (n : Number) → Gives (Fits scope) (number_typed at n)
-number_fits scope at n =
-    gives_if (Fits scope) (nat_lt n.value (top n.kind)) _ _ (λ below.
-    F.literal (V.Int (pos n.value)) (S.Int n.kind) (fits_int n.kind (pos n.value) ∙ below)) tt
+  -- what stands for a `$` parameter fits everywhere
+  dollar_fits : (at : ℕ) (name : List ℕ) (o : Option (Found Typed)) → dollar_of scope.dollars name ≡ o → Gives (Fits scope) (dollar_typed at name o)
+  dollar_fits at name None is = tt
+  dollar_fits at name (Some (Ok t)) is = closed_law scope t.code t.kind (fine name t is)
+  dollar_fits at name (Some (Err refusal)) is = tt
 
-select_sound : (e : Expr) (ss : List (Step Expr)) → IsSound e.what → AllByRecursion (OfStep IsSound) ss → Sound (level_part (map-ExprKind ExprKind Part part (X.Select e ss)))
-select_sound e ss h g at scope wanted =
-    let name = (part_of e).what.form.name in
-    after_fits at scope wanted (of_base name (part_of e) scope _) (of_base_fits name (part_of e) scope _ (good_part e h) (good_steps _ (λ m. refl) (λ i. refl) ss g))
+  number_fits : (at : ℕ) (n : Number) → Gives (Fits scope) (number_typed at n)
+  number_fits at n =
+      gives_if (Fits scope) (nat_lt n.value (top n.kind)) _ _ (λ below.
+      F.literal (V.Int (pos n.value)) (S.Int n.kind) (fits_int n.kind (pos n.value) ∙ below)) tt
 
-binary_sound : (op : BinaryOperator) (l r : Expr) → IsSound l.what → IsSound r.what → Sound (level_part (map-ExprKind ExprKind Part part (X.Binary op l r)))
-binary_sound op l r h g at scope wanted =
-    let asks = (part_of l).what.form.asks in
-    let marker = (part_of r).what.form.marker in
-    let asked = marker_asked (scope.punct && asks) op marker in
-    after_fits at scope wanted (binary_or_marker asked scope op (part_of l) (part_of r))
-    (binary_or_marker_fits asked scope op (part_of l) (part_of r) (asks_fits scope (scope.punct && asks) op marker (λ yes. first_so scope.punct asks yes)) (good_part l h) (good_part r g))
+  select_sound : (e : Expr) (ss : List (Step Expr)) → IsSound e.what → AllByRecursion (OfStep IsSound) ss → Sound scope (level_part (map-ExprKind ExprKind Part part (X.Select e ss)))
+  select_sound e ss h g at wanted =
+      let name = (part_of e).what.form.name in
+      after_fits at scope wanted (of_base name (part_of e) scope _) (of_base_fits name (part_of e) scope _ (good_part e h) (good_steps _ (λ m. refl) (λ i. refl) ss g))
 
-fit_steps : ExprSteps IsSound
-fit_steps = record {
-  name = λ n. subst Sound (part_at (E.Name n) (X.Name n) (E.outs-Name n)) (λ at scope wanted. after_fits at scope wanted (meant_typed at n (meant scope n)) (name_fits scope at n));
-  dollar = λ n. subst Sound (part_at (E.Dollar n) (X.Dollar n) (E.outs-Dollar n)) (λ at scope wanted. tt);
-  number = λ n. subst Sound (part_at (E.Number n) (X.Number n) (E.outs-Number n)) (λ at scope wanted. after_fits at scope wanted (number_typed at n) (number_fits scope at n));
-  text = λ bytes. subst Sound (part_at (E.Text bytes) (X.Text bytes) (E.outs-Text bytes)) (λ at scope wanted.
-      as_wanted_fits at scope wanted (typed S.Text (C.Literal (V.Text bytes))) (F.literal (V.Text bytes) S.Text (fits_text bytes)));
-  bool = λ b. subst Sound (part_at (E.Bool b) (X.Bool b) (E.outs-Bool b)) (λ at scope wanted.
-      as_wanted_fits at scope wanted (typed S.Bool (C.Literal (V.Bool b))) (F.literal (V.Bool b) S.Bool (fits_bool b)));
-  group = λ e h. subst Sound (part_at (E.Group e) (X.Group e) (E.outs-Group e)) (λ at scope wanted. h e.at scope wanted);
-  list = λ es h. subst Sound (part_at (E.List es) (X.List es) (E.outs-List es)) (λ at scope wanted.
-      list_fits at scope (wants_list wanted) (map part_of es) (good_parts es h));
-  map_of = λ es h. subst Sound (part_at (E.Map es) (X.Map es) (E.outs-Map es)) (λ at scope wanted.
-      map_fits at scope (wants_map wanted) (map (λ e. (part_of e.0, part_of e.1)) es) (good_entries es h));
-  tuple = λ fs h. subst Sound (part_at (E.Tuple fs) (X.Tuple fs) (E.outs-Tuple fs)) (λ at scope wanted.
-      tuple_fits at scope (wants_tuple wanted) (map part_in fs) (good_fields fs h));
-  call = λ n es h. subst Sound (part_at (E.Call n es) (X.Call n es) (E.outs-Call n es)) (λ at scope wanted.
-      after_fits at scope wanted (call_typed at scope n (map part_of es) (call_of n)) (call_fits at scope n (map part_of es) (call_of n) (good_parts es h)));
-  select = λ e ss h g. subst Sound (part_at (E.Select e ss) (X.Select e ss) (E.outs-Select e ss)) (select_sound e ss h g);
-  unary = λ ps e h. subst Sound (part_at (E.Unary ps e) (X.Unary ps e) (E.outs-Unary ps e)) (λ at scope wanted.
-      after_fits at scope wanted (unary_typed scope ps (part_of e)) (unary_fits scope ps (part_of e) (good_part e h)));
-  binary = λ op l r h g. subst Sound (part_at (E.Binary op l r) (X.Binary op l r) (E.outs-Binary op l r)) (binary_sound op l r h g);
-  conditional = λ c a b f g h. subst Sound (part_at (E.Conditional c a b) (X.Conditional c a b) (E.outs-Conditional c a b)) (λ at scope wanted.
-      conditional_fits scope wanted (part_of c) (part_of a) (part_of b) (good_part c f) (good_part a g) (good_part b h));
-}
+  binary_sound : (op : BinaryOperator) (l r : Expr) → IsSound l.what → IsSound r.what → Sound scope (level_part (map-ExprKind ExprKind Part part (X.Binary op l r)))
+  binary_sound op l r h g at wanted =
+      let asks = (part_of l).what.form.asks in
+      let marker = (part_of r).what.form.marker in
+      let asked = marker_asked (scope.punct && asks) op marker in
+      after_fits at scope wanted (binary_or_marker asked scope op (part_of l) (part_of r))
+      (binary_or_marker_fits asked scope op (part_of l) (part_of r) (asks_fits scope (scope.punct && asks) op marker (λ yes. first_so scope.punct asks yes)) (good_part l h) (good_part r g))
 
-sound : (e : ExprKind) → Sound (part e)
-sound = expr_ind IsSound fit_steps
+  fit_steps : ExprSteps IsSound
+  fit_steps = record {
+    name = λ n. subst (Sound scope) (part_at (E.Name n) (X.Name n) (E.outs-Name n)) (λ at wanted. after_fits at scope wanted (meant_typed at n (meant scope n)) (name_fits scope at n));
+    dollar = λ n. subst (Sound scope) (part_at (E.Dollar n) (X.Dollar n) (E.outs-Dollar n)) (λ at wanted. after_fits at scope wanted (dollar_typed at n (dollar_of scope.dollars n)) (dollar_fits at n (dollar_of scope.dollars n) refl));
+    number = λ n. subst (Sound scope) (part_at (E.Number n) (X.Number n) (E.outs-Number n)) (λ at wanted. after_fits at scope wanted (number_typed at n) (number_fits at n));
+    text = λ bytes. subst (Sound scope) (part_at (E.Text bytes) (X.Text bytes) (E.outs-Text bytes)) (λ at wanted.
+        as_wanted_fits at scope wanted (typed S.Text (C.Literal (V.Text bytes))) (F.literal (V.Text bytes) S.Text (fits_text bytes)));
+    bool = λ b. subst (Sound scope) (part_at (E.Bool b) (X.Bool b) (E.outs-Bool b)) (λ at wanted.
+        as_wanted_fits at scope wanted (typed S.Bool (C.Literal (V.Bool b))) (F.literal (V.Bool b) S.Bool (fits_bool b)));
+    group = λ e h. subst (Sound scope) (part_at (E.Group e) (X.Group e) (E.outs-Group e)) (λ at wanted. h e.at wanted);
+    list = λ es h. subst (Sound scope) (part_at (E.List es) (X.List es) (E.outs-List es)) (λ at wanted.
+        list_fits at scope (wants_list wanted) (map part_of es) (good_parts es h));
+    map_of = λ es h. subst (Sound scope) (part_at (E.Map es) (X.Map es) (E.outs-Map es)) (λ at wanted.
+        map_fits at scope (wants_map wanted) (map (λ e. (part_of e.0, part_of e.1)) es) (good_entries es h));
+    tuple = λ fs h. subst (Sound scope) (part_at (E.Tuple fs) (X.Tuple fs) (E.outs-Tuple fs)) (λ at wanted.
+        tuple_fits at scope (wants_tuple wanted) (map part_in fs) (good_fields fs h));
+    call = λ n es h. subst (Sound scope) (part_at (E.Call n es) (X.Call n es) (E.outs-Call n es)) (λ at wanted.
+        after_fits at scope wanted (call_typed at scope n (map part_of es) (call_of n)) (call_fits at scope n (map part_of es) (call_of n) (good_parts es h)));
+    select = λ e ss h g. subst (Sound scope) (part_at (E.Select e ss) (X.Select e ss) (E.outs-Select e ss)) (select_sound e ss h g);
+    unary = λ ps e h. subst (Sound scope) (part_at (E.Unary ps e) (X.Unary ps e) (E.outs-Unary ps e)) (λ at wanted.
+        after_fits at scope wanted (unary_typed scope ps (part_of e)) (unary_fits scope ps (part_of e) (good_part e h)));
+    binary = λ op l r h g. subst (Sound scope) (part_at (E.Binary op l r) (X.Binary op l r) (E.outs-Binary op l r)) (binary_sound op l r h g);
+    conditional = λ c a b f g h. subst (Sound scope) (part_at (E.Conditional c a b) (X.Conditional c a b) (E.outs-Conditional c a b)) (λ at wanted.
+        conditional_fits scope wanted (part_of c) (part_of a) (part_of b) (good_part c f) (good_part a g) (good_part b h));
+  }
 
--- an expression, as a part of another or of a statement
-pub good : (e : Expr) → Good (part_of e)
-good e = good_part e (sound e.what)
+  sound : (e : ExprKind) → Sound scope (part e)
+  sound = expr_ind IsSound fit_steps
 
-pub all_good : (es : List Expr) → AllByRecursion Good (map part_of es)
-all_good [] = tt
-all_good (e ∷ es) = (good e, all_good es)
+  -- an expression, as a part of another or of a statement
+  pub good : (e : Expr) → Good scope (part_of e)
+  good e = good_part e (sound e.what)
+
+  pub all_good : (es : List Expr) → AllByRecursion (Good scope) (map part_of es)
+  all_good [] = tt
+  all_good (e ∷ es) = (good e, all_good es)
 
 pub fit_law : FitLaw
-fit_law scope e wanted t found = gives_from (Fits scope) (typing scope e wanted) t (good_any (part_of e) (good e) scope wanted) found
+fit_law scope e wanted t fine found = gives_from (Fits scope) (typing scope e wanted) t (good_any scope (part_of e) (good scope fine e) wanted) found

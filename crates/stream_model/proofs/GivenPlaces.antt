@@ -15,7 +15,7 @@ use Rattle.spl_tree.specs.declared.expression.Placed.{Placed}
 use Rattle.spl_tree.specs.declared.expression.Step.{Step}
 use Rattle.stream_model.specs.declared.scope.Scope.{Scope}
 use Rattle.stream_model.specs.declared.scope.Typed.{Typed}
-use Rattle.stream_model.specs.declared.scope.TypeError.TheVariants as N
+use Rattle.stream_model.specs.declared.scope.CheckError.TheVariants as N
 use Rattle.stream_model.specs.declared.scope.Variable.{Variable}
 use Rattle.stream_model.specs.Scopes.{At, OfVariable, meant, variable_meant, variable_of, attributes_of, port_of}
 use Rattle.stream_model.specs.Typing.{Found, after, as_wanted, refused, Part, meant_typed, steps_typed, selected, select_typed, of_port, of_base, is_mutable, if_mutable, part, typed, typing}

@@ -7,8 +7,10 @@ pub mod FileRows
 pub mod Standing
 pub mod SameTypes
 pub mod Wanting
+pub mod Mentioning
 pub mod Counting
 pub mod Places
+pub mod Closed
 pub mod Fitting
 pub mod PlaceTyping
 pub mod GivenPlaces
@@ -40,6 +42,7 @@ pub mod Agreeing
 pub mod Renaming
 pub mod Naming
 pub mod TwoPorts
+pub mod SomeParameters
 pub mod TwoStatements
 pub mod KeptInputs
 pub mod Flattening

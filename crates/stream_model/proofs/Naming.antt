@@ -105,8 +105,8 @@ module _ (scope : Scope) (calls : Calls) (w v : World Slot) (values : (s : Slot)
     steps_agreed _ _ _ (F.at_key x steps k t u f h) = keys_agree calls w v x x steps steps (code_agrees x k f) (steps_agreed steps t u h)
 
 pub names_law : NamesLaw
-names_law calls scope e wanted t found env turns =
+names_law calls scope e wanted t fine found env turns =
     let named = named_world scope env in
     renaming_law calls (written scope) t.code named turns
     ∙ code_agrees scope calls (before_renaming (written scope) named) (world_of env) (λ s u h. ap (option_and_then (slot_value env)) (written_law scope s u h)) refl
-    t.code t.kind (fit_law scope e wanted t found) turns
+    t.code t.kind (fit_law scope e wanted t fine found) turns

@@ -35,6 +35,7 @@ use Rattle.stream_model.specs.CodeFits.{CodeFits, SlotFits, StepsLead}
 use Rattle.stream_model.specs.Scopes.{At, at_place, Meant, OfVariable, OfAttribute, OfPort, Nothing, meant, variable_meant, variable_of, attributes_of, attribute_of, port_of}
 use Rattle.stream_model.specs.Typing.{Wanted, Found, after, mismatch, as_wanted, same_types, Part, part_typed, meant_typed, steps_typed, selected, select_typed, port_attribute, of_port, of_base, is_mutable, if_mutable, level_form, level_part, part, typed, typing}
 use Rattle.stream_model.specs.StatementTyping.{TypedPlace, level_variable, level_place, place_given, place_typing}
+use Rattle.stream_model.specs.FitLaws.{DollarsFit}
 use Rattle.stream_model.specs.PlaceLaws.{PlaceTypeLaw, read_code, PlaceReadsLaw}
 use Rattle.stream_model.proofs.Standing.{Bears, variable_there}
 use Rattle.stream_model.proofs.Wanting.{Gives, gives_after, gives_on, gives_both, gives_if, gives_from, Some_thing, gives_some, part_of, part_at}
@@ -236,37 +237,51 @@ root_found : (scope : Scope) (root : Option (List ℕ)) (r : Found Typed)
 root_found scope root (Ok t) h = h
 root_found scope root (Err refusal) h = tt
 
+part_root : (e : Expr) (scope : Scope) → Gives (OfRoot scope (part e.what).form.root) (typing scope e None)
+part_root e scope = root_found scope (part e.what).form.root (typing scope e None) (λ name v root is. rooted e.what e.at scope None name v root is)
+
 -- the code fits, and where it reads a place that is one of the root name
 abbrev pub Rests : Scope → Option (List ℕ) → Typed → Type 0
 Rests scope root t = Fits scope t × OfRoot scope root t
 
-pub part_rests : (e : Expr) (scope : Scope) → Gives (Rests scope (part e.what).form.root) (typing scope e None)
-part_rests e scope =
-    gives_both (Fits scope) (OfRoot scope (part e.what).form.root) (typing scope e None) (good_any (part_of e) (good e) scope None)
-    (root_found scope (part e.what).form.root (typing scope e None) (λ name v root is. rooted e.what e.at scope None name v root is))
+pub part_rests : (e : Expr) (scope : Scope) → DollarsFit scope.dollars → Gives (Rests scope (part e.what).form.root) (typing scope e None)
+part_rests e scope fine =
+    gives_both (Fits scope) (OfRoot scope (part e.what).form.root) (typing scope e None) (good_any scope (part_of e) (good scope fine e) None) (part_root e scope)
 
 -- the place of what a typed expression reads
-pub record PlaceOf (scope : Scope) (t : Typed) (p : TypedPlace) : Type 0 where
-  pub fit : PlaceFits scope p.place t.kind
+pub record PlaceOf (t : Typed) (p : TypedPlace) : Type 0 where
   pub kind : t.kind ≡ p.kind
   pub code : t.code ≡ read_code p.place
 
-pub given_place : (at : ℕ) (scope : Scope) (root : Option (List ℕ)) (t : Typed) → Rests scope root t → MayChange scope root
-    → Gives (PlaceOf scope t) (place_given at t.kind (level_place (out-Code Slot t.code)))
-given_place at scope root t rests may = of_place (level_place (out-Code Slot t.code)) refl
-  where
-    v : (v : At Variable) × (variable_of scope may.0 ≡ Some v) × IsTrue v.what.mutable
-    v = variable_found (variable_of scope may.0) may.2
+-- the place fits the scope at a type
+abbrev pub FitsPlace : Scope → SplType → TypedPlace → Type 0
+FitsPlace scope t p = PlaceFits scope p.place t
 
-    there : slice_get scope.vars v.0.place ≡ Some v.0.what
-    there = (subst (Bears (λ v. v.name) scope.vars may.0) v.1 (variable_there scope may.0)).0
+module _ (at : ℕ) (scope : Scope) (root : Option (List ℕ)) (t : Typed) (of_root : OfRoot scope root t) (may : MayChange scope root) where
+  the_variable : (v : At Variable) × (variable_of scope may.0 ≡ Some v) × IsTrue v.what.mutable
+  the_variable = variable_found (variable_of scope may.0) may.2
 
-    of_place : (o : Option Place) → level_place (out-Code Slot t.code) ≡ o → Gives (PlaceOf scope t) (place_given at t.kind o)
-    of_place None e = tt
-    of_place (Some place) e =
-        let reads = rests.1 may.0 v.0 may.1 v.1 place e in
-        let stands = level_stands scope (out-Code Slot t.code) t.kind place (parts scope t.code t.kind rests.0) e in
-        record { fit = stands_fits scope place t.kind v.0.what stands (ap (slice_get scope.vars) reads.0 ∙ there) v.2; kind = refl; code = reads.1 }
+  variable_stands : slice_get scope.vars the_variable.0.place ≡ Some the_variable.0.what
+  variable_stands = (subst (Bears (λ v. v.name) scope.vars may.0) the_variable.1 (variable_there scope may.0)).0
+
+  place_reads : (place : Place) → level_place (out-Code Slot t.code) ≡ Some place → (place.variable ≡ the_variable.0.place) × (t.code ≡ read_code place)
+  place_reads place e = of_root may.0 the_variable.0 may.1 the_variable.1 place e
+
+  pub given_place : Gives (PlaceOf t) (place_given at t.kind (level_place (out-Code Slot t.code)))
+  given_place = of_place (level_place (out-Code Slot t.code)) refl
+    where
+      of_place : (o : Option Place) → level_place (out-Code Slot t.code) ≡ o → Gives (PlaceOf t) (place_given at t.kind o)
+      of_place None e = tt
+      of_place (Some place) e = record { kind = refl; code = (place_reads place e).1 }
+
+  pub given_fits : Fits scope t → Gives (FitsPlace scope t.kind) (place_given at t.kind (level_place (out-Code Slot t.code)))
+  given_fits fit = of_place (level_place (out-Code Slot t.code)) refl
+    where
+      of_place : (o : Option Place) → level_place (out-Code Slot t.code) ≡ o → Gives (FitsPlace scope t.kind) (place_given at t.kind o)
+      of_place None e = tt
+      of_place (Some place) e =
+          let stands = level_stands scope (out-Code Slot t.code) t.kind place (parts scope t.code t.kind fit) e in
+          stands_fits scope place t.kind the_variable.0.what stands (ap (slice_get scope.vars) (place_reads place e).0 ∙ variable_stands) the_variable.2
 
 -- ---- the place of an expression
 
@@ -276,14 +291,12 @@ gives_known (Err refusal) = tt
 
 -- the place is what the expression reads, and one of a variable that may be changed
 pub record PlaceIn (scope : Scope) (e : Expr) (p : TypedPlace) : Type 0 where
-  pub fit : PlaceFits scope p.place p.kind
   pub reads : typing scope e None ≡ Ok (typed p.kind (read_code p.place))
   pub may : MayChange scope (part e.what).form.root
 
-place_in : (scope : Scope) (e : Expr) (t : Typed) (p : TypedPlace) → typing scope e None ≡ Ok t → MayChange scope (part e.what).form.root → PlaceOf scope t p
+place_in : (scope : Scope) (e : Expr) (t : Typed) (p : TypedPlace) → typing scope e None ≡ Ok t → MayChange scope (part e.what).form.root → PlaceOf t p
     → PlaceIn scope e p
 place_in scope e t p is may of = record {
-  fit = subst (PlaceFits scope p.place) of.kind of.fit;
   reads = is ∙ (λ i. Ok (typed (of.kind i) (of.code i)));
   may = may;
 }
@@ -291,14 +304,25 @@ place_in scope e t p is may of = record {
 pub gives_place : (scope : Scope) (e : Expr) → Gives (PlaceIn scope e) (place_typing scope e)
 gives_place scope e =
     let root = (part e.what).form.root in
-    gives_after (λ t. (typing scope e None ≡ Ok t) × Rests scope root t) (PlaceIn scope e) (typing scope e None) _
-    (gives_both (λ t. typing scope e None ≡ Ok t) (Rests scope root) (typing scope e None) (gives_known (typing scope e None)) (part_rests e scope)) (λ t known.
+    gives_after (λ t. (typing scope e None ≡ Ok t) × OfRoot scope root t) (PlaceIn scope e) (typing scope e None) _
+    (gives_both (λ t. typing scope e None ≡ Ok t) (OfRoot scope root) (typing scope e None) (gives_known (typing scope e None)) (part_root e scope)) (λ t known.
     gives_if_mutable (PlaceIn scope e) e.at scope (part_of e) root _ (λ may.
-    gives_on (PlaceOf scope t) (PlaceIn scope e) (place_given e.at t.kind (level_place (out-Code Slot t.code))) (given_place e.at scope root t known.1 may)
+    gives_on (PlaceOf t) (PlaceIn scope e) (place_given e.at t.kind (level_place (out-Code Slot t.code))) (given_place e.at scope root t known.1 may)
     (λ p of. place_in scope e t p known.0 may of)))
 
+-- it fits, where what stands for `$` parameters does
+pub place_fits : (scope : Scope) → DollarsFit scope.dollars → (e : Expr) → Gives (λ p. PlaceFits scope p.place p.kind) (place_typing scope e)
+place_fits scope fine e =
+    let root = (part e.what).form.root in
+    gives_after (Rests scope root) (λ p. PlaceFits scope p.place p.kind) (typing scope e None) _ (part_rests e scope fine) (λ t rests.
+    gives_if_mutable (λ p. PlaceFits scope p.place p.kind) e.at scope (part_of e) root _ (λ may.
+    gives_on (λ p. PlaceOf t p × FitsPlace scope t.kind p) (λ p. PlaceFits scope p.place p.kind) (place_given e.at t.kind (level_place (out-Code Slot t.code)))
+    (gives_both (PlaceOf t) (FitsPlace scope t.kind) (place_given e.at t.kind (level_place (out-Code Slot t.code)))
+    (given_place e.at scope root t rests.1 may) (given_fits e.at scope root t rests.1 may rests.0)) (λ p of.
+    subst (PlaceFits scope p.place) of.0.kind of.1)))
+
 pub place_type_law : PlaceTypeLaw
-place_type_law scope e p found = (gives_from (PlaceIn scope e) (place_typing scope e) p (gives_place scope e) found).fit
+place_type_law scope e p fine found = gives_from (λ p. PlaceFits scope p.place p.kind) (place_typing scope e) p (place_fits scope fine e) found
 
 pub place_reads_law : PlaceReadsLaw
 place_reads_law scope e p found = (gives_from (PlaceIn scope e) (place_typing scope e) p (gives_place scope e) found).reads

@@ -33,45 +33,46 @@ use Rattle.stream_model.specs.BodyFits as G
 use Rattle.stream_model.specs.BodyFits.{PlaceFits}
 use Rattle.stream_model.specs.CodeFits as F
 use Rattle.stream_model.specs.CodeFits.{CodeFits, ArgumentsFit}
-use Rattle.stream_model.specs.Scopes.{At, function_of}
+use Rattle.stream_model.specs.FitLaws.{DollarsFit}
+use Rattle.stream_model.specs.Scopes.{At, function_of, unresolved_of}
 use Rattle.stream_model.specs.Typing.{Found, after, as_wanted, same_types, mismatch, wrong_call, Part, part_typed, OnFirst, level_first, first_typed, fixed_typed, no_value, level_operator, operands_typed, arguments_typed, int32, level_changed, changed_typed, argument_count, arguments_of, built_in_typed, call_of, part, typing}
 use Rattle.stream_model.specs.StatementTyping.{as_part, level_place, place_given, place_typing, assignment_typing, compound_typing, change_made, change_typing, built_in_statement, function_statement, call_statement, level_call, call_typing}
 use Rattle.stream_model.specs.PlaceLaws.{FitsAnywhere, AssignmentTypeLaw, CompoundTypeLaw, CallTypeLaw}
 use Rattle.stream_model.proofs.SameTypes.{equal_from_same}
 use Rattle.stream_model.proofs.Standing.{Bears, function_there}
-use Rattle.stream_model.proofs.Wanting.{Gives, gives_after, gives_on, gives_both, gives_if, gives_from, Some_thing, gives_some, rolled, part_of}
+use Rattle.stream_model.proofs.Wanting.{Gives, gives_after, gives_on, gives_both, gives_if, gives_from, gives_no_call, Some_thing, gives_some, rolled, part_of}
 use Rattle.stream_model.proofs.Fitting.{Fits, FitsAt, Good, good, all_good, good_any, good_at, operator_fits, operands_fit, arguments_fit, built_in_fits}
-use Rattle.stream_model.proofs.PlaceTyping.{MayChange, gives_if_mutable, Rests, part_rests, PlaceOf, given_place, PlaceIn, gives_place}
+use Rattle.stream_model.proofs.PlaceTyping.{MayChange, gives_if_mutable, Rests, part_rests, FitsPlace, given_fits, place_fits}
 
 -- ---- assignments
 
 put_fits : (scope : Scope) (place : Place) (x : Code Slot) (t : SplType) → PlaceFits scope place t → CodeFits scope x t → FitsAnywhere scope (Y.Change place (H.Put x))
 put_fits scope place x t f h purpose l = G.change l scope place (H.Put x) t f (G.puts x t h)
 
-assignment_fits : (scope : Scope) (e right : Expr) → Gives (FitsAnywhere scope) (assignment_typing scope e right)
-assignment_fits scope e right =
-    gives_after (PlaceIn scope e) (FitsAnywhere scope) (place_typing scope e) _ (gives_place scope e) (λ x of.
-    gives_after (FitsAt scope x.kind) (FitsAnywhere scope) (typing scope right (Some x.kind)) _ (good_at (part_of right) (good right) scope x.kind) (λ y h.
-    put_fits scope x.place y.code x.kind of.fit h))
+assignment_fits : (scope : Scope) → DollarsFit scope.dollars → (e right : Expr) → Gives (FitsAnywhere scope) (assignment_typing scope e right)
+assignment_fits scope fine e right =
+    gives_after (λ p. PlaceFits scope p.place p.kind) (FitsAnywhere scope) (place_typing scope e) _ (place_fits scope fine e) (λ x fit.
+    gives_after (FitsAt scope x.kind) (FitsAnywhere scope) (typing scope right (Some x.kind)) _ (good_at scope (part_of right) (good scope fine right) x.kind) (λ y h.
+    put_fits scope x.place y.code x.kind fit h))
 
 pub assignment_type_law : AssignmentTypeLaw
-assignment_type_law scope e right x found = gives_from (FitsAnywhere scope) (assignment_typing scope e right) x (assignment_fits scope e right) found
+assignment_type_law scope e right x fine found = gives_from (FitsAnywhere scope) (assignment_typing scope e right) x (assignment_fits scope fine e right) found
 
 as_wanted_at : (at : ℕ) (scope : Scope) (u : SplType) (t : Typed) → Fits scope t → Gives (FitsAt scope u) (as_wanted at (Some u) t)
 as_wanted_at at scope u t h =
     gives_if (FitsAt scope u) (same_types t.kind u) (Ok t) (mismatch at) (λ same. subst (CodeFits scope t.code) (equal_from_same t.kind u same) h) tt
 
-compound_fits : (scope : Scope) (op : BinaryOperator) (e right : Expr) → Gives (FitsAnywhere scope) (compound_typing scope op e right)
-compound_fits scope op e right =
-    gives_after (PlaceIn scope e) (FitsAnywhere scope) (place_typing scope e) _ (gives_place scope e) (λ x of.
-    gives_after (Fits scope) (FitsAnywhere scope) (typing scope e None) _ (good_any (part_of e) (good e) scope None) (λ t g.
+compound_fits : (scope : Scope) → DollarsFit scope.dollars → (op : BinaryOperator) (e right : Expr) → Gives (FitsAnywhere scope) (compound_typing scope op e right)
+compound_fits scope fine op e right =
+    gives_after (λ p. PlaceFits scope p.place p.kind) (FitsAnywhere scope) (place_typing scope e) _ (place_fits scope fine e) (λ x fit.
+    gives_after (Fits scope) (FitsAnywhere scope) (typing scope e None) _ (good_any scope (part_of e) (good scope fine e) None) (λ t g.
     gives_after (Fits scope) (FitsAnywhere scope) (operands_typed scope t (as_part e) (as_part right) (level_operator op (out-SplType t.kind))) _
-    (operands_fit scope t (part_of e) (part_of right) (level_operator op (out-SplType t.kind)) g (good right) (operator_fits op t.kind (out-SplType t.kind) refl)) (λ y h.
+    (operands_fit scope t (part_of e) (part_of right) (level_operator op (out-SplType t.kind)) g (good scope fine right) (operator_fits op t.kind (out-SplType t.kind) refl)) (λ y h.
     gives_after (FitsAt scope x.kind) (FitsAnywhere scope) (as_wanted e.at (Some x.kind) y) _ (as_wanted_at e.at scope x.kind y h) (λ z i.
-    put_fits scope x.place z.code x.kind of.fit i))))
+    put_fits scope x.place z.code x.kind fit i))))
 
 pub compound_type_law : CompoundTypeLaw
-compound_type_law scope op e right x found = gives_from (FitsAnywhere scope) (compound_typing scope op e right) x (compound_fits scope op e right) found
+compound_type_law scope op e right x fine found = gives_from (FitsAnywhere scope) (compound_typing scope op e right) x (compound_fits scope fine op e right) found
 
 -- ---- calls that change a place
 
@@ -95,7 +96,7 @@ record Changing (scope : Scope) (root : Option (List ℕ)) (call : CallName) (y 
   may : MayChange scope root
 
 changing : (at : ℕ) (scope : Scope) (e : Placed Part) (es : List (Placed Part)) (call : CallName) (y : SplType-F SplType) (o : Option (List SplType)) → level_changed call y ≡ o
-    → length (e ∷ es) ≡ argument_count call → AllByRecursion Good es → Gives (Changing scope e.what.form.root call y) (changed_typed at scope e es o)
+    → length (e ∷ es) ≡ argument_count call → AllByRecursion (Good scope) es → Gives (Changing scope e.what.form.root call y) (changed_typed at scope e es o)
 changing at scope e es call y None is long h = tt
 changing at scope e es call y (Some types) is long h =
     let count : argument_count call ≡ suc (length types) = changed_count call y types is in
@@ -131,27 +132,27 @@ change_made_fits at scope A.ClearM place t (T.Map k u) types xs e is fit f =
     clear_fits at scope place (S.Map k u) xs (subst (PlaceFits scope place) (rolled t (T.Map k u) (S.Map k u) e (S.rolls-Map k u)) f) (G.clears_map k u)
 change_made_fits at scope _ place t _ types xs e is fit f = absurd cc
 
-change_fits : (at : ℕ) (scope : Scope) (call : CallName) (e : Expr) (es : List Expr) → length (map as_part (e ∷ es)) ≡ argument_count call
+change_fits : (at : ℕ) (scope : Scope) → DollarsFit scope.dollars → (call : CallName) (e : Expr) (es : List Expr) → length (map as_part (e ∷ es)) ≡ argument_count call
     → Gives (FitsAnywhere scope) (change_typing at scope call (map as_part (e ∷ es)))
-change_fits at scope call e es long =
+change_fits at scope fine call e es long =
     let root = (part e.what).form.root in
     let others = map as_part es in
-    gives_after (Rests scope root) (FitsAnywhere scope) (part_typed (as_part e) scope None) _ (part_rests e scope) (λ x rests.
+    gives_after (Rests scope root) (FitsAnywhere scope) (part_typed (as_part e) scope None) _ (part_rests e scope fine) (λ x rests.
     gives_after (Changing scope root call (out-SplType x.kind)) (FitsAnywhere scope) (changed_typed at scope (as_part e) others (level_changed call (out-SplType x.kind))) _
-    (changing at scope (as_part e) others call (out-SplType x.kind) (level_changed call (out-SplType x.kind)) refl long (all_good es)) (λ xs c.
-    gives_after (PlaceOf scope x) (FitsAnywhere scope) (place_given e.at x.kind (level_place (out-Code Slot x.code))) _ (given_place e.at scope root x rests c.may) (λ p of.
-    change_made_fits at scope call p.place x.kind (out-SplType x.kind) c.types xs refl c.is c.fit of.fit)))
+    (changing at scope (as_part e) others call (out-SplType x.kind) (level_changed call (out-SplType x.kind)) refl long (all_good scope fine es)) (λ xs c.
+    gives_after (FitsPlace scope x.kind) (FitsAnywhere scope) (place_given e.at x.kind (level_place (out-Code Slot x.code))) _ (given_fits e.at scope root x rests.1 c.may rests.0) (λ p fit.
+    change_made_fits at scope call p.place x.kind (out-SplType x.kind) c.types xs refl c.is c.fit fit)))
 
-change_or_wrong : (at : ℕ) (scope : Scope) (call : CallName) (es : List Expr) → length (map as_part es) ≡ argument_count call
+change_or_wrong : (at : ℕ) (scope : Scope) → DollarsFit scope.dollars → (call : CallName) (es : List Expr) → length (map as_part es) ≡ argument_count call
     → Gives (FitsAnywhere scope) (change_typing at scope call (map as_part es))
-change_or_wrong at scope call [] long = tt
-change_or_wrong at scope call (e ∷ es) long = change_fits at scope call e es long
+change_or_wrong at scope fine call [] long = tt
+change_or_wrong at scope fine call (e ∷ es) long = change_fits at scope fine call e es long
 
-counted_fits : (at : ℕ) (scope : Scope) (call : CallName) (es : List Expr)
+counted_fits : (at : ℕ) (scope : Scope) → DollarsFit scope.dollars → (call : CallName) (es : List Expr)
     → Gives (FitsAnywhere scope) (if length (map as_part es) == argument_count call then change_typing at scope call (map as_part es) else wrong_call at)
-counted_fits at scope call es =
+counted_fits at scope fine call es =
     gives_if (FitsAnywhere scope) (length (map as_part es) == argument_count call) _ _ (λ same.
-    change_or_wrong at scope call es (eqb-true (length (map as_part es)) (argument_count call) same)) tt
+    change_or_wrong at scope fine call es (eqb-true (length (map as_part es)) (argument_count call) same)) tt
 
 -- ---- calls that give a value
 
@@ -196,38 +197,40 @@ evaluate_fits : (scope : Scope) (t : Typed) → Fits scope t → IsBuiltIn t →
 evaluate_fits scope t fit is =
     subst (λ x. CodeFits scope x t.kind → FitsAnywhere scope (Y.Evaluate x)) (sym is.2) (λ f purpose l. G.evaluate l scope is.0 is.1 t.kind f) fit
 
-value_fits : (at : ℕ) (scope : Scope) (call : CallName) (es : List (Placed Part)) → AllByRecursion Good es
+value_fits : (at : ℕ) (scope : Scope) (call : CallName) (es : List (Placed Part)) → AllByRecursion (Good scope) es
     → Gives (FitsAnywhere scope) (after (built_in_typed at scope call es) (λ t. Ok (Y.Evaluate t.code)))
 value_fits at scope call es h =
     gives_after (λ t. Fits scope t × IsBuiltIn t) (FitsAnywhere scope) (built_in_typed at scope call es) _
     (gives_both (Fits scope) IsBuiltIn (built_in_typed at scope call es) (built_in_fits at scope call es h) (built_in_is at scope call es)) (λ t both.
     evaluate_fits scope t both.0 both.1)
 
-built_in_statement_fits : (at : ℕ) (scope : Scope) (call : CallName) (es : List Expr) → Gives (FitsAnywhere scope) (built_in_statement at scope call (map as_part es))
-built_in_statement_fits at scope A.AppendM es = counted_fits at scope A.AppendM es
-built_in_statement_fits at scope A.RemoveM es = counted_fits at scope A.RemoveM es
-built_in_statement_fits at scope A.ClearM es = counted_fits at scope A.ClearM es
-built_in_statement_fits at scope call es = value_fits at scope call (map as_part es) (all_good es)
+built_in_statement_fits : (at : ℕ) (scope : Scope) → DollarsFit scope.dollars → (call : CallName) (es : List Expr)
+    → Gives (FitsAnywhere scope) (built_in_statement at scope call (map as_part es))
+built_in_statement_fits at scope fine A.AppendM es = counted_fits at scope fine A.AppendM es
+built_in_statement_fits at scope fine A.RemoveM es = counted_fits at scope fine A.RemoveM es
+built_in_statement_fits at scope fine A.ClearM es = counted_fits at scope fine A.ClearM es
+built_in_statement_fits at scope fine call es = value_fits at scope call (map as_part es) (all_good scope fine es)
 
 -- ---- calls of functions
 
 function_statement_fits : (at : ℕ) (scope : Scope) (name : List ℕ) (es : List (Placed Part)) (o : Option (At Signature)) → Bears (λ f. f.name) scope.functions name o
-    → AllByRecursion Good es → Gives (FitsAnywhere scope) (function_statement at scope name es o)
-function_statement_fits at scope name es None h g = tt
+    → AllByRecursion (Good scope) es → Gives (FitsAnywhere scope) (function_statement at scope name es o)
+function_statement_fits at scope name es None h g = gives_no_call (FitsAnywhere scope) at name (unresolved_of scope name)
 function_statement_fits at scope name es (Some f) h g =
     gives_if (FitsAnywhere scope) (length es == length f.what.parameters) _ _ (λ same.
     gives_after (λ xs. ArgumentsFit scope xs f.what.parameters) (FitsAnywhere scope) (arguments_typed scope f.what.parameters es) _
     (arguments_fit scope f.what.parameters es (eqb-true (length es) (length f.what.parameters) same) g)
     (λ xs i purpose l. G.call l scope f.place xs f.what h.0 i)) tt
 
-call_statement_fits : (at : ℕ) (scope : Scope) (name : List ℕ) (es : List Expr) (o : Option CallName) → Gives (FitsAnywhere scope) (call_statement at scope name (map as_part es) o)
-call_statement_fits at scope name es (Some call) = built_in_statement_fits at scope call es
-call_statement_fits at scope name es None =
-    function_statement_fits at scope name (map as_part es) (function_of scope name) (function_there scope name) (all_good es)
+call_statement_fits : (at : ℕ) (scope : Scope) → DollarsFit scope.dollars → (name : List ℕ) (es : List Expr) (o : Option CallName)
+    → Gives (FitsAnywhere scope) (call_statement at scope name (map as_part es) o)
+call_statement_fits at scope fine name es (Some call) = built_in_statement_fits at scope fine call es
+call_statement_fits at scope fine name es None =
+    function_statement_fits at scope name (map as_part es) (function_of scope name) (function_there scope name) (all_good scope fine es)
 
-level_call_fits : (at : ℕ) (scope : Scope) (x : ExprKind-F ExprKind) → Gives (FitsAnywhere scope) (level_call at scope x)
-level_call_fits at scope (X.Call name es) = call_statement_fits at scope name es (call_of name)
-level_call_fits at scope _ = tt
+level_call_fits : (at : ℕ) (scope : Scope) → DollarsFit scope.dollars → (x : ExprKind-F ExprKind) → Gives (FitsAnywhere scope) (level_call at scope x)
+level_call_fits at scope fine (X.Call name es) = call_statement_fits at scope fine name es (call_of name)
+level_call_fits at scope fine _ = tt
 
 pub call_type_law : CallTypeLaw
-call_type_law scope e x found = gives_from (FitsAnywhere scope) (call_typing scope e) x (level_call_fits e.at scope (out-ExprKind e.what)) found
+call_type_law scope e x fine found = gives_from (FitsAnywhere scope) (call_typing scope e) x (level_call_fits e.at scope fine (out-ExprKind e.what)) found

@@ -13,13 +13,13 @@ use Rattle.spl_tree.specs.declared.expression.Placed.{Placed}
 use Rattle.stream_model.specs.declared.scope.Scope.{Scope}
 use Rattle.stream_model.specs.declared.scope.Signature.{Signature}
 use Rattle.stream_model.specs.declared.scope.Typed.{Typed}
-use Rattle.stream_model.specs.Scopes.{At, function_of}
+use Rattle.stream_model.specs.Scopes.{At, function_of, unresolved_of}
 use Rattle.stream_model.specs.Typing.{Found, after, as_wanted, mismatch, wrong_call, Part, arguments_typed, value_given, function_typed, no_value, argument_count, arguments_of, built_in_typed, call_of, call_typed}
 use Rattle.stream_model.specs.TypingLaws as W
 use Rattle.stream_model.specs.StatementTyping.{as_part, built_in_statement, function_statement, call_statement}
 use Rattle.stream_model.specs.PlaceLaws as P
 use Rattle.stream_model.specs.PlaceLaws.{called, IsCallOf, ValueCallLaw}
-use Rattle.stream_model.proofs.Wanting.{Gives, gives_after, gives_if, gives_from, Some_thing, gives_some}
+use Rattle.stream_model.proofs.Wanting.{Gives, gives_after, gives_if, gives_from, gives_no_call, Some_thing, gives_some}
 use Rattle.stream_model.proofs.StatementTypes.{IsBuiltIn, built_in_is}
 use Rattle.stream_model.proofs.ChangingCalls.{called_is}
 
@@ -65,7 +65,7 @@ counted_may at true r s h = h
 counted_may at false r s h = tt
 
 function_may : (at : ℕ) (scope : Scope) (name : List ℕ) (es : List (Placed Part)) (o : Option (At Signature)) → May (function_typed at scope name es o) (function_statement at scope name es o)
-function_may at scope name es None = tt
+function_may at scope name es None = gives_no_call _ at name (unresolved_of scope name)
 function_may at scope name es (Some f) =
     counted_may at (length es == length f.what.parameters) _ _
     (may_after (arguments_typed scope f.what.parameters es) _ _ (λ xs. value_may at f.place xs f.what.result))

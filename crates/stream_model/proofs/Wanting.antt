@@ -1,5 +1,5 @@
 -- An expression has the type that its place wants.
-use Rattle.std.specs.Prelude.{◌≡◌, ℕ, Bool, true, false, List, [], ◌∷◌, Some, None, Ok, Err, if◌then◌else◌}
+use Rattle.std.specs.Prelude.{◌≡◌, ℕ, Bool, true, false, List, [], ◌∷◌, Option, Some, None, Ok, Err, if◌then◌else◌}
 use Rattle.std.proofs.Common.{refl, sym, ap, subst, ◌∙◌}
 use Rattle.spl_value.specs.declared.types.Named.{Named}
 use Rattle.spl_value.specs.declared.types.SplType.{SplType}
@@ -17,9 +17,10 @@ use Rattle.spl_tree.specs.declared.expression.ExprKind.TheViews.{out-ExprKind}
 use Rattle.spl_tree.specs.declared.expression.ExprKind.TheFolds.{fold_out-ExprKind, map-ExprKind}
 use Rattle.spl_tree.specs.Grammar.{Expr}
 use Rattle.spl_tree.specs.Induction.{ExprSteps, expr_ind}
+use Rattle.stream_model.specs.declared.scope.CheckRefusal.{CheckRefusal}
 use Rattle.stream_model.specs.declared.scope.Scope.{Scope}
 use Rattle.stream_model.specs.declared.scope.Typed.{Typed}
-use Rattle.stream_model.specs.Typing.{Wanted, Found, after, mismatch, as_wanted, same_types, Part, part_typed, Wants, Anything, This, Another, level_element, wants_list, level_pair, wants_map, level_schema, wants_tuple, elements_typed, list_typed, entries_typed, map_typed, are_distinct, gives_each, fields_typed, own_fields, tuple_typed, branch_wanted, conditional_typed, level_part, part, typing}
+use Rattle.stream_model.specs.Typing.{Wanted, Found, after, mismatch, as_wanted, same_types, Part, part_typed, Wants, Anything, This, Another, level_element, wants_list, level_pair, wants_map, level_schema, wants_tuple, elements_typed, list_typed, entries_typed, map_typed, are_distinct, gives_each, fields_typed, own_fields, tuple_typed, not_callable, branch_wanted, conditional_typed, level_part, part, typing}
 use Rattle.stream_model.specs.FitLaws.{WantedLaw}
 use Rattle.stream_model.proofs.SameTypes.{equal_from_same}
 
@@ -42,6 +43,11 @@ gives_both P Q (Err refusal) g h = tt
 
 pub gives_from : {A : Type 0} (P : A → Type 0) (r : Found A) (x : A) → Gives P r → r ≡ Ok x → P x
 gives_from P r x h e = subst (Gives P) e h
+
+-- a function that isn't there gives nothing
+pub gives_no_call : {A : Type 0} (P : A → Type 0) (at : ℕ) (name : List ℕ) (o : Option CheckRefusal) → Gives P (not_callable at name o)
+gives_no_call P at name None = tt
+gives_no_call P at name (Some refusal) = tt
 
 -- nothing is known of what is found
 abbrev pub Some_thing : {A : Type 0} → A → Type 0
@@ -172,7 +178,7 @@ part_of e = record { at = e.at; what = part e.what }
 keeps_steps : ExprSteps (λ e. Keeps (part e))
 keeps_steps = record {
   name = λ n. subst Keeps (part_at (E.Name n) (X.Name n) (E.outs-Name n)) (λ at scope wanted. after_as_wanted at wanted _);
-  dollar = λ n. subst Keeps (part_at (E.Dollar n) (X.Dollar n) (E.outs-Dollar n)) (λ at scope wanted. tt);
+  dollar = λ n. subst Keeps (part_at (E.Dollar n) (X.Dollar n) (E.outs-Dollar n)) (λ at scope wanted. after_as_wanted at wanted _);
   number = λ n. subst Keeps (part_at (E.Number n) (X.Number n) (E.outs-Number n)) (λ at scope wanted. after_as_wanted at wanted _);
   text = λ bytes. subst Keeps (part_at (E.Text bytes) (X.Text bytes) (E.outs-Text bytes)) (λ at scope wanted. as_wanted_meets at wanted _);
   bool = λ b. subst Keeps (part_at (E.Bool b) (X.Bool b) (E.outs-Bool b)) (λ at scope wanted. as_wanted_meets at wanted _);

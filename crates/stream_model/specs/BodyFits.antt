@@ -35,7 +35,7 @@ outputs_of (OfFunction result) = []
 outputs_of (OfHandler outputs) = outputs
 
 abbrev pub with_variable : Scope → Variable → Scope
-with_variable scope v = record { vars = scope.vars ++ v ∷ []; ports = scope.ports; functions = scope.functions; punct = scope.punct }
+with_variable scope v = record scope { vars = scope.vars ++ v ∷ [] }
 
 -- a place of the type, in a variable that can be named and may be changed
 pub data PlaceFits (scope : Scope) : Place → SplType → Type 0 where

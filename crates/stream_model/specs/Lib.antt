@@ -49,3 +49,5 @@ pub mod SinkFiles
 pub mod Flat
 pub mod FlatExamples
 pub mod FlatLaws
+pub mod DollarLaws
+pub mod SomeParameters

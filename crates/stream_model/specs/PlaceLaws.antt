@@ -17,17 +17,18 @@ use Rattle.spl_tree.specs.declared.expression.BinaryOperator.TheVariants as B
 use Rattle.spl_tree.specs.declared.expression.ExprKind.TheVariants as X
 use Rattle.spl_tree.specs.declared.expression.Step.{Step}
 use Rattle.stream_model.specs.declared.scope.Scope.{Scope}
-use Rattle.stream_model.specs.declared.scope.TypeError.TheVariants as N
+use Rattle.stream_model.specs.declared.scope.CheckError.TheVariants as N
 use Rattle.stream_model.specs.declared.scope.Typed.{Typed}
 use Rattle.stream_model.specs.declared.scope.Variable.{Variable}
 use Rattle.stream_model.specs.BodyFits.{Purpose, PlaceFits, ChangeFits, StatementFits}
+use Rattle.stream_model.specs.FitLaws.{DollarsFit}
 use Rattle.stream_model.specs.Scopes.{At, variable_of}
 use Rattle.stream_model.specs.Typing.{refused, selected, is_mutable, typed, typing}
 use Rattle.stream_model.specs.StatementTyping.{TypedPlace, place_typing, assignment_typing, compound_typing, call_typing}
 
 -- the place is one of a variable that may be changed, and fits the scope at its type
 abbrev pub PlaceTypeLaw : Type 0
-PlaceTypeLaw = (scope : Scope) (e : Expr) (p : TypedPlace) → place_typing scope e ≡ Ok p → PlaceFits scope p.place p.kind
+PlaceTypeLaw = (scope : Scope) (e : Expr) (p : TypedPlace) → DollarsFit scope.dollars → place_typing scope e ≡ Ok p → PlaceFits scope p.place p.kind
 
 -- the code that reads a place
 abbrev pub read_code : Place → Code Slot
@@ -62,10 +63,10 @@ abbrev pub FitsAnywhere : Scope → Statement → Type 0
 FitsAnywhere scope x = (purpose : Purpose) (l : Bool) → StatementFits purpose l scope x scope
 
 abbrev pub AssignmentTypeLaw : Type 0
-AssignmentTypeLaw = (scope : Scope) (e right : Expr) (x : Statement) → assignment_typing scope e right ≡ Ok x → FitsAnywhere scope x
+AssignmentTypeLaw = (scope : Scope) (e right : Expr) (x : Statement) → DollarsFit scope.dollars → assignment_typing scope e right ≡ Ok x → FitsAnywhere scope x
 
 abbrev pub CompoundTypeLaw : Type 0
-CompoundTypeLaw = (scope : Scope) (op : BinaryOperator) (e right : Expr) (x : Statement) → compound_typing scope op e right ≡ Ok x → FitsAnywhere scope x
+CompoundTypeLaw = (scope : Scope) (op : BinaryOperator) (e right : Expr) (x : Statement) → DollarsFit scope.dollars → compound_typing scope op e right ≡ Ok x → FitsAnywhere scope x
 
 -- `a op b`, which begins where `a` does
 abbrev pub written_out : BinaryOperator → Expr → Expr → Expr
@@ -76,7 +77,7 @@ abbrev pub CompoundLaw : Type 0
 CompoundLaw = (scope : Scope) (op : BinaryOperator) (e right : Expr) → op ≢ B.In → compound_typing scope op e right ≡ assignment_typing scope e (written_out op e right)
 
 abbrev pub CallTypeLaw : Type 0
-CallTypeLaw = (scope : Scope) (e : Expr) (x : Statement) → call_typing scope e ≡ Ok x → FitsAnywhere scope x
+CallTypeLaw = (scope : Scope) (e : Expr) (x : Statement) → DollarsFit scope.dollars → call_typing scope e ≡ Ok x → FitsAnywhere scope x
 
 abbrev pub called : ℕ → List ℕ → List Expr → Expr
 called at name es = placed at (X.Call name es)

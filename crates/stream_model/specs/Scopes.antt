@@ -1,11 +1,15 @@
 -- What the names of an expression stand for.
-use Rattle.std.specs.Prelude.{ℕ, suc, Bool, List, [], ◌∷◌, ◌++◌, if◌then◌else◌, Option, Some, None}
+use Rattle.std.specs.Prelude.{ℕ, suc, Bool, List, [], ◌∷◌, ◌++◌, if◌then◌else◌, Option, Some, None, Result}
+use Rattle.std.specs.Option.{option_map}
 use Rattle.std.specs.Str.{bytes_eq}
 use Rattle.spl_value.specs.declared.types.Named.{Named}
 use Rattle.spl_value.specs.declared.types.SplType.{SplType}
+use Rattle.stream_model.specs.declared.scope.CheckRefusal.{CheckRefusal}
+use Rattle.stream_model.specs.declared.scope.Dollar.{Dollar}
 use Rattle.stream_model.specs.declared.scope.Port.{Port}
 use Rattle.stream_model.specs.declared.scope.Scope.{Scope}
 use Rattle.stream_model.specs.declared.scope.Signature.{Signature}
+use Rattle.stream_model.specs.declared.scope.Typed.{Typed}
 use Rattle.stream_model.specs.declared.scope.Variable.{Variable}
 
 -- what has the name, with its place
@@ -61,6 +65,14 @@ port_of scope name = first_from (λ p. bytes_eq p.name name) 0 scope.ports
 
 abbrev pub function_of : Scope → List ℕ → Option (At Signature)
 function_of scope name = first_from (λ f. bytes_eq f.name name) 0 scope.functions
+
+-- the refusal of the types of the function of the name
+abbrev pub unresolved_of : Scope → List ℕ → Option CheckRefusal
+unresolved_of scope name = option_map (λ f. f.what.refusal) (first_from (λ f. bytes_eq f.name name) 0 scope.unresolved)
+
+-- what the `$` parameter of the name is
+abbrev pub dollar_of : List Dollar → List ℕ → Option (Result Typed CheckRefusal)
+dollar_of dollars name = option_map (λ d. d.what.found) (first_from (λ d. bytes_eq d.name name) 0 dollars)
 
 -- what a name stands for: a variable, an attribute of one port, the tuple of a port, or nothing, also where several ports
 -- have an attribute of the name

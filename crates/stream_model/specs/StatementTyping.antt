@@ -25,9 +25,9 @@ use Rattle.spl_tree.specs.declared.expression.ExprKind.{ExprKind}
 use Rattle.spl_tree.specs.declared.expression.Placed.{Placed}
 use Rattle.stream_model.specs.declared.scope.Scope.{Scope}
 use Rattle.stream_model.specs.declared.scope.Signature.{Signature}
-use Rattle.stream_model.specs.declared.scope.TypeError.TheVariants as E
-use Rattle.stream_model.specs.Scopes.{At, function_of}
-use Rattle.stream_model.specs.Typing.{Part, Found, after, as_wanted, refused, unknown, wrong_call, part, part_typed, if_mutable, changed_typed, level_changed, argument_count, arguments_typed, built_in_typed, call_of, level_operator, operands_typed, typing}
+use Rattle.stream_model.specs.declared.scope.CheckError.TheVariants as E
+use Rattle.stream_model.specs.Scopes.{At, function_of, unresolved_of}
+use Rattle.stream_model.specs.Typing.{Part, Found, after, as_wanted, refused, not_callable, wrong_call, part, part_typed, if_mutable, changed_typed, level_changed, argument_count, arguments_typed, built_in_typed, call_of, level_operator, operands_typed, typing}
 
 abbrev pub as_part : Expr → Placed Part
 as_part e = record { at = e.at; what = part e.what }
@@ -96,7 +96,7 @@ built_in_statement at scope call es = after (built_in_typed at scope call es) (�
 
 -- a call of a function, with a result or without
 abbrev pub function_statement : ℕ → Scope → List ℕ → List (Placed Part) → Option (At Signature) → Found Statement
-function_statement at scope name es None = unknown at name
+function_statement at scope name es None = not_callable at name (unresolved_of scope name)
 function_statement at scope name es (Some f) =
     if length es == length f.what.parameters then after (arguments_typed scope f.what.parameters es) (λ xs. Ok (T.Call f.place xs)) else wrong_call at
 

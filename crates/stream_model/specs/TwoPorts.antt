@@ -22,6 +22,8 @@ two_ports vars second = record {
       record { name = codes "A"; schema = number (codes "k") ∷ number (codes "n") ∷ [] }
       ∷ record { name = second; schema = number (codes "k") ∷ number (codes "m") ∷ [] } ∷ [];
   functions = [];
+  unresolved = [];
+  dollars = [];
   punct = false;
 }
 

@@ -58,10 +58,10 @@ use Rattle.spl_tree.specs.declared.code.Marker.TheVariants as M
 use Rattle.stream_model.specs.declared.scope.Scope.{Scope}
 use Rattle.stream_model.specs.declared.scope.Signature.{Signature}
 use Rattle.stream_model.specs.declared.scope.Typed.{Typed}
-use Rattle.stream_model.specs.declared.scope.TypeError.{TypeError}
-use Rattle.stream_model.specs.declared.scope.TypeError.TheVariants as E
-use Rattle.stream_model.specs.declared.scope.TypeRefusal.{TypeRefusal}
-use Rattle.stream_model.specs.Scopes.{At, Meant, OfVariable, OfAttribute, OfPort, Nothing, meant, attribute_of, function_of, variable_of}
+use Rattle.stream_model.specs.declared.scope.CheckError.{CheckError}
+use Rattle.stream_model.specs.declared.scope.CheckError.TheVariants as E
+use Rattle.stream_model.specs.declared.scope.CheckRefusal.{CheckRefusal}
+use Rattle.stream_model.specs.Scopes.{At, Meant, OfVariable, OfAttribute, OfPort, Nothing, meant, attribute_of, dollar_of, function_of, unresolved_of, variable_of}
 
 -- ---- types, wanted types and refusals
 
@@ -83,13 +83,13 @@ abbrev pub Wanted : Type 0
 Wanted = Option SplType
 
 abbrev pub Found : Type 0 → Type 0
-Found A = Result A TypeRefusal
+Found A = Result A CheckRefusal
 
 abbrev pub after : {A B : Type 0} → Found A → (A → Found B) → Found B
 after (Ok x) f = f x
 after (Err refusal) f = Err refusal
 
-abbrev pub refused : {A : Type 0} → TypeError → ℕ → Option (List ℕ) → Found A
+abbrev pub refused : {A : Type 0} → CheckError → ℕ → Option (List ℕ) → Found A
 refused error at name = Err (record { error = error; at = at; name = name })
 
 abbrev pub unknown : {A : Type 0} → ℕ → List ℕ → Found A
@@ -140,6 +140,11 @@ meant_typed at name (OfVariable v) = Ok (typed v.what.kind (C.Name (L.Variable v
 meant_typed at name (OfAttribute a) = Ok (typed a.kind (C.Name (L.Attribute a.port a.attribute)))
 meant_typed at name (OfPort p) = Ok (typed (S.Tuple p.what.schema) (C.Name (L.Port p.place)))
 meant_typed at name Nothing = unknown at name
+
+-- a `$` parameter is what stands for it
+abbrev pub dollar_typed : ℕ → List ℕ → Option (Found Typed) → Found Typed
+dollar_typed at name None = unknown at name
+dollar_typed at name (Some found) = found
 
 -- ---- literals
 
@@ -406,8 +411,13 @@ abbrev pub value_given : ℕ → Option SplType → Code Slot → Found Typed
 value_given at None code = mismatch at
 value_given at (Some t) code = Ok (typed t code)
 
+-- no function of the scope has the name: it has no meaning, or there is one whose types are refused
+abbrev pub not_callable : {A : Type 0} → ℕ → List ℕ → Option CheckRefusal → Found A
+not_callable at name None = unknown at name
+not_callable at name (Some refusal) = Err refusal
+
 abbrev pub function_typed : ℕ → Scope → List ℕ → List (Placed Part) → Option (At Signature) → Found Typed
-function_typed at scope name es None = unknown at name
+function_typed at scope name es None = not_callable at name (unresolved_of scope name)
 function_typed at scope name es (Some f) =
     if length es == length f.what.parameters then after (arguments_typed scope f.what.parameters es) (λ xs. value_given at f.what.result (C.Call f.place xs))
     else wrong_call at
@@ -532,7 +542,7 @@ level_form _ = no_form
 
 abbrev pub level_typed : ExprKind-F Part → (at : ℕ) → Scope → Wanted → Found Typed
 level_typed (X.Name name) at scope wanted = after (meant_typed at name (meant scope name)) (as_wanted at wanted)
-level_typed (X.Dollar name) at scope wanted = unknown at name
+level_typed (X.Dollar name) at scope wanted = after (dollar_typed at name (dollar_of scope.dollars name)) (as_wanted at wanted)
 level_typed (X.Number n) at scope wanted = after (number_typed at n) (as_wanted at wanted)
 level_typed (X.Text bytes) at scope wanted = as_wanted at wanted (typed S.Text (C.Literal (V.Text bytes)))
 level_typed (X.Bool b) at scope wanted = as_wanted at wanted (typed S.Bool (C.Literal (V.Bool b)))

@@ -10,6 +10,7 @@ use Rattle.stream_model.specs.declared.env.Env.{Env}
 use Rattle.stream_model.specs.declared.scope.Scope.{Scope}
 use Rattle.stream_model.specs.declared.scope.Typed.{Typed}
 use Rattle.stream_model.specs.CodeFits.{SlotFits}
+use Rattle.stream_model.specs.FitLaws.{DollarsFit}
 use Rattle.stream_model.specs.Evaluation.{World, Calls, code_value, world_of}
 use Rattle.stream_model.specs.Functions.{bodies_of, calls_of}
 use Rattle.stream_model.specs.BodyFits.{Purpose, StatementFits}
@@ -46,5 +47,5 @@ WrittenLaw = (scope : Scope) (slot : Slot) (t : SplType) → SlotFits scope slot
 -- the code of an expression comes to what it comes to over the names that are written for its slots, where each has the
 -- value of what it stands for
 abbrev pub NamesLaw : Type 0
-NamesLaw = (calls : Calls) (scope : Scope) (e : Expr) (wanted : Wanted) (t : Typed) → typing scope e wanted ≡ Ok t → (env : Env) (turns : ℕ)
+NamesLaw = (calls : Calls) (scope : Scope) (e : Expr) (wanted : Wanted) (t : Typed) → DollarsFit scope.dollars → typing scope e wanted ≡ Ok t → (env : Env) (turns : ℕ)
     → code_value calls (renamed (written scope) t.code) (named_world scope env) turns ≡ code_value calls t.code (world_of env) turns

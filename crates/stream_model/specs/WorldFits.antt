@@ -37,7 +37,7 @@ pub record EnvFits (scope : Scope) (env : Env) : Type 0 where
 
 -- the scope of a body, whose variables are the function's parameters
 abbrev pub body_scope : List Signature → List Variable → Scope
-body_scope signatures parameters = record { vars = parameters; ports = []; functions = signatures; punct = false }
+body_scope signatures parameters = record { vars = parameters; ports = []; functions = signatures; unresolved = []; dollars = []; punct = false }
 
 -- a function has the types of its signature, and its body fits them: it doesn't change its parameters, it submits nothing, and where
 -- the function has a result it ends with one

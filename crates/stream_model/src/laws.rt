@@ -17,14 +17,20 @@ ghost use Rattle.spl_value.specs.declared.types.IntKind.TheVariants as N;
 ghost use Rattle.spl_value.specs.declared.types.SplType.TheVariants as T;
 ghost use Rattle.spl_value.specs.declared.value.Value.TheVariants as V;
 ghost use Rattle.stream_model.specs.Laws.{StartLaw, HistoryLaw, EndLaw, EndItemLaw, EndGivesLaw, WaitLaw, PortsLaw, OutGrows, ChainGrows, OutCloses, ClosedEnds, ClosedGivesClosed, BodyLaw, BodyPorts, GraphLaw, EventsLaw, TopoEventsLaw, IsOrdered, IsNumbered, IsWithin, RowsClose, PiecesLaw, RowsLaw, FailedRowsLaw};
-ghost use Rattle.stream_model.specs.FitLaws.{FitLaw, WantedLaw, OneTypeLaw};
+ghost use Rattle.stream_model.specs.FitLaws.{ClosedLaw, ConstantLaw, DollarsFit, FitLaw, WantedLaw, OneTypeLaw};
+ghost use Rattle.stream_model.specs.DollarLaws.{MentionedLaw, UnusedLaw};
 ghost use Rattle.stream_model.specs.React.{Source, FileSource, Filter, FileSink};
 ghost use Rattle.spl_tree.specs.declared.code.BinaryCode.TheVariants as D;
 ghost use Rattle.spl_tree.specs.declared.code.Code.{Code};
 ghost use Rattle.spl_tree.specs.declared.code.Code.TheVariants as C;
+ghost use Rattle.spl_tree.specs.declared.code.IntegerOperator.TheVariants.{Add};
 ghost use Rattle.spl_tree.specs.declared.code.OrderOperator.TheVariants.{Less};
 ghost use Rattle.spl_tree.specs.declared.code.Slot.{Slot};
 ghost use Rattle.spl_tree.specs.declared.code.Slot.TheVariants as L;
+ghost use Rattle.spl_tree.specs.declared.expression.ExprKind.TheVariants as E;
+ghost use Rattle.stream_model.specs.declared.scope.CheckError.TheVariants as Q;
+ghost use Rattle.stream_model.specs.declared.scope.CheckRefusal.{CheckRefusal};
+ghost use Rattle.stream_model.specs.SomeParameters.{five, parameter, with_parameters, one_more};
 ghost use Rattle.stream_model.specs.PathLaws.{path_graph};
 ghost use Rattle.stream_model.specs.PlaceLaws.{PlaceTypeLaw, PlaceReadsLaw, NamePlaceLaw, PlaceGivenLaw, PlaceRefusedLaw, AssignmentTypeLaw, CompoundTypeLaw, CompoundLaw, CallTypeLaw, ValueCallLaw, AppendLaw, RemoveLaw, ClearLaw};
 ghost use Rattle.stream_model.specs.TwoSinks.{two_sinks, unread_source, bad_row, fault_of_run};
@@ -106,11 +112,21 @@ pub fn ends_on_literals()
 {}
 
 /// An expression has at most one type and one code in a scope, under the type that its place wants.
-/// It is the wanted type, and the code fits the scope at it.
+/// It is the wanted type, and the code fits the scope at it where what stands for `$` parameters fits.
 pub fn typing_law()
     ensures one { OneTypeLaw }
     ensures wanted { WantedLaw }
     ensures fits { FitLaw }
+{}
+
+/// What stands for a `$` parameter names nothing, so it fits everywhere. A parameter that an expression
+/// doesn't mention changes nothing of what the expression is.
+pub fn dollars_law()
+    ensures closed { ClosedLaw }
+    ensures constant { ConstantLaw }
+    ensures mentioned { MentionedLaw }
+    ensures unused { UnusedLaw }
+    ensures none { DollarsFit [] }
 {}
 
 /// A place that has a type is one of a variable that may be changed, and fits the scope at that type. An
@@ -244,6 +260,19 @@ pub fn names_on_literals()
         ≡ Ok (record { kind = T.Bool; code = C.Binary (D.Order Less) (C.Name (L.Attribute 0 0)) (C.Name (L.Attribute 1 1)) }) }
     ensures over_names { renamed (written (two_ports [] (codes "B"))) (C.Binary (D.Order Less) (C.Name (L.Attribute 0 0)) (C.Name (L.Attribute 1 1)))
         ≡ C.Binary (D.Order Less) (C.Name (Of (codes "A") (codes "k"))) (C.Name (Of (codes "B") (codes "m"))) }
+{}
+
+/// A scope with a `$` parameter that stands for the number 5: a sum with it, a parameter that isn't
+/// there, one that stands for a refusal, and two of one name.
+pub fn dollars_on_literals()
+    ensures stands { DollarsFit (parameter (Ok five) ∷ []) }
+    ensures sum { typing (with_parameters (parameter (Ok five) ∷ [])) one_more None
+        ≡ Ok (record { kind = T.Int N.I32; code = C.Binary (D.Integers Add N.I32) (C.Literal (V.Int (pos 5))) (C.Literal (V.Int (pos 1))) }) }
+    ensures other { typing (with_parameters (parameter (Ok five) ∷ [])) (placed 7 (E.Dollar (codes "m"))) None
+        ≡ Err (record { error = Q.Unknown; at = 7; name = Some (codes "m") }) }
+    ensures refused { (r : CheckRefusal) → typing (with_parameters (parameter (Err r) ∷ [])) (placed 7 (E.Dollar (codes "n"))) None ≡ Err r }
+    ensures first { (r : CheckRefusal)
+        → typing (with_parameters (parameter (Ok five) ∷ parameter (Err r) ∷ [])) (placed 7 (E.Dollar (codes "n"))) None ≡ Ok five }
 {}
 
 /// A unit has one answer. Each operator of its graph is one of the unit's, none is left out where no

@@ -25,13 +25,33 @@ pub struct Signature {
     pub result: Option<SplType>,
 }
 
+/// A function whose types aren't any. A call of it is refused as they are.
+#[derive(Debug, Drop)]
+pub struct Unresolved {
+    pub name: Name,
+    pub refusal: CheckRefusal,
+}
+
+/// A `$` parameter of the composite in whose body an expression stands: what stands for it there, or the
+/// refusal of that, which comes where the parameter is used.
+#[derive(Debug, Drop)]
+pub struct Dollar {
+    /// Without the `$`.
+    pub name: Name,
+    pub found: Result<Typed, CheckRefusal>,
+}
+
 /// What an expression may name. Variables stand in the order of their declarations, those of the
-/// state before local ones; of several with one name the last is meant.
+/// state before local ones; of several with one name the last is meant. Of functions and of `$`
+/// parameters the first is.
 #[derive(Debug, Drop)]
 pub struct Scope {
     pub vars: Items<Variable>,
     pub ports: Items<Port>,
     pub functions: Items<Signature>,
+    /// Functions that aren't among those.
+    pub unresolved: Items<Unresolved>,
+    pub dollars: Items<Dollar>,
     /// Whether the expression stands where a marker has come, so that it may ask which.
     pub punct: bool,
 }
@@ -43,24 +63,40 @@ pub struct Typed {
     pub code: Boxed<Code<Slot>>,
 }
 
-/// Why an expression has no type.
+/// Why a graph is refused by the rules of types and clauses.
 #[derive(Clone, Copy, Debug, PartialEq, Eq)]
-pub enum TypeError {
+pub enum CheckError {
     /// A name has no meaning, or is an attribute of two ports.
     Unknown,
     /// A type or a form isn't the wanted one.
     Mismatch,
     /// What is changed isn't mutable.
     NotMutable,
-    /// A call fits no rule.
+    /// A call fits no rule, or a statement stands where it may not.
     WrongCall,
+    /// A type or a clause that this profile leaves out.
+    LeftOut,
+    /// A function with a result whose body may end without one.
+    NoReturn,
+    /// A parameter that an operator needs isn't there.
+    MissingParameter,
+    /// A parameter or a clause that an operator doesn't have, or one that is given twice.
+    ExtraParameter,
+    /// A window that an operator doesn't have, or the want of one that it needs.
+    BadWindow,
+    /// An attribute of an output that has no value, that isn't there, or that is assigned twice.
+    BadOutput,
+    /// A number of ports that an operator doesn't have.
+    PortCount,
+    /// A file whose rows would have a list, a map or a tuple.
+    NoTextForm,
 }
 
-/// A refusal of an expression: the byte of the program at which it comes, and the name that has no
-/// meaning.
+/// A refusal by these rules: the byte of the program at which it comes, and the name that it is about,
+/// where it is about one.
 #[derive(Debug, Drop)]
-pub struct TypeRefusal {
-    pub error: TypeError,
+pub struct CheckRefusal {
+    pub error: CheckError,
     pub at: u32,
     pub name: Option<Name>,
 }

@@ -5,3 +5,4 @@ mod Steps
 mod Loops
 mod Exits
 mod Weights
+mod PlacesFound

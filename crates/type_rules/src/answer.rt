@@ -1,18 +1,18 @@
 //! What is answered where an expression has no type.
 ghost use Rattle.std.specs.Prelude.{◌≡◌, Some, None};
-ghost use Rattle.stream_model.specs.declared.scope.TypeError.TheVariants as E;
+ghost use Rattle.stream_model.specs.declared.scope.CheckError.TheVariants as E;
 ghost use Rattle.type_rules.specs.declared.answer.TypeAnswer.TheVariants.{Memory, Refused};
 ghost use Rattle.type_rules.specs.Finds.{IsUnknown, Narrows};
 
 use spl_value::{Items, NoMemory};
 use std::alloc::{AllocError, Global};
-use stream_model::{TypeError, TypeRefusal};
+use stream_model::{CheckError, CheckRefusal};
 
 /// Why there is no type.
 #[derive(Debug, Drop)]
 pub enum TypeAnswer {
     /// The expression is refused, as the first refusal in it says.
-    Refused(TypeRefusal),
+    Refused(CheckRefusal),
     /// There was no memory.
     Memory,
 }
@@ -33,10 +33,10 @@ impl From<AllocError> for TypeAnswer {
     }
 }
 
-fn refused(error: TypeError, at: u32) -> TypeAnswer
+fn refused(error: CheckError, at: u32) -> TypeAnswer
     ensures { result ≡ Refused (record { error = error; at = at; name = None }) }
 {
-    TypeAnswer::Refused(TypeRefusal {
+    TypeAnswer::Refused(CheckRefusal {
         error,
         at,
         name: None,
@@ -46,19 +46,19 @@ fn refused(error: TypeError, at: u32) -> TypeAnswer
 pub(crate) fn mismatch(at: u32) -> TypeAnswer
     ensures { result ≡ Refused (record { error = E.Mismatch; at = at; name = None }) }
 {
-    refused(TypeError::Mismatch, at)
+    refused(CheckError::Mismatch, at)
 }
 
 pub(crate) fn wrong_call(at: u32) -> TypeAnswer
     ensures { result ≡ Refused (record { error = E.WrongCall; at = at; name = None }) }
 {
-    refused(TypeError::WrongCall, at)
+    refused(CheckError::WrongCall, at)
 }
 
 pub(crate) fn not_mutable(at: u32) -> TypeAnswer
     ensures { result ≡ Refused (record { error = E.NotMutable; at = at; name = None }) }
 {
-    refused(TypeError::NotMutable, at)
+    refused(CheckError::NotMutable, at)
 }
 
 /// A name without a meaning, at its place.
@@ -66,8 +66,8 @@ pub(crate) fn unknown(alloc: Global, at: u32, name: &[u8]) -> TypeAnswer
     ensures { IsUnknown at name.now result }
 {
     match Items::from_slice(alloc, name) {
-        Ok(name) => TypeAnswer::Refused(TypeRefusal {
-            error: TypeError::Unknown,
+        Ok(name) => TypeAnswer::Refused(CheckRefusal {
+            error: CheckError::Unknown,
             at,
             name: Some(name),
         }),

@@ -4,6 +4,7 @@
 mod answer;
 mod boxing;
 mod calls;
+mod copying;
 mod forms;
 mod kinds;
 mod making;
@@ -16,4 +17,6 @@ mod statements;
 pub use answer::TypeAnswer;
 pub use rules::type_of;
 pub use statements::{assignment_of, call_of, compound_of};
-pub use stream_model::{Port, Scope, Signature, TypeError, TypeRefusal, Typed, Variable};
+pub use stream_model::{
+    CheckError, CheckRefusal, Dollar, Port, Scope, Signature, Typed, Unresolved, Variable,
+};

@@ -1,17 +1,19 @@
 //! What the names of an expression stand for.
 ghost use Rattle.std.specs.Prelude.{◌≡◌, ◌≤◌, length, Ok};
-ghost use Rattle.stream_model.specs.Scopes.{variable_of, attribute_of, port_of, function_of, meant};
+ghost use Rattle.std.specs.Option.{option_copied};
+ghost use Rattle.stream_model.specs.Scopes.{variable_of, attribute_of, port_of, function_of, unresolved_of, dollar_of, meant};
 ghost use Rattle.spl_tree.specs.declared.code.Code.TheVariants as C;
-ghost use Rattle.stream_model.specs.Typing.{meant_typed, typed};
+ghost use Rattle.stream_model.specs.Typing.{meant_typed, dollar_typed, not_callable, typed};
 ghost use Rattle.type_rules.specs.Finds.{Points, Finds};
 ghost use Rattle.type_rules.specs.Names.{Holds, Means};
 
 use crate::answer::{TypeAnswer, narrow, unknown};
 use crate::boxing::boxed_copy;
+use crate::copying::{copy_refusal, copy_typed};
 use spl_tree::{Code, Slot};
 use spl_value::{Attribute, Boxed, SplType, copy_schema};
 use std::alloc::Global;
-use stream_model::{Port, Scope, Signature, Typed, Variable};
+use stream_model::{CheckRefusal, Port, Scope, Signature, Typed, Variable};
 
 /// The last variable of the name, with its place.
 pub(crate) fn variable<'s>(scope: &'s Scope, name: &[u8]) -> Option<(usize, &'s Variable)>
@@ -60,6 +62,30 @@ pub(crate) fn function<'s>(scope: &'s Scope, name: &[u8]) -> Option<(usize, &'s 
     for (at, function) in scope.functions.as_slice().iter().enumerate() {
         if function.name.as_slice() == name {
             return Some((at, function));
+        }
+    }
+    None
+}
+
+/// The refusal of the types of the function of the name, which isn't among the scope's own.
+fn unresolved<'s>(scope: &'s Scope, name: &[u8]) -> Option<&'s CheckRefusal>
+    ensures { option_copied result ≡ unresolved_of scope.now name.now }
+{
+    for (at, function) in scope.unresolved.as_slice().iter().enumerate() {
+        if function.name.as_slice() == name {
+            return Some(&function.refusal);
+        }
+    }
+    None
+}
+
+/// What stands for the `$` parameter of the name.
+fn dollar<'s>(scope: &'s Scope, name: &[u8]) -> Option<&'s Result<Typed, CheckRefusal>>
+    ensures { option_copied result ≡ dollar_of scope.now.dollars name.now }
+{
+    for (at, dollar) in scope.dollars.as_slice().iter().enumerate() {
+        if dollar.name.as_slice() == name {
+            return Some(&dollar.found);
         }
     }
     None
@@ -151,5 +177,37 @@ pub(crate) fn name_typed(
             slot_typed(alloc, kind, Slot::Port(place))
         }
         Meaning::Nothing => Err(unknown(alloc, at, name)),
+    }
+}
+
+/// The type and the code of what stands for a `$` parameter, or the refusal of that.
+pub(crate) fn dollar_typed(
+    alloc: Global,
+    scope: &Scope,
+    at: u32,
+    name: &[u8],
+) -> Result<Typed, TypeAnswer>
+    ensures { Finds (dollar_typed at name.now (dollar_of scope.now.dollars name.now)) result }
+{
+    match dollar(scope, name) {
+        Some(Ok(typed)) => Ok(copy_typed(alloc, typed)?),
+        Some(Err(refusal)) => Err(TypeAnswer::Refused(copy_refusal(alloc, refusal)?)),
+        None => Err(unknown(alloc, at, name)),
+    }
+}
+
+/// A call of what no function of the scope has as its name: the refusal of the types of one that isn't
+/// among them, or else the name has no meaning.
+pub(crate) fn not_callable<T>(
+    alloc: Global,
+    scope: &Scope,
+    at: u32,
+    name: &[u8],
+) -> Result<T, TypeAnswer>
+    ensures { Finds (not_callable at name.now (unresolved_of scope.now name.now)) result }
+{
+    match unresolved(scope, name) {
+        Some(refusal) => Err(TypeAnswer::Refused(copy_refusal(alloc, refusal)?)),
+        None => Err(unknown(alloc, at, name)),
     }
 }

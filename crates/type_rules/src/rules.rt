@@ -8,7 +8,7 @@ ghost use Rattle.stream_model.specs.Typing.{Anything, typing, part, elements_typ
 ghost use Rattle.stream_model.specs.TypingLaws.{parted, parts, entry_parts, field_parts, step_part, step_parts};
 ghost use Rattle.type_rules.specs.Finds.{Finds, with_front};
 
-use crate::answer::{TypeAnswer, mismatch, narrow, unknown, wrong_call};
+use crate::answer::{TypeAnswer, mismatch, narrow, wrong_call};
 use crate::boxing::{boxed, boxed_copy};
 use crate::calls::{argument_count, call_named, may_change, on_changed, on_first, value_given};
 use crate::forms::{asks, marker, marker_test, port_member};
@@ -19,7 +19,7 @@ use crate::making::{
     Codes, EntryCodes, FieldCodes, call_typed, chosen, code_of, list_of, literal, map_of,
     member_of, number_typed, of_port, select, text, tuple_of,
 };
-use crate::names::{attribute, function, name_typed};
+use crate::names::{attribute, dollar_typed, function, name_typed, not_callable};
 use crate::operators::{binary, in_typed, operator_on, prefixes_on};
 use spl_tree::{
     BinaryOperator, BuiltIn, CallName, Code, Expr, ExprKind, Field, Prefix, Slot, Step, Taking,
@@ -32,7 +32,9 @@ use stream_model::{Scope, Typed};
 /// wants one.
 ///
 /// Where the expression has none, the answer is `Refused`, with the first expression in it, in the
-/// order of the text, that has no meaning. `Memory` also stands for rows of more than 2^32 names.
+/// order of the text, that has no meaning. A `$` parameter has the type and the code of what stands for
+/// it, or the refusal of that. A call of a function whose types aren't any has the refusal of those.
+/// `Memory` also stands for rows of more than 2^32 names.
 pub fn type_of(
     alloc: Global,
     scope: &Scope,
@@ -72,8 +74,8 @@ fn type_at(
                 wanted,
             );
         }
-        ExprKind::Dollar(name) => return Err(unknown(alloc, at, name.as_slice())),
         ExprKind::Name(name) => name_typed(alloc, scope, at, name.as_slice())?,
+        ExprKind::Dollar(name) => dollar_typed(alloc, scope, at, name.as_slice())?,
         ExprKind::Number(number) => number_typed(alloc, at, *number)?,
         ExprKind::Text(bytes) => text(alloc, bytes)?,
         ExprKind::Bool(b) => literal(alloc, SplType::Bool, Value::Bool(*b))?,
@@ -521,7 +523,7 @@ fn function_call(
     ensures { Finds (function_typed at scope.now name.now (parts all.now) (function_of scope.now name.now)) result }
 {
     let Some((place, found)) = function(scope, name) else {
-        return Err(unknown(alloc, at, name));
+        return not_callable(alloc, scope, at, name);
     };
     let kinds = found.parameters.as_slice();
     if all.len() != kinds.len() {

@@ -7,11 +7,11 @@ ghost use Rattle.stream_model.specs.StatementTyping.{assignment_typing, compound
 ghost use Rattle.type_rules.specs.Finds.{Finds};
 ghost use Rattle.type_rules.specs.Places.{only};
 
-use crate::answer::{TypeAnswer, narrow, unknown, wrong_call};
+use crate::answer::{TypeAnswer, narrow, wrong_call};
 use crate::calls::{argument_count, call_named};
 use crate::kinds::as_wanted;
 use crate::making::{Codes, code_of};
-use crate::names::function;
+use crate::names::{function, not_callable};
 use crate::places::{place_given, place_of};
 use crate::rules::{arguments, built_in, changed, same_operands, type_of};
 use spl_tree::{BinaryOperator, CallName, Change, Code, Expr, ExprKind, Place, Slot, Statement};
@@ -28,6 +28,7 @@ use stream_model::Scope;
 /// `Refused` comes with the first of these: a refusal of the place as an expression; `WrongCall` at
 /// the place where it isn't one; `NotMutable` at the place where its variable isn't mutable; a
 /// refusal of the value, under the type that is wanted of it. `Memory` is as that of `type_of`.
+#[tactic(auto, using(crate::proofs::PlacesFound::behind_place))]
 pub fn assignment_of(
     alloc: Global,
     scope: &Scope,
@@ -48,6 +49,7 @@ pub fn assignment_of(
 /// at the place where the operator isn't one of the type of what it holds; a refusal of the value,
 /// which has to be of that type; `Mismatch` at the place where the operator gives another type.
 /// `Memory` is as that of `type_of`.
+#[tactic(auto, using(crate::proofs::PlacesFound::behind_place))]
 pub fn compound_of(
     alloc: Global,
     scope: &Scope,
@@ -193,7 +195,7 @@ fn function_statement(
     ensures { Finds (function_statement at scope.now name.now (parts all.now) (function_of scope.now name.now)) result }
 {
     let Some((place, found)) = function(scope, name) else {
-        return Err(unknown(alloc, at, name));
+        return not_callable(alloc, scope, at, name);
     };
     let kinds = found.parameters.as_slice();
     if all.len() != kinds.len() {

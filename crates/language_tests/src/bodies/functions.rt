@@ -141,6 +141,8 @@ pub(crate) fn functions_of(
         vars: Items::new(alloc),
         ports: Items::new(alloc),
         functions: signatures(alloc, kinds, from)?,
+        unresolved: Items::new(alloc),
+        dollars: Items::new(alloc),
         punct: false,
     };
     let made = functions(alloc, kinds, &mut scope, from)?;

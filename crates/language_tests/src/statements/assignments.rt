@@ -130,3 +130,20 @@ const HIDDEN: &[Row] = &[
 fn a_place_is_what_its_name_means(rt: HostRuntime) -> Result<(), Fail> {
     expect(&rt, rt.alloc(), Place::Hidden, HIDDEN)
 }
+
+const PARAMETERS: &[Row] = &[
+    // `$` parameters on the right side and in places.
+    ("i = $n", "(put v1 5)"),
+    ("i += $n", "(put v1 (+int32 v1 5))"),
+    ("xs[$n] = 1l", "(put (of v6 [5]) 1)"),
+    ("s = $n", "Mismatch at 4"),
+    ("s = $missing", "MissingParameter at 71"),
+    // None is a place.
+    ("$n = 1", "WrongCall at 0"),
+    ("$xs[0] = 1", "WrongCall at 0"),
+];
+
+#[test]
+fn a_parameter_is_no_place(rt: HostRuntime) -> Result<(), Fail> {
+    expect(&rt, rt.alloc(), Place::Composite, PARAMETERS)
+}

@@ -86,6 +86,20 @@ fn a_function_need_not_have_a_result(rt: HostRuntime) -> Result<(), Fail> {
     expect(&rt, rt.alloc(), Place::Tuple, FUNCTIONS)
 }
 
+const UNRESOLVED: &[Row] = &[
+    ("odd(1)", "Unknown at 90 T"),
+    ("odd(z)", "Unknown at 90 T"),
+    ("even()", "LeftOut at 92"),
+    ("log($s)", "(f5 'a')"),
+    ("inc(1)", "(f0 1)"),
+    ("nope()", "Unknown at 0 nope"),
+];
+
+#[test]
+fn a_function_may_have_no_types(rt: HostRuntime) -> Result<(), Fail> {
+    expect(&rt, rt.alloc(), Place::Composite, UNRESOLVED)
+}
+
 const NO_CALLS: &[Row] = &[
     ("i", "WrongCall at 0"),
     ("z", "WrongCall at 0"),

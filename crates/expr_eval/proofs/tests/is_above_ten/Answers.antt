@@ -26,7 +26,7 @@ abbrev port : Port
 port = record { name = []; schema = price ∷ [] }
 
 abbrev scope : Scope
-scope = record { vars = []; ports = port ∷ []; functions = []; punct = false }
+scope = record { vars = []; ports = port ∷ []; functions = []; unresolved = []; dollars = []; punct = false }
 
 abbrev world : Value → Env
 world v = record { inputs = (v ∷ []) ∷ []; vars = []; punct = None }
