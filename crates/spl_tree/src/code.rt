@@ -5,7 +5,7 @@ use spl_value::{Boxed, IntKind, Items, Value};
 /// names are given.
 #[derive(Debug, Drop)]
 pub enum Code<N> {
-    /// A number, a boolean or a text.
+    /// A number, a boolean or a text; or the default of a variable's type.
     Literal(Value),
     Name(N),
     List(Items<Code<N>>),

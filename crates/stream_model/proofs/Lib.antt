@@ -29,6 +29,8 @@ pub mod Returning
 pub mod Calling
 pub mod Extending
 pub mod CodeInduction
+pub mod TypeInduction
+pub mod DefinedTypes
 pub mod NamesInCodes
 pub mod NamedSlots
 pub mod LikeCodes
@@ -51,3 +53,6 @@ pub mod Inlining
 pub mod Ordering
 pub mod Nesting
 pub mod KeptInvocations
+mod StmtInduction
+mod BodyFitting
+mod BodyReturning

@@ -1,6 +1,8 @@
 //! What a graph of operators means on one thread.
 #![tactic(auto)]
 
+mod checked;
+mod checks;
 mod env;
 mod expansion;
 mod flow;
@@ -9,6 +11,11 @@ mod outs;
 mod record;
 mod scope;
 
+pub use checked::{
+    Checked, Collected, Collector, Handlers, ParameterValue, Part, Policy, Position, StateVariable,
+    WindowRule,
+};
+pub use checks::{bodies_law, checks_on_literals, types_law, types_on_literals};
 pub use env::{Env, Tuples};
 pub use expansion::{ExpansionRefusal, Operation, Source};
 pub use flow::Flow;

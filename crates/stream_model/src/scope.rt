@@ -82,7 +82,7 @@ pub enum CheckError {
     MissingParameter,
     /// A parameter or a clause that an operator doesn't have, or one that is given twice.
     ExtraParameter,
-    /// A window that an operator doesn't have, or the want of one that it needs.
+    /// A window that isn't one of the operator's, or the want of one that it needs.
     BadWindow,
     /// An attribute of an output that has no value, that isn't there, or that is assigned twice.
     BadOutput,

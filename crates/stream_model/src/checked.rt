@@ -1,0 +1,152 @@
+use crate::Variable;
+use spl_tree::{Body, Code, Functions, Graph, Slot};
+use spl_value::{Bytes, IntKind, Items, Places, Schema};
+
+/// When a window fires, and what it holds then.
+#[derive(Clone, Copy, Debug, PartialEq, Eq)]
+pub enum WindowRule {
+    /// So many tuples, and then the window begins anew.
+    TumblingCount(u64),
+    /// Tuples whose attribute at that place exceeds the first one's by no more than the limit.
+    TumblingDelta {
+        attr: u32,
+        limit: i128,
+    },
+    /// The tuples between window markers.
+    TumblingPunct,
+    /// The last so many tuples. It fires after every so many.
+    SlidingCount {
+        keep: u64,
+        every: Option<u64>,
+    },
+    /// The tuples whose attribute is no more than the limit below the last one's. It fires after every
+    /// so many.
+    SlidingDelta {
+        attr: u32,
+        limit: i128,
+        every: Option<u64>,
+    },
+}
+
+/// A window of an input port. A partitioned one has a window for each value of some attributes.
+#[derive(Clone, Copy, Debug, PartialEq, Eq)]
+pub struct Policy {
+    pub partitioned: bool,
+    pub rule: WindowRule,
+}
+
+/// Where a Punctor puts its markers.
+#[derive(Clone, Copy, Debug, PartialEq, Eq)]
+pub enum Position {
+    Before,
+    After,
+}
+
+/// The value of a parameter of an operator.
+#[derive(Debug, Drop)]
+pub enum ParameterValue {
+    File(Bytes),
+    /// The one format that there is.
+    Format,
+    /// Whether a row that doesn't fit is a fault.
+    Strict(bool),
+    /// A condition, or an index.
+    Code(Code<Slot>),
+    Position(Position),
+    /// Attributes by their places, in the order of the text.
+    Places(Places),
+}
+
+/// What an Aggregate makes of the values of an expression in a group. `Any` is `First`.
+#[derive(Clone, Copy, Debug, PartialEq, Eq)]
+pub enum Collector {
+    /// The sum in that type.
+    Sum(IntKind),
+    Min,
+    Max,
+    First,
+    Last,
+    Count,
+}
+
+/// An output attribute of an Aggregate, by its place, and what it gets. `Count` has no argument.
+#[derive(Debug, Drop)]
+pub struct Collected {
+    pub attribute: u32,
+    pub collector: Collector,
+    pub argument: Option<Code<Slot>>,
+}
+
+/// A variable of the state of a Custom, and its first value.
+#[derive(Debug, Drop)]
+pub struct StateVariable {
+    pub variable: Variable,
+    pub first: Code<Slot>,
+}
+
+/// What a Custom does on tuples and on markers, by its input ports. The first variables of each body are
+/// those of the state. The one port that a body on tuples sees, as port 0, is its own.
+#[derive(Debug, Drop)]
+pub struct Handlers {
+    pub state: Items<StateVariable>,
+    pub on_tuple: Items<Option<Body>>,
+    pub on_punct: Items<Option<Body>>,
+}
+
+/// The clauses of an operator with their codes. The output of a Functor or a Join is the code of a
+/// tuple, whose fields stand in the order in which they are evaluated.
+#[derive(Debug, Drop)]
+pub enum Part {
+    FileSource {
+        file: Bytes,
+        strict: bool,
+    },
+    FileSink {
+        file: Bytes,
+    },
+    Filter {
+        condition: Option<Code<Slot>>,
+    },
+    Functor {
+        condition: Option<Code<Slot>>,
+        output: Code<Slot>,
+    },
+    Punctor {
+        condition: Code<Slot>,
+        position: Position,
+    },
+    Split {
+        index: Code<Slot>,
+    },
+    /// For each input port, the places in its tuples of the output's attributes.
+    Union {
+        places: Items<Places>,
+    },
+    Custom {
+        handlers: Handlers,
+    },
+    Aggregate {
+        window: Policy,
+        partition: Places,
+        group: Places,
+        output: Items<Collected>,
+    },
+    Join {
+        left: Policy,
+        right: Policy,
+        condition: Option<Code<Slot>>,
+        output: Code<Slot>,
+    },
+}
+
+/// A graph whose types and clauses fit.
+#[derive(Debug, Drop)]
+pub struct Checked {
+    pub graph: Graph,
+    /// The attributes of each stream.
+    pub schemas: Items<Schema>,
+    /// The functions of the program, in the order of the text.
+    pub functions: Functions,
+    /// The clauses of each operator, in the operators' order.
+    pub parts: Items<Part>,
+}
