@@ -8,7 +8,7 @@ use Rattle.spl_tree.specs.declared.unit.Definition.{Definition}
 use Rattle.stream_model.specs.Composites.{composites, composite_named}
 use Rattle.stream_model.specs.Expansion.{place_of}
 use Rattle.stream_model.specs.Scopes.{At, at_place, first_from}
-use Rattle.stream_model.proofs.Standing.{Stands, first_stands}
+use Rattle.stream_model.specs.Standing.{Stands, first_stands}
 use Rattle.composite_expand.specs.Names.{composite_names}
 
 abbrev place : {A : Type 0} → Option (At A) → Option ℕ

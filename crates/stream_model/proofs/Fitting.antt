@@ -59,7 +59,7 @@ use Rattle.stream_model.specs.CodeFits as F
 use Rattle.stream_model.specs.CodeFits.{CodeFits, SlotFits, ElementsFit, PairsFit, FieldsFit, ArgumentsFit, StepsLead, UnaryGives, UnariesGive, BinaryGives, BuiltInGives, OneEach}
 use Rattle.stream_model.specs.FitLaws.{DollarsFit, FitLaw}
 use Rattle.stream_model.proofs.Closed.{closed_law}
-use Rattle.stream_model.proofs.Standing.{Stands, first_stands, Bears, variable_there, attribute_there, port_there, function_there, InPorts, FirstOf, attributes_there}
+use Rattle.stream_model.specs.Standing.{Stands, first_stands, Bears, variable_there, attribute_there, port_there, function_there, InPorts, FirstOf, attributes_there}
 use Rattle.stream_model.proofs.Places.{AtNames, names_one_each, InRow, row_one_each}
 use Rattle.stream_model.proofs.SameTypes.{equal_from_same}
 use Rattle.stream_model.proofs.Wanting.{Gives, gives_after, gives_on, gives_both, gives_if, gives_from, gives_no_call, Some_thing, gives_some, Meets, MeetsIn, rolled, Keeps, keeps, part_of, part_at}

@@ -4,7 +4,6 @@ pub mod Waiting
 pub mod Growing
 pub mod Graphs
 pub mod FileRows
-pub mod Standing
 pub mod SameTypes
 pub mod Wanting
 pub mod Mentioning
@@ -29,8 +28,6 @@ pub mod Returning
 pub mod Calling
 pub mod Extending
 pub mod CodeInduction
-pub mod TypeInduction
-pub mod DefinedTypes
 pub mod NamesInCodes
 pub mod NamedSlots
 pub mod LikeCodes

@@ -37,7 +37,7 @@ use Rattle.stream_model.specs.Typing.{Wanted, Found, after, mismatch, as_wanted,
 use Rattle.stream_model.specs.StatementTyping.{TypedPlace, level_variable, level_place, place_given, place_typing}
 use Rattle.stream_model.specs.FitLaws.{DollarsFit}
 use Rattle.stream_model.specs.PlaceLaws.{PlaceTypeLaw, read_code, PlaceReadsLaw}
-use Rattle.stream_model.proofs.Standing.{Bears, variable_there}
+use Rattle.stream_model.specs.Standing.{Bears, variable_there}
 use Rattle.stream_model.proofs.Wanting.{Gives, gives_after, gives_on, gives_both, gives_if, gives_from, Some_thing, gives_some, part_of, part_at}
 use Rattle.stream_model.proofs.Fitting.{Fits, good, good_any}
 

@@ -54,6 +54,9 @@ pub mod SomeParameters
 pub mod Leading
 pub mod TypeNames
 pub mod TypeNameLaws
+pub mod TypeInduction
+pub mod Standing
+pub mod DefinedTypes
 pub mod TypeExamples
 pub mod BodyTyping
 pub mod BodyTypingLaws

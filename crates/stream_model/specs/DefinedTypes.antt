@@ -14,8 +14,8 @@ use Rattle.stream_model.specs.Scopes.{At}
 use Rattle.stream_model.specs.TypeNames.{Types, Names, shape_meant, shape_names, definition_of, leads_to, is_circular, defined_type, types_within, types_of}
 use Rattle.stream_model.specs.TypeNameLaws.{NamesLaw}
 use Rattle.stream_model.specs.Typing.{unknown}
-use Rattle.stream_model.proofs.Standing.{Stands, first_stands}
-use Rattle.stream_model.proofs.TypeInduction.{same_shape}
+use Rattle.stream_model.specs.Standing.{Stands, first_stands}
+use Rattle.stream_model.specs.TypeInduction.{same_shape}
 
 -- ---- ways from place to place
 
@@ -97,7 +97,7 @@ module _ (next : ℕ → List ℕ) where
 
 -- ---- definitions that lead to each other
 
-module _ (definitions : List TypeDefinition) (outside : Types) where
+module _ (definitions : List TypeDefinition) where
   abbrev next : ℕ → List ℕ
   next = leads_to definitions
 
@@ -123,7 +123,7 @@ module _ (definitions : List TypeDefinition) (outside : Types) where
       let at : stands.0 ≡ a.place = omega (arith, counted) in
       subst (λ (b : At TypeDefinition). slice_get definitions b.place ≡ Some b.what) same (subst (λ k. slice_get definitions k ≡ Some a.what) at stands.2)
 
-  there : (name : List ℕ) (d : At TypeDefinition) → definition_of definitions name ≡ Some d → slice_get definitions d.place ≡ Some d.what
+  pub there : (name : List ℕ) (d : At TypeDefinition) → definition_of definitions name ≡ Some d → slice_get definitions d.place ≡ Some d.what
   there name d e = found_there name (definition_of definitions name) (first_stands (λ t. bytes_eq t.name.what name) definitions 0) d e
 
   step_to : (d e : At TypeDefinition) (name other : List ℕ) → definition_of definitions name ≡ Some d → Among (shape_names d.what.shape) other
@@ -161,11 +161,20 @@ module _ (definitions : List TypeDefinition) (outside : Types) where
         (λ later. onward next (length path) q d.place o.place (p.lead d is q later) step) (either (eqb q d.place) (list_any (eqb q) path) e);
   }
 
+  start : (name : List ℕ) → Passed [] name
+  unfolding IsDistinct
+  start name = record {
+    once = tt;
+    below = λ q e. absurd cc;
+    lead = λ d is q e. absurd cc;
+  }
+
+module _ (definitions : List TypeDefinition) (outside : Types) where
   -- what names stand for doesn't depend on how often definitions are followed, where that is often enough
-  same_within : (count more : ℕ) (path : List ℕ) (name : List ℕ) → length definitions < count + length path → length definitions < more + length path → Passed path name
+  same_within : (count more : ℕ) (path : List ℕ) (name : List ℕ) → length definitions < count + length path → length definitions < more + length path → Passed definitions path name
       → (at : ℕ) → types_within count definitions outside at name ≡ types_within more definitions outside at name
-  same_within zero more path name enough also p at = absurd (omega (arith, enough, short path name p))
-  same_within (suc count) zero path name enough also p at = absurd (omega (arith, also, short path name p))
+  same_within zero more path name enough also p at = absurd (omega (arith, enough, short definitions path name p))
+  same_within (suc count) zero path name enough also p at = absurd (omega (arith, also, short definitions path name p))
   same_within (suc count) (suc more) path name enough also p at =
       elim (definition_of definitions name) as (λ o. definition_of definitions name ≡ o
       → defined_type definitions outside (types_within count definitions outside) at name o ≡ defined_type definitions outside (types_within more definitions outside) at name o) [
@@ -180,23 +189,15 @@ module _ (definitions : List TypeDefinition) (outside : Types) where
                   same_shape (types_within count definitions outside) (types_within more definitions outside) d.what.shape
                   (all_of (λ other. (place : ℕ) → types_within count definitions outside place other ≡ types_within more definitions outside place other)
                   (shape_names d.what.shape) (λ other among.
-                  same_within count more (d.place ∷ path) other fewer fewer_more (passed_on path name other d p is circle among)))
+                  same_within count more (d.place ∷ path) other fewer fewer_more (passed_on definitions path name other d p is circle among)))
             ] refl
       ] refl
-
-  start : (name : List ℕ) → Passed [] name
-  unfolding IsDistinct
-  start name = record {
-    once = tt;
-    below = λ q e. absurd cc;
-    lead = λ d is q e. absurd cc;
-  }
 
   one_more : (name : List ℕ) (at : ℕ) → types_of definitions outside at name ≡ types_within (suc (suc (length definitions))) definitions outside at name
   one_more name at =
       let enough : length definitions < suc (length definitions) + 0 = omega arith in
       let also : length definitions < suc (suc (length definitions)) + 0 = omega arith in
-      same_within (suc (length definitions)) (suc (suc (length definitions))) [] name enough also (start name) at
+      same_within (suc (length definitions)) (suc (suc (length definitions))) [] name enough also (start definitions name) at
 
 pub names_law : NamesLaw
 names_law definitions outside at name = one_more definitions outside name at

@@ -1,0 +1,36 @@
+//! Refusals of types.
+ghost use Rattle.std.specs.Prelude.{Some};
+ghost use Rattle.spl_tree.specs.declared.keyword.Keyword.TheVariants as W;
+ghost use Rattle.spl_tree.specs.Words.{keyword_word};
+ghost use Rattle.stream_model.specs.declared.scope.CheckError.TheVariants as E;
+ghost use Rattle.stream_model.specs.Typing.{refused, unknown};
+ghost use Rattle.type_rules.specs.Finds.{Finds};
+
+use spl_tree::{Keyword, LeftOut};
+use spl_value::{Items, SplType};
+use std::alloc::Global;
+use stream_model::{CheckError, CheckRefusal};
+use type_rules::TypeAnswer;
+
+/// A refusal of a name or a word.
+fn refused(alloc: Global, error: CheckError, at: u32, name: &[u8]) -> Result<SplType, TypeAnswer>
+    ensures { Finds (refused error at (Some name.now)) result }
+{
+    let name = Some(Items::from_slice(alloc, name)?);
+    Err(TypeAnswer::Refused(CheckRefusal { error, at, name }))
+}
+
+/// A name that stands for nothing.
+pub(super) fn unknown(alloc: Global, at: u32, name: &[u8]) -> Result<SplType, TypeAnswer>
+    ensures { Finds (unknown at name.now) result }
+{
+    refused(alloc, CheckError::Unknown, at, name)
+}
+
+/// The word of a type that is left out.
+pub(super) fn left_out(alloc: Global, at: u32, word: LeftOut) -> Result<SplType, TypeAnswer>
+    ensures { Finds (refused E.LeftOut at (Some (keyword_word (W.LeftOut word)))) result }
+{
+    let word = Keyword::LeftOut(word);
+    refused(alloc, CheckError::LeftOut, at, word.word())
+}
