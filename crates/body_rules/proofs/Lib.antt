@@ -6,3 +6,13 @@ mod DefinedPlaces
 mod Circles
 mod Gathering
 mod Meanings
+mod Weights
+mod Steps
+mod Lengths
+mod BodyRows
+mod Ending
+mod SameKinds
+mod StatementLeads
+mod Submitting
+mod Stopping
+mod Signing

@@ -3,3 +3,6 @@ pub mod Stepping
 pub mod Definitions
 pub mod Circles
 pub mod TypeScopes
+pub mod Settings
+pub mod Leads
+pub mod Signatures

@@ -74,7 +74,7 @@ fn member_marker(base: Option<&Name>, steps: &[Step<Expr>]) -> Option<Marker>
 
 /// The marker that the expression is: `Sys.WindowMarker` or `Sys.FinalMarker`.
 #[tactic(auto, using(stream_model::specs::TypingLaws::form_laws))]
-pub(crate) fn marker(expr: &Expr) -> Option<Marker>
+pub fn marker(expr: &Expr) -> Option<Marker>
     ensures { result ≡ (part expr.now.what).form.marker }
 {
     match &expr.what {

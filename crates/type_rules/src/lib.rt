@@ -15,6 +15,7 @@ mod rules;
 mod statements;
 
 pub use answer::TypeAnswer;
+pub use forms::marker;
 pub use rules::type_of;
 pub use statements::{assignment_of, call_of, compound_of};
 pub use stream_model::{

@@ -1,0 +1,93 @@
+-- How far the loops over statements and branches have come.
+use Rattle.std.specs.Prelude.{◌≡◌, ℕ, suc, ◌+◌, ◌<◌, ◌≤◌, List, [], ◌∷◌, ◌++◌, length, drop, Bool, Ok, Err}
+use Rattle.std.proofs.Common.{refl, ap, sym, subst, ◌∙◌, append_assoc, append-nil, get_or, drop-cons, add-one}
+use Rattle.std.proofs.lemmas.List.{drop_all}
+use Rattle.spl_tree.specs.declared.body.Statement.{Statement}
+use Rattle.spl_tree.specs.declared.code.Code.{Code}
+use Rattle.spl_tree.specs.declared.code.Slot.{Slot}
+use Rattle.spl_tree.specs.Grammar.{Expr}
+use Rattle.spl_tree.specs.StatementGrammar.{Stmt}
+use Rattle.stream_model.specs.declared.scope.Scope.{Scope}
+use Rattle.stream_model.specs.BodyTyping.{Setting, alone, arms_typing, condition_typing, part_stated, row_typing, stated}
+use Rattle.stream_model.specs.BodyTypingLaws.{arms_stated, row_stated}
+use Rattle.stream_model.specs.Typing.{Found, after}
+use Rattle.type_rules.specs.declared.answer.TypeAnswer.{TypeAnswer}
+use Rattle.type_rules.specs.declared.answer.TypeAnswer.TheVariants.{Refused, Memory}
+use Rattle.type_rules.specs.Finds.{Finds, with_front}
+use Rattle.body_rules.specs.Leads.{Leads}
+use Rattle.body_rules.proofs.Steps.{after_after, stops}
+
+-- the rest of a list from a place on
+pub drop_at : {A : Type 0} (xs : List A) (i : ℕ) (x : A) → i < length xs → x ≡ get_or xs i x → drop i xs ≡ x ∷ drop (i + 1) xs
+drop_at xs i x h e = rw add-one (drop-cons xs i x h ∙ ap (λ y. y ∷ drop (suc i) xs) (sym e))
+
+-- ---- rows whose items don't depend on one another
+
+-- a row whose items are gone through by S
+pub record IsRow {X Y : Type 0} (S : X → Found Y) (R : List X → Found (List Y)) : Type 0 where
+  pub none : R [] ≡ Ok []
+  pub more : (x : X) (xs : List X) → R (x ∷ xs) ≡ after (S x) (λ y. after (R xs) (λ ys. Ok (y ∷ ys)))
+
+module _ {X Y : Type 0} (S : X → Found Y) (R : List X → Found (List Y)) (is : IsRow S R) (xs : List X) (i : ℕ) (front : List Y) where
+  pub row_past : length xs ≤ i → with_front front (R (drop i xs)) ≡ Ok front
+  row_past h = ap (λ r. with_front front (R r)) (drop_all i xs h) ∙ ap (with_front front) is.none ∙ ap Ok (append-nil front)
+
+  module _ (x : X) (h : i < length xs) (e : x ≡ get_or xs i x) where
+    rest : R (drop i xs) ≡ after (S x) (λ y. after (R (drop (i + 1) xs)) (λ ys. Ok (y ∷ ys)))
+    rest = ap R (drop_at xs i x h e) ∙ is.more x (drop (i + 1) xs)
+
+    pub row_on : (y : Y) (zs : List Y) → S x ≡ Ok y → zs ≡ front ++ y ∷ [] → with_front front (R (drop i xs)) ≡ with_front zs (R (drop (i + 1) xs))
+    row_on y zs s z =
+        ap (with_front front) (rest ∙ ap (λ o. after o (λ y. after (R (drop (i + 1) xs)) (λ ys. Ok (y ∷ ys)))) s)
+        ∙ after_after (R (drop (i + 1) xs)) (λ ys. Ok (y ∷ ys)) (λ ys. Ok (front ++ ys))
+        ∙ (λ j. after (R (drop (i + 1) xs)) (λ ys. Ok (sym (append_assoc front (y ∷ []) ys) j)))
+        ∙ ap (λ l. with_front l (R (drop (i + 1) xs))) (sym z)
+
+    pub row_stops : (a : TypeAnswer) → Finds (S x) (Err a) → Finds (with_front front (R (drop i xs))) (Err a)
+    row_stops a f =
+        stops (R (drop i xs)) (λ ys. Ok (front ++ ys)) a
+        (subst (λ o. Finds o (Err a)) (sym rest) (stops (S x) (λ y. after (R (drop (i + 1) xs)) (λ ys. Ok (y ∷ ys))) a f))
+
+module _ (setting : Setting) (inside : Bool) (scope : Scope) where
+  -- a branch with its condition
+  abbrev pub branch : Expr × Stmt → Found (Code Slot × List Statement)
+  branch a = after (condition_typing scope a.0) (λ code. after (alone setting inside scope (stated a.1)) (λ row. Ok (code, row)))
+
+  abbrev pub branch_row : List (Expr × Stmt) → Found (List (Code Slot × List Statement))
+  branch_row arms = arms_typing setting inside scope (arms_stated arms)
+
+  pub branches_row : IsRow branch branch_row
+  branches_row = record { none = refl; more = λ a arms. sym (unrolled a arms) }
+    where
+      unrolled : (a : Expr × Stmt) (arms : List (Expr × Stmt)) → after (branch a) (λ y. after (branch_row arms) (λ ys. Ok (y ∷ ys))) ≡ branch_row (a ∷ arms)
+      unrolled a arms =
+          after_after (condition_typing scope a.0) (λ code. after (alone setting inside scope (stated a.1)) (λ row. Ok (code, row))) (λ y. after (branch_row arms) (λ ys. Ok (y ∷ ys)))
+          ∙ (λ i. after (condition_typing scope a.0) (λ code. after_after (alone setting inside scope (stated a.1)) (λ row. Ok (code, row)) (λ y. after (branch_row arms) (λ ys. Ok (y ∷ ys))) i))
+
+-- ---- statements, each in the scope behind those before it
+
+module _ (setting : Setting) (inside : Bool) (ss : List Stmt) (i : ℕ) (front : List Statement) (scope : Scope) where
+  abbrev pub statements_from : ℕ → List Statement → Scope → Found (List Statement)
+  statements_from i front scope = with_front front (row_typing setting inside scope (row_stated (drop i ss)))
+
+  pub statements_past : length ss ≤ i → statements_from i front scope ≡ Ok front
+  statements_past h = ap (λ r. with_front front (row_typing setting inside scope (row_stated r))) (drop_all i ss h) ∙ ap Ok (append-nil front)
+
+  module _ (s : Stmt) (h : i < length ss) (e : s ≡ get_or ss i s) where
+    abbrev behind : Statement × Scope → Found (List Statement)
+    behind x = after (row_typing setting inside x.1 (row_stated (drop (i + 1) ss))) (λ row. Ok (x.0 ∷ row))
+
+    statements_are : row_typing setting inside scope (row_stated (drop i ss)) ≡ after (part_stated (stated s) setting inside scope) behind
+    statements_are = ap (λ r. row_typing setting inside scope (row_stated r)) (drop_at ss i s h e)
+
+    pub statements_on : (x : Statement) (next : Scope) (zs : List Statement) → part_stated (stated s) setting inside scope ≡ Ok (x, next) → zs ≡ front ++ x ∷ []
+        → statements_from i front scope ≡ statements_from (i + 1) zs next
+    statements_on x next zs found z =
+        ap (with_front front) (statements_are ∙ ap (λ o. after o behind) found)
+        ∙ after_after (row_typing setting inside next (row_stated (drop (i + 1) ss))) (λ ys. Ok (x ∷ ys)) (λ ys. Ok (front ++ ys))
+        ∙ (λ j. after (row_typing setting inside next (row_stated (drop (i + 1) ss))) (λ ys. Ok (sym (append_assoc front (x ∷ []) ys) j)))
+        ∙ ap (λ l. statements_from (i + 1) l next) (sym z)
+
+    pub statements_stop : (a : TypeAnswer) (next : Scope) → Leads (part_stated (stated s) setting inside scope) (Err a) next → Finds (statements_from i front scope) (Err a)
+    statements_stop (Refused r) next found = ap (with_front front) (statements_are ∙ ap (λ o. after o behind) found)
+    statements_stop Memory next found = tt

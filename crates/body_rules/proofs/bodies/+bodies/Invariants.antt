@@ -1,0 +1,41 @@
+use Rattle.std.proofs.Common.{◌≡◌, ◌≤◌, ◌+◌, drop, length}
+use Rattle.stream_model.specs.BodyTyping.{row_typing, arms_typing}
+use Rattle.stream_model.specs.BodyTypingLaws.{row_stated, arms_stated}
+use Rattle.type_rules.specs.Finds.{with_front}
+use Rattle.body_rules.specs.Leads.{shortened}
+use Rattle.body_rules.specs.Settings.{setting_meant}
+use Rattle.body_rules.proofs.Weights.{statement_weight, statement_weights, arm_weights, other_weight}
+use Rattle.body_rules.proofs.bodies.+bodies.Given as goal
+
+abbrev pub invariant-row-loop-statement : goal.invariant-row-loop-statement
+invariant-row-loop-statement l = record {
+  within : l.before ≤ length l.scope.vars;
+  same : row_typing (setting_meant l.setting) l.inside l.initial.scope (row_stated l.statements)
+      ≡ with_front l.body (row_typing (setting_meant l.setting) l.inside l.scope (row_stated (drop l.statement-index l.statements)));
+  kept : shortened l.before l.scope ≡ l.initial.scope;
+}
+
+abbrev pub invariant-branches-loop-arm : goal.invariant-branches-loop-arm
+invariant-branches-loop-arm l = record {
+  same : arms_typing (setting_meant l.setting) l.inside l.initial.scope (arms_stated l.arms)
+      ≡ with_front l.branches (arms_typing (setting_meant l.setting) l.inside l.scope (arms_stated (drop l.arm-index l.arms)));
+  kept : l.scope ≡ l.initial.scope;
+}
+
+abbrev pub decreases-statement_of : goal.decreases-statement_of
+decreases-statement_of l = statement_weight l.statement.now
+
+abbrev pub decreases-row : goal.decreases-row
+decreases-row l = statement_weights l.statements.now + 1
+
+abbrev pub decreases-alone : goal.decreases-alone
+decreases-alone l = statement_weight l.statement.now + 1
+
+abbrev pub decreases-branches : goal.decreases-branches
+decreases-branches l = arm_weights l.arms.now + 2
+
+abbrev pub decreases-otherwise : goal.decreases-otherwise
+decreases-otherwise l = other_weight l.other.now + 2
+
+abbrev pub decreases-for_each : goal.decreases-for_each
+decreases-for_each l = statement_weight l.body.now + 2

@@ -1,0 +1,11 @@
+use Rattle.std.proofs.Common.{◌≡◌, drop}
+use Rattle.stream_model.specs.Composites.{functions}
+use Rattle.stream_model.specs.FunctionTyping.{each_typed, unit_scope}
+use Rattle.type_rules.specs.Finds.{with_front}
+use Rattle.body_rules.proofs.functions.functions_of.Given as goal
+
+abbrev pub invariant-loop-definition : goal.invariant-loop-definition
+invariant-loop-definition l = record {
+  same : each_typed l.unit (functions l.unit) ≡ with_front l.functions (each_typed l.unit (functions (drop l.definition-index l.unit)));
+  kept : l.scope ≡ unit_scope l.unit;
+}

@@ -1,0 +1,6 @@
+use Rattle.std.proofs.Common.{◌≡◌}
+use Rattle.stream_model.specs.FunctionTyping.{kinds}
+use Rattle.body_rules.proofs.functions.kinds.Given as goal
+
+abbrev pub invariant-loop-attribute : goal.invariant-loop-attribute
+invariant-loop-attribute l = l.made ≡ kinds l.yielded

@@ -1,0 +1,37 @@
+//! Variables of scopes.
+ghost use Rattle.std.specs.Prelude.{◌≡◌, IfOk};
+ghost use Rattle.stream_model.specs.BodyFits.{with_variable};
+ghost use Rattle.stream_model.specs.BodyTyping.{variable};
+ghost use Rattle.body_rules.specs.Leads.{shortened};
+
+use spl_value::{Items, Name, NoMemory, SplType};
+use std::alloc::Global;
+use stream_model::{Scope, Variable};
+
+/// Adds a variable behind those that there are.
+pub(crate) fn add_variable(
+    alloc: Global,
+    scope: &mut Scope,
+    mutable: bool,
+    name: &Name,
+    kind: SplType,
+) -> Result<(), NoMemory>
+    ensures { IfOk result (λ _. scope.new ≡ with_variable scope.old (variable mutable name.now kind)) }
+{
+    let name = Items::from_slice(alloc, name.as_slice())?;
+    scope.vars.push(Variable {
+        name,
+        kind,
+        mutable,
+    })?;
+    Ok(())
+}
+
+/// Takes off all variables but the first ones.
+pub(crate) fn drop_variables(scope: &mut Scope, count: usize)
+    ensures { scope.new ≡ shortened count scope.old }
+{
+    'variables: while scope.vars.len() > count {
+        scope.vars.pop();
+    }
+}
