@@ -5,7 +5,8 @@ use Rattle.spl_tree.specs.Grammar.{Spells}
 use Rattle.expr_parser.specs.declared.answer.SyntaxAnswer.TheVariants as A
 use Rattle.expr_parser.specs.Expressions.{one_tree}
 use Rattle.expr_parser.specs.PhraseLaws.{phrase_one, not_both, unexpected_one}
-use Rattle.expr_parser.specs.Parses.{place_of, OneAnswerLaw}
+use Rattle.spl_tree.specs.Units.{place_of}
+use Rattle.expr_parser.specs.Parses.{OneAnswerLaw}
 
 -- the rest of a list begins at one place
 one_place : (ts : List Token) (m n : ℕ) → m ≤ length ts → n ≤ length ts → drop m ts ≡ drop n ts → m ≡ n

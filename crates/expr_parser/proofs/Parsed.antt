@@ -8,12 +8,13 @@ use Rattle.spl_tree.specs.Grammar.{Expr, Spells}
 use Rattle.spl_tree.specs.Weights.{too_deep_from}
 use Rattle.expr_parser.specs.Rules.{Took, Refused, Reads}
 use Rattle.expr_parser.specs.Lines.{Whole, rule}
-use Rattle.expr_parser.specs.Phrases.{IsPhrase, IsUnexpected}
+use Rattle.spl_tree.specs.Fronts.{IsPhrase, IsUnexpected}
 use Rattle.expr_parser.specs.Expressions.{exact_took, exact_refused}
 use Rattle.expr_parser.specs.declared.stop.Stop.{Stop}
 use Rattle.expr_parser.specs.declared.stop.Stop.TheVariants as S
 use Rattle.expr_parser.specs.Gives.{Gives, Begun}
-use Rattle.expr_parser.specs.Parses.{place_of, IsParsed, IsUnexpectedAt}
+use Rattle.spl_tree.specs.Units.{place_of}
+use Rattle.expr_parser.specs.Parses.{IsParsed, IsUnexpectedAt}
 
 -- what stands behind a front of the tokens from a place on
 record Ends (list : List Token) (from : ℕ) (rest : List Token) : Type 0 where

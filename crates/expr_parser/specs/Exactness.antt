@@ -5,7 +5,7 @@ use Rattle.spl_tree.specs.declared.token.Token.{Token}
 use Rattle.expr_parser.specs.Rules.{Rule, Answer, Took, Refused, Spent, read, Reads}
 use Rattle.expr_parser.specs.RuleLaws.{Settled, read_more, reads_one}
 use Rattle.expr_parser.specs.Locality.{rest_of, leaving, Keeps, leaves, keeps}
-use Rattle.expr_parser.specs.Phrases.{Starts, Longest, IsPhrase, IsUnexpected}
+use Rattle.spl_tree.specs.Fronts.{Starts, Longest, IsPhrase, IsUnexpected}
 use Rattle.expr_parser.specs.Soundness.{Takes, Begins, Sound}
 
 module _ {Line : Type 0} {Value : Line → Type 0} (rule : (x : Line) → Rule Line Value (Value x)) (whole : Line)

@@ -3,7 +3,7 @@ use Rattle.std.proofs.Common.{◌≡◌, List}
 use Rattle.spl_tree.specs.declared.token.Token.{Token}
 use Rattle.spl_tree.specs.Grammar.{Expr, Spells}
 use Rattle.expr_parser.specs.Rules.{Took, Refused, Reads}
-use Rattle.expr_parser.specs.Phrases.{IsPhrase, IsUnexpected}
+use Rattle.spl_tree.specs.Fronts.{IsPhrase, IsUnexpected}
 use Rattle.expr_parser.specs.Exactness.{one, exact_phrase, exact_unexpected}
 use Rattle.expr_parser.specs.Lines.{Whole, rule}
 use Rattle.expr_parser.specs.Complete.{complete}

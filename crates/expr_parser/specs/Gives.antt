@@ -10,7 +10,7 @@ use Rattle.spl_tree.specs.declared.expression.Step.{Step}
 use Rattle.spl_tree.specs.declared.symbol.Symbol.TheVariants as K
 use Rattle.spl_tree.specs.declared.expression.Placed.{Placed}
 use Rattle.spl_tree.specs.Grammar.{Expr, Prefix, placed, Spells}
-use Rattle.expr_parser.specs.Phrases.{IsPhrase, IsUnexpected}
+use Rattle.spl_tree.specs.Fronts.{IsPhrase, IsUnexpected}
 use Rattle.expr_parser.specs.RuleLaws.{begins_with}
 use Rattle.expr_parser.specs.Taken.{Taken, TakenAs}
 use Rattle.expr_parser.specs.Lines.{Line, Value, Prefixed, Primary, Group, Steps, rule, R, is, is_name, name_of, operand_rule}

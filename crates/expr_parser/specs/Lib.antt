@@ -1,7 +1,6 @@
 pub mod Rules
 pub mod RuleLaws
 pub mod Locality
-pub mod Phrases
 pub mod Soundness
 pub mod Exactness
 pub mod Lines

@@ -1,18 +1,14 @@
 -- What reading an expression from the tokens of a program answers.
-use Rattle.std.specs.Prelude.{◌≡◌, ◌⊎◌, ℕ, ◌≤◌, List, length, drop, slice_get, Some, None, Result, Ok, Err}
-use Rattle.std.specs.Option.{option_map, unwrap_or}
+use Rattle.std.specs.Prelude.{◌≡◌, ◌⊎◌, ℕ, ◌≤◌, List, length, drop, None, Result, Ok, Err}
 use Rattle.spl_tree.specs.declared.token.Token.{Token}
 use Rattle.spl_tree.specs.declared.token.Tokens.{Tokens}
 use Rattle.spl_tree.specs.Grammar.{Expr, Spells}
+use Rattle.spl_tree.specs.Units.{IsTooDeepAt, place_of}
 use Rattle.spl_tree.specs.Weights.{too_deep_from}
 use Rattle.expr_parser.specs.declared.answer.ParsedExpr.{ParsedExpr}
 use Rattle.expr_parser.specs.declared.answer.SyntaxAnswer.{SyntaxAnswer}
 use Rattle.expr_parser.specs.declared.answer.SyntaxAnswer.TheVariants as A
-use Rattle.expr_parser.specs.Phrases.{IsPhrase, IsUnexpected}
-
--- the byte at which that token of the list begins, or the program's end where there is none
-abbrev pub place_of : Tokens → ℕ → ℕ
-place_of tokens i = unwrap_or (option_map (λ t. t.start) (slice_get tokens.list i)) tokens.length
+use Rattle.spl_tree.specs.Fronts.{IsPhrase, IsUnexpected}
 
 -- no token from there on is too deep, and the longest front of these tokens that starts an expression is one, and
 -- ends before the next token
@@ -31,12 +27,6 @@ pub record IsUnexpectedAt (tokens : Tokens) (from at : ℕ) : Type 0 where
   pub within : token ≤ length tokens.list
   pub place : at ≡ place_of tokens token
   pub unexpected : IsUnexpected Spells (drop from tokens.list) (drop token tokens.list)
-
--- of the tokens from there on, the first that is too deep is the one of that place
-pub record IsTooDeepAt (tokens : Tokens) (from at : ℕ) : Type 0 where
-  pub token : ℕ
-  pub first : too_deep_from from tokens.list ≡ Some token
-  pub place : at ≡ place_of tokens token
 
 -- what is answered of the expression at a token; nothing is said where memory was wanting, or room on the stack
 abbrev pub Parses : Tokens → ℕ → Result ParsedExpr SyntaxAnswer → Type 0

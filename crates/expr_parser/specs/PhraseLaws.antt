@@ -1,7 +1,7 @@
 -- What reading a phrase has to answer is one thing.
 use Rattle.std.proofs.Common.{◌≡◌, ◌∙◌, ◌⊎◌, inl, inr, List, [], ◌∷◌, ◌++◌, refl, sym, ap, subst, append_assoc, append-nil}
 use Rattle.spl_tree.specs.declared.token.Token.{Token}
-use Rattle.expr_parser.specs.Phrases.{Starts, Longest, IsPhrase, IsUnexpected}
+use Rattle.spl_tree.specs.Fronts.{Starts, Longest, IsPhrase, IsUnexpected}
 
 -- the first front is the second one with more tokens behind it
 pub record Exceeds (f r g s : List Token) : Type 0 where

@@ -13,7 +13,7 @@ use Rattle.spl_tree.specs.declared.expression.Step.TheVariants as N
 use Rattle.spl_tree.specs.Grammar.{Expr, Prefix, placed, Is, Names, Literal, dollar, number, text, yes, no, Prefixes, no_prefixes, operator, cast, Primary, literal, name, call, group, list, empty_map, map, tuple, Elements, no_elements, elements, Items, first_item, next_item, Entries, first_entry, next_entry, Fields, first_field, next_field, Steps, no_steps, member, index, Operand, primary, select, Unary, operand, prefixed, At, unary, tighter, binary, Spells, plain, conditional}
 use Rattle.expr_parser.specs.Rules as rules
 use Rattle.expr_parser.specs.Rules.{done, stop, look, read}
-use Rattle.expr_parser.specs.Phrases.{Starts}
+use Rattle.spl_tree.specs.Fronts.{Starts}
 use Rattle.expr_parser.specs.Soundness.{Phrase, Behind, After, Leads, leads_some, Sound, sound as sound_lines}
 use Rattle.expr_parser.specs.Lines as lines
 use Rattle.expr_parser.specs.Lines.{Line, Value, Whole, Rest, Climb, Chain, Prefixed, Group, Named, Brace, rule, R, is, expect, field, field_rule, operator_of, is_name, name_of}

@@ -1,6 +1,7 @@
 //! Expressions of a program.
 ghost use Rattle.std.specs.Prelude.{◌≡◌, ◌≤◌, length};
-ghost use Rattle.expr_parser.specs.Parses.{place_of, Parses};
+ghost use Rattle.spl_tree.specs.Units.{place_of};
+ghost use Rattle.expr_parser.specs.Parses.{Parses};
 
 use crate::answer::{ParsedExpr, SyntaxAnswer};
 use crate::reading::expr;

@@ -26,7 +26,7 @@ use Rattle.expr_parser.specs.Expressions.{exact_took}
 use Rattle.expr_parser.specs.declared.answer.SyntaxAnswer.{SyntaxAnswer}
 use Rattle.expr_parser.specs.declared.answer.SyntaxAnswer.TheVariants as A
 use Rattle.expr_parser.specs.Parses.{IsParsed, Parses, OneAnswerLaw}
-use Rattle.expr_parser.specs.Phrases.{IsPhrase}
+use Rattle.spl_tree.specs.Fronts.{IsPhrase}
 use Rattle.expr_parser.specs.TestLaws.{binds, Stops}
 use Rattle.spl_driver.specs.declared.TheConstants.{FRONT, BACK}
 use Rattle.spl_driver.specs.Form.{kinds, kinds_of, behind, is_end, condition_of, HasForm}

@@ -8,6 +8,8 @@ pub mod Phrases
 pub mod TypeGrammar
 pub mod StatementGrammar
 pub mod UnitGrammar
+pub mod Fronts
+pub mod Units
 pub mod UnitExamples
 pub mod Induction
 pub mod Ranges

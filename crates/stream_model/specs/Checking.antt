@@ -25,22 +25,24 @@ use Rattle.spl_tree.specs.declared.unit.OutputAssignments.{OutputAssignments}
 use Rattle.spl_tree.specs.declared.unit.OutputStream.{OutputStream}
 use Rattle.spl_tree.specs.declared.unit.Parameter.{Parameter}
 use Rattle.spl_tree.specs.declared.unit.PortWindow.{PortWindow}
-use Rattle.stream_model.specs.declared.checked.Checked.{Checked}
+use Rattle.stream_model.specs.declared.checked.Given.{Given}
 use Rattle.stream_model.specs.declared.checked.Part.{Part}
 use Rattle.stream_model.specs.declared.checked.Part.TheVariants as A
 use Rattle.stream_model.specs.declared.checked.ParameterValue.{ParameterValue}
 use Rattle.stream_model.specs.declared.checked.ParameterValue.TheVariants as V
 use Rattle.stream_model.specs.declared.checked.Policy.{Policy}
+use Rattle.stream_model.specs.declared.checked.PortTypes.{PortTypes}
 use Rattle.stream_model.specs.declared.checked.Position.{Position}
 use Rattle.stream_model.specs.declared.scope.CheckError.TheVariants as E
 use Rattle.stream_model.specs.declared.scope.Port.{Port}
 use Rattle.stream_model.specs.declared.scope.Scope.{Scope}
+use Rattle.stream_model.specs.CheckedGraph.{CheckedGraph}
 use Rattle.stream_model.specs.FunctionTyping.{functions_typing, unit_scope}
 use Rattle.stream_model.specs.Literals.{followed, number_literal}
 use Rattle.stream_model.specs.LogicTyping.{Surroundings, logic_typing}
 use Rattle.stream_model.specs.Numbering.{numbers_from}
 use Rattle.stream_model.specs.OutputTyping.{groups_typing, inputs_typing, tuple_typing}
-use Rattle.stream_model.specs.ParameterTyping.{Given, Site, missing, needed, parameters_typing, value_given}
+use Rattle.stream_model.specs.ParameterTyping.{Site, missing, needed, parameters_typing, value_given}
 use Rattle.stream_model.specs.Parameters.{Tables, dollar_tables, table_at}
 use Rattle.stream_model.specs.Policies.{Numbers, aggregate_policy, bad_window, join_policy, window_at, windows_typing}
 use Rattle.stream_model.specs.StreamTypes.{Attributes, Body, Passes, body_at, outputs_attributes, passed, ports_attributes, same_attributes, stream_attributes}
@@ -97,10 +99,6 @@ ports_of (q ∷ qs) (schema ∷ schemas) = record { name = port_name q; schema =
 ports_of qs schemas = []
 
 -- the attributes of an operator's inputs and outputs
-pub record PortTypes : Type 0 where
-  pub ins : List Attributes
-  pub outs : List Attributes
-
 abbrev pub port_types : List Definition → Graph → Body → Op → Invocation → Found PortTypes
 port_types unit g b op i =
     after (outputs_attributes unit g b i.outputs op.outs) (λ outs. after (ports_attributes unit g b i.inputs op.ins) (λ ins.
@@ -224,11 +222,11 @@ level_text_form T.Bool = true
 level_text_form T.Text = true
 level_text_form _ = false
 
-abbrev pub have_text_form : List Attributes → Bool
-have_text_form schemas = list_all (λ schema. list_all (λ a. level_text_form (out-SplType a.kind)) schema) schemas
+abbrev pub has_text_form : Attributes → Bool
+has_text_form schema = list_all (λ a. level_text_form (out-SplType a.kind)) schema
 
 abbrev pub rows_checked : Checks → List Attributes → Passes
-rows_checked x schemas = if have_text_form schemas then passed else refused E.NoTextForm x.at None
+rows_checked x schemas = if list_all has_text_form schemas then passed else refused E.NoTextForm x.at None
 
 -- ---- one operator
 
@@ -338,7 +336,7 @@ abbrev pub each_stream : List Definition → Graph → List ℕ → Found (List 
 each_stream unit g [] = Ok []
 each_stream unit g (s ∷ streams) = after (stream_attributes unit g s) (λ schema. after (each_stream unit g streams) (λ rest. Ok (schema ∷ rest)))
 
-abbrev pub checked : List Definition → Graph → Found Checked
+abbrev pub checked : List Definition → Graph → Found CheckedGraph
 checked unit g =
     after (functions_typing unit) (λ functions. after (operators_checked unit g (dollar_tables unit g.expansions) g.ops) (λ parts.
     after (each_stream unit g (numbers_from 0 (length g.streams))) (λ schemas.

@@ -69,4 +69,7 @@ pub mod Literals
 pub mod ParameterTyping
 pub mod OutputTyping
 pub mod LogicTyping
+pub mod CheckedGraph
 pub mod Checking
+pub mod Keeping
+pub mod Accepted

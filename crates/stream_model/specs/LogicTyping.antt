@@ -24,6 +24,7 @@ use Rattle.spl_tree.specs.declared.unit.HandledEvent.TheVariants as H
 use Rattle.spl_tree.specs.declared.unit.Handler.{Handler}
 use Rattle.spl_tree.specs.declared.unit.Logic.{Logic}
 use Rattle.spl_tree.specs.Grammar.{Expr}
+use Rattle.stream_model.specs.declared.checked.Handled.{Handled}
 use Rattle.stream_model.specs.declared.checked.Handlers.{Handlers}
 use Rattle.stream_model.specs.declared.checked.StateVariable.{StateVariable}
 use Rattle.stream_model.specs.declared.scope.CheckError.TheVariants as E
@@ -111,12 +112,6 @@ is_event _ _ = false
 abbrev pub event_word : HandledEvent → List ℕ
 event_word H.Tuple = codes "onTuple"
 event_word H.Punctuation = codes "onPunct"
-
--- the handler of an event on the port of a number
-pub record Handled : Type 0 where
-  pub event : HandledEvent
-  pub port : ℕ
-  pub body : List Statement
 
 -- the handler of an event on a port
 abbrev pub handler_of : HandledEvent → ℕ → List Handled → Option (List Statement)

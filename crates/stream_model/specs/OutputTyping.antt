@@ -22,6 +22,7 @@ use Rattle.spl_tree.specs.Grammar.{Expr}
 use Rattle.stream_model.specs.declared.checked.Collected.{Collected}
 use Rattle.stream_model.specs.declared.checked.Collector.{Collector}
 use Rattle.stream_model.specs.declared.checked.Collector.TheVariants as K
+use Rattle.stream_model.specs.declared.checked.Gathers.{Gathers}
 use Rattle.stream_model.specs.declared.scope.CheckError.TheVariants as E
 use Rattle.stream_model.specs.declared.scope.Port.{Port}
 use Rattle.stream_model.specs.declared.scope.Scope.{Scope}
@@ -133,11 +134,6 @@ collecting_of name =
     else None
 
 -- what an attribute gets, without its place
-pub record Gathers : Type 0 where
-  pub collector : Collector
-  pub argument : Option (Code Slot)
-  pub kind : SplType
-
 abbrev pub gathers : Collector → Code Slot → SplType → Gathers
 gathers collector code t = record { collector = collector; argument = Some code; kind = t }
 

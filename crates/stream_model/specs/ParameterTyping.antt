@@ -18,6 +18,7 @@ use Rattle.spl_tree.specs.declared.graph.OpKind.{OpKind}
 use Rattle.spl_tree.specs.declared.graph.OpKind.TheVariants as O
 use Rattle.spl_tree.specs.declared.unit.Parameter.{Parameter}
 use Rattle.spl_tree.specs.Grammar.{Expr}
+use Rattle.stream_model.specs.declared.checked.Given.{Given}
 use Rattle.stream_model.specs.declared.checked.ParameterValue.{ParameterValue}
 use Rattle.stream_model.specs.declared.checked.ParameterValue.TheVariants as V
 use Rattle.stream_model.specs.declared.checked.Position.TheVariants as P
@@ -146,11 +147,6 @@ value_typing site p AsAttributes = after (keys_typing (first_schema site.scope.p
 value_typing site p role = one_value p.name.at (single_value site role) p.values
 
 -- ---- a clause
-
--- a parameter with its value
-pub record Given : Type 0 where
-  pub name : List ℕ
-  pub value : ParameterValue
 
 abbrev pub extra : {A : Type 0} → Parameter → Found A
 extra p = refused E.ExtraParameter p.name.at (Some p.name.what)

@@ -1,6 +1,6 @@
 -- What the `$` parameters of composites stand for in each expansion: an argument, which is meant where the composite is invoked, or else
 -- the default, under the type of the parameter.
-use Rattle.std.specs.Prelude.{ℕ, zero, suc, Bool, true, false, ◌&&◌, List, [], ◌∷◌, ◌++◌, filter_map, length, if◌then◌else◌, Option, Some, None, is_some, slice_get}
+use Rattle.std.specs.Prelude.{ℕ, zero, suc, ◌==◌, Bool, true, false, ◌&&◌, not, List, [], ◌∷◌, ◌++◌, filter_map, length, if◌then◌else◌, Option, Some, None, is_some, slice_get}
 use Rattle.std.specs.List.{list_all}
 use Rattle.std.specs.Option.{option_map, option_map_or}
 use Rattle.std.specs.Str.{bytes_eq}
@@ -78,21 +78,28 @@ default_leads parameters arguments p =
 abbrev pub parameter_leads : List CompositeParameter → List Parameter → ℕ → List ℕ
 parameter_leads parameters arguments place = option_map_or (default_leads parameters arguments) (slice_get parameters place) []
 
--- those from a place on that don't lead back to themselves by their defaults
-abbrev pub own_from : (ℕ → Bool) → (CompositeParameter → Found Typed) → ℕ → List CompositeParameter → List Dollar
-own_from is_circular found place [] = []
-own_from is_circular found place (p ∷ ps) =
-    (if is_circular place then [] else record { name = p.name.what; found = found p } ∷ []) ++ own_from is_circular found (suc place) ps
+-- a parameter stands for something where it is the first of its name and its default doesn't lead back to it
+abbrev pub has_meaning : List CompositeParameter → List Parameter → ℕ → CompositeParameter → Bool
+has_meaning parameters arguments place p =
+    option_map_or (λ first. first == place) (parameter_place parameters p.name.what) false
+    && not (leads_back (length parameters) (parameter_leads parameters arguments) place)
+
+-- those from a place on that pass, with what is found for each
+abbrev pub own_from : (ℕ → CompositeParameter → Bool) → (CompositeParameter → Found Typed) → ℕ → List CompositeParameter → List Dollar
+own_from passes found place [] = []
+own_from passes found place (p ∷ ps) =
+    (if passes place p then record { name = p.name.what; found = found p } ∷ [] else []) ++ own_from passes found (suc place) ps
 
 -- defaults are followed at most so often
 abbrev pub own_within : ℕ → Types → List Dollar → List Parameter → List CompositeParameter → List Dollar
 own_within zero types outer arguments parameters = []
 own_within (suc count) types outer arguments parameters =
-    own_from (leads_back (length parameters) (parameter_leads parameters arguments))
+    own_from (has_meaning parameters arguments)
     (parameter_typing types outer (own_within count types outer arguments parameters) arguments) 0 parameters
 
 -- the parameters of a composite that is invoked with these arguments, where there are those of the outer one. One that leads back to
--- itself by its default stands for nothing; a row of defaults of others is no longer than there are parameters
+-- itself by its default stands for nothing, also where another has its name; a row of defaults of others is no longer than there are
+-- parameters
 abbrev pub parameters_given : Types → List Dollar → List Parameter → List CompositeParameter → List Dollar
 parameters_given types outer arguments parameters = own_within (length parameters) types outer arguments parameters
 

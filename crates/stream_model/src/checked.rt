@@ -1,6 +1,6 @@
 use crate::Variable;
-use spl_tree::{Body, Code, Functions, Graph, Slot};
-use spl_value::{Bytes, IntKind, Items, Places, Schema};
+use spl_tree::{Body, Code, HandledEvent, Slot};
+use spl_value::{Bytes, IntKind, Items, Name, Places, Schema, SplType};
 
 /// When a window fires, and what it holds then.
 #[derive(Clone, Copy, Debug, PartialEq, Eq)]
@@ -57,6 +57,13 @@ pub enum ParameterValue {
     Places(Places),
 }
 
+/// A parameter that an operator is given, with its value.
+#[derive(Debug, Drop)]
+pub struct Given {
+    pub name: Name,
+    pub value: ParameterValue,
+}
+
 /// What an Aggregate makes of the values of an expression in a group. `Any` is `First`.
 #[derive(Clone, Copy, Debug, PartialEq, Eq)]
 pub enum Collector {
@@ -67,6 +74,14 @@ pub enum Collector {
     First,
     Last,
     Count,
+}
+
+/// What an output attribute of an Aggregate gets, of which type. `Count` has no argument.
+#[derive(Debug, Drop)]
+pub struct Gathers {
+    pub collector: Collector,
+    pub argument: Option<Code<Slot>>,
+    pub kind: SplType,
 }
 
 /// An output attribute of an Aggregate, by its place, and what it gets. `Count` has no argument.
@@ -82,6 +97,14 @@ pub struct Collected {
 pub struct StateVariable {
     pub variable: Variable,
     pub first: Code<Slot>,
+}
+
+/// A handler of a Custom: the event, the input port by its number, and what is done.
+#[derive(Debug, Drop)]
+pub struct Handled {
+    pub event: HandledEvent,
+    pub port: u32,
+    pub body: Body,
 }
 
 /// What a Custom does on tuples and on markers, by its input ports. The first variables of each body are
@@ -139,14 +162,9 @@ pub enum Part {
     },
 }
 
-/// A graph whose types and clauses fit.
+/// The attributes of an operator's input and output ports.
 #[derive(Debug, Drop)]
-pub struct Checked {
-    pub graph: Graph,
-    /// The attributes of each stream.
-    pub schemas: Items<Schema>,
-    /// The functions of the program, in the order of the text.
-    pub functions: Functions,
-    /// The clauses of each operator, in the operators' order.
-    pub parts: Items<Part>,
+pub struct PortTypes {
+    pub ins: Items<Schema>,
+    pub outs: Items<Schema>,
 }

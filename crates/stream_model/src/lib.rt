@@ -2,6 +2,7 @@
 #![tactic(auto)]
 
 mod checked;
+mod checked_graph;
 mod checks;
 mod env;
 mod expansion;
@@ -12,9 +13,10 @@ mod record;
 mod scope;
 
 pub use checked::{
-    Checked, Collected, Collector, Handlers, ParameterValue, Part, Policy, Position, StateVariable,
-    WindowRule,
+    Collected, Collector, Gathers, Given, Handled, Handlers, ParameterValue, Part, Policy,
+    PortTypes, Position, StateVariable, WindowRule,
 };
+pub use checked_graph::Checked;
 pub use checks::{bodies_law, checks_on_literals, types_law, types_on_literals};
 pub use env::{Env, Tuples};
 pub use expansion::{ExpansionRefusal, Operation, Source};

@@ -4,7 +4,7 @@ use Rattle.spl_tree.specs.declared.token.Token.{Token}
 use Rattle.spl_tree.specs.UnitGrammar.{SpellsUnit}
 use Rattle.expr_parser.specs.declared.answer.SyntaxAnswer.TheVariants as A
 use Rattle.expr_parser.specs.PhraseLaws.{longest_one}
-use Rattle.expr_parser.specs.Parses.{place_of}
+use Rattle.spl_tree.specs.Units.{place_of}
 use Rattle.unit_parser.specs.Parses.{OneAnswerLaw}
 use Rattle.unit_parser.specs.Units.{one_unit}
 

@@ -9,10 +9,10 @@ use Rattle.spl_tree.specs.declared.unit.Definition.{Definition}
 use Rattle.spl_tree.specs.UnitGrammar.{SpellsUnit}
 use Rattle.spl_tree.specs.Weights.{too_deep_from}
 use Rattle.expr_parser.specs.Rules.{Took, Refused, Reads}
-use Rattle.expr_parser.specs.Parses.{place_of}
-use Rattle.expr_parser.specs.Phrases.{Longest, IsPhrase, IsUnexpected}
+use Rattle.spl_tree.specs.Units.{place_of}
+use Rattle.spl_tree.specs.Fronts.{Longest, IsPhrase, IsUnexpected}
 use Rattle.unit_parser.specs.Lines.{Whole, rule}
-use Rattle.unit_parser.specs.Parses.{IsUnit, IsUnexpectedAt}
+use Rattle.spl_tree.specs.Units.{IsUnit, IsUnexpectedAt}
 use Rattle.unit_parser.specs.Units.{exact_took, exact_refused}
 
 -- with a token left behind the longest front, the tokens spell no unit

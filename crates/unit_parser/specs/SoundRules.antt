@@ -12,7 +12,7 @@ use Rattle.spl_tree.specs.Phrases.{IsKeyword, Row, more, Separated, first, next}
 use Rattle.spl_tree.specs.TypeGrammar.{TypeExpr, SpellsType}
 use Rattle.spl_tree.specs.StatementGrammar.{assignment_of}
 use Rattle.expr_parser.specs.Rules.{Rule, done, stop, look, call}
-use Rattle.expr_parser.specs.Phrases.{Starts}
+use Rattle.spl_tree.specs.Fronts.{Starts}
 use Rattle.expr_parser.specs.Lines as expressions
 use Rattle.expr_parser.specs.Lines.{is, is_name, name_of, selected}
 use Rattle.expr_parser.specs.TestLaws.{is-true, is_name-true}

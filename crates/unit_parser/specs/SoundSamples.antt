@@ -22,7 +22,7 @@ use Rattle.spl_tree.specs.StatementGrammar.{Stmt, SpellsMutable, SpellsValue, Sp
 use Rattle.spl_tree.specs.UnitGrammar as units
 use Rattle.spl_tree.specs.UnitGrammar.{SpellsName, SpellsOutputStream, SpellsHead, SpellsInput}
 use Rattle.expr_parser.specs.Lines as expression_lines
-use Rattle.expr_parser.specs.Phrases.{Starts}
+use Rattle.spl_tree.specs.Fronts.{Starts}
 use Rattle.expr_parser.specs.Sound as expressions
 use Rattle.expr_parser.specs.Soundness.{Phrase}
 use Rattle.unit_parser.specs.Lines as lines

@@ -4,7 +4,7 @@ use Rattle.spl_tree.specs.declared.token.Token.{Token}
 use Rattle.spl_tree.specs.declared.unit.Definition.{Definition}
 use Rattle.spl_tree.specs.UnitGrammar.{SpellsUnit}
 use Rattle.expr_parser.specs.Rules.{Took, Refused, Reads}
-use Rattle.expr_parser.specs.Phrases.{IsPhrase, IsUnexpected}
+use Rattle.spl_tree.specs.Fronts.{IsPhrase, IsUnexpected}
 use Rattle.expr_parser.specs.Exactness.{one, exact_phrase, exact_unexpected}
 use Rattle.unit_parser.specs.Lines.{Whole, rule}
 use Rattle.unit_parser.specs.Complete.{complete}

@@ -1,6 +1,6 @@
 //! Programs.
 ghost use Rattle.std.specs.Prelude.{◌≡◌, ◌-◌, ◌≤◌, length};
-ghost use Rattle.expr_parser.specs.Parses.{place_of};
+ghost use Rattle.spl_tree.specs.Units.{place_of};
 ghost use Rattle.expr_parser.specs.declared.answer.SyntaxAnswer.TheVariants.{Unexpected};
 ghost use Rattle.unit_parser.specs.Parses.{Parses};
 
