@@ -9,6 +9,7 @@ use Rattle.spl_value.specs.declared.types.SplType.TheOpen as O
 use Rattle.spl_value.specs.declared.types.SplType.TheOpen.{SplType-F}
 use Rattle.spl_value.specs.declared.types.SplType.TheVariants as S
 use Rattle.spl_value.specs.declared.types.SplType.TheViews.{out-SplType}
+use Rattle.spl_value.specs.Values.{kind_holds}
 use Rattle.spl_tree.specs.declared.expression.ExprKind.{ExprKind}
 use Rattle.spl_tree.specs.declared.expression.ExprKind.TheOpen as X
 use Rattle.spl_tree.specs.declared.expression.ExprKind.TheOpen.{ExprKind-F}
@@ -66,10 +67,10 @@ abbrev pub level_attribute : List (Named SplType) → ℕ → ExprKind-F ExprKin
 level_attribute schema at (X.Name name) = as_integer at name (attribute_of schema name)
 level_attribute schema at _ = bad_window at
 
--- a limit is a number literal of the attribute's type
+-- a limit is a number literal of the attribute's type, and in its range
 abbrev pub as_limit : ℕ → IntKind → Option Number → Found ℕ
 as_limit at kind None = bad_window at
-as_limit at kind (Some n) = if same_types (S.Int n.kind) (S.Int kind) then Ok n.value else bad_window at
+as_limit at kind (Some n) = if same_types (S.Int n.kind) (S.Int kind) && kind_holds kind (pos n.value) then Ok n.value else bad_window at
 
 pub record Delta : Type 0 where
   pub attribute : ℕ
