@@ -1,0 +1,6 @@
+use Rattle.std.proofs.Common.{◌≡◌, drop}
+use Rattle.stream_model.specs.ParameterTyping.{value_given}
+use Rattle.parameter_rules.proofs.parameters.given.place_given.Given as goal
+
+abbrev pub invariant-loop-at : goal.invariant-loop-at
+invariant-loop-at l = value_given l.given l.name ≡ value_given (drop l.at l.given) l.name

@@ -1,0 +1,7 @@
+use Rattle.std.specs.List.{list_any}
+use Rattle.std.specs.Str.{bytes_eq}
+use Rattle.std.proofs.Common.{◌≡◌, drop}
+use Rattle.parameter_rules.proofs.parameters.roles.is_given.Given as goal
+
+abbrev pub invariant-loop-parameter : goal.invariant-loop-parameter
+invariant-loop-parameter l = list_any (λ g. bytes_eq g.name l.name) l.given ≡ list_any (λ g. bytes_eq g.name l.name) (drop l.parameter-index l.given)

@@ -1,0 +1,101 @@
+//! The parameters of operators.
+ghost use Rattle.std.specs.Prelude.{◌≡◌, [], map, reverse};
+ghost use Rattle.std.specs.List.{list_any};
+ghost use Rattle.std.specs.Str.{bytes_eq};
+ghost use Rattle.stream_model.specs.Checking.{parameters_checked};
+ghost use Rattle.stream_model.specs.ParameterTyping.{parameter_typing, parameters_typing, role_of};
+ghost use Rattle.type_rules.specs.Finds.{Finds};
+ghost use Rattle.parameter_rules.specs.Sites.{site_seen};
+
+mod given;
+mod keys;
+mod roles;
+mod values;
+
+use crate::literals::ExpressionSite;
+use crate::literals::refusals::{extra, missing_parameter};
+pub use given::{position_given, strict_given, take_code, take_file, take_places};
+use roles::{missing, role_of};
+use spl_tree::{OpKind, Parameter};
+use spl_value::Items;
+use std::alloc::Global;
+use stream_model::Given;
+use type_rules::TypeAnswer;
+use values::value_of;
+
+/// The parameters of an operator with their values, in the order of the text. `partitioned` says whether
+/// its window is.
+///
+/// `Refused` comes with the first parameter in the text that is refused: one that the operator doesn't
+/// have, one that is given twice, or one whose value is refused. Behind those it comes at the invocation,
+/// which is at `at`, with the name of the first that the operator needs and that isn't given. `Memory` is
+/// as that of `type_of`.
+pub fn parameters_of(
+    alloc: Global,
+    site: &ExpressionSite,
+    kind: OpKind,
+    partitioned: bool,
+    at: u32,
+    parameters: &[Parameter],
+) -> Result<Items<Given>, TypeAnswer>
+    ensures { Finds (parameters_checked (site_seen site.now) kind partitioned at parameters.now) result }
+{
+    let given = parameters_typing(alloc, site, kind, partitioned, parameters)?;
+    match missing(given.as_slice(), kind, partitioned) {
+        Some(name) => Err(missing_parameter(alloc, at, name)),
+        None => Ok(given),
+    }
+}
+
+/// Parameters in the order of the text.
+fn parameters_typing(
+    alloc: Global,
+    site: &ExpressionSite,
+    kind: OpKind,
+    partitioned: bool,
+    parameters: &[Parameter],
+) -> Result<Items<Given>, TypeAnswer>
+    ensures { Finds (parameters_typing (site_seen site.now) kind partitioned [] parameters.now) result }
+{
+    let mut given = Items::new(alloc);
+    for parameter in parameters {
+        let next = parameter_typing(alloc, site, kind, partitioned, given.as_slice(), parameter)?;
+        given.push(next)?;
+    }
+    Ok(given)
+}
+
+/// A parameter behind those that are given.
+fn parameter_typing(
+    alloc: Global,
+    site: &ExpressionSite,
+    kind: OpKind,
+    partitioned: bool,
+    given: &[Given],
+    parameter: &Parameter,
+) -> Result<Given, TypeAnswer>
+    ensures { Finds (parameter_typing (site_seen site.now) (reverse (map (λ g. g.name) given.now)) parameter.now
+        (role_of kind partitioned parameter.now.name.what)) result }
+{
+    let name = parameter.name.what.as_slice();
+    let Some(role) = role_of(kind, partitioned, name) else {
+        return Err(extra(alloc, parameter.name.at, name));
+    };
+    if has_name(given, name) {
+        return Err(extra(alloc, parameter.name.at, name));
+    }
+    let value = value_of(alloc, site, role, parameter)?;
+    let name = Items::from_slice(alloc, name)?;
+    Ok(Given { name, value })
+}
+
+fn has_name(given: &[Given], name: &[u8]) -> bool
+    ensures { result ≡ list_any (λ n. bytes_eq n name.now) (reverse (map (λ g. g.name) given.now)) }
+{
+    for parameter in given {
+        if parameter.name.as_slice() == name {
+            return true;
+        }
+    }
+    false
+}

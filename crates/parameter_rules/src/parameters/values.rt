@@ -1,0 +1,134 @@
+//! The values of parameters.
+ghost use Rattle.std.specs.Prelude.{◌≡◌};
+ghost use Rattle.std.specs.Option.{option_copied};
+ghost use Rattle.spl_value.specs.declared.types.SplType.TheViews.{out-SplType};
+ghost use Rattle.stream_model.specs.ParameterTyping.{format_of, level_index, one_value, parsing_of, position_of, single_value, value_typing, word_of};
+ghost use Rattle.type_rules.specs.Finds.{Finds};
+ghost use Rattle.parameter_rules.specs.Roles.{role_seen};
+ghost use Rattle.parameter_rules.specs.Sites.{site_seen};
+
+use super::keys::{first_schema, keys_typing};
+use super::roles::Role;
+use crate::literals::refusals::mismatch;
+use crate::literals::{ExpressionSite, file_name};
+use spl_tree::{Code, Expr, ExprKind, Parameter, Slot};
+use spl_value::SplType;
+use std::alloc::Global;
+use stream_model::{ParameterValue, Position, Typed};
+use type_rules::{TypeAnswer, type_of};
+
+/// The value of a parameter of that role.
+pub(super) fn value_of(
+    alloc: Global,
+    site: &ExpressionSite,
+    role: Role,
+    parameter: &Parameter,
+) -> Result<ParameterValue, TypeAnswer>
+    ensures { Finds (value_typing (site_seen site.now) parameter.now (role_seen role)) result }
+{
+    let values = parameter.values.as_slice();
+    match role {
+        Role::Attributes => {
+            let schema = first_schema(site.scope.ports.as_slice());
+            Ok(ParameterValue::Places(keys_typing(alloc, schema, values)?))
+        }
+        _ => one_value(alloc, site, role, parameter.name.at, values),
+    }
+}
+
+/// The one value of a parameter that is named at a place. A second one is refused, behind what is
+/// refused of the first.
+fn one_value(
+    alloc: Global,
+    site: &ExpressionSite,
+    role: Role,
+    at: u32,
+    values: &[Expr],
+) -> Result<ParameterValue, TypeAnswer>
+    ensures { Finds (one_value at (single_value (site_seen site.now) (role_seen role)) values.now) result }
+{
+    match values {
+        [] => Err(mismatch(at)),
+        [value] => single_value(alloc, site, role, value),
+        [value, second, ..] => {
+            single_value(alloc, site, role, value)?;
+            Err(mismatch(second.at))
+        }
+    }
+}
+
+fn single_value(
+    alloc: Global,
+    site: &ExpressionSite,
+    role: Role,
+    value: &Expr,
+) -> Result<ParameterValue, TypeAnswer>
+    ensures { Finds (single_value (site_seen site.now) (role_seen role) value.now) result }
+{
+    match role {
+        Role::File => Ok(ParameterValue::File(file_name(alloc, site, value)?)),
+        Role::Format => format_of(value),
+        Role::Parsing => parsing_of(value),
+        Role::Condition => {
+            let typed = type_of(alloc, site.scope, value, Some(&SplType::Bool))?;
+            Ok(ParameterValue::Code(typed.code.into_inner()))
+        }
+        Role::Position => position_of(value),
+        Role::Index => {
+            let Typed { kind, code } = type_of(alloc, site.scope, value, None)?;
+            index(value.at, kind.get(), code.into_inner())
+        }
+        Role::Attributes => Err(mismatch(value.at)),
+    }
+}
+
+/// A word, which is a name in the tree.
+pub(super) fn word_of(value: &Expr) -> Option<&[u8]>
+    ensures { option_copied result ≡ word_of value.now }
+{
+    match &value.what {
+        ExprKind::Name(name) => Some(name.as_slice()),
+        _ => None,
+    }
+}
+
+fn format_of(value: &Expr) -> Result<ParameterValue, TypeAnswer>
+    ensures { Finds (format_of value.now.at (word_of value.now)) result }
+{
+    match word_of(value) {
+        Some(word) if word == b"csv".as_slice() => Ok(ParameterValue::Format),
+        _ => Err(mismatch(value.at)),
+    }
+}
+
+fn parsing_of(value: &Expr) -> Result<ParameterValue, TypeAnswer>
+    ensures { Finds (parsing_of value.now.at (word_of value.now)) result }
+{
+    match word_of(value) {
+        Some(word) if word == b"strict".as_slice() => Ok(ParameterValue::Strict(true)),
+        Some(word) if word == b"permissive".as_slice() => Ok(ParameterValue::Strict(false)),
+        _ => Err(mismatch(value.at)),
+    }
+}
+
+fn position_of(value: &Expr) -> Result<ParameterValue, TypeAnswer>
+    ensures { Finds (position_of value.now.at (word_of value.now)) result }
+{
+    match word_of(value) {
+        Some(word) if word == b"before".as_slice() => {
+            Ok(ParameterValue::Position(Position::Before))
+        }
+        Some(word) if word == b"after".as_slice() => Ok(ParameterValue::Position(Position::After)),
+        _ => Err(mismatch(value.at)),
+    }
+}
+
+/// An index is an integer of any type.
+fn index(at: u32, kind: &SplType, code: Code<Slot>) -> Result<ParameterValue, TypeAnswer>
+    ensures { Finds (level_index at code (out-SplType kind.now)) result }
+{
+    match kind {
+        SplType::Int(_) => Ok(ParameterValue::Code(code)),
+        _ => Err(mismatch(at)),
+    }
+}
