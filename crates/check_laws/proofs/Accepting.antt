@@ -1,0 +1,85 @@
+-- What is found, by what is found on the way to it.
+use Rattle.std.specs.Prelude.{◌≡◌, ◌==◌, ℕ, Bool, true, false, IsTrue, List, [], ◌∷◌, length, Some, None, Ok, Err, slice_get, if◌then◌else◌}
+use Rattle.std.proofs.Common.{refl, sym, ap, subst, ◌∙◌, arith}
+use Rattle.std.proofs.lemmas.Bool.{eqb-true}
+use Rattle.spl_value.specs.declared.types.Named.{Named}
+use Rattle.spl_value.specs.declared.types.SplType.{SplType}
+use Rattle.spl_value.specs.declared.types.SplType.TheVariants as S
+use Rattle.spl_value.specs.declared.types.SplType.TheOpen as T
+use Rattle.spl_value.specs.declared.types.SplType.TheOpen.{SplType-F}
+use Rattle.spl_value.specs.declared.types.SplType.TheViews.{out-SplType, roll-SplType, roll-out-SplType}
+use Rattle.spl_tree.specs.Grammar.{Expr}
+use Rattle.stream_model.specs.declared.scope.Scope.{Scope}
+use Rattle.stream_model.specs.declared.scope.Typed.{Typed}
+use Rattle.stream_model.specs.BodyLaws.{BodyFitLaw}
+use Rattle.stream_model.specs.CodeFits.{CodeFits}
+use Rattle.stream_model.specs.FitLaws.{ConstantLaw, DollarsFit, FitLaw, WantedLaw}
+use Rattle.stream_model.specs.Typing.{Found, after, same_types, typing}
+use Rattle.stream_model.specs.TypingLaws.{same_types_law}
+
+-- what typing is known to give
+pub record TypingGives : Type 0 where
+  pub fit : FitLaw
+  pub wanted : WantedLaw
+  pub constant : ConstantLaw
+  pub body : BodyFitLaw
+
+-- what is found has the fact
+abbrev pub Gives : {A : Type 0} → (A → Type 0) → Found A → Type 0
+Gives P (Ok x) = P x
+Gives P (Err refusal) = Unit {0}
+
+pub gives_then : {A B : Type 0} (Q : B → Type 0) (r : Found A) (f : A → Found B) → ((x : A) → r ≡ Ok x → Gives Q (f x)) → Gives Q (after r f)
+gives_then Q (Ok x) f k = k x refl
+gives_then Q (Err refusal) f k = tt
+
+pub gives_after : {A B : Type 0} (P : A → Type 0) (Q : B → Type 0) (r : Found A) (f : A → Found B) → Gives P r → ((x : A) → P x → Gives Q (f x))
+    → Gives Q (after r f)
+gives_after P Q (Ok x) f h k = k x h
+gives_after P Q (Err refusal) f h k = tt
+
+pub gives_on : {A : Type 0} (P Q : A → Type 0) (r : Found A) → Gives P r → ((x : A) → P x → Q x) → Gives Q r
+gives_on P Q (Ok x) h k = k x h
+gives_on P Q (Err refusal) h k = tt
+
+pub gives_if : {A : Type 0} (P : A → Type 0) (b : Bool) (x y : Found A) → (b ≡ true → Gives P x) → (b ≡ false → Gives P y) → Gives P (if b then x else y)
+gives_if P true x y h k = h refl
+gives_if P false x y h k = k refl
+
+pub gives_from : {A : Type 0} (P : A → Type 0) (r : Found A) (x : A) → Gives P r → r ≡ Ok x → P x
+gives_from P r x h e = subst (Gives P) e h
+
+-- ---- codes
+
+-- the code of an expression that is typed, at its type and at the wanted one
+pub typed_fits : TypingGives → (scope : Scope) → DollarsFit scope.dollars → (e : Expr) (t : Typed) → typing scope e None ≡ Ok t → CodeFits scope t.code t.kind
+typed_fits laws scope fine e t is = laws.fit scope e None t fine is
+
+pub wanted_fits : TypingGives → (scope : Scope) → DollarsFit scope.dollars → (e : Expr) (u : SplType) (t : Typed) → typing scope e (Some u) ≡ Ok t → CodeFits scope t.code u
+wanted_fits laws scope fine e u t is = subst (CodeFits scope t.code) (laws.wanted scope e u t is) (laws.fit scope e (Some u) t fine is)
+
+-- ---- types
+
+pub rolled : (t : SplType) (x : SplType-F SplType) (u : SplType) → out-SplType t ≡ x → roll-SplType x ≡ u → t ≡ u
+rolled t x u e f = sym (roll-out-SplType t) ∙ ap roll-SplType e ∙ f
+
+pub same_equal : (t u : SplType) → same_types t u ≡ true → t ≡ u
+same_equal t u same = (same_types_law t u).0 same
+
+abbrev schema_in : SplType-F SplType → List (Named SplType)
+schema_in (T.Tuple schema) = schema
+schema_in _ = []
+
+pub same_schemas : (xs ys : List (Named SplType)) → same_types (S.Tuple xs) (S.Tuple ys) ≡ true → xs ≡ ys
+same_schemas xs ys same =
+    sym (ap schema_in (S.outs-Tuple xs)) ∙ ap (λ t. schema_in (out-SplType t)) (same_equal (S.Tuple xs) (S.Tuple ys) same) ∙ ap schema_in (S.outs-Tuple ys)
+
+-- ---- lists
+
+pub lone : {A : Type 0} (xs : List A) → IsTrue (length xs == 1) → (x : A) × (xs ≡ x ∷ [])
+lone [] e = absurd cc
+lone (x ∷ []) e = (x, refl)
+lone (x ∷ y ∷ xs) e = absurd (omega (arith, eqb-true (length (x ∷ y ∷ xs)) 1 e))
+
+pub none_at : {A : Type 0} (k : ℕ) (x : A) → slice_get {X = A} [] k ≡ Some x → ⊥
+none_at k x e = cc

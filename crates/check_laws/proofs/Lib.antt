@@ -1,0 +1,17 @@
+mod FoundSteps
+mod DollarTables
+mod SignedFunctions
+mod UnitGraphs
+mod GrownBodies
+mod SourceCounts
+mod GraphLimits
+mod StreamSchemas
+mod CheckedOperators
+mod KeptGraphs
+mod Accepting
+mod ParametersFit
+mod WindowsFit
+mod AssignedOnce
+mod OutputsFit
+mod LogicFits
+mod PartsFit

@@ -1,0 +1,63 @@
+-- The graph of a unit: from which composite it comes, and what was expanded on the way to it.
+use Rattle.std.specs.Prelude.{◌≡◌, ℕ, List, Option, Some, None, Ok, Err, map, length, slice_get}
+use Rattle.std.proofs.Common.{refl, sym, ◌∙◌}
+use Rattle.spl_tree.specs.declared.expression.Placed.{Placed}
+use Rattle.spl_tree.specs.declared.graph.Graph.{Graph}
+use Rattle.spl_tree.specs.declared.unit.Composite.{Composite}
+use Rattle.spl_tree.specs.declared.unit.Definition.{Definition}
+use Rattle.stream_model.specs.Composites.{composites}
+use Rattle.stream_model.specs.Declarations.{first_of}
+use Rattle.stream_model.specs.Expansion.{Found, Made, after, expanded_main}
+use Rattle.stream_model.specs.Flat.{IsFlat, expands, files_had, flat_from, graph_of, if_all_taken, if_none_had, no_main, ordered, recursive, twice, with_own_files}
+use Rattle.stream_model.specs.Numbering.{expansions_from, ops_from, streams_from}
+use Rattle.stream_model.specs.Scopes.{At}
+use Rattle.stream_model.specs.Taking.{first_untaken, taken}
+
+-- ---- the main composite
+
+-- a graph that comes from the main composite
+pub record FromMain (unit : List Definition) (names : List (List ℕ)) (g : Graph) : Type 0 where
+  pub main : At Composite
+  pub there : slice_get (composites unit) main.place ≡ Some main.what
+  pub flat : flat_from unit names main ≡ Ok g
+
+pub from_main : (unit : List Definition) (names : List (List ℕ)) (g : Graph) (x : Found Graph) → IsFlat unit names x → x ≡ Ok g → FromMain unit names g
+from_main unit names g x (twice n declared) e = absurd cc
+from_main unit names g x (no_main declared none) e = absurd cc
+from_main unit names g x (recursive main n declared is r) e = absurd cc
+from_main unit names g x (expands main declared is r) e = record { main = main; there = is.1; flat = e }
+
+-- ---- what was expanded
+
+pub after_gives : {A B : Type 0} (x : Found A) (f : A → Found B) (b : B) → after x f ≡ Ok b → (a : A) × (x ≡ Ok a) × (f a ≡ Ok b)
+after_gives (Ok a) f b e = (a, refl, e)
+after_gives (Err r) f b e = absurd cc
+
+pub same_Ok : {A : Type 0} {x y : A} → ◌≡◌ {A = Found A} (Ok x) (Ok y) → x ≡ y
+same_Ok e = cc
+
+abbrev topo_of : Made → List ℕ
+topo_of made = taken (streams_from 0 made.ops) (ops_from made 0 made.ops)
+
+taken_all : (made : Made) (topo : List ℕ) (o : Option ℕ) (g : Graph) → if_all_taken made topo o ≡ Ok g → graph_of made topo ≡ g
+taken_all made topo None g e = same_Ok e
+taken_all made topo (Some n) g e = absurd cc
+
+none_had : (h : Graph) (o : Option (Placed (List ℕ))) (g : Graph) → if_none_had h o ≡ Ok g → h ≡ g
+none_had h None g e = same_Ok e
+none_had h (Some file) g e = absurd cc
+
+pub record IsMade (unit : List Definition) (main : At Composite) (g : Graph) : Type 0 where
+  pub made : Made
+  pub expanded : expanded_main unit main ≡ Ok made
+  pub ops : g.ops ≡ ops_from made 0 made.ops
+  pub expansions : g.expansions ≡ expansions_from made 0 made.expansions
+
+pub is_made : (unit : List Definition) (names : List (List ℕ)) (main : At Composite) (g : Graph) → flat_from unit names main ≡ Ok g → IsMade unit main g
+is_made unit names main g e =
+    let x = after_gives (expanded_main unit main) (λ made. after (ordered made) (with_own_files unit names)) g e in
+    let y = after_gives (ordered x.0) (with_own_files unit names) g x.2 in
+    let of_made : graph_of x.0 (topo_of x.0) ≡ y.0 = taken_all x.0 (topo_of x.0) (first_untaken (topo_of x.0) 0 (length x.0.ops)) y.0 y.1 in
+    let own : y.0 ≡ g = none_had y.0 (first_of (map (λ f. f.file) (files_had unit names y.0.expansions y.0.ops))) g y.2 in
+    let same : g ≡ graph_of x.0 (topo_of x.0) = sym (of_made ∙ own) in
+    record { made = x.0; expanded = x.1; ops = λ i. (same i).ops; expansions = λ i. (same i).expansions }

@@ -1,0 +1,2 @@
+pub mod PartsLaw
+pub mod KeepsLaw

@@ -1,0 +1,26 @@
+//! What the checks of a program give.
+ghost use Rattle.check_laws.specs.KeepsLaw.{KeepsLaw};
+ghost use Rattle.check_laws.specs.PartsLaw.{PartsLaw};
+
+use stream_model::{bodies_law, dollars_law, flat_law, typing_law};
+
+/// The clauses of an operator that are accepted fit its ports: codes fit its scope, attributes are those
+/// of its ports, and numbers are in their ranges.
+pub fn parts_law()
+    ensures fit { PartsLaw }
+{
+    typing_law();
+    dollars_law();
+    bodies_law();
+}
+
+/// What is found of the graph of a unit keeps what a checked graph has to keep.
+pub fn keeps_law()
+    ensures keeps { KeepsLaw }
+{
+    parts_law();
+    typing_law();
+    dollars_law();
+    bodies_law();
+    flat_law();
+}

@@ -1,0 +1,173 @@
+-- How far the handlers of a Custom have come, and what they come to.
+use Rattle.std.specs.Prelude.{◌≡◌, ◌+◌, ◌<◌, ℕ, Bool, true, false, List, [], ◌∷◌, ◌++◌, length, drop, map, if◌then◌else◌, Option, Some, None, is_some, Ok, Err}
+use Rattle.std.specs.Str.{bytes_eq}
+use Rattle.std.proofs.Common.{Result, refl, ap, sym, ◌∙◌, get_or}
+use Rattle.spl_tree.specs.declared.body.Statement.{Statement}
+use Rattle.spl_tree.specs.declared.expression.Placed.{Placed}
+use Rattle.spl_tree.specs.declared.unit.HandledEvent.{HandledEvent}
+use Rattle.spl_tree.specs.declared.unit.HandledEvent.TheVariants as H
+use Rattle.spl_tree.specs.declared.unit.Handler.{Handler}
+use Rattle.spl_tree.specs.declared.unit.Logic.{Logic}
+use Rattle.stream_model.specs.declared.checked.Handled.{Handled}
+use Rattle.stream_model.specs.declared.checked.Handlers.{Handlers}
+use Rattle.stream_model.specs.declared.checked.StateVariable.{StateVariable}
+use Rattle.stream_model.specs.declared.scope.CheckError.TheVariants as E
+use Rattle.stream_model.specs.declared.scope.Port.{Port}
+use Rattle.stream_model.specs.declared.scope.Scope.{Scope}
+use Rattle.stream_model.specs.declared.scope.Variable.{Variable}
+use Rattle.stream_model.specs.BodyTyping.{Setting, body_typing}
+use Rattle.stream_model.specs.LogicTyping.{Surroundings, event_word, handler_of, handler_scope, handler_setting, handler_typing, handlers_typing, logic_typing, state_typing}
+use Rattle.stream_model.specs.Scopes.{At, at_place, first_from}
+use Rattle.stream_model.specs.Typing.{Found, after, refused}
+use Rattle.type_rules.specs.declared.answer.TypeAnswer.{TypeAnswer}
+use Rattle.type_rules.specs.declared.answer.TypeAnswer.TheVariants.{Refused, Memory}
+use Rattle.type_rules.specs.Finds.{Finds}
+use Rattle.body_rules.specs.declared.types.finding.TypeScope.{TypeScope}
+use Rattle.body_rules.specs.TypeScopes.{types_in}
+use Rattle.logic_rules.specs.Handling.{handled_in, handlers_found, handlers_in, made_of, seen_scope, surroundings}
+use Rattle.logic_rules.proofs.FoundRows.{drop_at}
+use Rattle.logic_rules.proofs.Steps.{finds_by, stops}
+
+abbrev second : {A B : Type 0} → B → Found (A × B) → B
+second y (Ok x) = x.1
+second y (Err refusal) = y
+
+-- what is given back beside what is found is what was given
+pub given_back : {A B : Type 0} (o : Found A) (y : B) (x : A) (z : B) → after {B = A × B} o (λ x. Ok (x, y)) ≡ Ok (x, z) → y ≡ z
+given_back (Ok w) y x z e = ap (second y) e
+given_back (Err refusal) y x z e = ap (second y) e
+
+-- ---- one handler
+
+pub port_there : (ports seen : List Port) (written name : List ℕ) (o : Option (At Port)) → seen ≡ ports → name ≡ written
+    → first_from (λ p. bytes_eq p.name name) 0 seen ≡ o → first_from (λ p. bytes_eq p.name written) 0 ports ≡ o
+port_there ports seen written name o same named is =
+    ap (first_from (λ p. bytes_eq p.name written) 0) (sym same) ∙ ap (λ n. first_from (λ p. bytes_eq p.name n) 0 seen) (sym named) ∙ is
+
+abbrev pub as_handled : HandledEvent → ℕ → List Statement → Found Handled
+as_handled event port row = Ok (record { event = event; port = port; body = row })
+
+module _ (setting : Setting) (scope : Scope) (before : List Handled) (h : Placed Handler) (o : Option (At Port)) (i n : ℕ) (p : Port)
+    (found : o ≡ Some (at_place i p)) (narrow : n ≡ i) where
+  abbrev choice : ℕ → Bool → Found Handled
+  choice n b =
+      if b then refused E.ExtraParameter h.at (Some (event_word h.what.event))
+      else after (body_typing setting (seen_scope scope h.what.event p) h.what.body) (λ row. Ok (record { event = h.what.event; port = n; body = row }))
+
+  chosen : (b : Bool) → b ≡ is_some (handler_of h.what.event n before) → handled_in setting scope before h o ≡ choice n b
+  chosen b is =
+      ap (handled_in setting scope before h) found
+      ∙ ap (λ m. choice m (is_some (handler_of h.what.event m before))) (sym narrow)
+      ∙ ap (choice n) (sym is)
+
+  pub handled_before : true ≡ is_some (handler_of h.what.event n before)
+      → handled_in setting scope before h o ≡ refused E.ExtraParameter h.at (Some (event_word h.what.event))
+  handled_before is = chosen true is
+
+  pub handled_first : false ≡ is_some (handler_of h.what.event n before)
+      → handled_in setting scope before h o
+      ≡ after (body_typing setting (seen_scope scope h.what.event p) h.what.body) (λ row. Ok (record { event = h.what.event; port = n; body = row }))
+  handled_first is = chosen false is
+
+-- ---- all handlers
+
+-- all handlers come to what those that are left come to behind those that were found, and the scope is as it was
+pub record Comes (setting : Setting) (scope : Scope) (ports : List Port) (all : List (Placed Handler)) (now : Scope) (ports_now : List Port) (found : List Handled) (left : List (Placed Handler)) : Type 0 where
+  pub same : handlers_in setting scope ports [] all ≡ handlers_in setting now ports_now found left
+  pub no_ports : now.ports ≡ []
+  pub no_marker : now.punct ≡ false
+
+module _ (setting : Setting) (first : Scope) (first_ports : List Port) (hs : List (Placed Handler)) (scope : Scope) (ports : List Port) (found : List Handled) (i : ℕ)
+    (come : Comes setting first first_ports hs scope ports found (drop i hs)) (h : Placed Handler) (lt : i < length hs) (e : h ≡ get_or hs i h) where
+  abbrev pub step : Found Handled
+  step = handled_in setting scope found h (first_from (λ p. bytes_eq p.name h.what.port.what) 0 ports)
+
+  unrolled : handlers_in setting first first_ports [] hs ≡ after step (λ x. handlers_in setting scope ports (found ++ x ∷ []) (drop (i + 1) hs))
+  unrolled = come.same ∙ ap (handlers_in setting scope ports found) (drop_at hs i h lt e)
+
+  pub comes_on : (x : Handled) (next : Scope) (next_ports : List Port) (more : List Handled) → step ≡ Ok x → next ≡ scope → next_ports ≡ ports → more ≡ found ++ x ∷ []
+      → Comes setting first first_ports hs next next_ports more (drop (i + 1) hs)
+  comes_on x next next_ports more is same_scope same_ports pushed =
+      record {
+        same = unrolled
+            ∙ ap (λ o. after o (λ x. handlers_in setting scope ports (found ++ x ∷ []) (drop (i + 1) hs))) is
+            ∙ ap (λ xs. handlers_in setting scope ports xs (drop (i + 1) hs)) (sym pushed)
+            ∙ ap (λ s. handlers_in setting s ports more (drop (i + 1) hs)) (sym same_scope)
+            ∙ ap (λ ps. handlers_in setting next ps more (drop (i + 1) hs)) (sym same_ports);
+        no_ports = ap (λ s. s.ports) same_scope ∙ come.no_ports;
+        no_marker = ap (λ s. s.punct) same_scope ∙ come.no_marker;
+      }
+
+  pub comes_out : (a : TypeAnswer) → Finds step (Err a) → Finds (handlers_in setting first first_ports [] hs) (Err a)
+  comes_out a is = finds_by _ _ (Err a) unrolled (stops step (λ x. handlers_in setting scope ports (found ++ x ∷ []) (drop (i + 1) hs)) a is)
+
+-- ---- in their surroundings
+
+abbrev pub as_made : ℕ → List StateVariable → List Handled → Found Handlers
+as_made count state handled = Ok (made_of count state handled)
+
+-- with these variables and ports
+abbrev pub inside : Scope → List Variable → List Port → Scope
+inside scope vars ports = record scope { vars = vars; ports = ports; punct = false }
+
+module _ (around : Surroundings) (state : List StateVariable) where
+  abbrev pub bare : Scope
+  bare = inside around.scope (map (λ x. x.variable) state) []
+
+  scope_as : (event : HandledEvent) (p : Port) → handler_scope around state event p ≡ seen_scope bare event p
+  scope_as H.Tuple p = refl
+  scope_as H.Punctuation p = refl
+
+  handler_as : (before : List Handled) (h : Placed Handler) (o : Option (At Port)) → handler_typing around state before h o ≡ handled_in (handler_setting around) bare before h o
+  handler_as before h None = refl
+  handler_as before h (Some p) =
+      ap (λ s. if is_some (handler_of h.what.event p.place before) then refused E.ExtraParameter h.at (Some (event_word h.what.event))
+      else after (body_typing (handler_setting around) s h.what.body) (λ row. Ok (record { event = h.what.event; port = p.place; body = row })))
+      (scope_as h.what.event p.what)
+
+  handlers_as : (before : List Handled) (hs : List (Placed Handler)) → handlers_typing around state before hs ≡ handlers_in (handler_setting around) bare around.scope.ports before hs
+  handlers_as before [] = refl
+  handlers_as before (h ∷ hs) =
+      let o = first_from (λ p. bytes_eq p.name h.what.port.what) 0 around.scope.ports in
+      ap (λ f. after f (λ x. handlers_typing around state (before ++ x ∷ []) hs)) (handler_as before h o)
+      ∙ (λ i. after (handled_in (handler_setting around) bare before h o) (λ x. handlers_as (before ++ x ∷ []) hs i))
+
+  pub found_as : (hs : List (Placed Handler)) (vars : List Variable) (ports : List Port) → vars ≡ map (λ x. x.variable) state → ports ≡ []
+      → handlers_found around hs state
+      ≡ after (handlers_in (handler_setting around) (inside around.scope vars ports) around.scope.ports [] hs) (as_made (length around.scope.ports) state)
+  found_as hs vars ports v p =
+      ap (λ o. after o (as_made (length around.scope.ports) state))
+      (handlers_as [] hs ∙ (λ i. handlers_in (handler_setting around) (inside around.scope (sym v i) (sym p i)) around.scope.ports [] hs))
+
+-- ---- the clause
+
+abbrev first : {A B : Type 0} → A → Found (A × B) → A
+first x (Ok p) = p.0
+first x (Err refusal) = x
+
+module _ (types : TypeScope) (scope : Scope) (outputs : List Port) (l : Placed Logic) where
+  abbrev around : Scope → Surroundings
+  around scope = surroundings types scope outputs
+
+  abbrev beside : Found (List StateVariable) → Found (List StateVariable × Scope)
+  beside o = after {B = List StateVariable × Scope} o (λ state. Ok (state, scope))
+
+  goes_on : (o : Found (List StateVariable)) (state : List StateVariable) (next : Scope) → beside o ≡ Ok (state, next)
+      → after o (handlers_found (around scope) l.what.handlers) ≡ handlers_found (around next) l.what.handlers state
+  goes_on (Ok x) state next e =
+      λ i. handlers_found (around (second scope (e i))) l.what.handlers (first x (e i))
+  goes_on (Err refusal) state next e = cc
+
+  pub logic_stops : (a : TypeAnswer) → Finds (beside (state_typing (types_in types) scope.dollars l.what.state)) (Err a) → Finds (logic_typing (around scope) (Some l)) (Err a)
+  logic_stops (Refused refusal) h = stop_all (state_typing (types_in types) scope.dollars l.what.state) h
+    where
+      stop_all : (o : Found (List StateVariable)) → beside o ≡ Err refusal → after o (handlers_found (around scope) l.what.handlers) ≡ Err refusal
+      stop_all (Ok x) h = cc
+      stop_all (Err other) h = let same : other ≡ refusal = cc in ap Err same
+  logic_stops Memory h = tt
+
+  pub logic_goes : (state : List StateVariable) (next : Scope) (r : Result Handlers TypeAnswer)
+      → beside (state_typing (types_in types) scope.dollars l.what.state) ≡ Ok (state, next)
+      → Finds (handlers_found (around next) l.what.handlers state) r → Finds (logic_typing (around scope) (Some l)) r
+  logic_goes state next r is h =
+      finds_by _ _ r (goes_on (state_typing (types_in types) scope.dollars l.what.state) state next is) h

@@ -1,0 +1,53 @@
+-- Where a Custom stands, by what a call is given, and what the private steps answer on its handlers.
+use Rattle.std.specs.Prelude.{ℕ, true, false, List, [], ◌∷◌, ◌++◌, map, if◌then◌else◌, Option, Some, None, Ok, is_some}
+use Rattle.std.specs.Str.{bytes_eq}
+use Rattle.spl_tree.specs.declared.expression.Placed.{Placed}
+use Rattle.spl_tree.specs.declared.unit.HandledEvent.{HandledEvent}
+use Rattle.spl_tree.specs.declared.unit.HandledEvent.TheVariants as H
+use Rattle.spl_tree.specs.declared.unit.Handler.{Handler}
+use Rattle.stream_model.specs.declared.checked.Handled.{Handled}
+use Rattle.stream_model.specs.declared.checked.Handlers.{Handlers}
+use Rattle.stream_model.specs.declared.checked.StateVariable.{StateVariable}
+use Rattle.stream_model.specs.declared.scope.CheckError.TheVariants as E
+use Rattle.stream_model.specs.declared.scope.Port.{Port}
+use Rattle.stream_model.specs.declared.scope.Scope.{Scope}
+use Rattle.stream_model.specs.BodyTyping.{Setting, body_typing}
+use Rattle.stream_model.specs.LogicTyping.{Surroundings, event_word, handler_of, handlers_made, handlers_on, handlers_typing}
+use Rattle.stream_model.specs.Scopes.{At, first_from}
+use Rattle.stream_model.specs.Typing.{Found, after, refused, unknown}
+use Rattle.body_rules.specs.declared.types.finding.TypeScope.{TypeScope}
+use Rattle.body_rules.specs.TypeScopes.{types_in}
+
+-- where names stand for these types, in a scope with the input ports, before these output ports
+abbrev pub surroundings : TypeScope → Scope → List Port → Surroundings
+surroundings types scope outputs =
+    record { types = types_in types; scope = scope; outputs = map (λ p. p.name) outputs; schemas = map (λ p. p.schema) outputs }
+
+-- what a handler of the event on a port sees of a scope
+abbrev pub seen_scope : Scope → HandledEvent → Port → Scope
+seen_scope scope H.Tuple port = record scope { ports = port ∷ []; punct = false }
+seen_scope scope H.Punctuation port = record scope { ports = []; punct = true }
+
+-- a handler where the variables of the scope are those of the state
+abbrev pub handled_in : Setting → Scope → List Handled → Placed Handler → Option (At Port) → Found Handled
+handled_in setting scope before h None = unknown h.what.port.at h.what.port.what
+handled_in setting scope before h (Some port) =
+    if is_some (handler_of h.what.event port.place before) then refused E.ExtraParameter h.at (Some (event_word h.what.event))
+    else after (body_typing setting (seen_scope scope h.what.event port.what) h.what.body)
+    (λ row. Ok (record { event = h.what.event; port = port.place; body = row }))
+
+-- handlers there, on these ports, behind others
+abbrev pub handlers_in : Setting → Scope → List Port → List Handled → List (Placed Handler) → Found (List Handled)
+handlers_in setting scope ports before [] = Ok before
+handlers_in setting scope ports before (h ∷ hs) =
+    after (handled_in setting scope before h (first_from (λ p. bytes_eq p.name h.what.port.what) 0 ports))
+    (λ x. handlers_in setting scope ports (before ++ x ∷ []) hs)
+
+-- a state and handlers on so many ports
+abbrev pub made_of : ℕ → List StateVariable → List Handled → Handlers
+made_of count state handled =
+    record { state = state; on_tuple = handlers_on H.Tuple handled 0 count; on_punct = handlers_on H.Punctuation handled 0 count }
+
+-- what the handlers of a Custom with a state come to
+abbrev pub handlers_found : Surroundings → List (Placed Handler) → List StateVariable → Found Handlers
+handlers_found around hs state = after (handlers_typing around state [] hs) (λ handled. Ok (handlers_made around state handled))

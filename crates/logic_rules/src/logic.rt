@@ -1,0 +1,85 @@
+//! The logic of a Custom.
+ghost use Rattle.std.specs.Option.{option_copied};
+ghost use Rattle.stream_model.specs.LogicTyping.{logic_typing};
+ghost use Rattle.type_rules.specs.Finds.{Finds};
+ghost use Rattle.logic_rules.specs.Handling.{handlers_found, surroundings};
+
+mod by_ports;
+mod handling;
+mod plain_codes;
+mod refusals;
+mod state;
+mod state_values;
+
+use body_rules::{BodyPurpose, BodySetting, TypeScope};
+use by_ports::by_ports;
+use handling::handlers_of;
+use spl_tree::{Handler, Logic, Placed};
+use spl_value::Items;
+use state::{state_in, variables_of};
+use std::alloc::Global;
+use stream_model::{Handlers, Port, Scope, StateVariable};
+use type_rules::TypeAnswer;
+
+/// The handlers of a Custom with a state. The scope is that of `logic_of`.
+fn with_state(
+    alloc: Global,
+    types: &TypeScope,
+    scope: Scope,
+    outputs: &[Port],
+    state: Items<StateVariable>,
+    handlers: &[Placed<Handler>],
+) -> Result<Handlers, TypeAnswer>
+    ensures { Finds (handlers_found (surroundings types.now scope outputs.now) handlers.now state) result }
+{
+    let count = scope.ports.len();
+    let Scope {
+        ports,
+        functions,
+        unresolved,
+        dollars,
+        ..
+    } = scope;
+    let inside = Scope {
+        vars: variables_of(alloc, state.as_slice())?,
+        ports: Items::new(alloc),
+        functions,
+        unresolved,
+        dollars,
+        punct: false,
+    };
+    let setting = BodySetting {
+        types: *types,
+        purpose: BodyPurpose::Handler(outputs),
+    };
+    let handled = handlers_of(alloc, &setting, inside, ports, handlers)?;
+    Ok(by_ports(alloc, count, state, handled)?)
+}
+
+/// What a Custom does: its state and its handlers. The scope has the functions of the unit, the `$`
+/// parameters of the body in which it stands, and its input ports; `outputs` are its output ports.
+/// Without logic it does nothing.
+///
+/// Where the logic is refused, the answer is `Refused`, with the first refusal: those of the state in
+/// the order of the text come before those of the handlers. A variable is refused as its type is, or
+/// `LeftOut` at a value that isn't made of literals, or as its value is under that type. A handler is
+/// refused `Unknown` where no input port has its name, or `ExtraParameter` where its event has a
+/// handler on that port before, or as its body is. `Memory` is as that of `type_of`.
+#[tactic(auto, using(crate::proofs::HandlersFound::logic_goes, crate::proofs::HandlersFound::logic_stops))]
+pub fn logic_of(
+    alloc: Global,
+    types: &TypeScope,
+    scope: Scope,
+    outputs: &[Port],
+    logic: Option<&Placed<Logic>>,
+) -> Result<Handlers, TypeAnswer>
+    ensures { Finds (logic_typing (surroundings types.now scope outputs.now) (option_copied logic.entry)) result }
+{
+    let Some(logic) = logic else {
+        let count = scope.ports.len();
+        return Ok(by_ports(alloc, count, Items::new(alloc), Items::new(alloc))?);
+    };
+    let Logic { state, handlers } = &logic.what;
+    let (state, scope) = state_in(alloc, types, scope, state.as_slice())?;
+    with_state(alloc, types, scope, outputs, state, handlers.as_slice())
+}

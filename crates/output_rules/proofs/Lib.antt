@@ -1,0 +1,4 @@
+mod OutputSteps
+mod OutputIndex
+mod OutputMarks
+mod OutputRows

@@ -1,0 +1,3 @@
+pub mod Indexed
+pub mod Marking
+pub mod Collecting

@@ -1,0 +1,225 @@
+//! Outputs of a group of tuples.
+ghost use Rattle.std.specs.Prelude.{◌≡◌, IfOk};
+ghost use Rattle.std.specs.Option.{option_copied, option_map};
+ghost use Rattle.spl_value.specs.declared.types.SplType.TheViews.{out-SplType};
+ghost use Rattle.spl_tree.specs.declared.expression.ExprKind.TheViews.{out-ExprKind};
+ghost use Rattle.stream_model.specs.OutputTyping.{assigned_group, called_typing, collected, collecting_of, groups_typing, last_of, level_gathered, level_gathers};
+ghost use Rattle.type_rules.specs.Finds.{Finds};
+ghost use Rattle.output_rules.specs.Collecting.{collecting_meant, collector_on, counted};
+
+use super::answers::{mismatch, wrong_call};
+use super::assigned::{Assigned, Gives, all_given};
+use super::attributes::{Inputs, is_same};
+use spl_tree::{Expr, ExprKind, OutputAssignments};
+use spl_value::{Attribute, IntKind, Items, NoMemory, SplType, copy_type};
+use std::alloc::Global;
+use stream_model::{Collected, Collector, Gathers, Port, Scope, Typed};
+use type_rules::{TypeAnswer, type_of};
+
+/// A function of the values in a group.
+#[derive(Clone, Copy)]
+enum Collecting {
+    /// Of integers.
+    Summing,
+    /// Of integers or texts.
+    Extreme(Collector),
+    /// Of values of any type.
+    Choosing(Collector),
+    /// Of no values.
+    Counting,
+}
+
+/// The function that has this name.
+fn collecting_of(name: &[u8]) -> Option<Collecting>
+    ensures { option_map collecting_meant result ≡ collecting_of name.now }
+{
+    if name == b"Sum".as_slice() {
+        Some(Collecting::Summing)
+    } else if name == b"Min".as_slice() {
+        Some(Collecting::Extreme(Collector::Min))
+    } else if name == b"Max".as_slice() {
+        Some(Collecting::Extreme(Collector::Max))
+    } else if name == b"First".as_slice() || name == b"Any".as_slice() {
+        Some(Collecting::Choosing(Collector::First))
+    } else if name == b"Last".as_slice() {
+        Some(Collecting::Choosing(Collector::Last))
+    } else if name == b"Count".as_slice() {
+        Some(Collecting::Counting)
+    } else {
+        None
+    }
+}
+
+/// What a function of an argument at that place is on its type. None where it isn't on that type.
+fn collector_on(collecting: Collecting, kind: &SplType) -> Option<Collector>
+    ensures { result ≡ collector_on (collecting_meant collecting) (out-SplType kind.now) }
+{
+    match collecting {
+        Collecting::Summing => match kind {
+            SplType::Int(kind) => Some(Collector::Sum(*kind)),
+            _ => None,
+        },
+        Collecting::Extreme(collector) => match kind {
+            SplType::Int(_) | SplType::Text => Some(collector),
+            _ => None,
+        },
+        Collecting::Choosing(collector) => Some(collector),
+        Collecting::Counting => None,
+    }
+}
+
+/// What is collected of an argument at that place.
+fn gathers(at: u32, collecting: Collecting, argument: Typed) -> Result<Gathers, TypeAnswer>
+    ensures { Finds (level_gathers at (collecting_meant collecting) argument.code argument.kind (out-SplType argument.kind)) result }
+{
+    let Some(collector) = collector_on(collecting, argument.kind.get()) else {
+        return Err(mismatch(at));
+    };
+    let Typed { kind, code } = argument;
+    Ok(Gathers {
+        collector,
+        argument: Some(code.into_inner()),
+        kind: kind.into_inner(),
+    })
+}
+
+/// The number of the tuples in a group.
+fn counted(at: u32, arguments: &[Expr]) -> Result<Gathers, TypeAnswer>
+    ensures { Finds (counted at arguments.now) result }
+{
+    if !arguments.is_empty() {
+        return Err(wrong_call(at));
+    }
+    Ok(Gathers {
+        collector: Collector::Count,
+        argument: None,
+        kind: SplType::Int(IntKind::I32),
+    })
+}
+
+/// A call of such a function at that place.
+fn called(
+    alloc: Global,
+    scope: &Scope,
+    at: u32,
+    collecting: Collecting,
+    arguments: &[Expr],
+) -> Result<Gathers, TypeAnswer>
+    ensures { Finds (called_typing scope.now at (collecting_meant collecting) arguments.now) result }
+{
+    if let Collecting::Counting = collecting {
+        return counted(at, arguments);
+    }
+    let [argument] = arguments else {
+        return Err(wrong_call(at));
+    };
+    let typed = type_of(alloc, scope, argument, None)?;
+    gathers(argument.at, collecting, typed)
+}
+
+/// What a value collects, which has to be a call of such a function.
+fn gathered(alloc: Global, scope: &Scope, value: &Expr) -> Result<Gathers, TypeAnswer>
+    ensures { Finds (level_gathered scope.now value.now.at (out-ExprKind value.now.what)) result }
+{
+    let ExprKind::Call(name, arguments) = &value.what else {
+        return Err(mismatch(value.at));
+    };
+    match collecting_of(name.as_slice()) {
+        Some(collecting) => called(alloc, scope, value.at, collecting, arguments.as_slice()),
+        None => Err(mismatch(value.at)),
+    }
+}
+
+/// Values collected in a scope, for an output at an invocation.
+#[derive(Drop)]
+struct Collections<'s> {
+    inputs: Inputs<'s>,
+    at: u32,
+}
+
+impl<'s> Gives for Collections<'s> {
+    type Given = Gathers;
+
+    ghost assigns = { λ s. assigned_group s.inputs.scope.now };
+
+    ghost fills = { λ s. last_of s.inputs.scope.now s.at };
+
+    fn assigned(
+        &self,
+        alloc: Global,
+        wanted: Option<&SplType>,
+        value: &Expr,
+    ) -> Result<Gathers, TypeAnswer> {
+        let found = gathered(alloc, self.inputs.scope, value)?;
+        match wanted {
+            None => Ok(found),
+            Some(kind) => {
+                if is_same(&found.kind, kind) {
+                    Ok(found)
+                } else {
+                    Err(mismatch(value.at))
+                }
+            }
+        }
+    }
+
+    fn filled(&self, alloc: Global, attribute: &Attribute) -> Result<Gathers, TypeAnswer> {
+        let code = self.inputs.taken_over(self.at, attribute)?;
+        Ok(Gathers {
+            collector: Collector::Last,
+            argument: Some(code),
+            kind: copy_type(alloc, &attribute.kind)?,
+        })
+    }
+}
+
+/// What an attribute gets, without its type.
+fn collects(attribute: u32, gathers: Gathers) -> Collected
+    ensures { result ≡ record { attribute = attribute; collector = gathers.collector; argument = gathers.argument } }
+{
+    let Gathers {
+        collector,
+        argument,
+        kind: _,
+    } = gathers;
+    Collected {
+        attribute,
+        collector,
+        argument,
+    }
+}
+
+/// What is collected, without the types.
+fn collected(alloc: Global, given: Assigned<Gathers>) -> Result<Items<Collected>, NoMemory>
+    ensures { IfOk result (λ made. made ≡ collected given) }
+{
+    let mut made = Items::new(alloc);
+    for (attribute, gathers) in given.into_vec() {
+        made.push(collects(attribute, gathers))?;
+    }
+    Ok(made)
+}
+
+/// What an Aggregate collects for the attributes of its output, whose invocation stands at that place of
+/// the program. The scope has its input port, and the rows are those of its `output` clause. Each value is
+/// one call of `Sum`, `Min`, `Max`, `First`, `Any` or `Last` with an argument, or of `Count` with none. An
+/// attribute that has no assignment gets that of its name and type of the group's last tuple.
+///
+/// `Refused` is the first refusal, in the order of `tuple_of`: that of an argument, at its place; `Mismatch`
+/// at an argument of a type that the function isn't on, and at a value that is no such call or gives another
+/// type; `WrongCall` at a call with another number of arguments; and the refusals of `tuple_of` of rows and
+/// attributes. `Memory` also stands for more than 2^32 attributes.
+pub fn groups_of(
+    alloc: Global,
+    scope: &Scope,
+    at: u32,
+    output: &Port,
+    rows: &[OutputAssignments],
+) -> Result<Items<Collected>, TypeAnswer>
+    ensures { Finds (groups_typing scope.now at output.now.schema output.now.name rows.now) result }
+{
+    let inputs = Inputs::new(alloc, scope)?;
+    let collections = Collections { inputs, at };
+    let given = all_given(alloc, &collections, output, rows)?;
+    Ok(collected(alloc, given)?)
+}
