@@ -12,7 +12,7 @@ use std::alloc::Global;
 
 /// Whether a place leads back to itself, where each place leads to those of its row. It takes the
 /// time of one pass over the rows.
-pub(crate) fn leads_back(alloc: Global, next: &[Items<u32>], place: u32) -> Result<bool, NoMemory>
+pub fn leads_back(alloc: Global, next: &[Items<u32>], place: u32) -> Result<bool, NoMemory>
     requires below { LeadsWithin next.now }
     ensures { IfOk result (λ b. b ≡ leads_back (length next.now) (steps_from next.now) place) }
 {

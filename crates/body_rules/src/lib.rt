@@ -9,4 +9,5 @@ mod types;
 
 pub use bodies::{BodyPurpose, BodySetting, body_of, ends_with_result};
 pub use functions::{functions_of, scope_of_unit};
+pub use leading::leads_back;
 pub use types::{TypeScope, TypeTable, attributes_of, shape_of, type_of_written};

@@ -1,0 +1,10 @@
+-- What refusals are answered.
+use Rattle.std.specs.Prelude.{◌≡◌}
+use Rattle.stream_model.specs.declared.scope.CheckRefusal.{CheckRefusal}
+use Rattle.type_rules.specs.declared.answer.TypeAnswer.{TypeAnswer}
+use Rattle.type_rules.specs.declared.answer.TypeAnswer.TheVariants.{Refused, Memory}
+
+-- the same refusal. Of want of memory nothing is said
+abbrev pub Copies : CheckRefusal → TypeAnswer → Type 0
+Copies refusal (Refused copy) = copy ≡ refusal
+Copies refusal Memory = Unit {0}

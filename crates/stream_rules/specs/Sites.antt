@@ -1,0 +1,13 @@
+-- What types stand for in bodies.
+use Rattle.std.specs.Prelude.{◌≡◌, List, Option, Some, None}
+use Rattle.spl_tree.specs.declared.unit.Composite.{Composite}
+use Rattle.spl_tree.specs.declared.unit.Definition.{Definition}
+use Rattle.stream_model.specs.TypeNames.{composite_types}
+use Rattle.body_rules.specs.declared.types.finding.TypeScope.{TypeScope}
+use Rattle.body_rules.specs.TypeScopes.{types_in}
+
+-- what they stand for in the composite, where there is one
+abbrev pub MeansTypes : List Definition → Option Composite → Option TypeScope → Type 0
+MeansTypes unit (Some c) (Some types) = types_in types ≡ composite_types unit c
+MeansTypes unit None None = Unit {0}
+MeansTypes unit _ _ = ⊥

@@ -1,0 +1,53 @@
+//! Refusals of streams and ports.
+ghost use Rattle.std.specs.Prelude.{◌≡◌, Err, None};
+ghost use Rattle.stream_model.specs.declared.scope.CheckError.TheVariants as E;
+ghost use Rattle.type_rules.specs.declared.answer.TypeAnswer.TheVariants.{Refused};
+ghost use Rattle.type_rules.specs.Finds.{Finds, IsUnknown};
+ghost use Rattle.stream_rules.specs.Answers.{Copies};
+
+use spl_value::{Items, Name};
+use std::alloc::Global;
+use stream_model::{CheckError, CheckRefusal};
+use type_rules::TypeAnswer;
+
+pub(crate) fn mismatch(at: u32) -> TypeAnswer
+    ensures { result ≡ Refused (record { error = E.Mismatch; at = at; name = None }) }
+{
+    TypeAnswer::Refused(CheckRefusal {
+        error: CheckError::Mismatch,
+        at,
+        name: None,
+    })
+}
+
+/// A name without a meaning, at a place.
+pub(crate) fn unknown(alloc: Global, at: u32, name: &Name) -> TypeAnswer
+    ensures { IsUnknown at name.now result }
+{
+    match Items::from_slice(alloc, name.as_slice()) {
+        Ok(copy) => TypeAnswer::Refused(CheckRefusal {
+            error: CheckError::Unknown,
+            at,
+            name: Some(copy),
+        }),
+        Err(_) => TypeAnswer::Memory,
+    }
+}
+
+/// A refusal once more.
+pub(crate) fn copy_of(alloc: Global, refusal: &CheckRefusal) -> TypeAnswer
+    ensures { Copies refusal.now result }
+{
+    let name = match &refusal.name {
+        Some(name) => match Items::from_slice(alloc, name.as_slice()) {
+            Ok(copy) => Some(copy),
+            Err(_) => return TypeAnswer::Memory,
+        },
+        None => None,
+    };
+    TypeAnswer::Refused(CheckRefusal {
+        error: refusal.error,
+        at: refusal.at,
+        name,
+    })
+}
