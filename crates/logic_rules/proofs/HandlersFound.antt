@@ -20,13 +20,12 @@ use Rattle.stream_model.specs.LogicTyping.{Surroundings, event_word, handler_of,
 use Rattle.stream_model.specs.Scopes.{At, at_place, first_from}
 use Rattle.stream_model.specs.Typing.{Found, after, refused}
 use Rattle.type_rules.specs.declared.answer.TypeAnswer.{TypeAnswer}
-use Rattle.type_rules.specs.declared.answer.TypeAnswer.TheVariants.{Refused, Memory}
 use Rattle.type_rules.specs.Finds.{Finds}
 use Rattle.body_rules.specs.declared.types.finding.TypeScope.{TypeScope}
 use Rattle.body_rules.specs.TypeScopes.{types_in}
 use Rattle.logic_rules.specs.Handling.{handled_in, handlers_found, handlers_in, made_of, seen_scope, surroundings}
 use Rattle.logic_rules.proofs.FoundRows.{drop_at}
-use Rattle.logic_rules.proofs.Steps.{finds_by, stops}
+use Rattle.logic_rules.proofs.Steps.{finds_by, goes, stops}
 
 abbrev second : {A B : Type 0} → B → Found (A × B) → B
 second y (Ok x) = x.1
@@ -71,9 +70,11 @@ module _ (setting : Setting) (scope : Scope) (before : List Handled) (h : Placed
 
 -- ---- all handlers
 
--- all handlers come to what those that are left come to behind those that were found, and the scope is as it was
+-- all handlers come to what those that are left come to behind those that were found, and the scope and the ports are as they were
 pub record Comes (setting : Setting) (scope : Scope) (ports : List Port) (all : List (Placed Handler)) (now : Scope) (ports_now : List Port) (found : List Handled) (left : List (Placed Handler)) : Type 0 where
   pub same : handlers_in setting scope ports [] all ≡ handlers_in setting now ports_now found left
+  pub same_scope : now ≡ scope
+  pub same_ports : ports_now ≡ ports
   pub no_ports : now.ports ≡ []
   pub no_marker : now.punct ≡ false
 
@@ -94,6 +95,8 @@ module _ (setting : Setting) (first : Scope) (first_ports : List Port) (hs : Lis
             ∙ ap (λ xs. handlers_in setting scope ports xs (drop (i + 1) hs)) (sym pushed)
             ∙ ap (λ s. handlers_in setting s ports more (drop (i + 1) hs)) (sym same_scope)
             ∙ ap (λ ps. handlers_in setting next ps more (drop (i + 1) hs)) (sym same_ports);
+        same_scope = same_scope ∙ come.same_scope;
+        same_ports = same_ports ∙ come.same_ports;
         no_ports = ap (λ s. s.ports) same_scope ∙ come.no_ports;
         no_marker = ap (λ s. s.punct) same_scope ∙ come.no_marker;
       }
@@ -108,7 +111,7 @@ as_made count state handled = Ok (made_of count state handled)
 
 -- with these variables and ports
 abbrev pub inside : Scope → List Variable → List Port → Scope
-inside scope vars ports = record scope { vars = vars; ports = ports; punct = false }
+inside scope vars ports = record scope { vars = vars; ports = ports }
 
 module _ (around : Surroundings) (state : List StateVariable) where
   abbrev pub bare : Scope
@@ -141,33 +144,17 @@ module _ (around : Surroundings) (state : List StateVariable) where
 
 -- ---- the clause
 
-abbrev first : {A B : Type 0} → A → Found (A × B) → A
-first x (Ok p) = p.0
-first x (Err refusal) = x
-
 module _ (types : TypeScope) (scope : Scope) (outputs : List Port) (l : Placed Logic) where
-  abbrev around : Scope → Surroundings
-  around scope = surroundings types scope outputs
+  abbrev found_state : Found (List StateVariable)
+  found_state = state_typing (types_in types) scope.dollars l.what.state
 
-  abbrev beside : Found (List StateVariable) → Found (List StateVariable × Scope)
-  beside o = after {B = List StateVariable × Scope} o (λ state. Ok (state, scope))
+  abbrev by_scope : Scope → List StateVariable → Found Handlers
+  by_scope scope = handlers_found (surroundings types scope outputs) l.what.handlers
 
-  goes_on : (o : Found (List StateVariable)) (state : List StateVariable) (next : Scope) → beside o ≡ Ok (state, next)
-      → after o (handlers_found (around scope) l.what.handlers) ≡ handlers_found (around next) l.what.handlers state
-  goes_on (Ok x) state next e =
-      λ i. handlers_found (around (second scope (e i))) l.what.handlers (first x (e i))
-  goes_on (Err refusal) state next e = cc
+  pub logic_stops : (a : TypeAnswer) → Finds found_state (Err a) → Finds (logic_typing (surroundings types scope outputs) (Some l)) (Err a)
+  logic_stops a h = stops found_state (by_scope scope) a h
 
-  pub logic_stops : (a : TypeAnswer) → Finds (beside (state_typing (types_in types) scope.dollars l.what.state)) (Err a) → Finds (logic_typing (around scope) (Some l)) (Err a)
-  logic_stops (Refused refusal) h = stop_all (state_typing (types_in types) scope.dollars l.what.state) h
-    where
-      stop_all : (o : Found (List StateVariable)) → beside o ≡ Err refusal → after o (handlers_found (around scope) l.what.handlers) ≡ Err refusal
-      stop_all (Ok x) h = cc
-      stop_all (Err other) h = let same : other ≡ refusal = cc in ap Err same
-  logic_stops Memory h = tt
-
-  pub logic_goes : (state : List StateVariable) (next : Scope) (r : Result Handlers TypeAnswer)
-      → beside (state_typing (types_in types) scope.dollars l.what.state) ≡ Ok (state, next)
-      → Finds (handlers_found (around next) l.what.handlers state) r → Finds (logic_typing (around scope) (Some l)) r
-  logic_goes state next r is h =
-      finds_by _ _ r (goes_on (state_typing (types_in types) scope.dollars l.what.state) state next is) h
+  pub logic_goes : (state : List StateVariable) (next : Scope) (r : Result Handlers TypeAnswer) → found_state ≡ Ok state → next ≡ scope
+      → Finds (by_scope next state) r → Finds (logic_typing (surroundings types scope outputs) (Some l)) r
+  logic_goes state next r is same h =
+      goes found_state (by_scope scope) state r is (finds_by _ _ r (ap (λ s. by_scope s state) (sym same)) h)

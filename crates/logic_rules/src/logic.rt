@@ -1,4 +1,5 @@
 //! The logic of a Custom.
+ghost use Rattle.std.specs.Prelude.{◌≡◌, [], false, IfOk};
 ghost use Rattle.std.specs.Option.{option_copied};
 ghost use Rattle.stream_model.specs.LogicTyping.{logic_typing};
 ghost use Rattle.type_rules.specs.Finds.{Finds};
@@ -18,6 +19,7 @@ use spl_tree::{Handler, Logic, Placed};
 use spl_value::Items;
 use state::{state_in, variables_of};
 use std::alloc::Global;
+use std::mem::replace;
 use stream_model::{Handlers, Port, Scope, StateVariable};
 use type_rules::TypeAnswer;
 
@@ -25,40 +27,33 @@ use type_rules::TypeAnswer;
 fn with_state(
     alloc: Global,
     types: &TypeScope,
-    scope: Scope,
+    scope: &mut Scope,
     outputs: &[Port],
     state: Items<StateVariable>,
     handlers: &[Placed<Handler>],
 ) -> Result<Handlers, TypeAnswer>
-    ensures { Finds (handlers_found (surroundings types.now scope outputs.now) handlers.now state) result }
+    requires no_variables { scope.old.vars ≡ [] }
+    requires no_marker { scope.old.punct ≡ false }
+    ensures code { Finds (handlers_found (surroundings types.now scope.old outputs.now) handlers.now state) result }
+    ensures same_scope { IfOk result (λ _. scope.new ≡ scope.old) }
 {
     let count = scope.ports.len();
-    let Scope {
-        ports,
-        functions,
-        unresolved,
-        dollars,
-        ..
-    } = scope;
-    let inside = Scope {
-        vars: variables_of(alloc, state.as_slice())?,
-        ports: Items::new(alloc),
-        functions,
-        unresolved,
-        dollars,
-        punct: false,
-    };
+    let mut ports = replace(&mut scope.ports, Items::new(alloc));
+    scope.vars = variables_of(alloc, state.as_slice())?;
     let setting = BodySetting {
         types: *types,
         purpose: BodyPurpose::Handler(outputs),
     };
-    let handled = handlers_of(alloc, &setting, inside, ports, handlers)?;
+    let handled = handlers_of(alloc, &setting, scope, &mut ports, handlers)?;
+    scope.vars = Items::new(alloc);
+    scope.ports = ports;
     Ok(by_ports(alloc, count, state, handled)?)
 }
 
 /// What a Custom does: its state and its handlers. The scope has the functions of the unit, the `$`
-/// parameters of the body in which it stands, and its input ports; `outputs` are its output ports.
-/// Without logic it does nothing.
+/// parameters of the body in which it stands, and its input ports, but no variables and no marker;
+/// `outputs` are its output ports. Without logic it does nothing. The scope is as before where the
+/// answer is `Ok`, and is left in any state otherwise.
 ///
 /// Where the logic is refused, the answer is `Refused`, with the first refusal: those of the state in
 /// the order of the text come before those of the handlers. A variable is refused as its type is, or
@@ -69,17 +64,20 @@ fn with_state(
 pub fn logic_of(
     alloc: Global,
     types: &TypeScope,
-    scope: Scope,
+    scope: &mut Scope,
     outputs: &[Port],
     logic: Option<&Placed<Logic>>,
 ) -> Result<Handlers, TypeAnswer>
-    ensures { Finds (logic_typing (surroundings types.now scope outputs.now) (option_copied logic.entry)) result }
+    requires no_variables { scope.old.vars ≡ [] }
+    requires no_marker { scope.old.punct ≡ false }
+    ensures logic { Finds (logic_typing (surroundings types.now scope.old outputs.now) (option_copied logic.entry)) result }
+    ensures same_scope { IfOk result (λ _. scope.new ≡ scope.old) }
 {
     let Some(logic) = logic else {
         let count = scope.ports.len();
         return Ok(by_ports(alloc, count, Items::new(alloc), Items::new(alloc))?);
     };
     let Logic { state, handlers } = &logic.what;
-    let (state, scope) = state_in(alloc, types, scope, state.as_slice())?;
+    let state = state_in(alloc, types, scope, state.as_slice())?;
     with_state(alloc, types, scope, outputs, state, handlers.as_slice())
 }

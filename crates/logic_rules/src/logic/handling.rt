@@ -153,28 +153,24 @@ fn handled_next(
     })
 }
 
-/// Handlers in the order of the text, on these ports, in a scope without ports.
+/// Handlers in the order of the text, on these ports, in a scope without ports. Where
+/// they are found, both are as before.
 pub(super) fn handlers_of(
     alloc: Global,
     setting: &BodySetting,
-    mut scope: Scope,
-    mut ports: Items<Port>,
+    scope: &mut Scope,
+    ports: &mut Items<Port>,
     handlers: &[Placed<Handler>],
 ) -> Result<Items<Handled>, TypeAnswer>
-    requires no_ports { scope.ports ≡ [] }
-    requires no_marker { scope.punct ≡ false }
-    ensures { Finds (handlers_in (setting_meant setting.now) scope ports [] handlers.now) result }
+    requires no_ports { scope.old.ports ≡ [] }
+    requires no_marker { scope.old.punct ≡ false }
+    ensures code { Finds (handlers_in (setting_meant setting.now) scope.old ports.old [] handlers.now) result }
+    ensures same_scope { IfOk result (λ _. scope.new ≡ scope.old) }
+    ensures same_ports { IfOk result (λ _. ports.new ≡ ports.old) }
 {
     let mut handled = Items::new(alloc);
     for handler in handlers {
-        let next = handled_next(
-            alloc,
-            setting,
-            &mut scope,
-            &mut ports,
-            handled.as_slice(),
-            handler,
-        )?;
+        let next = handled_next(alloc, setting, scope, ports, handled.as_slice(), handler)?;
         handled.push(next)?;
     }
     Ok(handled)

@@ -1,9 +1,8 @@
 //! The variables of the state of a Custom.
-ghost use Rattle.std.specs.Prelude.{◌≡◌, IfOk, Ok, map};
+ghost use Rattle.std.specs.Prelude.{◌≡◌, IfOk, map};
 ghost use Rattle.std.specs.Option.{option_copied};
 ghost use Rattle.stream_model.specs.LogicTyping.{state_typing, state_value, state_variable};
 ghost use Rattle.stream_model.specs.Parameters.{constant_scope};
-ghost use Rattle.stream_model.specs.Typing.{after};
 ghost use Rattle.body_rules.specs.TypeScopes.{types_in};
 ghost use Rattle.type_rules.specs.Finds.{Finds};
 
@@ -13,6 +12,7 @@ use body_rules::{TypeScope, type_of_written};
 use spl_tree::{Code, Declaration, Expr, Slot};
 use spl_value::{Items, NoMemory, SplType, copy_type, default_of};
 use std::alloc::Global;
+use std::mem::replace;
 use stream_model::{Dollar, Scope, StateVariable, Typed, Variable};
 use type_rules::{TypeAnswer, type_of};
 
@@ -97,34 +97,21 @@ fn state_of(
 }
 
 /// The variables of a state of a Custom that stands in a scope. Of that their values see the `$`
-/// parameters alone. It is given back.
+/// parameters alone. Where they are found, the scope is as before.
 pub(super) fn state_in(
     alloc: Global,
     types: &TypeScope,
-    scope: Scope,
+    scope: &mut Scope,
     declarations: &[Declaration],
-) -> Result<(Items<StateVariable>, Scope), TypeAnswer>
-    ensures { Finds (after (state_typing (types_in types.now) scope.dollars declarations.now) (λ state. Ok (state, scope))) result }
+) -> Result<Items<StateVariable>, TypeAnswer>
+    ensures code { Finds (state_typing (types_in types.now) scope.old.dollars declarations.now) result }
+    ensures same_scope { IfOk result (λ _. scope.new ≡ scope.old) }
 {
-    let Scope {
-        vars,
-        ports,
-        functions,
-        unresolved,
-        dollars,
-        punct,
-    } = scope;
+    let dollars = replace(&mut scope.dollars, Items::new(alloc));
     let constants = constant_scope(alloc, dollars);
     let state = state_of(alloc, types, &constants, declarations)?;
-    let scope = Scope {
-        vars,
-        ports,
-        functions,
-        unresolved,
-        dollars: constants.dollars,
-        punct,
-    };
-    Ok((state, scope))
+    scope.dollars = constants.dollars;
+    Ok(state)
 }
 
 /// The variables without their first values.
