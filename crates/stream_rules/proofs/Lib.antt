@@ -13,12 +13,14 @@ pub mod NamePlaces
 pub mod NamesGrowing
 pub mod StreamLeads
 pub mod StandingOrigins
-pub mod FoundRows
 pub mod SettlesMore
 pub mod ExpansionDollars
 pub mod TypesGathered
 pub mod TablesGrown
 pub mod OriginRows
+pub mod SameSchemas
 pub mod AnswerSteps
 pub mod LastStreams
 pub mod BodyTypes
+pub mod PortHeads
+pub mod AlikeStreams

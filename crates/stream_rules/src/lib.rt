@@ -7,12 +7,14 @@ mod bodies;
 mod dollars;
 mod names;
 mod origins;
+mod ports;
 mod refusals;
 mod sites;
 mod streams;
 
 pub use bodies::Body;
 pub use dollars::dollar_tables;
+pub use ports::port_types;
 pub use sites::Sites;
 use spl_value::NoMemory;
 pub use streams::StreamTable;

@@ -1,0 +1,13 @@
+use Rattle.std.proofs.Common.{◌≡◌}
+use Rattle.stream_model.specs.StreamTypes.{outer_output, output_heads}
+use Rattle.stream_rules.specs.Among.{graph_of, unit_of}
+use Rattle.stream_rules.specs.Bodies.{body_seen}
+use Rattle.stream_rules.proofs.ports.outputs.heads_around.Given as goal
+
+abbrev pub invariant-outwards : goal.invariant-outwards
+invariant-outwards l =
+    outer_output (output_heads l.count (unit_of l.streams) (graph_of l.streams) l.schema) (unit_of l.streams) (graph_of l.streams) l.schema (body_seen l.fn.origin.body) l.fn.origin.output.now
+    ≡ outer_output (output_heads l.left (unit_of l.streams) (graph_of l.streams) l.schema) (unit_of l.streams) (graph_of l.streams) l.schema (body_seen l.at.body) l.at.output.now
+
+abbrev pub decreases-outwards : goal.decreases-outwards
+decreases-outwards l = l.left

@@ -1,0 +1,90 @@
+//! What shapes in bodies stand for, among the streams of a graph.
+ghost use Rattle.std.specs.Prelude.{◌≡◌};
+ghost use Rattle.std.specs.Option.{option_copied};
+ghost use Rattle.stream_model.specs.StreamTypes.{port_stands_for, shape_attributes, stands_for, stream_attributes};
+ghost use Rattle.type_rules.specs.Finds.{Finds};
+ghost use Rattle.stream_rules.specs.Among.{Hold, graph_of, unit_of};
+ghost use Rattle.stream_rules.specs.Bodies.{body_seen};
+
+use crate::bodies::Body;
+use crate::ports::same::same_attributes;
+use crate::refusals::{mismatch, unknown};
+use crate::sites::Sites;
+use crate::streams::{StreamTable, own_attributes};
+use spl_tree::{Graph, HeadPort, Shape};
+use spl_value::{Attribute, Schema};
+use std::alloc::Global;
+use type_rules::TypeAnswer;
+
+/// A graph with the table of its streams.
+#[derive(Clone, Copy)]
+pub(crate) struct Streams<'s> {
+    pub(crate) sites: &'s Sites<'s>,
+    pub(crate) graph: &'s Graph,
+    pub(crate) table: &'s StreamTable,
+}
+
+/// The attributes of a stream.
+pub(super) fn attributes(
+    alloc: Global,
+    streams: &Streams,
+    stream: u32,
+) -> Result<Schema, TypeAnswer>
+    requires { Hold streams.now }
+    ensures { Finds (stream_attributes (unit_of streams.now) (graph_of streams.now) stream) result }
+{
+    streams.table.attributes(alloc, stream)
+}
+
+/// The attributes that a shape in a body stands for.
+fn given(alloc: Global, streams: &Streams, body: &Body, shape: &Shape) -> Result<Schema, TypeAnswer>
+    requires { Hold streams.now }
+    ensures { Finds (shape_attributes (stream_attributes (unit_of streams.now) (graph_of streams.now)) (unit_of streams.now) (graph_of streams.now) (body_seen body.now) shape.now) result }
+{
+    let Some((stream, name)) = body.named_stream(streams.sites, shape) else {
+        return own_attributes(alloc, streams.sites, body, shape);
+    };
+    if streams.table.leads_back(stream) {
+        return Err(unknown(alloc, shape.at, name));
+    }
+    attributes(alloc, streams, stream)
+}
+
+/// A shape has to stand for these attributes.
+pub(super) fn stands_for(
+    alloc: Global,
+    streams: &Streams,
+    body: &Body,
+    schema: &[Attribute],
+    shape: &Shape,
+) -> Result<(), TypeAnswer>
+    requires { Hold streams.now }
+    ensures { Finds (stands_for (unit_of streams.now) (graph_of streams.now) (body_seen body.now) schema.now shape.now) result }
+{
+    let given = given(alloc, streams, body, shape)?;
+    if same_attributes(given.as_slice(), schema) {
+        Ok(())
+    } else {
+        Err(mismatch(shape.at))
+    }
+}
+
+/// The port of a head has to stand for these attributes, where it has a shape.
+pub(super) fn port_stands_for(
+    alloc: Global,
+    streams: &Streams,
+    body: &Body,
+    schema: &[Attribute],
+    port: Option<&HeadPort>,
+) -> Result<(), TypeAnswer>
+    requires { Hold streams.now }
+    ensures { Finds (port_stands_for (unit_of streams.now) (graph_of streams.now) (body_seen body.now) schema.now (option_copied port.entry)) result }
+{
+    let Some(port) = port else {
+        return Ok(());
+    };
+    match &port.shape {
+        Some(shape) => stands_for(alloc, streams, body, schema, shape),
+        None => Ok(()),
+    }
+}
