@@ -1,0 +1,6 @@
+pub mod Steps
+pub mod Naming
+pub mod Tables
+pub mod Invocations
+pub mod Streams
+pub mod Graphs

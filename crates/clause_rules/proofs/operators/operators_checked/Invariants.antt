@@ -1,0 +1,14 @@
+use Rattle.std.proofs.Common.{◌≡◌, drop}
+use Rattle.stream_model.specs.Checking.{operators_checked}
+use Rattle.stream_model.specs.FunctionTyping.{unit_scope}
+use Rattle.type_rules.specs.Finds.{with_front}
+use Rattle.clause_rules.specs.Programs.{program_unit}
+use Rattle.clause_rules.proofs.operators.operators_checked.Given as goal
+
+abbrev pub invariant-loop-op : goal.invariant-loop-op
+invariant-loop-op l = record {
+  same : operators_checked (program_unit l.program) l.program.graph.now l.fn.tables l.program.graph.now.ops
+      ≡ with_front l.parts (operators_checked (program_unit l.program) l.program.graph.now l.fn.tables (drop l.op-index l.program.graph.now.ops));
+  scope : l.scope ≡ unit_scope (program_unit l.program);
+  tables : l.tables ≡ l.fn.tables;
+}

@@ -1,0 +1,105 @@
+//! From the graph of a program to a checked one.
+ghost use Rattle.std.specs.Prelude.{◌≡◌, ℕ, List, Ok, length};
+ghost use Rattle.stream_model.specs.Checking.{checked, each_stream};
+ghost use Rattle.stream_model.specs.Flat.{IsFlat};
+ghost use Rattle.stream_model.specs.Numbering.{numbers_from};
+ghost use Rattle.stream_rules.specs.Streams.{IsTableOf};
+ghost use Rattle.type_rules.specs.Finds.{Finds, Narrows};
+ghost use Rattle.clause_rules.specs.Programs.{AreInvoked, found_in};
+
+use crate::operators::{Program, operators_checked};
+use body_rules::{functions_of, scope_of_unit};
+use check_laws::keeps_law;
+use parameter_rules::CompositeTable;
+use spl_tree::{Graph, Unit};
+use spl_value::{Items, Schema};
+use std::alloc::Global;
+use stream_model::{Checked, Part, flat_law};
+use stream_rules::{Sites, StreamTable, dollar_tables};
+use type_rules::TypeAnswer;
+
+/// Why a graph isn't checked: its first refusal by the rules of types and clauses, or the want of memory.
+pub type CheckAnswer = TypeAnswer;
+
+/// The parts of a graph's operators, and the attributes of its streams.
+#[derive(Drop)]
+struct Found {
+    parts: Items<Part>,
+    schemas: Items<Schema>,
+}
+
+/// A number of streams. More than 32 bits count aren't in memory.
+fn narrow(count: usize) -> Result<u32, TypeAnswer>
+    ensures { Narrows count result }
+{
+    match u32::try_from(count) {
+        Ok(narrow) => Ok(narrow),
+        Err(_) => Err(TypeAnswer::Memory),
+    }
+}
+
+/// The attributes of each stream.
+fn each_stream(
+    alloc: Global,
+    sites: &Sites,
+    graph: &Graph,
+    streams: &StreamTable,
+) -> Result<Items<Schema>, TypeAnswer>
+    requires { IsTableOf sites.now.unit.now graph.now streams.now }
+    ensures { Finds (each_stream sites.now.unit.now graph.now (numbers_from 0 (length graph.now.streams))) result }
+{
+    let count = narrow(graph.streams.len())?;
+    let mut schemas = Items::new(alloc);
+    for stream in 0..count {
+        let schema = streams.attributes(alloc, stream)?;
+        schemas.push(schema)?;
+    }
+    Ok(schemas)
+}
+
+/// What is found of the operators and of the streams.
+fn found_of<'a>(alloc: Global, unit: &'a Unit, graph: &'a Graph) -> Result<Found, TypeAnswer>
+    requires { AreInvoked unit.now graph.now }
+    ensures { Finds (found_in unit.now graph.now) result }
+{
+    let expansions = graph.expansions.as_slice();
+    let sites = Sites::new(alloc, unit, expansions)?;
+    let streams = StreamTable::new(alloc, &sites, graph)?;
+    let composites = CompositeTable::new(alloc, unit)?;
+    let mut scope = scope_of_unit(alloc, unit)?;
+    let tables = dollar_tables(alloc, unit, expansions)?;
+    let mut tables = tables.into_vec();
+    let program = Program {
+        graph,
+        sites: &sites,
+        streams: &streams,
+        composites: &composites,
+    };
+    let slice = tables.as_mut_slice();
+    let parts = operators_checked(alloc, &program, &mut scope, slice)?;
+    let schemas = each_stream(alloc, &sites, graph, &streams)?;
+    Ok(Found { parts, schemas })
+}
+
+/// The checked graph of a unit whose graph this is.
+///
+/// `Refused` comes with the first refusal: of a function in the order of the text, or else of an
+/// operator in the order of their declaration. Of an operator these are looked at in turn: how many
+/// ports it has, the types of its outputs and inputs, `config`, the window, the parameters, the outputs,
+/// the logic, and the rows of a file. `Memory` is as that of `type_of`, and stands also for types of
+/// more than a million parts and for what nests more than a thousand deep.
+pub fn check(alloc: Global, unit: &Unit, graph: Graph) -> Result<Checked, CheckAnswer>
+    requires { (names : List (List ℕ)) × IsFlat unit.now names (Ok graph) }
+    ensures { Finds (checked unit.now graph) result }
+{
+    keeps_law();
+    flat_law();
+    let functions = functions_of(alloc, unit)?;
+    let Found { parts, schemas } = found_of(alloc, unit, &graph)?;
+    Ok(Checked {
+        graph,
+        schemas,
+        functions,
+        parts,
+    })
+}

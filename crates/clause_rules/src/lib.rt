@@ -1,0 +1,10 @@
+//! The rules of types and clauses: from the graph of a program to a checked one, or to the first refusal.
+#![tactic(auto)]
+
+mod checking;
+mod operators;
+mod parts;
+mod ports;
+mod refusals;
+
+pub use checking::{CheckAnswer, check};

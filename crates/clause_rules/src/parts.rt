@@ -1,0 +1,384 @@
+//! The clauses of an operator with their codes.
+ghost use Rattle.std.specs.Prelude.{◌≡◌, [], false, map, codes, IfOk};
+ghost use Rattle.std.specs.List.{list_all};
+ghost use Rattle.std.specs.Option.{option_copied};
+ghost use Rattle.spl_value.specs.declared.types.SplType.TheViews.{out-SplType};
+ghost use Rattle.stream_model.specs.declared.checked.Part.TheVariants as A;
+ghost use Rattle.stream_model.specs.Checking.{code_given, file_sink, file_source, aggregated, functor, has_output, has_text_form, joined, level_text_form, no_logic, output_rows, part_of, places_given, plain, position_given, punctor, split, there, union};
+ghost use Rattle.type_rules.specs.Finds.{Finds};
+ghost use Rattle.clause_rules.specs.Operators.{checks_seen, groups_at, rows_of_schemas, rows_seen, tuple_at};
+
+use crate::refusals::{refused, refused_name};
+use body_rules::TypeScope;
+use logic_rules::logic_of;
+use output_rules::{groups_of, places_of, tuple_of};
+use parameter_rules::{position_given, strict_given, take_code, take_file, take_places};
+use spl_tree::{Clauses, Code, Logic, OpKind, OutputAssignments, Placed, Slot};
+use spl_value::{Attribute, Items, Places, SplType};
+use std::alloc::Global;
+use stream_model::{CheckError, Collected, Given, Part, Policy, Port, Position, Scope};
+use type_rules::TypeAnswer;
+
+/// What is around the expressions of an operator: what names of types stand for, and its outputs.
+#[derive(Clone, Copy)]
+pub(crate) struct Around<'s, 'u> {
+    pub(crate) types: TypeScope<'s, 'u>,
+    pub(crate) outputs: &'s [Port],
+}
+
+/// What is known of an operator before its outputs and its logic are looked at: its place, its windows
+/// and its parameters.
+#[derive(Drop)]
+pub(crate) struct Checks {
+    pub(crate) at: u32,
+    pub(crate) windows: Items<Policy>,
+    pub(crate) given: Items<Given>,
+}
+
+fn has_output(kind: OpKind) -> bool
+    ensures { result ≡ has_output kind }
+{
+    matches!(kind, OpKind::Functor | OpKind::Aggregate | OpKind::Join)
+}
+
+/// The rows of the output clause. An operator that has none is refused at the clause's word.
+pub(crate) fn output_rows(
+    alloc: Global,
+    kind: OpKind,
+    clause: Option<&Placed<Items<OutputAssignments>>>,
+) -> Result<&[OutputAssignments], TypeAnswer>
+    ensures { Finds (output_rows kind (option_copied clause.entry)) (rows_seen result) }
+{
+    match clause {
+        None => Ok(&[]),
+        Some(clause) if has_output(kind) => Ok(clause.what.as_slice()),
+        Some(clause) => Err(refused_name(alloc, CheckError::ExtraParameter, clause.at, b"output")),
+    }
+}
+
+/// Refuses the logic of an operator that isn't a Custom.
+fn no_logic(alloc: Global, logic: Option<&Placed<Logic>>) -> Result<(), TypeAnswer>
+    ensures { Finds (no_logic (option_copied logic.entry)) result }
+{
+    match logic {
+        None => Ok(()),
+        Some(logic) => Err(refused_name(alloc, CheckError::LeftOut, logic.at, b"logic")),
+    }
+}
+
+/// A part of an operator without logic.
+fn plain(alloc: Global, clauses: &Clauses, part: Part) -> Result<Part, TypeAnswer>
+    ensures { Finds (plain clauses.now part) result }
+{
+    no_logic(alloc, clauses.logic.as_ref())?;
+    Ok(part)
+}
+
+fn has_field(kind: &SplType) -> bool
+    ensures { result ≡ level_text_form (out-SplType kind.now) }
+{
+    matches!(kind, SplType::Int(_) | SplType::Bool | SplType::Text)
+}
+
+fn has_text_form(schema: &[Attribute]) -> bool
+    ensures { result ≡ has_text_form schema.now }
+{
+    for attribute in schema {
+        if !has_field(&attribute.kind) {
+            return false;
+        }
+    }
+    true
+}
+
+/// Refuses attributes of a file that have no text in a row.
+fn rows_checked(at: u32, ports: &[Port]) -> Result<(), TypeAnswer>
+    ensures { Finds (rows_of_schemas at (map (λ p. p.schema) ports.now)) result }
+{
+    for port in ports {
+        if !has_text_form(port.schema.as_slice()) {
+            return Err(refused(CheckError::NoTextForm, at));
+        }
+    }
+    Ok(())
+}
+
+fn file_source(
+    alloc: Global,
+    around: &Around,
+    scope: &Scope,
+    checks: Checks,
+    clauses: &Clauses,
+) -> Result<Part, TypeAnswer>
+    ensures { Finds (file_source (checks_seen around.now scope.now checks) clauses.now) result }
+{
+    no_logic(alloc, clauses.logic.as_ref())?;
+    rows_checked(checks.at, around.outputs)?;
+    let mut given = checks.given;
+    let strict = strict_given(given.as_slice());
+    let file = take_file(alloc, &mut given);
+    Ok(Part::FileSource { file, strict })
+}
+
+fn file_sink(
+    alloc: Global,
+    around: &Around,
+    scope: &Scope,
+    checks: Checks,
+    clauses: &Clauses,
+) -> Result<Part, TypeAnswer>
+    ensures { Finds (file_sink (checks_seen around.now scope.now checks) clauses.now) result }
+{
+    no_logic(alloc, clauses.logic.as_ref())?;
+    rows_checked(checks.at, scope.ports.as_slice())?;
+    let mut given = checks.given;
+    let file = take_file(alloc, &mut given);
+    Ok(Part::FileSink { file })
+}
+
+fn filter(alloc: Global, checks: Checks, clauses: &Clauses) -> Result<Part, TypeAnswer>
+    ensures { Finds (plain clauses.now (A.Filter (code_given checks.given (codes "filter")))) result }
+{
+    let mut given = checks.given;
+    let condition = take_code(&mut given, b"filter");
+    plain(alloc, clauses, Part::Filter { condition })
+}
+
+/// The output of a Functor or a Join, as the code of a tuple.
+fn tuple(
+    alloc: Global,
+    around: &Around,
+    scope: &Scope,
+    at: u32,
+    rows: &[OutputAssignments],
+) -> Result<Code<Slot>, TypeAnswer>
+    ensures { Finds (tuple_at around.now scope.now at rows.now) result }
+{
+    match around.outputs.first() {
+        Some(output) => tuple_of(alloc, scope, at, output, rows),
+        None => {
+            let nothing = nothing(alloc);
+            tuple_of(alloc, scope, at, &nothing, rows)
+        }
+    }
+}
+
+/// What is there since it was needed.
+fn there<T: Drop>(at: u32, found: Option<T>) -> Result<T, TypeAnswer>
+    ensures { Finds (there at found) result }
+{
+    match found {
+        Some(found) => Ok(found),
+        None => Err(refused(CheckError::Mismatch, at)),
+    }
+}
+
+/// A port without a name and without attributes.
+fn nothing(alloc: Global) -> Port
+    ensures { result ≡ record { name = []; schema = [] } }
+{
+    Port {
+        name: Items::new(alloc),
+        schema: Items::new(alloc),
+    }
+}
+
+fn functor(
+    alloc: Global,
+    around: &Around,
+    scope: &Scope,
+    checks: Checks,
+    clauses: &Clauses,
+    rows: &[OutputAssignments],
+) -> Result<Part, TypeAnswer>
+    ensures { Finds (functor (checks_seen around.now scope.now checks) clauses.now rows.now) result }
+{
+    let output = tuple(alloc, around, scope, checks.at, rows)?;
+    let mut given = checks.given;
+    let condition = take_code(&mut given, b"filter");
+    plain(alloc, clauses, Part::Functor { condition, output })
+}
+
+/// The condition of a Punctor, and where it puts its markers.
+fn marking_of(given: Items<Given>) -> (Option<Code<Slot>>, Option<Position>)
+    ensures condition { result.0 ≡ code_given given (codes "punctuation") }
+    ensures position { result.1 ≡ position_given given }
+{
+    let position = position_given(given.as_slice());
+    let mut given = given;
+    (take_code(&mut given, b"punctuation"), position)
+}
+
+fn punctor(
+    alloc: Global,
+    around: &Around,
+    scope: &Scope,
+    checks: Checks,
+    clauses: &Clauses,
+) -> Result<Part, TypeAnswer>
+    ensures { Finds (punctor (checks_seen around.now scope.now checks) clauses.now) result }
+{
+    let (condition, position) = marking_of(checks.given);
+    let condition = there(checks.at, condition)?;
+    let position = there(checks.at, position)?;
+    plain(
+        alloc,
+        clauses,
+        Part::Punctor {
+            condition,
+            position,
+        },
+    )
+}
+
+fn split(
+    alloc: Global,
+    around: &Around,
+    scope: &Scope,
+    checks: Checks,
+    clauses: &Clauses,
+) -> Result<Part, TypeAnswer>
+    ensures { Finds (split (checks_seen around.now scope.now checks) clauses.now) result }
+{
+    let mut given = checks.given;
+    let index = there(checks.at, take_code(&mut given, b"index"))?;
+    plain(alloc, clauses, Part::Split { index })
+}
+
+fn union(
+    alloc: Global,
+    around: &Around,
+    scope: &Scope,
+    checks: Checks,
+    clauses: &Clauses,
+) -> Result<Part, TypeAnswer>
+    ensures { Finds (union (checks_seen around.now scope.now checks) clauses.now) result }
+{
+    let schema = match around.outputs.first() {
+        Some(output) => output.schema.as_slice(),
+        None => &[],
+    };
+    let places = places_of(alloc, checks.at, schema, scope.ports.as_slice())?;
+    plain(alloc, clauses, Part::Union { places })
+}
+
+/// The output of an Aggregate.
+fn groups(
+    alloc: Global,
+    around: &Around,
+    scope: &Scope,
+    at: u32,
+    rows: &[OutputAssignments],
+) -> Result<Items<Collected>, TypeAnswer>
+    ensures { Finds (groups_at around.now scope.now at rows.now) result }
+{
+    match around.outputs.first() {
+        Some(output) => groups_of(alloc, scope, at, output, rows),
+        None => {
+            let nothing = nothing(alloc);
+            groups_of(alloc, scope, at, &nothing, rows)
+        }
+    }
+}
+
+/// The attributes by whose values windows are told apart, and those by which groups are.
+fn keys_of(alloc: Global, given: Items<Given>) -> (Places, Places)
+    ensures partition { result.0 ≡ places_given given (codes "partitionBy") }
+    ensures group { result.1 ≡ places_given given (codes "groupBy") }
+{
+    let mut given = given;
+    let partition = take_places(alloc, &mut given, b"partitionBy");
+    let group = take_places(alloc, &mut given, b"groupBy");
+    (partition, group)
+}
+
+fn aggregate(
+    alloc: Global,
+    around: &Around,
+    scope: &Scope,
+    checks: Checks,
+    clauses: &Clauses,
+    rows: &[OutputAssignments],
+) -> Result<Part, TypeAnswer>
+    ensures { Finds (aggregated (checks_seen around.now scope.now checks) clauses.now rows.now checks.windows) result }
+{
+    let [window, ..] = checks.windows.as_slice() else {
+        return Err(refused(CheckError::BadWindow, checks.at));
+    };
+    let window = *window;
+    let output = groups(alloc, around, scope, checks.at, rows)?;
+    let (partition, group) = keys_of(alloc, checks.given);
+    plain(
+        alloc,
+        clauses,
+        Part::Aggregate {
+            window,
+            partition,
+            group,
+            output,
+        },
+    )
+}
+
+fn join(
+    alloc: Global,
+    around: &Around,
+    scope: &Scope,
+    checks: Checks,
+    clauses: &Clauses,
+    rows: &[OutputAssignments],
+) -> Result<Part, TypeAnswer>
+    ensures { Finds (joined (checks_seen around.now scope.now checks) clauses.now rows.now checks.windows) result }
+{
+    let [left, right, ..] = checks.windows.as_slice() else {
+        return Err(refused(CheckError::BadWindow, checks.at));
+    };
+    let (left, right) = (*left, *right);
+    let output = tuple(alloc, around, scope, checks.at, rows)?;
+    let mut given = checks.given;
+    let condition = take_code(&mut given, b"match");
+    plain(
+        alloc,
+        clauses,
+        Part::Join {
+            left,
+            right,
+            condition,
+            output,
+        },
+    )
+}
+
+/// The clauses of an operator of a kind. The scope is changed on the way, and is as before where the
+/// operator isn't refused.
+pub(crate) fn part_of(
+    alloc: Global,
+    around: &Around,
+    scope: &mut Scope,
+    checks: Checks,
+    clauses: &Clauses,
+    rows: &[OutputAssignments],
+    kind: OpKind,
+) -> Result<Part, TypeAnswer>
+    requires no_variables { scope.old.vars ≡ [] }
+    requires no_marker { scope.old.punct ≡ false }
+    ensures part { Finds (part_of (checks_seen around.now scope.old checks) clauses.now rows.now kind) result }
+    ensures same_scope { IfOk result (λ _. scope.new ≡ scope.old) }
+{
+    match kind {
+        OpKind::FileSource => file_source(alloc, around, scope, checks, clauses),
+        OpKind::FileSink => file_sink(alloc, around, scope, checks, clauses),
+        OpKind::Filter => filter(alloc, checks, clauses),
+        OpKind::Functor => functor(alloc, around, scope, checks, clauses, rows),
+        OpKind::Punctor => punctor(alloc, around, scope, checks, clauses),
+        OpKind::Split => split(alloc, around, scope, checks, clauses),
+        OpKind::Union => union(alloc, around, scope, checks, clauses),
+        OpKind::Custom => {
+            let logic = clauses.logic.as_ref();
+            let handlers = logic_of(alloc, &around.types, scope, around.outputs, logic)?;
+            Ok(Part::Custom { handlers })
+        }
+        OpKind::Aggregate => aggregate(alloc, around, scope, checks, clauses, rows),
+        OpKind::Join => join(alloc, around, scope, checks, clauses, rows),
+    }
+}

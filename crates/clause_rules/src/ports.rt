@@ -1,0 +1,102 @@
+//! How many ports an operator has, and what they are called.
+ghost use Rattle.std.specs.Prelude.{◌≡◌, IfOk};
+ghost use Rattle.stream_model.specs.Checking.{config_checked, fit_ports, port_name, ports_checked};
+ghost use Rattle.type_rules.specs.Finds.{Finds};
+ghost use Rattle.clause_rules.specs.Operators.{named};
+
+use crate::refusals::{refused, refused_name};
+use spl_tree::{InputPort, Invocation, Op, OpKind, OutputStream, Parameter};
+use spl_value::{Items, Name, NoMemory, Schema};
+use std::alloc::Global;
+use stream_model::{CheckError, Port};
+use type_rules::TypeAnswer;
+
+/// Whether an operator of the kind may have so many inputs and outputs.
+fn may_have(kind: OpKind, ins: usize, outs: usize) -> bool
+    ensures { result ≡ fit_ports kind ins outs }
+{
+    match kind {
+        OpKind::FileSource => ins == 0 && outs == 1,
+        OpKind::FileSink => ins == 1 && outs == 0,
+        OpKind::Filter | OpKind::Functor | OpKind::Punctor | OpKind::Aggregate => {
+            ins == 1 && outs == 1
+        }
+        OpKind::Split => ins == 1 && (1 <= outs && outs <= 16),
+        OpKind::Union => (1 <= ins && ins <= 16) && outs == 1,
+        OpKind::Custom => (1 <= ins && ins <= 16) && outs <= 16,
+        OpKind::Join => ins == 2 && outs == 1,
+    }
+}
+
+/// Refuses a number of ports that the operator doesn't have, at its invocation.
+pub(crate) fn ports_checked(op: &Op, invocation: &Invocation) -> Result<(), TypeAnswer>
+    ensures { Finds (ports_checked op.now invocation.now) result }
+{
+    if may_have(op.kind, invocation.inputs.len(), invocation.outputs.len()) {
+        Ok(())
+    } else {
+        Err(refused(CheckError::PortCount, op.at))
+    }
+}
+
+/// Refuses an entry of `config` other than `placement`.
+pub(crate) fn config_checked(alloc: Global, config: &[Parameter]) -> Result<(), TypeAnswer>
+    ensures { Finds (config_checked config.now) result }
+{
+    for entry in config {
+        if entry.name.what.as_slice() != b"placement".as_slice() {
+            let name = entry.name.what.as_slice();
+            return Err(refused_name(alloc, CheckError::LeftOut, entry.name.at, name));
+        }
+    }
+    Ok(())
+}
+
+/// A port's name in its body: its alias, or else the name of its first stream.
+fn name_of(port: &InputPort) -> &[u8]
+    ensures { result.now ≡ port_name port.now }
+{
+    if let Some(alias) = &port.alias {
+        return alias.what.as_slice();
+    }
+    match port.streams.get(0) {
+        Some(name) => name.what.as_slice(),
+        None => &[],
+    }
+}
+
+/// The ports of an invocation with their attributes.
+pub(crate) fn ports_of(
+    alloc: Global,
+    inputs: &Items<InputPort>,
+    schemas: Items<Schema>,
+) -> Result<Items<Port>, NoMemory>
+    ensures { IfOk result (λ ports. ports ≡ named (λ q. port_name q) inputs.now schemas) }
+{
+    let mut ports = Items::new(alloc);
+    for schema in schemas.into_vec() {
+        if let Some(input) = inputs.get(ports.len()) {
+            let name = Items::from_slice(alloc, name_of(input))?;
+            ports.push(Port { name, schema })?;
+        }
+    }
+    Ok(ports)
+}
+
+/// The outputs of an invocation by their names, with their attributes.
+pub(crate) fn outputs_of(
+    alloc: Global,
+    outputs: &Items<OutputStream>,
+    schemas: Items<Schema>,
+) -> Result<Items<Port>, NoMemory>
+    ensures { IfOk result (λ ports. ports ≡ named (λ o. o.name.what) outputs.now schemas) }
+{
+    let mut ports = Items::new(alloc);
+    for schema in schemas.into_vec() {
+        if let Some(output) = outputs.get(ports.len()) {
+            let name = Items::from_slice(alloc, output.name.what.as_slice())?;
+            ports.push(Port { name, schema })?;
+        }
+    }
+    Ok(ports)
+}
