@@ -12,7 +12,8 @@ use Rattle.stream_model.specs.CheckedGraph.{CheckedGraph}
 use Rattle.stream_model.specs.Checking.{checked}
 use Rattle.stream_model.specs.Flat.{IsFlat}
 
--- why a program isn't accepted: its bytes are no tokens, these spell no unit, this has no graph, or the graph's types and clauses don't fit
+-- why a program isn't accepted: its bytes are no tokens, one of these nests too deep, they spell no unit, this has no graph, or the graph's
+-- types and clauses don't fit
 pub data ProgramRefusal : Type 0 where
   Lexical : LexicalError → ℕ → ProgramRefusal
   Unexpected : ℕ → ProgramRefusal

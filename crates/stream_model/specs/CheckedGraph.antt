@@ -1,4 +1,4 @@
--- What a graph comes to where its types and clauses fit.
+-- A graph with its types and clauses.
 use Rattle.std.specs.Prelude.{List}
 use Rattle.spl_tree.specs.declared.body.Function.{Function}
 use Rattle.spl_tree.specs.declared.graph.Graph.{Graph}

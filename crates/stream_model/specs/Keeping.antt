@@ -1,6 +1,6 @@
 -- What a checked graph keeps: it has an order and stays within the limits, its functions fit, and so do the ports, the types and the clauses
 -- of each operator.
-use Rattle.std.specs.Prelude.{◌≡◌, ◌↔◌, ◌==◌, ◌<◌, ◌≤◌, ◌^◌, ℕ, ℤ, Bool, true, false, IsTrue, List, [], ◌∷◌, map, length, sum_by, count_by, Option, Some, None, slice_get}
+use Rattle.std.specs.Prelude.{◌≡◌, ◌↔◌, ◌==◌, ◌<◌, ◌≤◌, ◌^◌, ℕ, pos, Bool, true, false, IsTrue, List, [], ◌∷◌, map, length, sum_by, count_by, Option, Some, None, slice_get}
 use Rattle.std.specs.List.{concat, Contains}
 use Rattle.spl_value.specs.declared.types.IntKind.{IntKind}
 use Rattle.spl_value.specs.declared.types.Named.{Named}
@@ -11,6 +11,7 @@ use Rattle.spl_value.specs.declared.value.Value.TheVariants as V
 use Rattle.spl_value.specs.Values.{fits}
 use Rattle.spl_tree.specs.declared.body.Statement.{Statement}
 use Rattle.spl_tree.specs.declared.code.Code.{Code}
+use Rattle.spl_tree.specs.declared.code.Code.TheVariants as C
 use Rattle.spl_tree.specs.declared.code.Slot.{Slot}
 use Rattle.spl_tree.specs.declared.graph.Graph.{Graph}
 use Rattle.spl_tree.specs.declared.graph.Op.{Op}
@@ -34,10 +35,11 @@ use Rattle.stream_model.specs.declared.scope.Signature.{Signature}
 use Rattle.stream_model.specs.BodyFits.{OfHandler, RowFits}
 use Rattle.stream_model.specs.CheckedGraph.{CheckedGraph}
 use Rattle.stream_model.specs.Checking.{fit_ports, has_text_form}
-use Rattle.stream_model.specs.CodeFits.{CodeFits}
+use Rattle.stream_model.specs.CodeFits.{CodeFits, FieldsFit, OneEach}
 use Rattle.stream_model.specs.FitLaws.{no_names}
 use Rattle.stream_model.specs.FlatLaws.{IsMadeAs, IsTopological}
 use Rattle.stream_model.specs.Literals.{is_file_name}
+use Rattle.stream_model.specs.LogicTyping.{is_plain}
 use Rattle.stream_model.specs.ParameterTyping.{level_key}
 use Rattle.stream_model.specs.Policies.{most_tuples}
 use Rattle.stream_model.specs.StreamTypes.{Attributes}
@@ -73,7 +75,7 @@ pub data PortsHave (schemas : List Attributes) : List (List ℕ) → List Attrib
   one_port : (streams : List ℕ) (ports : List (List ℕ)) (schema : Attributes) (rest : List Attributes) → PortHas schemas streams schema
       → PortsHave schemas ports rest → PortsHave schemas (streams ∷ ports) (schema ∷ rest)
 
--- expressions may name these functions and a tuple of each port, and nothing else
+-- codes may name these functions and a tuple of each port, and nothing else
 pub record NamesPorts (signatures : List Signature) (ins : List Attributes) (scope : Scope) : Type 0 where
   pub vars : scope.vars ≡ []
   pub ports : map (λ p. p.schema) scope.ports ≡ ins
@@ -101,27 +103,27 @@ pub record PlacesFit (input output : Attributes) (places : List ℕ) : Type 0 wh
 abbrev pub IsCount : ℕ → ℕ → Type 0
 IsCount least n = (least ≤ n) × (n ≤ most_tuples)
 
--- an integer attribute, and a number of its type
-pub record DeltaFits (schema : Attributes) (place : ℕ) (limit : ℤ) : Type 0 where
+-- an integer attribute, and a number of its type that isn't below 0
+pub record DeltaFits (schema : Attributes) (place limit : ℕ) : Type 0 where
   pub attribute : Named SplType
   pub kind : IntKind
   pub there : slice_get schema place ≡ Some attribute
   pub integer : attribute.kind ≡ S.Int kind
-  pub limited : IsTrue (fits (S.Int kind) (V.Int limit))
+  pub limited : IsTrue (fits (S.Int kind) (V.Int (pos limit)))
 
 -- a window of an Aggregate: one that slides has a trigger
 pub data AggregateWindow (schema : Attributes) : WindowRule → Type 0 where
   tumbling_count : (n : ℕ) → IsCount 1 n → AggregateWindow schema (W.TumblingCount n)
-  tumbling_delta : (place : ℕ) (limit : ℤ) → DeltaFits schema place limit → AggregateWindow schema (W.TumblingDelta place limit)
+  tumbling_delta : (place limit : ℕ) → DeltaFits schema place limit → AggregateWindow schema (W.TumblingDelta place (pos limit))
   tumbling_punct : AggregateWindow schema W.TumblingPunct
   sliding_count : (n every : ℕ) → IsCount 1 n → IsCount 1 every → AggregateWindow schema (W.SlidingCount n (Some every))
-  sliding_delta : (place : ℕ) (limit : ℤ) (every : ℕ) → DeltaFits schema place limit → IsCount 1 every
-      → AggregateWindow schema (W.SlidingDelta place limit (Some every))
+  sliding_delta : (place limit every : ℕ) → DeltaFits schema place limit → IsCount 1 every
+      → AggregateWindow schema (W.SlidingDelta place (pos limit) (Some every))
 
 -- and one of a Join, which has none
 pub data JoinWindow (schema : Attributes) : WindowRule → Type 0 where
   sliding_count : (n : ℕ) → IsCount 0 n → JoinWindow schema (W.SlidingCount n None)
-  sliding_delta : (place : ℕ) (limit : ℤ) → DeltaFits schema place limit → JoinWindow schema (W.SlidingDelta place limit None)
+  sliding_delta : (place limit : ℕ) → DeltaFits schema place limit → JoinWindow schema (W.SlidingDelta place (pos limit) None)
 
 -- ---- clauses
 
@@ -154,9 +156,10 @@ tuple_scope scope state port = record scope { vars = map (λ x. x.variable) stat
 abbrev pub marker_scope : Scope → List StateVariable → Scope
 marker_scope scope state = record scope { vars = map (λ x. x.variable) state; ports = []; punct = true }
 
--- the first values of the state name nothing, and each port has a body or none for tuples and for markers
+-- the first values of the state are made of literals, and each port has a body or none for tuples and for markers
 pub record HandlersFit (scope : Scope) (outs : List Attributes) (handlers : Handlers) : Type 0 where
   pub state : (k : ℕ) (x : StateVariable) → slice_get handlers.state k ≡ Some x → CodeFits no_names x.first x.variable.kind
+  pub plain : (k : ℕ) (x : StateVariable) → slice_get handlers.state k ≡ Some x → IsTrue (is_plain x.first)
   pub tuples : length handlers.on_tuple ≡ length scope.ports
   pub markers : length handlers.on_punct ≡ length scope.ports
   pub on_tuple : (k : ℕ) (port : Port) (body : List Statement) → slice_get scope.ports k ≡ Some port → slice_get handlers.on_tuple k ≡ Some (Some body)
@@ -174,8 +177,9 @@ pub data PartFits (scope : Scope) : OpKind → List Attributes → List Attribut
       → PartFits scope O.FileSink (schema ∷ []) [] (A.FileSink file)
   filter : (condition : Option (Code Slot)) (schema : Attributes) → ConditionFits scope condition
       → PartFits scope O.Filter (schema ∷ []) (schema ∷ []) (A.Filter condition)
-  functor : (condition : Option (Code Slot)) (output : Code Slot) (input schema : Attributes) → ConditionFits scope condition
-      → CodeFits scope output (S.Tuple schema) → PartFits scope O.Functor (input ∷ []) (schema ∷ []) (A.Functor condition output)
+  functor : (condition : Option (Code Slot)) (fields : List (ℕ × Code Slot)) (input schema : Attributes) → ConditionFits scope condition
+      → FieldsFit scope fields schema → OneEach (length schema) fields
+      → PartFits scope O.Functor (input ∷ []) (schema ∷ []) (A.Functor condition (C.Tuple fields))
   punctor : (condition : Code Slot) (position : Position) (schema : Attributes) → CodeFits scope condition S.Bool
       → PartFits scope O.Punctor (schema ∷ []) (schema ∷ []) (A.Punctor condition position)
   split : (index : Code Slot) (kind : IntKind) (schema : Attributes) (outs : List Attributes) → CodeFits scope index (S.Int kind)
@@ -185,11 +189,12 @@ pub data PartFits (scope : Scope) : OpKind → List Attributes → List Attribut
       → PartFits scope O.Union ins (schema ∷ []) (A.Union places)
   custom : (handlers : Handlers) (ins outs : List Attributes) → HandlersFit scope outs handlers → PartFits scope O.Custom ins outs (A.Custom handlers)
   aggregate : (window : Policy) (partition group : List ℕ) (output : List Collected) (input schema : Attributes) → AggregateWindow input window.rule
-      → KeysFit input partition → (window.partitioned ≡ false → partition ≡ []) → KeysFit input group → GroupsFit scope schema output
+      → KeysFit input partition → (IsTrue window.partitioned ↔ (0 < length partition)) → KeysFit input group → GroupsFit scope schema output
       → PartFits scope O.Aggregate (input ∷ []) (schema ∷ []) (A.Aggregate window partition group output)
-  join : (left right : Policy) (condition : Option (Code Slot)) (output : Code Slot) (first second schema : Attributes) → JoinWindow first left.rule
-      → JoinWindow second right.rule → left.partitioned ≡ false → right.partitioned ≡ false → ConditionFits scope condition
-      → CodeFits scope output (S.Tuple schema) → PartFits scope O.Join (first ∷ second ∷ []) (schema ∷ []) (A.Join left right condition output)
+  join : (left right : Policy) (condition : Option (Code Slot)) (fields : List (ℕ × Code Slot)) (first second schema : Attributes)
+      → JoinWindow first left.rule → JoinWindow second right.rule → left.partitioned ≡ false → right.partitioned ≡ false → ConditionFits scope condition
+      → FieldsFit scope fields schema → OneEach (length schema) fields
+      → PartFits scope O.Join (first ∷ second ∷ []) (schema ∷ []) (A.Join left right condition (C.Tuple fields))
 
 -- an operator has the ports of its kind, each with the attributes of its streams, and its clauses fit these
 pub record OperatorFits (schemas : List Attributes) (signatures : List Signature) (op : Op) (part : Part) : Type 0 where

@@ -122,6 +122,11 @@ keys_typing schema before [] = Ok []
 keys_typing schema before (e ∷ es) =
     after (key_of schema before e.at (word_of e)) (λ place. after (keys_typing schema (place ∷ before) es) (λ rest. Ok (place ∷ rest)))
 
+-- one or more
+abbrev pub some_keys : ℕ → List (Named SplType) → List Expr → Found (List ℕ)
+some_keys at schema [] = mismatch at
+some_keys at schema (e ∷ es) = keys_typing schema [] (e ∷ es)
+
 -- the attributes of the first port
 abbrev pub first_schema : List Port → List (Named SplType)
 first_schema [] = []
@@ -143,7 +148,7 @@ single_value site AsIndex e = after (typing site.scope e None) (λ t. level_inde
 single_value site AsAttributes e = mismatch e.at
 
 abbrev pub value_typing : Site → Parameter → Role → Found ParameterValue
-value_typing site p AsAttributes = after (keys_typing (first_schema site.scope.ports) [] p.values) (λ places. Ok (V.Places places))
+value_typing site p AsAttributes = after (some_keys p.name.at (first_schema site.scope.ports) p.values) (λ places. Ok (V.Places places))
 value_typing site p role = one_value p.name.at (single_value site role) p.values
 
 -- ---- a clause
