@@ -2,7 +2,7 @@
 ghost use Rattle.std.specs.Prelude.{◌≡◌, ◌==◌, [], reverse};
 ghost use Rattle.std.specs.List.{list_any};
 ghost use Rattle.spl_value.specs.declared.types.SplType.TheViews.{out-SplType};
-ghost use Rattle.stream_model.specs.ParameterTyping.{first_schema, key_of, keys_typing, level_key, word_of};
+ghost use Rattle.stream_model.specs.ParameterTyping.{first_schema, key_of, keys_typing, level_key, some_keys, word_of};
 ghost use Rattle.type_rules.specs.Finds.{Finds};
 
 use super::values::word_of;
@@ -24,12 +24,24 @@ pub(super) fn first_schema(ports: &[Port]) -> &[Attribute]
     }
 }
 
-/// The places of attributes that are named, each once.
-pub(super) fn keys_typing(
+/// The places of one attribute or more. Without any the parameter is refused at its name, which is at
+/// `at`.
+pub(super) fn some_keys(
     alloc: Global,
+    at: u32,
     schema: &[Attribute],
     values: &[Expr],
 ) -> Result<Places, TypeAnswer>
+    ensures { Finds (some_keys at schema.now values.now) result }
+{
+    match values {
+        [] => Err(mismatch(at)),
+        [_, ..] => keys_typing(alloc, schema, values),
+    }
+}
+
+/// The places of attributes that are named, each once.
+fn keys_typing(alloc: Global, schema: &[Attribute], values: &[Expr]) -> Result<Places, TypeAnswer>
     ensures { Finds (keys_typing schema.now [] values.now) result }
 {
     let mut places = Items::new(alloc);

@@ -7,7 +7,7 @@ ghost use Rattle.type_rules.specs.Finds.{Finds};
 ghost use Rattle.parameter_rules.specs.Roles.{role_seen};
 ghost use Rattle.parameter_rules.specs.Sites.{site_seen};
 
-use super::keys::{first_schema, keys_typing};
+use super::keys::{first_schema, some_keys};
 use super::roles::Role;
 use crate::literals::refusals::mismatch;
 use crate::literals::{ExpressionSite, file_name};
@@ -30,7 +30,8 @@ pub(super) fn value_of(
     match role {
         Role::Attributes => {
             let schema = first_schema(site.scope.ports.as_slice());
-            Ok(ParameterValue::Places(keys_typing(alloc, schema, values)?))
+            let places = some_keys(alloc, parameter.name.at, schema, values)?;
+            Ok(ParameterValue::Places(places))
         }
         _ => one_value(alloc, site, role, parameter.name.at, values),
     }
