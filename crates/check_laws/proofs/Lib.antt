@@ -1,4 +1,5 @@
 mod FoundSteps
+mod PlainStates
 mod DollarTables
 mod SignedFunctions
 mod UnitGraphs

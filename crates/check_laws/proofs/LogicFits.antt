@@ -1,5 +1,5 @@
 -- The logic of a Custom fits its ports.
-use Rattle.std.specs.Prelude.{◌≡◌, ◌==◌, ◌+◌, ℕ, zero, suc, Bool, true, false, ◌&&◌, List, [], ◌∷◌, ◌++◌, length, Option, Some, None, Ok, slice_get, is_some, if◌then◌else◌, codes}
+use Rattle.std.specs.Prelude.{◌≡◌, ◌==◌, ◌+◌, ℕ, zero, suc, Bool, true, false, ◌&&◌, IsTrue, List, [], ◌∷◌, ◌++◌, length, Option, Some, None, Ok, slice_get, is_some, if◌then◌else◌, codes}
 use Rattle.std.specs.List.{AllByRecursion}
 use Rattle.std.specs.Str.{bytes_eq}
 use Rattle.std.specs.Cmp.{first_so, second_so}
@@ -29,13 +29,14 @@ use Rattle.stream_model.specs.CodeFits as G
 use Rattle.stream_model.specs.CodeFits.{CodeFits}
 use Rattle.stream_model.specs.FitLaws.{DollarsFit, no_names}
 use Rattle.stream_model.specs.Keeping.{HandlersFit, tuple_scope}
-use Rattle.stream_model.specs.LogicTyping.{Surroundings, event_word, handler_of, handler_scope, handler_setting, handler_typing, handlers_made, handlers_on, handlers_typing, is_event, is_state_value, logic_typing, state_typing, state_value, state_variable}
+use Rattle.stream_model.specs.LogicTyping.{Surroundings, event_word, handler_of, handler_scope, handler_setting, handler_typing, handlers_made, handlers_on, handlers_typing, is_event, is_plain, is_state_value, logic_typing, state_typing, state_value, state_variable}
 use Rattle.stream_model.specs.Parameters.{constant_scope}
 use Rattle.stream_model.specs.Scopes.{At, first_from}
 use Rattle.stream_model.specs.Standing.{Stands, first_stands}
 use Rattle.stream_model.specs.TypeNames.{Types, type_meant}
 use Rattle.stream_model.specs.Typing.{after, refused, typing}
-use Rattle.check_laws.proofs.Accepting.{Gives, TypingGives, gives_after, gives_if, gives_then, none_at, wanted_fits}
+use Rattle.check_laws.proofs.Accepting.{Gives, TypingGives, gives_after, gives_from, gives_if, gives_then, none_at, wanted_fits}
+use Rattle.check_laws.proofs.PlainStates.{state_plain}
 
 -- ---- the state
 
@@ -157,10 +158,14 @@ module _ (laws : TypingGives) (around : Surroundings) (fine : DollarsFit around.
   of_state (y ∷ xs) h zero x e = let same : y ≡ x = cc in subst (λ (z : StateVariable). CodeFits no_names z.first z.variable.kind) same h.0
   of_state (y ∷ xs) h (suc k) x e = of_state xs h.1 k x e
 
-  made_fit : (handled : List Handled) → AllByRecursion (λ x. CodeFits no_names x.first x.variable.kind) state → AllByRecursion HandledFits handled
+  abbrev ArePlain : Type 0
+  ArePlain = (k : ℕ) (x : StateVariable) → slice_get state k ≡ Some x → IsTrue (is_plain x.first)
+
+  made_fit : (handled : List Handled) → AllByRecursion (λ x. CodeFits no_names x.first x.variable.kind) state → ArePlain → AllByRecursion HandledFits handled
       → HandlersFit around.scope around.schemas (handlers_made around state handled)
-  made_fit handled firsts all = record {
+  made_fit handled firsts plain all = record {
     state = of_state state firsts;
+    plain = plain;
     tuples = on_length H.Tuple handled 0 (length around.scope.ports);
     markers = on_length H.Punctuation handled 0 (length around.scope.ports);
     on_tuple = λ k port body there is.
@@ -175,9 +180,11 @@ module _ (laws : TypingGives) (around : Surroundings) (fine : DollarsFit around.
 
 pub logic_fits : TypingGives → (around : Surroundings) → DollarsFit around.scope.dollars → (o : Option (Placed Logic))
     → Gives (HandlersFit around.scope around.schemas) (logic_typing around o)
-logic_fits laws around fine None = made_fit laws around fine [] [] tt tt
+logic_fits laws around fine None = made_fit laws around fine [] [] tt (λ k x e. absurd (none_at k x e)) tt
 logic_fits laws around fine (Some l) =
-    gives_after (AllByRecursion (λ x. CodeFits no_names x.first x.variable.kind)) (HandlersFit around.scope around.schemas)
-    (state_typing around.types around.scope.dollars l.what.state) _ (state_fits laws around.scope.dollars fine around.types l.what.state) (λ state firsts.
+    gives_then (HandlersFit around.scope around.schemas) (state_typing around.types around.scope.dollars l.what.state) _ (λ state is.
+    let firsts = gives_from (AllByRecursion (λ x. CodeFits no_names x.first x.variable.kind)) (state_typing around.types around.scope.dollars l.what.state) state
+    (state_fits laws around.scope.dollars fine around.types l.what.state) is in
+    let plain = state_plain around.types around.scope.dollars l.what.state state is in
     gives_after (AllByRecursion (HandledFits laws around fine state)) (HandlersFit around.scope around.schemas) (handlers_typing around state [] l.what.handlers) _
-    (handlers_each laws around fine state [] tt l.what.handlers) (λ handled all. made_fit laws around fine state handled firsts all))
+    (handlers_each laws around fine state [] tt l.what.handlers) (λ handled all. made_fit laws around fine state handled firsts plain all))

@@ -29,7 +29,7 @@ use Rattle.stream_model.specs.declared.scope.Port.{Port}
 use Rattle.stream_model.specs.declared.scope.Scope.{Scope}
 use Rattle.stream_model.specs.declared.scope.Variable.{Variable}
 use Rattle.stream_model.specs.CodeFits as G
-use Rattle.stream_model.specs.CodeFits.{CodeFits, FieldsFit}
+use Rattle.stream_model.specs.CodeFits.{CodeFits, FieldsFit, OneEach}
 use Rattle.stream_model.specs.FitLaws.{DollarsFit}
 use Rattle.stream_model.specs.Keeping as F
 use Rattle.stream_model.specs.Keeping.{CollectorFits, GroupsFit, PlacesFit}
@@ -46,6 +46,13 @@ use Rattle.check_laws.proofs.AssignedOnce.{AssignsFit, EachOnce, FillsFit, ForAt
 after_after : {A B D : Type 0} (r : Found A) (f : A → Found B) (g : B → Found D) → after (after r f) g ≡ after r (λ x. after (f x) g)
 after_after (Ok x) f g = refl
 after_after (Err refusal) f g = refl
+
+-- the code of a tuple that has one field for each attribute, of its type
+pub record TupleFits (scope : Scope) (schema : Attributes) (code : Code Slot) : Type 0 where
+  pub fields : List (ℕ × Code Slot)
+  pub is : code ≡ C.Tuple fields
+  pub fit : FieldsFit scope fields schema
+  pub once : OneEach (length schema) fields
 
 -- ---- attributes without an assignment
 
@@ -84,14 +91,14 @@ module _ (laws : TypingGives) (scope : Scope) (bare : scope.vars ≡ []) (fine :
   fields_fit schema (x ∷ all) h = G.field x.0 x.1 all schema h.0.0 h.0.1 h.0.2 (fields_fit schema all h.1)
 
   pub tuple_fits : (at : ℕ) (schema : Attributes) (output : List ℕ) (rows : List OutputAssignments)
-      → Gives (λ code. CodeFits scope code (S.Tuple schema)) (tuple_typing scope at schema output rows)
+      → Gives (TupleFits scope schema) (tuple_typing scope at schema output rows)
   tuple_fits at schema output rows =
-      subst (Gives (λ code. CodeFits scope code (S.Tuple schema)))
+      subst (Gives (TupleFits scope schema))
       (after_after (rows_typing (assigned_code scope) schema output [] rows) (with_others (taken_over scope at) schema) (λ all. Ok (C.Tuple all)))
-      (gives_after (EachOnce CodeFor schema) (λ code. CodeFits scope code (S.Tuple schema))
+      (gives_after (EachOnce CodeFor schema) (TupleFits scope schema)
       (after (rows_typing (assigned_code scope) schema output [] rows) (with_others (taken_over scope at) schema)) (λ all. Ok (C.Tuple all))
       (each_once CodeFor schema (assigned_code scope) (code_fits schema) (taken_over scope at) (taken_fits schema at) output rows)
-      (λ all each. G.tuple all schema (fields_fit schema all each.fit) each.once))
+      (λ all each. record { fields = all; is = refl; fit = fields_fit schema all each.fit; once = each.once }))
 
   -- ---- groups
 

@@ -1,9 +1,9 @@
 -- The values of the parameters that an operator is given fit it.
-use Rattle.std.specs.Prelude.{◌≡◌, ◌==◌, ℕ, zero, suc, Bool, true, false, ◌||◌, IsTrue, List, [], ◌∷◌, Option, Some, None, Ok, slice_get, if◌then◌else◌, codes}
+use Rattle.std.specs.Prelude.{◌≡◌, ◌==◌, ◌<◌, ℕ, zero, suc, Bool, true, false, ◌||◌, IsTrue, List, [], ◌∷◌, length, Option, Some, None, Ok, slice_get, if◌then◌else◌, codes}
 use Rattle.std.specs.List.{list_any}
 use Rattle.std.specs.Str.{bytes_eq}
 use Rattle.std.specs.Cmp.Lexicographic.{bytes_decides}
-use Rattle.std.proofs.Common.{refl, sym, ap, subst, ◌∙◌}
+use Rattle.std.proofs.Common.{refl, sym, ap, subst, ◌∙◌, arith}
 use Rattle.std.proofs.lemmas.Bool.{eq-eqb}
 use Rattle.spl_value.specs.declared.types.IntKind.{IntKind}
 use Rattle.spl_value.specs.declared.types.Named.{Named}
@@ -31,7 +31,7 @@ use Rattle.stream_model.specs.CodeFits.{CodeFits}
 use Rattle.stream_model.specs.FitLaws.{DollarsFit}
 use Rattle.stream_model.specs.Keeping.{ConditionFits, KeysFit, Once}
 use Rattle.stream_model.specs.Literals.{file_or_mismatch, file_typing, is_file_name, level_file, level_text, text_at}
-use Rattle.stream_model.specs.ParameterTyping.{Role, AsFile, AsFormat, AsParsing, AsCondition, AsPosition, AsIndex, AsAttributes, Site, extra, first_schema, format_of, key_at, key_of, keys_typing, level_index, level_key, missing, needed, one_value, parameter_typing, parameters_typing, parsing_of, position_of, role_of, single_value, value_given, value_typing, word_of}
+use Rattle.stream_model.specs.ParameterTyping.{Role, AsFile, AsFormat, AsParsing, AsCondition, AsPosition, AsIndex, AsAttributes, Site, extra, first_schema, format_of, key_at, key_of, keys_typing, level_index, level_key, missing, needed, one_value, parameter_typing, parameters_typing, parsing_of, position_of, role_of, single_value, some_keys, value_given, value_typing, word_of}
 use Rattle.stream_model.specs.Scopes.{At, attribute_of}
 use Rattle.stream_model.specs.Standing.{Bears, attribute_there}
 use Rattle.stream_model.specs.Typing.{after, mismatch, typing}
@@ -138,6 +138,17 @@ keys_fit schema before (e ∷ es) =
     gives_after (Keys schema (place ∷ before)) (Keys schema before) (keys_typing schema (place ∷ before) es) _ (keys_fit schema (place ∷ before) es) (λ places rest.
     key_more schema before place places key rest))
 
+-- one key or more
+abbrev pub SomeKeys : List (Named SplType) → List ℕ → Type 0
+SomeKeys schema places = KeysFit schema places × (0 < length places)
+
+some_fit : (at : ℕ) (schema : List (Named SplType)) (es : List Expr) → Gives (SomeKeys schema) (some_keys at schema es)
+some_fit at schema [] = tt
+some_fit at schema (e ∷ es) =
+    gives_after (Key schema []) (SomeKeys schema) (key_of schema [] e.at (word_of e)) _ (named_key schema [] e.at (word_of e)) (λ place key.
+    gives_after (Keys schema (place ∷ [])) (SomeKeys schema) (keys_typing schema (place ∷ []) es) _ (keys_fit schema (place ∷ []) es) (λ places rest.
+    ((key_more schema [] place places key rest).fit, omega arith)))
+
 -- ---- values
 
 -- the value of a parameter
@@ -148,7 +159,7 @@ ValueFits scope AsParsing (V.Strict strict) = Unit {0}
 ValueFits scope AsPosition (V.Position position) = Unit {0}
 ValueFits scope AsCondition (V.Code code) = CodeFits scope code S.Bool
 ValueFits scope AsIndex (V.Code code) = (kind : IntKind) × CodeFits scope code (S.Int kind)
-ValueFits scope AsAttributes (V.Places places) = KeysFit (first_schema scope.ports) places
+ValueFits scope AsAttributes (V.Places places) = SomeKeys (first_schema scope.ports) places
 ValueFits scope _ _ = ⊥
 
 format_fits : (scope : Scope) (at : ℕ) (o : Option (List ℕ)) → Gives (ValueFits scope AsFormat) (format_of at o)
@@ -195,8 +206,8 @@ one_fits scope role site at (e ∷ d ∷ es) h = gives_then (ValueFits scope rol
 
 value_fits : TypingGives → (site : Site) → DollarsFit site.scope.dollars → (p : Parameter) (role : Role) → Gives (ValueFits site.scope role) (value_typing site p role)
 value_fits laws site fine p AsAttributes =
-    gives_after (Keys (first_schema site.scope.ports) []) (ValueFits site.scope AsAttributes) (keys_typing (first_schema site.scope.ports) [] p.values) _
-    (keys_fit (first_schema site.scope.ports) [] p.values) (λ places keys. keys.fit)
+    gives_after (SomeKeys (first_schema site.scope.ports)) (ValueFits site.scope AsAttributes) (some_keys p.name.at (first_schema site.scope.ports) p.values) _
+    (some_fit p.name.at (first_schema site.scope.ports) p.values) (λ places keys. keys)
 value_fits laws site fine p role = one_fits site.scope role site p.name.at p.values (single_fits laws site fine role)
 
 -- ---- the clause
@@ -293,10 +304,10 @@ index_there scope at (Some value) h = tt
 
 pub places_there : (scope : Scope) (o : Option ParameterValue) → AsRole scope AsAttributes o → KeysFit (first_schema scope.ports) (as_places o)
 places_there scope None h = (no_keys (first_schema scope.ports) []).fit
-places_there scope (Some (V.Places places)) h = h (V.Places places) refl
+places_there scope (Some (V.Places places)) h = (h (V.Places places) refl).0
 places_there scope (Some value) h = (no_keys (first_schema scope.ports) []).fit
 
--- a file is given
+-- what is needed is given
 value_there : (given : List Given) (name : List ℕ) → list_any (λ g. bytes_eq g.name name) given ≡ true → (value : ParameterValue) × (value_given given name ≡ Some value)
 value_there [] name e = absurd cc
 value_there (g ∷ gs) name e =
@@ -306,6 +317,14 @@ value_there (g ∷ gs) name e =
       | false ↦ λ e. value_there gs name e
     ] e
 
+given_there : (given : List Given) (name : List ℕ) → missing given (name ∷ []) ≡ None → (value : ParameterValue) × (value_given given name ≡ Some value)
+given_there given name none =
+    elim (list_any (λ g. bytes_eq g.name name) given) as (λ b. list_any (λ g. bytes_eq g.name name) given ≡ b → (if b then None else Some name) ≡ None
+    → (value : ParameterValue) × (value_given given name ≡ Some value)) [
+      | true ↦ λ has e. value_there given name has
+      | false ↦ λ lacks e. absurd cc
+    ] refl none
+
 file_in : (scope : Scope) (o : Option ParameterValue) (value : ParameterValue) → o ≡ Some value → ValueFits scope AsFile value → IsTrue (is_file_name (as_file o))
 file_in scope o (V.File bytes) e h = subst (λ v. IsTrue (is_file_name (as_file v))) (sym e) h
 file_in scope o _ e h = absurd h
@@ -313,8 +332,13 @@ file_in scope o _ e h = absurd h
 pub file_there : (scope : Scope) (given : List Given) (name : List ℕ) → AsRole scope AsFile (value_given given name) → missing given (name ∷ []) ≡ None
     → IsTrue (is_file_name (as_file (value_given given name)))
 file_there scope given name h none =
-    elim (list_any (λ g. bytes_eq g.name name) given) as (λ b. list_any (λ g. bytes_eq g.name name) given ≡ b → (if b then None else Some name) ≡ None
-    → IsTrue (is_file_name (as_file (value_given given name)))) [
-      | true ↦ λ has e. let found = value_there given name has in file_in scope (value_given given name) found.0 found.1 (h found.0 found.1)
-      | false ↦ λ lacks e. absurd cc
-    ] refl none
+    let found = given_there given name none in file_in scope (value_given given name) found.0 found.1 (h found.0 found.1)
+
+some_in : (scope : Scope) (o : Option ParameterValue) (value : ParameterValue) → o ≡ Some value → ValueFits scope AsAttributes value → 0 < length (as_places o)
+some_in scope o (V.Places places) e h = subst (λ v. 0 < length (as_places v)) (sym e) h.1
+some_in scope o _ e h = absurd h
+
+pub some_there : (scope : Scope) (given : List Given) (name : List ℕ) → AsRole scope AsAttributes (value_given given name) → missing given (name ∷ []) ≡ None
+    → 0 < length (as_places (value_given given name))
+some_there scope given name h none =
+    let found = given_there given name none in some_in scope (value_given given name) found.0 found.1 (h found.0 found.1)

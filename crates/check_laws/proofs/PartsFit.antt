@@ -1,5 +1,5 @@
 -- The clauses of an operator that are accepted fit its ports, one kind of operator after another.
-use Rattle.std.specs.Prelude.{◌≡◌, ◌==◌, ℕ, zero, suc, Bool, true, false, IsTrue, List, [], ◌∷◌, map, length, Option, Some, None, Ok, slice_get, if◌then◌else◌, codes}
+use Rattle.std.specs.Prelude.{◌≡◌, ◌↔◌, ◌==◌, ◌<◌, ℕ, zero, suc, Bool, true, false, IsTrue, List, [], ◌∷◌, map, length, Option, Some, None, Ok, slice_get, if◌then◌else◌, codes}
 use Rattle.std.specs.List.{list_all}
 use Rattle.std.specs.Cmp.{first_so, second_so}
 use Rattle.std.proofs.Common.{refl, sym, ap, subst, ◌∙◌, arith}
@@ -7,6 +7,7 @@ use Rattle.std.proofs.lemmas.Bool.{eqb-true}
 use Rattle.std.proofs.lemmas.List.{length-map}
 use Rattle.spl_value.specs.declared.types.IntKind.{IntKind}
 use Rattle.spl_value.specs.declared.types.SplType.TheVariants as S
+use Rattle.spl_tree.specs.declared.code.Code.TheVariants as C
 use Rattle.spl_tree.specs.declared.graph.Op.{Op}
 use Rattle.spl_tree.specs.declared.graph.OpKind.{OpKind}
 use Rattle.spl_tree.specs.declared.graph.OpKind.TheVariants as O
@@ -36,8 +37,8 @@ use Rattle.stream_model.specs.Typing.{after, mismatch, refused}
 use Rattle.check_laws.specs.PartsLaw.{PartsLaw}
 use Rattle.check_laws.proofs.Accepting.{Gives, TypingGives, gives_after, gives_from, gives_if, gives_then, lone, none_at, same_schemas}
 use Rattle.check_laws.proofs.LogicFits.{logic_fits}
-use Rattle.check_laws.proofs.OutputsFit.{InputsFit, groups_fit, inputs_fit, tuple_fits}
-use Rattle.check_laws.proofs.ParametersFit.{AllFit, AsRole, ParametersFit, as_role, condition_given, condition_there, file_there, index_there, parameters_fit, places_there}
+use Rattle.check_laws.proofs.OutputsFit.{InputsFit, TupleFits, groups_fit, inputs_fit, tuple_fits}
+use Rattle.check_laws.proofs.ParametersFit.{AllFit, AsRole, ParametersFit, as_role, condition_given, condition_there, file_there, index_there, parameters_fit, places_there, some_there}
 use Rattle.check_laws.proofs.WindowsFit.{Along, WindowsFit, windows_fit}
 
 abbrev schemas_of : List Port → List Attributes
@@ -111,6 +112,15 @@ no_partition scope false given all e =
     no_places (value_given given (codes "partitionBy")) (λ value is.
     let none : None ≡ Some (all (codes "partitionBy") value is).0 = (all (codes "partitionBy") value is).1 in absurd cc)
 
+-- a window is partitioned where there are keys for it
+some_partition : (scope : Scope) (partitioned : Bool) (given : List Given) → ParametersFit scope O.Aggregate partitioned given
+    → IsTrue partitioned ↔ (0 < length (places_given given (codes "partitionBy")))
+some_partition scope true given params = (λ is. some_there scope given (codes "partitionBy") (partition_role scope true given params.all) params.there, λ some. refl)
+some_partition scope false given params =
+    let none : places_given given (codes "partitionBy") ≡ [] = no_partition scope false given params.all refl in
+    let count : length (places_given given (codes "partitionBy")) ≡ 0 = ap length none in
+    (λ is. absurd cc, λ some. absurd (omega (arith, count)))
+
 -- ---- one kind after another
 
 module _ (laws : TypingGives) (x : Checks) (bare : x.around.scope.vars ≡ []) (fine : DollarsFit x.around.scope.dollars) where
@@ -142,9 +152,9 @@ module _ (laws : TypingGives) (x : Checks) (bare : x.around.scope.vars ≡ []) (
   condition_fits kind params name is = condition_given x.around.scope (value_given x.given name) (has_role kind params name AsCondition is)
 
   -- the tuple that is made for the one output
-  tuple_for : (schema : Attributes) (rows : List OutputAssignments) → x.around.schemas ≡ schema ∷ [] → Gives (λ code. CodeFits x.around.scope code (S.Tuple schema)) (tuple_of x rows)
+  tuple_for : (schema : Attributes) (rows : List OutputAssignments) → x.around.schemas ≡ schema ∷ [] → Gives (TupleFits x.around.scope schema) (tuple_of x rows)
   tuple_for schema rows is =
-      subst (λ s. Gives (λ code. CodeFits x.around.scope code (S.Tuple s)) (tuple_of x rows)) (ap first_of is)
+      subst (λ s. Gives (TupleFits x.around.scope s) (tuple_of x rows)) (ap first_of is)
       (tuple_fits laws x.around.scope bare fine x.at (first_of x.around.schemas) (first_of x.around.outputs) rows)
 
   source_fits : (clauses : Clauses) → FitPorts O.FileSource → Parameters O.FileSource → Gives (Fit O.FileSource) (file_source x clauses)
@@ -190,10 +200,12 @@ module _ (laws : TypingGives) (x : Checks) (bare : x.around.scope.vars ≡ []) (
   functor_fits clauses rows count params =
       let input = lone x.around.scope.ports (first_so (length x.around.scope.ports == 1) (length x.around.schemas == 1) count) in
       let output = lone x.around.schemas (second_so (length x.around.scope.ports == 1) (length x.around.schemas == 1) count) in
-      gives_after (λ code. CodeFits x.around.scope code (S.Tuple output.0)) (Fit O.Functor) (tuple_of x rows) _ (tuple_for output.0 rows output.1) (λ code fit.
-      plain_fits (Fit O.Functor) clauses (A.Functor (code_given x.given (codes "filter")) code)
-      (at_ports O.Functor (A.Functor (code_given x.given (codes "filter")) code) (input.0 ∷ []) (output.0 ∷ []) input.1 output.1
-      (F.functor (code_given x.given (codes "filter")) code input.0.schema output.0 (condition_fits O.Functor params (codes "filter") refl) fit)))
+      let condition = code_given x.given (codes "filter") in
+      gives_after (TupleFits x.around.scope output.0) (Fit O.Functor) (tuple_of x rows) _ (tuple_for output.0 rows output.1) (λ code tuple.
+      plain_fits (Fit O.Functor) clauses (A.Functor condition code)
+      (subst (λ c. Fit O.Functor (A.Functor condition c)) (sym tuple.is)
+      (at_ports O.Functor (A.Functor condition (C.Tuple tuple.fields)) (input.0 ∷ []) (output.0 ∷ []) input.1 output.1
+      (F.functor condition tuple.fields input.0.schema output.0 (condition_fits O.Functor params (codes "filter") refl) tuple.fit tuple.once))))
 
   punctor_fits : (clauses : Clauses) → FitPorts O.Punctor → Passing O.Punctor → Parameters O.Punctor → Gives (Fit O.Punctor) (punctor x clauses)
   punctor_fits clauses count passing params =
@@ -255,7 +267,7 @@ module _ (laws : TypingGives) (x : Checks) (bare : x.around.scope.vars ≡ []) (
       (at_ports O.Aggregate (A.Aggregate window partition group groups) (input.0 ∷ []) (output.0 ∷ []) input.1 output.1
       (F.aggregate window partition group groups input.0.schema output.0 on_port.0
       (keys_fit input.0 input.1 (codes "partitionBy") (partition_role x.around.scope (is_partitioned x.windows) x.given params.all))
-      (λ alone. no_partition x.around.scope (is_partitioned x.windows) x.given params.all (partitioned ∙ alone))
+      (subst (λ b. IsTrue b ↔ (0 < length partition)) partitioned (some_partition x.around.scope (is_partitioned x.windows) x.given params))
       (keys_fit input.0 input.1 (codes "groupBy") (has_role O.Aggregate params (codes "groupBy") AsAttributes (group_role (is_partitioned x.windows))))
       fit)))
 
@@ -267,11 +279,13 @@ module _ (laws : TypingGives) (x : Checks) (bare : x.around.scope.vars ≡ []) (
       let inputs = two x.around.scope.ports (first_so (length x.around.scope.ports == 2) (length x.around.schemas == 1) count) in
       let output = lone x.around.schemas (second_so (length x.around.scope.ports == 2) (length x.around.schemas == 1) count) in
       let on_ports : Along O.Join (inputs.0 ∷ inputs.1 ∷ []) (left ∷ right ∷ windows) = subst (λ ports. Along O.Join ports (left ∷ right ∷ windows)) inputs.2 along in
-      gives_after (λ code. CodeFits x.around.scope code (S.Tuple output.0)) (Fit O.Join) (tuple_of x rows) _ (tuple_for output.0 rows output.1) (λ code fit.
-      plain_fits (Fit O.Join) clauses (A.Join left right (code_given x.given (codes "match")) code)
-      (at_ports O.Join (A.Join left right (code_given x.given (codes "match")) code) (inputs.0 ∷ inputs.1 ∷ []) (output.0 ∷ []) inputs.2 output.1
-      (F.join left right (code_given x.given (codes "match")) code inputs.0.schema inputs.1.schema output.0 on_ports.0.0 on_ports.1.0.0 on_ports.0.1 on_ports.1.0.1
-      (condition_fits O.Join params (codes "match") refl) fit)))
+      let condition = code_given x.given (codes "match") in
+      gives_after (TupleFits x.around.scope output.0) (Fit O.Join) (tuple_of x rows) _ (tuple_for output.0 rows output.1) (λ code tuple.
+      plain_fits (Fit O.Join) clauses (A.Join left right condition code)
+      (subst (λ c. Fit O.Join (A.Join left right condition c)) (sym tuple.is)
+      (at_ports O.Join (A.Join left right condition (C.Tuple tuple.fields)) (inputs.0 ∷ inputs.1 ∷ []) (output.0 ∷ []) inputs.2 output.1
+      (F.join left right condition tuple.fields inputs.0.schema inputs.1.schema output.0 on_ports.0.0 on_ports.1.0.0 on_ports.0.1 on_ports.1.0.1
+      (condition_fits O.Join params (codes "match") refl) tuple.fit tuple.once))))
 
   pub part_fits : (clauses : Clauses) (rows : List OutputAssignments) (kind : OpKind) → FitPorts kind → Passing kind → WindowsFit kind x.around.scope.ports x.windows
       → Parameters kind → Gives (Fit kind) (part_of x clauses rows kind)

@@ -87,7 +87,7 @@ limit_fits at kind (Some n) =
     fits_int kind (pos n.value) ∙ second_so (same_types (S.Int n.kind) (S.Int kind)) (kind_holds kind (pos n.value)) within) (λ other. tt)
 
 abbrev DeltaIn : Attributes → Delta → Type 0
-DeltaIn schema d = DeltaFits schema d.attribute (pos d.limit)
+DeltaIn schema d = DeltaFits schema d.attribute d.limit
 
 limited_fits : (numbers : Numbers) (schema : Attributes) (a : IntegerAttribute) → IsInteger schema a → (e : Expr)
     → Gives (DeltaIn schema) (limited numbers a e)
@@ -131,7 +131,7 @@ tumbling_fits numbers schema at (p ∷ ps) =
     gives_after (AggregateWindow schema) (AggregateWindow schema)
     (measured numbers 1 schema W.TumblingCount (λ d. W.TumblingDelta d.attribute (pos d.limit)) (punctuated p) p) _
     (measured_fits (AggregateWindow schema) numbers 1 schema W.TumblingCount (λ d. W.TumblingDelta d.attribute (pos d.limit)) (punctuated p) p
-    (λ n count. F.tumbling_count n count) (λ d delta. F.tumbling_delta d.attribute (pos d.limit) delta) (punct_fits schema p))
+    (λ n count. F.tumbling_count n count) (λ d delta. F.tumbling_delta d.attribute d.limit delta) (punct_fits schema p))
     (λ rule h. alone_fits (AggregateWindow schema) rule ps h)
 
 abbrev by_count : ℕ → Sliding
@@ -159,7 +159,7 @@ sliding_fits numbers schema at (p ∷ ps) =
     gives_after (Triggered schema) (AggregateWindow schema) (sliding_rule numbers 1 schema p) _
     (measured_fits (Triggered schema) numbers 1 schema by_count by_delta (bad_window p.name.at) p
     (λ n count every triggers. F.AggregateWindow.sliding_count n every count triggers)
-    (λ d delta every triggers. F.AggregateWindow.sliding_delta d.attribute (pos d.limit) every delta triggers) tt)
+    (λ d delta every triggers. F.AggregateWindow.sliding_delta d.attribute d.limit every delta triggers) tt)
     (λ rule h. gives_after (IsCount 1) (AggregateWindow schema) (trigger numbers at ps) _ (trigger_fits numbers at ps) (λ every triggers. h every triggers))
 
 abbrev Untriggered : Attributes → Sliding → Type 0
@@ -170,7 +170,7 @@ untriggered_fits numbers schema at [] = tt
 untriggered_fits numbers schema at (p ∷ ps) =
     gives_after (Untriggered schema) (JoinWindow schema) (sliding_rule numbers 0 schema p) _
     (measured_fits (Untriggered schema) numbers 0 schema by_count by_delta (bad_window p.name.at) p
-    (λ n count. F.JoinWindow.sliding_count n count) (λ d delta. F.JoinWindow.sliding_delta d.attribute (pos d.limit) delta) tt)
+    (λ n count. F.JoinWindow.sliding_count n count) (λ d delta. F.JoinWindow.sliding_delta d.attribute d.limit delta) tt)
     (λ rule h. alone_fits (JoinWindow schema) (rule None) ps h)
 
 -- ---- windows
