@@ -1,0 +1,7 @@
+mod FoundSteps
+mod FollowedTexts
+mod FileParameters
+mod FileParts
+mod FreeFiles
+mod OwnFiles
+mod SomeParts
