@@ -1,0 +1,8 @@
+use Rattle.std.proofs.Common.{◌≡◌, drop}
+use Rattle.std.specs.List.{cons_option}
+use Rattle.std.specs.Option.{option_copied}
+use Rattle.command_line.specs.Options.{files}
+use Rattle.command_line.proofs.options.only_file.Given as goal
+
+abbrev pub invariant-loop-argument : goal.invariant-loop-argument
+invariant-loop-argument l = cons_option (option_copied l.file) (files (drop l.argument-index l.argument-items)) ≡ files l.argument-items
