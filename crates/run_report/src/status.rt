@@ -1,0 +1,228 @@
+//! The line that tells why the program ended.
+ghost use Rattle.std.specs.Prelude.{◌≡◌, [], if◌then◌else◌, IfOk};
+ghost use Rattle.std.specs.Option.{option_copied};
+ghost use Rattle.run_report.specs.Texts.{lexical_code, expansion_code, check_code, code_text, has_name, names_expansion, names_check, name_text, refusal_text, kind_text, has_line, stopped_text, operator_name, status_text};
+
+use crate::{Cause, Code, ExpansionError, Refusal};
+use itoa::Buffer;
+use spl_tree::LexicalError;
+use spl_value::{Bytes, Fault, FaultKind, Items, Name, NoMemory};
+use std::alloc::Global;
+use stream_model::{CheckError, Checked};
+
+// The code of bytes that are no tokens.
+fn lexical_code(error: LexicalError) -> &'static [u8]
+    ensures { result.now ≡ lexical_code error }
+{
+    match error {
+        LexicalError::BadByte => b"L1",
+        LexicalError::OpenText => b"L2",
+        LexicalError::OpenComment => b"L3",
+        LexicalError::BadNumber => b"L4",
+        LexicalError::TooLong => b"L5",
+    }
+}
+
+// The code of composites that don't expand to a graph.
+fn expansion_code(error: ExpansionError) -> &'static [u8]
+    ensures { result.now ≡ expansion_code error }
+{
+    match error {
+        ExpansionError::NoMain => b"E1",
+        ExpansionError::Recursive => b"E2",
+        ExpansionError::Twice => b"E3",
+        ExpansionError::Loop => b"E4",
+        ExpansionError::SameFile => b"E5",
+        ExpansionError::TooMany => b"E6",
+        ExpansionError::Unknown => b"E7",
+        ExpansionError::Ports => b"E8",
+    }
+}
+
+// The code of a graph whose types or clauses don't fit.
+fn check_code(error: CheckError) -> &'static [u8]
+    ensures { result.now ≡ check_code error }
+{
+    match error {
+        CheckError::Unknown => b"Y1",
+        CheckError::Mismatch => b"Y2",
+        CheckError::NotMutable => b"Y3",
+        CheckError::WrongCall => b"Y4",
+        CheckError::LeftOut => b"Y5",
+        CheckError::NoReturn => b"Y6",
+        CheckError::MissingParameter => b"C1",
+        CheckError::ExtraParameter => b"C2",
+        CheckError::BadWindow => b"C3",
+        CheckError::BadOutput => b"C4",
+        CheckError::PortCount => b"C5",
+        CheckError::NoTextForm => b"C6",
+    }
+}
+
+// The code of a refusal, as it is told.
+fn code(code: Code) -> &'static [u8]
+    ensures { result.now ≡ code_text code }
+{
+    match code {
+        Code::Lexical(error) => lexical_code(error),
+        Code::Unexpected => b"S1",
+        Code::TooDeep => b"S2",
+        Code::Expansion(error) => expansion_code(error),
+        Code::Check(error) => check_code(error),
+    }
+}
+
+// Whether a refusal by the expansion is told with its name.
+fn names_expansion(error: ExpansionError) -> bool
+    ensures { result ≡ names_expansion error }
+{
+    match error {
+        ExpansionError::NoMain | ExpansionError::TooMany => false,
+        ExpansionError::Recursive
+        | ExpansionError::Twice
+        | ExpansionError::Loop
+        | ExpansionError::SameFile
+        | ExpansionError::Unknown
+        | ExpansionError::Ports => true,
+    }
+}
+
+// Whether a refusal by the rules of types and clauses is told with its name.
+fn names_check(error: CheckError) -> bool
+    ensures { result ≡ names_check error }
+{
+    match error {
+        CheckError::Unknown
+        | CheckError::LeftOut
+        | CheckError::NoReturn
+        | CheckError::MissingParameter
+        | CheckError::ExtraParameter => true,
+        CheckError::Mismatch
+        | CheckError::NotMutable
+        | CheckError::WrongCall
+        | CheckError::BadWindow
+        | CheckError::BadOutput
+        | CheckError::PortCount
+        | CheckError::NoTextForm => false,
+    }
+}
+
+// Whether a refusal with that code is told with its name.
+fn has_name(code: Code) -> bool
+    ensures { result ≡ has_name code }
+{
+    match code {
+        Code::Lexical(_) | Code::Unexpected | Code::TooDeep => false,
+        Code::Expansion(error) => names_expansion(error),
+        Code::Check(error) => names_check(error),
+    }
+}
+
+// The name that a refusal is told with.
+fn name(refusal: &Refusal) -> Option<&Name>
+    ensures { name_text (option_copied result)
+        ≡ (if has_name refusal.now.code then name_text refusal.now.name else []) }
+{
+    if has_name(refusal.code) {
+        refusal.name.as_ref()
+    } else {
+        None
+    }
+}
+
+// The line that tells a refusal.
+fn refusal_line(alloc: Global, refusal: &Refusal) -> Result<Bytes, NoMemory>
+    ensures { IfOk result (λ line. line ≡ refusal_text refusal.now) }
+{
+    let mut line = Vec::new(alloc);
+    let mut digits = Buffer::new();
+    line.extend_from_slice(b"refused ")?;
+    line.extend_from_slice(code(refusal.code))?;
+    line.extend_from_slice(b" at ")?;
+    line.extend_from_slice(digits.format(refusal.at).as_bytes())?;
+    if let Some(name) = name(refusal) {
+        line.push(b' ')?;
+        line.extend_from_slice(name.as_slice())?;
+    }
+    line.push(b'\n')?;
+    Ok(Items::from_vec(line))
+}
+
+// The kind of a fault, as it is told.
+fn kind(kind: FaultKind) -> &'static [u8]
+    ensures { result.now ≡ kind_text kind }
+{
+    match kind {
+        FaultKind::DivZero => b"DivZero",
+        FaultKind::Index => b"Index",
+        FaultKind::NoKey => b"NoKey",
+        FaultKind::Turns => b"Turns",
+        FaultKind::BadRow => b"BadRow",
+        FaultKind::LongRow => b"LongRow",
+        FaultKind::LongFile => b"LongFile",
+        FaultKind::ReadFailed => b"ReadFailed",
+    }
+}
+
+// Whether a fault of that kind is told with its line.
+fn has_line(kind: FaultKind) -> bool
+    ensures { result ≡ has_line kind }
+{
+    match kind {
+        FaultKind::BadRow | FaultKind::LongRow | FaultKind::LongFile | FaultKind::ReadFailed =>
+            true,
+        FaultKind::DivZero | FaultKind::Index | FaultKind::NoKey | FaultKind::Turns => false,
+    }
+}
+
+// The name of the operator with that number. Where there is none, it is empty.
+fn operator(checked: Option<&Checked>, number: u32) -> &[u8]
+    ensures { result.now ≡ operator_name (option_copied checked.entry) number }
+{
+    let Some(checked) = checked else {
+        return &[];
+    };
+    match checked.graph.ops.get(number as usize) {
+        Some(op) => op.name.as_slice(),
+        None => &[],
+    }
+}
+
+// The line that tells a fault of the operator with that name.
+pub(crate) fn stopped_line(alloc: Global, name: &[u8], fault: Fault) -> Result<Bytes, NoMemory>
+    ensures { IfOk result (λ line. line ≡ stopped_text name.now fault) }
+{
+    let mut line = Vec::new(alloc);
+    let mut digits = Buffer::new();
+    line.extend_from_slice(b"stopped ")?;
+    line.extend_from_slice(name)?;
+    line.push(b' ')?;
+    line.extend_from_slice(kind(fault.kind))?;
+    if has_line(fault.kind) {
+        line.extend_from_slice(b" line ")?;
+        line.extend_from_slice(digits.format(fault.line).as_bytes())?;
+    }
+    line.push(b'\n')?;
+    Ok(Items::from_vec(line))
+}
+
+/// The line that tells why the program ended. It is empty where all was done. The graph is needed where
+/// a run ended with a fault, whose operator is told by its name: the name is empty where the operator
+/// isn't there.
+pub fn status_text(
+    alloc: Global,
+    checked: Option<&Checked>,
+    cause: &Cause,
+) -> Result<Bytes, NoMemory>
+    ensures { IfOk result (λ text. text ≡ status_text (option_copied checked.entry) cause.now) }
+{
+    match cause {
+        Cause::Done => Ok(Items::new(alloc)),
+        Cause::BadWords => Ok(Items::from_slice(alloc, b"bad words\n")?),
+        Cause::Refused(refusal) => refusal_line(alloc, refusal),
+        Cause::Stopped(fault) => stopped_line(alloc, operator(checked, fault.op), *fault),
+        Cause::NotBuilt => Ok(Items::from_slice(alloc, b"not built\n")?),
+        Cause::Device => Ok(Items::from_slice(alloc, b"device failed\n")?),
+        Cause::NoMemory => Ok(Items::from_slice(alloc, b"no memory\n")?),
+    }
+}
