@@ -1,0 +1,5 @@
+pub mod SomeFlat
+pub mod SomeAccepted
+pub mod OneAccepted
+pub mod FewTokens
+pub mod Stages

@@ -1,0 +1,104 @@
+-- A program comes to one thing, and its checked graph keeps what such a graph has to keep.
+use Rattle.std.specs.Prelude.{◌≡◌, ℕ, List, Result, Ok, Err}
+use Rattle.std.proofs.Common.{refl, sym, ap, ◌∙◌, subst, inl, inr}
+use Rattle.spl_tree.specs.declared.graph.Graph.{Graph}
+use Rattle.spl_tree.specs.declared.token.Tokens.{Tokens}
+use Rattle.spl_tree.specs.declared.unit.Definition.{Definition}
+use Rattle.spl_tree.specs.Tokens.{tokens}
+use Rattle.spl_tree.specs.Tokens as lexical
+use Rattle.expr_parser.specs.declared.answer.SyntaxAnswer.{SyntaxAnswer}
+use Rattle.expr_parser.specs.declared.answer.SyntaxAnswer.TheVariants as S
+use Rattle.unit_parser.specs.Parses.{Parses, OneAnswerLaw}
+use Rattle.stream_model.specs.declared.scope.CheckRefusal.{CheckRefusal}
+use Rattle.stream_model.specs.Accepted.{ProgramRefusal, Lexical, Unexpected, TooDeep, Expansion, IsAccepted, no_tokens, too_deep, unexpected, no_graph, checks, refused_check}
+use Rattle.stream_model.specs.CheckedGraph.{CheckedGraph}
+use Rattle.stream_model.specs.Checking.{checked}
+use Rattle.stream_model.specs.Expansion.{Found}
+use Rattle.stream_model.specs.Flat.{IsFlat}
+use Rattle.stream_model.specs.FlatLaws.{OneFlatLaw}
+use Rattle.stream_model.specs.Keeping.{Keeps}
+use Rattle.check_laws.specs.KeepsLaw.{KeepsLaw}
+use Rattle.spl_compile.specs.Laws.{OneAcceptedLaw, KeptLaw}
+
+abbrev Come : Type 0
+Come = Result CheckedGraph ProgramRefusal
+
+-- ---- what a program comes to, stage by stage
+
+-- what a unit comes to whose graph or refusal is this
+abbrev behind_graph : List Definition → Found Graph → Come
+behind_graph unit (Ok g) = refused_check (checked unit g)
+behind_graph unit (Err refusal) = Err (Expansion refusal)
+
+-- what tokens come to of which this is answered
+abbrev BehindAnswer : List (List ℕ) → Result (List Definition) SyntaxAnswer → Come → Type 0
+BehindAnswer names (Ok unit) x = (found : Found Graph) × IsFlat unit names found × (x ≡ behind_graph unit found)
+BehindAnswer names (Err (S.Unexpected at)) x = x ≡ Err (Unexpected at)
+BehindAnswer names (Err (S.TooDeep at)) x = x ≡ Err (TooDeep at)
+BehindAnswer names (Err S.Memory) x = ⊥
+
+-- what bytes come to whose tokens or refusal this is
+abbrev BehindTokens : List (List ℕ) → Result Tokens lexical.Refusal → Come → Type 0
+BehindTokens names (Ok ts) x = (answer : Result (List Definition) SyntaxAnswer) × Parses ts answer × BehindAnswer names answer x
+BehindTokens names (Err refusal) x = x ≡ Err (Lexical refusal.0 refusal.1)
+
+by_stages : (bytes : List ℕ) (names : List (List ℕ)) (x : Come) → IsAccepted bytes names x → BehindTokens names (tokens bytes) x
+by_stages bytes names x (no_tokens error at is) = subst (λ r. BehindTokens names r (Err (Lexical error at))) (sym is) refl
+by_stages bytes names x (too_deep ts at is deep) = subst (λ r. BehindTokens names r (Err (TooDeep at))) (sym is) (Err (S.TooDeep at), deep, refl)
+by_stages bytes names x (unexpected ts at is refused) = subst (λ r. BehindTokens names r (Err (Unexpected at))) (sym is) (Err (S.Unexpected at), refused, refl)
+by_stages bytes names x (no_graph ts unit refusal is spells flat) = subst (λ r. BehindTokens names r (Err (Expansion refusal))) (sym is) (Ok unit, spells, (Err refusal, flat, refl))
+by_stages bytes names x (checks ts unit g is spells flat) = subst (λ r. BehindTokens names r (refused_check (checked unit g))) (sym is) (Ok unit, spells, (Ok g, flat, refl))
+
+-- ---- one thing
+
+one_behind : OneFlatLaw → (names : List (List ℕ)) (answer : Result (List Definition) SyntaxAnswer) (x y : Come) → BehindAnswer names answer x → BehindAnswer names answer y → x ≡ y
+one_behind flats names (Ok unit) x y (found, flat, is) (other, flat', is') = is ∙ ap (behind_graph unit) (flats unit names found other flat flat') ∙ sym is'
+one_behind flats names (Err (S.Unexpected at)) x y is is' = is ∙ sym is'
+one_behind flats names (Err (S.TooDeep at)) x y is is' = is ∙ sym is'
+one_behind flats names (Err S.Memory) x y is is' = absurd is
+
+-- an answer was given
+not_memory : (names : List (List ℕ)) (answer : Result (List Definition) SyntaxAnswer) (x : Come) → answer ≡ Err S.Memory → BehindAnswer names answer x → ⊥
+not_memory names answer x is h = subst (λ r. BehindAnswer names r x) is h
+
+one_come : OneAnswerLaw → OneFlatLaw → (names : List (List ℕ)) (r : Result Tokens lexical.Refusal) (x y : Come) → BehindTokens names r x → BehindTokens names r y → x ≡ y
+one_come answers flats names (Ok ts) x y (a, parses, h) (b, parses', h') = elim (answers ts a b parses parses') [
+  | inl memory ↦ absurd (not_memory names a x memory h)
+  | inr others ↦ (elim others [
+    | inl memory ↦ absurd (not_memory names b y memory h')
+    | inr same ↦ one_behind flats names b x y (subst (λ r. BehindAnswer names r x) same h) h'
+  ])
+]
+one_come answers flats names (Err refusal) x y is is' = is ∙ sym is'
+
+pub one_accepted : OneAnswerLaw → OneFlatLaw → OneAcceptedLaw
+one_accepted answers flats bytes names x y h k = one_come answers flats names (tokens bytes) x y (by_stages bytes names x h) (by_stages bytes names y k)
+
+-- ---- what is kept
+
+-- what is found of a graph, where that is a checked graph
+found_is : (found : Result CheckedGraph CheckRefusal) (c : CheckedGraph) → refused_check found ≡ Ok c → found ≡ Ok c
+found_is (Ok d) c is = let same : d ≡ c = cc in ap (λ (x : CheckedGraph). Ok x) same
+found_is (Err refusal) c is = absurd cc
+
+keeps : KeepsLaw → (bytes : List ℕ) (names : List (List ℕ)) (x : Come) (c : CheckedGraph) → IsAccepted bytes names x → x ≡ Ok c → Keeps c
+keeps law bytes names x c (no_tokens error at is) same = absurd (no same)
+  where
+    no : x ≡ Ok c → ⊥
+    no same = cc
+keeps law bytes names x c (too_deep ts at is deep) same = absurd (no same)
+  where
+    no : x ≡ Ok c → ⊥
+    no same = cc
+keeps law bytes names x c (unexpected ts at is refused) same = absurd (no same)
+  where
+    no : x ≡ Ok c → ⊥
+    no same = cc
+keeps law bytes names x c (no_graph ts unit refusal is spells flat) same = absurd (no same)
+  where
+    no : x ≡ Ok c → ⊥
+    no same = cc
+keeps law bytes names x c (checks ts unit g is spells flat) same = law unit names g c flat (found_is (checked unit g) c same)
+
+pub kept : KeepsLaw → KeptLaw
+kept law bytes names c h = keeps law bytes names (Ok c) c h refl

@@ -1,0 +1,15 @@
+use Rattle.spl_compile.proofs.OneAccepted.{one_accepted, kept}
+use Rattle.spl_compile.proofs.SomeAccepted.{some_accepted, too_long}
+use Rattle.spl_compile.proofs.laws.accepted_law.Goals as goal
+
+pub returns-clause-one : goal.returns-clause-one
+returns-clause-one c = one_accepted c.units_law.ensures.answer c.flat_law.ensures.one
+
+pub returns-clause-some : goal.returns-clause-some
+returns-clause-some c = some_accepted
+
+pub returns-clause-too_long : goal.returns-clause-too_long
+returns-clause-too_long c = too_long
+
+pub returns-clause-kept : goal.returns-clause-kept
+returns-clause-kept c = kept c.keeps_law.ensures.keeps

@@ -1,0 +1,13 @@
+-- What compiling a program answers.
+use Rattle.std.specs.Prelude.{◌≡◌, ℕ, List, Result, Ok, Err}
+use Rattle.stream_model.specs.Accepted.{ProgramRefusal, IsAccepted}
+use Rattle.stream_model.specs.CheckedGraph.{CheckedGraph}
+use Rattle.run_report.specs.Refusals.{refusal_of}
+use Rattle.spl_compile.specs.declared.answer.CompileAnswer.{CompileAnswer}
+use Rattle.spl_compile.specs.declared.answer.CompileAnswer.TheVariants as A
+
+-- the checked graph or the refusal that the program comes to; nothing is said where memory was wanting
+abbrev pub IsCompiled : List ℕ → List (List ℕ) → Result CheckedGraph CompileAnswer → Type 0
+IsCompiled bytes names (Ok c) = IsAccepted bytes names (Ok c)
+IsCompiled bytes names (Err (A.Refused refusal)) = (p : ProgramRefusal) × IsAccepted bytes names (Err p) × (refusal ≡ refusal_of p)
+IsCompiled bytes names (Err A.Memory) = Unit {0}

@@ -1,0 +1,22 @@
+-- What programs come to.
+use Rattle.std.specs.Prelude.{◌≡◌, ◌<◌, ℕ, List, length, Result, Ok, Err}
+use Rattle.spl_tree.specs.declared.token.LexicalError.TheVariants.{TooLong}
+use Rattle.stream_model.specs.Accepted.{ProgramRefusal, Lexical, IsAccepted}
+use Rattle.stream_model.specs.CheckedGraph.{CheckedGraph}
+use Rattle.stream_model.specs.Keeping.{Keeps}
+
+-- a program comes to one thing at most
+abbrev pub OneAcceptedLaw : Type 0
+OneAcceptedLaw = (bytes : List ℕ) (names : List (List ℕ)) (x y : Result CheckedGraph ProgramRefusal) → IsAccepted bytes names x → IsAccepted bytes names y → x ≡ y
+
+-- and none comes to nothing
+abbrev pub SomeAcceptedLaw : Type 0
+SomeAcceptedLaw = (bytes : List ℕ) (names : List (List ℕ)) → ((x : Result CheckedGraph ProgramRefusal) → IsAccepted bytes names x → ⊥) → ⊥
+
+-- one of more than so many bytes is refused
+abbrev pub TooLongLaw : Type 0
+TooLongLaw = (bytes : List ℕ) (names : List (List ℕ)) → 1048576 < length bytes → IsAccepted bytes names (Err (Lexical TooLong 1048576))
+
+-- the checked graph of a program keeps what a checked graph has to keep
+abbrev pub KeptLaw : Type 0
+KeptLaw = (bytes : List ℕ) (names : List (List ℕ)) (c : CheckedGraph) → IsAccepted bytes names (Ok c) → Keeps c
