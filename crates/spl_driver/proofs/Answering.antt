@@ -1,51 +1,248 @@
--- A condition has a value or a fault for each tuple of the source.
-use Rattle.std.proofs.Common.{◌≡◌, ◌∙◌, ℕ, zero, suc, Bool, true, false, List, [], ◌∷◌, refl, sym, ap, subst, Option, Some, None, slice_get}
-use Rattle.std.specs.Prelude.{IsTrue, codes}
-use Rattle.spl_value.specs.declared.types.SplType.TheVariants as S
-use Rattle.spl_value.specs.declared.value.Value.{Value}
-use Rattle.spl_value.specs.declared.value.Value.TheVariants as V
-use Rattle.spl_value.specs.declared.value.Value.TheViews.{out-Value}
-use Rattle.spl_value.specs.FitsLaws.{bool_from_fits}
-use Rattle.spl_tree.specs.declared.code.Code.{Code}
-use Rattle.spl_tree.specs.declared.code.Slot.{Slot}
-use Rattle.stream_model.specs.declared.scope.Port.{Port}
-use Rattle.stream_model.specs.Evaluation.{world_of}
-use Rattle.stream_model.specs.Functions.{value}
-use Rattle.stream_model.specs.Operators.{level_truth, truth_of}
-use Rattle.stream_model.specs.Outcomes.{Outcome, Done, Faulted, Stuck, followed, need}
-use Rattle.stream_model.specs.React.{most_turns, at_tuple}
-use Rattle.stream_model.specs.ValueLaws.{NeverStuckLaw}
-use Rattle.stream_model.specs.WorldFits.{EnvFits, Fits, ComesTo}
-use Rattle.spl_value.specs.Values.{fits}
-use Rattle.spl_driver.specs.Filter.{IsPrice}
-use Rattle.spl_driver.specs.Source.{price_schema}
-use Rattle.spl_driver.specs.Form.{filter_scope}
-use Rattle.spl_driver.specs.Program.{IsCondition}
-use Rattle.spl_driver.specs.ProgramLaws.{AnswersLaw}
+-- What the answer of a request comes to once its line is told.
+use Rattle.std.proofs.Common.{◌≡◌, ◌∙◌, ℕ, List, [], ◌∷◌, length, refl, sym, ap, subst, inl, inr, ◌⊎◌, Option, Some, None}
+use Rattle.std.specs.Prelude.{IfSome}
+use Rattle.std.proofs.Math.Seq.{take-length}
+use Rattle.spl_value.specs.declared.item.Fault.{Fault}
+use Rattle.feed_pour.specs.Counts.{PerName, Rose}
+use Rattle.feed_pour.specs.Contents.{Told, WhereTold}
+use Rattle.stream_model.specs.declared.checked.Part.{Part}
+use Rattle.stream_model.specs.declared.record.Arrivals.{Arrivals}
+use Rattle.stream_model.specs.CheckedGraph.{CheckedGraph}
+use Rattle.stream_model.specs.Ends.{run_fault}
+use Rattle.stream_model.specs.Meaning.{Graph, Meaning}
+use Rattle.run_report.specs.declared.cause.Cause.{Cause}
+use Rattle.run_report.specs.declared.cause.Cause.TheVariants as C
+use Rattle.run_report.specs.declared.refusal.Refusal.{Refusal}
+use Rattle.stream_model.specs.React.{Kind, Operator, FileSource, Filter, FileSink}
+use Rattle.command_line.specs.declared.request.Request.{Request}
+use Rattle.spl_driver.specs.Built.{is_built}
+use Rattle.spl_driver.specs.Outcome.{Outcome, NoRequest, Unreadable, Refused, NotBuilt, Checks, Runs, IsOutcome, ArePartsIn}
+use Rattle.spl_driver.specs.Answer.{AtSink, EachSink, HoldsText, HoldsPrefix, sink_text, CarriedOut, RunsTo, ChecksTo, Begun, Stands, DeviceFailed, CreatedLast, Untold, NoCountChanged, Answered, Shown, IsOr, IsRun, IsAnswer, IsComplete, Untouched, ByWords, cause_of}
+use Rattle.spl_driver.specs.Lines.{ToldAs}
+use Rattle.spl_driver.specs.RequestLaws.{OneOutcomeLaw}
+use Rattle.spl_driver.specs.declared.ended.Ended.{Ended}
+use Rattle.spl_driver.proofs.Running.{begun_same}
 
-tuple_fits : (vs : List Value) → IsPrice vs → EnvFits filter_scope (at_tuple vs)
-tuple_fits vs price = record {
-  variables = λ i x e. absurd (none i x e);
-  inputs = λ i p e. input i p e;
-  marker = λ e. cc;
+-- an end with another cause
+abbrev with_cause : Ended → Cause → ℕ → Ended
+with_cause ended cause status = record { status = status; cause = cause; arrivals = ended.arrivals; counts = ended.counts }
+
+-- ---- what stands
+
+carried_same : (g : Graph) (m : Meaning) (ended : Ended) (cause : Cause) (status : ℕ) (u : Told) → CarriedOut g m ended u → CarriedOut g m (with_cause ended cause status) u
+carried_same g m ended cause status u h = record { texts = h.texts; counts = h.counts; lists = h.lists }
+
+runs_same : (fault : Option Fault) (Is : Outcome → Type 0) (ended : Ended) (cause : Cause) (status : ℕ) (u : Told) → RunsTo fault Is ended u → RunsTo fault Is (with_cause ended cause status) u
+runs_same fault Is ended cause status u (c, g, m, is, e, h) = (c, g, m, is, e, carried_same g m ended cause status u h)
+
+stands_same : (k : Cause) (Is : Outcome → Type 0) (ended : Ended) (cause : Cause) (status : ℕ) (t u : Told) → Stands k Is ended t u → Stands k Is (with_cause ended cause status) t u
+stands_same C.Done Is ended cause status t u (inl h) = inl h
+stands_same C.Done Is ended cause status t u (inr h) = inr (runs_same None Is ended cause status u h)
+stands_same (C.Stopped fault) Is ended cause status t u h = runs_same (Some fault) Is ended cause status u h
+stands_same C.BadWords Is ended cause status t u h = h
+stands_same (C.Refused refusal) Is ended cause status t u h = h
+stands_same C.NotBuilt Is ended cause status t u h = h
+stands_same C.Device Is ended cause status t u h = h
+stands_same C.NoMemory Is ended cause status t u h = h
+
+abbrev IsOne : (Outcome → Type 0) → Type 0
+IsOne Is = (r s : Outcome) → Is r → Is s → r ≡ s
+
+-- ---- weaker facts
+
+front_at : (m : Meaning) (old new : Told) (kind : Kind) (op : Operator) → AtSink (HoldsText m new) kind op → AtSink (HoldsPrefix m old new) kind op
+front_at m old new (FileSource source) op h = tt
+front_at m old new (Filter condition) op h = tt
+front_at m old new (FileSink file) op h = inr (length (sink_text m op), h ∙ ap (λ (x : List ℕ). Some x) (sym (take-length (sink_text m op))))
+
+fronts : (m : Meaning) (old new : Told) (ops : List Operator) → EachSink (HoldsText m new) ops → EachSink (HoldsPrefix m old new) ops
+fronts m old new [] h = tt
+fronts m old new (op ∷ ops) h = (front_at m old new op.kind op h.0, fronts m old new ops h.1)
+
+weaker_run : (fault : Option Fault) (Is : Outcome → Type 0) (ended : Ended) (result : Outcome) (t u : Told) → IsOne Is → RunsTo fault Is ended u → Is result → Begun result t u
+weaker_run fault Is ended result t u one (c, g, m, is, e, run) comes =
+    subst (λ (r : Outcome). Begun r t u) (one (Runs c g m) result is comes) (fronts m t u g.ops run.texts)
+
+-- behind each answer a sink was not created or holds a prefix of its text
+weaker : (k : Cause) (Is : Outcome → Type 0) (ended : Ended) (t u : Told) → IsOne Is → Stands k Is ended t u → (result : Outcome) → Is result → Begun result t u
+weaker C.Done Is ended t u one (inl (c, is, same)) result comes = begun_same result t u same
+weaker C.Done Is ended t u one (inr run) result comes = weaker_run None Is ended result t u one run comes
+weaker (C.Stopped fault) Is ended t u one run result comes = weaker_run (Some fault) Is ended result t u one run comes
+weaker C.BadWords Is ended t u one (is, same) result comes = begun_same result t u same
+weaker (C.Refused refusal) Is ended t u one (is, same) result comes = begun_same result t u same
+weaker C.NotBuilt Is ended t u one (is, same) result comes = begun_same result t u same
+weaker C.Device Is ended t u one h result comes = h result comes
+weaker C.NoMemory Is ended t u one h result comes = h result comes
+
+-- ---- once the line is told
+
+stands_said : (Is : Outcome → Type 0) (ended : Ended) (r : Cause) (status : ℕ) (Line : Type 0) (t u : Told) → IsOne Is → ToldAs ended.cause r Line
+    → Stands ended.cause Is ended t u → Stands r Is (with_cause ended r status) t u
+stands_said Is ended r status Line t u one (inl e) h = subst (λ (c : Cause). Stands c Is (with_cause ended r status) t u) (sym e) (stands_same ended.cause Is ended r status t u h)
+stands_said Is ended r status Line t u one (inr (inl e)) h = subst (λ (c : Cause). Stands c Is (with_cause ended r status) t u) (sym e) (weaker ended.cause Is ended t u one h)
+stands_said Is ended r status Line t u one (inr (inr (e, run, line))) h = subst (λ (c : Cause). Stands c Is (with_cause ended r status) t u) (sym e) (weaker ended.cause Is ended t u one h)
+
+device_said : (c r : Cause) (Failed Line : Type 0) → ToldAs c r Line → (c ≡ C.Device → Failed ⊎ ⊥) → r ≡ C.Device → Failed ⊎ Line
+device_said c r Failed Line (inl e) device is = elim (device (sym e ∙ is)) as (λ _. Failed ⊎ Line) [ inl failed ↦ inl failed | inr none ↦ absurd none ]
+device_said c r Failed Line (inr (inl e)) device is = absurd (let h : C.NoMemory ≡ C.Device = sym e ∙ is in cc)
+device_said c r Failed Line (inr (inr (e, run, line))) device is = inr line
+
+no_failure : {A : Type 0} (Failed : Type 0) → (Failed → ⊥) → Failed ⊎ ⊥ → A
+no_failure Failed none (inl failed) = absurd (none failed)
+no_failure Failed none (inr never) = absurd never
+
+-- a request was carried out with no count changed
+quiet_run : (fault : Option Fault) (request : Option Request) (counts later : PerName) (Line : Type 0) → Shown (cause_of fault) request counts later Line → NoCountChanged counts later
+quiet_run None request counts later Line h = h
+quiet_run (Some fault) request counts later Line h = h
+
+quiet_stop : (c : Cause) (request : Option Request) (counts later : PerName) (Line : Type 0) → IsRun c → Shown c request counts later Line → NoCountChanged counts later
+quiet_stop c request counts later Line (fault, is) h = quiet_run fault request counts later Line (subst (λ (x : Cause). Shown x request counts later Line) is h)
+
+created_said : (c r : Cause) (request : Option Request) (parts : List Part) (counts later : PerName) (Line : Type 0) (t u : Told) → ToldAs c r Line → Shown c request counts later ⊥
+    → (c ≡ C.Device → CreatedLast request parts counts later ⊥ t u) → r ≡ C.Device → CreatedLast request parts counts later Line t u
+created_said c r request parts counts later Line t u (inl e) shown created is none other = created (sym e ∙ is) none (inr (λ x. x))
+created_said c r request parts counts later Line t u (inr (inl e)) shown created is none other = absurd (let h : C.NoMemory ≡ C.Device = sym e ∙ is in cc)
+created_said c r request parts counts later Line t u (inr (inr (e, run, line))) shown created is none (inl changed) = absurd (changed (quiet_stop c request counts later ⊥ run shown))
+created_said c r request parts counts later Line t u (inr (inr (e, run, line))) shown created is none (inr quiet) = absurd (quiet line)
+
+untold_run : (fault : Option Fault) (Is : Outcome → Type 0) (ended : Ended) (r : Cause) (status : ℕ) (t u : Told) → Stands (cause_of fault) Is ended t u
+    → ChecksTo Is t u ⊎ ((fault : Option Fault) × RunsTo fault Is (with_cause ended r status) u)
+untold_run None Is ended r status t u (inl h) = inl h
+untold_run None Is ended r status t u (inr h) = inr (None, runs_same None Is ended r status u h)
+untold_run (Some fault) Is ended r status t u h = inr (Some fault, runs_same (Some fault) Is ended r status u h)
+
+untold_said : (Is : Outcome → Type 0) (ended : Ended) (r : Cause) (status : ℕ) (request : Option Request) (parts : List Part) (counts later : PerName) (Line : Type 0) (t u : Told)
+    → ToldAs ended.cause r Line → Stands ended.cause Is ended t u → (ended.cause ≡ C.Device → DeviceFailed request parts counts later ⊎ ⊥) → r ≡ C.Device
+    → Untold request parts counts later Is (with_cause ended r status) t u
+untold_said Is ended r status request parts counts later Line t u (inl e) h device is none = no_failure (DeviceFailed request parts counts later) none (device (sym e ∙ is))
+untold_said Is ended r status request parts counts later Line t u (inr (inl e)) h device is none = absurd (let clash : C.NoMemory ≡ C.Device = sym e ∙ is in cc)
+untold_said Is ended r status request parts counts later Line t u (inr (inr (e, (fault, run), line))) h device is none =
+    untold_run fault Is ended r status t u (subst (λ (c : Cause). Stands c Is ended t u) run h)
+
+pub answered_said : OneOutcomeLaw → (told now : Option Told) (request : Option Request) (ended : Ended) (r : Cause) (status : ℕ) (counts later : PerName) (Line : Type 0) → ToldAs ended.cause r Line
+    → Shown ended.cause request counts later ⊥ → WhereTold told now (Answered request ended counts later ⊥) → WhereTold told now (Answered request (with_cause ended r status) counts later Line)
+answered_said law None now request ended r status counts later Line e shown h = tt
+answered_said law (Some t) None request ended r status counts later Line e shown h = h
+answered_said law (Some t) (Some u) request ended r status counts later Line e shown h = record {
+  stands = stands_said (IsOutcome request t ended.arrivals) ended r status Line t u (law request t ended.arrivals) e h.stands;
+  others = h.others;
+  counted = h.counted;
+  device = λ is parts are. device_said ended.cause r (DeviceFailed request parts counts later) Line e (λ device. h.device device parts are) is;
+  created = λ is parts are. created_said ended.cause r request parts counts later Line t u e shown (λ device. h.created device parts are) is;
+  untold = λ is parts are. untold_said (IsOutcome request t ended.arrivals) ended r status request parts counts later Line t u e h.stands (λ device. h.device device parts are) is;
+  reads = h.reads;
 }
+
+-- ---- counts
+
+shown_line : (c : Cause) (request : Option Request) (counts later : PerName) (Line : Type 0) → Shown c request counts later ⊥ → Shown c request counts later Line
+shown_line C.Done request counts later Line h = h
+shown_line (C.Stopped fault) request counts later Line h = h
+shown_line C.BadWords request counts later Line h = h
+shown_line (C.Refused refusal) request counts later Line h = h
+shown_line C.NotBuilt request counts later Line h = h
+shown_line C.Device request counts later Line (inl rose) = inl rose
+shown_line C.Device request counts later Line (inr (never, quiet)) = absurd never
+shown_line C.NoMemory request counts later Line h = h
+
+-- what the counts show stays
+pub shown_said : (c r : Cause) (request : Option Request) (counts later : PerName) (Line : Type 0) → ToldAs c r Line → Shown c request counts later ⊥ → Shown r request counts later Line
+shown_said c r request counts later Line (inl e) h = subst (λ (x : Cause). Shown x request counts later Line) (sym e) (shown_line c request counts later Line h)
+shown_said c r request counts later Line (inr (inl e)) h = subst (λ (x : Cause). Shown x request counts later Line) (sym e) tt
+shown_said c r request counts later Line (inr (inr (e, run, line))) h =
+    subst (λ (x : Cause). Shown x request counts later Line) (sym e) (inr (line, quiet_stop c request counts later ⊥ run h))
+
+pub run_shown : (r : Cause) (request : Option Request) (counts later : PerName) (Line : Type 0) → Shown r request counts later Line → IsRun r → NoCountChanged counts later
+run_shown r request counts later Line h run = quiet_stop r request counts later Line run h
+
+-- ---- what the words decide
+
+or_not_run : (expected c : Cause) → ((fault : Option Fault) → expected ≡ cause_of fault → ⊥) → IsOr expected c → IsRun c → ⊥
+or_not_run expected c other (inl e) (fault, is) = other fault (sym e ∙ is)
+or_not_run expected c other (inr e) (None, is) = let h : C.NoMemory ≡ C.Done = sym e ∙ is in cc
+or_not_run expected c other (inr e) (Some fault, is) = let h : C.NoMemory ≡ C.Stopped fault = sym e ∙ is in cc
+
+untouched_said : (expected c r : Cause) (counts later : PerName) (Line : Type 0) → ((fault : Option Fault) → expected ≡ cause_of fault → ⊥) → ToldAs c r Line
+    → Untouched expected c counts later → Untouched expected r counts later
+untouched_said expected c r counts later Line other told h = record { answer = by told; counts = h.counts }
   where
-    none : (i : ℕ) (x : _) → slice_get filter_scope.vars i ≡ Some x → ⊥
-    none i x e = cc
+    by : ToldAs c r Line → IsOr expected r
+    by (inl e) = subst (IsOr expected) (sym e) h.answer
+    by (inr (inl e)) = inr e
+    by (inr (inr (e, run, line))) = absurd (or_not_run expected c other h.answer run)
 
-    input : (i : ℕ) (p : Port) → slice_get filter_scope.ports i ≡ Some p → (us : List Value) × (slice_get (vs ∷ []) i ≡ Some us) × IsTrue (fits (S.Tuple p.schema) (V.Tuple us))
-    input zero p e = (vs, refl, subst (λ (q : Port). IsTrue (fits (S.Tuple q.schema) (V.Tuple vs))) (let same : record { name = codes "T"; schema = price_schema } ≡ p = cc in same) price)
-    input (suc i) p e = absurd cc
+words_not_run : (fault : Option Fault) → C.BadWords ≡ cause_of fault → ⊥
+words_not_run None e = cc
+words_not_run (Some fault) e = cc
 
-true_or_not : (o : Outcome Value) → ComesTo S.Bool o → followed o (λ v turns. need (truth_of v) (λ b. Done b turns)) ≡ Stuck → ⊥
-true_or_not (Done v turns) comes e =
-    let b = bool_from_fits v comes in
-    let stuck : Done b.0 turns ≡ Stuck = sym (ap (λ y. need (level_truth y) (λ b. Done b turns)) (ap out-Value b.1 ∙ V.outs-Bool b.0)) ∙ e in
-    cc
-true_or_not (Faulted kind) comes e = cc
-true_or_not Stuck comes e = comes
+part_not_run : (fault : Option Fault) → C.NotBuilt ≡ cause_of fault → ⊥
+part_not_run None e = cc
+part_not_run (Some fault) e = cc
 
-pub answers : NeverStuckLaw → AnswersLaw
-answers law c fit vs price e =
-    true_or_not (value [] c (world_of (at_tuple vs)) most_turns)
-    (law [] c (at_tuple vs) S.Bool (record { scope = filter_scope; code_fits = fit; env_fits = tuple_fits vs price; functions_fit = λ i s e. cc }) most_turns most_turns) e
+pub words_said : (request : Option Request) (c r : Cause) (counts later : PerName) (Line : Type 0) → ToldAs c r Line → ByWords request c counts later → ByWords request r counts later
+words_said None c r counts later Line told h = untouched_said C.BadWords c r counts later Line words_not_run told h
+words_said (Some request) c r counts later Line told h = λ part. untouched_said C.NotBuilt c r counts later Line part_not_run told (h part)
+
+-- ---- completeness
+
+-- each answer is what the request comes to
+complete_at : (k : Cause) (Is : Outcome → Type 0) (result : Outcome) (Failed : Type 0) (ended : Ended) (t u : Told) → IsOne Is → Stands k Is ended t u
+    → (k ≡ C.Device → Failed ⊎ ⊥) → Is result → IsAnswer result Failed ⊥ k
+complete_at C.Done Is result Failed ended t u one (inl (c, is, same)) device comes =
+    subst (λ (o : Outcome). IsAnswer o Failed ⊥ C.Done) (one (Checks c) result is comes) (λ none quiet. inl refl)
+complete_at C.Done Is result Failed ended t u one (inr (c, g, m, is, fault, run)) device comes =
+    subst (λ (o : Outcome). IsAnswer o Failed ⊥ C.Done) (one (Runs c g m) result is comes) (λ none quiet. inl (ap cause_of (sym fault)))
+complete_at (C.Stopped f) Is result Failed ended t u one (c, g, m, is, fault, run) device comes =
+    subst (λ (o : Outcome). IsAnswer o Failed ⊥ (C.Stopped f)) (one (Runs c g m) result is comes) (λ none quiet. inl (ap cause_of (sym fault)))
+complete_at C.BadWords Is result Failed ended t u one (is, same) device comes =
+    subst (λ (o : Outcome). IsAnswer o Failed ⊥ C.BadWords) (one NoRequest result is comes) (λ none. inl refl)
+complete_at (C.Refused r) Is result Failed ended t u one (is, same) device comes =
+    subst (λ (o : Outcome). IsAnswer o Failed ⊥ (C.Refused r)) (one (Refused r) result is comes) (λ none. inl refl)
+complete_at C.NotBuilt Is result Failed ended t u one (is, same) device comes =
+    subst (λ (o : Outcome). IsAnswer o Failed ⊥ C.NotBuilt) (one NotBuilt result is comes) (λ none. inl refl)
+complete_at C.Device Is NoRequest Failed ended t u one h device comes = λ none. no_failure Failed none (device refl)
+complete_at C.Device Is Unreadable Failed ended t u one h device comes = inl refl
+complete_at C.Device Is (Refused r) Failed ended t u one h device comes = λ none. no_failure Failed none (device refl)
+complete_at C.Device Is NotBuilt Failed ended t u one h device comes = λ none. no_failure Failed none (device refl)
+complete_at C.Device Is (Checks c) Failed ended t u one h device comes = λ none quiet. no_failure Failed none (device refl)
+complete_at C.Device Is (Runs c g m) Failed ended t u one h device comes = λ none quiet. no_failure Failed none (device refl)
+complete_at C.NoMemory Is NoRequest Failed ended t u one h device comes = λ none. inr refl
+complete_at C.NoMemory Is Unreadable Failed ended t u one h device comes = inr refl
+complete_at C.NoMemory Is (Refused r) Failed ended t u one h device comes = λ none. inr refl
+complete_at C.NoMemory Is NotBuilt Failed ended t u one h device comes = λ none. inr refl
+complete_at C.NoMemory Is (Checks c) Failed ended t u one h device comes = λ none quiet. inr refl
+complete_at C.NoMemory Is (Runs c g m) Failed ended t u one h device comes = λ none quiet. inr refl
+
+refused_not_run : (refusal : Refusal) (fault : Option Fault) → C.Refused refusal ≡ cause_of fault → ⊥
+refused_not_run refusal None e = cc
+refused_not_run refusal (Some fault) e = cc
+
+-- it stays so once it is told
+answer_said : (result : Outcome) (Failed Line : Type 0) (c r : Cause) → ToldAs c r Line → IsAnswer result Failed ⊥ c → IsAnswer result Failed Line r
+answer_said NoRequest Failed Line c r (inl e) h = λ none. subst (IsOr C.BadWords) (sym e) (h none)
+answer_said Unreadable Failed Line c r (inl e) h = subst (IsOr C.Device) (sym e) h
+answer_said (Refused s) Failed Line c r (inl e) h = λ none. subst (IsOr (C.Refused s)) (sym e) (h none)
+answer_said NotBuilt Failed Line c r (inl e) h = λ none. subst (IsOr C.NotBuilt) (sym e) (h none)
+answer_said (Checks k) Failed Line c r (inl e) h = λ none quiet. subst (IsOr C.Done) (sym e) (h none (λ x. x))
+answer_said (Runs k g m) Failed Line c r (inl e) h = λ none quiet. subst (IsOr (cause_of (run_fault g m))) (sym e) (h none (λ x. x))
+answer_said NoRequest Failed Line c r (inr (inl e)) h = λ none. inr e
+answer_said Unreadable Failed Line c r (inr (inl e)) h = inr e
+answer_said (Refused s) Failed Line c r (inr (inl e)) h = λ none. inr e
+answer_said NotBuilt Failed Line c r (inr (inl e)) h = λ none. inr e
+answer_said (Checks k) Failed Line c r (inr (inl e)) h = λ none quiet. inr e
+answer_said (Runs k g m) Failed Line c r (inr (inl e)) h = λ none quiet. inr e
+answer_said NoRequest Failed Line c r (inr (inr (e, run, line))) h = λ none. absurd (or_not_run C.BadWords c words_not_run (h none) run)
+answer_said Unreadable Failed Line c r (inr (inr (e, run, line))) h = inl e
+answer_said (Refused s) Failed Line c r (inr (inr (e, run, line))) h = λ none. absurd (or_not_run (C.Refused s) c (refused_not_run s) (h none) run)
+answer_said NotBuilt Failed Line c r (inr (inr (e, run, line))) h = λ none. absurd (or_not_run C.NotBuilt c part_not_run (h none) run)
+answer_said (Checks k) Failed Line c r (inr (inr (e, run, line))) h = λ none quiet. absurd (quiet line)
+answer_said (Runs k g m) Failed Line c r (inr (inr (e, run, line))) h = λ none quiet. absurd (quiet line)
+
+pub complete : OneOutcomeLaw → (told now : Option Told) (request : Option Request) (ended : Ended) (r : Cause) (status : ℕ) (counts later : PerName) (Line : Type 0) → ToldAs ended.cause r Line
+    → WhereTold told now (Answered request ended counts later ⊥) → IfSome told (IsComplete request (with_cause ended r status) counts later Line)
+complete law None now request ended r status counts later Line e h = tt
+complete law (Some t) None request ended r status counts later Line e h = absurd h
+complete law (Some t) (Some u) request ended r status counts later Line e h = λ result comes parts are.
+    answer_said result (DeviceFailed request parts counts later) Line ended.cause r e
+    (complete_at ended.cause (IsOutcome request t ended.arrivals) result (DeviceFailed request parts counts later) ended t u (law request t ended.arrivals) h.stands (λ device. h.device device parts are) comes)

@@ -1,132 +1,145 @@
--- The stream of a file whose lines are numbers.
-use Rattle.std.specs.Prelude.{◌+◌, ◌-◌, ◌≤◌, ◌&&◌, if◌then◌else◌, is_some, IfOk, IfSome, Result, Ok, Err}
-use Rattle.std.proofs.Common.{◌≡◌, ◌==◌, ◌^◌, ◌∷◌, ◌∙◌, [], ℕ, ℤ, suc, List, Bool, Option, Some, None, true, false, refl, sym, ap, subst, length, inl, inr, arith}
-use Rattle.std.specs.List.{list_all}
-use Rattle.std.proofs.lemmas.Bool.{cases_Bool, and_parts}
-use Rattle.spl_value.specs.Decimal.{number, in_kind, integer_of}
-use Rattle.spl_value.specs.FitsLaws.{fits_int, fits_tuple}
-use Rattle.spl_value.specs.Values.{kind_holds}
-use Rattle.spl_value.specs.declared.types.IntKind.{IntKind}
-use Rattle.spl_value.specs.declared.value.Value.TheVariants as V
-use Rattle.spl_value.specs.Script.{End}
+-- The rows of a file of whole numbers.
+use Rattle.std.proofs.Common.{◌≡◌, ◌≤◌, ◌^◌, ℕ, List, [], ◌∷◌, Bool, true, false, refl, sym, ◌∙◌, ap, subst, Option, Some, None}
+use Rattle.std.specs.Prelude.{IfSome, is_some, ◌||◌, ◌&&◌}
+use Rattle.spl_value.specs.Script.{Script, End}
 use Rattle.spl_value.specs.declared.item.Item.{Item}
-use Rattle.spl_value.specs.declared.memory.NoMemory.{NoMemory}
-use Rattle.spl_value.specs.declared.types.IntKind.TheVariants.{I64}
-use Rattle.stream_model.specs.Rows.{pieces, onto_first, items_from, rows, closing}
-use Rattle.stream_model.specs.RowsLaws.{some_pieces}
-use Rattle.stream_model.specs.Laws.{but_empty_last, lines}
-use Rattle.spl_driver.specs.Lines.{line_number, number_row, row_in_front, number_rows}
-use Rattle.spl_driver.specs.Filter.{IsPrice, ArePrices}
-use Rattle.spl_driver.specs.Source.{is_number_line, is_number_file, price_schema, price_setting}
-use Rattle.spl_driver.proofs.NumberLines.{has_number, piece_row}
+use Rattle.spl_value.specs.declared.item.Item.TheVariants as I
+use Rattle.spl_value.specs.declared.types.IntKind.TheVariants as K
+use Rattle.spl_value.specs.declared.types.SplType.TheVariants as T
+use Rattle.spl_value.specs.declared.types.SplType as X
+use Rattle.feed_pour.specs.Counts.{PerName}
+use Rattle.feed_pour.specs.Contents.{Told, WhereTold, TellsSame}
+use Rattle.feed_pour.specs.Named.{FetchedOf}
+use Rattle.feed_pour.specs.declared.named.Fetched.TheVariants as F
+use Rattle.stream_model.specs.declared.checked.Part.{Part}
+use Rattle.stream_model.specs.declared.checked.Part.TheVariants as A
+use Rattle.stream_model.specs.Meaning.{setting_of, rows_of}
+use Rattle.stream_model.specs.Rows.{Setting, rows}
+use Rattle.stream_model.specs.RowsLaws.{rows_close}
+use Rattle.stream_model.specs.Stream.{is_closed}
+use Rattle.stream_model.specs.StreamTypes.{Attributes}
+use Rattle.file_adapters.specs.Source.{is_number_file, is_number_schema, TuplesFit as HaveValues}
+use Rattle.file_laws.specs.Files.{source_files}
+use Rattle.list_run.specs.Runs.{TuplesFit}
+use Rattle.spl_driver.specs.Answer.{NoCountChanged}
+use Rattle.spl_driver.specs.Steps.{AreNumbers, RowsRead, RowsOf, SourceTold, OtherTold, SourceOf, HoldsOther, OpensCounted, source_failed}
+use Rattle.spl_driver.specs.declared.sources.OneSource.{OneSource}
+use Rattle.spl_driver.specs.declared.sources.OneSource.TheVariants as O
+use Rattle.spl_driver.proofs.Fetching.{no_fault, long_fault, is_short, is_long, told_before}
 
--- the lines among these pieces are numbers
-abbrev are_numbers : List (List ℕ) → Bool
-are_numbers all = list_all is_number_line (but_empty_last all)
+fit_alike : (schema : Attributes) (items : List Item) → HaveValues schema items → TuplesFit schema items
+fit_alike schema [] h = tt
+fit_alike schema (I.Tuple vs ∷ items) h = (h.0, fit_alike schema items h.1)
+fit_alike schema (I.Window ∷ items) h = fit_alike schema items h
+fit_alike schema (I.Final ∷ items) h = fit_alike schema items h
+fit_alike schema (I.Bad f ∷ items) h = fit_alike schema items h
 
--- how many bytes the pieces have, with the line feeds between them
-abbrev size : List (List ℕ) → ℕ
-size [] = 0
-size (piece ∷ []) = length piece
-size (piece ∷ next ∷ rest) = length piece + 1 + size (next ∷ rest)
+abbrev one_number : Setting
+one_number = record { op = 0; schema = record { name = []; kind = T.Int K.I64 } ∷ []; strict = true; limit = 2 ^ 40 }
 
-size_onto : (b : ℕ) (piece : List ℕ) (others : List (List ℕ)) → size (onto_first b (piece ∷ others)) ≡ suc (size (piece ∷ others))
-size_onto b piece [] = refl
-size_onto b piece (next ∷ rest) = omega arith
+is_number : is_number_schema one_number.schema ≡ true
+unfolding X.out-SplType denote.Hole.Carrier.out
+is_number = refl
 
-size_is : (bytes : List ℕ) → size (pieces bytes) ≡ length bytes
-size_is [] = refl
-size_is (b ∷ bytes) =
-    let p = some_pieces bytes in
-    let known : size (p.first ∷ p.others) ≡ length bytes = ap size (sym p.are) ∙ size_is bytes in
-    elim (cases_Bool (b == 10)) [
-      | inl feed ↦ rw (feed, p.are) (omega (arith, known))
-      | inr other ↦ rw (other, p.are) (size_onto b p.first p.others ∙ ap suc known)
-    ]
+-- a stream of the rows of a file of whole numbers
+pub are_numbers : (items : List Item) (bytes : List ℕ) → ((o : Setting) → is_number_schema o.schema ≡ true → o.limit ≡ 2 ^ 40 → items ≡ rows o bytes End)
+    → ((schema : Attributes) → is_number_schema schema ≡ true → HaveValues schema items) → AreNumbers items
+are_numbers items bytes all fit = record {
+  closed = ap is_closed (all one_number is_number refl) ∙ rows_close one_number bytes End;
+  fit = λ schema numbers. fit_alike schema items (fit schema numbers);
+}
 
-number_is : (line : List ℕ) (n : ℤ) → is_number_line line ≡ true → integer_of I64 line ≡ Some n → line_number line ≡ Some n
-number_is line n t e = rw t e
+pub rows_found : (found : Option (List Item)) (items : List Item) (bytes : List ℕ) → found ≡ Some items → is_some found ≡ is_number_file bytes
+    → IfSome found (λ xs. (o : Setting) → is_number_schema o.schema ≡ true → o.limit ≡ 2 ^ 40 → xs ≡ rows o bytes End)
+    → IfSome found (λ xs. (schema : Attributes) → is_number_schema schema ≡ true → HaveValues schema xs) → RowsRead (O.Rows items) bytes
+rows_found None items bytes e form stream tuples = let bad : None ≡ Some items = e in cc
+rows_found (Some xs) items bytes e form stream tuples =
+    let is : Some xs ≡ Some items = e in
+    let same : xs ≡ items = cc in
+    subst (λ (ys : List Item). RowsRead (O.Rows ys) bytes) same (are_numbers xs bytes stream tuples, sym form, stream)
 
--- pieces that are all numbers give their rows
-pieces_rows : (piece : List ℕ) (others : List (List ℕ)) (line left : ℕ) → are_numbers (piece ∷ others) ≡ true → size (piece ∷ others) ≤ left
-    → number_rows (but_empty_last (piece ∷ others)) ≡ Some (items_from price_setting End line left (piece ∷ others))
-pieces_rows [] [] line left all within = refl
-pieces_rows (b ∷ bytes) [] line left all within =
-    let t = (and_parts (is_number_line (b ∷ bytes)) true all).0 in
-    let n = has_number (b ∷ bytes) t in
-    rw (number_is (b ∷ bytes) n.0 t n.1, piece_row line (length (b ∷ bytes)) left (b ∷ bytes) n.0 _ t n.1 within) refl
-pieces_rows piece (next ∷ rest) line left all within =
-    let t = and_parts (is_number_line piece) (are_numbers (next ∷ rest)) all in
-    let n = has_number piece t.0 in
-    let more = pieces_rows next rest (line + 1) (left - (length piece + 1)) t.1 (omega arith) in
-    rw (number_is piece n.0 t.0 n.1, more, piece_row line (length piece + 1) left piece n.0 _ t.0 n.1 (omega arith)) refl
+source_told : (file bytes : List ℕ) (items : List Item) (t : Told) → FetchedOf (t.script file) (F.Whole bytes) 1048576 → RowsRead (O.Rows items) bytes
+    → SourceTold file items t
+source_told file bytes items t h (numbers, is, all) = record {
+  read = no_fault (t.script file) bytes h;
+  numbers = ap (λ (b : Bool). b && is_number_file (t.script file).bytes) (is_short (t.script file) bytes h)
+      ∙ ap (λ (s : Script). is_number_file s.bytes) h.0 ∙ is;
+  rows = λ n source at schema. all (setting_of n source) schema refl ∙ sym (ap (λ (s : Script). rows (setting_of n source) s.bytes s.ending) h.0);
+}
 
-some_in_front : (n : ℤ) (more : Option (List Item)) → is_some (row_in_front (Some n) more) ≡ is_some more
-some_in_front n None = refl
-some_in_front n (Some items) = refl
-
--- there are rows where all lines are numbers
-rows_form : (lines : List (List ℕ)) → is_some (number_rows lines) ≡ list_all is_number_line lines
-rows_form [] = refl
-rows_form (line ∷ lines) = elim (cases_Bool (is_number_line line)) [
-  | inl is_one ↦
-      let n = has_number line is_one in
-      rw (number_is line n.0 is_one n.1, is_one) (some_in_front n.0 (number_rows lines) ∙ rows_form lines)
-  | inr not_one ↦ rw not_one refl
-]
-
-file_rows : (bytes : List ℕ) → length bytes ≤ 2 ^ 40 → is_number_file bytes ≡ true → number_rows (lines bytes) ≡ Some (rows price_setting bytes End)
-file_rows bytes small all =
-    let p = some_pieces bytes in
-    let bound : size (pieces bytes) ≤ 2 ^ 40 = rw size_is small in
-    rw p.are (pieces_rows p.first p.others 1 (2 ^ 40) (rw p.are at all) (rw p.are at bound))
-
-pub form_of : (result : Result (Option (List Item)) NoMemory) (bytes : List ℕ) → IfOk result (λ stream. stream ≡ number_rows (lines bytes))
-    → IfOk result (λ stream. is_some stream ≡ is_number_file bytes)
-form_of (Ok stream) bytes e = ap is_some e ∙ rows_form (lines bytes)
-form_of (Err failed) bytes e = tt
-
-pub stream_of : (result : Result (Option (List Item)) NoMemory) (bytes : List ℕ) → length bytes ≤ 2 ^ 40 → IfOk result (λ stream. stream ≡ number_rows (lines bytes))
-    → IfOk result (λ stream. IfSome stream (λ items. items ≡ rows price_setting bytes End))
-stream_of (Ok None) bytes small e = tt
-stream_of (Ok (Some items)) bytes small e =
-    let form : true ≡ is_number_file bytes = ap is_some e ∙ rows_form (lines bytes) in
-    let same = file_rows bytes small (sym form) in
-    cc
-stream_of (Err failed) bytes small e = tt
-
--- ---- the rows are tuples of the schema
-
-held_in : (k : IntKind) (o : Option ℤ) (n : ℤ) → in_kind k o ≡ Some n → kind_holds k n ≡ true
-held_in k None n e = cc
-held_in k (Some m) n e = by (kind_holds k m) refl e
+-- the rows of a source's file that was read
+pub rows_whole : (told : Option Told) (part : Part) (file bytes : List ℕ) (strict : Bool) (items : List Item) → part ≡ A.FileSource file strict
+    → IfSome told (λ t. FetchedOf (t.script file) (F.Whole bytes) 1048576) → RowsRead (O.Rows items) bytes → SourceOf (O.Rows items) part told
+rows_whole told part file bytes strict items at h read = subst (λ (p : Part). SourceOf (O.Rows items) p told) (sym at) (read.0, go told h)
   where
-    by : (b : Bool) → kind_holds k m ≡ b → (if b then Some m else None) ≡ Some n → kind_holds k n ≡ true
-    by true is e = let same : m ≡ n = cc in ap (kind_holds k) (sym same) ∙ is
-    by false is e = cc
+    go : (told : Option Told) → IfSome told (λ t. FetchedOf (t.script file) (F.Whole bytes) 1048576) → IfSome told (SourceTold file items)
+    go None h = tt
+    go (Some t) h = source_told file bytes items t h read
 
-held_line : (line : List ℕ) (n : ℤ) → line_number line ≡ Some n → kind_holds I64 n ≡ true
-held_line line n e = by (is_number_line line) e
+pub other_whole : (told : Option Told) (part : Part) (file bytes : List ℕ) (strict : Bool) → part ≡ A.FileSource file strict
+    → IfSome told (λ t. FetchedOf (t.script file) (F.Whole bytes) 1048576) → RowsRead O.Other bytes → SourceOf O.Other part told
+other_whole told part file bytes strict at h read = subst (λ (p : Part). SourceOf O.Other p told) (sym at) (go told h)
   where
-    by : (b : Bool) → (if b then integer_of I64 line else None) ≡ Some n → kind_holds I64 n ≡ true
-    by true e = held_in I64 (number line) n e
-    by false e = cc
+    go : (told : Option Told) → IfSome told (λ t. FetchedOf (t.script file) (F.Whole bytes) 1048576) → IfSome told (OtherTold file)
+    go None h = tt
+    go (Some t) h = record {
+      read = no_fault (t.script file) bytes h;
+      other = ap (λ (b : Bool). b && is_number_file (t.script file).bytes) (is_short (t.script file) bytes h)
+          ∙ ap (λ (s : Script). is_number_file s.bytes) h.0 ∙ read;
+    }
 
-price_row : (n : ℤ) → kind_holds I64 n ≡ true → IsPrice (V.Int n ∷ [])
-price_row n h = fits_tuple price_schema (V.Int n ∷ []) ∙ ap (λ (b : Bool). b && true) (fits_int I64 n ∙ h)
-
-prices_in : (lines : List (List ℕ)) (items : List Item) → number_rows lines ≡ Some items → ArePrices items
-prices_in [] items e = let same : closing ≡ items = cc in subst ArePrices same tt
-prices_in (line ∷ lines) items e = by (line_number line) refl (number_rows lines) refl e (prices_in lines)
+pub other_long : (told : Option Told) (part : Part) (file : List ℕ) (strict : Bool) → part ≡ A.FileSource file strict
+    → IfSome told (λ t. FetchedOf (t.script file) F.TooLong 1048576) → SourceOf O.Other part told
+other_long told part file strict at h = subst (λ (p : Part). SourceOf O.Other p told) (sym at) (go told h)
   where
-    by : (o : Option ℤ) → line_number line ≡ o → (more : Option (List Item)) → number_rows lines ≡ more → row_in_front o more ≡ Some items
-        → ((rest : List Item) → number_rows lines ≡ Some rest → ArePrices rest) → ArePrices items
-    by None is more has e go = cc
-    by (Some n) is None has e go = cc
-    by (Some n) is (Some rest) has e go = let same : number_row n ∷ rest ≡ items = cc in subst ArePrices same (price_row n (held_line line n is), go rest has)
+    go : (told : Option Told) → IfSome told (λ t. FetchedOf (t.script file) F.TooLong 1048576) → IfSome told (OtherTold file)
+    go None h = tt
+    go (Some t) h = record {
+      read = long_fault (t.script file) h;
+      other = ap (λ (b : Bool). b && is_number_file (t.script file).bytes) (is_long (t.script file) h);
+    }
 
-pub prices_of : (result : Result (Option (List Item)) NoMemory) (bytes : List ℕ) → IfOk result (λ stream. stream ≡ number_rows (lines bytes))
-    → IfOk result (λ stream. IfSome stream ArePrices)
-prices_of (Ok None) bytes e = tt
-prices_of (Ok (Some items)) bytes e = prices_in (lines bytes) items (sym e)
-prices_of (Err failed) bytes e = tt
+-- whatever became of the bytes
+pub source_whole : (told : Option Told) (r : OneSource) (part : Part) (file bytes : List ℕ) (strict : Bool) → part ≡ A.FileSource file strict
+    → IfSome told (λ t. FetchedOf (t.script file) (F.Whole bytes) 1048576) → RowsRead r bytes → SourceOf r part told
+source_whole told (O.Rows items) part file bytes strict at h read = rows_whole told part file bytes strict items at h read
+source_whole told O.Other part file bytes strict at h read = other_whole told part file bytes strict at h read
+source_whole told O.Device part file bytes strict at h read = tt
+source_whole told O.Memory part file bytes strict at h read = tt
+
+-- the counts of one file are those of the one source
+pub one_source : (failed : Bool) (part : Part) (file : List ℕ) (strict : Bool) (old new : PerName) → part ≡ A.FileSource file strict
+    → OpensCounted failed (file ∷ []) old new → OpensCounted failed (source_files (part ∷ [])) old new
+one_source failed part file strict old new at h = subst (λ (p : Part). OpensCounted failed (source_files (p ∷ [])) old new) (sym at) h
+
+pub whole_counts : (r : OneSource) (bytes : List ℕ) (names : List (List ℕ)) (old new : PerName) → RowsRead r bytes → NoCountChanged old new
+    → OpensCounted (source_failed r) names old new
+whole_counts (O.Rows items) bytes names old new read quiet = quiet
+whole_counts O.Other bytes names old new read quiet = quiet
+whole_counts O.Device bytes names old new read quiet = absurd read
+whole_counts O.Memory bytes names old new read quiet = quiet
+
+-- what was read of a shelf that told the same before
+pub rows_before : (part : Part) (items : List Item) (told mid : Option Told) → WhereTold told mid TellsSame → RowsOf part items mid → RowsOf part items told
+rows_before (A.FileSource file strict) items told mid same h = (h.0, told_before told mid (SourceTold file items) same h.1)
+rows_before (A.FileSink file) items told mid same h = h
+rows_before (A.Filter condition) items told mid same h = h
+rows_before (A.Functor condition output) items told mid same h = h
+rows_before (A.Punctor condition position) items told mid same h = h
+rows_before (A.Split index) items told mid same h = h
+rows_before (A.Union places) items told mid same h = h
+rows_before (A.Custom handlers) items told mid same h = h
+rows_before (A.Aggregate window partition group output) items told mid same h = h
+rows_before (A.Join left right condition output) items told mid same h = h
+
+pub other_before : (part : Part) (told mid : Option Told) → WhereTold told mid TellsSame → HoldsOther part mid → HoldsOther part told
+other_before (A.FileSource file strict) told mid same h = told_before told mid (OtherTold file) same h
+other_before (A.FileSink file) told mid same h = h
+other_before (A.Filter condition) told mid same h = h
+other_before (A.Functor condition output) told mid same h = h
+other_before (A.Punctor condition position) told mid same h = h
+other_before (A.Split index) told mid same h = h
+other_before (A.Union places) told mid same h = h
+other_before (A.Custom handlers) told mid same h = h
+other_before (A.Aggregate window partition group output) told mid same h = h
+other_before (A.Join left right condition output) told mid same h = h

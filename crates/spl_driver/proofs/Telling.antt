@@ -1,29 +1,113 @@
--- What is said where the pour of a line fails.
-use Rattle.std.proofs.Common.{◌≡◌, ℕ, List, ◌++◌, take, ap, ◌∙◌, subst, inl, inr, Option, Some, None, Err}
+-- What is told of a cause.
+use Rattle.std.proofs.Common.{◌≡◌, ◌∙◌, ℕ, Bool, true, false, List, ◌++◌, take, refl, sym, ap, subst, inl, inr, Option, Some, None, Result, Ok, Err}
+use Rattle.std.specs.Prelude.{IfOk}
+use Rattle.spl_value.specs.declared.item.Fault.{Fault}
+use Rattle.spl_value.specs.declared.memory.NoMemory.{NoMemory}
 use Rattle.feed_pour.specs.Contents.{AllPoured, failed_write}
 use Rattle.feed_pour.specs.Counts.{Counted, Rose}
 use Rattle.feed_pour.specs.declared.outside.PourAnswer.{PourAnswer}
-use Rattle.feed_pour.specs.declared.outside.PourAnswer.TheVariants.{Failed}
-use Rattle.spl_driver.specs.Answer.{PouredText, Said, IsRun, text_of_cause}
-use Rattle.spl_driver.specs.declared.cause.Cause.{Cause}
-use Rattle.spl_driver.specs.declared.cause.Cause.TheVariants as C
+use Rattle.feed_pour.specs.declared.outside.PourAnswer.TheVariants as E
+use Rattle.run_report.specs.declared.cause.Cause.{Cause}
+use Rattle.run_report.specs.declared.cause.Cause.TheVariants as C
+use Rattle.run_report.specs.Texts.{status_text}
+use Rattle.spl_driver.specs.Answer.{IsRun, cause_of}
+use Rattle.spl_driver.specs.Lines.{is_run, ToldAs, LinePoured, whole, front, failed, wanting, Pours, PoursLine, IsLine, IsLineOf, PouredText, PouredLine, PouredFront, Said}
+use Rattle.spl_driver.specs.Outcome.{Outcome}
 
--- a front of the line was poured
-front : (line text old : List ℕ) (now : Option (List ℕ)) (Rises : Type 0) → Rises → line ≡ text → AllPoured (Some old) now (Err Failed) line → PouredText text old now Rises
-front line text old now Rises rises same (n, within, e) = inr (rises, (n, e ∙ ap (λ (bytes : List ℕ). Some (old ++ take n bytes)) same))
+-- ---- causes of requests that were carried out
 
-said_front : (cause : Cause) (old now : Option (List ℕ)) (line : List ℕ) (Rises : Type 0) → (IsRun cause → ⊥) → Rises → line ≡ text_of_cause cause → AllPoured old now (Err Failed) line
-    → Said cause old now Rises
-said_front cause None now line Rises other rises same poured = tt
-said_front C.Done (Some old) now line Rises other rises same poured = absurd (other (None, λ i. C.Done))
-said_front (C.Stopped fault) (Some old) now line Rises other rises same poured = absurd (other (Some fault, λ i. C.Stopped fault))
-said_front C.NoMemory (Some old) now line Rises other rises same poured = tt
-said_front (C.Refused refusal) (Some old) now line Rises other rises same poured = front line _ old now Rises rises same poured
-said_front C.NotBuilt (Some old) now line Rises other rises same poured = front line _ old now Rises rises same poured
-said_front C.Device (Some old) now line Rises other rises same poured = inl (front line _ old now Rises rises same poured)
+pub run_is : (c : Cause) → is_run c ≡ true → IsRun c
+run_is C.Done e = (None, refl)
+run_is (C.Stopped fault) e = (Some fault, refl)
+run_is C.BadWords e = cc
+run_is (C.Refused refusal) e = cc
+run_is C.NotBuilt e = cc
+run_is C.Device e = cc
+run_is C.NoMemory e = cc
 
-pub said_failed : (cause : Cause) (old now : Option (List ℕ)) (line : List ℕ) (before after : ℕ) (e : PourAnswer) → (IsRun cause → ⊥) → e ≡ Failed → line ≡ text_of_cause cause
-    → AllPoured old now (Err e) line → Counted (failed_write {T = Unit {0}} (Err e)) before after → Said cause old now (Rose before after)
-said_failed cause old now line before after e other is same poured counted =
-    said_front cause old now line (Rose before after) other (subst (λ (x : PourAnswer). Counted (failed_write {T = Unit {0}} (Err x)) before after) is counted).1 same
-    (subst (λ (x : PourAnswer). AllPoured old now (Err x) line) is poured)
+of_fault : (fault : Option Fault) → is_run (cause_of fault) ≡ true
+of_fault None = refl
+of_fault (Some fault) = refl
+
+is_run_of : (c : Cause) → IsRun c → is_run c ≡ true
+is_run_of c (fault, e) = ap is_run e ∙ of_fault fault
+
+pub not_run : (c : Cause) → is_run c ≡ false → IsRun c → ⊥
+not_run c e run = let h : false ≡ true = sym e ∙ is_run_of c run in cc
+
+-- ---- pours
+
+pub poured_whole : (cause : Cause) (line : List ℕ) (old now : Option (List ℕ)) (Failed : Type 0) → AllPoured old now (Ok tt) line → Pours cause cause line old now Failed
+poured_whole cause line None now Failed poured = tt
+poured_whole cause line (Some old) now Failed poured = whole refl poured
+
+pub poured_front : (cause : Cause) (line : List ℕ) (old now : Option (List ℕ)) (before after : ℕ) (e : PourAnswer) → e ≡ E.Failed → is_run cause ≡ false
+    → AllPoured old now (Err e) line → Counted (failed_write {T = Unit {0}} (Err e)) before after → Pours cause cause line old now (Rose before after)
+poured_front cause line None now before after e is other poured counted = tt
+poured_front cause line (Some old) now before after e is other (n, within, held) counted =
+    front refl (not_run cause other) (subst (λ (x : PourAnswer). Counted (failed_write {T = Unit {0}} (Err x)) before after) is counted).1 n held
+
+pub poured_failed : (cause : Cause) (line : List ℕ) (old now : Option (List ℕ)) (before after : ℕ) (e : PourAnswer) → e ≡ E.Failed → is_run cause ≡ true
+    → AllPoured old now (Err e) line → Counted (failed_write {T = Unit {0}} (Err e)) before after → Pours cause C.Device line old now (Rose before after)
+poured_failed cause line None now before after e is run poured counted = tt
+poured_failed cause line (Some old) now before after e is run (n, within, held) counted =
+    failed refl (run_is cause run) (subst (λ (x : PourAnswer). Counted (failed_write {T = Unit {0}} (Err x)) before after) is counted).1 n held
+
+pub poured_wanting : (cause : Cause) (line : List ℕ) (old now : Option (List ℕ)) (Failed : Type 0) → Pours cause C.NoMemory line old now Failed
+poured_wanting cause line None now Failed = tt
+poured_wanting cause line (Some old) now Failed = wanting refl
+
+pub rose_by : (before after : ℕ) (e : PourAnswer) → e ≡ E.Failed → Counted (failed_write {T = Unit {0}} (Err e)) before after → Rose before after
+rose_by before after e is counted = (subst (λ (x : PourAnswer). Counted (failed_write {T = Unit {0}} (Err x)) before after) is counted).1
+
+-- ---- what was said
+
+-- the line of a request that was carried out
+line_of_run : (Is : Outcome → Type 0) (cause : Cause) (line : List ℕ) (fault : Option Fault) → cause ≡ cause_of fault → IsLine cause Is line → IsLineOf Is (cause_of fault) line
+line_of_run Is cause line None e is = subst (λ (c : Cause). IsLine c Is line) e is
+line_of_run Is cause line (Some f) e is = subst (λ (c : Cause). IsLine c Is line) e is
+
+text_whole : (text line old : List ℕ) (now : Option (List ℕ)) (Failed : Type 0) → line ≡ text → now ≡ Some (old ++ line) → PouredText text old now Failed
+text_whole text line old now Failed e held = inl (held ∙ ap (λ (l : List ℕ). Some (old ++ l)) e)
+
+text_front : (text line old : List ℕ) (now : Option (List ℕ)) (Failed : Type 0) → line ≡ text → Failed → (n : ℕ) → now ≡ Some (old ++ take n line) → PouredText text old now Failed
+text_front text line old now Failed e rises n held = inr (rises, (n, held ∙ ap (λ (l : List ℕ). Some (old ++ take n l)) e))
+
+said_whole : (cause : Cause) (Is : Outcome → Type 0) (line old : List ℕ) (now : Option (List ℕ)) (Failed : Type 0) → IsLine cause Is line → now ≡ Some (old ++ line) → Said cause Is (Some old) now Failed
+said_whole C.Done Is line old now Failed is held = (line, is, held)
+said_whole (C.Stopped fault) Is line old now Failed is held = (line, is, held)
+said_whole C.NoMemory Is line old now Failed is held = tt
+said_whole C.BadWords Is line old now Failed is held = text_whole _ line old now Failed is held
+said_whole (C.Refused refusal) Is line old now Failed is held = text_whole _ line old now Failed is held
+said_whole C.NotBuilt Is line old now Failed is held = text_whole _ line old now Failed is held
+said_whole C.Device Is line old now Failed is held = inl (text_whole _ line old now Failed is held)
+
+said_front : (cause : Cause) (Is : Outcome → Type 0) (line old : List ℕ) (now : Option (List ℕ)) (Failed : Type 0) → IsLine cause Is line → (IsRun cause → ⊥) → Failed
+    → (n : ℕ) → now ≡ Some (old ++ take n line) → Said cause Is (Some old) now Failed
+said_front C.Done Is line old now Failed is other rises n held = absurd (other (None, refl))
+said_front (C.Stopped fault) Is line old now Failed is other rises n held = absurd (other (Some fault, refl))
+said_front C.NoMemory Is line old now Failed is other rises n held = tt
+said_front C.BadWords Is line old now Failed is other rises n held = text_front _ line old now Failed is rises n held
+said_front (C.Refused refusal) Is line old now Failed is other rises n held = text_front _ line old now Failed is rises n held
+said_front C.NotBuilt Is line old now Failed is other rises n held = text_front _ line old now Failed is rises n held
+said_front C.Device Is line old now Failed is other rises n held = inl (text_front _ line old now Failed is rises n held)
+
+said_poured : (cause r : Cause) (Is : Outcome → Type 0) (line old : List ℕ) (now : Option (List ℕ)) (Failed : Type 0) → IsLine cause Is line → LinePoured cause r line old now Failed
+    → Said r Is (Some old) now Failed
+said_poured cause r Is line old now Failed is (whole e held) = subst (λ (c : Cause). Said c Is (Some old) now Failed) (sym e) (said_whole cause Is line old now Failed is held)
+said_poured cause r Is line old now Failed is (front e other rises n held) =
+    subst (λ (c : Cause). Said c Is (Some old) now Failed) (sym e) (said_front cause Is line old now Failed is other rises n held)
+said_poured cause r Is line old now Failed is (failed e (fault, run) rises n held) =
+    subst (λ (c : Cause). Said c Is (Some old) now Failed) (sym e) (inr (rises, (fault, line, line_of_run Is cause line fault run is, n, held)))
+said_poured cause r Is line old now Failed is (wanting e) = subst (λ (c : Cause). Said c Is (Some old) now Failed) (sym e) tt
+
+said_nothing : (r : Cause) (Is : Outcome → Type 0) (old now : Option (List ℕ)) (Failed : Type 0) → r ≡ C.NoMemory → Said r Is old now Failed
+said_nothing r Is None now Failed e = tt
+said_nothing r Is (Some old) now Failed e = subst (λ (c : Cause). Said c Is (Some old) now Failed) (sym e) tt
+
+-- the line of a cause, once it is told
+pub said : (cause r : Cause) (Is : Outcome → Type 0) (line : Result (List ℕ) NoMemory) (old now : Option (List ℕ)) (Failed : Type 0) → IfOk line (IsLine cause Is)
+    → PoursLine cause r line old now Failed → Said r Is old now Failed
+said cause r Is (Ok line) None now Failed is poured = tt
+said cause r Is (Ok line) (Some old) now Failed is poured = said_poured cause r Is line old now Failed is poured
+said cause r Is (Err e) old now Failed is poured = said_nothing r Is old now Failed poured

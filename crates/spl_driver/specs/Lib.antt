@@ -1,10 +1,7 @@
-pub mod Source
-pub mod Lines
-pub mod Form
-pub mod Program
-pub mod Filter
-pub mod ProgramLaws
-pub mod Request
+pub mod Files
+pub mod Built
+pub mod Outcome
 pub mod Answer
-pub mod RequestLaws
+pub mod Lines
 pub mod Steps
+pub mod RequestLaws

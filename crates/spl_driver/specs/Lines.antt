@@ -1,28 +1,89 @@
--- The rows of a file of whole numbers, line by line.
-use Rattle.std.specs.Prelude.{ℕ, ℤ, List, [], ◌∷◌, Option, Some, None, if◌then◌else◌}
-use Rattle.spl_value.specs.Decimal.{integer_of}
-use Rattle.spl_value.specs.declared.item.Item.{Item}
-use Rattle.spl_value.specs.declared.item.Item.TheVariants as I
-use Rattle.spl_value.specs.declared.types.IntKind.TheVariants.{I64}
-use Rattle.spl_value.specs.declared.value.Value.TheVariants as V
-use Rattle.stream_model.specs.Rows.{closing}
-use Rattle.spl_driver.specs.Source.{is_number_line}
+-- The line that the program tells.
+use Rattle.std.specs.Prelude.{◌≡◌, ◌⊎◌, ℕ, Bool, true, false, List, [], ◌++◌, take, Option, Some, None, Result, Ok, Err, ⊤, IfSome}
+use Rattle.spl_value.specs.declared.memory.NoMemory.{NoMemory}
+use Rattle.feed_pour.specs.Contents.{Told}
+use Rattle.spl_value.specs.declared.item.Fault.{Fault}
+use Rattle.stream_model.specs.declared.record.Arrivals.{Arrivals}
+use Rattle.run_report.specs.declared.cause.Cause.{Cause}
+use Rattle.run_report.specs.declared.cause.Cause.TheVariants as C
+use Rattle.run_report.specs.Texts.{status_text, check_text}
+use Rattle.command_line.specs.declared.request.Request.{Request}
+use Rattle.spl_driver.specs.Answer.{IsRun, cause_of}
+use Rattle.spl_driver.specs.Outcome.{Outcome, Checks, Runs, IsOutcome}
 
--- the number of a line that is one
-abbrev pub line_number : List ℕ → Option ℤ
-line_number line = if is_number_line line then integer_of I64 line else None
+-- what the request comes to, where the shelf tells its files; anything where it doesn't
+abbrev pub Comes : Option Request → Option Told → Arrivals → Outcome → Type 0
+Comes request told arrivals result = IfSome told (λ t. IsOutcome request t arrivals result)
 
--- a number as a tuple
-abbrev pub number_row : ℤ → Item
-number_row n = I.Tuple (V.Int n ∷ [])
+-- the line of a request that was carried out: what was checked, or how the run ended
+abbrev pub line_of : Outcome → Cause → List ℕ
+line_of (Checks c) cause = check_text c
+line_of (Runs c g m) cause = status_text (Some c) cause
+line_of _ cause = []
 
--- a number's tuple in front of a stream
-abbrev pub row_in_front : Option ℤ → Option (List Item) → Option (List Item)
-row_in_front None more = None
-row_in_front (Some n) None = None
-row_in_front (Some n) (Some items) = Some (number_row n ∷ items)
+-- a request that comes to something was carried out, and this is its line
+abbrev pub IsLineOf : (Outcome → Type 0) → Cause → List ℕ → Type 0
+IsLineOf Is cause line = (result : Outcome) × Is result × (line ≡ line_of result cause)
 
--- the tuples of lines that are all numbers, and the markers behind them
-abbrev pub number_rows : List (List ℕ) → Option (List Item)
-number_rows [] = Some closing
-number_rows (line ∷ lines) = row_in_front (line_number line) (number_rows lines)
+-- the line of a cause; nothing is said of that of want of memory
+abbrev pub IsLine : Cause → (Outcome → Type 0) → List ℕ → Type 0
+IsLine C.NoMemory Is line = ⊤
+IsLine C.Done Is line = IsLineOf Is C.Done line
+IsLine (C.Stopped fault) Is line = IsLineOf Is (C.Stopped fault) line
+IsLine C.BadWords Is line = line ≡ status_text None C.BadWords
+IsLine (C.Refused refusal) Is line = line ≡ status_text None (C.Refused refusal)
+IsLine C.NotBuilt Is line = line ≡ status_text None C.NotBuilt
+IsLine C.Device Is line = line ≡ status_text None C.Device
+
+-- these bytes were poured, or a front of them where the pour's count rose
+abbrev pub PouredText : List ℕ → List ℕ → Option (List ℕ) → Type 0 → Type 0
+PouredText bytes old now Failed = (now ≡ Some (old ++ bytes)) ⊎ (Failed × ((n : ℕ) × (now ≡ Some (old ++ take n bytes))))
+
+-- a line of a request that was carried out was poured whole
+abbrev pub PouredLine : (Outcome → Type 0) → Cause → List ℕ → Option (List ℕ) → Type 0
+PouredLine Is cause old now = (line : List ℕ) × IsLineOf Is cause line × (now ≡ Some (old ++ line))
+
+-- or a front of it and no more, since the pour failed
+abbrev pub PouredFront : (Outcome → Type 0) → List ℕ → Option (List ℕ) → Type 0 → Type 0
+PouredFront Is old now Failed =
+    Failed × ((fault : Option Fault) × (line : List ℕ) × IsLineOf Is (cause_of fault) line × (n : ℕ) × (now ≡ Some (old ++ take n line)))
+
+-- the cause's line was poured; nothing is said of want of memory
+abbrev pub Said : Cause → (Outcome → Type 0) → Option (List ℕ) → Option (List ℕ) → Type 0 → Type 0
+Said cause Is None now Failed = ⊤
+Said C.NoMemory Is (Some old) now Failed = ⊤
+Said C.Done Is (Some old) now Failed = PouredLine Is C.Done old now
+Said (C.Stopped fault) Is (Some old) now Failed = PouredLine Is (C.Stopped fault) old now
+Said C.BadWords Is (Some old) now Failed = PouredText (status_text None C.BadWords) old now Failed
+Said (C.Refused refusal) Is (Some old) now Failed = PouredText (status_text None (C.Refused refusal)) old now Failed
+Said C.NotBuilt Is (Some old) now Failed = PouredText (status_text None C.NotBuilt) old now Failed
+Said C.Device Is (Some old) now Failed = PouredText (status_text None C.Device) old now Failed ⊎ PouredFront Is old now Failed
+
+-- ---- how a line is told
+
+-- a request was carried out
+abbrev pub is_run : Cause → Bool
+is_run C.Done = true
+is_run (C.Stopped fault) = true
+is_run _ = false
+
+-- what is told of a cause becomes of it: it stays, unless memory was wanting; but where the line of a request that was carried out isn't
+-- poured, a device failed
+abbrev pub ToldAs : Cause → Cause → Type 0 → Type 0
+ToldAs cause result Failed = (result ≡ cause) ⊎ ((result ≡ C.NoMemory) ⊎ ((result ≡ C.Device) × IsRun cause × Failed))
+
+-- the line was poured whole; or a front of it, since the pour failed or memory was wanting
+pub data LinePoured (cause result : Cause) (line : List ℕ) (old : List ℕ) (now : Option (List ℕ)) (Failed : Type 0) : Type 0 where
+  whole : result ≡ cause → now ≡ Some (old ++ line) → LinePoured cause result line old now Failed
+  front : result ≡ cause → (IsRun cause → ⊥) → Failed → (n : ℕ) → now ≡ Some (old ++ take n line) → LinePoured cause result line old now Failed
+  failed : result ≡ C.Device → IsRun cause → Failed → (n : ℕ) → now ≡ Some (old ++ take n line) → LinePoured cause result line old now Failed
+  wanting : result ≡ C.NoMemory → LinePoured cause result line old now Failed
+
+abbrev pub Pours : Cause → Cause → List ℕ → Option (List ℕ) → Option (List ℕ) → Type 0 → Type 0
+Pours cause result line None now Failed = ⊤
+Pours cause result line (Some old) now Failed = LinePoured cause result line old now Failed
+
+-- a line that there was memory for
+abbrev pub PoursLine : Cause → Cause → Result (List ℕ) NoMemory → Option (List ℕ) → Option (List ℕ) → Type 0 → Type 0
+PoursLine cause result (Ok line) old now Failed = Pours cause result line old now Failed
+PoursLine cause result (Err e) old now Failed = result ≡ C.NoMemory

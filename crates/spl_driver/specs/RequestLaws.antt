@@ -1,10 +1,10 @@
 -- What requests come to.
-use Rattle.std.specs.Prelude.{◌≡◌, Option}
+use Rattle.std.specs.Prelude.{◌≡◌, List, Option}
 use Rattle.feed_pour.specs.Contents.{Told}
+use Rattle.stream_model.specs.declared.checked.Part.{Part}
 use Rattle.stream_model.specs.declared.record.Arrivals.{Arrivals}
-use Rattle.stream_model.specs.Meaning.{Graph}
-use Rattle.spl_driver.specs.declared.request.Request.{Request}
-use Rattle.spl_driver.specs.Answer.{Outcome, IsOutcome, IsGraphIn}
+use Rattle.command_line.specs.declared.request.Request.{Request}
+use Rattle.spl_driver.specs.Outcome.{Outcome, IsOutcome, ArePartsIn}
 
 -- a request comes to one thing at most, under an arrival record
 abbrev pub OneOutcomeLaw : Type 0
@@ -14,10 +14,10 @@ OneOutcomeLaw = (request : Option Request) (t : Told) (arrivals : Arrivals) (r s
 abbrev pub SomeOutcomeLaw : Type 0
 SomeOutcomeLaw = (request : Option Request) (t : Told) (arrivals : Arrivals) → ((r : Outcome) → IsOutcome request t arrivals r → ⊥) → ⊥
 
--- it has one graph at most
-abbrev pub OneGraphLaw : Type 0
-OneGraphLaw = (request : Option Request) (t : Told) (g h : Graph) → IsGraphIn request t g → IsGraphIn request t h → g ≡ h
+-- its program has the operators of one list at most
+abbrev pub OnePartsLaw : Type 0
+OnePartsLaw = (request : Option Request) (t : Told) (x y : List Part) → ArePartsIn request t x → ArePartsIn request t y → x ≡ y
 
--- and none has no graph
-abbrev pub SomeGraphLaw : Type 0
-SomeGraphLaw = (request : Option Request) (t : Told) → ((g : Graph) → IsGraphIn request t g → ⊥) → ⊥
+-- and none has those of no list
+abbrev pub SomePartsLaw : Type 0
+SomePartsLaw = (request : Option Request) (t : Told) → ((x : List Part) → ArePartsIn request t x → ⊥) → ⊥

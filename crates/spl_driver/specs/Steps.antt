@@ -1,146 +1,251 @@
--- What the steps of a run come to: the program and its source made ready, and the sink written.
-use Rattle.std.specs.Prelude.{◌≡◌, ◌^◌, ◌<◌, ◌≤◌, ◌⊎◌, ℕ, List, [], ◌∷◌, ◌++◌, length, take, count_by, Bool, true, false, ⊤, Option, Some, None, Result, Ok, Err}
-use Rattle.spl_value.specs.declared.item.Item.{Item}
-use Rattle.spl_value.specs.declared.item.Item.TheVariants as I
-use Rattle.spl_value.specs.Script.{Script}
-use Rattle.feed_pour.specs.Counts.{Counts as Tallies, PerName, Counted, OthersStay, Rose}
-use Rattle.stream_model.specs.declared.record.Counts.{Counts}
-use Rattle.feed_pour.specs.Contents.{Told, TellsOthers}
-use Rattle.feed_pour.specs.declared.outside.PourAnswer.{PourAnswer}
-use Rattle.stream_model.specs.declared.record.Arrivals.{Arrivals}
+-- What the steps of a request come to: the program compiled, the sources read, the streams computed, the sinks written.
+use Prim.Native.Nat.{suc}
+use Rattle.std.specs.Prelude.{◌≡◌, ◌<◌, ◌≤◌, ◌^◌, ◌⊎◌, ◌||◌, ◌&&◌, ℕ, List, [], ◌∷◌, map, length, Bool, true, false, ⊤, Option, Some, None, Result, Ok, Err, IfSome, slice_get}
+use Rattle.std.specs.List.{concat, filter_map, list_any, list_all}
+use Rattle.std.specs.Option.{option_map_or, unwrap_or}
 use Rattle.spl_value.specs.declared.item.Fault.{Fault}
-use Rattle.spl_tree.specs.declared.code.Code.{Code}
-use Rattle.spl_tree.specs.declared.code.Slot.{Slot}
-use Rattle.stream_model.specs.PathLaws.{passed}
-use Rattle.stream_model.specs.Meaning.{Graph, meaning, rows_of}
-use Rattle.spl_tree.specs.declared.token.Tokens.{Tokens}
-use Rattle.spl_tree.specs.Grammar.{Expr}
-use Rattle.expr_parser.specs.declared.answer.ParsedExpr.{ParsedExpr}
-use Rattle.expr_parser.specs.declared.answer.SyntaxAnswer.{SyntaxAnswer}
-use Rattle.expr_parser.specs.declared.answer.SyntaxAnswer.TheVariants as E
-use Rattle.expr_parser.specs.Parses.{IsParsed, Parses}
-use Rattle.spl_tree.specs.declared.token.Token.{Token}
-use Rattle.spl_driver.specs.Form.{HasForm, condition_of}
-use Rattle.spl_driver.specs.Program.{IsGraph, graph_of, price_source}
-use Rattle.spl_driver.specs.Answer.{Outcome, Refused, NotBuilt, Runs, IsOutcome, IsGraphIn, cause_of, with_sources, rows_told, entries_in, form_graph, DeviceFailed, OneFailed, NoCountChanged}
-use Rattle.spl_driver.specs.declared.cause.Cause.{Cause}
-use Rattle.spl_driver.specs.declared.cause.Cause.TheVariants as C
-use Rattle.spl_driver.specs.declared.cause.Ended.{Ended}
-use Rattle.spl_driver.specs.declared.request.Request.TheVariants.{Run}
+use Rattle.spl_value.specs.declared.item.Item.{Item}
+use Rattle.spl_value.specs.Script.{Script, End}
+use Rattle.spl_tree.specs.declared.graph.Op.{Op}
+use Rattle.feed_pour.specs.Counts.{PerName}
+use Rattle.feed_pour.specs.Contents.{Told}
+use Rattle.stream_model.specs.declared.checked.Part.{Part}
+use Rattle.stream_model.specs.declared.checked.Part.TheVariants as A
+use Rattle.stream_model.specs.declared.record.ArrivalList.{ArrivalList}
+use Rattle.stream_model.specs.declared.record.Arrivals.{Arrivals}
+use Rattle.stream_model.specs.declared.record.SinkCount.{SinkCount}
+use Rattle.stream_model.specs.Accepted.{ProgramRefusal, IsAccepted}
+use Rattle.stream_model.specs.CheckedGraph.{CheckedGraph}
+use Rattle.stream_model.specs.CheckedMeaning.{graph_of}
+use Rattle.stream_model.specs.React.{Source}
+use Rattle.stream_model.specs.Rows.{Setting, rows}
+use Rattle.stream_model.specs.Stream.{is_closed}
+use Rattle.stream_model.specs.StreamTypes.{Attributes}
+use Rattle.stream_model.specs.Meaning.{Graph, Lists, Entries, meaning, rows_of}
+use Rattle.run_report.specs.declared.cause.Cause.{Cause}
+use Rattle.run_report.specs.declared.cause.Cause.TheVariants as C
+use Rattle.run_report.specs.Refusals.{refusal_of}
+use Rattle.run_report.specs.Texts.{status_text}
+use Rattle.file_laws.specs.Files.{source_files, sink_files, is_named, OwnFiles}
+use Rattle.file_adapters.specs.Source.{is_number_file, is_number_schema}
+use Rattle.file_adapters.specs.declared.sinks.Sink.{Sink}
+use Rattle.list_run.specs.Runs.{CanRun, RowsFit, AreStreams, TuplesFit, rows_at}
+use Rattle.spl_driver.specs.Outcome.{Outcome, NotBuilt, Runs, has_fault, holds_numbers, rows_told, meant, with_graph, carried_out}
+use Rattle.spl_driver.specs.Answer.{Stands, OpenFailed, CreateFailed, NoCountChanged, SameFiles, ReadsFailed, IsOr, cause_of}
+use Rattle.spl_driver.specs.declared.compiled.Compiled.{Compiled}
+use Rattle.spl_driver.specs.declared.compiled.Compiled.TheVariants as P
+use Rattle.command_line.specs.declared.request.Request.{Request}
+use Rattle.spl_driver.specs.declared.sources.OneSource.{OneSource}
+use Rattle.spl_driver.specs.declared.sources.OneSource.TheVariants as O
+use Rattle.spl_driver.specs.declared.sources.Sources.{Sources}
+use Rattle.spl_driver.specs.declared.sources.Sources.TheVariants as S
 use Rattle.spl_driver.specs.declared.prepare.Prepared.{Prepared}
-use Rattle.spl_driver.specs.declared.prepare.Prepared.TheVariants as P
-use Rattle.spl_driver.specs.declared.sink.Sunk.{Sunk}
-use Rattle.spl_driver.specs.declared.sink.Sunk.TheVariants as S
+use Rattle.spl_driver.specs.declared.prepare.Prepared.TheVariants as Q
+use Rattle.spl_driver.specs.declared.ended.Ended.{Ended}
 
-abbrev pub is_tuple : Item → Bool
-is_tuple (I.Tuple values) = true
-is_tuple I.Window = false
-is_tuple I.Final = false
-is_tuple (I.Bad f) = false
+-- ---- counts of files that are opened and read
 
--- the rows' text was poured; where it failed or memory was wanting, a front of it
-abbrev pub RowsPoured : Option (List ℕ) → Option (List ℕ) → Result ℕ PourAnswer → List ℕ → Type 0
-RowsPoured None now r text = ⊤
-RowsPoured (Some old) now (Ok n) text = now ≡ Some (old ++ text)
-RowsPoured (Some old) now (Err e) text = (n : ℕ) × (n ≤ length text) × (now ≡ Some (old ++ take n text))
+-- counts change only of opening and of reading, and of these names
+pub record OnlyOpened (names : List (List ℕ)) (old new : PerName) : Type 0 where
+  pub others : (n : List ℕ) → is_named names n ≡ false → new n ≡ old n
+  pub creating : (n : List ℕ) → (new n).creating ≡ (old n).creating
+  pub writing : (n : List ℕ) → (new n).writing ≡ (old n).writing
 
--- what a sink's file holds behind the try to write this text under its name
-abbrev pub HeldAfter : Sunk → List ℕ → Option (List ℕ) → Option (List ℕ) → Type 0
-HeldAfter (S.Done n) text old new = new ≡ Some text
-HeldAfter S.CreateFailed text old new = new ≡ old
-HeldAfter S.WriteFailed text old new = (n : ℕ) × (new ≡ Some (take n text))
-HeldAfter S.Memory text old new = (new ≡ old) ⊎ ((n : ℕ) × (new ≡ Some (take n text)))
+-- one of these files couldn't be opened or read, or no count changed
+abbrev pub OpensCounted : Bool → List (List ℕ) → PerName → PerName → Type 0
+OpensCounted true names old new = OnlyOpened names old new × OpenFailed names old new
+OpensCounted false names old new = NoCountChanged old new
 
-pub record SunkAs (r : Sunk) (name text : List ℕ) (old : Told) (new : Told) : Type 0 where
-  pub others : TellsOthers old new name
-  pub holds : HeldAfter r text (old.holds name) (new.holds name)
+-- ---- the program
 
-abbrev pub SinkCause : Sunk → Tallies → Tallies → Type 0
-SinkCause (S.Done n) old new = (new.creating ≡ old.creating) × (new.writing ≡ old.writing)
-SinkCause S.CreateFailed old new = Counted true old.creating new.creating × (new.writing ≡ old.writing)
-SinkCause S.WriteFailed old new = (new.creating ≡ old.creating) × Counted true old.writing new.writing
-SinkCause S.Memory old new = ⊤
+abbrev pub compile_failed : Compiled → Bool
+compile_failed P.Device = true
+compile_failed _ = false
 
-pub record SinkCounted (r : Sunk) (old new : PerName) (name : List ℕ) : Type 0 where
-  pub others : OthersStay old new name
-  pub opening : (new name).opening ≡ (old name).opening
-  pub reading : (new name).reading ≡ (old name).reading
-  pub cause : SinkCause r (old name) (new name)
+-- what the program's file comes to
+abbrev pub CompiledAt : Compiled → Script → List (List ℕ) → Type 0
+CompiledAt (P.Checked c) script names = (has_fault script ≡ false) × IsAccepted script.bytes names (Ok c)
+CompiledAt (P.Refused refusal) script names =
+    (has_fault script ≡ false) × ((p : ProgramRefusal) × IsAccepted script.bytes names (Err p) × (refusal ≡ refusal_of p))
+CompiledAt P.Device script names = ⊤
+CompiledAt P.Memory script names = ⊤
 
-abbrev pub SunkCount : Sunk → List Item → Type 0
-SunkCount (S.Done n) items = (n ≡ count_by is_tuple items) × (n < 2 ^ 64)
-SunkCount S.CreateFailed items = ⊤
-SunkCount S.WriteFailed items = ⊤
-SunkCount S.Memory items = ⊤
+-- the sinks of an accepted program have files of their own
+abbrev pub HasOwnFiles : Compiled → List (List ℕ) → Type 0
+HasOwnFiles (P.Checked c) names = OwnFiles names c.parts
+HasOwnFiles _ names = ⊤
 
--- an expression was read that is no condition, or none was read
-abbrev pub NoCondition : Result ParsedExpr SyntaxAnswer → Type 0
-NoCondition (Ok parsed) = condition_of parsed.expr ≡ None
-NoCondition (Err E.Memory) = ⊥
-NoCondition (Err _) = ⊤
+-- ---- its sources
 
--- what is read from a token on: an expression with this condition and the token behind it, or no condition
-abbrev pub ConditionAt : Tokens → ℕ → Option (Code Slot × ℕ) → Type 0
-ConditionAt tokens from (Some found) = (e : Expr) × IsParsed tokens from (record { expr = e; next = found.1 }) × (condition_of e ≡ Some found.0)
-ConditionAt tokens from None = (read : Result ParsedExpr SyntaxAnswer) × Parses tokens from read × NoCondition read
+-- a closed stream of tuples of one number
+pub record AreNumbers (items : List Item) : Type 0 where
+  pub closed : is_closed items ≡ true
+  pub fit : (schema : Attributes) → is_number_schema schema ≡ true → TuplesFit schema items
 
--- tokens are of the form with this condition, or with none
-abbrev pub Read : List Token → Option (Code Slot) → Type 0
-Read ts None = (c : Code Slot) → HasForm ts c → ⊥
-Read ts (Some c) = HasForm ts c
+-- what bytes that were read come to
+abbrev pub RowsRead : OneSource → List ℕ → Type 0
+RowsRead (O.Rows items) bytes =
+    AreNumbers items × (is_number_file bytes ≡ true) × ((o : Setting) → is_number_schema o.schema ≡ true → o.limit ≡ 2 ^ 40 → items ≡ rows o bytes End)
+RowsRead O.Other bytes = is_number_file bytes ≡ false
+RowsRead O.Device bytes = ⊥
+RowsRead O.Memory bytes = ⊤
 
--- the program of this name is accepted with this condition, its source is of the form, and this stream comes to its sink
-pub record Prepares (program : List ℕ) (t : Told) (c : Code Slot) (given : List Item) : Type 0 where
-  pub graph : IsGraph (t.script program).bytes (graph_of c)
-  pub runs : (arrivals : Arrivals)
-      → IsOutcome (Some (Run program)) t arrivals (Runs (graph_of c) (meaning (graph_of c) (rows_told (graph_of c) t) (entries_in arrivals.lists)))
-  pub items : given ≡ passed 1 (Some c) (rows_told (graph_of c) t 0)
+-- it is what a source of this file gives, whatever its number and its attribute's name
+pub record SourceTold (file : List ℕ) (items : List Item) (told : Told) : Type 0 where
+  pub read : has_fault (told.script file) ≡ false
+  pub numbers : holds_numbers (told.script file) ≡ true
+  pub rows : (n : ℕ) (source : Source) → source.file ≡ file → is_number_schema source.schema ≡ true → items ≡ rows_of n source (told.script file)
 
-abbrev pub PreparedOf : Prepared → List ℕ → PerName → PerName → Told → Type 0
-PreparedOf (P.Stream items) program old new t = (c : Code Slot) × Prepares program t c items
-PreparedOf (P.Refused refusal) program old new t = (arrivals : Arrivals) → IsOutcome (Some (Run program)) t arrivals (Refused refusal)
-PreparedOf P.NotBuilt program old new t = (arrivals : Arrivals) → IsOutcome (Some (Run program)) t arrivals NotBuilt
-PreparedOf P.Device program old new t = (g : Graph) → IsGraphIn (Some (Run program)) t g → DeviceFailed (Some (Run program)) g old new
-PreparedOf P.NoMemory program old new t = ⊤
+-- the rows of an operator with these clauses
+abbrev pub RowsOf : Part → List Item → Option Told → Type 0
+RowsOf (A.FileSource file strict) items told = AreNumbers items × IfSome told (SourceTold file items)
+RowsOf _ items told = items ≡ []
 
-abbrev pub PrepareCounted : Prepared → List ℕ → PerName → PerName → Type 0
-PrepareCounted (P.Stream items) program old new = NoCountChanged old new
-PrepareCounted (P.Refused refusal) program old new = NoCountChanged old new
-PrepareCounted P.NotBuilt program old new = NoCountChanged old new
-PrepareCounted P.Device program old new = DeviceFailed (Some (Run program)) form_graph old new × OneFailed old new
-PrepareCounted P.NoMemory program old new = ⊤
+-- the file of a source holds something else
+pub record OtherTold (file : List ℕ) (told : Told) : Type 0 where
+  pub read : has_fault (told.script file) ≡ false
+  pub other : holds_numbers (told.script file) ≡ false
 
--- what a source's script comes to behind a condition
-abbrev pub SourceOf : Prepared → Code Slot → Script → Type 0
-SourceOf (P.Stream items) c script = ((next : Outcome) → with_sources (script ∷ []) next ≡ next) × (items ≡ passed 1 (Some c) (rows_of 0 price_source script))
-SourceOf (P.Refused refusal) c script = ⊥
-SourceOf P.NotBuilt c script = (next : Outcome) → with_sources (script ∷ []) next ≡ NotBuilt
-SourceOf P.Device c script = ⊤
-SourceOf P.NoMemory c script = ⊤
+abbrev pub HoldsOther : Part → Option Told → Type 0
+HoldsOther (A.FileSource file strict) told = IfSome told (OtherTold file)
+HoldsOther _ told = ⊥
 
-abbrev pub SourceCounted : Prepared → List ℕ → PerName → PerName → Type 0
-SourceCounted (P.Stream items) source old new = NoCountChanged old new
-SourceCounted (P.Refused refusal) source old new = ⊥
-SourceCounted P.NotBuilt source old new = NoCountChanged old new
-SourceCounted P.Device source old new = (Rose (old source).opening (new source).opening ⊎ Rose (old source).reading (new source).reading) × OthersStay old new source
-SourceCounted P.NoMemory source old new = ⊤
+abbrev pub source_failed : OneSource → Bool
+source_failed O.Device = true
+source_failed _ = false
 
--- the counts of a run whose sink wrote so many rows
-abbrev pub counts_with : ℕ → Counts
-counts_with n = record { channels = []; sinks = record { op = 2; tuples = n } ∷ [] }
+-- what the file of an operator comes to, where it is a source
+abbrev pub SourceOf : OneSource → Part → Option Told → Type 0
+SourceOf (O.Rows items) part told = RowsOf part items told
+SourceOf O.Other part told = HoldsOther part told
+SourceOf O.Device part told = ⊤
+SourceOf O.Memory part told = ⊤
 
--- how a run with this fault, or none, ends behind its sink: with its counts, unless memory was wanting for them
-abbrev pub EndsAs : Sunk → Option Fault → Ended → Type 0
-EndsAs (S.Done n) fault ended = ((ended.cause ≡ cause_of fault) × (ended.counts ≡ counts_with n)) ⊎ (ended.cause ≡ C.NoMemory)
-EndsAs S.CreateFailed fault ended = ended.cause ≡ C.Device
-EndsAs S.WriteFailed fault ended = ended.cause ≡ C.Device
-EndsAs S.Memory fault ended = ended.cause ≡ C.NoMemory
+-- a list of rows for each of these operators
+abbrev pub RowsFor : List Part → List (List Item) → Option Told → Type 0
+RowsFor [] [] told = ⊤
+RowsFor (part ∷ parts) (items ∷ rows) told = RowsOf part items told × RowsFor parts rows told
+RowsFor _ _ told = ⊥
 
--- a run ended with a fault
-abbrev pub IsStopped : Cause → Type 0
-IsStopped cause = (fault : Fault) × (cause ≡ C.Stopped fault)
+abbrev pub sources_failed : Sources → Bool
+sources_failed S.Device = true
+sources_failed _ = false
 
--- what is told of a cause becomes of it: it stays, unless memory was wanting; but where the line of a run's fault isn't poured,
--- a device failed
-abbrev pub ToldAs : Cause → Cause → Type 0 → Type 0
-ToldAs cause result Failed = (result ≡ cause) ⊎ ((result ≡ C.NoMemory) ⊎ ((result ≡ C.Device) × IsStopped cause × Failed))
+-- no source has a fault
+abbrev pub AllRead : List Part → Told → Type 0
+AllRead parts told = list_any has_fault (map told.script (source_files parts)) ≡ false
+
+-- the files of all sources hold whole numbers
+abbrev pub all_numbers : List Part → Told → Bool
+all_numbers parts told = list_all holds_numbers (map told.script (source_files parts))
+
+-- the rows are what the shelf tells of the files
+pub record RowsTold (rows : List (List Item)) (c : CheckedGraph) (g : Graph) (told : Told) : Type 0 where
+  pub read : AllRead c.parts told
+  pub numbers : all_numbers c.parts told ≡ true
+  pub same : (n : ℕ) → rows_at rows n ≡ rows_told g told n
+
+-- the rows of each source; or one of their files holds something else
+abbrev pub SourcesOf : Sources → CheckedGraph → Option Told → Type 0
+SourcesOf (S.Rows rows) c told = (g : Graph) → graph_of c ≡ Some g → RowsFit g rows × IfSome told (RowsTold rows c g)
+SourcesOf S.NotBuilt c told = IfSome told (λ t. AllRead c.parts t × (all_numbers c.parts t ≡ false))
+SourcesOf S.Device c told = ⊤
+SourcesOf S.Memory c told = ⊤
+
+-- ---- its streams
+
+abbrev pub prepare_failed : Prepared → Bool
+prepare_failed Q.Device = true
+prepare_failed _ = false
+
+-- the streams of a run with these rows
+abbrev pub StreamsOf : CheckedGraph → Graph → Lists → List (List Item) → Type 0
+StreamsOf c g rows streams = (entries : Entries) → AreStreams c g (meaning g rows entries) streams
+
+-- a graph that can be run, its rows and its streams
+pub record StreamsFor (c : CheckedGraph) (streams : List (List Item)) (told : Option Told) : Type 0 where
+  pub graph : Graph
+  pub rows : Lists
+  pub runs : CanRun c graph
+  pub streams_of : StreamsOf c graph rows streams
+  pub told_rows : IfSome told (λ t. (n : ℕ) → rows n ≡ rows_told graph t n)
+  pub outcome : IfSome told (λ t. (lists : List ArrivalList) → with_graph c t lists (Some graph) ≡ Runs c graph (meant graph t lists))
+
+abbrev pub PreparedOf : Prepared → CheckedGraph → Option Told → Type 0
+PreparedOf (Q.Streams streams) c told = StreamsFor c streams told
+PreparedOf Q.NotBuilt c told = IfSome told (λ t. (lists : List ArrivalList) → with_graph c t lists (graph_of c) ≡ NotBuilt)
+PreparedOf Q.Device c told = ⊤
+PreparedOf Q.Memory c told = ⊤
+
+-- ---- its sinks
+
+-- the first stream that an operator takes
+abbrev pub first_input : Op → ℕ
+first_input op = unwrap_or (slice_get (concat op.ins) 0) 0
+
+abbrev pub sink_of : Op → Part → Option Sink
+sink_of op (A.FileSink file) = Some (record { file = file; stream = first_input op })
+sink_of op _ = None
+
+abbrev pub sink_in_front : Option Sink → List Sink → List Sink
+sink_in_front None rest = rest
+sink_in_front (Some sink) rest = sink ∷ rest
+
+-- the sinks of operators with these clauses, in order
+abbrev pub sinks_from : List Op → List Part → List Sink
+sinks_from (op ∷ ops) (part ∷ parts) = sink_in_front (sink_of op part) (sinks_from ops parts)
+sinks_from _ _ = []
+
+abbrev pub sinks_of : CheckedGraph → List Sink
+sinks_of c = sinks_from c.graph.ops c.parts
+
+-- the numbers of those that are sinks, from a number on
+abbrev pub sink_numbers : ℕ → List Part → List ℕ
+sink_numbers n [] = []
+sink_numbers n (A.FileSink file ∷ parts) = n ∷ sink_numbers (suc n) parts
+sink_numbers n (_ ∷ parts) = sink_numbers (suc n) parts
+
+-- so many rows of each sink
+abbrev pub counts_from : ℕ → List Part → List ℕ → List SinkCount
+counts_from n [] rows = []
+counts_from n (A.FileSink file ∷ parts) [] = []
+counts_from n (A.FileSink file ∷ parts) (k ∷ rows) = record { op = n; tuples = k } ∷ counts_from (suc n) parts rows
+counts_from n (_ ∷ parts) rows = counts_from (suc n) parts rows
+
+-- what an accepted program comes to where it is run
+abbrev pub IsRunOf : CheckedGraph → Arrivals → Told → Outcome → Type 0
+IsRunOf c arrivals told result = result ≡ with_graph c told arrivals.lists (graph_of c)
+
+abbrev pub RunComes : CheckedGraph → Arrivals → Option Told → Outcome → Type 0
+RunComes c arrivals told result = IfSome told (λ t. IsRunOf c arrivals t result)
+
+-- what an accepted program comes to by its request
+abbrev pub IsCarried : Request → CheckedGraph → Arrivals → Told → Outcome → Type 0
+IsCarried request c arrivals told result = result ≡ carried_out request c told arrivals.lists
+
+abbrev pub CarriedComes : Request → CheckedGraph → Arrivals → Option Told → Outcome → Type 0
+CarriedComes request c arrivals told result = IfSome told (λ t. IsCarried request c arrivals t result)
+
+-- ---- an answer
+
+-- what the counts of faults show of an answer to what opened and created these files
+pub record CountsShow (cause : Cause) (opened created : List (List ℕ)) (old new : PerName) : Type 0 where
+  pub words : cause ≡ C.BadWords → ⊥
+  pub others : (n : List ℕ) → (is_named opened n || is_named created n) ≡ false → new n ≡ old n
+  pub quiet : (cause ≡ C.Device → ⊥) → (cause ≡ C.NoMemory → ⊥) → NoCountChanged old new
+  pub device : cause ≡ C.Device → OpenFailed opened old new ⊎ CreateFailed created old new
+
+-- and what the files do, at a shelf that tells them
+pub record FilesShow (Is : Outcome → Type 0) (created : List (List ℕ)) (ended : Ended) (counts now : PerName) (old new : Told) : Type 0 where
+  pub stands : Stands ended.cause Is ended old new
+  pub others : (n : List ℕ) → is_named created n ≡ false → new.holds n ≡ old.holds n
+  pub last : ended.cause ≡ C.Device → (CreateFailed created counts now → ⊥) → SameFiles old new
+  pub reads : ReadsFailed counts now old
+
+-- a run with this fault, or none, ends with these counts, unless memory was wanting for them
+abbrev pub EndsAs : Option Fault → List SinkCount → Ended → Type 0
+EndsAs fault sinks ended = ((ended.cause ≡ cause_of fault) × (ended.counts ≡ record { channels = []; sinks = sinks })) ⊎ (ended.cause ≡ C.NoMemory)
+
+-- and this is its line
+abbrev pub TellsRun : CheckedGraph → Option Fault → Cause → List ℕ → Type 0
+TellsRun c fault cause line = (line ≡ status_text (Some c) cause) ⊎ (cause ≡ C.NoMemory)

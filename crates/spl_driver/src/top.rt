@@ -1,39 +1,88 @@
 //! The top call: from the words of the command line to the exit status.
-ghost use Rattle.std.specs.Prelude.{◌≡◌, ◌⊎◌, ◌<◌, ◌-◌, ◌^◌, [], IfSome, None};
+ghost use Rattle.std.specs.Prelude.{◌≡◌, ◌⊎◌, ◌<◌, ◌-◌, ◌^◌, [], IfOk, IfSome, Some, None};
 ghost use Rattle.feed_pour.specs.Counts.{Rose};
 ghost use Rattle.feed_pour.specs.Contents.{WhereTold};
-ghost use Rattle.spl_driver.specs.Request.{request_of};
-ghost use Rattle.spl_driver.specs.Answer.{Answered, Shown, NoCountChanged, Untouched, status_of, Said, IsComplete, IsRun};
+ghost use Rattle.command_line.specs.Request.{request_of};
+ghost use Rattle.spl_driver.specs.Answer.{Answered, Shown, NoCountChanged, ByWords, status_of, IsComplete, IsRun};
+ghost use Rattle.spl_driver.specs.Lines.{Comes, IsLine, Said, ToldAs, PoursLine};
 
-use crate::request::{Request, read_request};
-use crate::run::{ended, run, status};
+use crate::answer::{Answer, answer_program, plain};
+use crate::built::is_plain;
+use crate::ended::{Ended, status};
+use crate::laws::request_law;
 use crate::tell::say;
-use crate::{Cause, Ended};
+use command_line::{Request, read_request};
 use feed_pour::{Gate, Pour, Shelf, Starter};
+use run_report::Cause;
+use spl_value::{Bytes, NoMemory};
 use std::alloc::Global;
 use std::sync::Wait;
 use std::thread::Threads;
 
-// Does what the words ask.
-fn answer<H: Shelf>(alloc: Global, words: &[String], shelf: &mut H) -> Ended
+// Does what a request asks.
+fn carried<H: Shelf>(alloc: Global, shelf: &mut H, request: &Request) -> Answer
     ensures answered { WhereTold (H.told shelf.old) (H.told shelf.new)
-        (Answered (request_of words.now) result (H.counts shelf.old) (H.counts shelf.new) ⊥) }
-    ensures shown { Shown result.cause (request_of words.now) (H.counts shelf.old)
+        (Answered (Some request.now) result.ended (H.counts shelf.old) (H.counts shelf.new) ⊥) }
+    ensures shown { Shown result.ended.cause (Some request.now) (H.counts shelf.old)
         (H.counts shelf.new) ⊥ }
-    ensures words { request_of words.now ≡ None
-        → Untouched result.cause (H.counts shelf.old) (H.counts shelf.new) }
-    ensures lists { result.arrivals.lists ≡ [] }
-    ensures lent { H.lent shelf.old < 2 ^ 64 - 1 → H.lent shelf.new ≡ H.lent shelf.old }
+    ensures line { IfOk result.line (IsLine result.ended.cause
+        (Comes (Some request.now) (H.told shelf.old) result.ended.arrivals)) }
+    ensures words { ByWords (Some request.now) result.ended.cause (H.counts shelf.old)
+        (H.counts shelf.new) }
+    ensures lists { result.ended.arrivals.lists ≡ [] }
+    ensures lent { H.lent shelf.old < 2 ^ 64 - 256 → H.lent shelf.new ≡ H.lent shelf.old }
+{
+    match request {
+        Request::Check(program) => answer_program(alloc, shelf, request, program),
+        Request::Run { program, options } => {
+            if is_plain(options) {
+                answer_program(alloc, shelf, request, program)
+            } else {
+                plain(alloc, Cause::NotBuilt)
+            }
+        }
+        Request::Plan(_)
+        | Request::Replay { .. }
+        | Request::Simulate { .. }
+        | Request::Make { .. } => { plain(alloc, Cause::NotBuilt) }
+    }
+}
+
+// Does what the words ask.
+fn answer<H: Shelf>(alloc: Global, words: &[String], shelf: &mut H) -> Answer
+    ensures answered { WhereTold (H.told shelf.old) (H.told shelf.new)
+        (Answered (request_of words.now) result.ended (H.counts shelf.old) (H.counts shelf.new) ⊥) }
+    ensures shown { Shown result.ended.cause (request_of words.now) (H.counts shelf.old)
+        (H.counts shelf.new) ⊥ }
+    ensures line { IfOk result.line (IsLine result.ended.cause
+        (Comes (request_of words.now) (H.told shelf.old) result.ended.arrivals)) }
+    ensures words { ByWords (request_of words.now) result.ended.cause (H.counts shelf.old)
+        (H.counts shelf.new) }
+    ensures lists { result.ended.arrivals.lists ≡ [] }
+    ensures lent { H.lent shelf.old < 2 ^ 64 - 256 → H.lent shelf.new ≡ H.lent shelf.old }
 {
     match read_request(alloc, words) {
-        Err(_) => ended(alloc, Cause::NoMemory),
-        Ok(None) => ended(alloc, Cause::NotBuilt),
-        Ok(Some(Request::Run(program))) => run(alloc, shelf, &program),
+        Err(_) => plain(alloc, Cause::NoMemory),
+        Ok(None) => plain(alloc, Cause::BadWords),
+        Ok(Some(request)) => carried(alloc, shelf, &request),
+    }
+}
+
+// What becomes of a cause whose line is told, where there was memory for it.
+fn told<P: Pour>(cause: Cause, line: Result<Bytes, NoMemory>, out: &mut P) -> Cause
+    ensures cause { ToldAs cause result (Rose (P.faults out.old) (P.faults out.new)) }
+    ensures poured { PoursLine cause result line (P.poured out.old) (P.poured out.new)
+        (Rose (P.faults out.old) (P.faults out.new)) }
+    ensures quiet { IsRun result → P.faults out.new ≡ P.faults out.old }
+{
+    match line {
+        Ok(line) => say(cause, line.as_slice(), out),
+        Err(_) => say(Cause::NoMemory, b"no memory\n", out),
     }
 }
 
 /// The program: it carries out what the words behind the program's name ask over the shelf, and
-/// tells on `out` in a line why it ended, unless all was done. It asks neither the starter nor the
+/// tells on `out` in a line why it ended, or what it checked. It asks neither the starter nor the
 /// gate, and starts no thread.
 pub fn spl<W: Threads + Wait + Sync, H: Shelf, S: Starter, G: Gate, P: Pour>(
     _rt: &W,
@@ -58,31 +107,35 @@ pub fn spl<W: Threads + Wait + Sync, H: Shelf, S: Starter, G: Gate, P: Pour>(
         → NoCountChanged (H.counts shelf.old) (H.counts shelf.new)
         × (P.faults out.new ≡ P.faults out.old) }
 
-    ensures said { Said result.cause (P.poured out.old) (P.poured out.new)
-        (Rose (P.faults out.old) (P.faults out.new)) }
+    // The line that was poured.
+    ensures said { Said result.cause
+        (Comes (request_of words.now) (H.told shelf.old) result.arrivals) (P.poured out.old)
+        (P.poured out.new) (Rose (P.faults out.old) (P.faults out.new)) }
 
     // Every feed and every pour is given back.
-    ensures lent { H.lent shelf.old < 2 ^ 64 - 1 → H.lent shelf.new ≡ H.lent shelf.old }
+    ensures lent { H.lent shelf.old < 2 ^ 64 - 256 → H.lent shelf.new ≡ H.lent shelf.old }
 
     // No operator has several connections.
     ensures arrivals { result.arrivals.lists ≡ [] }
 
-    // The words alone decide that there is no request.
-    ensures words { request_of words.now ≡ None
-        → Untouched result.cause (H.counts shelf.old) (H.counts shelf.new) }
+    // The words alone decide that there is no request, or that it isn't built.
+    ensures words { ByWords (request_of words.now) result.cause (H.counts shelf.old)
+        (H.counts shelf.new) }
 
     // Where no device fails, what the request comes to is the answer, unless memory is wanting.
     ensures complete { IfSome (H.told shelf.old)
         (IsComplete (request_of words.now) result (H.counts shelf.old) (H.counts shelf.new)
         (Rose (P.faults out.old) (P.faults out.new))) }
 {
+    request_law();
+    let Answer { ended, line } = answer(alloc, words, shelf);
     let Ended {
         status: _,
         cause,
         arrivals,
         counts,
-    } = answer(alloc, words, shelf);
-    let cause = say(alloc, cause, out);
+    } = ended;
+    let cause = told(cause, line, out);
     Ended {
         status: status(&cause),
         cause,

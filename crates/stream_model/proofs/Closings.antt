@@ -6,6 +6,7 @@ use Rattle.spl_value.specs.declared.item.Item.{Item}
 use Rattle.spl_value.specs.declared.item.Item.TheVariants as I
 use Rattle.spl_value.specs.declared.item.FaultKind.{FaultKind}
 use Rattle.stream_model.specs.declared.outs.Output.{Output}
+use Rattle.spl_tree.specs.declared.body.Function.{Function}
 use Rattle.spl_tree.specs.declared.code.Code.{Code}
 use Rattle.spl_tree.specs.declared.code.Slot.{Slot}
 use Rattle.stream_model.specs.Outcomes.{Outcome, Done, Faulted, Stuck}
@@ -23,17 +24,17 @@ given (Faults kind) = []
 abbrev pub some_closes : List Output → Bool
 some_closes outs = list_any (λ o. closes o.item) outs
 
-filter_open : (condition : Option (Code Slot)) (x : Item) → some_closes (given (filter_body condition x)) ≡ false
-filter_open condition (I.Tuple vs) = go (passes condition vs)
+filter_open : (functions : List Function) (condition : Option (Code Slot)) (x : Item) → some_closes (given (filter_body functions condition x)) ≡ false
+filter_open functions condition (I.Tuple vs) = go (passes functions condition vs)
   where
     go : (o : Outcome Bool) → some_closes (given (filter_answer vs o)) ≡ false
     go (Done true turns) = refl
     go (Done false turns) = refl
     go (Faulted kind) = refl
     go Stuck = refl
-filter_open condition I.Window = refl
-filter_open condition I.Final = refl
-filter_open condition (I.Bad f) = refl
+filter_open functions condition I.Window = refl
+filter_open functions condition I.Final = refl
+filter_open functions condition (I.Bad f) = refl
 
 sink_open : (x : Item) → some_closes (given (sink_body x)) ≡ false
 sink_open (I.Tuple vs) = refl
@@ -43,7 +44,7 @@ sink_open (I.Bad f) = refl
 
 given_open-of : (kind : Kind) (op : Operator) (earlier : List Event) (e : Event) → some_closes (given (body_of kind op earlier e)) ≡ false
 given_open-of (FileSource source) op earlier e = refl
-given_open-of (Filter condition) op earlier e = filter_open condition e.item
+given_open-of (Filter condition) op earlier e = filter_open op.functions condition e.item
 given_open-of (FileSink file) op earlier e = sink_open e.item
 
 given_open : (op : Operator) (earlier : List Event) (e : Event) → some_closes (given (body op earlier e)) ≡ false
@@ -52,17 +53,17 @@ given_open op earlier e = given_open-of op.kind op earlier e
 pub body_law : BodyLaw
 body_law op earlier e outs h = ap (λ a. some_closes (given a)) (sym h) ∙ given_open op earlier e
 
-filter_first : (condition : Option (Code Slot)) (x : Item) → list_all (λ o. o.port == 0) (given (filter_body condition x)) ≡ true
-filter_first condition (I.Tuple vs) = go (passes condition vs)
+filter_first : (functions : List Function) (condition : Option (Code Slot)) (x : Item) → list_all (λ o. o.port == 0) (given (filter_body functions condition x)) ≡ true
+filter_first functions condition (I.Tuple vs) = go (passes functions condition vs)
   where
     go : (o : Outcome Bool) → list_all (λ o. o.port == 0) (given (filter_answer vs o)) ≡ true
     go (Done true turns) = refl
     go (Done false turns) = refl
     go (Faulted kind) = refl
     go Stuck = refl
-filter_first condition I.Window = refl
-filter_first condition I.Final = refl
-filter_first condition (I.Bad f) = refl
+filter_first functions condition I.Window = refl
+filter_first functions condition I.Final = refl
+filter_first functions condition (I.Bad f) = refl
 
 sink_first : (x : Item) → list_all (λ o. o.port == 0) (given (sink_body x)) ≡ true
 sink_first (I.Tuple vs) = refl
@@ -72,7 +73,7 @@ sink_first (I.Bad f) = refl
 
 given_first : (kind : Kind) (op : Operator) (earlier : List Event) (e : Event) → list_all (λ o. o.port == 0) (given (body_of kind op earlier e)) ≡ true
 given_first (FileSource source) op earlier e = refl
-given_first (Filter condition) op earlier e = filter_first condition e.item
+given_first (Filter condition) op earlier e = filter_first op.functions condition e.item
 given_first (FileSink file) op earlier e = sink_first e.item
 
 pub body_ports : BodyPorts
@@ -226,30 +227,30 @@ ended_by-last op (Gives outs) = refl
 ended_by-last op (Faults kind) = refl
 
 -- an item that closes ends an operator with one connection
-ended-closing : (n s : ℕ) (kind : Kind) (outs : List ℕ) (seen : List Event) (x : Item) → closes x ≡ true → is_some (ended (one_in n kind s outs) seen (came 0 x)) ≡ true
-ended-closing n s kind outs seen (I.Tuple vs) h = cc
-ended-closing n s kind outs seen I.Window h = cc
-ended-closing n s kind outs seen I.Final h = ended_by-last (one_in n kind s outs) (body (one_in n kind s outs) seen (came 0 I.Final))
-ended-closing n s kind outs seen (I.Bad f) h = refl
+ended-closing : (n s : ℕ) (functions : List Function) (kind : Kind) (outs : List ℕ) (seen : List Event) (x : Item) → closes x ≡ true → is_some (ended (one_in n functions kind s outs) seen (came 0 x)) ≡ true
+ended-closing n s functions kind outs seen (I.Tuple vs) h = cc
+ended-closing n s functions kind outs seen I.Window h = cc
+ended-closing n s functions kind outs seen I.Final h = ended_by-last (one_in n functions kind s outs) (body (one_in n functions kind s outs) seen (came 0 I.Final))
+ended-closing n s functions kind outs seen (I.Bad f) h = refl
 
-over-closed : (n s : ℕ) (kind : Kind) (outs : List ℕ) (seen : List Event) (items : List Item) → is_closed items ≡ true
-    → (after (stage_at (one_in n kind s outs) seen false) (map (came 0) items)).over ≡ true
-over-closed n s kind outs seen [] h = cc
-over-closed n s kind outs seen (x ∷ items) h =
-    go (is_some (ended (one_in n kind s outs) seen (came 0 x))) (closes x) (ended-closing n s kind outs seen x) h
-    (over-closed n s kind outs (came 0 x ∷ seen) items)
+over-closed : (n s : ℕ) (functions : List Function) (kind : Kind) (outs : List ℕ) (seen : List Event) (items : List Item) → is_closed items ≡ true
+    → (after (stage_at (one_in n functions kind s outs) seen false) (map (came 0) items)).over ≡ true
+over-closed n s functions kind outs seen [] h = cc
+over-closed n s functions kind outs seen (x ∷ items) h =
+    go (is_some (ended (one_in n functions kind s outs) seen (came 0 x))) (closes x) (ended-closing n s functions kind outs seen x) h
+    (over-closed n s functions kind outs (came 0 x ∷ seen) items)
   where
     go : (b c : Bool) → (c ≡ true → b ≡ true) → cond c (is_empty items) (is_closed items) ≡ true
-        → (is_closed items ≡ true → (after (stage_at (one_in n kind s outs) (came 0 x ∷ seen) false) (map (came 0) items)).over ≡ true)
-        → (after (stage_at (one_in n kind s outs) (came 0 x ∷ seen) b) (map (came 0) items)).over ≡ true
-    go true c f q rest = ap (λ (s : Stage). s.over) (after-over (stage_at (one_in n kind s outs) (came 0 x ∷ seen) true) (map (came 0) items) refl)
+        → (is_closed items ≡ true → (after (stage_at (one_in n functions kind s outs) (came 0 x ∷ seen) false) (map (came 0) items)).over ≡ true)
+        → (after (stage_at (one_in n functions kind s outs) (came 0 x ∷ seen) b) (map (came 0) items)).over ≡ true
+    go true c f q rest = ap (λ (s : Stage). s.over) (after-over (stage_at (one_in n functions kind s outs) (came 0 x ∷ seen) true) (map (came 0) items) refl)
     go false true f q rest = let clash : false ≡ true = f refl in cc
     go false false f q rest = rest q
 
 pub closed_ends : ClosedEnds
 closed_ends op s items i h =
     ap (λ (one : Operator). has_ended one (map (came 0) items)) (one_in-parts op op.kind s op.outs refl i refl)
-    ∙ over-closed op.number s op.kind op.outs [] items h
+    ∙ over-closed op.number s op.functions op.kind op.outs [] items h
 
 pub closed_gives_closed : ClosedGivesClosed
 closed_gives_closed op s p items i lt h = out_closes op p (map (came 0) items) lt ∙ closed_ends op s items i h

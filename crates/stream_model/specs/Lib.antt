@@ -70,6 +70,7 @@ pub mod ParameterTyping
 pub mod OutputTyping
 pub mod LogicTyping
 pub mod CheckedGraph
+pub mod CheckedMeaning
 pub mod Checking
 pub mod Keeping
 pub mod Accepted

@@ -1,5 +1,5 @@
--- What a filter and a sink with one connection give for a stream, item by item; and the path from a source through a filter
--- to a sink, with the fault of its run.
+-- What a filter and a sink with one connection give for a stream, item by item, and the fault with which a sink ends; and the path
+-- from a source through a filter to a sink.
 use Rattle.std.specs.Prelude.{ℕ, Bool, true, false, List, [], ◌∷◌, ◌++◌, ◌≡◌, map, length, Option, None, Some, is_some, if◌then◌else◌}
 use Rattle.std.specs.Option.{option_and_then, option_or}
 use Rattle.std.proofs.Common.{refl, sym, ap, ◌∙◌, suc, zero}
@@ -9,17 +9,18 @@ use Rattle.spl_value.specs.declared.item.Item.TheVariants as I
 use Rattle.spl_value.specs.declared.item.Fault.{Fault}
 use Rattle.spl_value.specs.declared.item.FaultKind.{FaultKind}
 use Rattle.spl_value.specs.declared.value.Value.{Value}
+use Rattle.spl_tree.specs.declared.body.Function.{Function}
 use Rattle.spl_tree.specs.declared.code.Code.{Code}
 use Rattle.spl_tree.specs.declared.code.Slot.{Slot}
 use Rattle.stream_model.specs.Stream.{Event, came}
 use Rattle.stream_model.specs.Outcomes.{Outcome, Done, Faulted, Stuck}
 use Rattle.stream_model.specs.React.{Operator, Source, FileSource, Filter, FileSink, passes, filter_answer, on_each, answered, ended_by}
 use Rattle.stream_model.specs.Stages.{start, gives_all, on_port, out}
-use Rattle.stream_model.specs.Meaning.{Graph, Lists, Entries, meaning, text}
+use Rattle.stream_model.specs.Meaning.{Graph}
 use Rattle.stream_model.specs.Laws.{is_made, IsOrdered, IsNumbered}
 use Rattle.stream_model.specs.OrderLaws.{IsOrdered-nil, IsOrdered-cons, at_only}
 use Rattle.stream_model.specs.Rows.{item_text, text_of}
-use Rattle.stream_model.specs.Ends.{fault_of, stream_fault, end_from, run_fault}
+use Rattle.stream_model.specs.Ends.{fault_of, stream_fault, end_from, operator_fault}
 use Rattle.stream_model.specs.StageLaws.{stage_at, one_in, one_in-parts, gives_all-over}
 
 -- a fault of the operator with this number itself
@@ -32,14 +33,14 @@ pass n (Done b turns) vs behind = if b then I.Tuple vs ∷ behind else behind
 pass n (Faulted kind) vs behind = I.Bad (fault_by n kind) ∷ []
 pass n Stuck vs behind = behind
 
--- what passes the condition of the operator with this number: its tuples and the window markers, up to a final marker or a
--- fault, which is the last, as the condition's own is
-abbrev pub passed : ℕ → Option (Code Slot) → List Item → List Item
-passed n condition [] = []
-passed n condition (I.Tuple vs ∷ items) = pass n (passes condition vs) vs (passed n condition items)
-passed n condition (I.Window ∷ items) = I.Window ∷ passed n condition items
-passed n condition (I.Final ∷ items) = I.Final ∷ []
-passed n condition (I.Bad f ∷ items) = I.Bad f ∷ []
+-- what passes the condition of the operator with this number, which may call these functions: its tuples and the window markers,
+-- up to a final marker or a fault, which is the last, as the condition's own is
+abbrev pub passed : ℕ → List Function → Option (Code Slot) → List Item → List Item
+passed n functions condition [] = []
+passed n functions condition (I.Tuple vs ∷ items) = pass n (passes functions condition vs) vs (passed n functions condition items)
+passed n functions condition (I.Window ∷ items) = I.Window ∷ passed n functions condition items
+passed n functions condition (I.Final ∷ items) = I.Final ∷ []
+passed n functions condition (I.Bad f ∷ items) = I.Bad f ∷ []
 
 -- what a sink writes of a stream: its tuples up to a final marker or a fault
 abbrev pub written : List Item → List Item
@@ -49,51 +50,51 @@ written (I.Window ∷ items) = written items
 written (I.Final ∷ items) = []
 written (I.Bad f ∷ items) = []
 
-filter_from : (n s t : ℕ) (condition : Option (Code Slot)) (seen : List Event) (items : List Item)
-    → on_port 0 (gives_all (stage_at (one_in n (Filter condition) s (t ∷ [])) seen false) (map (came 0) items)) ≡ passed n condition items
-filter_from n s t condition seen [] = refl
-filter_from n s t condition seen (I.Tuple vs ∷ items) =
-    go (one_in n (Filter condition) s (t ∷ [])) (came 0 (I.Tuple vs) ∷ seen) refl refl (passes condition vs) (filter_from n s t condition (came 0 (I.Tuple vs) ∷ seen) items)
+filter_from : (n s t : ℕ) (functions : List Function) (condition : Option (Code Slot)) (seen : List Event) (items : List Item)
+    → on_port 0 (gives_all (stage_at (one_in n functions (Filter condition) s (t ∷ [])) seen false) (map (came 0) items)) ≡ passed n functions condition items
+filter_from n s t functions condition seen [] = refl
+filter_from n s t functions condition seen (I.Tuple vs ∷ items) =
+    go (one_in n functions (Filter condition) s (t ∷ [])) (came 0 (I.Tuple vs) ∷ seen) refl refl (passes functions condition vs) (filter_from n s t functions condition (came 0 (I.Tuple vs) ∷ seen) items)
   where
     go : (op : Operator) (next : List Event) → op.number ≡ n → op.outs ≡ t ∷ [] → (o : Outcome Bool)
-        → on_port 0 (gives_all (stage_at op next false) (map (came 0) items)) ≡ passed n condition items
+        → on_port 0 (gives_all (stage_at op next false) (map (came 0) items)) ≡ passed n functions condition items
         → on_port 0 (answered op false (filter_answer vs o) ++ gives_all (stage_at op next (is_some (ended_by op false (filter_answer vs o)))) (map (came 0) items))
-        ≡ pass n o vs (passed n condition items)
+        ≡ pass n o vs (passed n functions condition items)
     go op next number outs (Done true turns) more = ap (λ xs. I.Tuple vs ∷ xs) more
     go op next number outs (Done false turns) more = more
     go op next number outs (Faulted kind) more =
         ap (λ (ts : List ℕ). on_port 0 (on_each (length ts) (I.Bad (fault_by op.number kind)) ++ gives_all (stage_at op next true) (map (came 0) items))) outs
         ∙ (λ i. I.Bad (fault_by (number i) kind) ∷ on_port 0 (gives_all-over (stage_at op next true) (map (came 0) items) refl i))
     go op next number outs Stuck more = more
-filter_from n s t condition seen (I.Window ∷ items) = ap (λ xs. I.Window ∷ xs) (filter_from n s t condition (came 0 I.Window ∷ seen) items)
-filter_from n s t condition seen (I.Final ∷ items) =
-    ap (λ outs. I.Final ∷ on_port 0 outs) (gives_all-over (stage_at (one_in n (Filter condition) s (t ∷ [])) (came 0 I.Final ∷ seen) true) (map (came 0) items) refl)
-filter_from n s t condition seen (I.Bad f ∷ items) =
-    ap (λ outs. I.Bad f ∷ on_port 0 outs) (gives_all-over (stage_at (one_in n (Filter condition) s (t ∷ [])) (came 0 (I.Bad f) ∷ seen) true) (map (came 0) items) refl)
+filter_from n s t functions condition seen (I.Window ∷ items) = ap (λ xs. I.Window ∷ xs) (filter_from n s t functions condition (came 0 I.Window ∷ seen) items)
+filter_from n s t functions condition seen (I.Final ∷ items) =
+    ap (λ outs. I.Final ∷ on_port 0 outs) (gives_all-over (stage_at (one_in n functions (Filter condition) s (t ∷ [])) (came 0 I.Final ∷ seen) true) (map (came 0) items) refl)
+filter_from n s t functions condition seen (I.Bad f ∷ items) =
+    ap (λ outs. I.Bad f ∷ on_port 0 outs) (gives_all-over (stage_at (one_in n functions (Filter condition) s (t ∷ [])) (came 0 (I.Bad f) ∷ seen) true) (map (came 0) items) refl)
 
 -- what a filter gives for a stream
 pub filter_out : (op : Operator) (condition : Option (Code Slot)) (s t : ℕ) (items : List Item)
-    → op.kind ≡ Filter condition → op.ins ≡ (s ∷ []) ∷ [] → op.outs ≡ t ∷ [] → out op 0 (map (came 0) items) ≡ passed op.number condition items
+    → op.kind ≡ Filter condition → op.ins ≡ (s ∷ []) ∷ [] → op.outs ≡ t ∷ [] → out op 0 (map (came 0) items) ≡ passed op.number op.functions condition items
 filter_out op condition s t items k i o =
     ap (λ (one : Operator). out one 0 (map (came 0) items)) (one_in-parts op (Filter condition) s (t ∷ []) k i o)
-    ∙ filter_from op.number s t condition [] items
+    ∙ filter_from op.number s t op.functions condition [] items
 
-sink_from : (n s : ℕ) (file : List ℕ) (seen : List Event) (items : List Item)
-    → on_port 0 (gives_all (stage_at (one_in n (FileSink file) s []) seen false) (map (came 0) items)) ≡ written items
-sink_from n s file seen [] = refl
-sink_from n s file seen (I.Tuple vs ∷ items) = ap (λ xs. I.Tuple vs ∷ xs) (sink_from n s file (came 0 (I.Tuple vs) ∷ seen) items)
-sink_from n s file seen (I.Window ∷ items) = sink_from n s file (came 0 I.Window ∷ seen) items
-sink_from n s file seen (I.Final ∷ items) =
-    ap (on_port 0) (gives_all-over (stage_at (one_in n (FileSink file) s []) (came 0 I.Final ∷ seen) true) (map (came 0) items) refl)
-sink_from n s file seen (I.Bad f ∷ items) =
-    ap (on_port 0) (gives_all-over (stage_at (one_in n (FileSink file) s []) (came 0 (I.Bad f) ∷ seen) true) (map (came 0) items) refl)
+sink_from : (n s : ℕ) (functions : List Function) (file : List ℕ) (seen : List Event) (items : List Item)
+    → on_port 0 (gives_all (stage_at (one_in n functions (FileSink file) s []) seen false) (map (came 0) items)) ≡ written items
+sink_from n s functions file seen [] = refl
+sink_from n s functions file seen (I.Tuple vs ∷ items) = ap (λ xs. I.Tuple vs ∷ xs) (sink_from n s functions file (came 0 (I.Tuple vs) ∷ seen) items)
+sink_from n s functions file seen (I.Window ∷ items) = sink_from n s functions file (came 0 I.Window ∷ seen) items
+sink_from n s functions file seen (I.Final ∷ items) =
+    ap (on_port 0) (gives_all-over (stage_at (one_in n functions (FileSink file) s []) (came 0 I.Final ∷ seen) true) (map (came 0) items) refl)
+sink_from n s functions file seen (I.Bad f ∷ items) =
+    ap (on_port 0) (gives_all-over (stage_at (one_in n functions (FileSink file) s []) (came 0 (I.Bad f) ∷ seen) true) (map (came 0) items) refl)
 
 -- what a sink gives to its writer for a stream
 pub sink_out : (op : Operator) (file : List ℕ) (s : ℕ) (items : List Item)
     → op.kind ≡ FileSink file → op.ins ≡ (s ∷ []) ∷ [] → op.outs ≡ [] → out op 0 (map (came 0) items) ≡ written items
 sink_out op file s items k i o =
     ap (λ (one : Operator). out one 0 (map (came 0) items)) (one_in-parts op (FileSink file) s [] k i o)
-    ∙ sink_from op.number s file [] items
+    ∙ sink_from op.number s op.functions file [] items
 
 -- the text of two lists of items is the first one's and then the second one's
 pub text_of-append : (first second : List Item) → text_of (first ++ second) ≡ text_of first ++ text_of second
@@ -101,13 +102,13 @@ text_of-append first second = flat_map-append item_text first second
 
 -- a source of stream 0, a filter that reads it and makes stream 1, and a sink that reads that
 abbrev pub path_source : Source → Operator
-path_source source = record { number = 0; kind = FileSource source; ins = []; outs = 0 ∷ [] }
+path_source source = record { number = 0; functions = []; kind = FileSource source; ins = []; outs = 0 ∷ [] }
 
 abbrev pub path_filter : Option (Code Slot) → Operator
-path_filter condition = record { number = 1; kind = Filter condition; ins = (0 ∷ []) ∷ []; outs = 1 ∷ [] }
+path_filter condition = record { number = 1; functions = []; kind = Filter condition; ins = (0 ∷ []) ∷ []; outs = 1 ∷ [] }
 
 abbrev pub path_sink : List ℕ → Operator
-path_sink file = record { number = 2; kind = FileSink file; ins = (1 ∷ []) ∷ []; outs = [] }
+path_sink file = record { number = 2; functions = []; kind = FileSink file; ins = (1 ∷ []) ∷ []; outs = [] }
 
 abbrev pub path : Source → Option (Code Slot) → List ℕ → List Operator
 path source condition file = path_source source ∷ path_filter condition ∷ path_sink file ∷ []
@@ -131,40 +132,18 @@ path_is_numbered source condition file (suc zero) op e = let same : path_filter 
 path_is_numbered source condition file (suc (suc zero)) op e = let same : path_sink file ≡ op = cc in ap (λ (o : Operator). o.number) (sym same)
 path_is_numbered source condition file (suc (suc (suc n))) op e = absurd cc
 
--- the stream behind the filter is what passes of the source's rows
-pub path_filtered : (source : Source) (condition : Option (Code Slot)) (file : List ℕ) (rows : Lists) (entries : Entries)
-    → (meaning (path_graph source condition file) rows entries).streams 1 ≡ passed 1 condition (rows 0)
-path_filtered source condition file rows entries = filter_out (path_filter condition) condition 0 1 (rows 0) refl refl refl
-
--- the sink writes the rows that pass
-pub path_written : (source : Source) (condition : Option (Code Slot)) (file : List ℕ) (rows : Lists) (entries : Entries)
-    → out (path_sink file) 0 ((meaning (path_graph source condition file) rows entries).events 2) ≡ written (passed 1 condition (rows 0))
-path_written source condition file rows entries =
-    ap (λ items. out (path_sink file) 0 (map (came 0) items)) (path_filtered source condition file rows entries)
-    ∙ sink_out (path_sink file) file 1 (passed 1 condition (rows 0)) refl refl refl
-
--- the text that the sink writes is that of the rows that pass
-pub path_text : (source : Source) (condition : Option (Code Slot)) (file : List ℕ) (rows : Lists) (entries : Entries)
-    → text (path_sink file) ((meaning (path_graph source condition file) rows entries).events 2) ≡ text_of (written (passed 1 condition (rows 0)))
-path_text source condition file rows entries = ap text_of (path_written source condition file rows entries)
-
 -- a sink ends with the fault that its stream does
-sink_fault_from : (n s : ℕ) (file : List ℕ) (seen : List Event) (items : List Item)
-    → option_and_then fault_of (end_from (stage_at (one_in n (FileSink file) s []) seen false) (map (came 0) items)) ≡ stream_fault items
-sink_fault_from n s file seen [] = refl
-sink_fault_from n s file seen (I.Tuple vs ∷ items) = sink_fault_from n s file (came 0 (I.Tuple vs) ∷ seen) items
-sink_fault_from n s file seen (I.Window ∷ items) = sink_fault_from n s file (came 0 I.Window ∷ seen) items
-sink_fault_from n s file seen (I.Final ∷ items) = refl
-sink_fault_from n s file seen (I.Bad f ∷ items) = refl
+sink_fault_from : (n s : ℕ) (functions : List Function) (file : List ℕ) (seen : List Event) (items : List Item)
+    → option_and_then fault_of (end_from (stage_at (one_in n functions (FileSink file) s []) seen false) (map (came 0) items)) ≡ stream_fault items
+sink_fault_from n s functions file seen [] = refl
+sink_fault_from n s functions file seen (I.Tuple vs ∷ items) = sink_fault_from n s functions file (came 0 (I.Tuple vs) ∷ seen) items
+sink_fault_from n s functions file seen (I.Window ∷ items) = sink_fault_from n s functions file (came 0 I.Window ∷ seen) items
+sink_fault_from n s functions file seen (I.Final ∷ items) = refl
+sink_fault_from n s functions file seen (I.Bad f ∷ items) = refl
 
--- the fault of the path's run is the one that ends the rows that pass
-pub path_fault : (source : Source) (condition : Option (Code Slot)) (file : List ℕ) (rows : Lists) (entries : Entries)
-    → run_fault (path_graph source condition file) (meaning (path_graph source condition file) rows entries) ≡ stream_fault (passed 1 condition (rows 0))
-path_fault source condition file rows entries =
-    or_none (option_and_then fault_of (end_from (start (path_sink file)) ((meaning (path_graph source condition file) rows entries).events 2)))
-    ∙ ap (λ items. option_and_then fault_of (end_from (start (path_sink file)) (map (came 0) items))) (path_filtered source condition file rows entries)
-    ∙ sink_fault_from 2 1 file [] (passed 1 condition (rows 0))
-  where
-    or_none : (o : Option Fault) → option_or o None ≡ o
-    or_none None = refl
-    or_none (Some f) = refl
+-- the fault of a sink's operator is the one that ends its stream
+pub sink_fault : (op : Operator) (file : List ℕ) (s : ℕ) (items : List Item)
+    → op.kind ≡ FileSink file → op.ins ≡ (s ∷ []) ∷ [] → op.outs ≡ [] → operator_fault op (map (came 0) items) ≡ stream_fault items
+sink_fault op file s items k i o =
+    ap (λ (one : Operator). operator_fault one (map (came 0) items)) (one_in-parts op (FileSink file) s [] k i o)
+    ∙ sink_fault_from op.number s op.functions file [] items

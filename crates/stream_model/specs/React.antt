@@ -7,6 +7,7 @@ use Rattle.spl_value.specs.declared.item.Item.TheVariants as I
 use Rattle.spl_value.specs.declared.item.FaultKind.{FaultKind}
 use Rattle.spl_value.specs.declared.types.Named.{Named}
 use Rattle.spl_value.specs.declared.types.SplType.{SplType}
+use Rattle.spl_tree.specs.declared.body.Function.{Function}
 use Rattle.spl_tree.specs.declared.code.Code.{Code}
 use Rattle.spl_tree.specs.declared.code.Slot.{Slot}
 use Rattle.stream_model.specs.declared.env.Env.{Env}
@@ -28,9 +29,11 @@ pub data Kind : Type 0 where
   Filter : (condition : Option (Code Slot)) → Kind
   FileSink : (file : List ℕ) → Kind
 
--- an operator: its number, its kind, the streams that each input port takes, and the stream of each output port
+-- an operator: its number, the functions that its clauses may call, its kind, the streams that each input port takes, and the
+-- stream of each output port
 pub record Operator : Type 0 where
   pub number : ℕ
+  pub functions : List Function
   pub kind : Kind
   pub ins : List (List ℕ)
   pub outs : List ℕ
@@ -89,14 +92,14 @@ most_turns = 1000000
 abbrev pub at_tuple : List Value → Env
 at_tuple vs = record { inputs = vs ∷ []; vars = []; punct = None }
 
--- whether a condition holds for a tuple, or its fault. It calls no function
-abbrev pub holds : Code Slot → List Value → Outcome Bool
-holds condition vs = truth (value [] condition) (world_of (at_tuple vs)) most_turns
+-- whether a condition, which may call these functions, holds for a tuple, or its fault
+abbrev pub holds : List Function → Code Slot → List Value → Outcome Bool
+holds functions condition vs = truth (value functions condition) (world_of (at_tuple vs)) most_turns
 
 -- whether a filter passes a tuple: every tuple where it has no condition
-abbrev pub passes : Option (Code Slot) → List Value → Outcome Bool
-passes None vs = Done true most_turns
-passes (Some condition) vs = holds condition vs
+abbrev pub passes : List Function → Option (Code Slot) → List Value → Outcome Bool
+passes functions None vs = Done true most_turns
+passes functions (Some condition) vs = holds functions condition vs
 
 abbrev pub filter_answer : List Value → Outcome Bool → Answer
 filter_answer vs (Done b turns) = Gives (if b then output 0 (I.Tuple vs) ∷ [] else [])
@@ -105,11 +108,11 @@ filter_answer vs Stuck = Gives []
 
 -- A filter passes the tuples for which its condition holds, and window markers, and adds nothing at the end. Where the
 -- condition faults, the filter does.
-abbrev pub filter_body : Option (Code Slot) → Item → Answer
-filter_body condition (I.Tuple vs) = filter_answer vs (passes condition vs)
-filter_body condition I.Window = Gives (output 0 I.Window ∷ [])
-filter_body condition I.Final = Gives []
-filter_body condition (I.Bad f) = Gives []
+abbrev pub filter_body : List Function → Option (Code Slot) → Item → Answer
+filter_body functions condition (I.Tuple vs) = filter_answer vs (passes functions condition vs)
+filter_body functions condition I.Window = Gives (output 0 I.Window ∷ [])
+filter_body functions condition I.Final = Gives []
+filter_body functions condition (I.Bad f) = Gives []
 
 -- a sink gives its tuples to its writer, which stands as port 0
 abbrev pub sink_body : Item → Answer
@@ -121,7 +124,7 @@ sink_body (I.Bad f) = Gives []
 -- what an operator of this kind makes of a tuple, of a window marker, or of the end of a port by its final marker
 abbrev pub body_of : Kind → Operator → List Event → Event → Answer
 body_of (FileSource source) op earlier event = Gives []
-body_of (Filter condition) op earlier event = filter_body condition event.item
+body_of (Filter condition) op earlier event = filter_body op.functions condition event.item
 body_of (FileSink file) op earlier event = sink_body event.item
 
 -- what the operator makes of it

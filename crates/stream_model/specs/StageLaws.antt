@@ -3,6 +3,7 @@ use Rattle.std.specs.Prelude.{ℕ, ◌==◌, Bool, true, false, cond, List, [], 
 use Rattle.std.proofs.Common.{refl, sym, ap, ◌∙◌, append_assoc}
 use Rattle.std.proofs.lemmas.Bool.{cond-true}
 use Rattle.spl_value.specs.declared.item.Item.{Item}
+use Rattle.spl_tree.specs.declared.body.Function.{Function}
 use Rattle.stream_model.specs.declared.outs.Output.{Output}
 use Rattle.stream_model.specs.Stream.{Event}
 use Rattle.stream_model.specs.React.{Operator, Kind}
@@ -13,11 +14,12 @@ abbrev pub stage_at : Operator → List Event → Bool → Stage
 stage_at op seen over = record { op = op; seen = seen; over = over }
 
 -- an operator of a kind with one connection
-abbrev pub one_in : ℕ → Kind → ℕ → List ℕ → Operator
-one_in number kind s outs = record { number = number; kind = kind; ins = (s ∷ []) ∷ []; outs = outs }
+abbrev pub one_in : ℕ → List Function → Kind → ℕ → List ℕ → Operator
+one_in number functions kind s outs = record { number = number; functions = functions; kind = kind; ins = (s ∷ []) ∷ []; outs = outs }
 
 -- its parts are all of it
-pub one_in-parts : (op : Operator) (kind : Kind) (s : ℕ) (outs : List ℕ) → op.kind ≡ kind → op.ins ≡ (s ∷ []) ∷ [] → op.outs ≡ outs → op ≡ one_in op.number kind s outs
+pub one_in-parts : (op : Operator) (kind : Kind) (s : ℕ) (outs : List ℕ) → op.kind ≡ kind → op.ins ≡ (s ∷ []) ∷ [] → op.outs ≡ outs
+    → op ≡ one_in op.number op.functions kind s outs
 one_in-parts op kind s outs k i o = rw (← k, ← i, ← o)
 
 -- events in two lists: what the first gives, and what the second gives behind it

@@ -9,10 +9,10 @@ use Rattle.stream_model.specs.Ends.{run_fault}
 
 -- a source that makes a stream, and a sink that reads one
 abbrev pub source : ℕ → ℕ → Operator
-source n s = record { number = n; kind = FileSource (record { file = []; schema = []; strict = true }); ins = []; outs = s ∷ [] }
+source n s = record { number = n; functions = []; kind = FileSource (record { file = []; schema = []; strict = true }); ins = []; outs = s ∷ [] }
 
 abbrev pub sink : ℕ → ℕ → Operator
-sink n s = record { number = n; kind = FileSink []; ins = (s ∷ []) ∷ []; outs = [] }
+sink n s = record { number = n; functions = []; kind = FileSink []; ins = (s ∷ []) ∷ []; outs = [] }
 
 -- two sources, and sinks of the second one's stream and of the first one's
 abbrev pub two_sinks : Graph

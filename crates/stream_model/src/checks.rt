@@ -1,8 +1,12 @@
 //! What holds of the checks of types and clauses.
-ghost use Rattle.std.specs.Prelude.{◌≡◌, ◌∷◌, [], Ok, Some, codes};
+ghost use Rattle.std.specs.Prelude.{◌≡◌, ◌∷◌, [], true, Ok, None, Some, codes};
 ghost use Rattle.spl_value.specs.declared.types.IntKind.TheVariants as N;
 ghost use Rattle.spl_value.specs.declared.types.SplType.TheVariants as T;
 ghost use Rattle.stream_model.specs.declared.scope.CheckError.TheVariants as E;
+ghost use Rattle.spl_tree.specs.declared.graph.OpKind.TheVariants as O;
+ghost use Rattle.stream_model.specs.declared.checked.Part.TheVariants as A;
+ghost use Rattle.stream_model.specs.CheckedMeaning.{graph_of, behind_source};
+ghost use Rattle.stream_model.specs.React.{FileSource, FileSink};
 ghost use Rattle.stream_model.specs.BodyLaws.{BodyFitLaw, BodyReturnsLaw};
 ghost use Rattle.stream_model.specs.Checking.{checked};
 ghost use Rattle.stream_model.specs.TypeNameLaws.{NamesLaw};
@@ -39,4 +43,15 @@ pub fn bodies_law()
 pub fn checks_on_literals()
     ensures nothing { checked [] (record { ops = []; streams = []; expansions = []; topo = [] })
         ≡ Ok (record { graph = record { ops = []; streams = []; expansions = []; topo = [] }; schemas = []; functions = []; parts = [] }) }
+{}
+
+/// The graph of operators of a source and a sink behind it. It isn't there yet where a Union stands in
+/// place of the sink.
+pub fn graphs_of_operators()
+    ensures built { graph_of (behind_source O.FileSink [] (A.FileSink (codes "out"))) ≡ Some (record {
+      ops = record { number = 0; functions = []; kind = FileSource (record { file = codes "in"; schema = record { name = codes "line"; kind = T.Text } ∷ []; strict = true }); ins = []; outs = 0 ∷ [] }
+          ∷ record { number = 1; functions = []; kind = FileSink (codes "out"); ins = (0 ∷ []) ∷ []; outs = [] } ∷ [];
+      topo = 0 ∷ 1 ∷ [];
+    }) }
+    ensures not_built { graph_of (behind_source O.Union (1 ∷ []) (A.Union ((0 ∷ []) ∷ []))) ≡ None }
 {}

@@ -85,9 +85,9 @@ pub fn graph_law()
 /// A source, a filter behind it and a sink behind that are ordered, and numbered in their order.
 pub fn chain_is_ordered()
     ensures ordered { (source : Source) (condition : Option (Code Slot)) (file : List ℕ) → IsOrdered (
-        record { number = 0; kind = FileSource source; ins = []; outs = 0 ∷ [] }
-        ∷ record { number = 1; kind = Filter condition; ins = (0 ∷ []) ∷ []; outs = 1 ∷ [] }
-        ∷ record { number = 2; kind = FileSink file; ins = (1 ∷ []) ∷ []; outs = [] } ∷ []) }
+        record { number = 0; functions = []; kind = FileSource source; ins = []; outs = 0 ∷ [] }
+        ∷ record { number = 1; functions = []; kind = Filter condition; ins = (0 ∷ []) ∷ []; outs = 1 ∷ [] }
+        ∷ record { number = 2; functions = []; kind = FileSink file; ins = (1 ∷ []) ∷ []; outs = [] } ∷ []) }
     ensures numbered { (source : Source) (condition : Option (Code Slot)) (file : List ℕ)
         → IsNumbered (path_graph source condition file) }
 {}

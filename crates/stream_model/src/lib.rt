@@ -17,7 +17,9 @@ pub use checked::{
     PortTypes, Position, StateVariable, WindowRule,
 };
 pub use checked_graph::Checked;
-pub use checks::{bodies_law, checks_on_literals, types_law, types_on_literals};
+pub use checks::{
+    bodies_law, checks_on_literals, graphs_of_operators, types_law, types_on_literals,
+};
 pub use env::{Env, Tuples};
 pub use expansion::{ExpansionRefusal, Operation, Source};
 pub use flow::Flow;

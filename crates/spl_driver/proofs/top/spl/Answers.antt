@@ -1,20 +1,20 @@
-use Rattle.spl_driver.proofs.Completing.{answered_said, shown_said, run_shown, untouched_said, complete}
+use Rattle.spl_driver.proofs.Answering.{answered_said, words_said, complete}
+use Rattle.spl_driver.proofs.Telling.{said}
 use Rattle.spl_driver.proofs.top.spl.Goals as goal
 
 pub returns-clause-answered : goal.returns-clause-answered
-returns-clause-answered g c = answered_said _ _ _ c.answer-cause.result c.say-cause.result c.status.result _ _ _ c.say-cause.ensures.cause c.answer-cause.ensures.shown c.answer-cause.ensures.answered
+returns-clause-answered g c =
+    answered_said c.request_law.ensures.one _ _ _ c.answer-ended.result.ended c.told-cause.result c.status.result _ _ _ c.told-cause.ensures.cause
+    c.answer-ended.ensures.shown c.answer-ended.ensures.answered
 
-pub returns-clause-shown : goal.returns-clause-shown
-returns-clause-shown g c = shown_said c.answer-cause.result.cause c.say-cause.result _ _ _ _ c.say-cause.ensures.cause c.answer-cause.ensures.shown
-
-pub returns-clause-run : goal.returns-clause-run
-returns-clause-run g c = λ run. (
-  run_shown c.say-cause.result _ _ _ _ (shown_said c.answer-cause.result.cause c.say-cause.result _ _ _ _ c.say-cause.ensures.cause c.answer-cause.ensures.shown) run,
-  c.say-cause.ensures.quiet run,
-)
-
-pub returns-clause-words : goal.returns-clause-words
-returns-clause-words g c = λ none. untouched_said c.answer-cause.result.cause c.say-cause.result _ _ _ c.say-cause.ensures.cause (c.answer-cause.ensures.words none)
+pub returns-clause-said : goal.returns-clause-said
+returns-clause-said g c =
+    said c.answer-ended.result.ended.cause c.told-cause.result _ c.answer-ended.result.line _ _ _ c.answer-ended.ensures.line c.told-cause.ensures.poured
 
 pub returns-clause-complete : goal.returns-clause-complete
-returns-clause-complete g c = complete _ _ _ c.answer-cause.result c.say-cause.result c.status.result _ _ _ c.say-cause.ensures.cause c.answer-cause.ensures.answered
+returns-clause-complete g c =
+    complete c.request_law.ensures.one _ _ _ c.answer-ended.result.ended c.told-cause.result c.status.result _ _ _ c.told-cause.ensures.cause c.answer-ended.ensures.answered
+
+pub returns-clause-words : goal.returns-clause-words
+returns-clause-words g c =
+    words_said _ c.answer-ended.result.ended.cause c.told-cause.result _ _ _ c.told-cause.ensures.cause c.answer-ended.ensures.words

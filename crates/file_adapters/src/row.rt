@@ -1,0 +1,129 @@
+//! The text of a row.
+ghost use Rattle.std.specs.Prelude.{◌≡◌, ◌++◌, ◌∷◌, [], map, OnOk};
+ghost use Rattle.csv.specs.Writing.{default_writer, needs_quotes, quoted, field_text, row_text};
+ghost use Rattle.stream_model.specs.Fields.{field_of};
+
+use itoa::Buffer;
+use spl_value::{NoMemory, Value};
+
+// Whether a field is written in quotes.
+fn in_quotes(field: &[u8]) -> bool
+    ensures { result ≡ needs_quotes default_writer field.now }
+{
+    field.iter().any(|b| *b == b',' || *b == b'"' || (*b == b'\r' || *b == b'\n'))
+}
+
+fn add_byte(row: &mut Vec<u8>, b: u8) -> Result<(), NoMemory>
+    ensures { OnOk result (row.new.items ≡ row.old.items ++ b ∷ []) }
+{
+    row.push(b)?;
+    Ok(())
+}
+
+// Adds a field between quotes.
+fn add_quoted(row: &mut Vec<u8>, field: &[u8]) -> Result<(), NoMemory>
+    ensures { OnOk result (row.new.items ≡ row.old.items ++ quoted default_writer field.now) }
+{
+    add_byte(row, b'"')?;
+    for b in field {
+        if *b == b'"' {
+            add_byte(row, b'"')?;
+        }
+        add_byte(row, *b)?;
+    }
+    add_byte(row, b'"')?;
+    Ok(())
+}
+
+// Adds a field, quoted where it needs it.
+fn add_field(row: &mut Vec<u8>, field: &[u8]) -> Result<(), NoMemory>
+    ensures { OnOk result (row.new.items ≡ row.old.items ++ field_text default_writer field.now) }
+{
+    if in_quotes(field) {
+        add_quoted(row, field)
+    } else {
+        row.extend_from_slice(field)?;
+        Ok(())
+    }
+}
+
+// Adds a value's field.
+fn add_value(row: &mut Vec<u8>, value: &Value) -> Result<(), NoMemory>
+    ensures { OnOk result (row.new.items ≡ row.old.items ++ field_text default_writer
+        (field_of value.now)) }
+{
+    match value {
+        Value::Int(n) => {
+            let mut digits = Buffer::new();
+            add_field(row, digits.format(*n).as_bytes())
+        }
+        Value::Bool(b) => add_field(
+            row,
+            if *b {
+                b"true".as_slice()
+            } else {
+                b"false".as_slice()
+            },
+        ),
+        Value::Text(bytes) => add_field(row, bytes.as_slice()),
+        Value::List(_) | Value::Map(_) | Value::Tuple(_) => add_field(row, &[]),
+    }
+}
+
+/// Adds the text of a tuple's row to an empty buffer: numbers as decimals, `true` or `false`, and
+/// texts, quoted where `csv` needs it, ended by a line feed.
+pub(crate) fn add_row(row: &mut Vec<u8>, tuple: &[Value]) -> Result<(), NoMemory>
+    requires { row.old.items ≡ [] }
+    ensures { OnOk result (row.new.items ≡ row_text default_writer (map field_of tuple.now)) }
+{
+    let mut later = false;
+    for value in tuple {
+        if later {
+            add_byte(row, b',')?;
+        }
+        add_value(row, value)?;
+        later = true;
+    }
+    if row.as_slice().is_empty() {
+        row.extend_from_slice(b"\"\"")?;
+    }
+    add_byte(row, b'\n')?;
+    Ok(())
+}
+
+#[cfg(test)]
+mod tests {
+    use super::*;
+    use spl_value::Items;
+    use std::test::Fail;
+
+    #[test]
+    fn writes_rows(rt: HostRuntime) -> Result<(), Fail> {
+        for (text, want) in [
+            ("a,b", "-5,\"a,b\",true\n"),
+            ("q\"q", "-5,\"q\"\"q\",true\n"),
+            ("", "-5,,true\n"),
+            ("a b", "-5,a b,true\n"),
+        ] {
+            let alloc = rt.alloc();
+            let mut row = Vec::new(alloc);
+            let text = Items::from_slice(alloc, text.as_bytes())?;
+            let tuple = vec![in alloc; Value::Int(-5), Value::Text(text), Value::Bool(true)]?;
+            let added = add_row(&mut row, tuple.as_slice());
+            assert!(rt; added.is_ok());
+            assert_eq!(rt; row.as_slice(), want.as_bytes());
+        }
+        Ok(())
+    }
+
+    #[test]
+    fn writes_an_empty_text(rt: HostRuntime) -> Result<(), Fail> {
+        let alloc = rt.alloc();
+        let mut row = Vec::new(alloc);
+        let tuple = [Value::Text(Items::new(alloc))];
+        let added = add_row(&mut row, tuple.as_slice());
+        assert!(rt; added.is_ok());
+        assert_eq!(rt; row.as_slice(), b"\"\"\n".as_slice());
+        Ok(())
+    }
+}

@@ -1,0 +1,7 @@
+pub mod Sinks
+pub mod Runs
+pub mod Fitting
+pub mod Filter
+pub mod Table
+pub mod SinkLaws
+pub mod Chain

@@ -1,0 +1,25 @@
+//! What sinks write, and whom faults name.
+ghost use Rattle.stream_model.specs.Keeping.{Keeps};
+ghost use Rattle.list_run.specs.Chain.{chain, chain_graph, chain_rows};
+ghost use Rattle.list_run.specs.Runs.{CanRun, RowsFit};
+ghost use Rattle.list_run.specs.SinkLaws.{SinkTextLaw, SinkCountLaw, FaultNamesLaw};
+
+use stream_model::graph_law;
+
+/// A sink writes the text of its stream, which is a row for each tuple, where the stream is closed. The
+/// fault of a run names one of the operators, where the rows' faults name their own sources.
+pub fn sinks_law()
+    ensures text { SinkTextLaw }
+    ensures count { SinkCountLaw }
+    ensures fault_names { FaultNamesLaw }
+{
+    graph_law();
+}
+
+/// A worked graph, of a source, two filters and two sinks, keeps what a checked graph has to keep and
+/// can be run, and its source has rows that fit.
+pub fn runs_on_literals()
+    ensures keeps { Keeps chain }
+    ensures runs { CanRun chain chain_graph }
+    ensures rows { RowsFit chain_graph chain_rows }
+{}

@@ -1,0 +1,104 @@
+-- What is done with an accepted program, by its request.
+use Rattle.std.proofs.Common.{◌≡◌, ◌∙◌, append-nil, ℕ, Bool, true, false, List, [], ◌∷◌, ◌++◌, refl, sym, ap, subst, inl, inr, ◌⊎◌, Option, Some, None, Result, Ok, Err}
+use Rattle.std.specs.Prelude.{IfSome, IfOk, ◌||◌, ◌&&◌, not}
+use Rattle.spl_value.specs.declared.memory.NoMemory.{NoMemory}
+use Rattle.feed_pour.specs.Counts.{PerName}
+use Rattle.feed_pour.specs.Contents.{Told, WhereTold}
+use Rattle.stream_model.specs.declared.record.Arrivals.{Arrivals}
+use Rattle.stream_model.specs.CheckedGraph.{CheckedGraph}
+use Rattle.run_report.specs.declared.cause.Cause.{Cause}
+use Rattle.run_report.specs.declared.cause.Cause.TheVariants as C
+use Rattle.run_report.specs.Texts.{check_text}
+use Rattle.command_line.specs.declared.request.Request.{Request}
+use Rattle.command_line.specs.declared.request.Request.TheVariants as R
+use Rattle.command_line.specs.declared.request.RunOptions.{RunOptions}
+use Rattle.file_laws.specs.Files.{source_files, sink_files, is_named}
+use Rattle.spl_driver.specs.Built.{is_built, is_plain, is_given}
+use Rattle.spl_driver.specs.Files.{opens, creates, if_given}
+use Rattle.spl_driver.specs.Outcome.{Outcome, Checks}
+use Rattle.spl_driver.specs.Answer.{Stands}
+use Rattle.spl_driver.specs.Lines.{IsLine}
+use Rattle.spl_driver.specs.Steps.{IsRunOf, IsCarried, CarriedComes, CountsShow, FilesShow}
+use Rattle.spl_driver.specs.declared.ended.Ended.{Ended}
+
+-- ---- a check
+
+check_files : (told : Option Told) (p : List ℕ) (c : CheckedGraph) (ended : Ended) (counts : PerName) → ended.cause ≡ C.Done
+    → WhereTold told told (λ t u. FilesShow (IsCarried (R.Check p) c ended.arrivals t) (creates (Some (R.Check p)) c.parts) ended counts counts t u)
+check_files None p c ended counts is = tt
+check_files (Some t) p c ended counts is = record {
+  stands = subst (λ (k : Cause). Stands k (IsCarried (R.Check p) c ended.arrivals t) ended t t) (sym is) (inl (c, refl, λ n. refl));
+  others = λ n named. refl;
+  last = λ device none n. refl;
+  reads = λ n differs. absurd (differs refl);
+}
+
+pub checked_files : (told : Option Told) (request : Request) (p : List ℕ) (c : CheckedGraph) (ended : Ended) (counts : PerName) → request ≡ R.Check p → ended.cause ≡ C.Done
+    → WhereTold told told (λ t u. FilesShow (IsCarried request c ended.arrivals t) (creates (Some request) c.parts) ended counts counts t u)
+checked_files told request p c ended counts e is =
+    subst (λ (q : Request). WhereTold told told (λ t u. FilesShow (IsCarried q c ended.arrivals t) (creates (Some q) c.parts) ended counts counts t u)) (sym e)
+    (check_files told p c ended counts is)
+
+check_comes : (told : Option Told) (p : List ℕ) (c : CheckedGraph) (arrivals : Arrivals) → CarriedComes (R.Check p) c arrivals told (Checks c)
+check_comes None p c arrivals = tt
+check_comes (Some t) p c arrivals = refl
+
+pub checked_line : (told : Option Told) (request : Request) (p : List ℕ) (c : CheckedGraph) (ended : Ended) (line : Result (List ℕ) NoMemory) → request ≡ R.Check p → ended.cause ≡ C.Done
+    → IfOk line (λ l. l ≡ check_text c) → IfOk line (IsLine ended.cause (CarriedComes request c ended.arrivals told))
+checked_line told request p c ended (Err x) e is h = tt
+checked_line told request p c ended (Ok line) e is h =
+    subst (λ (k : Cause). IsLine k (CarriedComes request c ended.arrivals told) line) (sym is)
+    (subst (λ (q : Request). IsLine C.Done (CarriedComes q c ended.arrivals told) line) (sym e) (Checks c, check_comes told p c ended.arrivals, h))
+
+-- ---- a run
+
+fourth : (a b c d e : Bool) → (not a && (not b && (not c && (not d && not e)))) ≡ true → d ≡ false
+fourth true b c d e h = cc
+fourth false true c d e h = cc
+fourth false false true d e h = cc
+fourth false false false true e h = cc
+fourth false false false false e h = refl
+
+none_given : (o : Option (List ℕ)) → is_given o ≡ false → if_given o ≡ []
+none_given None h = refl
+none_given (Some name) h = cc
+
+-- a run without options creates the sinks alone
+creates_sinks : (p : List ℕ) (options : RunOptions) (c : CheckedGraph) → is_plain options ≡ true → creates (Some (R.Run p options)) c.parts ≡ sink_files c.parts
+creates_sinks p options c plain =
+    ap (λ (ns : List (List ℕ)). sink_files c.parts ++ ns) (none_given options.arrivals (fourth (is_given options.width) (is_given options.workers) (is_given options.capacity) (is_given options.arrivals) options.counts plain)) ∙ append-nil (sink_files c.parts)
+
+plain_run : (request : Request) (p : List ℕ) (options : RunOptions) → request ≡ R.Run p options → is_built request ≡ true → is_plain options ≡ true
+plain_run request p options e built = sym (ap is_built e) ∙ built
+
+pub ran_files : (told now : Option Told) (request : Request) (p : List ℕ) (options : RunOptions) (c : CheckedGraph) (ended : Ended) (counts later : PerName) → request ≡ R.Run p options
+    → is_built request ≡ true → WhereTold told now (λ t u. FilesShow (IsRunOf c ended.arrivals t) (sink_files c.parts) ended counts later t u)
+    → WhereTold told now (λ t u. FilesShow (IsCarried request c ended.arrivals t) (creates (Some request) c.parts) ended counts later t u)
+ran_files told now request p options c ended counts later e built h =
+    subst (λ (q : Request). WhereTold told now (λ t u. FilesShow (IsCarried q c ended.arrivals t) (creates (Some q) c.parts) ended counts later t u)) (sym e)
+    (subst (λ (ns : List (List ℕ)). WhereTold told now (λ t u. FilesShow (IsRunOf c ended.arrivals t) ns ended counts later t u))
+    (sym (creates_sinks p options c (plain_run request p options e built))) h)
+
+or_rest : (a b c : Bool) → ((a || b) || c) ≡ false → (b || c) ≡ false
+or_rest true b c e = cc
+or_rest false b c e = e
+
+or_here : (a b : Bool) → b ≡ true → (a || b) ≡ true
+or_here true b e = refl
+or_here false b e = e
+
+pub ran_counts : (request : Request) (p : List ℕ) (options : RunOptions) (c : CheckedGraph) (cause : Cause) (old new : PerName) → request ≡ R.Run p options → is_built request ≡ true
+    → CountsShow cause (source_files c.parts) (sink_files c.parts) old new → CountsShow cause (opens (Some request) c.parts) (creates (Some request) c.parts) old new
+ran_counts request p options c cause old new e built h =
+    subst (λ (q : Request). CountsShow cause (opens (Some q) c.parts) (creates (Some q) c.parts) old new) (sym e)
+    (subst (λ (ns : List (List ℕ)). CountsShow cause (p ∷ source_files c.parts) ns old new) (sym (creates_sinks p options c (plain_run request p options e built))) (record {
+      words = h.words;
+      others = λ n named. h.others n (or_rest _ (is_named (source_files c.parts) n) (is_named (sink_files c.parts) n) named);
+      quiet = h.quiet;
+      device = λ device. wider (h.device device);
+    }))
+  where
+    wider : Rattle.spl_driver.specs.Answer.OpenFailed (source_files c.parts) old new ⊎ Rattle.spl_driver.specs.Answer.CreateFailed (sink_files c.parts) old new
+        → Rattle.spl_driver.specs.Answer.OpenFailed (p ∷ source_files c.parts) old new ⊎ Rattle.spl_driver.specs.Answer.CreateFailed (sink_files c.parts) old new
+    wider (inl (n, named, rose)) = inl (n, or_here _ (is_named (source_files c.parts) n) named, rose)
+    wider (inr failed) = inr failed

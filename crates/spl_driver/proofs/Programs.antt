@@ -1,0 +1,62 @@
+-- What the file of a program comes to.
+use Rattle.std.proofs.Common.{◌≡◌, ◌<◌, ℕ, List, Option, Some, None, Ok, Err, refl, sym, ap, subst, ◌∙◌, false}
+use Rattle.std.specs.Prelude.{IfSome, Result}
+use Rattle.spl_value.specs.Script.{Script}
+use Rattle.spl_tree.specs.declared.token.LexicalError.TheVariants.{TooLong}
+use Rattle.feed_pour.specs.Contents.{Told}
+use Rattle.feed_pour.specs.Named.{FetchedOf}
+use Rattle.feed_pour.specs.declared.named.Fetched.TheVariants as F
+use Rattle.stream_model.specs.declared.scope.CheckRefusal.{CheckRefusal}
+use Rattle.stream_model.specs.Accepted.{ProgramRefusal, Lexical, IsAccepted, refused_check, no_tokens, too_deep, unexpected, no_graph, checks}
+use Rattle.stream_model.specs.CheckedGraph.{CheckedGraph}
+use Rattle.stream_model.specs.Checking.{checked}
+use Rattle.run_report.specs.declared.refusal.Refusal.{Refusal}
+use Rattle.run_report.specs.Refusals.{refusal_of}
+use Rattle.file_laws.specs.Files.{OwnFiles}
+use Rattle.file_laws.specs.Laws.{OwnFilesLaw}
+use Rattle.spl_compile.specs.Laws.{TooLongLaw}
+use Rattle.spl_compile.specs.Compiled.{IsCompiled}
+use Rattle.spl_compile.specs.declared.answer.CompileAnswer.TheVariants as N
+use Rattle.spl_driver.specs.Steps.{CompiledAt}
+use Rattle.spl_driver.specs.declared.compiled.Compiled.TheVariants as P
+use Rattle.spl_driver.proofs.Fetching.{no_fault, long_fault}
+
+pub compiled_long : (told : Option Told) (program : List ℕ) (names : List (List ℕ)) (refusal : Refusal) → TooLongLaw
+    → IfSome told (λ t. FetchedOf (t.script program) F.TooLong 1048576) → refusal ≡ refusal_of (Lexical TooLong 1048576)
+    → IfSome told (λ t. CompiledAt (P.Refused refusal) (t.script program) names)
+compiled_long None program names refusal law h is = tt
+compiled_long (Some t) program names refusal law h is =
+    (long_fault (t.script program) h, (Lexical TooLong 1048576, law (t.script program).bytes names h, is))
+
+bytes_read : (s : Script) (bytes : List ℕ) → FetchedOf s (F.Whole bytes) 1048576 → bytes ≡ s.bytes
+bytes_read s bytes h = sym (ap (λ (x : Script). x.bytes) h.0)
+
+pub compiled_whole : (told : Option Told) (program bytes : List ℕ) (names : List (List ℕ)) (c : CheckedGraph)
+    → IfSome told (λ t. FetchedOf (t.script program) (F.Whole bytes) 1048576) → IsCompiled bytes names (Ok c)
+    → IfSome told (λ t. CompiledAt (P.Checked c) (t.script program) names)
+compiled_whole None program bytes names c h is = tt
+compiled_whole (Some t) program bytes names c h is =
+    (no_fault (t.script program) bytes h, subst (λ (bs : List ℕ). IsAccepted bs names (Ok c)) (bytes_read (t.script program) bytes h) is)
+
+pub refused_whole : (told : Option Told) (program bytes : List ℕ) (names : List (List ℕ)) (refusal : Refusal)
+    → IfSome told (λ t. FetchedOf (t.script program) (F.Whole bytes) 1048576) → IsCompiled bytes names (Err (N.Refused refusal))
+    → IfSome told (λ t. CompiledAt (P.Refused refusal) (t.script program) names)
+refused_whole None program bytes names refusal h is = tt
+refused_whole (Some t) program bytes names refusal h (p, is, same) =
+    (no_fault (t.script program) bytes h, (p, subst (λ (bs : List ℕ). IsAccepted bs names (Err p)) (bytes_read (t.script program) bytes h) is, same))
+
+was_checked : (r : Result CheckedGraph CheckRefusal) (c : CheckedGraph) → refused_check r ≡ Ok c → r ≡ Ok c
+was_checked (Ok x) c e = let is : Ok x ≡ Ok c = e in cc
+was_checked (Err refusal) c e = cc
+
+files_by : (bytes : List ℕ) (names : List (List ℕ)) (r : Result CheckedGraph ProgramRefusal) (c : CheckedGraph) → OwnFilesLaw → IsAccepted bytes names r
+    → r ≡ Ok c → OwnFiles names c.parts
+files_by bytes names _ c law (no_tokens error at is) e = cc
+files_by bytes names _ c law (too_deep ts at is deep) e = cc
+files_by bytes names _ c law (unexpected ts at is found) e = cc
+files_by bytes names _ c law (no_graph ts unit refusal is spells flat) e = cc
+files_by bytes names _ c law (checks ts unit g is spells flat) e = law unit names g c flat (was_checked (checked unit g) c e)
+
+-- the sinks of a compiled program have files of their own
+pub own_files : (bytes : List ℕ) (names : List (List ℕ)) (c : CheckedGraph) → OwnFilesLaw → IsCompiled bytes names (Ok c) → OwnFiles names c.parts
+own_files bytes names c law is = files_by bytes names (Ok c) c law is refl

@@ -1,0 +1,46 @@
+-- The files that a request opens and creates, by the clauses of the operators of its program.
+use Rattle.std.specs.Prelude.{ℕ, List, [], ◌∷◌, ◌++◌, Option, Some, None, Result, Ok, Err}
+use Rattle.stream_model.specs.declared.checked.Part.{Part}
+use Rattle.stream_model.specs.Accepted.{ProgramRefusal}
+use Rattle.stream_model.specs.CheckedGraph.{CheckedGraph}
+use Rattle.command_line.specs.declared.request.Request.{Request}
+use Rattle.command_line.specs.declared.request.Request.TheVariants as R
+use Rattle.file_laws.specs.Files.{source_files, sink_files}
+
+-- the file of a request's program
+abbrev pub program_of : Request → Option (List ℕ)
+program_of (R.Check program) = Some program
+program_of (R.Plan program) = Some program
+program_of (R.Run program options) = Some program
+program_of (R.Replay program arrivals) = Some program
+program_of (R.Simulate program width schedule steps) = Some program
+program_of (R.Make name rows start) = None
+
+-- the operators of a program that isn't accepted are none
+abbrev pub parts_of : Result CheckedGraph ProgramRefusal → List Part
+parts_of (Ok c) = c.parts
+parts_of (Err refusal) = []
+
+abbrev pub if_given : Option (List ℕ) → List (List ℕ)
+if_given None = []
+if_given (Some name) = name ∷ []
+
+-- the program, the files of the sources where they are run, and a record that is followed
+abbrev pub opens : Option Request → List Part → List (List ℕ)
+opens None parts = []
+opens (Some (R.Check program)) parts = program ∷ []
+opens (Some (R.Plan program)) parts = program ∷ []
+opens (Some (R.Run program options)) parts = program ∷ source_files parts
+opens (Some (R.Replay program arrivals)) parts = program ∷ source_files parts ++ arrivals ∷ []
+opens (Some (R.Simulate program width schedule steps)) parts = program ∷ source_files parts
+opens (Some (R.Make name rows start)) parts = []
+
+-- the files of the sinks where they are run, a record that is written, and a file that is made
+abbrev pub creates : Option Request → List Part → List (List ℕ)
+creates None parts = []
+creates (Some (R.Check program)) parts = []
+creates (Some (R.Plan program)) parts = []
+creates (Some (R.Run program options)) parts = sink_files parts ++ if_given options.arrivals
+creates (Some (R.Replay program arrivals)) parts = sink_files parts
+creates (Some (R.Simulate program width schedule steps)) parts = sink_files parts
+creates (Some (R.Make name rows start)) parts = name ∷ []

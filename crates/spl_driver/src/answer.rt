@@ -1,0 +1,134 @@
+//! The answer to a request, and its line.
+ghost use Rattle.std.specs.Prelude.{◌≡◌, ◌<◌, ◌-◌, ◌^◌, [], true, IfOk, Some, None};
+ghost use Rattle.feed_pour.specs.Contents.{WhereTold};
+ghost use Rattle.run_report.specs.Texts.{status_text, check_text};
+ghost use Rattle.command_line.specs.Request.{file_names};
+ghost use Rattle.file_laws.specs.Files.{OwnFiles};
+ghost use Rattle.spl_driver.specs.Answer.{Answered, Shown};
+ghost use Rattle.spl_driver.specs.Built.{is_built};
+ghost use Rattle.spl_driver.specs.Files.{opens, creates, program_of};
+ghost use Rattle.spl_driver.specs.Lines.{Comes, IsLine};
+ghost use Rattle.spl_driver.specs.Steps.{IsCarried, CarriedComes, CountsShow, FilesShow};
+
+use crate::compiled::{Compiled, compile_file};
+use crate::ended::{Ended, uncounted_end};
+use crate::laws::request_law;
+use crate::run::run;
+use command_line::{Request, file_names};
+use feed_pour::Shelf;
+use run_report::{Cause, check_text, status_text};
+use spl_value::{Bytes, Items, Name, NoMemory};
+use std::alloc::Global;
+use stream_model::Checked;
+
+/// How a request ends, and the line that tells it.
+#[derive(Debug, Drop)]
+pub struct Answer {
+    pub ended: Ended,
+    pub line: Result<Bytes, NoMemory>,
+}
+
+/// The answer of a cause that names no operator, where nothing was counted.
+pub fn plain(alloc: Global, cause: Cause) -> Answer
+    ensures cause { result.ended.cause ≡ cause }
+    ensures line { IfOk result.line (λ line. line ≡ status_text None cause) }
+    ensures lists { result.ended.arrivals.lists ≡ [] }
+{
+    let line = status_text(alloc, None, &cause);
+    Answer {
+        ended: uncounted_end(alloc, cause),
+        line,
+    }
+}
+
+// The answer to the check of a program that is accepted.
+fn checked(alloc: Global, checked: &Checked) -> Answer
+    ensures cause { result.ended.cause ≡ Cause.Done }
+    ensures line { IfOk result.line (λ line. line ≡ check_text checked.now) }
+    ensures lists { result.ended.arrivals.lists ≡ [] }
+{
+    Answer {
+        ended: uncounted_end(alloc, Cause::Done),
+        line: check_text(alloc, checked),
+    }
+}
+
+// What is done with an accepted program.
+fn carry_out<H: Shelf>(
+    alloc: Global,
+    shelf: &mut H,
+    request: &Request,
+    accepted: &Checked,
+) -> Answer
+    requires built { is_built request.now ≡ true }
+    requires own { OwnFiles (file_names request.now) accepted.now.parts }
+    ensures files { WhereTold (H.told shelf.old) (H.told shelf.new)
+        (λ old new. FilesShow (IsCarried request.now accepted.now result.ended.arrivals old)
+        (creates (Some request.now) accepted.now.parts)
+        result.ended (H.counts shelf.old) (H.counts shelf.new) old new) }
+    ensures counts { CountsShow result.ended.cause (opens (Some request.now) accepted.now.parts)
+        (creates (Some request.now) accepted.now.parts) (H.counts shelf.old) (H.counts shelf.new) }
+    ensures line { IfOk result.line (IsLine result.ended.cause
+        (CarriedComes request.now accepted.now result.ended.arrivals (H.told shelf.old))) }
+    ensures lists { result.ended.arrivals.lists ≡ [] }
+    ensures lent { H.lent shelf.old < 2 ^ 64 - 256 → H.lent shelf.new ≡ H.lent shelf.old }
+{
+    match request {
+        Request::Check(_) => checked(alloc, accepted),
+        Request::Run { .. } => run(alloc, shelf, accepted),
+        _ => plain(alloc, Cause::NotBuilt),
+    }
+}
+
+// The same where its sinks may not have the files of these names.
+fn answer_file<H: Shelf>(
+    alloc: Global,
+    shelf: &mut H,
+    request: &Request,
+    program: &Name,
+    names: &Items<Name>,
+) -> Answer
+    requires built { is_built request.now ≡ true }
+    requires names { names.now ≡ file_names request.now }
+    requires program { program_of request.now ≡ Some program.now }
+    ensures answered { WhereTold (H.told shelf.old) (H.told shelf.new)
+        (Answered (Some request.now) result.ended (H.counts shelf.old) (H.counts shelf.new) ⊥) }
+    ensures shown { Shown result.ended.cause (Some request.now) (H.counts shelf.old)
+        (H.counts shelf.new) ⊥ }
+    ensures line { IfOk result.line (IsLine result.ended.cause
+        (Comes (Some request.now) (H.told shelf.old) result.ended.arrivals)) }
+    ensures lists { result.ended.arrivals.lists ≡ [] }
+    ensures lent { H.lent shelf.old < 2 ^ 64 - 256 → H.lent shelf.new ≡ H.lent shelf.old }
+{
+    request_law();
+    match compile_file(alloc, shelf, program, names) {
+        Compiled::Refused(refusal) => plain(alloc, Cause::Refused(refusal)),
+        Compiled::Device => plain(alloc, Cause::Device),
+        Compiled::Memory => plain(alloc, Cause::NoMemory),
+        Compiled::Checked(accepted) => carry_out(alloc, shelf, request, &accepted),
+    }
+}
+
+/// Compiles the program of a request that is built, and does what the request asks with it.
+pub fn answer_program<H: Shelf>(
+    alloc: Global,
+    shelf: &mut H,
+    request: &Request,
+    program: &Name,
+) -> Answer
+    requires built { is_built request.now ≡ true }
+    requires program { program_of request.now ≡ Some program.now }
+    ensures answered { WhereTold (H.told shelf.old) (H.told shelf.new)
+        (Answered (Some request.now) result.ended (H.counts shelf.old) (H.counts shelf.new) ⊥) }
+    ensures shown { Shown result.ended.cause (Some request.now) (H.counts shelf.old)
+        (H.counts shelf.new) ⊥ }
+    ensures line { IfOk result.line (IsLine result.ended.cause
+        (Comes (Some request.now) (H.told shelf.old) result.ended.arrivals)) }
+    ensures lists { result.ended.arrivals.lists ≡ [] }
+    ensures lent { H.lent shelf.old < 2 ^ 64 - 256 → H.lent shelf.new ≡ H.lent shelf.old }
+{
+    match file_names(alloc, request) {
+        Ok(names) => answer_file(alloc, shelf, request, program, &names),
+        Err(_) => plain(alloc, Cause::NoMemory),
+    }
+}

@@ -1,0 +1,70 @@
+//! The program of a request, read and compiled.
+ghost use Rattle.std.specs.Prelude.{◌≡◌, ◌∷◌, [], ◌<◌, ◌-◌, ◌^◌, IfSome};
+ghost use Rattle.run_report.specs.Refusals.{refusal_of};
+ghost use Rattle.stream_model.specs.Accepted.{Lexical};
+ghost use Rattle.spl_tree.specs.declared.token.LexicalError.TheVariants.{TooLong};
+ghost use Rattle.feed_pour.specs.Contents.{WhereTold, TellsSame};
+ghost use Rattle.spl_driver.specs.Answer.{ReadsFailed};
+ghost use Rattle.spl_driver.specs.Steps.{CompiledAt, HasOwnFiles, OpensCounted, compile_failed};
+
+use feed_pour::{Fetched, Shelf, fetch};
+use file_laws::own_files_law;
+use run_report::{Code, Refusal};
+use spl_compile::{CompileAnswer, accepted_law, compile};
+use spl_tree::{LexicalError, MOST_BYTES};
+use spl_value::{Items, Name};
+use std::alloc::Global;
+use stream_model::Checked;
+
+/// What the file of a program comes to.
+#[derive(Debug, Drop)]
+pub enum Compiled {
+    Checked(Checked),
+    Refused(Refusal),
+    /// It couldn't be opened or read.
+    Device,
+    Memory,
+}
+
+// The refusal of a program that is longer than programs may be.
+fn too_long() -> Refusal
+    ensures { result ≡ refusal_of (Lexical TooLong 1048576) }
+{
+    Refusal {
+        code: Code::Lexical(LexicalError::TooLong),
+        at: MOST_BYTES,
+        name: None,
+    }
+}
+
+/// Reads the program in the file of this name, and compiles it. Its sinks may not have the files of
+/// these names.
+pub fn compile_file<H: Shelf>(
+    alloc: Global,
+    shelf: &mut H,
+    program: &Name,
+    names: &Items<Name>,
+) -> Compiled
+    ensures made { IfSome (H.told shelf.old)
+        (λ t. CompiledAt result (t.script program.now) names.now) }
+    ensures own { HasOwnFiles result names.now }
+    ensures told { WhereTold (H.told shelf.old) (H.told shelf.new) TellsSame }
+    ensures reads { IfSome (H.told shelf.old)
+        (ReadsFailed (H.counts shelf.old) (H.counts shelf.new)) }
+    ensures cause { OpensCounted (compile_failed result) (program.now ∷ []) (H.counts shelf.old)
+        (H.counts shelf.new) }
+    ensures lent { H.lent shelf.old < 2 ^ 64 - 1 → H.lent shelf.new ≡ H.lent shelf.old }
+{
+    accepted_law();
+    own_files_law();
+    match fetch(alloc, shelf, program, MOST_BYTES) {
+        Fetched::OpenFailed | Fetched::ReadFailed => Compiled::Device,
+        Fetched::Memory => Compiled::Memory,
+        Fetched::TooLong => Compiled::Refused(too_long()),
+        Fetched::Whole(bytes) => match compile(alloc, bytes.as_slice(), names) {
+            Err(CompileAnswer::Memory) => Compiled::Memory,
+            Err(CompileAnswer::Refused(refusal)) => Compiled::Refused(refusal),
+            Ok(checked) => Compiled::Checked(checked),
+        },
+    }
+}
