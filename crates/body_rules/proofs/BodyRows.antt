@@ -7,10 +7,10 @@ use Rattle.spl_tree.specs.declared.code.Code.{Code}
 use Rattle.spl_tree.specs.declared.code.Slot.{Slot}
 use Rattle.spl_tree.specs.Grammar.{Expr}
 use Rattle.spl_tree.specs.StatementGrammar.{Stmt}
-use Rattle.stream_model.specs.declared.scope.Scope.{Scope}
-use Rattle.stream_model.specs.BodyTyping.{Setting, alone, arms_typing, condition_typing, part_stated, row_typing, stated}
-use Rattle.stream_model.specs.BodyTypingLaws.{arms_stated, row_stated}
-use Rattle.stream_model.specs.Typing.{Found, after}
+use Rattle.language_model.specs.declared.scope.Scope.{Scope}
+use Rattle.language_model.specs.BodyTyping.{Setting, alone, arms_typing, condition_typing, part_stated, row_typing, stated}
+use Rattle.language_model.specs.BodyTypingLaws.{arms_stated, row_stated}
+use Rattle.language_model.specs.Typing.{Found, after}
 use Rattle.type_rules.specs.declared.answer.TypeAnswer.{TypeAnswer}
 use Rattle.type_rules.specs.declared.answer.TypeAnswer.TheVariants.{Refused, Memory}
 use Rattle.type_rules.specs.Finds.{Finds, with_front}

@@ -5,10 +5,10 @@ use Rattle.std.specs.Option.{option_map, option_map_or}
 use Rattle.std.proofs.Common.{refl, ap, sym, subst, ◌∙◌, arith}
 use Rattle.std.proofs.lemmas.Option.{same_Some, slice_get_within}
 use Rattle.spl_tree.specs.declared.unit.TypeDefinition.{TypeDefinition}
-use Rattle.stream_model.specs.Leading.{leads_back}
-use Rattle.stream_model.specs.Scopes.{At, at_place}
-use Rattle.stream_model.specs.TypeNames.{Names, definition_of, leads_to, is_circular, shape_names}
-use Rattle.stream_model.specs.DefinedTypes.{there}
+use Rattle.language_model.specs.Leading.{leads_back}
+use Rattle.language_model.specs.Scopes.{At, at_place}
+use Rattle.language_model.specs.TypeNames.{Names, definition_of, leads_to, is_circular, shape_names}
+use Rattle.language_model.specs.DefinedTypes.{there}
 use Rattle.body_rules.specs.Circles.{TellsBack, TellsCircular, with_circle}
 use Rattle.body_rules.specs.Definitions.{places_of, rows_of}
 use Rattle.body_rules.specs.Stepping.{steps_from, LeadsWithin}

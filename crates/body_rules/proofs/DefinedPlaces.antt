@@ -7,10 +7,10 @@ use Rattle.std.proofs.lemmas.Option.{same_Some}
 use Rattle.spl_tree.specs.declared.shape.TypeKind.TheVariants as V
 use Rattle.spl_tree.specs.declared.unit.TypeDefinition.{TypeDefinition}
 use Rattle.spl_tree.specs.TypeGrammar.{TypeExpr}
-use Rattle.stream_model.specs.Scopes.{At, at_place}
-use Rattle.stream_model.specs.TypeNames.{Names, definition_of, type_names}
-use Rattle.stream_model.specs.TypeNameLaws.{kind_names_in, map_names}
-use Rattle.stream_model.specs.DefinedTypes.{there}
+use Rattle.language_model.specs.Scopes.{At, at_place}
+use Rattle.language_model.specs.TypeNames.{Names, definition_of, type_names}
+use Rattle.language_model.specs.TypeNameLaws.{kind_names_in, map_names}
+use Rattle.language_model.specs.DefinedTypes.{there}
 use Rattle.body_rules.specs.Definitions.{places_of}
 
 -- ---- the places of names

@@ -4,8 +4,8 @@ use Rattle.std.proofs.Common.{refl, ap, sym, ◌∙◌, arith, ◌≤◌, ◌+�
 use Rattle.std.proofs.lemmas.List.{map-append}
 use Rattle.spl_tree.specs.declared.expression.Placed.{Placed}
 use Rattle.spl_tree.specs.StatementGrammar.{Stmt}
-use Rattle.stream_model.specs.BodyTyping.{last_returns, returns}
-use Rattle.stream_model.specs.BodyTypingLaws.{kind_returns}
+use Rattle.language_model.specs.BodyTyping.{last_returns, returns}
+use Rattle.language_model.specs.BodyTypingLaws.{kind_returns}
 use Rattle.body_rules.proofs.Weights.{total}
 
 last_of : (xs : List (Placed Bool)) (x : Placed Bool) → last_returns (xs ++ x ∷ []) ≡ x.what

@@ -8,7 +8,7 @@ use Rattle.std.proofs.lemmas.List.Elements.{filter_map-append}
 use Rattle.spl_tree.specs.declared.unit.Definition.{Definition}
 use Rattle.spl_tree.specs.declared.unit.Definition.TheVariants as D
 use Rattle.spl_tree.specs.declared.unit.TypeDefinition.{TypeDefinition}
-use Rattle.stream_model.specs.TypeNames.{as_type, type_definitions}
+use Rattle.language_model.specs.TypeNames.{as_type, type_definitions}
 use Rattle.body_rules.proofs.Rows.{take_on}
 
 module _ (unit : List Definition) (i : ℕ) (d : Definition) (within : i < length unit) (here : d ≡ get_or unit i d) where

@@ -3,10 +3,10 @@ use Rattle.std.specs.Prelude.{◌≡◌, ℕ, Bool, false, List, if◌then◌els
 use Rattle.std.proofs.Common.{refl, ap, sym, ◌∙◌}
 use Rattle.spl_value.specs.declared.types.SplType.{SplType}
 use Rattle.spl_tree.specs.declared.unit.TypeDefinition.{TypeDefinition}
-use Rattle.stream_model.specs.Scopes.{At}
-use Rattle.stream_model.specs.TypeNames.{Types, definition_of, defined_type, shape_meant, types_of}
-use Rattle.stream_model.specs.Typing.{Found, unknown}
-use Rattle.stream_model.specs.DefinedTypes.{names_law}
+use Rattle.language_model.specs.Scopes.{At}
+use Rattle.language_model.specs.TypeNames.{Types, definition_of, defined_type, shape_meant, types_of}
+use Rattle.language_model.specs.Typing.{Found, unknown}
+use Rattle.language_model.specs.DefinedTypes.{names_law}
 use Rattle.body_rules.specs.Circles.{with_circle}
 
 module _ (definitions : List TypeDefinition) (outside : Types) (name : List ℕ) (at : ℕ) where

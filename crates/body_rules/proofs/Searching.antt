@@ -10,7 +10,7 @@ use Rattle.std.proofs.lemmas.Map.Steps.{length-le_from_distinct_below}
 use Rattle.std.proofs.lemmas.Map.Keys.{any_passes_from_place, IsDistinct-from_apart}
 use Rattle.std.proofs.lemmas.Map.Views.{Contains-from_any}
 use Rattle.body_rules.specs.declared.place_set.PlaceSet.{PlaceSet}
-use Rattle.stream_model.specs.Leading.{leads, leads_back}
+use Rattle.language_model.specs.Leading.{leads, leads_back}
 use Rattle.body_rules.specs.Standing.{Stands, IsSet, Widens}
 use Rattle.body_rules.specs.Stepping.{steps_from, LeadsWithin}
 use Rattle.body_rules.proofs.Gets.{get_below}

@@ -7,13 +7,13 @@ use Rattle.spl_tree.specs.declared.body.Function.{Function}
 use Rattle.spl_tree.specs.declared.unit.Definition.{Definition}
 use Rattle.spl_tree.specs.declared.unit.Definition.TheVariants as D
 use Rattle.spl_tree.specs.declared.unit.FunctionDefinition.{FunctionDefinition}
-use Rattle.stream_model.specs.declared.scope.Scope.{Scope}
-use Rattle.stream_model.specs.declared.scope.Signature.{Signature}
-use Rattle.stream_model.specs.declared.scope.Unresolved.{Unresolved}
-use Rattle.stream_model.specs.Composites.{as_function, functions}
-use Rattle.stream_model.specs.FunctionTyping.{FunctionTypes as Typing, signature, as_signature, as_unresolved, each_typed, function_types, function_typing, unit_scope}
-use Rattle.stream_model.specs.TypeNames.{Types, unit_types}
-use Rattle.stream_model.specs.Typing.{Found, after}
+use Rattle.language_model.specs.declared.scope.Scope.{Scope}
+use Rattle.language_model.specs.declared.scope.Signature.{Signature}
+use Rattle.language_model.specs.declared.scope.Unresolved.{Unresolved}
+use Rattle.language_model.specs.Composites.{as_function, functions}
+use Rattle.language_model.specs.FunctionTyping.{FunctionTypes as Typing, signature, as_signature, as_unresolved, each_typed, function_types, function_typing, unit_scope}
+use Rattle.language_model.specs.TypeNames.{Types, unit_types}
+use Rattle.language_model.specs.Typing.{Found, after}
 use Rattle.type_rules.specs.declared.answer.TypeAnswer.{TypeAnswer}
 use Rattle.type_rules.specs.Finds.{Finds, with_front}
 use Rattle.body_rules.specs.Signatures.{function_in, scope_in, with_definition, with_function}

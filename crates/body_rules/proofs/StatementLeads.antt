@@ -4,10 +4,10 @@ use Rattle.std.proofs.Common.{refl, ap, sym, subst, ◌∙◌}
 use Rattle.spl_tree.specs.declared.body.Statement.{Statement}
 use Rattle.spl_tree.specs.declared.statement.StmtKind.{StmtKind}
 use Rattle.spl_tree.specs.StatementGrammar.{Stmt}
-use Rattle.stream_model.specs.declared.scope.Scope.{Scope}
-use Rattle.stream_model.specs.BodyTyping.{Setting, alone, part_stated, stated, staying, way_out}
-use Rattle.stream_model.specs.BodyTypingLaws.{kind_stated}
-use Rattle.stream_model.specs.Typing.{Found, after}
+use Rattle.language_model.specs.declared.scope.Scope.{Scope}
+use Rattle.language_model.specs.BodyTyping.{Setting, alone, part_stated, stated, staying, way_out}
+use Rattle.language_model.specs.BodyTypingLaws.{kind_stated}
+use Rattle.language_model.specs.Typing.{Found, after}
 use Rattle.type_rules.specs.declared.answer.TypeAnswer.{TypeAnswer}
 use Rattle.type_rules.specs.declared.answer.TypeAnswer.TheVariants.{Refused, Memory}
 use Rattle.type_rules.specs.Finds.{Finds}

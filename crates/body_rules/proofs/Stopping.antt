@@ -10,12 +10,12 @@ use Rattle.spl_tree.specs.declared.shape.Attribute.{Attribute}
 use Rattle.spl_tree.specs.Grammar.{Expr}
 use Rattle.spl_tree.specs.StatementGrammar.{Stmt}
 use Rattle.spl_tree.specs.TypeGrammar.{TypeExpr}
-use Rattle.stream_model.specs.declared.scope.Scope.{Scope}
-use Rattle.stream_model.specs.BodyFits.{with_variable}
-use Rattle.stream_model.specs.BodyTyping.{Setting, Stated, alone, arms_typing, condition_typing, for_typing, other_typing, over_typing, stated, variable}
-use Rattle.stream_model.specs.BodyTypingLaws.{arms_stated, other_stated}
-use Rattle.stream_model.specs.TypeNames.{type_meant}
-use Rattle.stream_model.specs.Typing.{after}
+use Rattle.language_model.specs.declared.scope.Scope.{Scope}
+use Rattle.language_model.specs.BodyFits.{with_variable}
+use Rattle.language_model.specs.BodyTyping.{Setting, Stated, alone, arms_typing, condition_typing, for_typing, other_typing, over_typing, stated, variable}
+use Rattle.language_model.specs.BodyTypingLaws.{arms_stated, other_stated}
+use Rattle.language_model.specs.TypeNames.{type_meant}
+use Rattle.language_model.specs.Typing.{after}
 use Rattle.type_rules.specs.declared.answer.TypeAnswer.{TypeAnswer}
 use Rattle.type_rules.specs.Finds.{Finds}
 use Rattle.body_rules.proofs.BodyRows.{branch}

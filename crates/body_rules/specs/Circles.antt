@@ -2,9 +2,9 @@
 use Rattle.std.specs.Prelude.{◌≡◌, ◌<◌, ℕ, Bool, List, length, Option, Some, None, slice_get}
 use Rattle.std.specs.Borrow.{Bor}
 use Rattle.spl_tree.specs.declared.unit.TypeDefinition.{TypeDefinition}
-use Rattle.stream_model.specs.Leading.{leads_back}
-use Rattle.stream_model.specs.Scopes.{At}
-use Rattle.stream_model.specs.TypeNames.{is_circular}
+use Rattle.language_model.specs.Leading.{leads_back}
+use Rattle.language_model.specs.Scopes.{At}
+use Rattle.language_model.specs.TypeNames.{is_circular}
 use Rattle.body_rules.specs.Stepping.{steps_from}
 
 -- a flag for each of some places, and whether the test passes there

@@ -4,8 +4,8 @@ use Rattle.std.specs.Borrow.{Bor}
 use Rattle.std.specs.Option.{option_map}
 use Rattle.std.specs.Str.{bytes_eq}
 use Rattle.spl_tree.specs.declared.unit.TypeDefinition.{TypeDefinition}
-use Rattle.stream_model.specs.Scopes.{first_from}
-use Rattle.stream_model.specs.TypeNames.{Names, definition_of, shape_names}
+use Rattle.language_model.specs.Scopes.{first_from}
+use Rattle.language_model.specs.TypeNames.{Names, definition_of, shape_names}
 
 abbrev pub same_bytes : Bor (List ℕ) → Bor (List ℕ) → Bool
 same_bytes x y = bytes_eq x.now y.now

@@ -1,8 +1,8 @@
 -- What a call answers on a statement, and to which scope it leads.
 use Rattle.std.specs.Prelude.{◌≡◌, ℕ, Bool, List, take, if◌then◌else◌, Result, Ok, Err}
 use Rattle.spl_tree.specs.declared.body.Statement.{Statement}
-use Rattle.stream_model.specs.declared.scope.Scope.{Scope}
-use Rattle.stream_model.specs.Typing.{Found, wrong_call}
+use Rattle.language_model.specs.declared.scope.Scope.{Scope}
+use Rattle.language_model.specs.Typing.{Found, wrong_call}
 use Rattle.type_rules.specs.declared.answer.TypeAnswer.{TypeAnswer}
 use Rattle.type_rules.specs.declared.answer.TypeAnswer.TheVariants.{Refused, Memory}
 

@@ -1,8 +1,8 @@
 -- Where a body stands, by what a call is given.
 use Rattle.std.specs.Prelude.{ℕ, List, [], map}
 use Rattle.std.specs.Option.{option_copied}
-use Rattle.stream_model.specs.BodyFits.{Purpose, OfFunction, OfHandler}
-use Rattle.stream_model.specs.BodyTyping.{Setting}
+use Rattle.language_model.specs.BodyFits.{Purpose, OfFunction, OfHandler}
+use Rattle.language_model.specs.BodyTyping.{Setting}
 use Rattle.body_rules.specs.declared.bodies.BodyPurpose.{BodyPurpose}
 use Rattle.body_rules.specs.declared.bodies.BodyPurpose.TheVariants as P
 use Rattle.body_rules.specs.declared.bodies.BodySetting.{BodySetting}

@@ -7,14 +7,14 @@ use Rattle.spl_tree.specs.declared.expression.Placed.{Placed}
 use Rattle.spl_tree.specs.declared.unit.Definition.{Definition}
 use Rattle.spl_tree.specs.declared.unit.Definition.TheVariants as D
 use Rattle.spl_tree.specs.declared.unit.FunctionDefinition.{FunctionDefinition}
-use Rattle.stream_model.specs.declared.scope.CheckError.TheVariants as E
-use Rattle.stream_model.specs.declared.scope.Scope.{Scope}
-use Rattle.stream_model.specs.BodyFits.{OfFunction}
-use Rattle.stream_model.specs.BodyTyping.{Setting, body_typing, variable}
-use Rattle.stream_model.specs.Composites.{functions}
-use Rattle.stream_model.specs.FunctionTyping.{FunctionTypes as Typing, function_types, signature, as_signature, as_unresolved, if_returning}
-use Rattle.stream_model.specs.TypeNames.{Types}
-use Rattle.stream_model.specs.Typing.{Found, after}
+use Rattle.language_model.specs.declared.scope.CheckError.TheVariants as E
+use Rattle.language_model.specs.declared.scope.Scope.{Scope}
+use Rattle.language_model.specs.BodyFits.{OfFunction}
+use Rattle.language_model.specs.BodyTyping.{Setting, body_typing, variable}
+use Rattle.language_model.specs.Composites.{functions}
+use Rattle.language_model.specs.FunctionTyping.{FunctionTypes as Typing, function_types, signature, as_signature, as_unresolved, if_returning}
+use Rattle.language_model.specs.TypeNames.{Types}
+use Rattle.language_model.specs.Typing.{Found, after}
 use Rattle.type_rules.specs.declared.answer.TypeAnswer.{TypeAnswer}
 use Rattle.type_rules.specs.declared.answer.TypeAnswer.TheVariants.{Refused, Memory}
 use Rattle.body_rules.specs.declared.functions.FunctionTypes.{FunctionTypes}

@@ -2,8 +2,8 @@
 use Rattle.std.specs.Prelude.{◌≡◌, ℕ, List, Option, Some, None}
 use Rattle.std.specs.Borrow.{Bor}
 use Rattle.spl_tree.specs.declared.unit.TypeDefinition.{TypeDefinition}
-use Rattle.stream_model.specs.TypeNames.{Types, shape_meant, types_of}
-use Rattle.stream_model.specs.Typing.{unknown}
+use Rattle.language_model.specs.TypeNames.{Types, shape_meant, types_of}
+use Rattle.language_model.specs.Typing.{unknown}
 use Rattle.body_rules.specs.declared.types.finding.TypeScope.{TypeScope}
 
 -- outside the definitions, where there are some

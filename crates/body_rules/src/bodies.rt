@@ -1,7 +1,7 @@
 //! The code of bodies.
 ghost use Rattle.std.specs.Prelude.{◌≡◌, IfOk, length};
-ghost use Rattle.stream_model.specs.BodyTyping.{alone, arms_typing, body_typing, for_typing, other_typing, part_stated, row_typing, stated};
-ghost use Rattle.stream_model.specs.BodyTypingLaws.{arms_stated, other_stated, row_stated};
+ghost use Rattle.language_model.specs.BodyTyping.{alone, arms_typing, body_typing, for_typing, other_typing, part_stated, row_typing, stated};
+ghost use Rattle.language_model.specs.BodyTypingLaws.{arms_stated, other_stated, row_stated};
 ghost use Rattle.body_rules.specs.Leads.{Leads, shortened};
 ghost use Rattle.body_rules.specs.Settings.{setting_meant};
 ghost use Rattle.type_rules.specs.Finds.{Finds};
@@ -13,12 +13,12 @@ mod submits;
 mod variables;
 
 use crate::types::{TypeScope, type_of_written};
+use language_model::{Port, Scope};
 use parts::{assigned, condition, declared, leave_loop, over, returned};
 pub use results::ends_with_result;
 use spl_tree::{Attribute, Body, Code, Expr, Slot, Statement, Stmt, StmtKind, TypeExpr};
 use spl_value::{Boxed, Items, SplType};
 use std::alloc::Global;
-use stream_model::{Port, Scope};
 use submits::submitted;
 use type_rules::{TypeAnswer, call_of};
 pub(crate) use variables::{add_variable, drop_variables};

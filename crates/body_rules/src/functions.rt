@@ -1,7 +1,7 @@
 //! The functions of a program.
 ghost use Rattle.std.specs.Prelude.{◌≡◌, Ok, Some, IfOk};
 ghost use Rattle.std.specs.Option.{option_copied};
-ghost use Rattle.stream_model.specs.FunctionTyping.{function_types, functions_typing, kinds, result_type, unit_scope};
+ghost use Rattle.language_model.specs.FunctionTyping.{function_types, functions_typing, kinds, result_type, unit_scope};
 ghost use Rattle.spl_tree.specs.declared.unit.Definition.TheVariants as D;
 ghost use Rattle.body_rules.specs.Signatures.{MayEnd, as_types, function_in, scope_in, with_definition, with_parameters};
 ghost use Rattle.body_rules.specs.TypeScopes.{types_in};
@@ -11,10 +11,10 @@ use crate::bodies::{
     BodyPurpose, BodySetting, add_variable, body_of, drop_variables, ends_with_result,
 };
 use crate::types::{TypeScope, TypeTable, attributes_of, type_of_written};
+use language_model::{CheckError, CheckRefusal, Scope, Signature, Unresolved};
 use spl_tree::{Definition, Function, FunctionDefinition, Functions, Placed, TypeExpr, Unit};
 use spl_value::{Attribute, Items, Name, NoMemory, Schema, SplType, copy_type};
 use std::alloc::Global;
-use stream_model::{CheckError, CheckRefusal, Scope, Signature, Unresolved};
 use type_rules::TypeAnswer;
 
 /// The types of a function: of its result, where it has one, and of its parameters.

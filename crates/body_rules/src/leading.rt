@@ -1,6 +1,6 @@
 //! What leads back to itself, where each of some places leads to others.
 ghost use Rattle.std.specs.Prelude.{◌≡◌, length, IfOk};
-ghost use Rattle.stream_model.specs.Leading.{leads_back};
+ghost use Rattle.language_model.specs.Leading.{leads_back};
 ghost use Rattle.body_rules.specs.Stepping.{steps_from, LeadsWithin};
 
 #[cfg(test)]

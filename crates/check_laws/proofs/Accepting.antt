@@ -9,13 +9,13 @@ use Rattle.spl_value.specs.declared.types.SplType.TheOpen as T
 use Rattle.spl_value.specs.declared.types.SplType.TheOpen.{SplType-F}
 use Rattle.spl_value.specs.declared.types.SplType.TheViews.{out-SplType, roll-SplType, roll-out-SplType}
 use Rattle.spl_tree.specs.Grammar.{Expr}
-use Rattle.stream_model.specs.declared.scope.Scope.{Scope}
-use Rattle.stream_model.specs.declared.scope.Typed.{Typed}
-use Rattle.stream_model.specs.BodyLaws.{BodyFitLaw}
-use Rattle.stream_model.specs.CodeFits.{CodeFits}
-use Rattle.stream_model.specs.FitLaws.{ConstantLaw, DollarsFit, FitLaw, WantedLaw}
-use Rattle.stream_model.specs.Typing.{Found, after, same_types, typing}
-use Rattle.stream_model.specs.TypingLaws.{same_types_law}
+use Rattle.language_model.specs.declared.scope.Scope.{Scope}
+use Rattle.language_model.specs.declared.scope.Typed.{Typed}
+use Rattle.language_model.specs.BodyLaws.{BodyFitLaw}
+use Rattle.language_model.specs.CodeFits.{CodeFits}
+use Rattle.language_model.specs.FitLaws.{ConstantLaw, DollarsFit, FitLaw, WantedLaw}
+use Rattle.language_model.specs.Typing.{Found, after, same_types, typing}
+use Rattle.language_model.specs.TypingLaws.{same_types_law}
 
 -- what typing is known to give
 pub record TypingGives : Type 0 where

@@ -10,11 +10,11 @@ use Rattle.spl_value.specs.declared.types.SplType.{SplType}
 use Rattle.spl_tree.specs.declared.expression.Field.{Field}
 use Rattle.spl_tree.specs.declared.unit.OutputAssignments.{OutputAssignments}
 use Rattle.spl_tree.specs.Grammar.{Expr}
-use Rattle.stream_model.specs.OutputTyping.{Assigned, Assigns, Fills, as_attribute, assignment_typing, assignments_typing, bad_output, filled_from, is_assigned, places, rows_typing, wanted_of, with_others}
-use Rattle.stream_model.specs.Scopes.{At, attribute_of}
-use Rattle.stream_model.specs.Standing.{Bears, attribute_there}
-use Rattle.stream_model.specs.StreamTypes.{Attributes}
-use Rattle.stream_model.specs.Typing.{after, unknown}
+use Rattle.language_model.specs.OutputTyping.{Assigned, Assigns, Fills, as_attribute, assignment_typing, assignments_typing, bad_output, filled_from, is_assigned, places, rows_typing, wanted_of, with_others}
+use Rattle.language_model.specs.Scopes.{At, attribute_of}
+use Rattle.language_model.specs.Standing.{Bears, attribute_there}
+use Rattle.language_model.specs.StreamTypes.{Attributes}
+use Rattle.language_model.specs.Typing.{after, unknown}
 use Rattle.check_laws.proofs.Accepting.{Gives, gives_after, gives_if, gives_on, gives_then}
 
 -- ---- how often a place is assigned

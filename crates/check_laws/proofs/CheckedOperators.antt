@@ -10,19 +10,19 @@ use Rattle.spl_tree.specs.declared.unit.Composite.{Composite}
 use Rattle.spl_tree.specs.declared.unit.Definition.{Definition}
 use Rattle.spl_tree.specs.declared.unit.InputPort.{InputPort}
 use Rattle.spl_tree.specs.declared.unit.Invocation.{Invocation}
-use Rattle.stream_model.specs.declared.checked.Part.{Part}
-use Rattle.stream_model.specs.declared.checked.PortTypes.{PortTypes}
-use Rattle.stream_model.specs.declared.scope.CheckError.TheVariants as E
-use Rattle.stream_model.specs.declared.scope.Port.{Port}
-use Rattle.stream_model.specs.Checking.{body_checked, clauses_checked, fit_ports, invocation_checked, operator_checked, operator_scope, operators_checked, outputs_checked, port_types, ports_checked, ports_of, site_of, surroundings}
-use Rattle.stream_model.specs.FitLaws.{DollarsFit}
-use Rattle.stream_model.specs.FlatLaws.{IsInvoked}
-use Rattle.stream_model.specs.FunctionTyping.{unit_scope}
-use Rattle.stream_model.specs.Keeping.{OperatorFits, PartFits}
-use Rattle.stream_model.specs.Parameters.{Tables, table_at}
-use Rattle.stream_model.specs.SinkFiles.{composite_of, invocation_at}
-use Rattle.stream_model.specs.StreamTypes.{Attributes, Body, body_at, outputs_attributes, passed, ports_attributes}
-use Rattle.stream_model.specs.Typing.{Found, after, mismatch, refused}
+use Rattle.language_model.specs.declared.checked.Part.{Part}
+use Rattle.language_model.specs.declared.checked.PortTypes.{PortTypes}
+use Rattle.language_model.specs.declared.scope.CheckError.TheVariants as E
+use Rattle.language_model.specs.declared.scope.Port.{Port}
+use Rattle.language_model.specs.Checking.{body_checked, clauses_checked, fit_ports, invocation_checked, operator_checked, operator_scope, operators_checked, outputs_checked, port_types, ports_checked, ports_of, site_of, surroundings}
+use Rattle.language_model.specs.FitLaws.{DollarsFit}
+use Rattle.language_model.specs.FlatLaws.{IsInvoked}
+use Rattle.language_model.specs.FunctionTyping.{unit_scope}
+use Rattle.language_model.specs.Keeping.{OperatorFits, PartFits}
+use Rattle.language_model.specs.Parameters.{Tables, table_at}
+use Rattle.language_model.specs.SinkFiles.{composite_of, invocation_at}
+use Rattle.language_model.specs.StreamTypes.{Attributes, Body, body_at, outputs_attributes, passed, ports_attributes}
+use Rattle.language_model.specs.Typing.{Found, after, mismatch, refused}
 use Rattle.check_laws.specs.PartsLaw.{PartsLaw}
 use Rattle.check_laws.proofs.FoundSteps.{after_gives, same_Ok}
 use Rattle.check_laws.proofs.GraphLimits.{HasPlaces}

@@ -10,15 +10,15 @@ use Rattle.spl_tree.specs.declared.unit.CompositeParameter.{CompositeParameter}
 use Rattle.spl_tree.specs.declared.unit.Definition.{Definition}
 use Rattle.spl_tree.specs.declared.unit.Parameter.{Parameter}
 use Rattle.spl_tree.specs.Grammar.{Expr}
-use Rattle.stream_model.specs.declared.scope.Dollar.{Dollar}
-use Rattle.stream_model.specs.declared.scope.Typed.{Typed}
-use Rattle.stream_model.specs.CodeFits.{CodeFits}
-use Rattle.stream_model.specs.FitLaws.{ConstantLaw, DollarsFit, FitLaw, no_names}
-use Rattle.stream_model.specs.Parameters.{Tables, constant_scope, constant_typing, default_typing, dollar_tables, expansion_dollars, has_meaning, is_constant, own_from, own_within, parameter_typing, parameters_given, table_at, tables_from, value_typing}
-use Rattle.stream_model.specs.Scopes.{at_place, first_from}
-use Rattle.stream_model.specs.SinkFiles.{arguments_of, composite_of, value_named}
-use Rattle.stream_model.specs.TypeNames.{Types, composite_types, type_meant}
-use Rattle.stream_model.specs.Typing.{Found, mismatch, typing}
+use Rattle.language_model.specs.declared.scope.Dollar.{Dollar}
+use Rattle.language_model.specs.declared.scope.Typed.{Typed}
+use Rattle.language_model.specs.CodeFits.{CodeFits}
+use Rattle.language_model.specs.FitLaws.{ConstantLaw, DollarsFit, FitLaw, no_names}
+use Rattle.language_model.specs.Parameters.{Tables, constant_scope, constant_typing, default_typing, dollar_tables, expansion_dollars, has_meaning, is_constant, own_from, own_within, parameter_typing, parameters_given, table_at, tables_from, value_typing}
+use Rattle.language_model.specs.Scopes.{at_place, first_from}
+use Rattle.language_model.specs.SinkFiles.{arguments_of, composite_of, value_named}
+use Rattle.language_model.specs.TypeNames.{Types, composite_types, type_meant}
+use Rattle.language_model.specs.Typing.{Found, mismatch, typing}
 use Rattle.check_laws.proofs.FoundSteps.{after_gives}
 
 -- ---- parameters

@@ -13,14 +13,14 @@ use Rattle.spl_tree.specs.declared.unit.Composite.{Composite}
 use Rattle.spl_tree.specs.declared.unit.Definition.{Definition}
 use Rattle.spl_tree.specs.declared.unit.InputPort.{InputPort}
 use Rattle.spl_tree.specs.declared.unit.Invocation.{Invocation}
-use Rattle.stream_model.specs.declared.expansion.Operation.{Operation}
-use Rattle.stream_model.specs.declared.expansion.Source.{Source}
-use Rattle.stream_model.specs.Composites.{composites}
-use Rattle.stream_model.specs.Expansion.{Inlined, Made, connections_of, is_within}
-use Rattle.stream_model.specs.Numbering.{expansion_of, expansions_from, op_of, ops_from, streams_of}
-use Rattle.stream_model.specs.Scopes.{At}
-use Rattle.stream_model.specs.SinkFiles.{composite_of}
-use Rattle.stream_model.specs.StreamTypes.{Body, body_at, name_places}
+use Rattle.language_model.specs.declared.expansion.Operation.{Operation}
+use Rattle.language_model.specs.declared.expansion.Source.{Source}
+use Rattle.language_model.specs.Composites.{composites}
+use Rattle.language_model.specs.Expansion.{Inlined, Made, connections_of, is_within}
+use Rattle.language_model.specs.Numbering.{expansion_of, expansions_from, op_of, ops_from, streams_of}
+use Rattle.language_model.specs.Scopes.{At}
+use Rattle.language_model.specs.SinkFiles.{composite_of}
+use Rattle.language_model.specs.StreamTypes.{Body, body_at, name_places}
 use Rattle.check_laws.proofs.GrownBodies.{Holds, Takes, in_front, main_holds}
 use Rattle.check_laws.proofs.SourceCounts.{at_most_sum, body_of, port_counted, streams_within}
 use Rattle.check_laws.proofs.UnitGraphs.{IsMade}

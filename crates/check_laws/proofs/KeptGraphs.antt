@@ -4,18 +4,18 @@ use Rattle.std.proofs.Common.{subst}
 use Rattle.spl_tree.specs.declared.body.Function.{Function}
 use Rattle.spl_tree.specs.declared.graph.Graph.{Graph}
 use Rattle.spl_tree.specs.declared.unit.Definition.{Definition}
-use Rattle.stream_model.specs.declared.checked.Part.{Part}
-use Rattle.stream_model.specs.BodyLaws.{BodyFitLaw, BodyReturnsLaw}
-use Rattle.stream_model.specs.CheckedGraph.{CheckedGraph}
-use Rattle.stream_model.specs.Checking.{each_stream, operators_checked}
-use Rattle.stream_model.specs.FitLaws.{ConstantLaw, DollarsFit, FitLaw}
-use Rattle.stream_model.specs.FlatLaws.{ConnectedLaw, MakerLaw, OperatorLaw, TopoLaw}
-use Rattle.stream_model.specs.FunctionTyping.{functions_typing, unit_scope}
-use Rattle.stream_model.specs.Keeping.{GraphKeeps, Keeps}
-use Rattle.stream_model.specs.Numbering.{numbers_from}
-use Rattle.stream_model.specs.Parameters.{dollar_tables}
-use Rattle.stream_model.specs.StreamTypes.{Attributes}
-use Rattle.stream_model.specs.Typing.{Found, after}
+use Rattle.language_model.specs.declared.checked.Part.{Part}
+use Rattle.language_model.specs.BodyLaws.{BodyFitLaw, BodyReturnsLaw}
+use Rattle.language_model.specs.CheckedGraph.{CheckedGraph}
+use Rattle.language_model.specs.Checking.{each_stream, operators_checked}
+use Rattle.language_model.specs.FitLaws.{ConstantLaw, DollarsFit, FitLaw}
+use Rattle.language_model.specs.FlatLaws.{ConnectedLaw, MakerLaw, OperatorLaw, TopoLaw}
+use Rattle.language_model.specs.FunctionTyping.{functions_typing, unit_scope}
+use Rattle.language_model.specs.Keeping.{GraphKeeps, Keeps}
+use Rattle.language_model.specs.Numbering.{numbers_from}
+use Rattle.language_model.specs.Parameters.{dollar_tables}
+use Rattle.language_model.specs.StreamTypes.{Attributes}
+use Rattle.language_model.specs.Typing.{Found, after}
 use Rattle.check_laws.specs.KeepsLaw.{KeepsLaw}
 use Rattle.check_laws.specs.PartsLaw.{PartsLaw}
 use Rattle.check_laws.proofs.CheckedOperators.{each_checked, operator_fits}

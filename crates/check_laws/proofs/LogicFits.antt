@@ -18,23 +18,23 @@ use Rattle.spl_tree.specs.declared.unit.HandledEvent.TheVariants as H
 use Rattle.spl_tree.specs.declared.unit.Handler.{Handler}
 use Rattle.spl_tree.specs.declared.unit.Logic.{Logic}
 use Rattle.spl_tree.specs.Grammar.{Expr}
-use Rattle.stream_model.specs.declared.checked.Handled.{Handled}
-use Rattle.stream_model.specs.declared.checked.StateVariable.{StateVariable}
-use Rattle.stream_model.specs.declared.scope.CheckError.TheVariants as E
-use Rattle.stream_model.specs.declared.scope.Dollar.{Dollar}
-use Rattle.stream_model.specs.declared.scope.Port.{Port}
-use Rattle.stream_model.specs.BodyFits.{OfHandler, RowFits}
-use Rattle.stream_model.specs.BodyTyping.{body_typing, first_value}
-use Rattle.stream_model.specs.CodeFits as G
-use Rattle.stream_model.specs.CodeFits.{CodeFits}
-use Rattle.stream_model.specs.FitLaws.{DollarsFit, no_names}
-use Rattle.stream_model.specs.Keeping.{HandlersFit, tuple_scope}
-use Rattle.stream_model.specs.LogicTyping.{Surroundings, event_word, handler_of, handler_scope, handler_setting, handler_typing, handlers_made, handlers_on, handlers_typing, is_event, is_plain, is_state_value, logic_typing, state_typing, state_value, state_variable}
-use Rattle.stream_model.specs.Parameters.{constant_scope}
-use Rattle.stream_model.specs.Scopes.{At, first_from}
-use Rattle.stream_model.specs.Standing.{Stands, first_stands}
-use Rattle.stream_model.specs.TypeNames.{Types, type_meant}
-use Rattle.stream_model.specs.Typing.{after, refused, typing}
+use Rattle.language_model.specs.declared.checked.Handled.{Handled}
+use Rattle.language_model.specs.declared.checked.StateVariable.{StateVariable}
+use Rattle.language_model.specs.declared.scope.CheckError.TheVariants as E
+use Rattle.language_model.specs.declared.scope.Dollar.{Dollar}
+use Rattle.language_model.specs.declared.scope.Port.{Port}
+use Rattle.language_model.specs.BodyFits.{OfHandler, RowFits}
+use Rattle.language_model.specs.BodyTyping.{body_typing, first_value}
+use Rattle.language_model.specs.CodeFits as G
+use Rattle.language_model.specs.CodeFits.{CodeFits}
+use Rattle.language_model.specs.FitLaws.{DollarsFit, no_names}
+use Rattle.language_model.specs.Keeping.{HandlersFit, tuple_scope}
+use Rattle.language_model.specs.LogicTyping.{Surroundings, event_word, handler_of, handler_scope, handler_setting, handler_typing, handlers_made, handlers_on, handlers_typing, is_event, is_plain, is_state_value, logic_typing, state_typing, state_value, state_variable}
+use Rattle.language_model.specs.Parameters.{constant_scope}
+use Rattle.language_model.specs.Scopes.{At, first_from}
+use Rattle.language_model.specs.Standing.{Stands, first_stands}
+use Rattle.language_model.specs.TypeNames.{Types, type_meant}
+use Rattle.language_model.specs.Typing.{after, refused, typing}
 use Rattle.check_laws.proofs.Accepting.{Gives, TypingGives, gives_after, gives_from, gives_if, gives_then, none_at, wanted_fits}
 use Rattle.check_laws.proofs.PlainStates.{state_plain}
 

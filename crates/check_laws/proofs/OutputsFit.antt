@@ -22,23 +22,23 @@ use Rattle.spl_tree.specs.declared.expression.ExprKind.TheVariants as E
 use Rattle.spl_tree.specs.declared.expression.ExprKind.TheViews.{out-ExprKind}
 use Rattle.spl_tree.specs.declared.unit.OutputAssignments.{OutputAssignments}
 use Rattle.spl_tree.specs.Grammar.{Expr, placed}
-use Rattle.stream_model.specs.declared.checked.Collected.{Collected}
-use Rattle.stream_model.specs.declared.checked.Collector.TheVariants as K
-use Rattle.stream_model.specs.declared.checked.Gathers.{Gathers}
-use Rattle.stream_model.specs.declared.scope.Port.{Port}
-use Rattle.stream_model.specs.declared.scope.Scope.{Scope}
-use Rattle.stream_model.specs.declared.scope.Variable.{Variable}
-use Rattle.stream_model.specs.CodeFits as G
-use Rattle.stream_model.specs.CodeFits.{CodeFits, FieldsFit, OneEach}
-use Rattle.stream_model.specs.FitLaws.{DollarsFit}
-use Rattle.stream_model.specs.Keeping as F
-use Rattle.stream_model.specs.Keeping.{CollectorFits, GroupsFit, PlacesFit}
-use Rattle.stream_model.specs.OutputTyping.{Assigned, Collecting, Summing, Extreme, Choosing, Counting, assigned_code, assigned_group, bad_output, called_typing, collected, collecting_of, gathered_by, gathers, groups_typing, inputs_typing, last_of, level_gathered, level_gathers, of_wanted, one_attribute, place_in, places_typing, rows_typing, taken_over, tuple_typing, with_others}
-use Rattle.stream_model.specs.Scopes.{At, OfAttribute, PortAttribute, attribute_of, attributes_of, last_from, meant, port_of, variable_meant, variable_of}
-use Rattle.stream_model.specs.Standing.{Bears, attribute_there}
-use Rattle.stream_model.specs.StreamTypes.{Attributes}
-use Rattle.stream_model.specs.Typing.{Found, after, as_wanted, meant_typed, mismatch, same_types, typed, typing}
-use Rattle.stream_model.specs.TypingLaws as L
+use Rattle.language_model.specs.declared.checked.Collected.{Collected}
+use Rattle.language_model.specs.declared.checked.Collector.TheVariants as K
+use Rattle.language_model.specs.declared.checked.Gathers.{Gathers}
+use Rattle.language_model.specs.declared.scope.Port.{Port}
+use Rattle.language_model.specs.declared.scope.Scope.{Scope}
+use Rattle.language_model.specs.declared.scope.Variable.{Variable}
+use Rattle.language_model.specs.CodeFits as G
+use Rattle.language_model.specs.CodeFits.{CodeFits, FieldsFit, OneEach}
+use Rattle.language_model.specs.FitLaws.{DollarsFit}
+use Rattle.language_model.specs.Keeping as F
+use Rattle.language_model.specs.Keeping.{CollectorFits, GroupsFit, PlacesFit}
+use Rattle.language_model.specs.OutputTyping.{Assigned, Collecting, Summing, Extreme, Choosing, Counting, assigned_code, assigned_group, bad_output, called_typing, collected, collecting_of, gathered_by, gathers, groups_typing, inputs_typing, last_of, level_gathered, level_gathers, of_wanted, one_attribute, place_in, places_typing, rows_typing, taken_over, tuple_typing, with_others}
+use Rattle.language_model.specs.Scopes.{At, OfAttribute, PortAttribute, attribute_of, attributes_of, last_from, meant, port_of, variable_meant, variable_of}
+use Rattle.language_model.specs.Standing.{Bears, attribute_there}
+use Rattle.language_model.specs.StreamTypes.{Attributes}
+use Rattle.language_model.specs.Typing.{Found, after, as_wanted, meant_typed, mismatch, same_types, typed, typing}
+use Rattle.language_model.specs.TypingLaws as L
 use Rattle.check_laws.proofs.Accepting.{Gives, TypingGives, gives_after, gives_if, gives_then, none_at, rolled, same_equal, typed_fits, wanted_fits}
 use Rattle.check_laws.proofs.AssignedOnce.{AssignsFit, EachOnce, FillsFit, ForAttribute, counts_times, each_once, times}
 

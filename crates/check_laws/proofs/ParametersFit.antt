@@ -21,20 +21,20 @@ use Rattle.spl_tree.specs.declared.expression.ExprKind.TheViews.{out-ExprKind}
 use Rattle.spl_tree.specs.declared.graph.OpKind.{OpKind}
 use Rattle.spl_tree.specs.declared.unit.Parameter.{Parameter}
 use Rattle.spl_tree.specs.Grammar.{Expr}
-use Rattle.stream_model.specs.declared.checked.Given.{Given}
-use Rattle.stream_model.specs.declared.checked.ParameterValue.{ParameterValue}
-use Rattle.stream_model.specs.declared.checked.ParameterValue.TheVariants as V
-use Rattle.stream_model.specs.declared.checked.Position.TheVariants as P
-use Rattle.stream_model.specs.declared.scope.Scope.{Scope}
-use Rattle.stream_model.specs.Checking.{as_code, as_file, as_places, there, if_given, parameters_checked}
-use Rattle.stream_model.specs.CodeFits.{CodeFits}
-use Rattle.stream_model.specs.FitLaws.{DollarsFit}
-use Rattle.stream_model.specs.Keeping.{ConditionFits, KeysFit, Once}
-use Rattle.stream_model.specs.Literals.{file_or_mismatch, file_typing, is_file_name, level_file, level_text, text_at}
-use Rattle.stream_model.specs.ParameterTyping.{Role, AsFile, AsFormat, AsParsing, AsCondition, AsPosition, AsIndex, AsAttributes, Site, extra, first_schema, format_of, key_at, key_of, keys_typing, level_index, level_key, missing, needed, one_value, parameter_typing, parameters_typing, parsing_of, position_of, role_of, single_value, some_keys, value_given, value_typing, word_of}
-use Rattle.stream_model.specs.Scopes.{At, attribute_of}
-use Rattle.stream_model.specs.Standing.{Bears, attribute_there}
-use Rattle.stream_model.specs.Typing.{after, mismatch, typing}
+use Rattle.language_model.specs.declared.checked.Given.{Given}
+use Rattle.language_model.specs.declared.checked.ParameterValue.{ParameterValue}
+use Rattle.language_model.specs.declared.checked.ParameterValue.TheVariants as V
+use Rattle.language_model.specs.declared.checked.Position.TheVariants as P
+use Rattle.language_model.specs.declared.scope.Scope.{Scope}
+use Rattle.language_model.specs.Checking.{as_code, as_file, as_places, there, if_given, parameters_checked}
+use Rattle.language_model.specs.CodeFits.{CodeFits}
+use Rattle.language_model.specs.FitLaws.{DollarsFit}
+use Rattle.language_model.specs.Keeping.{ConditionFits, KeysFit, Once}
+use Rattle.language_model.specs.Literals.{file_or_mismatch, file_typing, is_file_name, level_file, level_text, text_at}
+use Rattle.language_model.specs.ParameterTyping.{Role, AsFile, AsFormat, AsParsing, AsCondition, AsPosition, AsIndex, AsAttributes, Site, extra, first_schema, format_of, key_at, key_of, keys_typing, level_index, level_key, missing, needed, one_value, parameter_typing, parameters_typing, parsing_of, position_of, role_of, single_value, some_keys, value_given, value_typing, word_of}
+use Rattle.language_model.specs.Scopes.{At, attribute_of}
+use Rattle.language_model.specs.Standing.{Bears, attribute_there}
+use Rattle.language_model.specs.Typing.{after, mismatch, typing}
 use Rattle.check_laws.proofs.Accepting.{Gives, TypingGives, gives_after, gives_if, gives_then, none_at, rolled, typed_fits, wanted_fits}
 
 -- ---- files

@@ -15,25 +15,25 @@ use Rattle.spl_tree.specs.declared.unit.Clauses.{Clauses}
 use Rattle.spl_tree.specs.declared.unit.OutputAssignments.{OutputAssignments}
 use Rattle.spl_tree.specs.declared.unit.OutputStream.{OutputStream}
 use Rattle.spl_tree.specs.Grammar.{Expr}
-use Rattle.stream_model.specs.declared.checked.Given.{Given}
-use Rattle.stream_model.specs.declared.checked.ParameterValue.{ParameterValue}
-use Rattle.stream_model.specs.declared.checked.Part.{Part}
-use Rattle.stream_model.specs.declared.checked.Part.TheVariants as A
-use Rattle.stream_model.specs.declared.checked.Policy.{Policy}
-use Rattle.stream_model.specs.declared.scope.CheckError.TheVariants as E
-use Rattle.stream_model.specs.declared.scope.Port.{Port}
-use Rattle.stream_model.specs.declared.scope.Scope.{Scope}
-use Rattle.stream_model.specs.Checking.{Checks, aggregated, are_passed, as_places, between, clauses_checked, code_given, config_checked, file_given, first_of, file_sink, file_source, fit_ports, functor, has_text_form, is_partitioned, joined, no_logic, output_rows, outputs_checked, parameters_checked, part_of, passes_on, places_given, plain, position_given, punctor, rows_checked, split, strict_given, there, tuple_of, union, windows_checked}
-use Rattle.stream_model.specs.CodeFits.{CodeFits}
-use Rattle.stream_model.specs.FitLaws.{DollarsFit}
-use Rattle.stream_model.specs.Keeping as F
-use Rattle.stream_model.specs.Keeping.{ConditionFits, GroupsFit, HandlersFit, KeysFit, PartFits}
-use Rattle.stream_model.specs.Literals.{number_literal}
-use Rattle.stream_model.specs.LogicTyping.{Surroundings, logic_typing}
-use Rattle.stream_model.specs.OutputTyping.{groups_typing, inputs_typing}
-use Rattle.stream_model.specs.ParameterTyping.{AsAttributes, AsCondition, AsFile, AsIndex, Role, Site, first_schema, role_of, value_given}
-use Rattle.stream_model.specs.StreamTypes.{Attributes, passed, same_attributes}
-use Rattle.stream_model.specs.Typing.{after, mismatch, refused}
+use Rattle.language_model.specs.declared.checked.Given.{Given}
+use Rattle.language_model.specs.declared.checked.ParameterValue.{ParameterValue}
+use Rattle.language_model.specs.declared.checked.Part.{Part}
+use Rattle.language_model.specs.declared.checked.Part.TheVariants as A
+use Rattle.language_model.specs.declared.checked.Policy.{Policy}
+use Rattle.language_model.specs.declared.scope.CheckError.TheVariants as E
+use Rattle.language_model.specs.declared.scope.Port.{Port}
+use Rattle.language_model.specs.declared.scope.Scope.{Scope}
+use Rattle.language_model.specs.Checking.{Checks, aggregated, are_passed, as_places, between, clauses_checked, code_given, config_checked, file_given, first_of, file_sink, file_source, fit_ports, functor, has_text_form, is_partitioned, joined, no_logic, output_rows, outputs_checked, parameters_checked, part_of, passes_on, places_given, plain, position_given, punctor, rows_checked, split, strict_given, there, tuple_of, union, windows_checked}
+use Rattle.language_model.specs.CodeFits.{CodeFits}
+use Rattle.language_model.specs.FitLaws.{DollarsFit}
+use Rattle.language_model.specs.Keeping as F
+use Rattle.language_model.specs.Keeping.{ConditionFits, GroupsFit, HandlersFit, KeysFit, PartFits}
+use Rattle.language_model.specs.Literals.{number_literal}
+use Rattle.language_model.specs.LogicTyping.{Surroundings, logic_typing}
+use Rattle.language_model.specs.OutputTyping.{groups_typing, inputs_typing}
+use Rattle.language_model.specs.ParameterTyping.{AsAttributes, AsCondition, AsFile, AsIndex, Role, Site, first_schema, role_of, value_given}
+use Rattle.language_model.specs.StreamTypes.{Attributes, passed, same_attributes}
+use Rattle.language_model.specs.Typing.{after, mismatch, refused}
 use Rattle.check_laws.specs.PartsLaw.{PartsLaw}
 use Rattle.check_laws.proofs.Accepting.{Gives, TypingGives, gives_after, gives_from, gives_if, gives_then, lone, none_at, same_schemas}
 use Rattle.check_laws.proofs.LogicFits.{logic_fits}

@@ -8,19 +8,19 @@ use Rattle.spl_tree.specs.declared.body.Function.{Function}
 use Rattle.spl_tree.specs.declared.body.Statement.{Statement}
 use Rattle.spl_tree.specs.declared.unit.Definition.{Definition}
 use Rattle.spl_tree.specs.declared.unit.FunctionDefinition.{FunctionDefinition}
-use Rattle.stream_model.specs.declared.scope.CheckError.TheVariants as E
-use Rattle.stream_model.specs.declared.scope.Signature.{Signature}
-use Rattle.stream_model.specs.declared.scope.Unresolved.{Unresolved}
-use Rattle.stream_model.specs.declared.scope.Variable.{Variable}
-use Rattle.stream_model.specs.BodyFits.{OfFunction, RowFits}
-use Rattle.stream_model.specs.BodyLaws.{BodyFitLaw, BodyReturnsLaw}
-use Rattle.stream_model.specs.BodyTyping.{body_typing, returns, variable}
-use Rattle.stream_model.specs.Composites.{functions}
-use Rattle.stream_model.specs.FitLaws.{DollarsFit}
-use Rattle.stream_model.specs.FunctionTyping.{FunctionTypes, as_signature, as_unresolved, each_typed, function_scope, function_setting, function_types, function_typing, functions_typing, if_returning, kinds, signature, unit_scope}
-use Rattle.stream_model.specs.TypeNames.{unit_types}
-use Rattle.stream_model.specs.Typing.{after, refused}
-use Rattle.stream_model.specs.WorldFits.{FunctionFits, FunctionsFit, body_scope}
+use Rattle.language_model.specs.declared.scope.CheckError.TheVariants as E
+use Rattle.language_model.specs.declared.scope.Signature.{Signature}
+use Rattle.language_model.specs.declared.scope.Unresolved.{Unresolved}
+use Rattle.language_model.specs.declared.scope.Variable.{Variable}
+use Rattle.language_model.specs.BodyFits.{OfFunction, RowFits}
+use Rattle.language_model.specs.BodyLaws.{BodyFitLaw, BodyReturnsLaw}
+use Rattle.language_model.specs.BodyTyping.{body_typing, returns, variable}
+use Rattle.language_model.specs.Composites.{functions}
+use Rattle.language_model.specs.FitLaws.{DollarsFit}
+use Rattle.language_model.specs.FunctionTyping.{FunctionTypes, as_signature, as_unresolved, each_typed, function_scope, function_setting, function_types, function_typing, functions_typing, if_returning, kinds, signature, unit_scope}
+use Rattle.language_model.specs.TypeNames.{unit_types}
+use Rattle.language_model.specs.Typing.{after, refused}
+use Rattle.language_model.specs.WorldFits.{FunctionFits, FunctionsFit, body_scope}
 use Rattle.check_laws.proofs.FoundSteps.{after_gives, same_Ok}
 
 -- ---- one function

@@ -12,14 +12,14 @@ use Rattle.spl_tree.specs.declared.expression.Placed.{Placed}
 use Rattle.spl_tree.specs.declared.graph.Site.{Site}
 use Rattle.spl_tree.specs.declared.unit.InputPort.{InputPort}
 use Rattle.spl_tree.specs.declared.unit.Invocation.{Invocation}
-use Rattle.stream_model.specs.declared.expansion.Operation.{Operation}
-use Rattle.stream_model.specs.declared.expansion.Source.{Source}
-use Rattle.stream_model.specs.Expansion.{Inlined, Made, connections_of, input_sources, names_of_port, own_or_input, place_of, port_names, ports_of, sources_of, taken_in}
-use Rattle.stream_model.specs.Invoking.{input_names, stream_names}
-use Rattle.stream_model.specs.Numbering.{expansion_of, input_streams, numbers_from, stream_of, streams_of}
-use Rattle.stream_model.specs.Scopes.{At, first_from}
-use Rattle.stream_model.specs.Standing.{Stands, first_stands}
-use Rattle.stream_model.specs.StreamTypes.{Body, name_places, so_often, taken_by}
+use Rattle.language_model.specs.declared.expansion.Operation.{Operation}
+use Rattle.language_model.specs.declared.expansion.Source.{Source}
+use Rattle.language_model.specs.Expansion.{Inlined, Made, connections_of, input_sources, names_of_port, own_or_input, place_of, port_names, ports_of, sources_of, taken_in}
+use Rattle.language_model.specs.Invoking.{input_names, stream_names}
+use Rattle.language_model.specs.Numbering.{expansion_of, input_streams, numbers_from, stream_of, streams_of}
+use Rattle.language_model.specs.Scopes.{At, first_from}
+use Rattle.language_model.specs.Standing.{Stands, first_stands}
+use Rattle.language_model.specs.StreamTypes.{Body, name_places, so_often, taken_by}
 
 -- ---- lists
 

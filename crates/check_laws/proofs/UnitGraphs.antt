@@ -5,13 +5,13 @@ use Rattle.spl_tree.specs.declared.expression.Placed.{Placed}
 use Rattle.spl_tree.specs.declared.graph.Graph.{Graph}
 use Rattle.spl_tree.specs.declared.unit.Composite.{Composite}
 use Rattle.spl_tree.specs.declared.unit.Definition.{Definition}
-use Rattle.stream_model.specs.Composites.{composites}
-use Rattle.stream_model.specs.Declarations.{first_of}
-use Rattle.stream_model.specs.Expansion.{Found, Made, after, expanded_main}
-use Rattle.stream_model.specs.Flat.{IsFlat, expands, files_had, flat_from, graph_of, if_all_taken, if_none_had, no_main, ordered, recursive, twice, with_own_files}
-use Rattle.stream_model.specs.Numbering.{expansions_from, ops_from, streams_from}
-use Rattle.stream_model.specs.Scopes.{At}
-use Rattle.stream_model.specs.Taking.{first_untaken, taken}
+use Rattle.language_model.specs.Composites.{composites}
+use Rattle.language_model.specs.Declarations.{first_of}
+use Rattle.language_model.specs.Expansion.{Found, Made, after, expanded_main}
+use Rattle.language_model.specs.Flat.{IsFlat, expands, files_had, flat_from, graph_of, if_all_taken, if_none_had, no_main, ordered, recursive, twice, with_own_files}
+use Rattle.language_model.specs.Numbering.{expansions_from, ops_from, streams_from}
+use Rattle.language_model.specs.Scopes.{At}
+use Rattle.language_model.specs.Taking.{first_untaken, taken}
 
 -- ---- the main composite
 

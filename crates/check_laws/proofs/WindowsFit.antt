@@ -26,18 +26,18 @@ use Rattle.spl_tree.specs.declared.token.Number.{Number}
 use Rattle.spl_tree.specs.declared.unit.PortWindow.{PortWindow}
 use Rattle.spl_tree.specs.declared.unit.WindowPart.{WindowPart}
 use Rattle.spl_tree.specs.Grammar.{Expr}
-use Rattle.stream_model.specs.declared.checked.Policy.{Policy}
-use Rattle.stream_model.specs.declared.checked.WindowRule.TheVariants as W
-use Rattle.stream_model.specs.declared.scope.CheckError.TheVariants as C
-use Rattle.stream_model.specs.declared.scope.Port.{Port}
-use Rattle.stream_model.specs.Checking.{each_window, has_windows, policy_of, windows_checked}
-use Rattle.stream_model.specs.Keeping as F
-use Rattle.stream_model.specs.Keeping.{AggregateWindow, DeltaFits, IsCount, JoinWindow}
-use Rattle.stream_model.specs.Policies.{Delta, IntegerAttribute, Numbers, Sliding, aggregate_policy, aggregate_rule, are_no_arguments, as_count, as_integer, as_limit, bad_window, count_of, delta_of, has_name, is_word, join_rule, level_attribute, level_integer, limited, measured, most_tuples, nothing_behind, only_count, partitioned_or_not, punctuated, sliding_alone, sliding_rule, sliding_with_trigger, trigger, tumbling, window_at, window_of, windows_typing}
-use Rattle.stream_model.specs.Scopes.{At, attribute_of, first_from}
-use Rattle.stream_model.specs.Standing.{Bears, attribute_there, Stands, first_stands}
-use Rattle.stream_model.specs.StreamTypes.{Attributes}
-use Rattle.stream_model.specs.Typing.{Found, after, refused, same_types}
+use Rattle.language_model.specs.declared.checked.Policy.{Policy}
+use Rattle.language_model.specs.declared.checked.WindowRule.TheVariants as W
+use Rattle.language_model.specs.declared.scope.CheckError.TheVariants as C
+use Rattle.language_model.specs.declared.scope.Port.{Port}
+use Rattle.language_model.specs.Checking.{each_window, has_windows, policy_of, windows_checked}
+use Rattle.language_model.specs.Keeping as F
+use Rattle.language_model.specs.Keeping.{AggregateWindow, DeltaFits, IsCount, JoinWindow}
+use Rattle.language_model.specs.Policies.{Delta, IntegerAttribute, Numbers, Sliding, aggregate_policy, aggregate_rule, are_no_arguments, as_count, as_integer, as_limit, bad_window, count_of, delta_of, has_name, is_word, join_rule, level_attribute, level_integer, limited, measured, most_tuples, nothing_behind, only_count, partitioned_or_not, punctuated, sliding_alone, sliding_rule, sliding_with_trigger, trigger, tumbling, window_at, window_of, windows_typing}
+use Rattle.language_model.specs.Scopes.{At, attribute_of, first_from}
+use Rattle.language_model.specs.Standing.{Bears, attribute_there, Stands, first_stands}
+use Rattle.language_model.specs.StreamTypes.{Attributes}
+use Rattle.language_model.specs.Typing.{Found, after, refused, same_types}
 use Rattle.check_laws.proofs.Accepting.{Gives, gives_after, gives_if, gives_on, gives_then, rolled}
 
 -- ---- counts

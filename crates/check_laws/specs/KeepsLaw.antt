@@ -2,10 +2,10 @@
 use Rattle.std.specs.Prelude.{◌≡◌, ℕ, List, Ok}
 use Rattle.spl_tree.specs.declared.graph.Graph.{Graph}
 use Rattle.spl_tree.specs.declared.unit.Definition.{Definition}
-use Rattle.stream_model.specs.CheckedGraph.{CheckedGraph}
-use Rattle.stream_model.specs.Checking.{checked}
-use Rattle.stream_model.specs.Flat.{IsFlat}
-use Rattle.stream_model.specs.Keeping.{Keeps}
+use Rattle.language_model.specs.CheckedGraph.{CheckedGraph}
+use Rattle.language_model.specs.Checking.{checked}
+use Rattle.language_model.specs.Flat.{IsFlat}
+use Rattle.language_model.specs.Keeping.{Keeps}
 
 -- what is found of the graph of a unit keeps what a checked graph has to keep
 abbrev pub KeepsLaw : Type 0

@@ -3,13 +3,13 @@ use Rattle.std.specs.Prelude.{◌≡◌, IsTrue, false, List, [], map, length, O
 use Rattle.spl_tree.specs.declared.graph.Op.{Op}
 use Rattle.spl_tree.specs.declared.unit.Clauses.{Clauses}
 use Rattle.spl_tree.specs.declared.unit.OutputStream.{OutputStream}
-use Rattle.stream_model.specs.declared.checked.Part.{Part}
-use Rattle.stream_model.specs.Checking.{clauses_checked, fit_ports, outputs_checked}
-use Rattle.stream_model.specs.FitLaws.{DollarsFit}
-use Rattle.stream_model.specs.Keeping.{PartFits}
-use Rattle.stream_model.specs.LogicTyping.{Surroundings}
-use Rattle.stream_model.specs.ParameterTyping.{Site}
-use Rattle.stream_model.specs.StreamTypes.{passed}
+use Rattle.language_model.specs.declared.checked.Part.{Part}
+use Rattle.language_model.specs.Checking.{clauses_checked, fit_ports, outputs_checked}
+use Rattle.language_model.specs.FitLaws.{DollarsFit}
+use Rattle.language_model.specs.Keeping.{PartFits}
+use Rattle.language_model.specs.LogicTyping.{Surroundings}
+use Rattle.language_model.specs.ParameterTyping.{Site}
+use Rattle.language_model.specs.StreamTypes.{passed}
 
 -- the clauses of an operator that are accepted fit its ports
 abbrev pub PartsLaw : Type 0

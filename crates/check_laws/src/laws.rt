@@ -2,7 +2,7 @@
 ghost use Rattle.check_laws.specs.KeepsLaw.{KeepsLaw};
 ghost use Rattle.check_laws.specs.PartsLaw.{PartsLaw};
 
-use stream_model::{bodies_law, dollars_law, flat_law, typing_law};
+use language_model::{bodies_law, dollars_law, flat_law, typing_law};
 
 /// The clauses of an operator that are accepted fit its ports: codes fit its scope, attributes are those
 /// of its ports, and numbers are in their ranges.

@@ -5,16 +5,16 @@ use Rattle.spl_tree.specs.declared.body.Function.{Function}
 use Rattle.spl_tree.specs.declared.graph.Graph.{Graph}
 use Rattle.spl_tree.specs.declared.unit.Composite.{Composite}
 use Rattle.spl_tree.specs.declared.unit.Definition.{Definition}
-use Rattle.stream_model.specs.CheckedGraph.{CheckedGraph}
-use Rattle.stream_model.specs.Checking.{checked, each_stream, operators_checked}
-use Rattle.stream_model.specs.Expansion as expansion
-use Rattle.stream_model.specs.Flat.{IsFlat, IsMain, flat_from, twice, no_main, recursive, expands}
-use Rattle.stream_model.specs.FlatLaws.{OperatorLaw}
-use Rattle.stream_model.specs.FunctionTyping.{functions_typing}
-use Rattle.stream_model.specs.Numbering.{numbers_from}
-use Rattle.stream_model.specs.Parameters.{dollar_tables}
-use Rattle.stream_model.specs.Scopes.{At}
-use Rattle.stream_model.specs.Typing.{Found, after}
+use Rattle.language_model.specs.CheckedGraph.{CheckedGraph}
+use Rattle.language_model.specs.Checking.{checked, each_stream, operators_checked}
+use Rattle.language_model.specs.Expansion as expansion
+use Rattle.language_model.specs.Flat.{IsFlat, IsMain, flat_from, twice, no_main, recursive, expands}
+use Rattle.language_model.specs.FlatLaws.{OperatorLaw}
+use Rattle.language_model.specs.FunctionTyping.{functions_typing}
+use Rattle.language_model.specs.Numbering.{numbers_from}
+use Rattle.language_model.specs.Parameters.{dollar_tables}
+use Rattle.language_model.specs.Scopes.{At}
+use Rattle.language_model.specs.Typing.{Found, after}
 use Rattle.clause_rules.specs.declared.checking.Found.{Found as Parts}
 use Rattle.clause_rules.specs.Programs.{AreInvoked, found_in}
 

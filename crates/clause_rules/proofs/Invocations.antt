@@ -12,18 +12,18 @@ use Rattle.spl_tree.specs.declared.unit.InputPort.{InputPort}
 use Rattle.spl_tree.specs.declared.unit.Invocation.{Invocation}
 use Rattle.spl_tree.specs.declared.unit.OutputStream.{OutputStream}
 use Rattle.spl_tree.specs.Grammar.{Expr}
-use Rattle.stream_model.specs.declared.checked.Part.{Part}
-use Rattle.stream_model.specs.declared.checked.PortTypes.{PortTypes}
-use Rattle.stream_model.specs.declared.scope.Port.{Port}
-use Rattle.stream_model.specs.declared.scope.Scope.{Scope}
-use Rattle.stream_model.specs.Checking.{body_checked, clauses_checked, invocation_checked, operator_checked, port_name, port_types, outputs_checked, ports_checked, ports_of, surroundings}
-use Rattle.stream_model.specs.FunctionTyping.{unit_scope}
-use Rattle.stream_model.specs.Literals.{followed}
-use Rattle.stream_model.specs.Parameters.{Tables, table_at}
-use Rattle.stream_model.specs.SinkFiles.{composite_of}
-use Rattle.stream_model.specs.StreamTypes.{Attributes, Body, Passes, body_at, outputs_attributes, passed, stream_attributes, output_heads, ports_attributes}
-use Rattle.stream_model.specs.TypeNames.{Types, composite_types}
-use Rattle.stream_model.specs.Typing.{Found, after, mismatch}
+use Rattle.language_model.specs.declared.checked.Part.{Part}
+use Rattle.language_model.specs.declared.checked.PortTypes.{PortTypes}
+use Rattle.language_model.specs.declared.scope.Port.{Port}
+use Rattle.language_model.specs.declared.scope.Scope.{Scope}
+use Rattle.language_model.specs.Checking.{body_checked, clauses_checked, invocation_checked, operator_checked, port_name, port_types, outputs_checked, ports_checked, ports_of, surroundings}
+use Rattle.language_model.specs.FunctionTyping.{unit_scope}
+use Rattle.language_model.specs.Literals.{followed}
+use Rattle.language_model.specs.Parameters.{Tables, table_at}
+use Rattle.language_model.specs.SinkFiles.{composite_of}
+use Rattle.language_model.specs.StreamTypes.{Attributes, Body, Passes, body_at, outputs_attributes, passed, stream_attributes, output_heads, ports_attributes}
+use Rattle.language_model.specs.TypeNames.{Types, composite_types}
+use Rattle.language_model.specs.Typing.{Found, after, mismatch}
 use Rattle.clause_rules.specs.Operators.{named}
 use Rattle.clause_rules.specs.Programs.{invocation_in}
 

@@ -1,8 +1,8 @@
 -- Ports by what has their names, with their attributes.
 use Rattle.std.specs.Prelude.{◌≡◌, ℕ, List, [], ◌∷◌, ◌++◌, map, length, Option, Some, None, slice_get}
 use Rattle.std.proofs.Common.{refl, sym, ap, ◌∙◌, append-nil}
-use Rattle.stream_model.specs.declared.scope.Port.{Port}
-use Rattle.stream_model.specs.StreamTypes.{Attributes}
+use Rattle.language_model.specs.declared.scope.Port.{Port}
+use Rattle.language_model.specs.StreamTypes.{Attributes}
 use Rattle.clause_rules.specs.Operators.{named}
 
 -- the port of what has a name, where there is one

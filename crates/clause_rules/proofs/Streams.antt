@@ -3,10 +3,10 @@ use Rattle.std.specs.Prelude.{◌≡◌, ◌+◌, ◌-◌, ◌<◌, ℕ, suc, Li
 use Rattle.std.proofs.Common.{refl, sym, ap, ◌∙◌, append_assoc, arith}
 use Rattle.spl_tree.specs.declared.graph.Graph.{Graph}
 use Rattle.spl_tree.specs.declared.unit.Definition.{Definition}
-use Rattle.stream_model.specs.Checking.{each_stream}
-use Rattle.stream_model.specs.Numbering.{numbers_from}
-use Rattle.stream_model.specs.StreamTypes.{Attributes, stream_attributes}
-use Rattle.stream_model.specs.Typing.{Found, after}
+use Rattle.language_model.specs.Checking.{each_stream}
+use Rattle.language_model.specs.Numbering.{numbers_from}
+use Rattle.language_model.specs.StreamTypes.{Attributes, stream_attributes}
+use Rattle.language_model.specs.Typing.{Found, after}
 use Rattle.type_rules.specs.declared.answer.TypeAnswer.{TypeAnswer}
 use Rattle.type_rules.specs.Finds.{Finds, with_front}
 use Rattle.clause_rules.proofs.Steps.{finds_by, stops}

@@ -7,18 +7,18 @@ use Rattle.spl_tree.specs.declared.code.Slot.{Slot}
 use Rattle.spl_tree.specs.declared.graph.Op.{Op}
 use Rattle.spl_tree.specs.declared.unit.Clauses.{Clauses}
 use Rattle.spl_tree.specs.declared.unit.OutputAssignments.{OutputAssignments}
-use Rattle.stream_model.specs.declared.checked.Collected.{Collected}
-use Rattle.stream_model.specs.declared.scope.CheckError.TheVariants as E
-use Rattle.stream_model.specs.declared.scope.Port.{Port}
-use Rattle.stream_model.specs.declared.scope.Scope.{Scope}
-use Rattle.stream_model.specs.Checking.{first_of, has_text_form, is_partitioned, parameters_checked, windows_checked}
-use Rattle.stream_model.specs.Checking as checking
-use Rattle.stream_model.specs.Literals.{number_literal}
-use Rattle.stream_model.specs.LogicTyping.{Surroundings}
-use Rattle.stream_model.specs.OutputTyping.{groups_typing, tuple_typing}
-use Rattle.stream_model.specs.ParameterTyping.{Site}
-use Rattle.stream_model.specs.StreamTypes.{Attributes, Passes, passed}
-use Rattle.stream_model.specs.Typing.{Found, after, refused}
+use Rattle.language_model.specs.declared.checked.Collected.{Collected}
+use Rattle.language_model.specs.declared.scope.CheckError.TheVariants as E
+use Rattle.language_model.specs.declared.scope.Port.{Port}
+use Rattle.language_model.specs.declared.scope.Scope.{Scope}
+use Rattle.language_model.specs.Checking.{first_of, has_text_form, is_partitioned, parameters_checked, windows_checked}
+use Rattle.language_model.specs.Checking as checking
+use Rattle.language_model.specs.Literals.{number_literal}
+use Rattle.language_model.specs.LogicTyping.{Surroundings}
+use Rattle.language_model.specs.OutputTyping.{groups_typing, tuple_typing}
+use Rattle.language_model.specs.ParameterTyping.{Site}
+use Rattle.language_model.specs.StreamTypes.{Attributes, Passes, passed}
+use Rattle.language_model.specs.Typing.{Found, after, refused}
 use Rattle.parameter_rules.specs.Sites.{followed_in}
 use Rattle.parameter_rules.specs.declared.literals.follow.Follow.{Follow}
 use Rattle.type_rules.specs.declared.answer.TypeAnswer.{TypeAnswer}

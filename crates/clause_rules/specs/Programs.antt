@@ -4,16 +4,16 @@ use Rattle.spl_tree.specs.declared.graph.Graph.{Graph}
 use Rattle.spl_tree.specs.declared.graph.Op.{Op}
 use Rattle.spl_tree.specs.declared.unit.Definition.{Definition}
 use Rattle.spl_tree.specs.declared.unit.Invocation.{Invocation}
-use Rattle.stream_model.specs.declared.checked.Part.{Part}
-use Rattle.stream_model.specs.declared.scope.Scope.{Scope}
-use Rattle.stream_model.specs.Checking.{clauses_checked, each_stream, operators_checked, port_types, ports_checked, ports_of, surroundings}
-use Rattle.stream_model.specs.FlatLaws.{IsInvoked}
-use Rattle.stream_model.specs.Literals.{followed}
-use Rattle.stream_model.specs.Numbering.{numbers_from}
-use Rattle.stream_model.specs.ParameterTyping.{Site}
-use Rattle.stream_model.specs.Parameters.{dollar_tables}
-use Rattle.stream_model.specs.StreamTypes.{Body, body_at}
-use Rattle.stream_model.specs.Typing.{Found as Finding, after}
+use Rattle.language_model.specs.declared.checked.Part.{Part}
+use Rattle.language_model.specs.declared.scope.Scope.{Scope}
+use Rattle.language_model.specs.Checking.{clauses_checked, each_stream, operators_checked, port_types, ports_checked, ports_of, surroundings}
+use Rattle.language_model.specs.FlatLaws.{IsInvoked}
+use Rattle.language_model.specs.Literals.{followed}
+use Rattle.language_model.specs.Numbering.{numbers_from}
+use Rattle.language_model.specs.ParameterTyping.{Site}
+use Rattle.language_model.specs.Parameters.{dollar_tables}
+use Rattle.language_model.specs.StreamTypes.{Body, body_at}
+use Rattle.language_model.specs.Typing.{Found as Finding, after}
 use Rattle.clause_rules.specs.declared.checking.Found.{Found}
 use Rattle.clause_rules.specs.declared.operators.Program.{Program}
 

@@ -1,8 +1,8 @@
 //! From the graph of a program to a checked one.
 ghost use Rattle.std.specs.Prelude.{◌≡◌, ℕ, List, Ok, length};
-ghost use Rattle.stream_model.specs.Checking.{checked, each_stream};
-ghost use Rattle.stream_model.specs.Flat.{IsFlat};
-ghost use Rattle.stream_model.specs.Numbering.{numbers_from};
+ghost use Rattle.language_model.specs.Checking.{checked, each_stream};
+ghost use Rattle.language_model.specs.Flat.{IsFlat};
+ghost use Rattle.language_model.specs.Numbering.{numbers_from};
 ghost use Rattle.stream_rules.specs.Streams.{IsTableOf};
 ghost use Rattle.type_rules.specs.Finds.{Finds, Narrows};
 ghost use Rattle.clause_rules.specs.Programs.{AreInvoked, found_in};
@@ -10,11 +10,11 @@ ghost use Rattle.clause_rules.specs.Programs.{AreInvoked, found_in};
 use crate::operators::{Program, operators_checked};
 use body_rules::{functions_of, scope_of_unit};
 use check_laws::keeps_law;
+use language_model::{Checked, Part, flat_law};
 use parameter_rules::CompositeTable;
 use spl_tree::{Graph, Unit};
 use spl_value::{Items, Schema};
 use std::alloc::Global;
-use stream_model::{Checked, Part, flat_law};
 use stream_rules::{Sites, StreamTable, dollar_tables};
 use type_rules::TypeAnswer;
 

@@ -1,9 +1,9 @@
 //! The operators of a graph, in the order of their declaration.
 ghost use Rattle.std.specs.Prelude.{◌≡◌, [], false, length, slice_set, IfOk};
-ghost use Rattle.stream_model.specs.Checking.{clauses_checked, is_partitioned, operator_checked, operators_checked, parameters_checked};
-ghost use Rattle.stream_model.specs.FlatLaws.{IsInvoked};
-ghost use Rattle.stream_model.specs.FunctionTyping.{unit_scope};
-ghost use Rattle.stream_model.specs.Parameters.{table_at};
+ghost use Rattle.language_model.specs.Checking.{clauses_checked, is_partitioned, operator_checked, operators_checked, parameters_checked};
+ghost use Rattle.language_model.specs.FlatLaws.{IsInvoked};
+ghost use Rattle.language_model.specs.FunctionTyping.{unit_scope};
+ghost use Rattle.language_model.specs.Parameters.{table_at};
 ghost use Rattle.parameter_rules.specs.Sites.{site_seen};
 ghost use Rattle.stream_rules.specs.Bodies.{body_seen};
 ghost use Rattle.stream_rules.specs.Streams.{IsTableOf};
@@ -14,6 +14,7 @@ ghost use Rattle.clause_rules.specs.Programs.{AreInvoked, IsBody, invocation_in,
 use crate::parts::{Around, Checks, output_rows, part_of};
 use crate::ports::{config_checked, outputs_of, ports_checked, ports_of};
 use crate::refusals::refused;
+use language_model::{CheckError, Dollar, Given, Part, Policy, Scope};
 use parameter_rules::{
     CompositeTable, ExpressionSite, Follow, is_partitioned, parameters_of, windows_of,
 };
@@ -21,7 +22,6 @@ use spl_tree::{Clauses, Graph, Invocation, Op, Parameter};
 use spl_value::Items;
 use std::alloc::Global;
 use std::mem::replace;
-use stream_model::{CheckError, Dollar, Given, Part, Policy, Scope};
 use stream_rules::{Body, Sites, StreamTable, port_types};
 use type_rules::TypeAnswer;
 

@@ -1,12 +1,12 @@
 //! What is answered where an operator is refused.
 ghost use Rattle.std.specs.Prelude.{◌≡◌, Some, None};
-ghost use Rattle.stream_model.specs.declared.scope.CheckError.{CheckError};
+ghost use Rattle.language_model.specs.declared.scope.CheckError.{CheckError};
 ghost use Rattle.type_rules.specs.declared.answer.TypeAnswer.TheVariants.{Refused};
 ghost use Rattle.clause_rules.specs.Refusals.{IsRefused};
 
+use language_model::{CheckError, CheckRefusal};
 use spl_value::Items;
 use std::alloc::Global;
-use stream_model::{CheckError, CheckRefusal};
 use type_rules::TypeAnswer;
 
 /// A refusal about no name.

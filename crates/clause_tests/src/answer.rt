@@ -2,11 +2,11 @@
 use crate::shown::{parts_text, refusal_text, types_text};
 use clause_rules::{CheckAnswer, check};
 use composite_expand::expand;
+use language_model::Checked;
 use spl_lexer::lex;
 use spl_tree::Unit;
 use spl_value::Items;
 use std::alloc::{AllocError, Global};
-use stream_model::Checked;
 use unit_parser::parse_unit;
 
 /// What stands in front of the texts of rows, and what stands behind.

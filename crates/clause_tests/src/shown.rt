@@ -16,13 +16,13 @@
 //! The types of streams are their attributes: `int32 a, list<rstring> b; int32 a`.
 //!
 //! A refusal is its code, its place and its name where it has one: `Y1 at 27 foo`.
-use spl_tree::{Code, Slot};
-use spl_value::{Attribute, IntKind, SplType};
-use std::alloc::{AllocError, Global};
-use stream_model::{
+use language_model::{
     CheckError, CheckRefusal, Checked, Collected, Collector, Handlers, Part, Policy, Position,
     WindowRule,
 };
+use spl_tree::{Code, Slot};
+use spl_value::{Attribute, IntKind, SplType};
+use std::alloc::{AllocError, Global};
 
 // A text that grows. Once memory is wanting, nothing more is added.
 #[derive(Drop)]

@@ -2,7 +2,7 @@
 use Rattle.std.proofs.Common.{◌≡◌, ◌∙◌, List, ◌++◌, Result, Ok, Err, ap, sym, append_assoc}
 use Rattle.spl_value.specs.declared.memory.NoMemory.{NoMemory}
 use Rattle.spl_tree.specs.declared.expression.Placed.{Placed}
-use Rattle.stream_model.specs.Mentions.{Mentions}
+use Rattle.language_model.specs.Mentions.{Mentions}
 use Rattle.composite_expand.specs.declared.mentions.Mention.{Mention}
 use Rattle.composite_expand.specs.Mentioned.{Adds, mentions_seen}
 

@@ -4,9 +4,9 @@ use Rattle.std.specs.Prelude.{Bool, true, false, slice_get, reverse}
 use Rattle.std.proofs.lemmas.Option.{slice_get_within}
 use Rattle.spl_tree.specs.declared.unit.Composite.{Composite}
 use Rattle.spl_tree.specs.declared.unit.Definition.{Definition}
-use Rattle.stream_model.specs.Composites.{composites}
-use Rattle.stream_model.specs.Expansion.{Made, Found, after, expanded, expanded_graph, expanded_main, main_body}
-use Rattle.stream_model.specs.Scopes.{At}
+use Rattle.language_model.specs.Composites.{composites}
+use Rattle.language_model.specs.Expansion.{Made, Found, after, expanded, expanded_graph, expanded_main, main_body}
+use Rattle.language_model.specs.Scopes.{At}
 use Rattle.composite_expand.specs.declared.walk.Opened.{Opened}
 use Rattle.composite_expand.specs.declared.walk.Walk.{Walk}
 use Rattle.composite_expand.specs.Inputs.{Shows, InputsStand}

@@ -3,7 +3,7 @@ use Rattle.std.specs.Prelude.{◌≡◌, ◌<◌, ◌≤◌, Bool, true, false, 
 use Rattle.std.specs.Option.{option_map_or}
 use Rattle.std.proofs.Common.{refl, sym, ap, ◌∙◌, arith, lt-ltb, le-ltb, ltb-true, ltb-false}
 use Rattle.std.proofs.lemmas.Grind.{flat_map-append}
-use Rattle.stream_model.specs.Declarations.{Name, Sets, repeated_names, first_in_text}
+use Rattle.language_model.specs.Declarations.{Name, Sets, repeated_names, first_in_text}
 use Rattle.composite_expand.specs.Earliest.{earlier, earliest, earliest_in}
 
 pub earliest-append : (best : Option Name) (xs ys : List Name) → earliest best (xs ++ ys) ≡ earliest (earliest best xs) ys

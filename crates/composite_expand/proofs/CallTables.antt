@@ -6,9 +6,9 @@ use Rattle.std.specs.List.{cons_option}
 use Rattle.std.specs.Str.{bytes_eq}
 use Rattle.std.specs.Map.{update}
 use Rattle.spl_tree.specs.declared.expression.Placed.{Placed}
-use Rattle.stream_model.specs.Scopes.{At, at_place, first_from}
-use Rattle.stream_model.specs.Recursion as D
-use Rattle.stream_model.specs.Recursion.{call_among, calls_among}
+use Rattle.language_model.specs.Scopes.{At, at_place, first_from}
+use Rattle.language_model.specs.Recursion as D
+use Rattle.language_model.specs.Recursion.{call_among, calls_among}
 use Rattle.composite_expand.specs.declared.recursion.Caller.{Caller}
 use Rattle.composite_expand.specs.Taking.{AreAmong}
 use Rattle.composite_expand.specs.Named.{caller_seen, callers_seen, place_from, found_place}

@@ -4,7 +4,7 @@ use Rattle.std.specs.Prelude.{slice_get}
 use Rattle.std.specs.List.{Contains}
 use Rattle.std.proofs.lemmas.Option.{slice_get-get_or, get_or_from_slice_get}
 use Rattle.spl_tree.specs.declared.expression.Placed.{Placed}
-use Rattle.stream_model.specs.Recursion.{Calls, IsCall}
+use Rattle.language_model.specs.Recursion.{Calls, IsCall}
 use Rattle.composite_expand.specs.Callers.{Lists, AreEmpty, AreCallers, NotesAll, Calling}
 use Rattle.composite_expand.proofs.Gets.{get_within, append_cases}
 

@@ -7,16 +7,16 @@ use Rattle.spl_tree.specs.declared.graph.Graph.{Graph}
 use Rattle.spl_tree.specs.declared.unit.Composite.{Composite}
 use Rattle.spl_tree.specs.declared.unit.Definition.{Definition}
 use Rattle.spl_tree.specs.Grammar.{placed}
-use Rattle.stream_model.specs.declared.expansion.ExpansionRefusal.TheVariants as R
-use Rattle.stream_model.specs.declared.expansion.Operation.{Operation}
-use Rattle.stream_model.specs.Composites.{composites, composite_named, main_of, named_or_only, only_one, if_main, may_be_main, has_no_ports, is_empty, portless, behind_first}
-use Rattle.stream_model.specs.Declarations.{declared_twice, first_of}
-use Rattle.stream_model.specs.Expansion.{Made, Found, after}
-use Rattle.stream_model.specs.Flat.{IsFlat, flat_from, ordered, if_all_taken, graph_of, label_at, files_had, if_none_had, with_own_files}
-use Rattle.stream_model.specs.Numbering.{ops_from, streams_from, expansions_from}
-use Rattle.stream_model.specs.Recursion.{HasNoRecursion, IsRecursive, IsNotRecursive, composite_callers}
-use Rattle.stream_model.specs.Scopes.{At, first_from}
-use Rattle.stream_model.specs.Taking.{taken, first_untaken, is_taken}
+use Rattle.language_model.specs.declared.expansion.ExpansionRefusal.TheVariants as R
+use Rattle.language_model.specs.declared.expansion.Operation.{Operation}
+use Rattle.language_model.specs.Composites.{composites, composite_named, main_of, named_or_only, only_one, if_main, may_be_main, has_no_ports, is_empty, portless, behind_first}
+use Rattle.language_model.specs.Declarations.{declared_twice, first_of}
+use Rattle.language_model.specs.Expansion.{Made, Found, after}
+use Rattle.language_model.specs.Flat.{IsFlat, flat_from, ordered, if_all_taken, graph_of, label_at, files_had, if_none_had, with_own_files}
+use Rattle.language_model.specs.Numbering.{ops_from, streams_from, expansions_from}
+use Rattle.language_model.specs.Recursion.{HasNoRecursion, IsRecursive, IsNotRecursive, composite_callers}
+use Rattle.language_model.specs.Scopes.{At, first_from}
+use Rattle.language_model.specs.Taking.{taken, first_untaken, is_taken}
 use Rattle.composite_expand.specs.declared.answer.ExpandAnswer.{ExpandAnswer}
 use Rattle.composite_expand.specs.declared.answer.ExpandAnswer.TheVariants as X
 use Rattle.composite_expand.specs.Expands.{Expands, IsAnswer}

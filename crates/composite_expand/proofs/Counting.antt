@@ -12,8 +12,8 @@ use Rattle.spl_tree.specs.declared.graph.Site.{Site}
 use Rattle.spl_tree.specs.declared.unit.Composite.{Composite}
 use Rattle.spl_tree.specs.declared.unit.InputPort.{InputPort}
 use Rattle.spl_tree.specs.declared.unit.Invocation.{Invocation}
-use Rattle.stream_model.specs.declared.expansion.Source.{Source}
-use Rattle.stream_model.specs.Expansion.{Inlined, input_sources, names_of_port, port_names, sources_of}
+use Rattle.language_model.specs.declared.expansion.Source.{Source}
+use Rattle.language_model.specs.Expansion.{Inlined, input_sources, names_of_port, port_names, sources_of}
 use Rattle.composite_expand.specs.declared.made.Input.{Input}
 use Rattle.composite_expand.specs.declared.made.Taken.TheVariants as T
 use Rattle.composite_expand.specs.declared.inputs.Counted.{Counted}

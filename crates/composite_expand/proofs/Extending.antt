@@ -5,9 +5,9 @@ use Rattle.std.proofs.Common.{◌⊎◌, inl, inr, refl, sym, ap, subst, ◌∙�
 use Rattle.std.proofs.lemmas.Option.{none-some, same_Some, slice_get_within}
 use Rattle.spl_tree.specs.declared.graph.Site.{Site}
 use Rattle.spl_tree.specs.declared.unit.Definition.{Definition}
-use Rattle.stream_model.specs.declared.expansion.Source.{Source}
-use Rattle.stream_model.specs.Expansion.{Inlined, own_or_input, input_sources, names_of_port, place_of, port_names, sources_of, taken_in}
-use Rattle.stream_model.specs.Invoking.{input_names, stream_names}
+use Rattle.language_model.specs.declared.expansion.Source.{Source}
+use Rattle.language_model.specs.Expansion.{Inlined, own_or_input, input_sources, names_of_port, place_of, port_names, sources_of, taken_in}
+use Rattle.language_model.specs.Invoking.{input_names, stream_names}
 use Rattle.composite_expand.specs.declared.made.Body.{Body}
 use Rattle.composite_expand.specs.declared.made.Input.{Input}
 use Rattle.composite_expand.specs.declared.made.Taken.{Taken}

@@ -6,9 +6,9 @@ use Rattle.std.proofs.lemmas.Bool.{cases_lt}
 use Rattle.std.proofs.lemmas.List.{length-replicate, length-set}
 use Rattle.std.proofs.lemmas.Option.{slice_get-map, slice_get_past}
 use Rattle.spl_tree.specs.declared.unit.Definition.{Definition}
-use Rattle.stream_model.specs.declared.expansion.Source.{Source}
-use Rattle.stream_model.specs.Expansion.{Inlined, Made, source}
-use Rattle.stream_model.specs.Numbering.{site_at, graph_outputs, operator_at, operator_or_expansion, stream_of}
+use Rattle.language_model.specs.declared.expansion.Source.{Source}
+use Rattle.language_model.specs.Expansion.{Inlined, Made, source}
+use Rattle.language_model.specs.Numbering.{site_at, graph_outputs, operator_at, operator_or_expansion, stream_of}
 use Rattle.composite_expand.specs.declared.made.Body.{Body}
 use Rattle.composite_expand.specs.Inputs.{Shows, AreNested}
 use Rattle.composite_expand.specs.SiteTable.{Parts, parts_of, stream_there, row_of, row_at, filled, table_of}

@@ -7,9 +7,9 @@ use Rattle.std.proofs.lemmas.List.{map-append}
 use Rattle.std.proofs.Math.Seq.{take-suc}
 use Rattle.spl_tree.specs.declared.unit.Composite.{Composite}
 use Rattle.spl_tree.specs.declared.unit.Parameter.{Parameter}
-use Rattle.stream_model.specs.Composites.{is_empty}
-use Rattle.stream_model.specs.Declarations.{Name, is_same, repeated_after}
-use Rattle.stream_model.specs.Invoking.{is_among, is_argument, has_value, fit_parameters}
+use Rattle.language_model.specs.Composites.{is_empty}
+use Rattle.language_model.specs.Declarations.{Name, is_same, repeated_after}
+use Rattle.language_model.specs.Invoking.{is_among, is_argument, has_value, fit_parameters}
 use Rattle.composite_expand.specs.Invocations.{argument_names, fit_once}
 
 abbrev pub again : List Name → List Parameter → List Name

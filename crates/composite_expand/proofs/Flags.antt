@@ -10,7 +10,7 @@ use Rattle.std.proofs.lemmas.List.Folds.{list_any-append, list_all-append, list_
 use Rattle.std.proofs.Math.Nat.{zero-add}
 use Rattle.spl_tree.specs.declared.graph.Op.{Op}
 use Rattle.spl_tree.specs.declared.graph.Stream.{Stream}
-use Rattle.stream_model.specs.Taking.{is_taken, next_from, taken_on, first_untaken}
+use Rattle.language_model.specs.Taking.{is_taken, next_from, taken_on, first_untaken}
 use Rattle.composite_expand.proofs.Lists.{drop_at, take_at}
 use Rattle.composite_expand.specs.Makers.{is_made, are_made, Adds, AreRows, covers_from, covers, covers_all, ready, first_ready}
 

@@ -12,10 +12,10 @@ use Rattle.spl_tree.specs.declared.unit.Composite.{Composite}
 use Rattle.spl_tree.specs.declared.unit.Definition.{Definition}
 use Rattle.spl_tree.specs.declared.unit.InputPort.{InputPort}
 use Rattle.spl_tree.specs.declared.unit.Invocation.{Invocation}
-use Rattle.stream_model.specs.declared.expansion.Source.{Source}
-use Rattle.stream_model.specs.Composites.{composites}
-use Rattle.stream_model.specs.Expansion.{Inlined, names_of_port, own_or_input, place_of, port_names, sources_of, taken_in}
-use Rattle.stream_model.specs.Invoking.{stream_names}
+use Rattle.language_model.specs.declared.expansion.Source.{Source}
+use Rattle.language_model.specs.Composites.{composites}
+use Rattle.language_model.specs.Expansion.{Inlined, names_of_port, own_or_input, place_of, port_names, sources_of, taken_in}
+use Rattle.language_model.specs.Invoking.{stream_names}
 use Rattle.composite_expand.specs.declared.made.Body.{Body}
 use Rattle.composite_expand.specs.declared.made.Input.{Input}
 use Rattle.composite_expand.specs.declared.sources.Reading.{Reading}

@@ -7,7 +7,7 @@ use Rattle.std.proofs.Math.Seq.{take-suc}
 use Rattle.spl_tree.specs.declared.unit.Composite.{Composite}
 use Rattle.spl_tree.specs.declared.unit.Definition.{Definition}
 use Rattle.spl_tree.specs.declared.unit.Definition.TheVariants as D
-use Rattle.stream_model.specs.Composites.{as_composite, composites}
+use Rattle.language_model.specs.Composites.{as_composite, composites}
 use Rattle.composite_expand.specs.declared.tables.Names.{Names}
 use Rattle.composite_expand.specs.declared.tables.Scope.{Scope}
 use Rattle.composite_expand.specs.Names.{StandFor, composite_names}

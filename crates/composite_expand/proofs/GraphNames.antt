@@ -2,7 +2,7 @@
 use Rattle.std.specs.Prelude.{◌≡◌, ℕ, ◌+◌, ◌<◌, ◌≤◌, Bool, true, false, ◌||◌, ◌&&◌, List, [], ◌∷◌, ◌++◌, map, flat_map, length, drop}
 use Rattle.std.proofs.Common.{refl, sym, ap, ◌∙◌, append_assoc, append-nil, get_or}
 use Rattle.std.proofs.lemmas.List.{drop_all, map-append}
-use Rattle.stream_model.specs.Declarations.{Name, is_same, Declared, OutputPort, InputPort, MadeStream, Alias, is_declared}
+use Rattle.language_model.specs.Declarations.{Name, is_same, Declared, OutputPort, InputPort, MadeStream, Alias, is_declared}
 use Rattle.composite_expand.specs.declared.declarations.graphs.GraphName.{GraphName}
 use Rattle.composite_expand.specs.Graphs.{shown, outputs_of, others_of}
 use Rattle.composite_expand.specs.NamesBefore.{Has}

@@ -4,7 +4,7 @@ use Rattle.std.specs.Borrow.{Bor}
 use Rattle.std.specs.HashMap.{get}
 use Rattle.std.specs.Str.{bytes_eq}
 use Rattle.std.proofs.Common.{ap, sym, ◌∙◌, length-append}
-use Rattle.stream_model.specs.Invoking.{is_among}
+use Rattle.language_model.specs.Invoking.{is_among}
 use Rattle.composite_expand.specs.declared.tables.Names.{Names}
 use Rattle.composite_expand.specs.Names.{StandFor, same_bytes}
 use Rattle.composite_expand.proofs.Places.{place_among, place_new}

@@ -5,8 +5,8 @@ use Rattle.std.specs.Str.{bytes_eq}
 use Rattle.std.proofs.Common.{refl, ap, sym, ◌∙◌}
 use Rattle.std.proofs.lemmas.List.{reverse-append}
 use Rattle.std.proofs.lemmas.List.Folds.{list_any-append}
-use Rattle.stream_model.specs.Declarations.{is_same}
-use Rattle.stream_model.specs.SinkFiles.{OpFile, is_had}
+use Rattle.language_model.specs.Declarations.{is_same}
+use Rattle.language_model.specs.SinkFiles.{OpFile, is_had}
 use Rattle.composite_expand.specs.declared.files.UsedFile.{UsedFile}
 use Rattle.composite_expand.specs.Seen.{file_seen}
 

@@ -7,8 +7,8 @@ use Rattle.std.proofs.lemmas.List.{drop_more}
 use Rattle.std.proofs.lemmas.Option.{slice_get-get_or, slice_get_past}
 use Rattle.spl_tree.specs.declared.graph.Site.{Site}
 use Rattle.spl_tree.specs.declared.unit.Composite.{Composite}
-use Rattle.stream_model.specs.declared.expansion.Operation.{Operation}
-use Rattle.stream_model.specs.Numbering.{is_site}
+use Rattle.language_model.specs.declared.expansion.Operation.{Operation}
+use Rattle.language_model.specs.Numbering.{is_site}
 use Rattle.composite_expand.specs.declared.made.Body.{Body}
 use Rattle.composite_expand.specs.SiteTable.{Parts, first_at, body_at, composite_of}
 use Rattle.composite_expand.proofs.Numbers.{rest_at}

@@ -4,9 +4,9 @@ use Rattle.std.proofs.Common.{refl, sym, ap, subst}
 use Rattle.std.proofs.lemmas.Option.{none-some, same_Some, slice_get_within}
 use Rattle.spl_tree.specs.declared.unit.Composite.{Composite}
 use Rattle.spl_tree.specs.declared.unit.Definition.{Definition}
-use Rattle.stream_model.specs.Composites.{composites}
-use Rattle.stream_model.specs.Expansion.{Inlined, main_body}
-use Rattle.stream_model.specs.Scopes.{At}
+use Rattle.language_model.specs.Composites.{composites}
+use Rattle.language_model.specs.Expansion.{Inlined, main_body}
+use Rattle.language_model.specs.Scopes.{At}
 use Rattle.composite_expand.specs.declared.made.Body.{Body}
 use Rattle.composite_expand.specs.declared.made.Input.{Input}
 use Rattle.composite_expand.specs.Inputs.{AreInputs, IsBefore, ShowsBody}

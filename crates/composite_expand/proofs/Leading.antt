@@ -2,7 +2,7 @@
 use Rattle.std.proofs.Common.{◌≡◌, ◌<◌, ◌≤◌, ◌↔◌, ℕ, suc, List, length, Some, ap, sym, inl, inr, subst, arith}
 use Rattle.std.specs.Prelude.{slice_get}
 use Rattle.spl_tree.specs.declared.expression.Placed.{Placed}
-use Rattle.stream_model.specs.Recursion.{Calls, IsCall, Leads, directly, through, IsBack, IsAcyclic, IsFirstRecursion}
+use Rattle.language_model.specs.Recursion.{Calls, IsCall, Leads, directly, through, IsBack, IsAcyclic, IsFirstRecursion}
 use Rattle.composite_expand.specs.declared.place_set.PlaceSet.{PlaceSet}
 use Rattle.composite_expand.specs.Standing.{Stands}
 use Rattle.composite_expand.specs.Callers.{Lists, Reached, near, far, AreCallers}

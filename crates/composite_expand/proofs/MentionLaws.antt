@@ -12,8 +12,8 @@ use Rattle.spl_tree.specs.declared.expression.ExprKind.TheOpen.{ExprKind-F}
 use Rattle.spl_tree.specs.declared.expression.ExprKind.TheViews.{out-ExprKind}
 use Rattle.spl_tree.specs.declared.expression.ExprKind.TheFolds.{fold-ExprKind, fold_out-ExprKind, map-ExprKind}
 use Rattle.spl_tree.specs.Grammar.{Expr, Prefix, placed}
-use Rattle.stream_model.specs.Mentions.{Mentions, At, Called, Dollar, level_mentions, expr_mentions}
-use Rattle.stream_model.specs.Mentions as D
+use Rattle.language_model.specs.Mentions.{Mentions, At, Called, Dollar, level_mentions, expr_mentions}
+use Rattle.language_model.specs.Mentions as D
 use Rattle.composite_expand.specs.Mentioned.{entry_mentions, field_mentions, step_mentions}
 
 abbrev pub mentions : ExprKind → ℕ → Mentions

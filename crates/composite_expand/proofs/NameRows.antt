@@ -1,7 +1,7 @@
 -- What stands next in a row, behind what stands before.
 use Rattle.std.specs.Prelude.{◌≡◌, Bool, true, false, not, ◌||◌, cond, if◌then◌else◌, List, [], ◌∷◌, ◌++◌}
 use Rattle.std.proofs.Common.{refl, ap}
-use Rattle.stream_model.specs.Declarations.{repeated_after}
+use Rattle.language_model.specs.Declarations.{repeated_after}
 
 pub or_cond : (a b : Bool) → cond a true b ≡ (a || b)
 or_cond true b = refl

@@ -5,10 +5,10 @@ use Rattle.std.specs.Str.{bytes_eq}
 use Rattle.std.proofs.Common.{refl, ap, sym, ◌∙◌, arith}
 use Rattle.spl_tree.specs.declared.unit.Composite.{Composite}
 use Rattle.spl_tree.specs.declared.unit.Definition.{Definition}
-use Rattle.stream_model.specs.Composites.{composites, composite_named}
-use Rattle.stream_model.specs.Expansion.{place_of}
-use Rattle.stream_model.specs.Scopes.{At, at_place, first_from}
-use Rattle.stream_model.specs.Standing.{Stands, first_stands}
+use Rattle.language_model.specs.Composites.{composites, composite_named}
+use Rattle.language_model.specs.Expansion.{place_of}
+use Rattle.language_model.specs.Scopes.{At, at_place, first_from}
+use Rattle.language_model.specs.Standing.{Stands, first_stands}
 use Rattle.composite_expand.specs.Names.{composite_names}
 
 abbrev place : {A : Type 0} → Option (At A) → Option ℕ

@@ -8,11 +8,11 @@ use Rattle.std.proofs.lemmas.Simd.{map-map}
 use Rattle.std.proofs.lemmas.Option.{slice_get_within, slice_get_past}
 use Rattle.spl_tree.specs.declared.unit.Definition.{Definition}
 use Rattle.spl_tree.specs.declared.unit.Invocation.{Invocation}
-use Rattle.stream_model.specs.declared.expansion.Operation.{Operation}
-use Rattle.stream_model.specs.declared.expansion.Source.{Source}
-use Rattle.stream_model.specs.Expansion.{Inlined, Made, source, sources_of, input_sources}
-use Rattle.stream_model.specs.Invoking.{stream_names}
-use Rattle.stream_model.specs.Numbering.{Output, numbers_from, first_stream, outputs_from, graph_outputs, operator_at, operator_or_expansion, site_at, stream_of, streams_of, ops_from, streams_from, own_sources, first_or_none, input_streams, expansion_of, expansions_from}
+use Rattle.language_model.specs.declared.expansion.Operation.{Operation}
+use Rattle.language_model.specs.declared.expansion.Source.{Source}
+use Rattle.language_model.specs.Expansion.{Inlined, Made, source, sources_of, input_sources}
+use Rattle.language_model.specs.Invoking.{stream_names}
+use Rattle.language_model.specs.Numbering.{Output, numbers_from, first_stream, outputs_from, graph_outputs, operator_at, operator_or_expansion, site_at, stream_of, streams_of, ops_from, streams_from, own_sources, first_or_none, input_streams, expansion_of, expansions_from}
 use Rattle.composite_expand.specs.declared.made.Body.{Body}
 use Rattle.composite_expand.specs.declared.made.Input.{Input}
 use Rattle.composite_expand.specs.declared.numbering.Numbered.{Numbered}

@@ -6,8 +6,8 @@ use Rattle.std.proofs.lemmas.Simd.{map-map}
 use Rattle.spl_tree.specs.declared.graph.Op.{Op}
 use Rattle.spl_tree.specs.declared.graph.Stream.{Stream}
 use Rattle.spl_tree.specs.declared.unit.Invocation.{Invocation}
-use Rattle.stream_model.specs.declared.expansion.Operation.{Operation}
-use Rattle.stream_model.specs.Numbering.{Output, numbers_from, outputs_from, streams_from}
+use Rattle.language_model.specs.declared.expansion.Operation.{Operation}
+use Rattle.language_model.specs.Numbering.{Output, numbers_from, outputs_from, streams_from}
 use Rattle.composite_expand.specs.StreamTable.{Table, op_in, ops_in}
 
 pub numbers_more : (n k : ℕ) → numbers_from n (k + 1) ≡ numbers_from n k ++ (n + k) ∷ []

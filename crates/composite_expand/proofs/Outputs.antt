@@ -5,9 +5,9 @@ use Rattle.std.proofs.Common.{refl, ap, sym, ◌∙◌, subst, arith}
 use Rattle.std.proofs.lemmas.List.Quantifiers.{position-Some}
 use Rattle.std.proofs.lemmas.Option.{get_or_from_slice_get, slice_get_past}
 use Rattle.spl_tree.specs.declared.graph.Site.{Site}
-use Rattle.stream_model.specs.declared.expansion.Source.{Source}
-use Rattle.stream_model.specs.Expansion.{Inlined, Made, source}
-use Rattle.stream_model.specs.Numbering.{is_site, site_at, graph_outputs, operator_at, expansion_at, output_place, operator_or_expansion, stream_of}
+use Rattle.language_model.specs.declared.expansion.Source.{Source}
+use Rattle.language_model.specs.Expansion.{Inlined, Made, source}
+use Rattle.language_model.specs.Numbering.{is_site, site_at, graph_outputs, operator_at, expansion_at, output_place, operator_or_expansion, stream_of}
 use Rattle.composite_expand.specs.Inputs.{IsBefore, AreNested}
 use Rattle.composite_expand.proofs.InvokedSites.{same_sites}
 

@@ -6,12 +6,12 @@ use Rattle.spl_tree.specs.declared.unit.Composite.{Composite}
 use Rattle.spl_tree.specs.declared.unit.Definition.{Definition}
 use Rattle.spl_tree.specs.declared.unit.Invocation.{Invocation}
 use Rattle.spl_tree.specs.Grammar.{placed}
-use Rattle.stream_model.specs.declared.expansion.ExpansionRefusal.{ExpansionRefusal}
-use Rattle.stream_model.specs.declared.expansion.ExpansionRefusal.TheVariants as R
-use Rattle.stream_model.specs.Expansion.{Made, Found, Inlined, Opened, Expands, after, expanded, expanded_graph, expanded_invocation, expanded_target, if_grown, if_declared, with_expansion, opened_in, inlined}
-use Rattle.stream_model.specs.Invoking.{Body, target_of, undeclared, fits_head}
-use Rattle.stream_model.specs.Declarations.{first_of}
-use Rattle.stream_model.specs.Scopes.{At}
+use Rattle.language_model.specs.declared.expansion.ExpansionRefusal.{ExpansionRefusal}
+use Rattle.language_model.specs.declared.expansion.ExpansionRefusal.TheVariants as R
+use Rattle.language_model.specs.Expansion.{Made, Found, Inlined, Opened, Expands, after, expanded, expanded_graph, expanded_invocation, expanded_target, if_grown, if_declared, with_expansion, opened_in, inlined}
+use Rattle.language_model.specs.Invoking.{Body, target_of, undeclared, fits_head}
+use Rattle.language_model.specs.Declarations.{first_of}
+use Rattle.language_model.specs.Scopes.{At}
 use Rattle.composite_expand.specs.Walking.{Frame, frame, rest_of, closed, resumed, Keeps, IsIdle}
 
 after_after : {A B C : Type 0} (x : Found A) (f : A → Found B) (g : B → Found C) → after (after x f) g ≡ after x (λ a. after (f a) g)

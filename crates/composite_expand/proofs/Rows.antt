@@ -2,7 +2,7 @@
 use Rattle.std.specs.Prelude.{◌≡◌, ℕ, suc, ◌+◌, ◌<◌, ◌≤◌, List, ◌∷◌, length, drop, flat_map, Option}
 use Rattle.std.proofs.Common.{sym, ap, ◌∙◌, get_or, drop-cons, add-one}
 use Rattle.std.proofs.lemmas.List.{drop_all}
-use Rattle.stream_model.specs.Declarations.{Name, Sets}
+use Rattle.language_model.specs.Declarations.{Name, Sets}
 use Rattle.composite_expand.specs.Earliest.{earliest_in}
 use Rattle.composite_expand.proofs.Best.{earliest_in-append}
 

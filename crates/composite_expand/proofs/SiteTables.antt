@@ -9,10 +9,10 @@ use Rattle.std.proofs.lemmas.Option.{slice_get_within}
 use Rattle.spl_tree.specs.declared.graph.Site.{Site}
 use Rattle.spl_tree.specs.declared.unit.Composite.{Composite}
 use Rattle.spl_tree.specs.declared.unit.Definition.{Definition}
-use Rattle.stream_model.specs.declared.expansion.Operation.{Operation}
-use Rattle.stream_model.specs.Composites.{composites}
-use Rattle.stream_model.specs.Expansion.{Inlined, Made, source}
-use Rattle.stream_model.specs.Numbering.{is_site, operator_at, expansion_at, output_place, operator_or_expansion, first_stream}
+use Rattle.language_model.specs.declared.expansion.Operation.{Operation}
+use Rattle.language_model.specs.Composites.{composites}
+use Rattle.language_model.specs.Expansion.{Inlined, Made, source}
+use Rattle.language_model.specs.Numbering.{is_site, operator_at, expansion_at, output_place, operator_or_expansion, first_stream}
 use Rattle.composite_expand.specs.declared.made.Body.{Body}
 use Rattle.composite_expand.specs.Inputs.{Shows}
 use Rattle.composite_expand.specs.SiteTable.{Parts, parts_of, first_at, body_at, composite_of, output_of, first_or_output, stream_there}

@@ -7,9 +7,9 @@ use Rattle.spl_tree.specs.declared.expression.Placed.{Placed}
 use Rattle.std.specs.Borrow.{Bor}
 use Rattle.spl_tree.specs.Grammar.{placed}
 use Rattle.spl_tree.specs.declared.unit.Definition.{Definition}
-use Rattle.stream_model.specs.Mentions.{calls, called_at}
-use Rattle.stream_model.specs.Composites.{as_function, as_composite}
-use Rattle.stream_model.specs.Recursion.{function_caller, composite_caller, function_callers, composite_callers}
+use Rattle.language_model.specs.Mentions.{calls, called_at}
+use Rattle.language_model.specs.Composites.{as_function, as_composite}
+use Rattle.language_model.specs.Recursion.{function_caller, composite_caller, function_callers, composite_callers}
 use Rattle.composite_expand.specs.declared.mentions.Mention.{Mention}
 use Rattle.composite_expand.specs.declared.mentions.Mention.TheVariants as M
 use Rattle.composite_expand.specs.Mentioned.{seen, mentioned, mentions_seen}

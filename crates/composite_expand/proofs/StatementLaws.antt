@@ -14,7 +14,7 @@ use Rattle.spl_tree.specs.declared.statement.StmtKind.TheViews.{out-StmtKind}
 use Rattle.spl_tree.specs.declared.statement.StmtKind.TheFolds.{fold-StmtKind, fold_out-StmtKind, map-StmtKind}
 use Rattle.spl_tree.specs.Grammar.{Expr}
 use Rattle.spl_tree.specs.StatementGrammar.{Stmt}
-use Rattle.stream_model.specs.Mentions.{Mentions, level_statement, statement_mentions, block_mentions, expr_mentions, optional_mentions, declaration_mentions}
+use Rattle.language_model.specs.Mentions.{Mentions, level_statement, statement_mentions, block_mentions, expr_mentions, optional_mentions, declaration_mentions}
 use Rattle.composite_expand.specs.Mentioned.{arm_mentions, other_mentions}
 use Rattle.composite_expand.proofs.Weights.{total}
 

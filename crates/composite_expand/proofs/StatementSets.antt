@@ -16,7 +16,7 @@ use Rattle.spl_tree.specs.declared.statement.StmtKind.TheFolds.{fold_out-StmtKin
 use Rattle.spl_tree.specs.Grammar.{Expr}
 use Rattle.spl_tree.specs.StatementGrammar.{Stmt}
 use Rattle.spl_tree.specs.TypeGrammar.{TypeExpr}
-use Rattle.stream_model.specs.Declarations.{Name, Sets, Scoped, block_of, block_sets, level_statement, statement_scoped, type_sets}
+use Rattle.language_model.specs.Declarations.{Name, Sets, Scoped, block_of, block_sets, level_statement, statement_scoped, type_sets}
 use Rattle.composite_expand.specs.Variables.{level_variable, own_variable}
 
 abbrev pub inner : StmtKind → Sets

@@ -9,23 +9,23 @@ use Rattle.spl_tree.specs.declared.unit.Composite.{Composite}
 use Rattle.spl_tree.specs.declared.unit.Definition.{Definition}
 use Rattle.spl_tree.specs.declared.unit.Invocation.{Invocation}
 use Rattle.spl_tree.specs.Grammar.{placed}
-use Rattle.stream_model.specs.declared.expansion.ExpansionRefusal.{ExpansionRefusal}
-use Rattle.stream_model.specs.declared.expansion.ExpansionRefusal.TheVariants as R
-use Rattle.stream_model.specs.declared.expansion.Operation.{Operation}
-use Rattle.stream_model.specs.Composites.{composites}
-use Rattle.stream_model.specs.Declarations.{first_of}
-use Rattle.stream_model.specs.Expansion.{Inlined, if_declared, expanded, expanded_target, expanded_invocation, expanded_main, connections_of, is_within, invocation_name, inlined, opened_in, operation, ports_of, if_grown, after, with_expansion, with_operation}
-use Rattle.stream_model.specs.Invoking.{Target, Operator, Body, Nothing, target_of, undeclared, fits_head}
-use Rattle.stream_model.specs.Recursion.{HasNoRecursion, composite_callers}
-use Rattle.stream_model.specs.Scopes.{At}
+use Rattle.language_model.specs.declared.expansion.ExpansionRefusal.{ExpansionRefusal}
+use Rattle.language_model.specs.declared.expansion.ExpansionRefusal.TheVariants as R
+use Rattle.language_model.specs.declared.expansion.Operation.{Operation}
+use Rattle.language_model.specs.Composites.{composites}
+use Rattle.language_model.specs.Declarations.{first_of}
+use Rattle.language_model.specs.Expansion.{Inlined, if_declared, expanded, expanded_target, expanded_invocation, expanded_main, connections_of, is_within, invocation_name, inlined, opened_in, operation, ports_of, if_grown, after, with_expansion, with_operation}
+use Rattle.language_model.specs.Invoking.{Target, Operator, Body, Nothing, target_of, undeclared, fits_head}
+use Rattle.language_model.specs.Recursion.{HasNoRecursion, composite_callers}
+use Rattle.language_model.specs.Scopes.{At}
 use Rattle.composite_expand.specs.declared.made.Body as M
 use Rattle.composite_expand.specs.declared.made.Input.{Input}
 use Rattle.composite_expand.specs.declared.walk.Opened.{Opened}
 use Rattle.composite_expand.specs.declared.walk.Walk.{Walk}
 use Rattle.composite_expand.specs.Inputs.{Shows, AreNested, AreInputs, InputsStand}
 use Rattle.composite_expand.proofs.Extending.{nested_more, nested_less, stand_more, stand_less, shows_more, shows_less}
-use Rattle.stream_model.proofs.Inlining.{found}
-use Rattle.stream_model.proofs.Nesting.{invoked_is_call}
+use Rattle.language_model.proofs.Inlining.{found}
+use Rattle.language_model.proofs.Nesting.{invoked_is_call}
 use Rattle.std.proofs.lemmas.Option.{slice_get_within, slice_get_read}
 use Rattle.std.proofs.lemmas.Bool.{eqb-true, lt-leb, le-leb, le-ltb, lt-ltb}
 use Rattle.composite_expand.specs.Reading.{IsBody}

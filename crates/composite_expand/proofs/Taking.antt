@@ -6,9 +6,9 @@ use Rattle.std.proofs.Common.{refl, sym, ap, subst, ◌∙◌, arith}
 use Rattle.std.proofs.lemmas.List.{length-map}
 use Rattle.std.proofs.lemmas.Option.{none-some, slice_get_within}
 use Rattle.spl_tree.specs.declared.unit.Composite.{Composite}
-use Rattle.stream_model.specs.Expansion.{Inlined, input_sources, own_or_input, place_of, source, sources_of}
-use Rattle.stream_model.specs.Invoking.{input_names, stream_names}
-use Rattle.stream_model.specs.Scopes.{at_place, first_from}
+use Rattle.language_model.specs.Expansion.{Inlined, input_sources, own_or_input, place_of, source, sources_of}
+use Rattle.language_model.specs.Invoking.{input_names, stream_names}
+use Rattle.language_model.specs.Scopes.{at_place, first_from}
 use Rattle.composite_expand.specs.declared.made.Input.{Input}
 use Rattle.composite_expand.specs.declared.made.Taken.TheVariants as T
 use Rattle.composite_expand.specs.Inputs.{AreNested, StandsFor}

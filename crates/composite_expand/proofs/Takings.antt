@@ -2,7 +2,7 @@
 use Rattle.std.proofs.Common.{◌≡◌, ◌<◌, ◌≤◌, ◌⊎◌, ◌∙◌, ℕ, zero, suc, List, [], ◌∷◌, length, take, Some, None, ap, sym, inl, inr, subst, arith}
 use Rattle.std.specs.Prelude.{slice_get}
 use Rattle.spl_tree.specs.declared.expression.Placed.{Placed}
-use Rattle.stream_model.specs.Recursion.{Calls, IsCall}
+use Rattle.language_model.specs.Recursion.{Calls, IsCall}
 use Rattle.composite_expand.specs.declared.place_set.PlaceSet.{PlaceSet}
 use Rattle.composite_expand.specs.Standing.{Stands, IsSet, Widens}
 use Rattle.composite_expand.specs.Callers.{Calling}

@@ -6,7 +6,7 @@ use Rattle.spl_tree.specs.declared.graph.Expansion.{Expansion}
 use Rattle.spl_tree.specs.declared.graph.Site.{Site}
 use Rattle.spl_tree.specs.declared.unit.Definition.{Definition}
 use Rattle.spl_tree.specs.Grammar.{Expr}
-use Rattle.stream_model.specs.SinkFiles.{Text, literal_or, own_text, text_in}
+use Rattle.language_model.specs.SinkFiles.{Text, literal_or, own_text, text_in}
 
 module _ (unit : List Definition) (expansions : List Expansion) where
   -- an argument, where an expansion is invoked

@@ -5,20 +5,20 @@ use Rattle.std.specs.List.{AllByRecursion}
 use Rattle.std.proofs.lemmas.Bool.{eq-eqb}
 use Rattle.std.proofs.lemmas.List.{length-map}
 use Rattle.std.proofs.lemmas.Option.{slice_get_within}
-use Rattle.stream_model.proofs.Inlining.{found}
-use Rattle.stream_model.proofs.Nesting.{invoked_is_call, composites_within}
+use Rattle.language_model.proofs.Inlining.{found}
+use Rattle.language_model.proofs.Nesting.{invoked_is_call, composites_within}
 use Rattle.std.proofs.lemmas.Bool.Decides.{eqb_tells}
 use Rattle.spl_tree.specs.declared.unit.Composite.{Composite}
 use Rattle.spl_tree.specs.declared.unit.Definition.{Definition}
 use Rattle.spl_tree.specs.declared.unit.Invocation.{Invocation}
-use Rattle.stream_model.specs.Composites.{composites}
-use Rattle.stream_model.specs.declared.expansion.ExpansionRefusal.{ExpansionRefusal}
-use Rattle.stream_model.specs.Expansion.{Made, Inlined, if_grown, with_expansion, with_operation, inlined, opened_in, invocation_name, expanded, expanded_invocation, expanded_main, connections_of, is_within}
-use Rattle.stream_model.specs.declared.expansion.Operation.{Operation}
-use Rattle.stream_model.specs.Declarations.{first_of}
-use Rattle.stream_model.specs.Invoking.{Body, target_of, undeclared, fits_head}
-use Rattle.stream_model.specs.Recursion.{IsCall, HasNoRecursion, composite_callers, calls_among}
-use Rattle.stream_model.specs.Scopes.{At}
+use Rattle.language_model.specs.Composites.{composites}
+use Rattle.language_model.specs.declared.expansion.ExpansionRefusal.{ExpansionRefusal}
+use Rattle.language_model.specs.Expansion.{Made, Inlined, if_grown, with_expansion, with_operation, inlined, opened_in, invocation_name, expanded, expanded_invocation, expanded_main, connections_of, is_within}
+use Rattle.language_model.specs.declared.expansion.Operation.{Operation}
+use Rattle.language_model.specs.Declarations.{first_of}
+use Rattle.language_model.specs.Invoking.{Body, target_of, undeclared, fits_head}
+use Rattle.language_model.specs.Recursion.{IsCall, HasNoRecursion, composite_callers, calls_among}
+use Rattle.language_model.specs.Scopes.{At}
 use Rattle.composite_expand.specs.declared.walk.Opened.{Opened}
 use Rattle.composite_expand.specs.declared.walk.Walk.{Walk}
 use Rattle.composite_expand.specs.Inputs.{Shows, AreNested, InputsStand}

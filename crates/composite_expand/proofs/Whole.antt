@@ -1,7 +1,7 @@
 -- Where none reaches itself, each caller is taken.
 use Rattle.std.proofs.Common.{◌≡◌, ◌<◌, ◌≤◌, ◌⊎◌, ℕ, zero, suc, ◌+◌, List, [], ◌∷◌, length, Some, refl, ap, inl, inr, subst, arith}
 use Rattle.std.specs.Prelude.{slice_get}
-use Rattle.stream_model.specs.Recursion.{Calls, IsCall, Leads, directly, through, IsAcyclic}
+use Rattle.language_model.specs.Recursion.{Calls, IsCall, Leads, directly, through, IsAcyclic}
 use Rattle.composite_expand.specs.declared.place_set.PlaceSet.{PlaceSet}
 use Rattle.composite_expand.specs.Standing.{Stands}
 use Rattle.composite_expand.specs.Taking.{IsTaken, Misses, AreCalleesFirst, AreAmong}

@@ -5,9 +5,9 @@ use Rattle.std.specs.Option.{option_map_or}
 use Rattle.spl_tree.specs.declared.unit.Composite.{Composite}
 use Rattle.spl_tree.specs.declared.unit.Definition.{Definition}
 use Rattle.spl_tree.specs.declared.unit.Invocation.{Invocation}
-use Rattle.stream_model.specs.Composites.{composites}
-use Rattle.stream_model.specs.Invoking.{Body, target_of}
-use Rattle.stream_model.specs.Scopes.{At}
+use Rattle.language_model.specs.Composites.{composites}
+use Rattle.language_model.specs.Invoking.{Body, target_of}
+use Rattle.language_model.specs.Scopes.{At}
 use Rattle.composite_expand.specs.declared.walk.Opened.{Opened}
 use Rattle.composite_expand.specs.declared.walk.Walk.{Walk}
 use Rattle.composite_expand.specs.Walking.{Frame}

@@ -1,7 +1,7 @@
 -- Which calls lead back to a place, by the set of those that lead to it.
 use Rattle.std.specs.Prelude.{◌≡◌, ◌<◌, ◌⊎◌, ℕ, Bool, true, false, List, slice_get, Some}
 use Rattle.spl_tree.specs.declared.expression.Placed.{Placed}
-use Rattle.stream_model.specs.Recursion.{Calls, IsBack}
+use Rattle.language_model.specs.Recursion.{Calls, IsBack}
 use Rattle.composite_expand.specs.Standing.{Stands}
 
 abbrev pub BackBy : List ℕ → ℕ → Placed ℕ → Type 0

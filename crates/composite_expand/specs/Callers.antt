@@ -1,7 +1,7 @@
 -- Who calls, and who leads to a place, by lists of callers.
 use Rattle.std.specs.Prelude.{◌≡◌, ◌<◌, ◌⊎◌, ℕ, List, slice_get, Some, length}
 use Rattle.spl_tree.specs.declared.expression.Placed.{Placed}
-use Rattle.stream_model.specs.Recursion.{Calls, IsCall}
+use Rattle.language_model.specs.Recursion.{Calls, IsCall}
 use Rattle.composite_expand.specs.Standing.{Stands}
 
 -- the list at that place has the other one

@@ -1,7 +1,7 @@
 -- What is known of an expansion while its streams are numbered.
 use Rattle.std.specs.Prelude.{◌≡◌}
 use Rattle.spl_tree.specs.declared.graph.Site.{Site}
-use Rattle.stream_model.specs.Composites.{composites}
+use Rattle.language_model.specs.Composites.{composites}
 use Rattle.composite_expand.specs.declared.numbering.standing.Standing.{Standing}
 use Rattle.composite_expand.specs.SiteTable.{Parts, number_at, first_at, body_at}
 

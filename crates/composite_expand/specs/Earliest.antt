@@ -1,6 +1,6 @@
 -- Of names that stand again, the one that stands first in the text.
 use Rattle.std.specs.Prelude.{List, [], ◌∷◌, flat_map, if◌then◌else◌, nat_lt, Option, Some, None}
-use Rattle.stream_model.specs.Declarations.{Name, Sets, repeated_names}
+use Rattle.language_model.specs.Declarations.{Name, Sets, repeated_names}
 
 -- of the best so far and one that stands behind it in the list: the first of two at one place
 abbrev pub earlier : Option Name → Name → Name

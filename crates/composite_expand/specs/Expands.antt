@@ -2,8 +2,8 @@
 use Rattle.std.specs.Prelude.{◌≡◌, ℕ, List, Result, Ok, Err}
 use Rattle.spl_tree.specs.declared.graph.Graph.{Graph}
 use Rattle.spl_tree.specs.declared.unit.Definition.{Definition}
-use Rattle.stream_model.specs.Expansion.{Found}
-use Rattle.stream_model.specs.Flat.{IsFlat}
+use Rattle.language_model.specs.Expansion.{Found}
+use Rattle.language_model.specs.Flat.{IsFlat}
 use Rattle.composite_expand.specs.declared.answer.ExpandAnswer.{ExpandAnswer}
 use Rattle.composite_expand.specs.declared.answer.ExpandAnswer.TheVariants as X
 

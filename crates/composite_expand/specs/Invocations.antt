@@ -9,12 +9,12 @@ use Rattle.spl_tree.specs.declared.unit.Definition.{Definition}
 use Rattle.spl_tree.specs.declared.unit.Invocation.{Invocation}
 use Rattle.spl_tree.specs.declared.unit.Parameter.{Parameter}
 use Rattle.spl_tree.specs.Grammar.{placed}
-use Rattle.stream_model.specs.Composites.{is_empty}
-use Rattle.stream_model.specs.Declarations.{repeated_names}
-use Rattle.stream_model.specs.Invoking.{Operator, Body, Nothing, target_of, is_nothing, is_argument, is_parameter, is_readable}
-use Rattle.stream_model.specs.Mentions.{Mentions, dollars}
-use Rattle.stream_model.specs.Invoking as I
-use Rattle.stream_model.specs.Scopes.{at_place}
+use Rattle.language_model.specs.Composites.{is_empty}
+use Rattle.language_model.specs.Declarations.{repeated_names}
+use Rattle.language_model.specs.Invoking.{Operator, Body, Nothing, target_of, is_nothing, is_argument, is_parameter, is_readable}
+use Rattle.language_model.specs.Mentions.{Mentions, dollars}
+use Rattle.language_model.specs.Invoking as I
+use Rattle.language_model.specs.Scopes.{at_place}
 use Rattle.composite_expand.specs.declared.invoking.Target.{Target}
 use Rattle.composite_expand.specs.declared.invoking.Target.TheVariants as T
 use Rattle.composite_expand.specs.declared.tables.Names.{Names}

@@ -12,8 +12,8 @@ use Rattle.spl_tree.specs.declared.unit.OutputAssignments.{OutputAssignments}
 use Rattle.spl_tree.specs.declared.unit.PortWindow.{PortWindow}
 use Rattle.spl_tree.specs.Grammar.{Expr, placed}
 use Rattle.spl_tree.specs.StatementGrammar.{Stmt}
-use Rattle.stream_model.specs.Mentions.{Mentions, Called, Dollar, expr_mentions, statement_mentions, block_mentions, logic_mentions, window_mentions, assignment_mentions}
-use Rattle.stream_model.specs.Mentions as D
+use Rattle.language_model.specs.Mentions.{Mentions, Called, Dollar, expr_mentions, statement_mentions, block_mentions, logic_mentions, window_mentions, assignment_mentions}
+use Rattle.language_model.specs.Mentions as D
 use Rattle.composite_expand.specs.declared.mentions.Mention.{Mention}
 use Rattle.composite_expand.specs.declared.mentions.Mention.TheVariants as M
 

@@ -5,8 +5,8 @@ use Rattle.std.specs.Option.{option_map}
 use Rattle.std.specs.Str.{bytes_eq}
 use Rattle.spl_tree.specs.declared.expression.Placed.{Placed}
 use Rattle.spl_tree.specs.Grammar.{placed}
-use Rattle.stream_model.specs.Recursion as D
-use Rattle.stream_model.specs.Scopes.{first_from}
+use Rattle.language_model.specs.Recursion as D
+use Rattle.language_model.specs.Scopes.{first_from}
 use Rattle.composite_expand.specs.declared.recursion.Caller.{Caller}
 
 abbrev pub name_seen : Placed (Bor (List ℕ)) → Placed (List ℕ)

@@ -7,8 +7,8 @@ use Rattle.std.specs.Str.{bytes_eq}
 use Rattle.spl_tree.specs.contracts.unit.Composite as row
 use Rattle.spl_tree.specs.declared.unit.Composite.{Composite}
 use Rattle.spl_tree.specs.declared.unit.Definition.{Definition}
-use Rattle.stream_model.specs.Composites.{composites}
-use Rattle.stream_model.specs.Expansion.{place_of}
+use Rattle.language_model.specs.Composites.{composites}
+use Rattle.language_model.specs.Expansion.{place_of}
 use Rattle.composite_expand.specs.declared.tables.Names.{Names}
 
 abbrev pub same_bytes : Bor (List ℕ) → Bor (List ℕ) → Bool

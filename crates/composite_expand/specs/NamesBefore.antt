@@ -4,7 +4,7 @@ use Rattle.std.specs.List.{list_any, cons_option}
 use Rattle.std.specs.Str.{bytes_eq}
 use Rattle.std.specs.Borrow.{Bor}
 use Rattle.std.specs.HashSet.{contains}
-use Rattle.stream_model.specs.Declarations.{Name, is_same, repeated_after}
+use Rattle.language_model.specs.Declarations.{Name, is_same, repeated_after}
 use Rattle.composite_expand.specs.declared.declarations.names.NamesBefore.{NamesBefore}
 
 abbrev pub same_bytes : Bor (List ℕ) → Bor (List ℕ) → Bool

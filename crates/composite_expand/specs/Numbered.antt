@@ -1,7 +1,7 @@
 -- The parts of a graph whose streams are numbered.
 use Rattle.std.specs.Prelude.{◌≡◌}
-use Rattle.stream_model.specs.Expansion.{Made}
-use Rattle.stream_model.specs.Numbering.{ops_from, streams_from, expansions_from}
+use Rattle.language_model.specs.Expansion.{Made}
+use Rattle.language_model.specs.Numbering.{ops_from, streams_from, expansions_from}
 use Rattle.composite_expand.specs.declared.numbering.Numbered.{Numbered}
 
 -- they are those of the operators and expansions that are made

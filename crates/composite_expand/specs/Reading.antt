@@ -5,9 +5,9 @@ use Rattle.spl_tree.specs.declared.expression.Placed.{Placed}
 use Rattle.spl_tree.specs.declared.graph.Site.{Site}
 use Rattle.spl_tree.specs.declared.unit.Composite.{Composite}
 use Rattle.spl_tree.specs.declared.unit.Definition.{Definition}
-use Rattle.stream_model.specs.declared.expansion.Source.{Source}
-use Rattle.stream_model.specs.Composites.{composites}
-use Rattle.stream_model.specs.Expansion.{Inlined, names_of_port, port_names, sources_of}
+use Rattle.language_model.specs.declared.expansion.Source.{Source}
+use Rattle.language_model.specs.Composites.{composites}
+use Rattle.language_model.specs.Expansion.{Inlined, names_of_port, port_names, sources_of}
 use Rattle.composite_expand.specs.declared.inputs.Counted.{Counted}
 use Rattle.composite_expand.specs.declared.made.Body.{Body}
 use Rattle.composite_expand.specs.declared.made.Input.{Input}

@@ -1,7 +1,7 @@
 -- What calls answer on the texts of parameters and the files of operators, as the definitions see it.
 use Rattle.std.specs.Prelude.{ℕ, List}
 use Rattle.spl_tree.specs.Grammar.{placed}
-use Rattle.stream_model.specs.SinkFiles.{Text, Literal, Argument, NoText, OpFile}
+use Rattle.language_model.specs.SinkFiles.{Text, Literal, Argument, NoText, OpFile}
 use Rattle.composite_expand.specs.declared.files.Form.{Form}
 use Rattle.composite_expand.specs.declared.files.Form.TheVariants as F
 use Rattle.composite_expand.specs.declared.files.UsedFile.{UsedFile}

@@ -5,10 +5,10 @@ use Rattle.std.specs.Option.{option_and_then, option_map_or}
 use Rattle.spl_tree.specs.declared.graph.Site.{Site}
 use Rattle.spl_tree.specs.declared.unit.Composite.{Composite}
 use Rattle.spl_tree.specs.declared.unit.Definition.{Definition}
-use Rattle.stream_model.specs.declared.expansion.Operation.{Operation}
-use Rattle.stream_model.specs.Composites.{composites}
-use Rattle.stream_model.specs.Expansion.{source}
-use Rattle.stream_model.specs.Numbering.{is_site, site_at, output_place, graph_outputs}
+use Rattle.language_model.specs.declared.expansion.Operation.{Operation}
+use Rattle.language_model.specs.Composites.{composites}
+use Rattle.language_model.specs.Expansion.{source}
+use Rattle.language_model.specs.Numbering.{is_site, site_at, output_place, graph_outputs}
 use Rattle.composite_expand.specs.declared.made.Body.{Body}
 use Rattle.composite_expand.specs.declared.numbering.sites.Sites.{Sites}
 use Rattle.composite_expand.specs.StreamTable.{Table, stream_in}

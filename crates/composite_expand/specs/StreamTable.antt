@@ -4,9 +4,9 @@ use Rattle.std.specs.Option.{option_and_then, option_map_or}
 use Rattle.spl_tree.specs.declared.graph.Expansion.{Expansion}
 use Rattle.spl_tree.specs.declared.graph.InputStreams.{InputStreams}
 use Rattle.spl_tree.specs.declared.graph.Op.{Op}
-use Rattle.stream_model.specs.declared.expansion.Operation.{Operation}
-use Rattle.stream_model.specs.declared.expansion.Source.{Source}
-use Rattle.stream_model.specs.Numbering.{numbers_from}
+use Rattle.language_model.specs.declared.expansion.Operation.{Operation}
+use Rattle.language_model.specs.declared.expansion.Source.{Source}
+use Rattle.language_model.specs.Numbering.{numbers_from}
 use Rattle.composite_expand.specs.declared.made.Body.{Body}
 use Rattle.composite_expand.specs.declared.made.Input.{Input}
 

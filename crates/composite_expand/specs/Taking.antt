@@ -1,7 +1,7 @@
 -- The callers that are taken: each behind those that it calls.
 use Rattle.std.specs.Prelude.{◌≡◌, ◌<◌, ◌≤◌, ◌⊎◌, ℕ, Bool, true, false, List, slice_get, Some, length}
 use Rattle.spl_tree.specs.declared.expression.Placed.{Placed}
-use Rattle.stream_model.specs.Recursion.{Calls, IsCall}
+use Rattle.language_model.specs.Recursion.{Calls, IsCall}
 use Rattle.composite_expand.specs.declared.place_set.PlaceSet.{PlaceSet}
 use Rattle.composite_expand.specs.Standing.{Stands, IsSet}
 use Rattle.composite_expand.specs.Callers.{Calling}

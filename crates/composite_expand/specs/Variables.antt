@@ -4,7 +4,7 @@ use Rattle.spl_tree.specs.declared.statement.StmtKind.{StmtKind}
 use Rattle.spl_tree.specs.declared.statement.StmtKind.TheOpen as Z
 use Rattle.spl_tree.specs.declared.statement.StmtKind.TheOpen.{StmtKind-F}
 use Rattle.spl_tree.specs.declared.statement.StmtKind.TheViews.{out-StmtKind}
-use Rattle.stream_model.specs.Declarations.{Name}
+use Rattle.language_model.specs.Declarations.{Name}
 
 abbrev pub level_variable : {A : Type 0} → StmtKind-F A → Option Name
 level_variable (Z.Declare d) = Some d.name

@@ -3,10 +3,10 @@ use Rattle.std.specs.Prelude.{◌≡◌, ℕ, suc, ◌≤◌, true, List, [], �
 use Rattle.spl_tree.specs.declared.unit.Composite.{Composite}
 use Rattle.spl_tree.specs.declared.unit.Definition.{Definition}
 use Rattle.spl_tree.specs.declared.unit.Invocation.{Invocation}
-use Rattle.stream_model.specs.Declarations.{first_of}
-use Rattle.stream_model.specs.Expansion.{Made, Found, Opened, after, expanded, expanded_graph, if_grown, with_expansion}
-use Rattle.stream_model.specs.Invoking.{Body, target_of, undeclared, fits_head}
-use Rattle.stream_model.specs.Scopes.{At}
+use Rattle.language_model.specs.Declarations.{first_of}
+use Rattle.language_model.specs.Expansion.{Made, Found, Opened, after, expanded, expanded_graph, if_grown, with_expansion}
+use Rattle.language_model.specs.Invoking.{Body, target_of, undeclared, fits_head}
+use Rattle.language_model.specs.Scopes.{At}
 
 -- a body that is being expanded: the number of the invocation that comes next, and what stood before it
 pub record Frame : Type 0 where

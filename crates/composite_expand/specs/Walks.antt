@@ -5,12 +5,12 @@ use Rattle.std.specs.Option.{option_map_or}
 use Rattle.spl_tree.specs.declared.unit.Composite.{Composite}
 use Rattle.spl_tree.specs.declared.unit.Definition.{Definition}
 use Rattle.spl_tree.specs.declared.unit.Invocation.{Invocation}
-use Rattle.stream_model.specs.Composites.{composites}
-use Rattle.stream_model.specs.Expansion.{Made, Inlined, connections_of, expanded_main, is_within}
-use Rattle.stream_model.specs.Invoking.{Target, Operator, Body, Nothing, target_of}
-use Rattle.stream_model.specs.Recursion.{HasNoRecursion, composite_callers, calls_among}
-use Rattle.stream_model.specs.Scopes.{At}
-use Rattle.stream_model.proofs.Nesting.{IsPath}
+use Rattle.language_model.specs.Composites.{composites}
+use Rattle.language_model.specs.Expansion.{Made, Inlined, connections_of, expanded_main, is_within}
+use Rattle.language_model.specs.Invoking.{Target, Operator, Body, Nothing, target_of}
+use Rattle.language_model.specs.Recursion.{HasNoRecursion, composite_callers, calls_among}
+use Rattle.language_model.specs.Scopes.{At}
+use Rattle.language_model.proofs.Nesting.{IsPath}
 use Rattle.composite_expand.specs.declared.answer.ExpandAnswer.{ExpandAnswer}
 use Rattle.composite_expand.specs.declared.answer.ExpandAnswer.TheVariants as X
 use Rattle.composite_expand.specs.declared.made.Input.{Input}

@@ -2,9 +2,9 @@
 ghost use Rattle.std.specs.Prelude.{◌≡◌};
 ghost use Rattle.composite_expand.specs.declared.answer.ExpandAnswer.TheVariants.{Memory};
 
+use language_model::ExpansionRefusal;
 use spl_value::NoMemory;
 use std::alloc::AllocError;
-use stream_model::ExpansionRefusal;
 
 /// Why there is no graph.
 #[derive(Debug, Drop)]

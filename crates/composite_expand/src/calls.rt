@@ -1,6 +1,6 @@
 //! Who reaches itself among callers that are numbers.
 ghost use Rattle.std.specs.Prelude.{◌≡◌, ◌<◌, ◌⊎◌, ◌∷◌, [], ◌^◌, ℕ, ◌↔◌, length, IfOk, OnOk, MatchOption};
-ghost use Rattle.stream_model.specs.Recursion.{IsCall, Leads, IsAcyclic, IsFirstRecursion};
+ghost use Rattle.language_model.specs.Recursion.{IsCall, Leads, IsAcyclic, IsFirstRecursion};
 ghost use Rattle.composite_expand.specs.Standing.{Stands, IsSet};
 ghost use Rattle.composite_expand.specs.Callers.{Lists, Reached, AreEmpty, AreCallers, Notes, NotesAll};
 ghost use Rattle.composite_expand.specs.Taking.{Readies, IsTaken, Takes, Misses, AreCalleesFirst, AreAmong};

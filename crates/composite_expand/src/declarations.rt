@@ -1,7 +1,7 @@
 //! Names that are declared twice in one place.
 ghost use Rattle.std.specs.Prelude.{◌≡◌, IfOk, flat_map};
 ghost use Rattle.std.specs.Option.{option_copied};
-ghost use Rattle.stream_model.specs.Declarations.{declared_twice, first_of, repeated_in_definition};
+ghost use Rattle.language_model.specs.Declarations.{declared_twice, first_of, repeated_in_definition};
 
 mod bodies;
 mod composites;

@@ -3,8 +3,8 @@ ghost use Rattle.std.specs.Prelude.{◌≡◌, map, flat_map, reverse, length, c
 ghost use Rattle.std.specs.List.{list_any};
 ghost use Rattle.std.specs.Option.{option_copied, option_map, option_to_list};
 ghost use Rattle.std.specs.Str.{bytes_eq};
-ghost use Rattle.stream_model.specs.Declarations.{first_of, repeated};
-ghost use Rattle.stream_model.specs.SinkFiles.{value_named, default_named, only_value, text_of, dollar_text, own_text, text_in, file_of, op_file, is_had, Text};
+ghost use Rattle.language_model.specs.Declarations.{first_of, repeated};
+ghost use Rattle.language_model.specs.SinkFiles.{value_named, default_named, only_value, text_of, dollar_text, own_text, text_in, file_of, op_file, is_had, Text};
 ghost use Rattle.composite_expand.specs.Seen.{form_text, text_seen, file_seen};
 
 use crate::sites::Sites;

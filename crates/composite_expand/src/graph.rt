@@ -1,8 +1,8 @@
 //! The graph of a unit.
 ghost use Rattle.std.specs.Prelude.{◌≡◌, map, IfOk};
 ghost use Rattle.spl_tree.specs.Grammar.{placed};
-ghost use Rattle.stream_model.specs.Flat.{flat_from};
-ghost use Rattle.stream_model.specs.Scopes.{At};
+ghost use Rattle.language_model.specs.Flat.{flat_from};
+ghost use Rattle.language_model.specs.Scopes.{At};
 ghost use Rattle.spl_tree.specs.declared.unit.Composite.{Composite};
 ghost use Rattle.composite_expand.specs.Expands.{Expands, IsAnswer};
 ghost use Rattle.composite_expand.specs.Walks.{IsExpanded};
@@ -16,10 +16,10 @@ use crate::order::{first_outside, topological_order};
 use crate::recursion::first_recursion;
 use crate::tables::Composites;
 use crate::walk::{Walk, expand_main};
+use language_model::{ExpansionRefusal, Operation};
 use spl_tree::{Graph, Placed, Unit};
 use spl_value::{Items, Name, NoMemory};
 use std::alloc::Global;
-use stream_model::{ExpansionRefusal, Operation};
 
 /// The operators, at their invocations, by their first streams.
 fn labels_of(alloc: Global, ops: &[Operation]) -> Result<Items<Placed<Name>>, NoMemory>

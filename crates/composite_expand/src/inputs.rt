@@ -4,14 +4,14 @@ ghost use Rattle.std.specs.List.{sum_by};
 ghost use Rattle.std.specs.Option.{option_or};
 ghost use Rattle.composite_expand.specs.Inputs.{AreInputs, StandsFor};
 ghost use Rattle.composite_expand.specs.Reading.{IsBody, Counts};
-ghost use Rattle.stream_model.specs.Expansion.{Inlined, sources_of, port_names, ports_of};
+ghost use Rattle.language_model.specs.Expansion.{Inlined, sources_of, port_names, ports_of};
 
 use crate::made::{Input, Taken};
 use crate::tables::Scope;
+use language_model::Source;
 use spl_tree::{Invocation, Placed, Site};
 use spl_value::{Items, Name, NoMemory};
 use std::alloc::Global;
-use stream_model::Source;
 
 /// No more streams than this are counted: no graph has so many connections.
 const MOST_COUNTED: u32 = 1 << 30;

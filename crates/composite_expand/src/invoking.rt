@@ -2,9 +2,9 @@
 ghost use Rattle.std.specs.Prelude.{◌≡◌, ◌&&◌, ◌||◌, ◌++◌, List, ℕ, IfOk, filter, flat_map, not, is_some};
 ghost use Rattle.std.specs.Option.{option_copied};
 ghost use Rattle.std.specs.List.{list_all};
-ghost use Rattle.stream_model.specs.Declarations.{first_of};
-ghost use Rattle.stream_model.specs.Invoking.{target_of, kind_named, is_readable, is_among, stream_names, undeclared, has_arguments_alone, fit_parameters, fits_head};
-ghost use Rattle.stream_model.specs.Mentions.{clause_mentions};
+ghost use Rattle.language_model.specs.Declarations.{first_of};
+ghost use Rattle.language_model.specs.Invoking.{target_of, kind_named, is_readable, is_among, stream_names, undeclared, has_arguments_alone, fit_parameters, fits_head};
+ghost use Rattle.language_model.specs.Mentions.{clause_mentions};
 ghost use Rattle.composite_expand.specs.Names.{StandFor};
 ghost use Rattle.composite_expand.specs.Invocations.{seen, named, streams_read, undeclared_operator, undeclared_parameters, unreadable, FitArguments};
 

@@ -1,6 +1,6 @@
 //! What an expansion holds of the bodies that it opens.
+use language_model::Source;
 use spl_tree::Site;
-use stream_model::Source;
 
 /// The body of a composite, where it is invoked.
 #[derive(Clone, Copy, Debug, PartialEq, Eq)]

@@ -2,7 +2,7 @@
 //! of the text.
 ghost use Rattle.std.specs.Prelude.{flat_map, ◌∷◌, [], ◌++◌, ◌≡◌, IfOk};
 ghost use Rattle.std.specs.Option.{option_map_or};
-ghost use Rattle.stream_model.specs.Mentions.{expr_mentions, optional_mentions, declaration_mentions, statement_mentions, block_mentions, logic_mentions, part_of_window_mentions, window_mentions, parameter_mentions, assignment_mentions, clause_mentions};
+ghost use Rattle.language_model.specs.Mentions.{expr_mentions, optional_mentions, declaration_mentions, statement_mentions, block_mentions, logic_mentions, part_of_window_mentions, window_mentions, parameter_mentions, assignment_mentions, clause_mentions};
 ghost use Rattle.composite_expand.specs.Mentioned.{Adds, mentioned, mentions_seen, entry_mentions, field_mentions, step_mentions, arm_mentions, other_mentions, handler_mentions, some_logic_mentions, some_window_mentions, some_output_mentions};
 
 use spl_tree::{

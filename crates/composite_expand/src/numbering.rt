@@ -5,19 +5,19 @@ mod sites;
 mod standing;
 
 ghost use Rattle.std.specs.Prelude.{◌≡◌, ◌+◌, IfOk};
-ghost use Rattle.stream_model.specs.Expansion.{Made};
+ghost use Rattle.language_model.specs.Expansion.{Made};
 ghost use Rattle.composite_expand.specs.Inputs.{AreNested, InputsStand, Shows};
 ghost use Rattle.composite_expand.specs.Numbered.{IsNumbered};
 
 use crate::made::{Body, Input};
 use crate::tables::Composites;
 use bodies::expansions_of;
+use language_model::Operation;
 use operators::{ops_of, streams_of};
 use spl_tree::{Expansion, Op, Stream};
 use spl_value::{Items, NoMemory};
 use standing::Standing;
 use std::alloc::Global;
-use stream_model::Operation;
 
 /// What a graph consists of, beside the order of its operators.
 #[derive(Drop)]

@@ -2,7 +2,7 @@
 ghost use Rattle.std.specs.Prelude.{◌≡◌, ◌<◌, false, length, map, slice_get, slice_index_or, IfOk, IfSome};
 ghost use Rattle.std.specs.List.{concat};
 ghost use Rattle.std.specs.Option.{option_map};
-ghost use Rattle.stream_model.specs.Taking.{taken, is_taken, first_untaken};
+ghost use Rattle.language_model.specs.Taking.{taken, is_taken, first_untaken};
 ghost use Rattle.composite_expand.specs.Makers.{covers_from, covers_all, Adds, AreMakers, AreRows, first_ready};
 
 use spl_tree::{Op, Stream};

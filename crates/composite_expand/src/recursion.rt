@@ -2,8 +2,8 @@
 ghost use Rattle.std.specs.Prelude.{◌≡◌, ◌<◌, ◌^◌, ℕ, List, [], ◌∷◌, ◌++◌, map, filter_map, length, IfOk, OnOk, MatchOption};
 ghost use Rattle.std.specs.HashMap as hash;
 ghost use Rattle.std.specs.Str.{bytes_eq};
-ghost use Rattle.stream_model.specs.Mentions.{calls};
-ghost use Rattle.stream_model.specs.Recursion.{function_caller, composite_caller, function_callers, composite_callers, calls_among, IsFirstIn, HasNoRecursion, IsRecursive, IsNotRecursive};
+ghost use Rattle.language_model.specs.Mentions.{calls};
+ghost use Rattle.language_model.specs.Recursion.{function_caller, composite_caller, function_callers, composite_callers, calls_among, IsFirstIn, HasNoRecursion, IsRecursive, IsNotRecursive};
 ghost use Rattle.composite_expand.specs.Mentioned.{mentions_seen};
 ghost use Rattle.composite_expand.specs.Taking.{AreAmong};
 ghost use Rattle.composite_expand.specs.Named.{name_seen, caller_seen, callers_seen, place_from, found_place};

@@ -1,8 +1,8 @@
 //! What stands at the places that operators come from.
 ghost use Rattle.std.specs.Prelude.{◌≡◌, map, slice_get, IfOk};
 ghost use Rattle.std.specs.Option.{option_copied};
-ghost use Rattle.stream_model.specs.Composites.{composites};
-ghost use Rattle.stream_model.specs.SinkFiles.{composite_of, invocation_at, arguments_of, heads_of};
+ghost use Rattle.language_model.specs.Composites.{composites};
+ghost use Rattle.language_model.specs.SinkFiles.{composite_of, invocation_at, arguments_of, heads_of};
 
 use spl_tree::{
     Composite, CompositeParameter, Definition, Expansion, Invocation, Parameter, Site, Unit,

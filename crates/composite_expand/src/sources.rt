@@ -3,15 +3,15 @@ ghost use Rattle.std.specs.Prelude.{◌≡◌, ◌+◌, ◌^◌, ◌<◌, ◌≤
 ghost use Rattle.std.specs.Option.{option_map};
 ghost use Rattle.composite_expand.specs.Inputs.{StandsFor};
 ghost use Rattle.composite_expand.specs.Reading.{AreKept, composite_at, names_in, list_followed, most_names, size_followed};
-ghost use Rattle.stream_model.specs.Expansion.{Inlined, sources_of, ports_of};
+ghost use Rattle.language_model.specs.Expansion.{Inlined, sources_of, ports_of};
 
 use crate::inputs::taken_by;
 use crate::made::{Body, Input, Taken};
 use crate::tables::{Composites, Scope};
+use language_model::Source;
 use spl_tree::{Invocation, Placed, Site};
 use spl_value::{Items, Name, NoMemory};
 use std::alloc::Global;
-use stream_model::Source;
 
 /// The composite of the body of that number.
 fn scope_of_body<'c, 'u>(

@@ -3,10 +3,10 @@
 ghost use Rattle.std.specs.Prelude.{◌≡◌, ◌∷◌, ◌++◌, [], List, ℕ, IfOk, OnOk, map, flat_map, slice_get, length};
 ghost use Rattle.std.specs.Option.{option_map};
 ghost use Rattle.composite_expand.specs.Names.{StandFor, composite_names, same_composites};
-ghost use Rattle.stream_model.specs.Composites.{composites, composite_named};
-ghost use Rattle.stream_model.specs.Expansion.{place_of};
-ghost use Rattle.stream_model.specs.Scopes.{at_place};
-ghost use Rattle.stream_model.specs.Invoking.{is_among, is_readable, is_parameter, stream_names, input_names};
+ghost use Rattle.language_model.specs.Composites.{composites, composite_named};
+ghost use Rattle.language_model.specs.Expansion.{place_of};
+ghost use Rattle.language_model.specs.Scopes.{at_place};
+ghost use Rattle.language_model.specs.Invoking.{is_among, is_readable, is_parameter, stream_names, input_names};
 
 use spl_tree::{
     Composite, CompositeParameter, Definition, HeadPort, Invocation, OutputStream, Unit,

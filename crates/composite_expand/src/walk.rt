@@ -4,14 +4,14 @@ ghost use Rattle.spl_tree.specs.Grammar.{placed};
 ghost use Rattle.spl_tree.specs.declared.unit.Composite.{Composite};
 ghost use Rattle.spl_tree.specs.declared.unit.Definition.{Definition};
 ghost use Rattle.spl_tree.specs.declared.unit.Invocation.{Invocation};
-ghost use Rattle.stream_model.specs.declared.expansion.ExpansionRefusal.TheVariants as R;
+ghost use Rattle.language_model.specs.declared.expansion.ExpansionRefusal.TheVariants as R;
 ghost use Rattle.composite_expand.specs.declared.answer.ExpandAnswer.TheVariants as X;
-ghost use Rattle.stream_model.specs.Composites.{composites as composites_of};
-ghost use Rattle.stream_model.specs.Declarations.{first_of};
-ghost use Rattle.stream_model.specs.Expansion.{invocation_name, label_of as label_in, operation as operation_at, ports_of as ports_in};
-ghost use Rattle.stream_model.specs.Invoking.{Operator, Body as BodyOf, target_of, undeclared, fits_head as fits};
-ghost use Rattle.stream_model.specs.Recursion.{HasNoRecursion, composite_callers};
-ghost use Rattle.stream_model.specs.Scopes.{At, at_place};
+ghost use Rattle.language_model.specs.Composites.{composites as composites_of};
+ghost use Rattle.language_model.specs.Declarations.{first_of};
+ghost use Rattle.language_model.specs.Expansion.{invocation_name, label_of as label_in, operation as operation_at, ports_of as ports_in};
+ghost use Rattle.language_model.specs.Invoking.{Operator, Body as BodyOf, target_of, undeclared, fits_head as fits};
+ghost use Rattle.language_model.specs.Recursion.{HasNoRecursion, composite_callers};
+ghost use Rattle.language_model.specs.Scopes.{At, at_place};
 ghost use Rattle.composite_expand.specs.Walking.{IsIdle};
 ghost use Rattle.composite_expand.specs.Walks.{IsFurther, IsAt, IsOver, IsOn, IsGoing, OpensWith, GoesOn, Refuses, Starts, IsExpanded};
 
@@ -21,10 +21,10 @@ use crate::invoking::{Target, fits_head, target_of, undeclared};
 use crate::made::{Body, Input};
 use crate::sources::sources_by_port;
 use crate::tables::{Composites, Scope};
+use language_model::{ExpansionRefusal, Operation};
 use spl_tree::{Invocation, OpKind, Placed, Site};
 use spl_value::{Items, Name, NoMemory};
 use std::alloc::Global;
-use stream_model::{ExpansionRefusal, Operation};
 
 /// The most operators that a graph has.
 const MOST_OPERATORS: usize = 256;

@@ -10,8 +10,8 @@ use Rattle.spl_value.specs.Calls.{FitsCollection}
 use Rattle.spl_value.specs.Values.{fits}
 use Rattle.spl_tree.specs.declared.code.BuiltIn.{BuiltIn}
 use Rattle.spl_tree.specs.declared.code.BuiltIn.TheVariants as Q
-use Rattle.stream_model.specs.CodeFits as F
-use Rattle.stream_model.specs.CodeFits.{BuiltInGives}
+use Rattle.language_model.specs.CodeFits as F
+use Rattle.language_model.specs.CodeFits.{BuiltInGives}
 use Rattle.expr_eval.specs.Fitting.{FitBuiltIn}
 
 -- `size` is called of a list or a map

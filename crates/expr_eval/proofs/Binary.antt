@@ -10,13 +10,13 @@ use Rattle.spl_tree.specs.declared.code.Code.{Code}
 use Rattle.spl_tree.specs.declared.code.Code.TheVariants as C
 use Rattle.spl_tree.specs.declared.body.Function.{Function}
 use Rattle.spl_tree.specs.declared.code.Slot.{Slot}
-use Rattle.stream_model.specs.declared.env.Env.{Env}
-use Rattle.stream_model.specs.CodeFits as F
-use Rattle.stream_model.specs.CodeFits.{BinaryGives}
-use Rattle.stream_model.specs.Evaluation.{World, Meaning, binary}
-use Rattle.stream_model.specs.Operators.{binary_of}
-use Rattle.stream_model.specs.Outcomes.{Done, followed, settled}
-use Rattle.stream_model.specs.WorldFits.{Fits}
+use Rattle.language_model.specs.declared.env.Env.{Env}
+use Rattle.language_model.specs.CodeFits as F
+use Rattle.language_model.specs.CodeFits.{BinaryGives}
+use Rattle.language_model.specs.Evaluation.{World, Meaning, binary}
+use Rattle.language_model.specs.Operators.{binary_of}
+use Rattle.language_model.specs.Outcomes.{Done, followed, settled}
+use Rattle.language_model.specs.WorldFits.{Fits}
 use Rattle.expr_eval.specs.Fitting.{IsFit}
 use Rattle.expr_eval.proofs.CodeParts.{binary_parts}
 

@@ -5,16 +5,16 @@ use Rattle.spl_value.specs.declared.item.FaultKind.{FaultKind}
 use Rattle.spl_value.specs.declared.value.Value.{Value}
 use Rattle.spl_tree.specs.declared.body.Function.{Function}
 use Rattle.spl_tree.specs.declared.body.Statement.{Statement}
-use Rattle.stream_model.specs.declared.env.Env.{Env}
-use Rattle.stream_model.specs.declared.flow.Flow.{Flow}
-use Rattle.stream_model.specs.declared.outs.Output.{Output}
-use Rattle.stream_model.specs.Functions.{bodies_of, runs}
-use Rattle.stream_model.specs.Outcomes.{Outcome, Done, Faulted, Stuck, followed, need}
-use Rattle.stream_model.specs.SlotsLaws.{KeepsLaw}
-use Rattle.stream_model.specs.Statements.{State, Bodies, Left, scoped, ended, row_acts, returned_by, left_by}
-use Rattle.stream_model.specs.SubmitsLaws.{SubmitsLaw, in_front}
-use Rattle.stream_model.specs.ValueLaws.{BodyLeavesLaw}
-use Rattle.stream_model.specs.WorldFits.{Leaves}
+use Rattle.language_model.specs.declared.env.Env.{Env}
+use Rattle.language_model.specs.declared.flow.Flow.{Flow}
+use Rattle.language_model.specs.declared.outs.Output.{Output}
+use Rattle.language_model.specs.Functions.{bodies_of, runs}
+use Rattle.language_model.specs.Outcomes.{Outcome, Done, Faulted, Stuck, followed, need}
+use Rattle.language_model.specs.SlotsLaws.{KeepsLaw}
+use Rattle.language_model.specs.Statements.{State, Bodies, Left, scoped, ended, row_acts, returned_by, left_by}
+use Rattle.language_model.specs.SubmitsLaws.{SubmitsLaw, in_front}
+use Rattle.language_model.specs.ValueLaws.{BodyLeavesLaw}
+use Rattle.language_model.specs.WorldFits.{Leaves}
 use Rattle.expr_eval.specs.Running.{BodyIsFit, Leads, LeavesBehind, RanAs, ran_as, state}
 use Rattle.expr_eval.specs.declared.stop.Stop.{Stop}
 use Rattle.expr_eval.specs.declared.stop.Stop.TheVariants as S

@@ -8,14 +8,14 @@ use Rattle.spl_tree.specs.declared.code.Code.{Code}
 use Rattle.spl_tree.specs.declared.code.Code.TheVariants as C
 use Rattle.spl_tree.specs.declared.body.Function.{Function}
 use Rattle.spl_tree.specs.declared.code.Slot.{Slot}
-use Rattle.stream_model.specs.declared.env.Env.{Env}
-use Rattle.stream_model.specs.declared.scope.Scope.{Scope}
-use Rattle.stream_model.specs.CodeFits as F
-use Rattle.stream_model.specs.CodeFits.{ArgumentsFit, BuiltInGives}
-use Rattle.stream_model.specs.Evaluation.{World, Calls, code_value}
-use Rattle.stream_model.specs.EvaluationLaws.{values_of}
-use Rattle.stream_model.specs.Operators.{built_in_of}
-use Rattle.stream_model.specs.Outcomes.{Done, followed, settled}
+use Rattle.language_model.specs.declared.env.Env.{Env}
+use Rattle.language_model.specs.declared.scope.Scope.{Scope}
+use Rattle.language_model.specs.CodeFits as F
+use Rattle.language_model.specs.CodeFits.{ArgumentsFit, BuiltInGives}
+use Rattle.language_model.specs.Evaluation.{World, Calls, code_value}
+use Rattle.language_model.specs.EvaluationLaws.{values_of}
+use Rattle.language_model.specs.Operators.{built_in_of}
+use Rattle.language_model.specs.Outcomes.{Done, followed, settled}
 use Rattle.expr_eval.specs.Answers.{StopsAs, Answers, Settles}
 use Rattle.expr_eval.specs.Fitting.{IsFit}
 use Rattle.expr_eval.specs.declared.stop.Stop.{Stop}

@@ -8,18 +8,18 @@ use Rattle.spl_value.specs.declared.value.Value.{Value}
 use Rattle.spl_value.specs.Values.{fits}
 use Rattle.spl_tree.specs.declared.body.Function.{Function}
 use Rattle.spl_tree.specs.declared.body.Statement.{Statement}
-use Rattle.stream_model.specs.declared.env.Env.{Env}
-use Rattle.stream_model.specs.declared.flow.Flow.{Flow}
-use Rattle.stream_model.specs.declared.outs.Output.{Output}
-use Rattle.stream_model.specs.declared.scope.Scope.{Scope}
-use Rattle.stream_model.specs.declared.scope.Signature.{Signature}
-use Rattle.stream_model.specs.declared.scope.Variable.{Variable}
-use Rattle.stream_model.specs.BodyFits.{OfFunction}
-use Rattle.stream_model.specs.Functions.{function_env, bodies_of, calls_of}
-use Rattle.stream_model.specs.Outcomes.{Outcome, Done, followed, need, enter}
-use Rattle.stream_model.specs.Statements.{State, Left, scoped, row_acts, returned_by, left_by, body_leaves}
-use Rattle.stream_model.specs.ValueLaws.{BodyLeavesLaw}
-use Rattle.stream_model.specs.WorldFits.{VariablesFit, FunctionFits, ResultFits, Leaves, body_scope}
+use Rattle.language_model.specs.declared.env.Env.{Env}
+use Rattle.language_model.specs.declared.flow.Flow.{Flow}
+use Rattle.language_model.specs.declared.outs.Output.{Output}
+use Rattle.language_model.specs.declared.scope.Scope.{Scope}
+use Rattle.language_model.specs.declared.scope.Signature.{Signature}
+use Rattle.language_model.specs.declared.scope.Variable.{Variable}
+use Rattle.language_model.specs.BodyFits.{OfFunction}
+use Rattle.language_model.specs.Functions.{function_env, bodies_of, calls_of}
+use Rattle.language_model.specs.Outcomes.{Outcome, Done, followed, need, enter}
+use Rattle.language_model.specs.Statements.{State, Left, scoped, row_acts, returned_by, left_by, body_leaves}
+use Rattle.language_model.specs.ValueLaws.{BodyLeavesLaw}
+use Rattle.language_model.specs.WorldFits.{VariablesFit, FunctionFits, ResultFits, Leaves, body_scope}
 use Rattle.expr_eval.specs.Answers.{StopsAs}
 use Rattle.expr_eval.specs.declared.stop.Stop.{Stop}
 use Rattle.expr_eval.specs.Fitting.{FitCall}

@@ -12,8 +12,8 @@ use Rattle.spl_value.specs.Calls.{CallOutcome, Gives, Faults}
 use Rattle.spl_value.specs.Pairs.{pairs_get, pairs_put}
 use Rattle.spl_tree.specs.declared.code.Taking.{Taking}
 use Rattle.spl_tree.specs.declared.code.Taking.TheVariants as K
-use Rattle.stream_model.specs.Changes.{passed_on, changed, level_changed, level_index}
-use Rattle.stream_model.specs.Operators.{found, level_element}
+use Rattle.language_model.specs.Changes.{passed_on, changed, level_changed, level_index}
+use Rattle.language_model.specs.Operators.{found, level_element}
 use Rattle.expr_eval.specs.declared.stop.Stop.{Stop}
 use Rattle.expr_eval.specs.declared.stop.Stop.TheVariants as S
 use Rattle.expr_eval.specs.Changing.{IsPlaceIn}

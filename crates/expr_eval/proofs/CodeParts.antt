@@ -18,12 +18,12 @@ use Rattle.spl_tree.specs.declared.code.Marker.{Marker}
 use Rattle.spl_tree.specs.declared.code.UnaryCode.{UnaryCode}
 use Rattle.spl_tree.specs.declared.code.BinaryCode.{BinaryCode}
 use Rattle.spl_tree.specs.declared.code.BuiltIn.{BuiltIn}
-use Rattle.stream_model.specs.declared.env.Env.{Env}
-use Rattle.stream_model.specs.declared.scope.Scope.{Scope}
-use Rattle.stream_model.specs.declared.scope.Signature.{Signature}
-use Rattle.stream_model.specs.CodeFits as F
-use Rattle.stream_model.specs.CodeFits.{CodeFits, SlotFits, ElementsFit, PairsFit, FieldsFit, ArgumentsFit, StepsLead, UnariesGive, BinaryGives, BuiltInGives, OneEach}
-use Rattle.stream_model.specs.WorldFits.{Fits}
+use Rattle.language_model.specs.declared.env.Env.{Env}
+use Rattle.language_model.specs.declared.scope.Scope.{Scope}
+use Rattle.language_model.specs.declared.scope.Signature.{Signature}
+use Rattle.language_model.specs.CodeFits as F
+use Rattle.language_model.specs.CodeFits.{CodeFits, SlotFits, ElementsFit, PairsFit, FieldsFit, ArgumentsFit, StepsLead, UnariesGive, BinaryGives, BuiltInGives, OneEach}
+use Rattle.language_model.specs.WorldFits.{Fits}
 use Rattle.expr_eval.specs.Fitting.{IsFit, AreFit, PairsAreFit, FieldsAreFit, FitTakings, HasSlot, HasMarker}
 
 -- what the parts of an open code fit where the code fits at the type

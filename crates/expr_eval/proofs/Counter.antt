@@ -14,14 +14,14 @@ use Rattle.spl_tree.specs.declared.code.Code.{Code}
 use Rattle.spl_tree.specs.declared.code.Code.TheVariants as C
 use Rattle.spl_tree.specs.declared.code.Slot.{Slot}
 use Rattle.spl_tree.specs.declared.code.Slot.TheVariants as L
-use Rattle.stream_model.specs.declared.scope.Scope.{Scope}
-use Rattle.stream_model.specs.declared.scope.Variable.{Variable}
-use Rattle.stream_model.specs.BodyFits as B
-use Rattle.stream_model.specs.BodyFits.{Purpose, OfHandler, PlaceFits, RowFits}
-use Rattle.stream_model.specs.CodeFits as F
-use Rattle.stream_model.specs.CodeFits.{CodeFits, SlotFits, OneEach}
-use Rattle.stream_model.specs.Functions.{function_env}
-use Rattle.stream_model.specs.WorldFits.{VariablesFit}
+use Rattle.language_model.specs.declared.scope.Scope.{Scope}
+use Rattle.language_model.specs.declared.scope.Variable.{Variable}
+use Rattle.language_model.specs.BodyFits as B
+use Rattle.language_model.specs.BodyFits.{Purpose, OfHandler, PlaceFits, RowFits}
+use Rattle.language_model.specs.CodeFits as F
+use Rattle.language_model.specs.CodeFits.{CodeFits, SlotFits, OneEach}
+use Rattle.language_model.specs.Functions.{function_env}
+use Rattle.language_model.specs.WorldFits.{VariablesFit}
 use Rattle.expr_eval.specs.Running.{BodyIsFit}
 
 abbrev counter : Variable

@@ -13,7 +13,7 @@ use Rattle.spl_value.specs.Wrap.{wrapped}
 use Rattle.spl_value.specs.WrapLaws.{wrapped_belongs}
 use Rattle.spl_tree.specs.declared.code.IntegerOperator.{IntegerOperator}
 use Rattle.spl_tree.specs.declared.code.IntegerOperator.TheVariants as I
-use Rattle.stream_model.specs.Operators.{integer, divided, bits_of, on_integers}
+use Rattle.language_model.specs.Operators.{integer, divided, bits_of, on_integers}
 use Rattle.expr_eval.proofs.Bits.{and_wrapped, or_wrapped, xor_wrapped}
 use Rattle.expr_eval.proofs.Sizes.{within, fits_128, kept_in_128}
 use Rattle.expr_eval.proofs.Wrapping.{of_kind, wrapped_alike, int_wrap_congruent}

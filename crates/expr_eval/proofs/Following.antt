@@ -4,9 +4,9 @@ use Rattle.std.proofs.Common.{refl, sym, ap, ◌∙◌, subst}
 use Rattle.std.proofs.lemmas.Result.{err_from_is_err_and}
 use Rattle.spl_value.specs.Calls.{CallOutcome}
 use Rattle.spl_value.specs.declared.value.Value.{Value}
-use Rattle.stream_model.specs.declared.flow.Flow.{Flow}
-use Rattle.stream_model.specs.Outcomes.{Outcome, Done, Faulted, Stuck, followed, need, settled, enter}
-use Rattle.stream_model.specs.Statements.{State}
+use Rattle.language_model.specs.declared.flow.Flow.{Flow}
+use Rattle.language_model.specs.Outcomes.{Outcome, Done, Faulted, Stuck, followed, need, settled, enter}
+use Rattle.language_model.specs.Statements.{State}
 use Rattle.expr_eval.specs.Answers.{StopsAs, Answers, AnswersHeld, Settles, ReadsHeld}
 use Rattle.expr_eval.specs.Running.{Leads}
 use Rattle.expr_eval.specs.declared.held.Held.{Held}

@@ -11,10 +11,10 @@ use Rattle.spl_tree.specs.declared.code.Marker.{Marker}
 use Rattle.spl_tree.specs.declared.code.Slot.{Slot}
 use Rattle.spl_tree.specs.declared.code.Taking.{Taking}
 use Rattle.spl_tree.specs.declared.code.UnaryCode.{UnaryCode}
-use Rattle.stream_model.specs.Evaluation.{World, Calls, map_of, tuple_of, unaries_of, binary, same_marker, code_value}
-use Rattle.stream_model.specs.EvaluationLaws.{values_of, pair_values, field_values, takings_value, truth_value, literal_is, name_is, list_is, map_is, tuple_is, select_is, unary_is, binary_is, conditional_is, built_in_is, call_is, is_marker_is, is_not_marker_is}
-use Rattle.stream_model.specs.Operators.{built_in_of}
-use Rattle.stream_model.specs.Outcomes.{Outcome, Done, followed, need, settled, enter}
+use Rattle.language_model.specs.Evaluation.{World, Calls, map_of, tuple_of, unaries_of, binary, same_marker, code_value}
+use Rattle.language_model.specs.EvaluationLaws.{values_of, pair_values, field_values, takings_value, truth_value, literal_is, name_is, list_is, map_is, tuple_is, select_is, unary_is, binary_is, conditional_is, built_in_is, call_is, is_marker_is, is_not_marker_is}
+use Rattle.language_model.specs.Operators.{built_in_of}
+use Rattle.language_model.specs.Outcomes.{Outcome, Done, followed, need, settled, enter}
 use Rattle.expr_eval.specs.Answers.{StopsAs, AnswersHeld, ReadsHeld}
 use Rattle.expr_eval.specs.declared.held.Held.{Held}
 use Rattle.expr_eval.specs.declared.stop.Stop.{Stop}

@@ -12,8 +12,8 @@ use Rattle.spl_value.specs.declared.value.Value.TheOpen as O
 use Rattle.spl_value.specs.declared.value.Value.TheViews.{out-Value}
 use Rattle.spl_value.specs.FitsLaws.{fits_int, int_from_fits}
 use Rattle.spl_value.specs.Values.{fits, kind_holds}
-use Rattle.stream_model.specs.Changes.{level_index}
-use Rattle.stream_model.specs.Operators.{found, element_at, level_element}
+use Rattle.language_model.specs.Changes.{level_index}
+use Rattle.language_model.specs.Operators.{found, element_at, level_element}
 use Rattle.expr_eval.specs.Changing.{IsIndex, IsPlaceIn}
 use Rattle.expr_eval.proofs.Parts.{below}
 use Rattle.expr_eval.proofs.Sizes.{kept_in_128}

@@ -8,12 +8,12 @@ use Rattle.spl_tree.specs.declared.body.Function.{Function}
 use Rattle.spl_tree.specs.declared.body.Statement.{Statement}
 use Rattle.spl_tree.specs.declared.code.Code.{Code}
 use Rattle.spl_tree.specs.declared.code.Slot.{Slot}
-use Rattle.stream_model.specs.declared.flow.Flow.{Flow}
-use Rattle.stream_model.specs.declared.flow.Flow.TheVariants as F
-use Rattle.stream_model.specs.Functions.{bodies_of}
-use Rattle.stream_model.specs.Outcomes.{Outcome, Done, Faulted, followed, enter}
-use Rattle.stream_model.specs.Statements.{State, Acts, Bodies, truth_in, statement_acts, row_acts, scoped, declared, then_rest, then_again, turns_while, turns_over}
-use Rattle.stream_model.specs.StatementLaws.{arms_act}
+use Rattle.language_model.specs.declared.flow.Flow.{Flow}
+use Rattle.language_model.specs.declared.flow.Flow.TheVariants as F
+use Rattle.language_model.specs.Functions.{bodies_of}
+use Rattle.language_model.specs.Outcomes.{Outcome, Done, Faulted, followed, enter}
+use Rattle.language_model.specs.Statements.{State, Acts, Bodies, truth_in, statement_acts, row_acts, scoped, declared, then_rest, then_again, turns_while, turns_over}
+use Rattle.language_model.specs.StatementLaws.{arms_act}
 use Rattle.expr_eval.specs.Answers.{StopsAs}
 use Rattle.expr_eval.specs.Running.{EndsRow, EndsLoop}
 use Rattle.expr_eval.specs.declared.stop.Stop.{Stop}

@@ -5,14 +5,14 @@ use Rattle.std.proofs.lemmas.List.{length-take, length-append}
 use Rattle.std.proofs.lemmas.Option.{slice_get_within}
 use Rattle.spl_value.specs.declared.value.Value.{Value}
 use Rattle.spl_value.specs.Values.{fits}
-use Rattle.stream_model.specs.declared.env.Env.{Env}
-use Rattle.stream_model.specs.declared.flow.Flow.{Flow}
-use Rattle.stream_model.specs.declared.scope.Scope.{Scope}
-use Rattle.stream_model.specs.declared.scope.Variable.{Variable}
-use Rattle.stream_model.specs.BodyFits.{with_variable}
-use Rattle.stream_model.specs.Outcomes.{Outcome, Done, Faulted, Stuck, followed, enter}
-use Rattle.stream_model.specs.Statements.{State, declared, ended}
-use Rattle.stream_model.specs.WorldFits.{VariablesFit, LeadsTo}
+use Rattle.language_model.specs.declared.env.Env.{Env}
+use Rattle.language_model.specs.declared.flow.Flow.{Flow}
+use Rattle.language_model.specs.declared.scope.Scope.{Scope}
+use Rattle.language_model.specs.declared.scope.Variable.{Variable}
+use Rattle.language_model.specs.BodyFits.{with_variable}
+use Rattle.language_model.specs.Outcomes.{Outcome, Done, Faulted, Stuck, followed, enter}
+use Rattle.language_model.specs.Statements.{State, declared, ended}
+use Rattle.language_model.specs.WorldFits.{VariablesFit, LeadsTo}
 
 -- an environment with other variables
 abbrev pub with_values : Env → List Value → Env

@@ -23,9 +23,9 @@ use Rattle.spl_tree.specs.declared.code.IntegerOperator.{IntegerOperator}
 use Rattle.spl_tree.specs.declared.code.OrderOperator.{OrderOperator}
 use Rattle.spl_tree.specs.declared.code.UnaryCode.{UnaryCode}
 use Rattle.spl_tree.specs.declared.code.UnaryCode.TheVariants as U
-use Rattle.stream_model.specs.CodeFits as F
-use Rattle.stream_model.specs.CodeFits.{UnaryGives, BinaryGives}
-use Rattle.stream_model.specs.Operators.{bool_text, level_unary, unary_of}
+use Rattle.language_model.specs.CodeFits as F
+use Rattle.language_model.specs.CodeFits.{UnaryGives, BinaryGives}
+use Rattle.language_model.specs.Operators.{bool_text, level_unary, unary_of}
 use Rattle.expr_eval.specs.Fitting.{FitBinary, FitsUnary}
 use Rattle.expr_eval.proofs.Parts.{pairs_of}
 use Rattle.expr_eval.proofs.Sizes.{kept_in_128}

@@ -24,7 +24,7 @@ use Rattle.spl_tree.specs.declared.code.BinaryCode.TheVariants as D
 use Rattle.spl_tree.specs.declared.code.OrderOperator.{OrderOperator}
 use Rattle.spl_tree.specs.declared.code.UnaryCode.{UnaryCode}
 use Rattle.spl_tree.specs.declared.code.UnaryCode.TheVariants as U
-use Rattle.stream_model.specs.Operators.{boolean, in_order, is_equal, level_in_list, binary_of, integer, level_unary, unary_of}
+use Rattle.language_model.specs.Operators.{boolean, in_order, is_equal, level_in_list, binary_of, integer, level_unary, unary_of}
 use Rattle.expr_eval.specs.Fitting.{FitBinary, FitsUnary}
 use Rattle.expr_eval.proofs.Operands.{alike_operands, unary_holds}
 use Rattle.expr_eval.proofs.Sizes.{within, kept_in_128}

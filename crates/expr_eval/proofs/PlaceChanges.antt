@@ -15,20 +15,20 @@ use Rattle.spl_tree.specs.declared.code.Code.{Code}
 use Rattle.spl_tree.specs.declared.code.Slot.{Slot}
 use Rattle.spl_tree.specs.declared.code.Taking.{Taking}
 use Rattle.spl_tree.specs.declared.code.Taking.TheVariants as K
-use Rattle.stream_model.specs.declared.env.Env.{Env}
-use Rattle.stream_model.specs.declared.flow.Flow.{Flow}
-use Rattle.stream_model.specs.declared.outs.Output.{Output}
-use Rattle.stream_model.specs.declared.scope.Scope.{Scope}
-use Rattle.stream_model.specs.declared.scope.Variable.{Variable}
-use Rattle.stream_model.specs.BodyFits as B
-use Rattle.stream_model.specs.BodyFits.{PlaceFits, ChangeFits}
-use Rattle.stream_model.specs.Changes.{step_of}
-use Rattle.stream_model.specs.CodeFits as F
-use Rattle.stream_model.specs.CodeFits.{CodeFits, StepsLead}
-use Rattle.stream_model.specs.Functions.{bodies_of}
-use Rattle.stream_model.specs.Outcomes.{Outcome, Done, followed, need, settled}
-use Rattle.stream_model.specs.Statements.{State, Bodies, value_in, step_value, step_values, steps_taken, change_value, change_values, changed_at, change_acts}
-use Rattle.stream_model.specs.ValueLaws.{NeverStuckLaw}
+use Rattle.language_model.specs.declared.env.Env.{Env}
+use Rattle.language_model.specs.declared.flow.Flow.{Flow}
+use Rattle.language_model.specs.declared.outs.Output.{Output}
+use Rattle.language_model.specs.declared.scope.Scope.{Scope}
+use Rattle.language_model.specs.declared.scope.Variable.{Variable}
+use Rattle.language_model.specs.BodyFits as B
+use Rattle.language_model.specs.BodyFits.{PlaceFits, ChangeFits}
+use Rattle.language_model.specs.Changes.{step_of}
+use Rattle.language_model.specs.CodeFits as F
+use Rattle.language_model.specs.CodeFits.{CodeFits, StepsLead}
+use Rattle.language_model.specs.Functions.{bodies_of}
+use Rattle.language_model.specs.Outcomes.{Outcome, Done, followed, need, settled}
+use Rattle.language_model.specs.Statements.{State, Bodies, value_in, step_value, step_values, steps_taken, change_value, change_values, changed_at, change_acts}
+use Rattle.language_model.specs.ValueLaws.{NeverStuckLaw}
 use Rattle.expr_eval.specs.Answers.{StopsAs}
 use Rattle.expr_eval.specs.Changing as C
 use Rattle.expr_eval.specs.Changing.{StepsLeadTo, ArgumentFits, CanChangeAt}

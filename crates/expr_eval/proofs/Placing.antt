@@ -7,7 +7,7 @@ use Rattle.std.proofs.lemmas.Bool.{eqb-true, eqb-false, ltb-true, le-ltb}
 use Rattle.std.proofs.lemmas.List.{length-set}
 use Rattle.std.proofs.lemmas.List.Recursion.{is_count_by}
 use Rattle.spl_value.specs.declared.value.Value.{Value}
-use Rattle.stream_model.specs.Evaluation.{field_at, tuple_from, tuple_of}
+use Rattle.language_model.specs.Evaluation.{field_at, tuple_from, tuple_of}
 use Rattle.expr_eval.specs.Fitting.{HaveEachPlace}
 
 -- each value is put at its place, one after another

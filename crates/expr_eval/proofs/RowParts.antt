@@ -12,19 +12,19 @@ use Rattle.spl_tree.specs.declared.body.Statement.{Statement}
 use Rattle.spl_tree.specs.declared.body.Statement.TheVariants as S
 use Rattle.spl_tree.specs.declared.code.Code.{Code}
 use Rattle.spl_tree.specs.declared.code.Slot.{Slot}
-use Rattle.stream_model.specs.declared.env.Env.{Env}
-use Rattle.stream_model.specs.declared.flow.Flow.{Flow}
-use Rattle.stream_model.specs.declared.outs.Output.{Output}
-use Rattle.stream_model.specs.declared.scope.Scope.{Scope}
-use Rattle.stream_model.specs.BodyFits as B
-use Rattle.stream_model.specs.BodyFits.{Purpose, StatementFits, RowFits, ArmsFit, with_variable}
-use Rattle.stream_model.specs.CodeFits.{CodeFits}
-use Rattle.stream_model.specs.Functions.{bodies_of}
-use Rattle.stream_model.specs.Outcomes.{Done, enter}
-use Rattle.stream_model.specs.Statements.{State, declared, scoped, statement_acts, row_acts}
-use Rattle.stream_model.specs.StatementLaws.{block_is}
-use Rattle.stream_model.specs.ValueLaws.{StatementLeadsLaw}
-use Rattle.stream_model.specs.WorldFits.{FunctionsFit, Fits, VariablesFit, LeadsTo}
+use Rattle.language_model.specs.declared.env.Env.{Env}
+use Rattle.language_model.specs.declared.flow.Flow.{Flow}
+use Rattle.language_model.specs.declared.outs.Output.{Output}
+use Rattle.language_model.specs.declared.scope.Scope.{Scope}
+use Rattle.language_model.specs.BodyFits as B
+use Rattle.language_model.specs.BodyFits.{Purpose, StatementFits, RowFits, ArmsFit, with_variable}
+use Rattle.language_model.specs.CodeFits.{CodeFits}
+use Rattle.language_model.specs.Functions.{bodies_of}
+use Rattle.language_model.specs.Outcomes.{Done, enter}
+use Rattle.language_model.specs.Statements.{State, declared, scoped, statement_acts, row_acts}
+use Rattle.language_model.specs.StatementLaws.{block_is}
+use Rattle.language_model.specs.ValueLaws.{StatementLeadsLaw}
+use Rattle.language_model.specs.WorldFits.{FunctionsFit, Fits, VariablesFit, LeadsTo}
 use Rattle.expr_eval.specs.Running.{RowIsFit, StatementIsFit, ArmsAreFit, LoopIsFit, OverIsFit, state}
 use Rattle.expr_eval.proofs.NewVariables.{with_values, declared_fit, without_variable, entered_leads}
 use Rattle.expr_eval.proofs.Rows.{drop_at}

@@ -8,9 +8,9 @@ use Rattle.spl_value.specs.Pairs.{pairs_put}
 use Rattle.spl_tree.specs.declared.code.Code.{Code}
 use Rattle.spl_tree.specs.declared.code.Slot.{Slot}
 use Rattle.spl_tree.specs.declared.code.Taking.{Taking}
-use Rattle.stream_model.specs.Outcomes.{Outcome, Done, followed}
-use Rattle.stream_model.specs.Evaluation.{World, Calls, code_value, taken, map_of}
-use Rattle.stream_model.specs.EvaluationLaws.{values_of, pair_values, field_values, taking_meaning, takings_value}
+use Rattle.language_model.specs.Outcomes.{Outcome, Done, followed}
+use Rattle.language_model.specs.Evaluation.{World, Calls, code_value, taken, map_of}
+use Rattle.language_model.specs.EvaluationLaws.{values_of, pair_values, field_values, taking_meaning, takings_value}
 use Rattle.expr_eval.specs.Answers.{StopsAs}
 use Rattle.expr_eval.specs.declared.stop.Stop.{Stop}
 use Rattle.expr_eval.proofs.Following.{followed_followed, followed_done, followed_stops, stops_by}

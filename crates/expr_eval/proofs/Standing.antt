@@ -9,12 +9,12 @@ use Rattle.spl_value.specs.declared.value.Value.TheVariants as V
 use Rattle.spl_value.specs.FitsLaws.{fits_tuple}
 use Rattle.spl_tree.specs.declared.code.Slot.{Slot}
 use Rattle.spl_tree.specs.declared.code.Slot.TheVariants as L
-use Rattle.stream_model.specs.declared.env.Env.{Env}
-use Rattle.stream_model.specs.declared.scope.Scope.{Scope}
-use Rattle.stream_model.specs.CodeFits as F
-use Rattle.stream_model.specs.CodeFits.{SlotFits}
-use Rattle.stream_model.specs.Evaluation.{slot_value}
-use Rattle.stream_model.specs.WorldFits.{EnvFits}
+use Rattle.language_model.specs.declared.env.Env.{Env}
+use Rattle.language_model.specs.declared.scope.Scope.{Scope}
+use Rattle.language_model.specs.CodeFits as F
+use Rattle.language_model.specs.CodeFits.{SlotFits}
+use Rattle.language_model.specs.Evaluation.{slot_value}
+use Rattle.language_model.specs.WorldFits.{EnvFits}
 use Rattle.expr_eval.specs.Fitting.{HasSlot}
 use Rattle.expr_eval.proofs.Parts.{within_schema}
 

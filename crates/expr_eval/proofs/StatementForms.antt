@@ -9,13 +9,13 @@ use Rattle.spl_tree.specs.declared.body.Statement.{Statement}
 use Rattle.spl_tree.specs.declared.body.Statement.TheVariants as T
 use Rattle.spl_tree.specs.declared.code.Code.{Code}
 use Rattle.spl_tree.specs.declared.code.Slot.{Slot}
-use Rattle.stream_model.specs.declared.flow.Flow.{Flow}
-use Rattle.stream_model.specs.declared.flow.Flow.TheVariants as F
-use Rattle.stream_model.specs.Evaluation.{world_of}
-use Rattle.stream_model.specs.EvaluationLaws.{values_of}
-use Rattle.stream_model.specs.Outcomes.{Outcome, Done, followed, enter}
-use Rattle.stream_model.specs.Statements.{State, Bodies, calls_by, scoped, turns_while, change_acts, statement_acts, row_acts}
-use Rattle.stream_model.specs.StatementLaws.{arms_act, change_is, call_is, if_is, while_is}
+use Rattle.language_model.specs.declared.flow.Flow.{Flow}
+use Rattle.language_model.specs.declared.flow.Flow.TheVariants as F
+use Rattle.language_model.specs.Evaluation.{world_of}
+use Rattle.language_model.specs.EvaluationLaws.{values_of}
+use Rattle.language_model.specs.Outcomes.{Outcome, Done, followed, enter}
+use Rattle.language_model.specs.Statements.{State, Bodies, calls_by, scoped, turns_while, change_acts, statement_acts, row_acts}
+use Rattle.language_model.specs.StatementLaws.{arms_act, change_is, call_is, if_is, while_is}
 use Rattle.expr_eval.specs.Answers.{StopsAs}
 use Rattle.expr_eval.specs.Running.{Leads}
 use Rattle.expr_eval.specs.declared.stop.Stop.{Stop}

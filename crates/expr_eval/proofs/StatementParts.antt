@@ -21,20 +21,20 @@ use Rattle.spl_tree.specs.declared.body.Statement.TheViews.{out-Statement}
 use Rattle.spl_tree.specs.declared.code.Code.{Code}
 use Rattle.spl_tree.specs.declared.code.Code.TheVariants as C
 use Rattle.spl_tree.specs.declared.code.Slot.{Slot}
-use Rattle.stream_model.specs.declared.env.Env.{Env}
-use Rattle.stream_model.specs.declared.scope.Scope.{Scope}
-use Rattle.stream_model.specs.declared.scope.Signature.{Signature}
-use Rattle.stream_model.specs.declared.scope.Variable.{Variable}
-use Rattle.stream_model.specs.BodyFits as B
-use Rattle.stream_model.specs.BodyFits.{Purpose, StatementFits, RowFits, GoesOver, ReturnFits, with_variable, result_of}
-use Rattle.stream_model.specs.CodeFits.{CodeFits, ArgumentsFit}
-use Rattle.stream_model.specs.Evaluation.{code_value, world_of}
-use Rattle.stream_model.specs.EvaluationLaws.{values_of}
-use Rattle.stream_model.specs.Functions.{calls_of}
-use Rattle.stream_model.specs.Outcomes.{Done}
-use Rattle.stream_model.specs.Statements.{level_elements, level_tuple}
-use Rattle.stream_model.specs.ValueLaws.{NeverStuckLaw}
-use Rattle.stream_model.specs.WorldFits.{Fits}
+use Rattle.language_model.specs.declared.env.Env.{Env}
+use Rattle.language_model.specs.declared.scope.Scope.{Scope}
+use Rattle.language_model.specs.declared.scope.Signature.{Signature}
+use Rattle.language_model.specs.declared.scope.Variable.{Variable}
+use Rattle.language_model.specs.BodyFits as B
+use Rattle.language_model.specs.BodyFits.{Purpose, StatementFits, RowFits, GoesOver, ReturnFits, with_variable, result_of}
+use Rattle.language_model.specs.CodeFits.{CodeFits, ArgumentsFit}
+use Rattle.language_model.specs.Evaluation.{code_value, world_of}
+use Rattle.language_model.specs.EvaluationLaws.{values_of}
+use Rattle.language_model.specs.Functions.{calls_of}
+use Rattle.language_model.specs.Outcomes.{Done}
+use Rattle.language_model.specs.Statements.{level_elements, level_tuple}
+use Rattle.language_model.specs.ValueLaws.{NeverStuckLaw}
+use Rattle.language_model.specs.WorldFits.{Fits}
 use Rattle.expr_eval.specs.Fitting.{IsFit, AreFit}
 use Rattle.expr_eval.specs.Running.{StatementIsFit, OverIsFit, FunctionIsFit}
 use Rattle.expr_eval.proofs.CodeParts.{arguments_at}

@@ -12,16 +12,16 @@ use Rattle.spl_tree.specs.declared.body.Function.{Function}
 use Rattle.spl_tree.specs.declared.code.Slot.{Slot}
 use Rattle.spl_tree.specs.declared.code.Taking.{Taking}
 use Rattle.spl_tree.specs.declared.code.Taking.TheVariants as K
-use Rattle.stream_model.specs.declared.env.Env.{Env}
-use Rattle.stream_model.specs.declared.scope.Scope.{Scope}
-use Rattle.stream_model.specs.CodeFits as F
-use Rattle.stream_model.specs.CodeFits.{CodeFits, StepsLead}
-use Rattle.stream_model.specs.Evaluation.{code_value, world_of, taken}
-use Rattle.stream_model.specs.Functions.{calls_of}
-use Rattle.stream_model.specs.EvaluationLaws.{taking_meaning}
-use Rattle.stream_model.specs.Outcomes.{Done}
-use Rattle.stream_model.specs.ValueLaws.{NeverStuckLaw}
-use Rattle.stream_model.specs.WorldFits.{Fits}
+use Rattle.language_model.specs.declared.env.Env.{Env}
+use Rattle.language_model.specs.declared.scope.Scope.{Scope}
+use Rattle.language_model.specs.CodeFits as F
+use Rattle.language_model.specs.CodeFits.{CodeFits, StepsLead}
+use Rattle.language_model.specs.Evaluation.{code_value, world_of, taken}
+use Rattle.language_model.specs.Functions.{calls_of}
+use Rattle.language_model.specs.EvaluationLaws.{taking_meaning}
+use Rattle.language_model.specs.Outcomes.{Done}
+use Rattle.language_model.specs.ValueLaws.{NeverStuckLaw}
+use Rattle.language_model.specs.WorldFits.{Fits}
 use Rattle.expr_eval.specs.Fitting.{IsFit, FitTakings}
 use Rattle.expr_eval.specs.Taking.{HasMember, HasElements, HasKeys}
 use Rattle.expr_eval.proofs.ValueTypes.{of_type, taken_of_type}

@@ -11,16 +11,16 @@ use Rattle.spl_tree.specs.declared.code.Code.{Code}
 use Rattle.spl_tree.specs.declared.code.Slot.{Slot}
 use Rattle.spl_tree.specs.declared.code.Taking.{Taking}
 use Rattle.spl_tree.specs.declared.code.Taking.TheVariants as K
-use Rattle.stream_model.specs.declared.env.Env.{Env}
-use Rattle.stream_model.specs.declared.scope.Scope.{Scope}
-use Rattle.stream_model.specs.Changes.{step_of}
-use Rattle.stream_model.specs.CodeFits.{StepsLead}
-use Rattle.stream_model.specs.Evaluation.{code_value, world_of, taken}
-use Rattle.stream_model.specs.EvaluationLaws.{taking_meaning}
-use Rattle.stream_model.specs.Functions.{bodies_of, calls_of}
-use Rattle.stream_model.specs.Outcomes.{Outcome, Done, followed, settled}
-use Rattle.stream_model.specs.Statements.{State, Bodies, calls_by, value_in, step_value, step_values, steps_taken}
-use Rattle.stream_model.specs.ValueLaws.{NeverStuckLaw}
+use Rattle.language_model.specs.declared.env.Env.{Env}
+use Rattle.language_model.specs.declared.scope.Scope.{Scope}
+use Rattle.language_model.specs.Changes.{step_of}
+use Rattle.language_model.specs.CodeFits.{StepsLead}
+use Rattle.language_model.specs.Evaluation.{code_value, world_of, taken}
+use Rattle.language_model.specs.EvaluationLaws.{taking_meaning}
+use Rattle.language_model.specs.Functions.{bodies_of, calls_of}
+use Rattle.language_model.specs.Outcomes.{Outcome, Done, followed, settled}
+use Rattle.language_model.specs.Statements.{State, Bodies, calls_by, value_in, step_value, step_values, steps_taken}
+use Rattle.language_model.specs.ValueLaws.{NeverStuckLaw}
 use Rattle.expr_eval.specs.Answers.{StopsAs, SettlesHeld}
 use Rattle.expr_eval.specs.declared.stop.Stop.{Stop}
 use Rattle.expr_eval.specs.declared.stop.Stop.TheVariants as P

@@ -6,11 +6,11 @@ use Rattle.spl_value.specs.declared.types.SplType.{SplType}
 use Rattle.spl_value.specs.declared.value.Value.{Value}
 use Rattle.spl_value.specs.Calls.{Gives}
 use Rattle.spl_tree.specs.declared.code.UnaryCode.{UnaryCode}
-use Rattle.stream_model.specs.CodeFits as F
-use Rattle.stream_model.specs.CodeFits.{UnaryGives, UnariesGive}
-use Rattle.stream_model.specs.Evaluation.{unaries_of}
-use Rattle.stream_model.specs.Operators.{unary_of}
-use Rattle.stream_model.specs.Outcomes.{Outcome, Done, Faulted, Stuck, followed, settled}
+use Rattle.language_model.specs.CodeFits as F
+use Rattle.language_model.specs.CodeFits.{UnaryGives, UnariesGive}
+use Rattle.language_model.specs.Evaluation.{unaries_of}
+use Rattle.language_model.specs.Operators.{unary_of}
+use Rattle.language_model.specs.Outcomes.{Outcome, Done, Faulted, Stuck, followed, settled}
 use Rattle.expr_eval.specs.Fitting.{FitsUnary, FitsUnaries}
 use Rattle.expr_eval.proofs.Operands.{unary_keeps}
 

@@ -23,16 +23,16 @@ use Rattle.spl_tree.specs.declared.code.UnaryCode.{UnaryCode}
 use Rattle.spl_tree.specs.declared.body.Function.{Function}
 use Rattle.spl_tree.specs.declared.code.Slot.{Slot}
 use Rattle.spl_tree.specs.declared.code.Taking.{Taking}
-use Rattle.stream_model.specs.declared.env.Env.{Env}
-use Rattle.stream_model.specs.declared.scope.Scope.{Scope}
-use Rattle.stream_model.specs.CodeFits as F
-use Rattle.stream_model.specs.CodeFits.{CodeFits, ArgumentsFit, StepsLead, OneEach}
-use Rattle.stream_model.specs.Evaluation.{Calls, World, code_value, world_of, taken, field_at, tuple_from, tuple_of}
-use Rattle.stream_model.specs.Functions.{calls_of}
-use Rattle.stream_model.specs.EvaluationLaws.{values_of, field_values, taking_meaning, takings_value, literal_is, select_is, tuple_is}
-use Rattle.stream_model.specs.Outcomes.{Outcome, Done, Faulted, Stuck, followed, need}
-use Rattle.stream_model.specs.ValueLaws.{NeverStuckLaw}
-use Rattle.stream_model.specs.WorldFits.{EnvFits, FunctionsFit, Fits, ComesTo}
+use Rattle.language_model.specs.declared.env.Env.{Env}
+use Rattle.language_model.specs.declared.scope.Scope.{Scope}
+use Rattle.language_model.specs.CodeFits as F
+use Rattle.language_model.specs.CodeFits.{CodeFits, ArgumentsFit, StepsLead, OneEach}
+use Rattle.language_model.specs.Evaluation.{Calls, World, code_value, world_of, taken, field_at, tuple_from, tuple_of}
+use Rattle.language_model.specs.Functions.{calls_of}
+use Rattle.language_model.specs.EvaluationLaws.{values_of, field_values, taking_meaning, takings_value, literal_is, select_is, tuple_is}
+use Rattle.language_model.specs.Outcomes.{Outcome, Done, Faulted, Stuck, followed, need}
+use Rattle.language_model.specs.ValueLaws.{NeverStuckLaw}
+use Rattle.language_model.specs.WorldFits.{EnvFits, FunctionsFit, Fits, ComesTo}
 use Rattle.expr_eval.specs.Fitting.{IsFit, FitBinary, FitsUnaries, FitBuiltIn, FitCall, FitTakings, HaveEachPlace}
 use Rattle.expr_eval.proofs.CodeParts.{select_parts, unary_parts, binary_parts, tuple_parts, built_in_parts, call_parts}
 

@@ -5,7 +5,7 @@ use Rattle.spl_value.specs.declared.item.Evaluated.TheVariants as E
 use Rattle.spl_value.specs.declared.item.FaultKind.TheVariants as K
 use Rattle.spl_value.specs.declared.value.Value.{Value}
 use Rattle.spl_value.specs.Calls.{CallOutcome, Gives, Faults}
-use Rattle.stream_model.specs.Outcomes.{Outcome, Done, Faulted}
+use Rattle.language_model.specs.Outcomes.{Outcome, Done, Faulted}
 use Rattle.expr_eval.specs.declared.held.Held.{Held}
 use Rattle.expr_eval.specs.declared.held.Held.TheVariants as H
 use Rattle.expr_eval.specs.declared.stop.Stop.{Stop}

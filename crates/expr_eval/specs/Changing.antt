@@ -14,9 +14,9 @@ use Rattle.spl_tree.specs.declared.body.Change.{Change}
 use Rattle.spl_tree.specs.declared.body.Change.TheVariants as H
 use Rattle.spl_tree.specs.declared.code.Taking.{Taking}
 use Rattle.spl_tree.specs.declared.code.Taking.TheVariants as K
-use Rattle.stream_model.specs.declared.env.Env.{Env}
-use Rattle.stream_model.specs.Changes.{level_index}
-use Rattle.stream_model.specs.Operators.{level_element, found}
+use Rattle.language_model.specs.declared.env.Env.{Env}
+use Rattle.language_model.specs.Changes.{level_index}
+use Rattle.language_model.specs.Operators.{level_element, found}
 
 -- steps with indexes and keys of their types lead from a value of one type to one of another
 pub data StepsLeadTo : List (Taking Value) → SplType → SplType → Type 0 where

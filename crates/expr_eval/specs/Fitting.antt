@@ -14,11 +14,11 @@ use Rattle.spl_tree.specs.declared.code.Marker.{Marker}
 use Rattle.spl_tree.specs.declared.code.Slot.{Slot}
 use Rattle.spl_tree.specs.declared.code.Taking.{Taking}
 use Rattle.spl_tree.specs.declared.code.UnaryCode.{UnaryCode}
-use Rattle.stream_model.specs.declared.env.Env.{Env}
-use Rattle.stream_model.specs.declared.scope.Scope.{Scope}
-use Rattle.stream_model.specs.declared.scope.Signature.{Signature}
-use Rattle.stream_model.specs.CodeFits.{SlotFits, UnaryGives, UnariesGive, BinaryGives, BuiltInGives, StepsLead}
-use Rattle.stream_model.specs.WorldFits.{EnvFits, FunctionsFit, Fits}
+use Rattle.language_model.specs.declared.env.Env.{Env}
+use Rattle.language_model.specs.declared.scope.Scope.{Scope}
+use Rattle.language_model.specs.declared.scope.Signature.{Signature}
+use Rattle.language_model.specs.CodeFits.{SlotFits, UnaryGives, UnariesGive, BinaryGives, BuiltInGives, StepsLead}
+use Rattle.language_model.specs.WorldFits.{EnvFits, FunctionsFit, Fits}
 
 -- the operator is one of values of such types, and wants both of them
 abbrev pub FitBinary : BinaryCode → Value → Value → Type 0

@@ -14,18 +14,18 @@ use Rattle.spl_tree.specs.declared.body.Statement.{Statement}
 use Rattle.spl_tree.specs.declared.code.Code.{Code}
 use Rattle.spl_tree.specs.declared.code.Slot.{Slot}
 use Rattle.spl_tree.specs.declared.code.Taking.{Taking}
-use Rattle.stream_model.specs.declared.env.Env.{Env}
-use Rattle.stream_model.specs.declared.flow.Flow.{Flow}
-use Rattle.stream_model.specs.declared.flow.Flow.TheVariants as F
-use Rattle.stream_model.specs.declared.outs.Output.{Output}
-use Rattle.stream_model.specs.declared.scope.Scope.{Scope}
-use Rattle.stream_model.specs.declared.scope.Signature.{Signature}
-use Rattle.stream_model.specs.declared.scope.Variable.{Variable}
-use Rattle.stream_model.specs.BodyFits.{Purpose, StatementFits, RowFits, ArmsFit, PlaceFits, ChangeFits, with_variable}
-use Rattle.stream_model.specs.CodeFits.{CodeFits, StepsLead}
-use Rattle.stream_model.specs.Outcomes.{Outcome, Done, Faulted}
-use Rattle.stream_model.specs.Statements.{State, Left, Acts, then_rest, then_again}
-use Rattle.stream_model.specs.WorldFits.{VariablesFit, FunctionsFit, BodyFits}
+use Rattle.language_model.specs.declared.env.Env.{Env}
+use Rattle.language_model.specs.declared.flow.Flow.{Flow}
+use Rattle.language_model.specs.declared.flow.Flow.TheVariants as F
+use Rattle.language_model.specs.declared.outs.Output.{Output}
+use Rattle.language_model.specs.declared.scope.Scope.{Scope}
+use Rattle.language_model.specs.declared.scope.Signature.{Signature}
+use Rattle.language_model.specs.declared.scope.Variable.{Variable}
+use Rattle.language_model.specs.BodyFits.{Purpose, StatementFits, RowFits, ArmsFit, PlaceFits, ChangeFits, with_variable}
+use Rattle.language_model.specs.CodeFits.{CodeFits, StepsLead}
+use Rattle.language_model.specs.Outcomes.{Outcome, Done, Faulted}
+use Rattle.language_model.specs.Statements.{State, Left, Acts, then_rest, then_again}
+use Rattle.language_model.specs.WorldFits.{VariablesFit, FunctionsFit, BodyFits}
 use Rattle.expr_eval.specs.Answers.{StopsAs}
 use Rattle.expr_eval.specs.declared.run.Ran.{Ran}
 use Rattle.expr_eval.specs.declared.run.Ran.TheVariants as R

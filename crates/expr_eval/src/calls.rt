@@ -1,7 +1,7 @@
 //! The calls that the language has built in, on arguments where they stand.
 ghost use Rattle.std.specs.Prelude.{[], ◌∷◌};
 ghost use Rattle.spl_value.specs.Calls.{Answers as CallAnswers, CallOutcome};
-ghost use Rattle.stream_model.specs.Operators.{built_in_of};
+ghost use Rattle.language_model.specs.Operators.{built_in_of};
 ghost use Rattle.expr_eval.specs.Answers.{Settles};
 ghost use Rattle.expr_eval.specs.Fitting.{FitBuiltIn};
 

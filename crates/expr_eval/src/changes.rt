@@ -3,19 +3,19 @@ ghost use Rattle.std.specs.Prelude.{◌≡◌, ◌∷◌, [], ℕ, List, IsTrue,
 ghost use Rattle.spl_value.specs.declared.value.Value.TheVariants as V;
 ghost use Rattle.spl_value.specs.Calls.{FitsCollection, Gives, clear_of};
 ghost use Rattle.spl_value.specs.Pairs.{are_pairs, pairs_put};
-ghost use Rattle.stream_model.specs.declared.outs.Output.{Output};
-ghost use Rattle.stream_model.specs.Changes.{changed, change_of, passed_on};
-ghost use Rattle.stream_model.specs.Statements.{changed_at};
+ghost use Rattle.language_model.specs.declared.outs.Output.{Output};
+ghost use Rattle.language_model.specs.Changes.{changed, change_of, passed_on};
+ghost use Rattle.language_model.specs.Statements.{changed_at};
 ghost use Rattle.spl_tree.specs.declared.code.Taking.TheVariants as K;
 ghost use Rattle.expr_eval.specs.Changing.{CanChange, CanChangeAt, IsIndex, IsPlaceIn};
 ghost use Rattle.expr_eval.specs.Running.{Changes, LeadsNext, state};
 
 use crate::evaluate::DEEPEST;
 use crate::stop::Stop;
+use language_model::Env;
 use spl_tree::{Change, Taking};
 use spl_value::{FaultKind, Pairs, Value, copy_value};
 use std::alloc::Global;
-use stream_model::Env;
 
 /// Changes what the steps take of a variable in turn.
 pub(crate) fn change_variable(

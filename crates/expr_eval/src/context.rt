@@ -1,7 +1,7 @@
 //! What codes are evaluated in, and what statements run in.
+use language_model::Env;
 use spl_tree::Functions;
 use std::alloc::Global;
-use stream_model::Env;
 
 /// What a code is evaluated in.
 #[derive(Clone, Copy)]

@@ -1,7 +1,7 @@
 //! What a loop goes over, and what is submitted.
 ghost use Rattle.std.specs.Prelude.{◌≡◌, None, Some, map, IfOk};
 ghost use Rattle.spl_value.specs.declared.value.Value.TheViews.{out-Value};
-ghost use Rattle.stream_model.specs.Statements.{level_elements, level_tuple};
+ghost use Rattle.language_model.specs.Statements.{level_elements, level_tuple};
 ghost use Rattle.expr_eval.specs.Answers.{Makes, held};
 
 use crate::held::Held;

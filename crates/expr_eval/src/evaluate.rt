@@ -2,12 +2,12 @@
 ghost use Rattle.std.specs.Prelude.{◌≡◌, ◌∷◌, []};
 ghost use Rattle.spl_value.specs.declared.types.SplType.TheVariants as T;
 ghost use Rattle.spl_tree.specs.declared.code.Code.TheVariants as C;
-ghost use Rattle.stream_model.specs.Outcomes.{Done, followed, settled, enter};
-ghost use Rattle.stream_model.specs.Operators.{built_in_of};
-ghost use Rattle.stream_model.specs.Evaluation.{code_value, world_of, binary, taken, map_of};
-ghost use Rattle.stream_model.specs.Functions.{calls_of, value};
-ghost use Rattle.stream_model.specs.EvaluationLaws.{values_of, pair_values, field_values, taking_meaning, takings_value, truth_value};
-ghost use Rattle.stream_model.specs.WorldFits.{Fits};
+ghost use Rattle.language_model.specs.Outcomes.{Done, followed, settled, enter};
+ghost use Rattle.language_model.specs.Operators.{built_in_of};
+ghost use Rattle.language_model.specs.Evaluation.{code_value, world_of, binary, taken, map_of};
+ghost use Rattle.language_model.specs.Functions.{calls_of, value};
+ghost use Rattle.language_model.specs.EvaluationLaws.{values_of, pair_values, field_values, taking_meaning, takings_value, truth_value};
+ghost use Rattle.language_model.specs.WorldFits.{Fits};
 ghost use Rattle.expr_eval.specs.Answers.{Answers, AnswersHeld, Evaluates, held};
 ghost use Rattle.expr_eval.specs.Fitting.{IsFit, AreFit, PairsAreFit, FieldsAreFit, FitTakings, FitCall};
 
@@ -19,10 +19,10 @@ use crate::run::run_function;
 use crate::slots::{is_marker, slot_value, truth_of, tuple_of};
 use crate::stop::Stop;
 use crate::taking::{at_key, element, member};
+use language_model::{Env, evaluation_law};
 use spl_tree::{BinaryCode, BuiltIn, Code, Functions, Slot, Taking};
 use spl_value::{Evaluated, Items, Pairs, Value, Values};
 use std::alloc::Global;
-use stream_model::{Env, evaluation_law};
 
 /// How many codes and statements may stand inside one another, those of called functions too, since
 /// the stack is memory. So many codes, or half as many calls, take less than 3 MiB of it. The code of

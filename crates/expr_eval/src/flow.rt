@@ -1,10 +1,10 @@
 //! What follows a statement, and a turn of a loop.
 ghost use Rattle.std.specs.Prelude.{◌≡◌, None, Some};
-ghost use Rattle.stream_model.specs.Statements.{returned_by};
+ghost use Rattle.language_model.specs.Statements.{returned_by};
 ghost use Rattle.expr_eval.specs.Running.{EndsRow, EndsLoop};
 
+use language_model::Flow;
 use spl_value::Value;
-use stream_model::Flow;
 
 /// How a row of statements ends with one of them, unless the next one follows.
 pub(crate) fn after_statement(flow: Flow) -> Option<Flow>

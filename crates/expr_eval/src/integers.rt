@@ -2,7 +2,7 @@
 ghost use Rattle.std.specs.Prelude.{◌≡◌, ◌≢◌, ◌≤◌, ◌^◌, IsTrue, MatchResult, pos, unsigned_abs, int_div, int_rem};
 ghost use Rattle.spl_value.specs.declared.item.FaultKind.TheVariants.{DivZero};
 ghost use Rattle.spl_value.specs.Values.{kind_holds};
-ghost use Rattle.stream_model.specs.Operators.{on_integers};
+ghost use Rattle.language_model.specs.Operators.{on_integers};
 ghost use Rattle.expr_eval.specs.declared.stop.Stop.TheVariants.{Fault};
 ghost use Rattle.expr_eval.specs.Answers.{Settles};
 

@@ -18,5 +18,5 @@ mod taking;
 mod tests;
 
 pub use evaluate::{DEEPEST, eval};
+pub use language_model::{Env, Tuples};
 pub use run::{Ran, run_body};
-pub use stream_model::{Env, Tuples};

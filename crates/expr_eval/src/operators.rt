@@ -8,8 +8,8 @@ ghost use Rattle.spl_value.specs.declared.types.SplType.TheVariants as T;
 ghost use Rattle.spl_value.specs.declared.value.Value.TheVariants as V;
 ghost use Rattle.spl_value.specs.Calls.{Gives};
 ghost use Rattle.spl_value.specs.Values.{fits};
-ghost use Rattle.stream_model.specs.Operators.{binary_of, unary_of, in_order, boolean, bool_text};
-ghost use Rattle.stream_model.specs.Evaluation.{unaries_of};
+ghost use Rattle.language_model.specs.Operators.{binary_of, unary_of, in_order, boolean, bool_text};
+ghost use Rattle.language_model.specs.Evaluation.{unaries_of};
 ghost use Rattle.expr_eval.specs.Answers.{Settles, AnswersHeld, held};
 ghost use Rattle.expr_eval.specs.Fitting.{FitBinary, FitsUnary, FitsUnaries};
 

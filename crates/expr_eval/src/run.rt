@@ -1,10 +1,10 @@
 //! What statements do, by a call for each form of statement.
 ghost use Rattle.std.specs.Prelude.{◌≡◌, ◌∷◌, [], List, Some, slice_get};
-ghost use Rattle.stream_model.specs.declared.outs.Output.{Output};
-ghost use Rattle.stream_model.specs.Functions.{bodies_of, runs};
-ghost use Rattle.stream_model.specs.Outcomes.{enter};
-ghost use Rattle.stream_model.specs.Statements.{statement_acts, row_acts, scoped, declared, turns_while, turns_over, change_acts, change_values, step_value, step_values, steps_taken};
-ghost use Rattle.stream_model.specs.StatementLaws.{arms_act};
+ghost use Rattle.language_model.specs.declared.outs.Output.{Output};
+ghost use Rattle.language_model.specs.Functions.{bodies_of, runs};
+ghost use Rattle.language_model.specs.Outcomes.{enter};
+ghost use Rattle.language_model.specs.Statements.{statement_acts, row_acts, scoped, declared, turns_while, turns_over, change_acts, change_values, step_value, step_values, steps_taken};
+ghost use Rattle.language_model.specs.StatementLaws.{arms_act};
 ghost use Rattle.expr_eval.specs.Answers.{Answers};
 ghost use Rattle.expr_eval.specs.Running.{StatementIsFit, RowIsFit, ArmsAreFit, LoopIsFit, OverIsFit, PlaceIsFit, ChangeIsFit, StepsAreFit, FunctionIsFit, BodyIsFit, RanAs, ran_as, state, Leads, LeadsNext};
 
@@ -17,10 +17,10 @@ use crate::held::Held;
 use crate::slots::{enter, truncate};
 use crate::stop::Stop;
 use crate::taking::step_of;
+use language_model::{Env, Flow, Output, Outs, evaluation_law, statements_law};
 use spl_tree::{Body, Change, Code, Functions, Place, Slot, Statement, Taking};
 use spl_value::{FaultKind, Item, Items, Value, Values};
 use std::alloc::Global;
-use stream_model::{Env, Flow, Output, Outs, evaluation_law, statements_law};
 
 /// How the run of a body ended.
 #[derive(Clone, Copy, Debug, PartialEq, Eq)]
@@ -84,7 +84,7 @@ macro_rules! in_env {
 
 /// What a statement does, where codes and statements may nest `room` deep.
 #[cycle(eval)]
-#[tactic(auto, using(stream_model::specs::StatementLaws::statement_laws))]
+#[tactic(auto, using(language_model::specs::StatementLaws::statement_laws))]
 fn run_statement<'p>(
     program: &Program<'p>,
     room: u32,

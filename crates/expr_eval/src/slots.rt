@@ -2,17 +2,17 @@
 ghost use Rattle.std.specs.Prelude.{◌≡◌, IsTrue, IfOk, Some, length, take};
 ghost use Rattle.spl_value.specs.declared.types.SplType.TheVariants as T;
 ghost use Rattle.spl_value.specs.Values.{fits};
-ghost use Rattle.stream_model.specs.Evaluation.{slot_value, same_marker, tuple_of};
-ghost use Rattle.stream_model.specs.Operators.{truth_of};
+ghost use Rattle.language_model.specs.Evaluation.{slot_value, same_marker, tuple_of};
+ghost use Rattle.language_model.specs.Operators.{truth_of};
 ghost use Rattle.expr_eval.specs.Answers.{Entered, ReadsHeld, Makes};
 ghost use Rattle.expr_eval.specs.Fitting.{HasSlot, HasMarker, HaveEachPlace};
 
 use crate::held::Held;
 use crate::stop::Stop;
+use language_model::Env;
 use spl_tree::{Marker, Slot};
 use spl_value::{FaultKind, Items, Value, Values, copy_values};
 use std::alloc::{AllocError, Global};
-use stream_model::Env;
 
 /// The value that a name stands for. The tuple of a port is a copy.
 pub(crate) fn slot_value(alloc: Global, env: &Env, slot: Slot) -> Result<Held<'_>, Stop>

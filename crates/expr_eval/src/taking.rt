@@ -2,9 +2,9 @@
 ghost use Rattle.std.specs.Prelude.{◌≡◌};
 ghost use Rattle.spl_value.specs.declared.value.Value.TheViews.{out-Value};
 ghost use Rattle.spl_value.specs.Calls.{Gives};
-ghost use Rattle.stream_model.specs.Operators.{level_member, level_element, level_at_key};
+ghost use Rattle.language_model.specs.Operators.{level_member, level_element, level_at_key};
 ghost use Rattle.expr_eval.specs.Answers.{SettlesHeld, held};
-ghost use Rattle.stream_model.specs.Changes.{step_of};
+ghost use Rattle.language_model.specs.Changes.{step_of};
 ghost use Rattle.expr_eval.specs.Taking.{HasMember, HasElements, HasKeys, StepFits};
 
 use crate::held::Held;

@@ -6,13 +6,14 @@ ghost use Rattle.spl_tree.specs.declared.body.Change.TheVariants as H;
 ghost use Rattle.spl_tree.specs.declared.body.Statement.TheVariants as S;
 ghost use Rattle.spl_tree.specs.declared.code.Code.TheVariants as C;
 ghost use Rattle.spl_tree.specs.declared.code.Slot.TheVariants as L;
-ghost use Rattle.stream_model.specs.declared.scope.Scope.{Scope};
-ghost use Rattle.stream_model.specs.CodeFits.{SlotFits, BinaryGives, CodeFits};
-ghost use Rattle.stream_model.specs.Functions.{function_env};
+ghost use Rattle.language_model.specs.declared.scope.Scope.{Scope};
+ghost use Rattle.language_model.specs.CodeFits.{SlotFits, BinaryGives, CodeFits};
+ghost use Rattle.language_model.specs.Functions.{function_env};
 ghost use Rattle.expr_eval.specs.Fitting.{IsFit};
 ghost use Rattle.expr_eval.specs.Running.{BodyIsFit};
 
 use crate::{DEEPEST, Env, Ran, eval, run_body};
+use language_model::{Output, Outs};
 use spl_tree::{
     BinaryCode, Body, Change, Code, Function, Functions, IntegerOperator, OrderOperator, Place,
     Slot, Statement, UnaryCode,
@@ -20,7 +21,6 @@ use spl_tree::{
 use spl_value::{Boxed, Evaluated, FaultKind, IntKind, Item, Items, SplType, Value, Values, wrap};
 use std::alloc::Global;
 use std::test::Fail;
-use stream_model::{Output, Outs};
 
 // The value of a code where nothing but functions can be named, and the turns that are left.
 fn evaluated(

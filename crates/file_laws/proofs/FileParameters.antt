@@ -8,14 +8,14 @@ use Rattle.std.proofs.lemmas.Option.{same_Some}
 use Rattle.spl_tree.specs.declared.graph.OpKind.{OpKind}
 use Rattle.spl_tree.specs.declared.unit.Parameter.{Parameter}
 use Rattle.spl_tree.specs.Grammar.{Expr}
-use Rattle.stream_model.specs.declared.checked.Given.{Given}
-use Rattle.stream_model.specs.declared.checked.ParameterValue.{ParameterValue}
-use Rattle.stream_model.specs.declared.checked.ParameterValue.TheVariants as V
-use Rattle.stream_model.specs.Checking.{as_file, file_given, if_given, parameters_checked}
-use Rattle.stream_model.specs.Literals.{file_typing}
-use Rattle.stream_model.specs.ParameterTyping.{AsFile, Role, Site, extra, missing, needed, one_value, parameter_typing, parameters_typing, role_of, single_value, value_given, value_typing}
-use Rattle.stream_model.specs.SinkFiles.{only_value, value_named}
-use Rattle.stream_model.specs.Typing.{after, mismatch}
+use Rattle.language_model.specs.declared.checked.Given.{Given}
+use Rattle.language_model.specs.declared.checked.ParameterValue.{ParameterValue}
+use Rattle.language_model.specs.declared.checked.ParameterValue.TheVariants as V
+use Rattle.language_model.specs.Checking.{as_file, file_given, if_given, parameters_checked}
+use Rattle.language_model.specs.Literals.{file_typing}
+use Rattle.language_model.specs.ParameterTyping.{AsFile, Role, Site, extra, missing, needed, one_value, parameter_typing, parameters_typing, role_of, single_value, value_given, value_typing}
+use Rattle.language_model.specs.SinkFiles.{only_value, value_named}
+use Rattle.language_model.specs.Typing.{after, mismatch}
 use Rattle.file_laws.proofs.FoundSteps.{after_gives, same_Ok}
 
 abbrev file_name : List ℕ

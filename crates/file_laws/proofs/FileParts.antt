@@ -15,19 +15,19 @@ use Rattle.spl_tree.specs.declared.unit.Definition.{Definition}
 use Rattle.spl_tree.specs.declared.unit.Invocation.{Invocation}
 use Rattle.spl_tree.specs.declared.unit.OutputAssignments.{OutputAssignments}
 use Rattle.spl_tree.specs.Grammar.{placed}
-use Rattle.stream_model.specs.declared.checked.Part.{Part}
-use Rattle.stream_model.specs.declared.checked.Part.TheVariants as A
-use Rattle.stream_model.specs.declared.checked.Policy.{Policy}
-use Rattle.stream_model.specs.declared.scope.Port.{Port}
-use Rattle.stream_model.specs.Checking.{Checks, aggregated, body_checked, clauses_checked, code_given, config_checked, file_given, first_of, invocation_checked, is_partitioned, joined, no_logic, operator_checked, operators_checked, operator_scope, output_rows, parameters_checked, part_of, places_given, plain, port_types, ports_checked, ports_of, position_given, rows_checked, site_of, strict_given, surroundings, there, tuple_of, windows_checked}
-use Rattle.stream_model.specs.Literals.{file_typing, followed, number_literal}
-use Rattle.stream_model.specs.LogicTyping.{Surroundings, logic_typing}
-use Rattle.stream_model.specs.OutputTyping.{groups_typing, inputs_typing}
-use Rattle.stream_model.specs.ParameterTyping.{AsFile, Site, needed, role_of}
-use Rattle.stream_model.specs.Parameters.{Tables}
-use Rattle.stream_model.specs.SinkFiles.{OpFile, composite_of, file_of, invocation_at, is_sink, is_source, op_file, text_in, value_named}
-use Rattle.stream_model.specs.StreamTypes.{Body, body_at}
-use Rattle.stream_model.specs.Typing.{after, mismatch}
+use Rattle.language_model.specs.declared.checked.Part.{Part}
+use Rattle.language_model.specs.declared.checked.Part.TheVariants as A
+use Rattle.language_model.specs.declared.checked.Policy.{Policy}
+use Rattle.language_model.specs.declared.scope.Port.{Port}
+use Rattle.language_model.specs.Checking.{Checks, aggregated, body_checked, clauses_checked, code_given, config_checked, file_given, first_of, invocation_checked, is_partitioned, joined, no_logic, operator_checked, operators_checked, operator_scope, output_rows, parameters_checked, part_of, places_given, plain, port_types, ports_checked, ports_of, position_given, rows_checked, site_of, strict_given, surroundings, there, tuple_of, windows_checked}
+use Rattle.language_model.specs.Literals.{file_typing, followed, number_literal}
+use Rattle.language_model.specs.LogicTyping.{Surroundings, logic_typing}
+use Rattle.language_model.specs.OutputTyping.{groups_typing, inputs_typing}
+use Rattle.language_model.specs.ParameterTyping.{AsFile, Site, needed, role_of}
+use Rattle.language_model.specs.Parameters.{Tables}
+use Rattle.language_model.specs.SinkFiles.{OpFile, composite_of, file_of, invocation_at, is_sink, is_source, op_file, text_in, value_named}
+use Rattle.language_model.specs.StreamTypes.{Body, body_at}
+use Rattle.language_model.specs.Typing.{after, mismatch}
 use Rattle.file_laws.proofs.FileParameters.{HasFile, has_file}
 use Rattle.file_laws.proofs.FollowedTexts.{file_found}
 use Rattle.file_laws.proofs.FoundSteps.{Gives, after_gives, gives_from, gives_then, same_Ok}

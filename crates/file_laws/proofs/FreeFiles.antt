@@ -4,8 +4,8 @@ use Rattle.std.specs.List.{list_any}
 use Rattle.std.proofs.Common.{refl, sym, ◌∙◌}
 use Rattle.std.proofs.lemmas.Bool.{or_parts}
 use Rattle.std.proofs.lemmas.List.Folds.{list_any-append}
-use Rattle.stream_model.specs.Declarations.{is_same, repeated, repeated_after}
-use Rattle.stream_model.specs.SinkFiles.{OpFile, is_had}
+use Rattle.language_model.specs.Declarations.{is_same, repeated, repeated_after}
+use Rattle.language_model.specs.SinkFiles.{OpFile, is_had}
 use Rattle.file_laws.specs.Files.{is_named}
 use Rattle.file_laws.proofs.FileParts.{bare}
 

@@ -9,20 +9,20 @@ use Rattle.spl_tree.specs.declared.graph.Graph.{Graph}
 use Rattle.spl_tree.specs.declared.unit.Composite.{Composite}
 use Rattle.spl_tree.specs.declared.unit.Definition.{Definition}
 use Rattle.spl_tree.specs.Grammar.{placed}
-use Rattle.stream_model.specs.declared.checked.Part.{Part}
-use Rattle.stream_model.specs.declared.checked.Part.TheVariants as A
-use Rattle.stream_model.specs.CheckedGraph.{CheckedGraph}
-use Rattle.stream_model.specs.Checking.{checked, each_stream, operators_checked}
-use Rattle.stream_model.specs.Declarations.{first_of}
-use Rattle.stream_model.specs.Expansion as E
-use Rattle.stream_model.specs.Expansion.{Made, expanded_main}
-use Rattle.stream_model.specs.Flat.{IsFlat, expands, files_had, flat_from, if_none_had, no_main, ordered, recursive, twice, with_own_files}
-use Rattle.stream_model.specs.FunctionTyping.{functions_typing}
-use Rattle.stream_model.specs.Numbering.{numbers_from}
-use Rattle.stream_model.specs.Parameters.{dollar_tables}
-use Rattle.stream_model.specs.Scopes.{At}
-use Rattle.stream_model.specs.SinkFiles.{OpFile, op_file}
-use Rattle.stream_model.specs.Typing.{after}
+use Rattle.language_model.specs.declared.checked.Part.{Part}
+use Rattle.language_model.specs.declared.checked.Part.TheVariants as A
+use Rattle.language_model.specs.CheckedGraph.{CheckedGraph}
+use Rattle.language_model.specs.Checking.{checked, each_stream, operators_checked}
+use Rattle.language_model.specs.Declarations.{first_of}
+use Rattle.language_model.specs.Expansion as E
+use Rattle.language_model.specs.Expansion.{Made, expanded_main}
+use Rattle.language_model.specs.Flat.{IsFlat, expands, files_had, flat_from, if_none_had, no_main, ordered, recursive, twice, with_own_files}
+use Rattle.language_model.specs.FunctionTyping.{functions_typing}
+use Rattle.language_model.specs.Numbering.{numbers_from}
+use Rattle.language_model.specs.Parameters.{dollar_tables}
+use Rattle.language_model.specs.Scopes.{At}
+use Rattle.language_model.specs.SinkFiles.{OpFile, op_file}
+use Rattle.language_model.specs.Typing.{after}
 use Rattle.file_laws.specs.Files.{OwnFiles, is_named, sink_files, source_files}
 use Rattle.file_laws.specs.Laws.{OwnFilesLaw}
 use Rattle.file_laws.proofs.FileParts.{operators_files, part_file}

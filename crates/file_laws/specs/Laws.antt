@@ -2,9 +2,9 @@
 use Rattle.std.specs.Prelude.{◌≡◌, ℕ, List, Ok}
 use Rattle.spl_tree.specs.declared.graph.Graph.{Graph}
 use Rattle.spl_tree.specs.declared.unit.Definition.{Definition}
-use Rattle.stream_model.specs.CheckedGraph.{CheckedGraph}
-use Rattle.stream_model.specs.Checking.{checked}
-use Rattle.stream_model.specs.Flat.{IsFlat}
+use Rattle.language_model.specs.CheckedGraph.{CheckedGraph}
+use Rattle.language_model.specs.Checking.{checked}
+use Rattle.language_model.specs.Flat.{IsFlat}
 use Rattle.file_laws.specs.Files.{OwnFiles}
 
 -- each sink has a file of its own, and none of these names, in what is found of the graph of a unit

@@ -1,7 +1,7 @@
 -- Sources and sinks, for examples of whose files are their own.
 use Rattle.std.specs.Prelude.{ℕ, true, List, [], ◌∷◌, codes, None}
-use Rattle.stream_model.specs.declared.checked.Part.{Part}
-use Rattle.stream_model.specs.declared.checked.Part.TheVariants as A
+use Rattle.language_model.specs.declared.checked.Part.{Part}
+use Rattle.language_model.specs.declared.checked.Part.TheVariants as A
 
 abbrev pub source_of : List ℕ → Part
 source_of file = A.FileSource file true

@@ -9,10 +9,10 @@
 //! | `1: 0 2; 0@0.1: 2 (1 from 0)` | bodies: the composite's number, the number of the body and of the invocation around it, the streams of its names, and each input's number of streams and first one |
 //!
 //! A refusal is its code, its place and its name, as `E4 at 20 A`.
+use language_model::ExpansionRefusal;
 use spl_tree::{Expansion, Graph, Op, OpKind, Placed};
 use spl_value::Name;
 use std::alloc::{AllocError, Global};
-use stream_model::ExpansionRefusal;
 
 // A text that grows. Once memory is wanting, nothing more is added.
 #[derive(Drop)]

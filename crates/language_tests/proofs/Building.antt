@@ -19,14 +19,14 @@ use Rattle.spl_tree.specs.declared.code.Slot.{Slot}
 use Rattle.spl_tree.specs.declared.code.Slot.TheVariants as L
 use Rattle.spl_tree.specs.declared.code.Taking.{Taking}
 use Rattle.spl_tree.specs.declared.body.Function.{Function}
-use Rattle.stream_model.specs.declared.env.Env.{Env}
-use Rattle.stream_model.specs.declared.scope.Scope.{Scope}
-use Rattle.stream_model.specs.declared.scope.Signature.{Signature}
-use Rattle.stream_model.specs.declared.scope.Variable.{Variable}
-use Rattle.stream_model.specs.BodyFits as B
-use Rattle.stream_model.specs.BodyFits.{Purpose, OfHandler, result_of, outputs_of, PlaceFits, GoesOver, ReturnFits, StatementFits, RowFits, ArmsFit, Returns, RowReturns, ArmsReturn}
-use Rattle.stream_model.specs.CodeFits as F
-use Rattle.stream_model.specs.CodeFits.{CodeFits, ArgumentsFit, SlotFits, StepsLead}
+use Rattle.language_model.specs.declared.env.Env.{Env}
+use Rattle.language_model.specs.declared.scope.Scope.{Scope}
+use Rattle.language_model.specs.declared.scope.Signature.{Signature}
+use Rattle.language_model.specs.declared.scope.Variable.{Variable}
+use Rattle.language_model.specs.BodyFits as B
+use Rattle.language_model.specs.BodyFits.{Purpose, OfHandler, result_of, outputs_of, PlaceFits, GoesOver, ReturnFits, StatementFits, RowFits, ArmsFit, Returns, RowReturns, ArmsReturn}
+use Rattle.language_model.specs.CodeFits as F
+use Rattle.language_model.specs.CodeFits.{CodeFits, ArgumentsFit, SlotFits, StepsLead}
 use Rattle.expr_eval.specs.Running.{BodyIsFit}
 use Rattle.language_tests.specs.Contexts.{Holds}
 use Rattle.language_tests.specs.Building.{Serves, Grown, Stands, Keeps, KeepsIn}

@@ -14,18 +14,18 @@ use Rattle.spl_tree.specs.declared.body.Statement.TheVariants as T
 use Rattle.spl_tree.specs.declared.code.Code.{Code}
 use Rattle.spl_tree.specs.declared.code.Marker.{Marker}
 use Rattle.spl_tree.specs.declared.code.Slot.{Slot}
-use Rattle.stream_model.specs.declared.env.Env.{Env}
-use Rattle.stream_model.specs.declared.scope.Port.{Port}
-use Rattle.stream_model.specs.declared.scope.Scope.{Scope}
-use Rattle.stream_model.specs.declared.scope.Signature.{Signature}
-use Rattle.stream_model.specs.declared.scope.Variable.{Variable}
-use Rattle.stream_model.specs.BodyFits.{OfFunction, ReturnFits, StatementFits, RowFits, Returns, RowReturns}
-use Rattle.stream_model.specs.CodeFits.{CodeFits}
-use Rattle.stream_model.specs.Evaluation.{world_of}
-use Rattle.stream_model.specs.Functions.{value}
-use Rattle.stream_model.specs.Outcomes.{Done}
-use Rattle.stream_model.specs.ValueLaws.{NeverStuckLaw}
-use Rattle.stream_model.specs.WorldFits.{body_scope, FunctionFits, FunctionsFit, Fits, ComesTo}
+use Rattle.language_model.specs.declared.env.Env.{Env}
+use Rattle.language_model.specs.declared.scope.Port.{Port}
+use Rattle.language_model.specs.declared.scope.Scope.{Scope}
+use Rattle.language_model.specs.declared.scope.Signature.{Signature}
+use Rattle.language_model.specs.declared.scope.Variable.{Variable}
+use Rattle.language_model.specs.BodyFits.{OfFunction, ReturnFits, StatementFits, RowFits, Returns, RowReturns}
+use Rattle.language_model.specs.CodeFits.{CodeFits}
+use Rattle.language_model.specs.Evaluation.{world_of}
+use Rattle.language_model.specs.Functions.{value}
+use Rattle.language_model.specs.Outcomes.{Done}
+use Rattle.language_model.specs.ValueLaws.{NeverStuckLaw}
+use Rattle.language_model.specs.WorldFits.{body_scope, FunctionFits, FunctionsFit, Fits, ComesTo}
 use Rattle.language_tests.specs.Contexts.{Holds, SeesVariables, returning}
 
 -- ---- lists that grow side by side

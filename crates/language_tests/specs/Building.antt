@@ -6,11 +6,11 @@ use Rattle.spl_tree.specs.declared.body.Place.{Place}
 use Rattle.spl_tree.specs.declared.body.Statement.{Statement}
 use Rattle.spl_tree.specs.declared.code.Code.{Code}
 use Rattle.spl_tree.specs.declared.code.Slot.{Slot}
-use Rattle.stream_model.specs.declared.scope.Scope.{Scope}
-use Rattle.stream_model.specs.declared.scope.Variable.{Variable}
-use Rattle.stream_model.specs.BodyFits.{Purpose, result_of, outputs_of, GoesOver, StatementFits}
-use Rattle.stream_model.specs.CodeFits.{CodeFits, StepsLead}
-use Rattle.stream_model.specs.Scopes.{at_place, variable_of}
+use Rattle.language_model.specs.declared.scope.Scope.{Scope}
+use Rattle.language_model.specs.declared.scope.Variable.{Variable}
+use Rattle.language_model.specs.BodyFits.{Purpose, result_of, outputs_of, GoesOver, StatementFits}
+use Rattle.language_model.specs.CodeFits.{CodeFits, StepsLead}
+use Rattle.language_model.specs.Scopes.{at_place, variable_of}
 
 -- a body with this purpose returns a value of the type, or none, and may submit to these ports
 abbrev pub Serves : Purpose → Option SplType → List (List (Named SplType)) → Type 0

@@ -4,11 +4,11 @@ use crate::fixture::{Place, scope};
 use crate::kinds::{Kinds, add_kind};
 use crate::reading::read;
 use crate::shown::Shown;
+use language_model::{CheckError, CheckRefusal, Scope, Typed};
 use spl_value::SplType;
 use std::alloc::{AllocError, Global};
 use std::process::Abort;
 use std::test::Fail;
-use stream_model::{CheckError, CheckRefusal, Scope, Typed};
 use type_rules::{TypeAnswer, type_of};
 
 /// A text, the type that its place wants or nothing, and what is answered: the type and the code as

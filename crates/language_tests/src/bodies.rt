@@ -1,6 +1,6 @@
 //! Bodies of statements against what they leave.
 ghost use Rattle.std.specs.Prelude.{◌≡◌, false, IfOk};
-ghost use Rattle.stream_model.specs.BodyFits.{OfHandler, RowFits};
+ghost use Rattle.language_model.specs.BodyFits.{OfHandler, RowFits};
 ghost use Rattle.language_tests.specs.Contexts.{Holds};
 
 mod build;
@@ -25,6 +25,7 @@ use crate::value::{add_value, fault};
 use build::{Builder, ROOM, scoped};
 use expr_eval::{Ran, run_body};
 use functions::functions_of;
+use language_model::{Output, Outs, Scope};
 use leaves::Ends;
 use line::Lines;
 use program::FUNCTIONS;
@@ -33,7 +34,6 @@ use spl_value::{Item, Items, Schema, Value};
 use std::alloc::{AllocError, Global};
 use std::process::Abort;
 use std::test::Fail;
-use stream_model::{Output, Outs, Scope};
 use unbuilt::Unbuilt;
 
 /// Variables of a handler, which may be changed: the name, the type and the first value of each.

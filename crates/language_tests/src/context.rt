@@ -1,8 +1,8 @@
 //! What expressions are evaluated in.
 ghost use Rattle.std.specs.Prelude.{IsTrue, IfOk, OnOk};
 ghost use Rattle.spl_value.specs.Values.{fits};
-ghost use Rattle.stream_model.specs.CodeFits.{CodeFits};
-ghost use Rattle.stream_model.specs.WorldFits.{FunctionsFit};
+ghost use Rattle.language_model.specs.CodeFits.{CodeFits};
+ghost use Rattle.language_model.specs.WorldFits.{FunctionsFit};
 ghost use Rattle.language_tests.specs.Contexts.{Holds};
 
 use crate::functions::{FunctionText, functions, signatures};
@@ -10,11 +10,11 @@ use crate::kinds::Kinds;
 use crate::plain::{Plain, Stop, plain};
 use crate::typed::{Unvalued, typed};
 use expr_eval::eval;
+use language_model::{Env, Port, Scope, Signature, Typed, Variable, evaluation_law};
 use spl_tree::{Functions, Marker};
 use spl_value::{Evaluated, FaultKind, Items, SplType, Value, same};
 use std::alloc::Global;
 use std::test::Fail;
-use stream_model::{Env, Port, Scope, Signature, Typed, Variable, evaluation_law};
 
 /// A scope, the values of what can be named in it, and the functions that can be called.
 #[derive(Drop)]

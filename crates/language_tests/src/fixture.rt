@@ -1,12 +1,12 @@
 //! The scopes that the texts stand in.
 use crate::kinds::Kinds;
 use crate::reading::read;
+use language_model::{
+    CheckError, CheckRefusal, Dollar, Port, Scope, Signature, Typed, Unresolved, Variable,
+};
 use spl_value::{Items, SplType};
 use std::alloc::Global;
 use std::test::Fail;
-use stream_model::{
-    CheckError, CheckRefusal, Dollar, Port, Scope, Signature, Typed, Unresolved, Variable,
-};
 use type_rules::type_of;
 
 /// Which scope a text stands in.

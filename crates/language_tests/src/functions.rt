@@ -1,19 +1,19 @@
 //! Functions, made from texts.
 ghost use Rattle.std.specs.Prelude.{◌≡◌, IsTrue, not, map, Some, slice_get, IfOk};
 ghost use Rattle.std.specs.List.{list_all};
-ghost use Rattle.stream_model.specs.declared.scope.Signature.{Signature};
-ghost use Rattle.stream_model.specs.declared.scope.Variable.{Variable};
-ghost use Rattle.stream_model.specs.WorldFits.{FunctionFits, FunctionsFit};
+ghost use Rattle.language_model.specs.declared.scope.Signature.{Signature};
+ghost use Rattle.language_model.specs.declared.scope.Variable.{Variable};
+ghost use Rattle.language_model.specs.WorldFits.{FunctionFits, FunctionsFit};
 ghost use Rattle.language_tests.specs.Contexts.{SeesVariables, returning};
 
 use crate::bodies::unbuilt::Unbuilt;
 use crate::kinds::Kinds;
 use crate::typed::typed;
+use language_model::{Scope, Signature, Variable};
 use spl_tree::{Body, Code, Function, Functions, Slot, Statement};
 use spl_value::{Items, NoMemory, SplType, copy_type};
 use std::alloc::Global;
 use std::test::Fail;
-use stream_model::{Scope, Signature, Variable};
 
 /// Names, each with the text of its type.
 pub(crate) type NamedKinds<'a> = &'a [(&'a str, &'static str)];

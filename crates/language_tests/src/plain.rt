@@ -6,13 +6,13 @@ mod operators;
 mod order;
 mod stop;
 
+use language_model::{Env, Scope};
 use names::{Table, name_in, name_in_body, table_of, table_of_arguments, value_named};
 use operators::{at_key, binary, built_in, element, member, truth, tuple_of, unaries, with_pair};
 use spl_tree::{BinaryCode, Body, Code, Functions, Marker, Slot, Statement, Taking};
 use spl_value::{FaultKind, Items, Pairs, Value, Values, copy_value};
 use std::alloc::Global;
 pub(crate) use stop::{Plain, Stop};
-use stream_model::{Env, Scope};
 
 /// How many codes may be evaluated inside one another, those of called functions too.
 const ROOM: u32 = 1500;

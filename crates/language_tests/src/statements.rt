@@ -17,6 +17,7 @@ use crate::fixture::{Place, scope};
 use crate::kinds::Kinds;
 use crate::shown::Shown;
 use expr_parser::{ParsedExpr, parse_expr};
+use language_model::Scope;
 use spl_lexer::lex;
 use spl_tree::{
     BinaryOperator, Body, Change, Code, Expr, Slot, Statement, Symbol, Token, TokenKind, Tokens,
@@ -25,7 +26,6 @@ use spl_value::Items;
 use std::alloc::{AllocError, Global};
 use std::process::Abort;
 use std::test::Fail;
-use stream_model::Scope;
 use type_rules::{TypeAnswer, assignment_of, call_of, compound_of};
 
 /// A text without its `;`, and what is answered: the statement, or the refusal with its byte.

@@ -2,13 +2,13 @@
 ghost use Rattle.std.specs.Prelude.{◌≡◌, Some, IfOk};
 ghost use Rattle.std.specs.Option.{option_copied};
 ghost use Rattle.spl_value.specs.declared.types.SplType.{SplType};
-ghost use Rattle.stream_model.specs.CodeFits.{CodeFits};
+ghost use Rattle.language_model.specs.CodeFits.{CodeFits};
 
 use crate::reading::read;
+use language_model::{Scope, Typed, dollars_law, typing_law};
 use spl_tree::Expr;
 use spl_value::{FaultKind, SplType};
 use std::alloc::Global;
-use stream_model::{Scope, Typed, dollars_law, typing_law};
 use type_rules::{TypeAnswer, type_of};
 
 /// Why a text has no value.

@@ -18,25 +18,25 @@ use Rattle.spl_tree.specs.declared.graph.Graph.{Graph as Flat}
 use Rattle.spl_tree.specs.declared.graph.Op.{Op}
 use Rattle.spl_tree.specs.declared.graph.OpKind.TheVariants as O
 use Rattle.spl_tree.specs.declared.graph.Stream.{Stream}
-use Rattle.stream_model.specs.declared.checked.Part.{Part}
-use Rattle.stream_model.specs.declared.checked.Part.TheVariants as A
-use Rattle.stream_model.specs.declared.scope.Port.{Port}
-use Rattle.stream_model.specs.declared.scope.Scope.{Scope}
-use Rattle.stream_model.specs.declared.scope.Signature.{Signature}
-use Rattle.stream_model.specs.CheckedGraph.{CheckedGraph}
+use Rattle.language_model.specs.declared.checked.Part.{Part}
+use Rattle.language_model.specs.declared.checked.Part.TheVariants as A
+use Rattle.language_model.specs.declared.scope.Port.{Port}
+use Rattle.language_model.specs.declared.scope.Scope.{Scope}
+use Rattle.language_model.specs.declared.scope.Signature.{Signature}
+use Rattle.language_model.specs.CheckedGraph.{CheckedGraph}
 use Rattle.stream_model.specs.CheckedMeaning.{op_of}
-use Rattle.stream_model.specs.Checking.{has_text_form, level_text_form}
-use Rattle.stream_model.specs.CodeFits as F
-use Rattle.stream_model.specs.CodeFits.{CodeFits}
-use Rattle.stream_model.specs.FitLaws.{no_names}
-use Rattle.stream_model.specs.FlatLaws.{IsMadeAs, IsTopological}
-use Rattle.stream_model.specs.Keeping as K
-use Rattle.stream_model.specs.Keeping.{Keeps, GraphKeeps, OperatorFits, PortsHave}
-use Rattle.stream_model.specs.Literals.{is_file_name}
+use Rattle.language_model.specs.Checking.{has_text_form, level_text_form}
+use Rattle.language_model.specs.CodeFits as F
+use Rattle.language_model.specs.CodeFits.{CodeFits}
+use Rattle.language_model.specs.FitLaws.{no_names}
+use Rattle.language_model.specs.FlatLaws.{IsMadeAs, IsTopological}
+use Rattle.language_model.specs.Keeping as K
+use Rattle.language_model.specs.Keeping.{Keeps, GraphKeeps, OperatorFits, PortsHave}
+use Rattle.language_model.specs.Literals.{is_file_name}
 use Rattle.stream_model.specs.Meaning.{connections}
 use Rattle.stream_model.specs.React.{Operator, Source, FileSource}
 use Rattle.stream_model.specs.Stream.{is_closed}
-use Rattle.stream_model.specs.StreamTypes.{Attributes}
+use Rattle.language_model.specs.StreamTypes.{Attributes}
 use Rattle.list_run.specs.Chain.{numbers, divides, chain, chain_graph, chain_rows}
 use Rattle.list_run.specs.Runs.{CanRun, RowsFit, TuplesFit, rows_at}
 

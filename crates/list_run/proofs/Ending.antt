@@ -13,15 +13,15 @@ use Rattle.spl_tree.specs.declared.body.Function.{Function}
 use Rattle.spl_tree.specs.declared.code.Code.{Code}
 use Rattle.spl_tree.specs.declared.code.Slot.{Slot}
 use Rattle.spl_tree.specs.declared.graph.Op.{Op}
-use Rattle.stream_model.specs.declared.checked.Part.{Part}
-use Rattle.stream_model.specs.declared.checked.Part.TheVariants as A
-use Rattle.stream_model.specs.CheckedGraph.{CheckedGraph}
+use Rattle.language_model.specs.declared.checked.Part.{Part}
+use Rattle.language_model.specs.declared.checked.Part.TheVariants as A
+use Rattle.language_model.specs.CheckedGraph.{CheckedGraph}
 use Rattle.stream_model.specs.CheckedMeaning.{kind_of, operator_with}
 use Rattle.stream_model.specs.Ends.{stream_fault, operator_fault, is_read, unread_fault, first_fault, end_fault, run_fault}
-use Rattle.stream_model.specs.Keeping.{Keeps}
+use Rattle.language_model.specs.Keeping.{Keeps}
 use Rattle.stream_model.specs.Laws.{GraphLaw}
 use Rattle.stream_model.specs.Meaning.{Graph, Lists, Entries, Meaning, meaning}
-use Rattle.stream_model.specs.Outcomes.{Outcome, Done, Faulted, Stuck}
+use Rattle.language_model.specs.Outcomes.{Outcome, Done, Faulted, Stuck}
 use Rattle.stream_model.specs.PathLaws.{pass, passed, fault_by, sink_fault}
 use Rattle.stream_model.specs.React.{Operator, Kind, Source, FileSource, Filter, FileSink, passes}
 use Rattle.list_run.specs.Runs.{CanRun}

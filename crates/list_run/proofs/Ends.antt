@@ -6,11 +6,11 @@ use Rattle.std.proofs.lemmas.Bool.{or_left, or_right}
 use Rattle.spl_value.specs.declared.item.Fault.{Fault}
 use Rattle.spl_value.specs.declared.item.Item.{Item}
 use Rattle.spl_tree.specs.declared.graph.Op.{Op}
-use Rattle.stream_model.specs.declared.checked.Part.{Part}
-use Rattle.stream_model.specs.CheckedGraph.{CheckedGraph}
+use Rattle.language_model.specs.declared.checked.Part.{Part}
+use Rattle.language_model.specs.CheckedGraph.{CheckedGraph}
 use Rattle.stream_model.specs.CheckedMeaning.{graph_of, kind_of}
 use Rattle.stream_model.specs.Ends.{stream_fault, is_read, first_fault, end_fault, run_fault}
-use Rattle.stream_model.specs.Keeping.{Keeps}
+use Rattle.language_model.specs.Keeping.{Keeps}
 use Rattle.stream_model.specs.Meaning.{Graph, Lists, Entries, Meaning, meaning}
 use Rattle.stream_model.specs.React.{Operator, Kind, FileSink}
 use Rattle.list_run.specs.Runs.{CanRun, AreStreams, rows_at}

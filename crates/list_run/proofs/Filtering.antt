@@ -9,11 +9,11 @@ use Rattle.spl_value.specs.declared.value.Value.{Value}
 use Rattle.spl_tree.specs.declared.body.Function.{Function}
 use Rattle.spl_tree.specs.declared.code.Code.{Code}
 use Rattle.spl_tree.specs.declared.code.Slot.{Slot}
-use Rattle.stream_model.specs.declared.env.Env.{Env}
-use Rattle.stream_model.specs.Evaluation.{world_of}
-use Rattle.stream_model.specs.Functions.{value}
-use Rattle.stream_model.specs.Operators.{truth_of}
-use Rattle.stream_model.specs.Outcomes.{Outcome, Done, Faulted, Stuck, followed, need}
+use Rattle.language_model.specs.declared.env.Env.{Env}
+use Rattle.language_model.specs.Evaluation.{world_of}
+use Rattle.language_model.specs.Functions.{value}
+use Rattle.language_model.specs.Operators.{truth_of}
+use Rattle.language_model.specs.Outcomes.{Outcome, Done, Faulted, Stuck, followed, need}
 use Rattle.stream_model.specs.PathLaws.{pass, fault_by}
 use Rattle.stream_model.specs.React.{most_turns, at_tuple, holds}
 use Rattle.expr_eval.specs.Answers.{Evaluates}

@@ -7,19 +7,19 @@ use Rattle.spl_tree.specs.declared.graph.Op.{Op}
 use Rattle.spl_tree.specs.declared.graph.OpKind.{OpKind}
 use Rattle.spl_tree.specs.declared.code.Code.{Code}
 use Rattle.spl_tree.specs.declared.code.Slot.{Slot}
-use Rattle.stream_model.specs.declared.checked.Part.{Part}
-use Rattle.stream_model.specs.declared.checked.Part.TheVariants as A
-use Rattle.stream_model.specs.declared.scope.Scope.{Scope}
-use Rattle.stream_model.specs.declared.scope.Signature.{Signature}
-use Rattle.stream_model.specs.CheckedGraph.{CheckedGraph}
+use Rattle.language_model.specs.declared.checked.Part.{Part}
+use Rattle.language_model.specs.declared.checked.Part.TheVariants as A
+use Rattle.language_model.specs.declared.scope.Scope.{Scope}
+use Rattle.language_model.specs.declared.scope.Signature.{Signature}
+use Rattle.language_model.specs.CheckedGraph.{CheckedGraph}
 use Rattle.stream_model.specs.CheckedMeaning.{graph_of, operators_from, operator_with, with_operator, kind_of, schema_at, first_schema}
-use Rattle.stream_model.specs.Keeping as K
-use Rattle.stream_model.specs.Keeping.{Keeps, StreamsHave, PortsHave, PortHas, PartFits, NamesPorts}
+use Rattle.language_model.specs.Keeping as K
+use Rattle.language_model.specs.Keeping.{Keeps, StreamsHave, PortsHave, PortHas, PartFits, NamesPorts}
 use Rattle.stream_model.specs.Laws.{IsNumbered}
 use Rattle.stream_model.specs.Meaning.{Graph, connections}
 use Rattle.stream_model.specs.React.{Operator, Kind}
-use Rattle.stream_model.specs.StreamTypes.{Attributes}
-use Rattle.stream_model.specs.WorldFits.{FunctionsFit}
+use Rattle.language_model.specs.StreamTypes.{Attributes}
+use Rattle.language_model.specs.WorldFits.{FunctionsFit}
 use Rattle.list_run.specs.Fitting.{FitsSchema}
 use Rattle.list_run.specs.Runs.{CanRun}
 

@@ -10,12 +10,12 @@ use Rattle.spl_tree.specs.declared.graph.Op.{Op}
 use Rattle.spl_tree.specs.declared.graph.Stream.{Stream}
 use Rattle.spl_tree.specs.declared.code.Code.{Code}
 use Rattle.spl_tree.specs.declared.code.Slot.{Slot}
-use Rattle.stream_model.specs.declared.checked.Part.{Part}
-use Rattle.stream_model.specs.declared.checked.Part.TheVariants as A
-use Rattle.stream_model.specs.CheckedGraph.{CheckedGraph}
+use Rattle.language_model.specs.declared.checked.Part.{Part}
+use Rattle.language_model.specs.declared.checked.Part.TheVariants as A
+use Rattle.language_model.specs.CheckedGraph.{CheckedGraph}
 use Rattle.stream_model.specs.CheckedMeaning.{operator_with, kind_of, first_schema}
-use Rattle.stream_model.specs.FlatLaws.{IsMadeAs}
-use Rattle.stream_model.specs.Keeping.{Keeps}
+use Rattle.language_model.specs.FlatLaws.{IsMadeAs}
+use Rattle.language_model.specs.Keeping.{Keeps}
 use Rattle.stream_model.specs.Laws.{GraphLaw, makes_stream, reads_stream, is_made}
 use Rattle.stream_model.specs.Meaning.{Graph, Lists, Entries, meaning, makes, made_by, events_at, connections, in_topo}
 use Rattle.stream_model.specs.PathLaws.{passed, filter_out}

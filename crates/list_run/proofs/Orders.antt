@@ -6,10 +6,10 @@ use Rattle.std.proofs.lemmas.List.Elements.{Contains-append_left, Contains-appen
 use Rattle.std.proofs.lemmas.List.Folds.{list_any_at}
 use Rattle.spl_tree.specs.declared.graph.Op.{Op}
 use Rattle.spl_tree.specs.declared.graph.Stream.{Stream}
-use Rattle.stream_model.specs.CheckedGraph.{CheckedGraph}
+use Rattle.language_model.specs.CheckedGraph.{CheckedGraph}
 use Rattle.stream_model.specs.CheckedMeaning.{graph_of, operator_with}
-use Rattle.stream_model.specs.FlatLaws.{IsMadeAs, IsTopological}
-use Rattle.stream_model.specs.Keeping.{Keeps}
+use Rattle.language_model.specs.FlatLaws.{IsMadeAs, IsTopological}
+use Rattle.language_model.specs.Keeping.{Keeps}
 use Rattle.stream_model.specs.Laws.{makes_stream, reads_stream, is_made, IsOrdered}
 use Rattle.stream_model.specs.Meaning.{Graph, connections, in_topo}
 use Rattle.stream_model.specs.React.{Operator}

@@ -6,11 +6,11 @@ use Rattle.std.proofs.lemmas.List.Sums.{sum_by-cons}
 use Rattle.spl_value.specs.declared.item.Item.{Item}
 use Rattle.spl_value.specs.declared.item.Item.TheVariants as I
 use Rattle.spl_tree.specs.declared.graph.Op.{Op}
-use Rattle.stream_model.specs.declared.checked.Part.{Part}
-use Rattle.stream_model.specs.declared.checked.Part.TheVariants as A
-use Rattle.stream_model.specs.CheckedGraph.{CheckedGraph}
+use Rattle.language_model.specs.declared.checked.Part.{Part}
+use Rattle.language_model.specs.declared.checked.Part.TheVariants as A
+use Rattle.language_model.specs.CheckedGraph.{CheckedGraph}
 use Rattle.stream_model.specs.CheckedMeaning.{kind_of}
-use Rattle.stream_model.specs.Keeping.{Keeps}
+use Rattle.language_model.specs.Keeping.{Keeps}
 use Rattle.stream_model.specs.Meaning.{Graph, Lists, Entries, meaning, events_of, events_at, text}
 use Rattle.stream_model.specs.PathLaws.{written, sink_out}
 use Rattle.stream_model.specs.React.{Operator, Kind, FileSource, Filter, FileSink}

@@ -11,19 +11,19 @@ use Rattle.spl_value.specs.Values.{fits}
 use Rattle.spl_tree.specs.declared.body.Function.{Function}
 use Rattle.spl_tree.specs.declared.code.Code.{Code}
 use Rattle.spl_tree.specs.declared.code.Slot.{Slot}
-use Rattle.stream_model.specs.declared.scope.Port.{Port}
-use Rattle.stream_model.specs.declared.scope.Scope.{Scope}
-use Rattle.stream_model.specs.declared.scope.Signature.{Signature}
-use Rattle.stream_model.specs.declared.scope.Variable.{Variable}
+use Rattle.language_model.specs.declared.scope.Port.{Port}
+use Rattle.language_model.specs.declared.scope.Scope.{Scope}
+use Rattle.language_model.specs.declared.scope.Signature.{Signature}
+use Rattle.language_model.specs.declared.scope.Variable.{Variable}
 use Rattle.spl_value.specs.declared.types.SplType.TheVariants as S
-use Rattle.stream_model.specs.CodeFits.{CodeFits}
-use Rattle.stream_model.specs.Keeping.{NamesPorts}
-use Rattle.stream_model.specs.Outcomes.{Outcome, Done, Faulted, Stuck}
+use Rattle.language_model.specs.CodeFits.{CodeFits}
+use Rattle.language_model.specs.Keeping.{NamesPorts}
+use Rattle.language_model.specs.Outcomes.{Outcome, Done, Faulted, Stuck}
 use Rattle.stream_model.specs.PathLaws.{pass, passed, fault_by}
 use Rattle.stream_model.specs.React.{at_tuple, passes}
 use Rattle.stream_model.specs.Stream.{is_closed, is_empty}
-use Rattle.stream_model.specs.StreamTypes.{Attributes}
-use Rattle.stream_model.specs.WorldFits.{EnvFits, FunctionsFit}
+use Rattle.language_model.specs.StreamTypes.{Attributes}
+use Rattle.language_model.specs.WorldFits.{EnvFits, FunctionsFit}
 use Rattle.list_run.specs.Fitting.{EndsOnce, IsStream, FitsTuples, FitsStream, FitsSchema}
 use Rattle.list_run.specs.Runs.{TuplesFit}
 

@@ -14,12 +14,12 @@ use Rattle.spl_tree.specs.declared.code.OrderOperator.TheVariants.{Less}
 use Rattle.spl_tree.specs.declared.code.Slot.{Slot}
 use Rattle.spl_tree.specs.declared.code.Slot.TheVariants as L
 use Rattle.spl_tree.specs.declared.graph.OpKind.TheVariants as O
-use Rattle.stream_model.specs.declared.checked.Part.TheVariants as A
-use Rattle.stream_model.specs.CheckedGraph.{CheckedGraph}
+use Rattle.language_model.specs.declared.checked.Part.TheVariants as A
+use Rattle.language_model.specs.CheckedGraph.{CheckedGraph}
 use Rattle.stream_model.specs.CheckedMeaning.{op_of}
 use Rattle.stream_model.specs.Meaning.{Graph}
 use Rattle.stream_model.specs.React.{FileSource, Filter, FileSink}
-use Rattle.stream_model.specs.StreamTypes.{Attributes}
+use Rattle.language_model.specs.StreamTypes.{Attributes}
 
 abbrev pub numbers : Attributes
 numbers = record { name = codes "n"; kind = T.Int I32 } ∷ []

@@ -7,9 +7,9 @@ use Rattle.spl_value.specs.declared.value.Value.{Value}
 use Rattle.spl_tree.specs.declared.body.Function.{Function}
 use Rattle.spl_tree.specs.declared.code.Code.{Code}
 use Rattle.spl_tree.specs.declared.code.Slot.{Slot}
-use Rattle.stream_model.specs.declared.env.Env.{Env}
-use Rattle.stream_model.specs.Outcomes.{Outcome}
-use Rattle.stream_model.specs.Operators.{truth_of}
+use Rattle.language_model.specs.declared.env.Env.{Env}
+use Rattle.language_model.specs.Outcomes.{Outcome}
+use Rattle.language_model.specs.Operators.{truth_of}
 use Rattle.stream_model.specs.PathLaws.{pass, passed, fault_by}
 use Rattle.list_run.specs.declared.filter.Judged.{Judged}
 use Rattle.list_run.specs.declared.filter.Judged.TheVariants as J

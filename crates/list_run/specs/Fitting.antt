@@ -5,12 +5,12 @@ use Rattle.spl_value.specs.declared.item.Item.TheVariants as I
 use Rattle.spl_tree.specs.declared.body.Function.{Function}
 use Rattle.spl_tree.specs.declared.code.Code.{Code}
 use Rattle.spl_tree.specs.declared.code.Slot.{Slot}
-use Rattle.stream_model.specs.declared.scope.Scope.{Scope}
-use Rattle.stream_model.specs.declared.scope.Signature.{Signature}
-use Rattle.stream_model.specs.Keeping.{ConditionFits, NamesPorts}
+use Rattle.language_model.specs.declared.scope.Scope.{Scope}
+use Rattle.language_model.specs.declared.scope.Signature.{Signature}
+use Rattle.language_model.specs.Keeping.{ConditionFits, NamesPorts}
 use Rattle.stream_model.specs.React.{at_tuple}
-use Rattle.stream_model.specs.StreamTypes.{Attributes}
-use Rattle.stream_model.specs.WorldFits.{FunctionsFit}
+use Rattle.language_model.specs.StreamTypes.{Attributes}
+use Rattle.language_model.specs.WorldFits.{FunctionsFit}
 use Rattle.expr_eval.specs.Fitting.{IsFit}
 use Rattle.list_run.specs.Runs.{TuplesFit}
 

@@ -6,12 +6,12 @@ use Rattle.spl_value.specs.declared.item.Item.TheVariants as I
 use Rattle.spl_value.specs.declared.types.SplType.TheVariants as T
 use Rattle.spl_value.specs.declared.value.Value.TheVariants as V
 use Rattle.spl_value.specs.Values.{fits}
-use Rattle.stream_model.specs.CheckedGraph.{CheckedGraph}
+use Rattle.language_model.specs.CheckedGraph.{CheckedGraph}
 use Rattle.stream_model.specs.CheckedMeaning.{graph_of}
 use Rattle.stream_model.specs.Meaning.{Graph, Lists, Meaning, connections}
 use Rattle.stream_model.specs.React.{Operator, Source, FileSource}
 use Rattle.stream_model.specs.Stream.{is_closed}
-use Rattle.stream_model.specs.StreamTypes.{Attributes}
+use Rattle.language_model.specs.StreamTypes.{Attributes}
 use Rattle.list_run.specs.Sinks.{stays}
 
 -- the graph of operators is there, and no operator has several connections

@@ -4,9 +4,9 @@ use Rattle.std.specs.List.{count_by}
 use Rattle.spl_value.specs.declared.item.Fault.{Fault}
 use Rattle.spl_value.specs.declared.item.Item.{Item}
 use Rattle.spl_value.specs.declared.item.Item.TheVariants as I
-use Rattle.stream_model.specs.CheckedGraph.{CheckedGraph}
+use Rattle.language_model.specs.CheckedGraph.{CheckedGraph}
 use Rattle.stream_model.specs.Ends.{run_fault}
-use Rattle.stream_model.specs.Keeping.{Keeps}
+use Rattle.language_model.specs.Keeping.{Keeps}
 use Rattle.stream_model.specs.Meaning.{Graph, Lists, Entries, meaning, text}
 use Rattle.stream_model.specs.React.{Operator, Source, FileSource, FileSink}
 use Rattle.stream_model.specs.Rows.{text_of}

@@ -7,8 +7,9 @@ ghost use Rattle.stream_model.specs.React.{Operator};
 ghost use Rattle.list_run.specs.Runs.{CanRun, AreStreams, rows_at};
 
 use crate::readers::{input_of, is_read, only};
+use language_model::Checked;
 use spl_value::{Fault, Item, Items};
-use stream_model::{Checked, graph_law};
+use stream_model::graph_law;
 
 /// The fault that ends a stream.
 fn fault_of(items: &[Item]) -> Option<Fault>

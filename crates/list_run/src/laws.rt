@@ -1,5 +1,5 @@
 //! What sinks write, and whom faults name.
-ghost use Rattle.stream_model.specs.Keeping.{Keeps};
+ghost use Rattle.language_model.specs.Keeping.{Keeps};
 ghost use Rattle.list_run.specs.Chain.{chain, chain_graph, chain_rows};
 ghost use Rattle.list_run.specs.Runs.{CanRun, RowsFit};
 ghost use Rattle.list_run.specs.SinkLaws.{SinkTextLaw, SinkCountLaw, FaultNamesLaw};

@@ -8,8 +8,8 @@ ghost use Rattle.list_run.specs.Runs.{CanRun};
 ghost use Rattle.list_run.specs.Sinks.{is_sunk, op_reads, reads_at, sinks_at};
 ghost use Rattle.list_run.specs.Table.{ops_at, is_wanted};
 
+use language_model::{Checked, Part};
 use spl_tree::{Graph, Op};
-use stream_model::{Checked, Part};
 
 /// The one stream that an operator with one connection reads.
 pub(crate) fn input_of(op: &Op) -> u32

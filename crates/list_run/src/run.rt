@@ -10,11 +10,12 @@ ghost use Rattle.list_run.specs.Table.{Advances, RowsStand, TableFits, is_wanted
 
 use crate::filter::filtered;
 use crate::readers::{input_of, is_wanted, only};
+use language_model::{Checked, Part};
 use spl_tree::{Code, Functions, Slot};
 use spl_value::{Item, Items, NoMemory, copy_item};
 use std::alloc::Global;
 use std::mem::replace;
-use stream_model::{Checked, Part, graph_law};
+use stream_model::graph_law;
 
 /// A list of each of so many streams, with no item so far.
 fn no_streams(alloc: Global, count: usize) -> Result<Items<Items<Item>>, NoMemory>

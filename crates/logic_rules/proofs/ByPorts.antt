@@ -5,9 +5,9 @@ use Rattle.std.proofs.lemmas.Bool.{ne_eqb}
 use Rattle.spl_tree.specs.declared.body.Statement.{Statement}
 use Rattle.spl_tree.specs.declared.unit.HandledEvent.{HandledEvent}
 use Rattle.spl_tree.specs.declared.unit.HandledEvent.TheVariants as H
-use Rattle.stream_model.specs.declared.checked.Handled.{Handled}
-use Rattle.stream_model.specs.declared.checked.StateVariable.{StateVariable}
-use Rattle.stream_model.specs.LogicTyping.{handler_of, handlers_on, is_event}
+use Rattle.language_model.specs.declared.checked.Handled.{Handled}
+use Rattle.language_model.specs.declared.checked.StateVariable.{StateVariable}
+use Rattle.language_model.specs.LogicTyping.{handler_of, handlers_on, is_event}
 use Rattle.logic_rules.specs.Handling.{made_of}
 
 -- ---- ports without handlers

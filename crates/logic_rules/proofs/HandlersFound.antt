@@ -8,17 +8,17 @@ use Rattle.spl_tree.specs.declared.unit.HandledEvent.{HandledEvent}
 use Rattle.spl_tree.specs.declared.unit.HandledEvent.TheVariants as H
 use Rattle.spl_tree.specs.declared.unit.Handler.{Handler}
 use Rattle.spl_tree.specs.declared.unit.Logic.{Logic}
-use Rattle.stream_model.specs.declared.checked.Handled.{Handled}
-use Rattle.stream_model.specs.declared.checked.Handlers.{Handlers}
-use Rattle.stream_model.specs.declared.checked.StateVariable.{StateVariable}
-use Rattle.stream_model.specs.declared.scope.CheckError.TheVariants as E
-use Rattle.stream_model.specs.declared.scope.Port.{Port}
-use Rattle.stream_model.specs.declared.scope.Scope.{Scope}
-use Rattle.stream_model.specs.declared.scope.Variable.{Variable}
-use Rattle.stream_model.specs.BodyTyping.{Setting, body_typing}
-use Rattle.stream_model.specs.LogicTyping.{Surroundings, event_word, handler_of, handler_scope, handler_setting, handler_typing, handlers_typing, logic_typing, state_typing}
-use Rattle.stream_model.specs.Scopes.{At, at_place, first_from}
-use Rattle.stream_model.specs.Typing.{Found, after, refused}
+use Rattle.language_model.specs.declared.checked.Handled.{Handled}
+use Rattle.language_model.specs.declared.checked.Handlers.{Handlers}
+use Rattle.language_model.specs.declared.checked.StateVariable.{StateVariable}
+use Rattle.language_model.specs.declared.scope.CheckError.TheVariants as E
+use Rattle.language_model.specs.declared.scope.Port.{Port}
+use Rattle.language_model.specs.declared.scope.Scope.{Scope}
+use Rattle.language_model.specs.declared.scope.Variable.{Variable}
+use Rattle.language_model.specs.BodyTyping.{Setting, body_typing}
+use Rattle.language_model.specs.LogicTyping.{Surroundings, event_word, handler_of, handler_scope, handler_setting, handler_typing, handlers_typing, logic_typing, state_typing}
+use Rattle.language_model.specs.Scopes.{At, at_place, first_from}
+use Rattle.language_model.specs.Typing.{Found, after, refused}
 use Rattle.type_rules.specs.declared.answer.TypeAnswer.{TypeAnswer}
 use Rattle.type_rules.specs.Finds.{Finds}
 use Rattle.body_rules.specs.declared.types.finding.TypeScope.{TypeScope}

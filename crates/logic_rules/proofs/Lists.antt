@@ -1,7 +1,7 @@
 -- Items that are taken out of lists and put back.
 use Rattle.std.specs.Prelude.{◌≡◌, ◌+◌, ◌<◌, ℕ, zero, suc, Bool, true, false, List, [], ◌∷◌, length, if◌then◌else◌, slice_get, Option, Some, None, remove, insert}
 use Rattle.std.proofs.Common.{refl, ap, sym, subst, ◌∙◌, arith}
-use Rattle.stream_model.specs.Scopes.{At, at_place, first_from}
+use Rattle.language_model.specs.Scopes.{At, at_place, first_from}
 
 -- an item that is taken out and put back where it was
 pub put_back : {A : Type 0} (xs : List A) (i : ℕ) (x : A) → slice_get xs i ≡ Some x → insert (remove xs i) i x ≡ xs

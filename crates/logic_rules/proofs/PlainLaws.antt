@@ -15,7 +15,7 @@ use Rattle.spl_tree.specs.declared.code.Code.TheFolds.{fold_out-Code, map-Code}
 use Rattle.spl_tree.specs.declared.code.Slot.{Slot}
 use Rattle.spl_tree.specs.declared.code.Taking.{Taking}
 use Rattle.spl_tree.specs.declared.code.UnaryCode.{UnaryCode}
-use Rattle.stream_model.specs.LogicTyping.{is_minus, is_plain, level_plain}
+use Rattle.language_model.specs.LogicTyping.{is_minus, is_plain, level_plain}
 
 at_level : (k : Code Slot) (x : Code-F Slot (Code Slot)) → out-Code Slot k ≡ x → is_plain k ≡ level_plain (map-Code Slot (Code Slot) Bool is_plain x)
 at_level k x e = fold_out-Code Slot Bool level_plain k ∙ ap (λ y. level_plain (map-Code Slot (Code Slot) Bool is_plain y)) e

@@ -5,13 +5,13 @@ use Rattle.spl_value.specs.declared.types.SplType.{SplType}
 use Rattle.spl_tree.specs.declared.code.Code.{Code}
 use Rattle.spl_tree.specs.declared.code.Slot.{Slot}
 use Rattle.spl_tree.specs.Grammar.{Expr}
-use Rattle.stream_model.specs.declared.scope.CheckError.TheVariants as E
-use Rattle.stream_model.specs.declared.scope.Dollar.{Dollar}
-use Rattle.stream_model.specs.BodyTyping.{first_value}
-use Rattle.stream_model.specs.LogicTyping.{is_state_value, state_typing, state_value, state_variable}
-use Rattle.stream_model.specs.Parameters.{constant_scope}
-use Rattle.stream_model.specs.TypeNames.{Types}
-use Rattle.stream_model.specs.Typing.{Found, refused}
+use Rattle.language_model.specs.declared.scope.CheckError.TheVariants as E
+use Rattle.language_model.specs.declared.scope.Dollar.{Dollar}
+use Rattle.language_model.specs.BodyTyping.{first_value}
+use Rattle.language_model.specs.LogicTyping.{is_state_value, state_typing, state_value, state_variable}
+use Rattle.language_model.specs.Parameters.{constant_scope}
+use Rattle.language_model.specs.TypeNames.{Types}
+use Rattle.language_model.specs.Typing.{Found, refused}
 use Rattle.logic_rules.proofs.FoundRows.{IsRow}
 
 module _ (given : List Dollar) (t : SplType) (e : Expr) where

@@ -13,9 +13,9 @@ use Rattle.spl_tree.specs.declared.expression.ExprKind.TheOpen.{ExprKind-F}
 use Rattle.spl_tree.specs.declared.expression.ExprKind.TheViews.{out-ExprKind}
 use Rattle.spl_tree.specs.declared.expression.ExprKind.TheFolds.{fold-ExprKind, fold_out-ExprKind, map-ExprKind}
 use Rattle.spl_tree.specs.Grammar.{Expr, Prefix}
-use Rattle.stream_model.specs.declared.scope.Dollar.{Dollar}
-use Rattle.stream_model.specs.LogicTyping.{is_minus_prefix, is_state_value, level_state, plain_parameter}
-use Rattle.stream_model.specs.Scopes.{dollar_of}
+use Rattle.language_model.specs.declared.scope.Dollar.{Dollar}
+use Rattle.language_model.specs.LogicTyping.{is_minus_prefix, is_state_value, level_state, plain_parameter}
+use Rattle.language_model.specs.Scopes.{dollar_of}
 
 abbrev pub passes : List Dollar → ExprKind → Bool
 passes given = fold-ExprKind Bool (level_state given)

@@ -5,16 +5,16 @@ use Rattle.spl_tree.specs.declared.expression.Placed.{Placed}
 use Rattle.spl_tree.specs.declared.unit.HandledEvent.{HandledEvent}
 use Rattle.spl_tree.specs.declared.unit.HandledEvent.TheVariants as H
 use Rattle.spl_tree.specs.declared.unit.Handler.{Handler}
-use Rattle.stream_model.specs.declared.checked.Handled.{Handled}
-use Rattle.stream_model.specs.declared.checked.Handlers.{Handlers}
-use Rattle.stream_model.specs.declared.checked.StateVariable.{StateVariable}
-use Rattle.stream_model.specs.declared.scope.CheckError.TheVariants as E
-use Rattle.stream_model.specs.declared.scope.Port.{Port}
-use Rattle.stream_model.specs.declared.scope.Scope.{Scope}
-use Rattle.stream_model.specs.BodyTyping.{Setting, body_typing}
-use Rattle.stream_model.specs.LogicTyping.{Surroundings, event_word, handler_of, handlers_made, handlers_on, handlers_typing}
-use Rattle.stream_model.specs.Scopes.{At, first_from}
-use Rattle.stream_model.specs.Typing.{Found, after, refused, unknown}
+use Rattle.language_model.specs.declared.checked.Handled.{Handled}
+use Rattle.language_model.specs.declared.checked.Handlers.{Handlers}
+use Rattle.language_model.specs.declared.checked.StateVariable.{StateVariable}
+use Rattle.language_model.specs.declared.scope.CheckError.TheVariants as E
+use Rattle.language_model.specs.declared.scope.Port.{Port}
+use Rattle.language_model.specs.declared.scope.Scope.{Scope}
+use Rattle.language_model.specs.BodyTyping.{Setting, body_typing}
+use Rattle.language_model.specs.LogicTyping.{Surroundings, event_word, handler_of, handlers_made, handlers_on, handlers_typing}
+use Rattle.language_model.specs.Scopes.{At, first_from}
+use Rattle.language_model.specs.Typing.{Found, after, refused, unknown}
 use Rattle.body_rules.specs.declared.types.finding.TypeScope.{TypeScope}
 use Rattle.body_rules.specs.TypeScopes.{types_in}
 

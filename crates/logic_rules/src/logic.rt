@@ -1,7 +1,7 @@
 //! The logic of a Custom.
 ghost use Rattle.std.specs.Prelude.{◌≡◌, [], false, IfOk};
 ghost use Rattle.std.specs.Option.{option_copied};
-ghost use Rattle.stream_model.specs.LogicTyping.{logic_typing};
+ghost use Rattle.language_model.specs.LogicTyping.{logic_typing};
 ghost use Rattle.type_rules.specs.Finds.{Finds};
 ghost use Rattle.logic_rules.specs.Handling.{handlers_found, surroundings};
 
@@ -15,12 +15,12 @@ mod state_values;
 use body_rules::{BodyPurpose, BodySetting, TypeScope};
 use by_ports::by_ports;
 use handling::handlers_of;
+use language_model::{Handlers, Port, Scope, StateVariable};
 use spl_tree::{Handler, Logic, Placed};
 use spl_value::Items;
 use state::{state_in, variables_of};
 use std::alloc::Global;
 use std::mem::replace;
-use stream_model::{Handlers, Port, Scope, StateVariable};
 use type_rules::TypeAnswer;
 
 /// The handlers of a Custom with a state. The scope is that of `logic_of`.

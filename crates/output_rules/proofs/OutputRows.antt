@@ -7,9 +7,9 @@ use Rattle.spl_value.specs.declared.types.SplType.{SplType}
 use Rattle.spl_tree.specs.Grammar.{Expr}
 use Rattle.spl_tree.specs.declared.expression.Field.{Field}
 use Rattle.spl_tree.specs.declared.unit.OutputAssignments.{OutputAssignments}
-use Rattle.stream_model.specs.declared.checked.Gathers.{Gathers}
-use Rattle.stream_model.specs.OutputTyping.{Assigned, Assigns, Fills, assignment_typing, assignments_typing, collected, filled_from, is_assigned, places, rows_typing}
-use Rattle.stream_model.specs.Typing.{Found, after, unknown}
+use Rattle.language_model.specs.declared.checked.Gathers.{Gathers}
+use Rattle.language_model.specs.OutputTyping.{Assigned, Assigns, Fills, assignment_typing, assignments_typing, collected, filled_from, is_assigned, places, rows_typing}
+use Rattle.language_model.specs.Typing.{Found, after, unknown}
 use Rattle.type_rules.specs.declared.answer.TypeAnswer.{TypeAnswer}
 use Rattle.type_rules.specs.Finds.{Finds, with_front}
 use Rattle.output_rules.specs.Marking.{Tells}

@@ -3,8 +3,8 @@ use Rattle.std.specs.Prelude.{◌≡◌, ◌↔◌, IsTrue, ℕ, suc, ◌+◌, �
 use Rattle.std.proofs.Common.{refl, ap, sym, subst, ◌∙◌, append_assoc, get_or, drop-cons, add-one}
 use Rattle.std.proofs.lemmas.Result.{err_from_is_err_and}
 use Rattle.spl_value.specs.declared.types.SplType.{SplType}
-use Rattle.stream_model.specs.Typing.{Found, after, same_types}
-use Rattle.stream_model.specs.TypingLaws.{same_types_law}
+use Rattle.language_model.specs.Typing.{Found, after, same_types}
+use Rattle.language_model.specs.TypingLaws.{same_types_law}
 use Rattle.type_rules.specs.declared.answer.TypeAnswer.{TypeAnswer}
 use Rattle.type_rules.specs.declared.answer.TypeAnswer.TheVariants.{Refused, Memory}
 use Rattle.type_rules.specs.Finds.{Finds, with_front}

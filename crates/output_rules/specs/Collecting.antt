@@ -4,11 +4,11 @@ use Rattle.spl_value.specs.declared.types.SplType.{SplType}
 use Rattle.spl_value.specs.declared.types.SplType.TheOpen as T
 use Rattle.spl_value.specs.declared.types.SplType.TheOpen.{SplType-F}
 use Rattle.spl_tree.specs.Grammar.{Expr}
-use Rattle.stream_model.specs.declared.checked.Collector.{Collector}
-use Rattle.stream_model.specs.declared.checked.Collector.TheVariants as K
-use Rattle.stream_model.specs.declared.checked.Gathers.{Gathers}
-use Rattle.stream_model.specs.OutputTyping.{Collecting, Summing, Extreme, Choosing, Counting}
-use Rattle.stream_model.specs.Typing.{Found, int32, wrong_call}
+use Rattle.language_model.specs.declared.checked.Collector.{Collector}
+use Rattle.language_model.specs.declared.checked.Collector.TheVariants as K
+use Rattle.language_model.specs.declared.checked.Gathers.{Gathers}
+use Rattle.language_model.specs.OutputTyping.{Collecting, Summing, Extreme, Choosing, Counting}
+use Rattle.language_model.specs.Typing.{Found, int32, wrong_call}
 use Rattle.output_rules.specs.declared.outputs.groups.Collecting.{Collecting as Function}
 use Rattle.output_rules.specs.declared.outputs.groups.Collecting.TheVariants as F
 

@@ -3,9 +3,9 @@ use Rattle.std.specs.Prelude.{◌≡◌, ℕ, ◌+◌, ◌<◌, ◌≤◌, List,
 use Rattle.std.proofs.Common.{refl, ap, sym, subst, ◌∙◌, append_assoc, append-nil, get_or}
 use Rattle.std.proofs.lemmas.List.{drop_all}
 use Rattle.std.proofs.lemmas.Result.{err_from_is_err_and}
-use Rattle.stream_model.specs.declared.scope.CheckError.{CheckError}
-use Rattle.stream_model.specs.declared.scope.CheckRefusal.{CheckRefusal}
-use Rattle.stream_model.specs.Typing.{Found, after, refused}
+use Rattle.language_model.specs.declared.scope.CheckError.{CheckError}
+use Rattle.language_model.specs.declared.scope.CheckRefusal.{CheckRefusal}
+use Rattle.language_model.specs.Typing.{Found, after, refused}
 use Rattle.type_rules.specs.declared.answer.TypeAnswer.{TypeAnswer}
 use Rattle.type_rules.specs.declared.answer.TypeAnswer.TheVariants.{Refused, Memory}
 use Rattle.type_rules.specs.Finds.{Finds, with_front}

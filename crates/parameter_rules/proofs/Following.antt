@@ -6,7 +6,7 @@ use Rattle.spl_tree.specs.declared.graph.Expansion.{Expansion}
 use Rattle.spl_tree.specs.declared.graph.Site.{Site}
 use Rattle.spl_tree.specs.declared.unit.Definition.{Definition}
 use Rattle.spl_tree.specs.Grammar.{Expr}
-use Rattle.stream_model.specs.Literals.{Behind, behind_in, followed_within, here_or}
+use Rattle.language_model.specs.Literals.{Behind, behind_in, followed_within, here_or}
 
 module _ (unit : List Definition) (expansions : List Expansion) where
   -- an argument, where an expansion is invoked

@@ -11,11 +11,11 @@ use Rattle.spl_value.specs.declared.types.SplType.TheViews.{out-SplType}
 use Rattle.spl_tree.specs.declared.graph.OpKind.{OpKind}
 use Rattle.spl_tree.specs.declared.unit.Parameter.{Parameter}
 use Rattle.spl_tree.specs.Grammar.{Expr}
-use Rattle.stream_model.specs.declared.checked.Given.{Given}
-use Rattle.stream_model.specs.declared.checked.ParameterValue.{ParameterValue}
-use Rattle.stream_model.specs.ParameterTyping.{Role, Site, extra, key_at, key_of, keys_typing, level_key, one_value, parameter_typing, parameters_typing, role_of, single_value, value_given, value_typing, word_of}
-use Rattle.stream_model.specs.Scopes.{at_place, attribute_of}
-use Rattle.stream_model.specs.Typing.{Found, after, mismatch}
+use Rattle.language_model.specs.declared.checked.Given.{Given}
+use Rattle.language_model.specs.declared.checked.ParameterValue.{ParameterValue}
+use Rattle.language_model.specs.ParameterTyping.{Role, Site, extra, key_at, key_of, keys_typing, level_key, one_value, parameter_typing, parameters_typing, role_of, single_value, value_given, value_typing, word_of}
+use Rattle.language_model.specs.Scopes.{at_place, attribute_of}
+use Rattle.language_model.specs.Typing.{Found, after, mismatch}
 use Rattle.parameter_rules.specs.declared.parameters.roles.Role as C
 use Rattle.parameter_rules.specs.declared.parameters.roles.Role.TheVariants as R
 use Rattle.parameter_rules.specs.Roles.{role_seen}

@@ -3,8 +3,8 @@ use Rattle.std.specs.Prelude.{◌≡◌, ℕ, zero, suc, false, List, [], ◌∷
 use Rattle.std.specs.Option.{option_map}
 use Rattle.std.specs.Str.{bytes_eq}
 use Rattle.std.proofs.Common.{refl, ap, sym, ◌∙◌}
-use Rattle.stream_model.specs.declared.checked.Given.{Given}
-use Rattle.stream_model.specs.ParameterTyping.{value_given}
+use Rattle.language_model.specs.declared.checked.Given.{Given}
+use Rattle.language_model.specs.ParameterTyping.{value_given}
 use Rattle.parameter_rules.specs.Taking.{KeepsOthers}
 
 -- one of another name isn't missed

@@ -3,7 +3,7 @@ use Rattle.std.specs.Prelude.{◌≡◌, ◌↔◌, IsTrue, ℕ, Bool, true, fal
 use Rattle.std.specs.Str.{IsUtf8, is_utf8}
 use Rattle.std.proofs.Common.{refl, sym}
 use Rattle.std.proofs.lemmas.Str.{IsUtf8-from_is_utf8, is_utf8-from_IsUtf8}
-use Rattle.stream_model.specs.Composites.{is_empty}
+use Rattle.language_model.specs.Composites.{is_empty}
 
 pub utf8_as : (bytes : List ℕ) → IsUtf8 bytes → is_utf8 bytes ≡ true
 utf8_as bytes h = is_utf8-from_IsUtf8 bytes h

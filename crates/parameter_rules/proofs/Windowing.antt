@@ -9,13 +9,13 @@ use Rattle.spl_tree.specs.declared.expression.Placed.{Placed}
 use Rattle.spl_tree.specs.declared.graph.OpKind.{OpKind}
 use Rattle.spl_tree.specs.declared.unit.PortWindow.{PortWindow}
 use Rattle.spl_tree.specs.declared.unit.WindowPart.{WindowPart}
-use Rattle.stream_model.specs.declared.checked.Policy.{Policy}
-use Rattle.stream_model.specs.declared.scope.CheckError.TheVariants as E
-use Rattle.stream_model.specs.declared.scope.Port.{Port}
-use Rattle.stream_model.specs.Checking.{each_window, has_windows, policy_of, windows_checked}
-use Rattle.stream_model.specs.Policies.{Numbers, Parts, delta_of, has_name, in_front, is_word, measured, only_count, partitioned_last, window_at, window_of, windows_typing}
-use Rattle.stream_model.specs.Scopes.{At, at_place, first_from}
-use Rattle.stream_model.specs.Typing.{Found, after, refused}
+use Rattle.language_model.specs.declared.checked.Policy.{Policy}
+use Rattle.language_model.specs.declared.scope.CheckError.TheVariants as E
+use Rattle.language_model.specs.declared.scope.Port.{Port}
+use Rattle.language_model.specs.Checking.{each_window, has_windows, policy_of, windows_checked}
+use Rattle.language_model.specs.Policies.{Numbers, Parts, delta_of, has_name, in_front, is_word, measured, only_count, partitioned_last, window_at, window_of, windows_typing}
+use Rattle.language_model.specs.Scopes.{At, at_place, first_from}
+use Rattle.language_model.specs.Typing.{Found, after, refused}
 use Rattle.type_rules.specs.declared.answer.TypeAnswer.{TypeAnswer}
 use Rattle.type_rules.specs.Finds.{Finds, with_front}
 use Rattle.parameter_rules.specs.declared.windows.measures.Measure.{Measure}

@@ -1,5 +1,5 @@
 -- What calls answer on what is behind `$` parameters, as the definitions see it.
-use Rattle.stream_model.specs.Literals as L
+use Rattle.language_model.specs.Literals as L
 use Rattle.parameter_rules.specs.declared.literals.follow.Behind.{Behind}
 use Rattle.parameter_rules.specs.declared.literals.follow.Behind.TheVariants as B
 

@@ -1,6 +1,6 @@
 -- What is answered of a name that is refused.
 use Rattle.std.specs.Prelude.{◌≡◌, ℕ, List, Some}
-use Rattle.stream_model.specs.declared.scope.CheckError.{CheckError}
+use Rattle.language_model.specs.declared.scope.CheckError.{CheckError}
 use Rattle.type_rules.specs.declared.answer.TypeAnswer.{TypeAnswer}
 use Rattle.type_rules.specs.declared.answer.TypeAnswer.TheVariants.{Refused, Memory}
 

@@ -1,5 +1,5 @@
 -- What parameters are, as the definitions see it.
-use Rattle.stream_model.specs.ParameterTyping as P
+use Rattle.language_model.specs.ParameterTyping as P
 use Rattle.parameter_rules.specs.declared.parameters.roles.Role.{Role}
 use Rattle.parameter_rules.specs.declared.parameters.roles.Role.TheVariants as R
 

@@ -1,9 +1,9 @@
 -- Where the expressions of an operator stand, by what a call is given.
 use Rattle.std.specs.Prelude.{Option}
 use Rattle.spl_tree.specs.Grammar.{Expr}
-use Rattle.stream_model.specs.Literals.{followed, number_literal}
-use Rattle.stream_model.specs.ParameterTyping.{Site}
-use Rattle.stream_model.specs.Policies.{Numbers}
+use Rattle.language_model.specs.Literals.{followed, number_literal}
+use Rattle.language_model.specs.ParameterTyping.{Site}
+use Rattle.language_model.specs.Policies.{Numbers}
 use Rattle.parameter_rules.specs.declared.literals.ExpressionSite.{ExpressionSite}
 use Rattle.parameter_rules.specs.declared.literals.follow.Follow.{Follow}
 

@@ -2,8 +2,8 @@
 use Rattle.std.specs.Prelude.{◌≡◌, ◌<◌, ℕ, false, List, length, Option, Some, None, slice_get}
 use Rattle.std.specs.Option.{option_map}
 use Rattle.std.specs.Str.{bytes_eq}
-use Rattle.stream_model.specs.declared.checked.Given.{Given}
-use Rattle.stream_model.specs.ParameterTyping.{value_given}
+use Rattle.language_model.specs.declared.checked.Given.{Given}
+use Rattle.language_model.specs.ParameterTyping.{value_given}
 
 -- what is given by another name is as before
 abbrev pub KeepsOthers : List ℕ → List Given → List Given → Type 0

@@ -3,10 +3,10 @@ use Rattle.std.specs.Prelude.{◌≡◌, ℕ, ℤ, pos, Bool, List, Option, Ok}
 use Rattle.std.specs.Borrow.{Bor}
 use Rattle.spl_value.specs.declared.types.IntKind.{IntKind}
 use Rattle.spl_tree.specs.declared.unit.WindowPart.{WindowPart}
-use Rattle.stream_model.specs.declared.checked.WindowRule.{WindowRule}
-use Rattle.stream_model.specs.declared.checked.WindowRule.TheVariants as W
-use Rattle.stream_model.specs.Policies.{Delta, IntegerAttribute, Parts}
-use Rattle.stream_model.specs.Typing.{Found, after}
+use Rattle.language_model.specs.declared.checked.WindowRule.{WindowRule}
+use Rattle.language_model.specs.declared.checked.WindowRule.TheVariants as W
+use Rattle.language_model.specs.Policies.{Delta, IntegerAttribute, Parts}
+use Rattle.language_model.specs.Typing.{Found, after}
 use Rattle.parameter_rules.specs.declared.windows.measures.Measure.{Measure}
 use Rattle.parameter_rules.specs.declared.windows.measures.Measure.TheVariants as M
 

@@ -3,7 +3,7 @@ ghost use Rattle.std.specs.Prelude.{◌≡◌};
 ghost use Rattle.std.specs.Option.{option_copied};
 ghost use Rattle.std.specs.Str.{is_utf8};
 ghost use Rattle.spl_tree.specs.declared.expression.ExprKind.TheViews.{out-ExprKind};
-ghost use Rattle.stream_model.specs.Literals.{file_or_mismatch, file_typing, is_file_name, number_literal, number_of, text_at};
+ghost use Rattle.language_model.specs.Literals.{file_or_mismatch, file_typing, is_file_name, number_literal, number_of, text_at};
 ghost use Rattle.type_rules.specs.Finds.{Finds};
 ghost use Rattle.parameter_rules.specs.Sites.{behind_at, numbers_at};
 
@@ -14,11 +14,11 @@ pub(crate) mod refusals;
 
 pub use composites::CompositeTable;
 pub use follow::Follow;
+use language_model::Scope;
 use refusals::mismatch;
 use spl_tree::{Expr, ExprKind, Number};
 use spl_value::{Bytes, Items, SplType};
 use std::alloc::Global;
-use stream_model::Scope;
 use type_rules::{TypeAnswer, type_of};
 
 /// Where the expressions of an operator stand: what they may name, and what is behind their `$`

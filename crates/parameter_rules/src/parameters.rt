@@ -2,8 +2,8 @@
 ghost use Rattle.std.specs.Prelude.{◌≡◌, [], map, reverse};
 ghost use Rattle.std.specs.List.{list_any};
 ghost use Rattle.std.specs.Str.{bytes_eq};
-ghost use Rattle.stream_model.specs.Checking.{parameters_checked};
-ghost use Rattle.stream_model.specs.ParameterTyping.{parameter_typing, parameters_typing, role_of};
+ghost use Rattle.language_model.specs.Checking.{parameters_checked};
+ghost use Rattle.language_model.specs.ParameterTyping.{parameter_typing, parameters_typing, role_of};
 ghost use Rattle.type_rules.specs.Finds.{Finds};
 ghost use Rattle.parameter_rules.specs.Sites.{site_seen};
 
@@ -15,11 +15,11 @@ mod values;
 use crate::literals::ExpressionSite;
 use crate::literals::refusals::{extra, missing_parameter};
 pub use given::{position_given, strict_given, take_code, take_file, take_places};
+use language_model::Given;
 use roles::{missing, role_of};
 use spl_tree::{OpKind, Parameter};
 use spl_value::Items;
 use std::alloc::Global;
-use stream_model::Given;
 use type_rules::TypeAnswer;
 use values::value_of;
 

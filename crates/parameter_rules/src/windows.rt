@@ -3,9 +3,9 @@ ghost use Rattle.std.specs.Prelude.{◌≡◌, [], ◌==◌, map, reverse};
 ghost use Rattle.std.specs.List.{list_any};
 ghost use Rattle.std.specs.Option.{option_copied};
 ghost use Rattle.std.specs.Str.{bytes_eq};
-ghost use Rattle.stream_model.specs.Checking.{each_window, has_windows, is_partitioned, policy_of, windows_checked};
-ghost use Rattle.stream_model.specs.Policies.{aggregate_policy, join_policy, partitioned_last, partitioned_or_not, window_at, window_of, windows_typing};
-ghost use Rattle.stream_model.specs.Scopes.{first_from};
+ghost use Rattle.language_model.specs.Checking.{each_window, has_windows, is_partitioned, policy_of, windows_checked};
+ghost use Rattle.language_model.specs.Policies.{aggregate_policy, join_policy, partitioned_last, partitioned_or_not, window_at, window_of, windows_typing};
+ghost use Rattle.language_model.specs.Scopes.{first_from};
 ghost use Rattle.type_rules.specs.Finds.{Finds, Points};
 ghost use Rattle.parameter_rules.specs.Sites.{numbers_at};
 ghost use Rattle.parameter_rules.specs.Windows.{ArePartitioned};
@@ -15,11 +15,11 @@ mod rules;
 
 use crate::literals::ExpressionSite;
 use crate::literals::refusals::{bad_window, extra, narrow, unknown};
+use language_model::{Policy, Port};
 use rules::{aggregate_rule, is_word, join_rule};
 use spl_tree::{OpKind, Placed, PortWindow, WindowPart};
 use spl_value::Items;
 use std::alloc::Global;
-use stream_model::{Policy, Port};
 use type_rules::TypeAnswer;
 
 /// The windows of an operator's ports, in the order of these, by its window clause, where it has one. An

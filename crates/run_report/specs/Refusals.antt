@@ -1,9 +1,9 @@
 -- The refusals of programs, by their codes.
 use Rattle.std.specs.Prelude.{ℕ, List, Some, None}
 use Rattle.spl_tree.specs.declared.expression.Placed.{Placed}
-use Rattle.stream_model.specs.declared.expansion.ExpansionRefusal.{ExpansionRefusal}
-use Rattle.stream_model.specs.declared.expansion.ExpansionRefusal.TheVariants as R
-use Rattle.stream_model.specs.Accepted.{ProgramRefusal, Lexical, Unexpected, TooDeep, Expansion, Check}
+use Rattle.language_model.specs.declared.expansion.ExpansionRefusal.{ExpansionRefusal}
+use Rattle.language_model.specs.declared.expansion.ExpansionRefusal.TheVariants as R
+use Rattle.language_model.specs.Accepted.{ProgramRefusal, Lexical, Unexpected, TooDeep, Expansion, Check}
 use Rattle.run_report.specs.declared.refusal.Code.{Code}
 use Rattle.run_report.specs.declared.refusal.Code.TheVariants as C
 use Rattle.run_report.specs.declared.refusal.ExpansionError.{ExpansionError}

@@ -7,9 +7,9 @@ use Rattle.spl_value.specs.declared.item.FaultKind.{FaultKind}
 use Rattle.spl_value.specs.declared.item.FaultKind.TheVariants as K
 use Rattle.spl_tree.specs.declared.token.LexicalError.{LexicalError}
 use Rattle.spl_tree.specs.declared.token.LexicalError.TheVariants as L
-use Rattle.stream_model.specs.declared.scope.CheckError.{CheckError}
-use Rattle.stream_model.specs.declared.scope.CheckError.TheVariants as Q
-use Rattle.stream_model.specs.CheckedGraph.{CheckedGraph}
+use Rattle.language_model.specs.declared.scope.CheckError.{CheckError}
+use Rattle.language_model.specs.declared.scope.CheckError.TheVariants as Q
+use Rattle.language_model.specs.CheckedGraph.{CheckedGraph}
 use Rattle.run_report.specs.declared.cause.Cause.{Cause}
 use Rattle.run_report.specs.declared.cause.Cause.TheVariants as W
 use Rattle.run_report.specs.declared.refusal.Code.{Code}

@@ -3,9 +3,9 @@ ghost use Rattle.std.specs.Prelude.{◌≡◌, IfOk};
 ghost use Rattle.run_report.specs.Texts.{check_text};
 
 use itoa::Buffer;
+use language_model::Checked;
 use spl_value::{Bytes, Items, NoMemory};
 use std::alloc::Global;
-use stream_model::Checked;
 
 /// The line that tells what was checked: how many operators there are, and how many streams.
 pub fn check_text(alloc: Global, checked: &Checked) -> Result<Bytes, NoMemory>

@@ -1,6 +1,6 @@
+use language_model::CheckError;
 use spl_tree::LexicalError;
 use spl_value::Name;
-use stream_model::CheckError;
 
 /// Why a unit has no graph, by its code.
 #[derive(Clone, Copy, Debug, PartialEq, Eq)]

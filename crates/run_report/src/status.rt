@@ -5,10 +5,10 @@ ghost use Rattle.run_report.specs.Texts.{lexical_code, expansion_code, check_cod
 
 use crate::{Cause, Code, ExpansionError, Refusal};
 use itoa::Buffer;
+use language_model::{CheckError, Checked};
 use spl_tree::LexicalError;
 use spl_value::{Bytes, Fault, FaultKind, Items, Name, NoMemory};
 use std::alloc::Global;
-use stream_model::{CheckError, Checked};
 
 // The code of bytes that are no tokens.
 fn lexical_code(error: LexicalError) -> &'static [u8]

@@ -1,9 +1,9 @@
 use crate::status::stopped_line;
 use crate::{Cause, Code, ExpansionError, Refusal, status_text};
+use language_model::CheckError;
 use spl_tree::LexicalError;
 use spl_value::{Fault, FaultKind, Items};
 use std::test::Fail;
-use stream_model::CheckError;
 
 // A code, a place and a name, and the line of the refusal.
 type Row = (Code, u32, Option<&'static str>, &'static str);

@@ -9,14 +9,14 @@ use Rattle.spl_tree.specs.Tokens as lexical
 use Rattle.expr_parser.specs.declared.answer.SyntaxAnswer.{SyntaxAnswer}
 use Rattle.expr_parser.specs.declared.answer.SyntaxAnswer.TheVariants as S
 use Rattle.unit_parser.specs.Parses.{Parses, OneAnswerLaw}
-use Rattle.stream_model.specs.declared.scope.CheckRefusal.{CheckRefusal}
-use Rattle.stream_model.specs.Accepted.{ProgramRefusal, Lexical, Unexpected, TooDeep, Expansion, IsAccepted, no_tokens, too_deep, unexpected, no_graph, checks, refused_check}
-use Rattle.stream_model.specs.CheckedGraph.{CheckedGraph}
-use Rattle.stream_model.specs.Checking.{checked}
-use Rattle.stream_model.specs.Expansion.{Found}
-use Rattle.stream_model.specs.Flat.{IsFlat}
-use Rattle.stream_model.specs.FlatLaws.{OneFlatLaw}
-use Rattle.stream_model.specs.Keeping.{Keeps}
+use Rattle.language_model.specs.declared.scope.CheckRefusal.{CheckRefusal}
+use Rattle.language_model.specs.Accepted.{ProgramRefusal, Lexical, Unexpected, TooDeep, Expansion, IsAccepted, no_tokens, too_deep, unexpected, no_graph, checks, refused_check}
+use Rattle.language_model.specs.CheckedGraph.{CheckedGraph}
+use Rattle.language_model.specs.Checking.{checked}
+use Rattle.language_model.specs.Expansion.{Found}
+use Rattle.language_model.specs.Flat.{IsFlat}
+use Rattle.language_model.specs.FlatLaws.{OneFlatLaw}
+use Rattle.language_model.specs.Keeping.{Keeps}
 use Rattle.check_laws.specs.KeepsLaw.{KeepsLaw}
 use Rattle.spl_compile.specs.Laws.{OneAcceptedLaw, KeptLaw}
 

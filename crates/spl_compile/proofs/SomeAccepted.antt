@@ -15,10 +15,10 @@ use Rattle.spl_tree.specs.Tokens as lexical
 use Rattle.spl_tree.specs.UnitGrammar.{SpellsUnit, unit, no_namespace}
 use Rattle.spl_tree.specs.Units.{IsUnit, IsUnexpectedAt, place_of}
 use Rattle.spl_tree.specs.Weights.{too_deep_from}
-use Rattle.stream_model.specs.Accepted.{Lexical, TooDeep, Unexpected, Expansion, IsAccepted, no_tokens, too_deep, unexpected, no_graph, checks, refused_check}
-use Rattle.stream_model.specs.Checking.{checked}
-use Rattle.stream_model.specs.Expansion.{Found}
-use Rattle.stream_model.specs.Flat.{IsFlat}
+use Rattle.language_model.specs.Accepted.{Lexical, TooDeep, Unexpected, Expansion, IsAccepted, no_tokens, too_deep, unexpected, no_graph, checks, refused_check}
+use Rattle.language_model.specs.Checking.{checked}
+use Rattle.language_model.specs.Expansion.{Found}
+use Rattle.language_model.specs.Flat.{IsFlat}
 use Rattle.spl_tree.specs.declared.graph.Graph.{Graph}
 use Rattle.spl_compile.specs.Laws.{SomeAcceptedLaw, TooLongLaw}
 use Rattle.spl_compile.proofs.SomeFlat.{some_flat}

@@ -9,13 +9,13 @@ use Rattle.spl_tree.specs.declared.graph.Graph.{Graph}
 use Rattle.spl_tree.specs.declared.unit.Composite.{Composite}
 use Rattle.spl_tree.specs.declared.unit.Definition.{Definition}
 use Rattle.spl_tree.specs.Grammar.{placed}
-use Rattle.stream_model.specs.declared.expansion.ExpansionRefusal.TheVariants as R
-use Rattle.stream_model.specs.Composites.{composites, composite_named, has_no_ports, may_be_main, portless, behind_first, only_one, if_main, named_or_only, main_of}
-use Rattle.stream_model.specs.Declarations.{declared_twice}
-use Rattle.stream_model.specs.Expansion.{Found}
-use Rattle.stream_model.specs.Flat.{IsMain, IsFlat, flat_from, twice, no_main, recursive, expands}
-use Rattle.stream_model.specs.Recursion.{Caller, Calls, call_among, calls_among, IsCall, Leads, directly, through, IsBack, IsFirstRecursion, IsFirstIn, HasNoRecursion, IsRecursive, in_functions, in_composites, IsNotRecursive, function_callers, composite_callers}
-use Rattle.stream_model.specs.Scopes.{At, at_place, first_from}
+use Rattle.language_model.specs.declared.expansion.ExpansionRefusal.TheVariants as R
+use Rattle.language_model.specs.Composites.{composites, composite_named, has_no_ports, may_be_main, portless, behind_first, only_one, if_main, named_or_only, main_of}
+use Rattle.language_model.specs.Declarations.{declared_twice}
+use Rattle.language_model.specs.Expansion.{Found}
+use Rattle.language_model.specs.Flat.{IsMain, IsFlat, flat_from, twice, no_main, recursive, expands}
+use Rattle.language_model.specs.Recursion.{Caller, Calls, call_among, calls_among, IsCall, Leads, directly, through, IsBack, IsFirstRecursion, IsFirstIn, HasNoRecursion, IsRecursive, in_functions, in_composites, IsNotRecursive, function_callers, composite_callers}
+use Rattle.language_model.specs.Scopes.{At, at_place, first_from}
 
 -- ---- the least number
 

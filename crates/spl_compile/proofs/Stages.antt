@@ -19,11 +19,11 @@ use Rattle.composite_expand.specs.Expands.{Expands}
 use Rattle.type_rules.specs.declared.answer.TypeAnswer.{TypeAnswer}
 use Rattle.type_rules.specs.declared.answer.TypeAnswer.TheVariants as T
 use Rattle.type_rules.specs.Finds.{Finds}
-use Rattle.stream_model.specs.declared.scope.CheckRefusal.{CheckRefusal}
-use Rattle.stream_model.specs.Accepted.{Lexical, Unexpected, TooDeep, Expansion, Check, IsAccepted, no_tokens, too_deep, unexpected, no_graph, checks, refused_check}
-use Rattle.stream_model.specs.CheckedGraph.{CheckedGraph}
-use Rattle.stream_model.specs.Checking.{checked}
-use Rattle.stream_model.specs.Flat.{IsFlat}
+use Rattle.language_model.specs.declared.scope.CheckRefusal.{CheckRefusal}
+use Rattle.language_model.specs.Accepted.{Lexical, Unexpected, TooDeep, Expansion, Check, IsAccepted, no_tokens, too_deep, unexpected, no_graph, checks, refused_check}
+use Rattle.language_model.specs.CheckedGraph.{CheckedGraph}
+use Rattle.language_model.specs.Checking.{checked}
+use Rattle.language_model.specs.Flat.{IsFlat}
 use Rattle.spl_compile.specs.declared.answer.CompileAnswer.{CompileAnswer}
 use Rattle.spl_compile.specs.Answers.{lexing_answer, parsing_answer, expanding_answer, checking_answer}
 use Rattle.spl_compile.specs.Compiled.{IsCompiled}

@@ -1,5 +1,5 @@
 -- What is answered of a program, by what is answered of a stage of it.
-use Rattle.stream_model.specs.Accepted.{ProgramRefusal, Lexical, Unexpected, TooDeep, Expansion, Check}
+use Rattle.language_model.specs.Accepted.{ProgramRefusal, Lexical, Unexpected, TooDeep, Expansion, Check}
 use Rattle.spl_lexer.specs.declared.answer.LexAnswer.{LexAnswer}
 use Rattle.spl_lexer.specs.declared.answer.LexAnswer.TheVariants as L
 use Rattle.expr_parser.specs.declared.answer.SyntaxAnswer.{SyntaxAnswer}

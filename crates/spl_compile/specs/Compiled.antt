@@ -1,7 +1,7 @@
 -- What compiling a program answers.
 use Rattle.std.specs.Prelude.{◌≡◌, ℕ, List, Result, Ok, Err}
-use Rattle.stream_model.specs.Accepted.{ProgramRefusal, IsAccepted}
-use Rattle.stream_model.specs.CheckedGraph.{CheckedGraph}
+use Rattle.language_model.specs.Accepted.{ProgramRefusal, IsAccepted}
+use Rattle.language_model.specs.CheckedGraph.{CheckedGraph}
 use Rattle.run_report.specs.Refusals.{refusal_of}
 use Rattle.spl_compile.specs.declared.answer.CompileAnswer.{CompileAnswer}
 use Rattle.spl_compile.specs.declared.answer.CompileAnswer.TheVariants as A

@@ -1,9 +1,9 @@
 -- What programs come to.
 use Rattle.std.specs.Prelude.{◌≡◌, ◌<◌, ℕ, List, length, Result, Ok, Err}
 use Rattle.spl_tree.specs.declared.token.LexicalError.TheVariants.{TooLong}
-use Rattle.stream_model.specs.Accepted.{ProgramRefusal, Lexical, IsAccepted}
-use Rattle.stream_model.specs.CheckedGraph.{CheckedGraph}
-use Rattle.stream_model.specs.Keeping.{Keeps}
+use Rattle.language_model.specs.Accepted.{ProgramRefusal, Lexical, IsAccepted}
+use Rattle.language_model.specs.CheckedGraph.{CheckedGraph}
+use Rattle.language_model.specs.Keeping.{Keeps}
 
 -- a program comes to one thing at most
 abbrev pub OneAcceptedLaw : Type 0

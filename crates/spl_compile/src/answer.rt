@@ -7,11 +7,11 @@ ghost use Rattle.spl_compile.specs.Answers.{checking_answer, expanding_answer, l
 use clause_rules::CheckAnswer;
 use composite_expand::ExpandAnswer;
 use expr_parser::SyntaxAnswer;
+use language_model::{CheckRefusal, ExpansionRefusal};
 use run_report::{Code, ExpansionError, Refusal};
 use spl_lexer::LexAnswer;
 use spl_tree::Placed;
 use spl_value::Name;
-use stream_model::{CheckRefusal, ExpansionRefusal};
 
 /// Why a program isn't compiled.
 #[derive(Debug, PartialEq, Eq, Drop)]

@@ -4,11 +4,11 @@ ghost use Rattle.spl_compile.specs.Compiled.{IsCompiled};
 use crate::CompileAnswer;
 use clause_rules::check;
 use composite_expand::expand;
+use language_model::Checked;
 use spl_lexer::lex;
 use spl_tree::tokens_law;
 use spl_value::{Items, Name};
 use std::alloc::Global;
-use stream_model::Checked;
 use unit_parser::parse_unit;
 
 /// The checked graph of a program's bytes, whose sinks may not have the files of these names; or the

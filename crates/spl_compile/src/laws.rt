@@ -2,7 +2,7 @@
 ghost use Rattle.spl_compile.specs.Laws.{KeptLaw, OneAcceptedLaw, SomeAcceptedLaw, TooLongLaw};
 
 use check_laws::keeps_law;
-use stream_model::flat_law;
+use language_model::flat_law;
 use unit_parser::units_law;
 
 /// A program comes to a checked graph or to a refusal, and to that alone. One that is too long is

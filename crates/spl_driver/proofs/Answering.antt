@@ -5,9 +5,9 @@ use Rattle.std.proofs.Math.Seq.{take-length}
 use Rattle.spl_value.specs.declared.item.Fault.{Fault}
 use Rattle.feed_pour.specs.Counts.{PerName, Rose}
 use Rattle.feed_pour.specs.Contents.{Told, WhereTold}
-use Rattle.stream_model.specs.declared.checked.Part.{Part}
+use Rattle.language_model.specs.declared.checked.Part.{Part}
 use Rattle.stream_model.specs.declared.record.Arrivals.{Arrivals}
-use Rattle.stream_model.specs.CheckedGraph.{CheckedGraph}
+use Rattle.language_model.specs.CheckedGraph.{CheckedGraph}
 use Rattle.stream_model.specs.Ends.{run_fault}
 use Rattle.stream_model.specs.Meaning.{Graph, Meaning}
 use Rattle.run_report.specs.declared.cause.Cause.{Cause}

@@ -5,7 +5,7 @@ use Rattle.spl_value.specs.declared.memory.NoMemory.{NoMemory}
 use Rattle.feed_pour.specs.Counts.{PerName}
 use Rattle.feed_pour.specs.Contents.{Told, WhereTold}
 use Rattle.stream_model.specs.declared.record.Arrivals.{Arrivals}
-use Rattle.stream_model.specs.CheckedGraph.{CheckedGraph}
+use Rattle.language_model.specs.CheckedGraph.{CheckedGraph}
 use Rattle.run_report.specs.declared.cause.Cause.{Cause}
 use Rattle.run_report.specs.declared.cause.Cause.TheVariants as C
 use Rattle.run_report.specs.Texts.{check_text}

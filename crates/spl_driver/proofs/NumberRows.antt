@@ -11,13 +11,13 @@ use Rattle.feed_pour.specs.Counts.{PerName}
 use Rattle.feed_pour.specs.Contents.{Told, WhereTold, TellsSame}
 use Rattle.feed_pour.specs.Named.{FetchedOf}
 use Rattle.feed_pour.specs.declared.named.Fetched.TheVariants as F
-use Rattle.stream_model.specs.declared.checked.Part.{Part}
-use Rattle.stream_model.specs.declared.checked.Part.TheVariants as A
+use Rattle.language_model.specs.declared.checked.Part.{Part}
+use Rattle.language_model.specs.declared.checked.Part.TheVariants as A
 use Rattle.stream_model.specs.Meaning.{setting_of, rows_of}
 use Rattle.stream_model.specs.Rows.{Setting, rows}
 use Rattle.stream_model.specs.RowsLaws.{rows_close}
 use Rattle.stream_model.specs.Stream.{is_closed}
-use Rattle.stream_model.specs.StreamTypes.{Attributes}
+use Rattle.language_model.specs.StreamTypes.{Attributes}
 use Rattle.file_adapters.specs.Source.{is_number_file, is_number_schema, TuplesFit as HaveValues}
 use Rattle.file_laws.specs.Files.{source_files}
 use Rattle.list_run.specs.Runs.{TuplesFit}

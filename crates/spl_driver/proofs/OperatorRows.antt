@@ -14,13 +14,13 @@ use Rattle.spl_value.specs.declared.item.Item.{Item}
 use Rattle.spl_tree.specs.declared.graph.Op.{Op}
 use Rattle.feed_pour.specs.Counts.{Counts, PerName, Rose}
 use Rattle.feed_pour.specs.Contents.{Told, WhereTold, TellsSame}
-use Rattle.stream_model.specs.declared.checked.Part.{Part}
-use Rattle.stream_model.specs.declared.checked.Part.TheVariants as A
-use Rattle.stream_model.specs.CheckedGraph.{CheckedGraph}
+use Rattle.language_model.specs.declared.checked.Part.{Part}
+use Rattle.language_model.specs.declared.checked.Part.TheVariants as A
+use Rattle.language_model.specs.CheckedGraph.{CheckedGraph}
 use Rattle.stream_model.specs.CheckedMeaning.{first_schema, graph_of, kind_of, operator_with, operators_from, with_operator}
 use Rattle.stream_model.specs.Meaning.{Graph, connections}
 use Rattle.stream_model.specs.React.{Kind, Operator, Source, FileSource, Filter, FileSink}
-use Rattle.stream_model.specs.StreamTypes.{Attributes}
+use Rattle.language_model.specs.StreamTypes.{Attributes}
 use Rattle.file_adapters.specs.Source.{is_number_schema}
 use Rattle.file_laws.specs.Files.{source_file, source_files, is_named}
 use Rattle.list_run.specs.Runs.{RowsFit, rows_at}

@@ -5,16 +5,16 @@ use Rattle.std.specs.Option.{option_map}
 use Rattle.std.proofs.lemmas.Option.{slice_get_within}
 use Rattle.spl_tree.specs.declared.graph.Op.{Op}
 use Rattle.spl_tree.specs.declared.graph.OpKind.{OpKind}
-use Rattle.stream_model.specs.declared.checked.Part.{Part}
-use Rattle.stream_model.specs.declared.checked.Part.TheVariants as A
-use Rattle.stream_model.specs.declared.scope.Scope.{Scope}
-use Rattle.stream_model.specs.CheckedGraph.{CheckedGraph}
+use Rattle.language_model.specs.declared.checked.Part.{Part}
+use Rattle.language_model.specs.declared.checked.Part.TheVariants as A
+use Rattle.language_model.specs.declared.scope.Scope.{Scope}
+use Rattle.language_model.specs.CheckedGraph.{CheckedGraph}
 use Rattle.stream_model.specs.CheckedMeaning.{graph_of, operators_from, operator_with, with_operator, kind_of}
-use Rattle.stream_model.specs.Keeping as K
-use Rattle.stream_model.specs.Keeping.{Keeps, PortsHave, PartFits}
+use Rattle.language_model.specs.Keeping as K
+use Rattle.language_model.specs.Keeping.{Keeps, PortsHave, PartFits}
 use Rattle.stream_model.specs.Meaning.{Graph}
 use Rattle.stream_model.specs.React.{Operator, Kind, FileSink}
-use Rattle.stream_model.specs.StreamTypes.{Attributes}
+use Rattle.language_model.specs.StreamTypes.{Attributes}
 use Rattle.list_run.specs.Runs.{CanRun}
 use Rattle.spl_driver.specs.Steps.{first_input}
 

@@ -5,7 +5,7 @@ use Rattle.std.specs.List.{list_all}
 use Rattle.spl_value.specs.declared.item.Item.{Item}
 use Rattle.feed_pour.specs.Contents.{Told}
 use Rattle.stream_model.specs.declared.record.ArrivalList.{ArrivalList}
-use Rattle.stream_model.specs.CheckedGraph.{CheckedGraph}
+use Rattle.language_model.specs.CheckedGraph.{CheckedGraph}
 use Rattle.stream_model.specs.CheckedMeaning.{graph_of}
 use Rattle.stream_model.specs.Meaning.{Graph, Entries, meaning}
 use Rattle.file_laws.specs.Files.{source_files}

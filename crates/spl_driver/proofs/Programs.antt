@@ -6,10 +6,10 @@ use Rattle.spl_tree.specs.declared.token.LexicalError.TheVariants.{TooLong}
 use Rattle.feed_pour.specs.Contents.{Told}
 use Rattle.feed_pour.specs.Named.{FetchedOf}
 use Rattle.feed_pour.specs.declared.named.Fetched.TheVariants as F
-use Rattle.stream_model.specs.declared.scope.CheckRefusal.{CheckRefusal}
-use Rattle.stream_model.specs.Accepted.{ProgramRefusal, Lexical, IsAccepted, refused_check, no_tokens, too_deep, unexpected, no_graph, checks}
-use Rattle.stream_model.specs.CheckedGraph.{CheckedGraph}
-use Rattle.stream_model.specs.Checking.{checked}
+use Rattle.language_model.specs.declared.scope.CheckRefusal.{CheckRefusal}
+use Rattle.language_model.specs.Accepted.{ProgramRefusal, Lexical, IsAccepted, refused_check, no_tokens, too_deep, unexpected, no_graph, checks}
+use Rattle.language_model.specs.CheckedGraph.{CheckedGraph}
+use Rattle.language_model.specs.Checking.{checked}
 use Rattle.run_report.specs.declared.refusal.Refusal.{Refusal}
 use Rattle.run_report.specs.Refusals.{refusal_of}
 use Rattle.file_laws.specs.Files.{OwnFiles}

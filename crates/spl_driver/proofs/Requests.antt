@@ -1,7 +1,7 @@
 -- What requests come to: one thing, and one list of operators.
 use Rattle.std.proofs.Common.{◌≡◌, ◌∙◌, ℕ, Bool, true, false, List, [], refl, sym, ap, Option, Some, None, Result, Ok, Err}
 use Rattle.feed_pour.specs.Contents.{Told}
-use Rattle.stream_model.specs.declared.checked.Part.{Part}
+use Rattle.language_model.specs.declared.checked.Part.{Part}
 use Rattle.stream_model.specs.declared.record.ArrivalList.{ArrivalList}
 use Rattle.stream_model.specs.declared.record.Arrivals.{Arrivals}
 use Rattle.command_line.specs.declared.request.Request.{Request}

@@ -9,17 +9,17 @@ use Rattle.spl_value.specs.declared.item.Fault.{Fault}
 use Rattle.spl_value.specs.declared.item.Item.{Item}
 use Rattle.spl_value.specs.declared.memory.NoMemory.{NoMemory}
 use Rattle.spl_tree.specs.declared.graph.Op.{Op}
-use Rattle.stream_model.specs.declared.checked.Part.{Part}
+use Rattle.language_model.specs.declared.checked.Part.{Part}
 use Rattle.feed_pour.specs.Counts.{Counts as Tallies, PerName, Rose}
 use Rattle.feed_pour.specs.Contents.{Told, WhereTold, TellsSame}
 use Rattle.stream_model.specs.declared.record.ArrivalList.{ArrivalList}
 use Rattle.stream_model.specs.declared.record.Arrivals.{Arrivals}
 use Rattle.stream_model.specs.declared.record.Counts.{Counts}
 use Rattle.stream_model.specs.declared.record.SinkCount.{SinkCount}
-use Rattle.stream_model.specs.CheckedGraph.{CheckedGraph}
+use Rattle.language_model.specs.CheckedGraph.{CheckedGraph}
 use Rattle.stream_model.specs.CheckedMeaning.{graph_of}
 use Rattle.stream_model.specs.Ends.{run_fault}
-use Rattle.stream_model.specs.Keeping.{Keeps}
+use Rattle.language_model.specs.Keeping.{Keeps}
 use Rattle.stream_model.specs.Meaning.{Graph, Lists, Entries, Meaning, meaning}
 use Rattle.run_report.specs.declared.cause.Cause.{Cause}
 use Rattle.run_report.specs.declared.cause.Cause.TheVariants as C

@@ -10,13 +10,13 @@ use Rattle.spl_value.specs.declared.item.Item.{Item}
 use Rattle.spl_value.specs.declared.item.Item.TheVariants as I
 use Rattle.feed_pour.specs.Contents.{Told}
 use Rattle.spl_tree.specs.declared.graph.Op.{Op}
-use Rattle.stream_model.specs.declared.checked.Part.{Part}
-use Rattle.stream_model.specs.declared.checked.Part.TheVariants as A
+use Rattle.language_model.specs.declared.checked.Part.{Part}
+use Rattle.language_model.specs.declared.checked.Part.TheVariants as A
 use Rattle.stream_model.specs.declared.record.SinkCount.{SinkCount}
-use Rattle.stream_model.specs.CheckedGraph.{CheckedGraph}
+use Rattle.language_model.specs.CheckedGraph.{CheckedGraph}
 use Rattle.stream_model.specs.CheckedMeaning.{first_schema, graph_of, kind_of, operator_with, operators_from}
 use Rattle.stream_model.specs.Ends.{is_read}
-use Rattle.stream_model.specs.Keeping.{Keeps}
+use Rattle.language_model.specs.Keeping.{Keeps}
 use Rattle.stream_model.specs.Laws.{reads_stream}
 use Rattle.stream_model.specs.Meaning.{Entries, Graph, Lists, Meaning, connections, meaning}
 use Rattle.stream_model.specs.React.{Kind, Operator, Source, FileSource, Filter, FileSink}

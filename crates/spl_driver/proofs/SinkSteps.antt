@@ -1,7 +1,7 @@
 -- The sinks of a graph, operator by operator.
 use Rattle.std.proofs.Common.{◌≡◌, ◌∙◌, append-nil, arith, ◌<◌, length, ℕ, List, [], ◌∷◌, ◌++◌, refl, sym, ap}
 use Rattle.spl_tree.specs.declared.graph.Op.{Op}
-use Rattle.stream_model.specs.declared.checked.Part.{Part}
+use Rattle.language_model.specs.declared.checked.Part.{Part}
 use Rattle.file_adapters.specs.declared.sinks.Sink.{Sink}
 use Rattle.spl_driver.specs.Steps.{sinks_from}
 

@@ -4,11 +4,11 @@ use Rattle.std.specs.List.{filter_map}
 use Rattle.feed_pour.specs.Counts.{PerName, Rose}
 use Rattle.feed_pour.specs.Contents.{Told}
 use Rattle.spl_value.specs.declared.item.Fault.{Fault}
-use Rattle.stream_model.specs.declared.checked.Part.{Part}
+use Rattle.language_model.specs.declared.checked.Part.{Part}
 use Rattle.stream_model.specs.declared.record.Arrivals.{Arrivals}
 use Rattle.stream_model.specs.declared.record.Counts.{Counts}
 use Rattle.stream_model.specs.declared.record.SinkCount.{SinkCount}
-use Rattle.stream_model.specs.CheckedGraph.{CheckedGraph}
+use Rattle.language_model.specs.CheckedGraph.{CheckedGraph}
 use Rattle.stream_model.specs.Ends.{run_fault}
 use Rattle.stream_model.specs.Meaning.{Graph, Meaning, text}
 use Rattle.stream_model.specs.React.{Kind, Operator, FileSource, Filter, FileSink}

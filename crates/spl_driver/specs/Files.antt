@@ -1,8 +1,8 @@
 -- The files that a request opens and creates, by the clauses of the operators of its program.
 use Rattle.std.specs.Prelude.{ℕ, List, [], ◌∷◌, ◌++◌, Option, Some, None, Result, Ok, Err}
-use Rattle.stream_model.specs.declared.checked.Part.{Part}
-use Rattle.stream_model.specs.Accepted.{ProgramRefusal}
-use Rattle.stream_model.specs.CheckedGraph.{CheckedGraph}
+use Rattle.language_model.specs.declared.checked.Part.{Part}
+use Rattle.language_model.specs.Accepted.{ProgramRefusal}
+use Rattle.language_model.specs.CheckedGraph.{CheckedGraph}
 use Rattle.command_line.specs.declared.request.Request.{Request}
 use Rattle.command_line.specs.declared.request.Request.TheVariants as R
 use Rattle.file_laws.specs.Files.{source_files, sink_files}

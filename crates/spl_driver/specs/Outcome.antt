@@ -6,11 +6,11 @@ use Rattle.spl_value.specs.Script.{Script, Ending}
 use Rattle.spl_value.specs.Script as script
 use Rattle.spl_value.specs.declared.item.Item.{Item}
 use Rattle.feed_pour.specs.Contents.{Told}
-use Rattle.stream_model.specs.declared.checked.Part.{Part}
+use Rattle.language_model.specs.declared.checked.Part.{Part}
 use Rattle.stream_model.specs.declared.record.ArrivalList.{ArrivalList}
 use Rattle.stream_model.specs.declared.record.Arrivals.{Arrivals}
-use Rattle.stream_model.specs.Accepted.{ProgramRefusal, IsAccepted}
-use Rattle.stream_model.specs.CheckedGraph.{CheckedGraph}
+use Rattle.language_model.specs.Accepted.{ProgramRefusal, IsAccepted}
+use Rattle.language_model.specs.CheckedGraph.{CheckedGraph}
 use Rattle.stream_model.specs.CheckedMeaning.{graph_of}
 use Rattle.stream_model.specs.Meaning.{Graph, Meaning, meaning, connections, rows_of}
 use Rattle.stream_model.specs.React.{Kind, Operator, FileSource, Filter, FileSink}

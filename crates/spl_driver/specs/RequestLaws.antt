@@ -1,7 +1,7 @@
 -- What requests come to.
 use Rattle.std.specs.Prelude.{◌≡◌, List, Option}
 use Rattle.feed_pour.specs.Contents.{Told}
-use Rattle.stream_model.specs.declared.checked.Part.{Part}
+use Rattle.language_model.specs.declared.checked.Part.{Part}
 use Rattle.stream_model.specs.declared.record.Arrivals.{Arrivals}
 use Rattle.command_line.specs.declared.request.Request.{Request}
 use Rattle.spl_driver.specs.Outcome.{Outcome, IsOutcome, ArePartsIn}

@@ -9,18 +9,18 @@ use Rattle.spl_value.specs.Script.{Script, End}
 use Rattle.spl_tree.specs.declared.graph.Op.{Op}
 use Rattle.feed_pour.specs.Counts.{PerName}
 use Rattle.feed_pour.specs.Contents.{Told}
-use Rattle.stream_model.specs.declared.checked.Part.{Part}
-use Rattle.stream_model.specs.declared.checked.Part.TheVariants as A
+use Rattle.language_model.specs.declared.checked.Part.{Part}
+use Rattle.language_model.specs.declared.checked.Part.TheVariants as A
 use Rattle.stream_model.specs.declared.record.ArrivalList.{ArrivalList}
 use Rattle.stream_model.specs.declared.record.Arrivals.{Arrivals}
 use Rattle.stream_model.specs.declared.record.SinkCount.{SinkCount}
-use Rattle.stream_model.specs.Accepted.{ProgramRefusal, IsAccepted}
-use Rattle.stream_model.specs.CheckedGraph.{CheckedGraph}
+use Rattle.language_model.specs.Accepted.{ProgramRefusal, IsAccepted}
+use Rattle.language_model.specs.CheckedGraph.{CheckedGraph}
 use Rattle.stream_model.specs.CheckedMeaning.{graph_of}
 use Rattle.stream_model.specs.React.{Source}
 use Rattle.stream_model.specs.Rows.{Setting, rows}
 use Rattle.stream_model.specs.Stream.{is_closed}
-use Rattle.stream_model.specs.StreamTypes.{Attributes}
+use Rattle.language_model.specs.StreamTypes.{Attributes}
 use Rattle.stream_model.specs.Meaning.{Graph, Lists, Entries, meaning, rows_of}
 use Rattle.run_report.specs.declared.cause.Cause.{Cause}
 use Rattle.run_report.specs.declared.cause.Cause.TheVariants as C

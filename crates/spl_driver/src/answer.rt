@@ -16,10 +16,10 @@ use crate::laws::request_law;
 use crate::run::run;
 use command_line::{Request, file_names};
 use feed_pour::Shelf;
+use language_model::Checked;
 use run_report::{Cause, check_text, status_text};
 use spl_value::{Bytes, Items, Name, NoMemory};
 use std::alloc::Global;
-use stream_model::Checked;
 
 /// How a request ends, and the line that tells it.
 #[derive(Debug, Drop)]

@@ -6,9 +6,9 @@ ghost use Rattle.file_adapters.specs.Source.{is_number_schema};
 ghost use Rattle.spl_driver.specs.Built.{is_plain, has_several, has_number_files, is_built_operator, is_built_now, are_built};
 
 use command_line::RunOptions;
+use language_model::{Checked, Part};
 use spl_tree::Op;
 use spl_value::{Ids, IntKind, Items, Schema, SplType};
-use stream_model::{Checked, Part};
 
 /// Whether a run has no options.
 pub fn is_plain(options: &RunOptions) -> bool

@@ -1,7 +1,7 @@
 //! The program of a request, read and compiled.
 ghost use Rattle.std.specs.Prelude.{◌≡◌, ◌∷◌, [], ◌<◌, ◌-◌, ◌^◌, IfSome};
 ghost use Rattle.run_report.specs.Refusals.{refusal_of};
-ghost use Rattle.stream_model.specs.Accepted.{Lexical};
+ghost use Rattle.language_model.specs.Accepted.{Lexical};
 ghost use Rattle.spl_tree.specs.declared.token.LexicalError.TheVariants.{TooLong};
 ghost use Rattle.feed_pour.specs.Contents.{WhereTold, TellsSame};
 ghost use Rattle.spl_driver.specs.Answer.{ReadsFailed};
@@ -9,12 +9,12 @@ ghost use Rattle.spl_driver.specs.Steps.{CompiledAt, HasOwnFiles, OpensCounted, 
 
 use feed_pour::{Fetched, Shelf, fetch};
 use file_laws::own_files_law;
+use language_model::Checked;
 use run_report::{Code, Refusal};
 use spl_compile::{CompileAnswer, accepted_law, compile};
 use spl_tree::{LexicalError, MOST_BYTES};
 use spl_value::{Items, Name};
 use std::alloc::Global;
-use stream_model::Checked;
 
 /// What the file of a program comes to.
 #[derive(Debug, Drop)]

@@ -8,10 +8,10 @@ ghost use Rattle.spl_driver.specs.Steps.{PreparedOf, OpensCounted, prepare_faile
 use crate::built::is_built_graph;
 use crate::sources::{Sources, read_sources};
 use feed_pour::Shelf;
+use language_model::Checked;
 use list_run::streams_of;
 use spl_value::{Item, Items};
 use std::alloc::Global;
-use stream_model::Checked;
 
 /// What a run comes to up to its sinks.
 #[derive(Debug, Drop)]

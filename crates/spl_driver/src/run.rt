@@ -12,11 +12,12 @@ use crate::prepare::{Prepared, prepare};
 use crate::sinks::{sink_counts, sinks_of};
 use feed_pour::Shelf;
 use file_adapters::{Sunk, write_sinks};
+use language_model::Checked;
 use list_run::{fault_of_run, sinks_law};
 use run_report::{Cause, status_text};
 use spl_value::{Fault, Items};
 use std::alloc::Global;
-use stream_model::{Arrivals, Checked, Counts};
+use stream_model::{Arrivals, Counts};
 
 // How a run ends that has this fault, or none.
 fn cause(fault: Option<Fault>) -> Cause

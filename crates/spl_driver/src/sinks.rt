@@ -1,13 +1,14 @@
 //! The sinks of a graph, and what is counted of them.
 ghost use Rattle.std.specs.Prelude.{◌≡◌, IfOk};
-ghost use Rattle.stream_model.specs.Keeping.{Keeps};
+ghost use Rattle.language_model.specs.Keeping.{Keeps};
 ghost use Rattle.spl_driver.specs.Steps.{sinks_of, first_input, counts_from};
 
 use file_adapters::Sink;
+use language_model::{Checked, Part};
 use spl_tree::Op;
 use spl_value::{Items, NoMemory};
 use std::alloc::Global;
-use stream_model::{Checked, Part, SinkCount};
+use stream_model::SinkCount;
 
 // The first stream that an operator takes.
 fn first_input(op: &Op) -> u32

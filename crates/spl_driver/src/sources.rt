@@ -8,9 +8,9 @@ ghost use Rattle.spl_driver.specs.Steps.{SourcesOf, SourceOf, RowsRead, OpensCou
 
 use feed_pour::{Fetched, Shelf, fetch};
 use file_adapters::number_stream;
+use language_model::{Checked, Part};
 use spl_value::{Item, Items, Name};
 use std::alloc::Global;
-use stream_model::{Checked, Part};
 
 /// The most bytes of a source.
 const MOST_SOURCE_BYTES: u32 = 1_048_576;

@@ -5,11 +5,11 @@ use Rattle.std.proofs.lemmas.Bool.{cond-true, cond-false, cases_eq, or_parts, ne
 use Rattle.spl_value.specs.declared.item.Item.{Item}
 use Rattle.spl_value.specs.declared.item.Item.TheVariants as I
 use Rattle.spl_value.specs.declared.item.FaultKind.{FaultKind}
-use Rattle.stream_model.specs.declared.outs.Output.{Output}
+use Rattle.language_model.specs.declared.outs.Output.{Output}
 use Rattle.spl_tree.specs.declared.body.Function.{Function}
 use Rattle.spl_tree.specs.declared.code.Code.{Code}
 use Rattle.spl_tree.specs.declared.code.Slot.{Slot}
-use Rattle.stream_model.specs.Outcomes.{Outcome, Done, Faulted, Stuck}
+use Rattle.language_model.specs.Outcomes.{Outcome, Done, Faulted, Stuck}
 use Rattle.stream_model.specs.Stream.{Event, came, is_fault, closes, any_closes, is_closed, is_empty}
 use Rattle.stream_model.specs.React.{Operator, Kind, FileSource, Filter, FileSink, Answer, Gives, Faults, body, body_of, filter_body, sink_body, passes, filter_answer, react, ended, ended_by, answered, on_each, output, is_waiting, is_last, fault_of}
 use Rattle.stream_model.specs.Stages.{Stage, gives_all, after, on_port}

@@ -7,12 +7,12 @@ use Rattle.spl_tree.specs.declared.graph.Op.{Op}
 use Rattle.spl_tree.specs.declared.graph.OpKind.{OpKind}
 use Rattle.spl_tree.specs.declared.graph.OpKind.TheVariants as O
 use Rattle.spl_value.specs.declared.types.SplType.TheVariants as T
-use Rattle.stream_model.specs.declared.checked.Part.{Part}
-use Rattle.stream_model.specs.declared.checked.Part.TheVariants as A
-use Rattle.stream_model.specs.CheckedGraph.{CheckedGraph}
+use Rattle.language_model.specs.declared.checked.Part.{Part}
+use Rattle.language_model.specs.declared.checked.Part.TheVariants as A
+use Rattle.language_model.specs.CheckedGraph.{CheckedGraph}
 use Rattle.stream_model.specs.Meaning.{Graph}
 use Rattle.stream_model.specs.React.{Kind, Operator, FileSource, Filter, FileSink}
-use Rattle.stream_model.specs.StreamTypes.{Attributes}
+use Rattle.language_model.specs.StreamTypes.{Attributes}
 
 -- the attributes of a stream
 abbrev pub schema_at : CheckedGraph → ℕ → Attributes

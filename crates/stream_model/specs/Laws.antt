@@ -6,7 +6,7 @@ use Rattle.spl_value.specs.declared.item.Item.TheVariants as I
 use Rattle.spl_value.specs.declared.item.FaultKind.{FaultKind}
 use Rattle.spl_value.specs.declared.item.FaultKind.TheVariants as K
 use Rattle.spl_value.specs.declared.value.Value.{Value}
-use Rattle.stream_model.specs.declared.outs.Output.{Output}
+use Rattle.language_model.specs.declared.outs.Output.{Output}
 use Rattle.stream_model.specs.Stream.{Event, came, is_final, is_fault, closes, any_closes, is_closed, IsPrefix}
 use Rattle.stream_model.specs.React.{Operator, ports, react, body, ended, Gives, Faults}
 use Rattle.stream_model.specs.Stages.{start, after, out, on_port, chain}

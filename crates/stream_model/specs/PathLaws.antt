@@ -13,7 +13,7 @@ use Rattle.spl_tree.specs.declared.body.Function.{Function}
 use Rattle.spl_tree.specs.declared.code.Code.{Code}
 use Rattle.spl_tree.specs.declared.code.Slot.{Slot}
 use Rattle.stream_model.specs.Stream.{Event, came}
-use Rattle.stream_model.specs.Outcomes.{Outcome, Done, Faulted, Stuck}
+use Rattle.language_model.specs.Outcomes.{Outcome, Done, Faulted, Stuck}
 use Rattle.stream_model.specs.React.{Operator, Source, FileSource, Filter, FileSink, passes, filter_answer, on_each, answered, ended_by}
 use Rattle.stream_model.specs.Stages.{start, gives_all, on_port, out}
 use Rattle.stream_model.specs.Meaning.{Graph}

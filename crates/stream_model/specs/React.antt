@@ -10,11 +10,11 @@ use Rattle.spl_value.specs.declared.types.SplType.{SplType}
 use Rattle.spl_tree.specs.declared.body.Function.{Function}
 use Rattle.spl_tree.specs.declared.code.Code.{Code}
 use Rattle.spl_tree.specs.declared.code.Slot.{Slot}
-use Rattle.stream_model.specs.declared.env.Env.{Env}
-use Rattle.stream_model.specs.declared.outs.Output.{Output}
-use Rattle.stream_model.specs.Outcomes.{Outcome, Done, Faulted, Stuck}
-use Rattle.stream_model.specs.Evaluation.{truth, world_of}
-use Rattle.stream_model.specs.Functions.{value}
+use Rattle.language_model.specs.declared.env.Env.{Env}
+use Rattle.language_model.specs.declared.outs.Output.{Output}
+use Rattle.language_model.specs.Outcomes.{Outcome, Done, Faulted, Stuck}
+use Rattle.language_model.specs.Evaluation.{truth, world_of}
+use Rattle.language_model.specs.Functions.{value}
 use Rattle.stream_model.specs.Stream.{Event, is_final, is_fault}
 
 -- the file of a source, the attributes of its rows, and whether a bad row is a fault

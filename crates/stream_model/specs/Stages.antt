@@ -1,7 +1,7 @@
 -- What an operator gives for a list of events, the oldest first, up to the one that ends it.
 use Rattle.std.specs.Prelude.{ℕ, ◌==◌, Bool, false, List, [], ◌∷◌, ◌++◌, map, if◌then◌else◌, is_some}
 use Rattle.spl_value.specs.declared.item.Item.{Item}
-use Rattle.stream_model.specs.declared.outs.Output.{Output}
+use Rattle.language_model.specs.declared.outs.Output.{Output}
 use Rattle.stream_model.specs.Stream.{Event, came}
 use Rattle.stream_model.specs.React.{Operator, react, ended}
 

@@ -1,15 +1,5 @@
-//! What the definitions come to.
-ghost use Rattle.spl_tree.specs.Grammar.{placed};
-ghost use Rattle.stream_model.specs.declared.expansion.ExpansionRefusal.TheVariants as R;
-ghost use Rattle.stream_model.specs.Composites.{main_of};
-ghost use Rattle.stream_model.specs.Declarations.{declared_twice};
-ghost use Rattle.stream_model.specs.Flat.{flat_from};
-ghost use Rattle.stream_model.specs.FlatLaws.{ConnectedLaw, MakerLaw, OneFlatLaw, OperatorLaw, TopoLaw, WholeLaw};
-ghost use Rattle.stream_model.specs.FlatExamples.{two_types, reversed, unknown_composite, reversed_main, reversed_graph, loop_of_two, only_composite};
-ghost use Rattle.stream_model.specs.Recursion.{HasNoRecursion, composite_callers};
-ghost use Rattle.stream_model.specs.Scopes.{at_place};
-ghost use Rattle.stream_model.specs.ValueLaws.{NeverStuckLaw, StatementLeadsLaw, BodyLeavesLaw, RenamingLaw, WrittenLaw, NamesLaw};
-ghost use Rattle.std.specs.Prelude.{◌≡◌, ◌≤◌, ℕ, List, [], ◌∷◌, Option, Some, None, Ok, Err, codes, pos, negsuc, true, false};
+//! What holds of streams and of what operators make of them.
+ghost use Rattle.std.specs.Prelude.{◌≡◌, ◌≤◌, ℕ, List, [], ◌∷◌, Option, Some, None, codes, pos, negsuc, true, false};
 ghost use Rattle.spl_value.specs.Script.{End, Failed};
 ghost use Rattle.spl_value.specs.declared.item.Item.TheVariants as I;
 ghost use Rattle.spl_value.specs.declared.item.FaultKind.TheVariants as K;
@@ -17,32 +7,15 @@ ghost use Rattle.spl_value.specs.declared.types.IntKind.TheVariants as N;
 ghost use Rattle.spl_value.specs.declared.types.SplType.TheVariants as T;
 ghost use Rattle.spl_value.specs.declared.value.Value.TheVariants as V;
 ghost use Rattle.stream_model.specs.Laws.{StartLaw, HistoryLaw, EndLaw, EndItemLaw, EndGivesLaw, WaitLaw, PortsLaw, OutGrows, ChainGrows, OutCloses, ClosedEnds, ClosedGivesClosed, BodyLaw, BodyPorts, GraphLaw, EventsLaw, TopoEventsLaw, IsOrdered, IsNumbered, IsWithin, RowsClose, PiecesLaw, RowsLaw, FailedRowsLaw};
-ghost use Rattle.stream_model.specs.FitLaws.{ClosedLaw, ConstantLaw, DollarsFit, FitLaw, WantedLaw, OneTypeLaw};
-ghost use Rattle.stream_model.specs.DollarLaws.{MentionedLaw, UnusedLaw};
 ghost use Rattle.stream_model.specs.React.{Source, FileSource, Filter, FileSink};
-ghost use Rattle.spl_tree.specs.declared.code.BinaryCode.TheVariants as D;
 ghost use Rattle.spl_tree.specs.declared.code.Code.{Code};
-ghost use Rattle.spl_tree.specs.declared.code.Code.TheVariants as C;
-ghost use Rattle.spl_tree.specs.declared.code.IntegerOperator.TheVariants.{Add};
-ghost use Rattle.spl_tree.specs.declared.code.OrderOperator.TheVariants.{Less};
 ghost use Rattle.spl_tree.specs.declared.code.Slot.{Slot};
-ghost use Rattle.spl_tree.specs.declared.code.Slot.TheVariants as L;
-ghost use Rattle.spl_tree.specs.declared.expression.ExprKind.TheVariants as E;
-ghost use Rattle.stream_model.specs.declared.scope.CheckError.TheVariants as Q;
-ghost use Rattle.stream_model.specs.declared.scope.CheckRefusal.{CheckRefusal};
-ghost use Rattle.stream_model.specs.SomeParameters.{five, parameter, with_parameters, one_more};
 ghost use Rattle.stream_model.specs.PathLaws.{path_graph};
-ghost use Rattle.stream_model.specs.PlaceLaws.{PlaceTypeLaw, PlaceReadsLaw, NamePlaceLaw, PlaceGivenLaw, PlaceRefusedLaw, AssignmentTypeLaw, CompoundTypeLaw, CompoundLaw, CallTypeLaw, ValueCallLaw, AppendLaw, RemoveLaw, ClearLaw};
 ghost use Rattle.stream_model.specs.TwoSinks.{two_sinks, unread_source, bad_row, fault_of_run};
-ghost use Rattle.stream_model.specs.TwoPorts.{two_ports, variable, comparison};
-ghost use Rattle.stream_model.specs.TwoStatements.{two_statements};
-ghost use Rattle.stream_model.specs.Typing.{typing};
-ghost use Rattle.stream_model.specs.Slots.{row_slots};
-ghost use Rattle.stream_model.specs.SlotsLaws.{VariablesLaw, UnchangedLaw, InputsLaw, KeepsLaw, AgreementLaw};
-ghost use Rattle.stream_model.specs.SubmitsLaws.{SubmitsLaw};
-ghost use Rattle.stream_model.specs.TurnsLaws.{ValueTurnsLaw, ValueFaultsLaw, RunsTurnsLaw, RunsFaultsLaw};
-ghost use Rattle.stream_model.specs.Written.{Bare, Of, stands_for, written, renamed};
 ghost use Rattle.stream_model.specs.Rows.{Setting, rows, too_long, text_of};
+ghost use Rattle.spl_tree.specs.declared.graph.OpKind.TheVariants as O;
+ghost use Rattle.language_model.specs.declared.checked.Part.TheVariants as A;
+ghost use Rattle.stream_model.specs.CheckedMeaning.{graph_of, behind_source};
 
 /// No event gives nothing. One event more gives its reaction behind the history of all before it,
 /// and may end the operator, whose last item on each output port then says how. A port waits for
@@ -111,49 +84,6 @@ pub fn ends_on_literals()
     ensures read { fault_of_run unread_source (I.Final ∷ []) (I.Tuple [] ∷ I.Bad (bad_row 1) ∷ []) ≡ Some (bad_row 1) }
 {}
 
-/// An expression has at most one type and one code in a scope, under the type that its place wants.
-/// It is the wanted type, and the code fits the scope at it where what stands for `$` parameters fits.
-pub fn typing_law()
-    ensures one { OneTypeLaw }
-    ensures wanted { WantedLaw }
-    ensures fits { FitLaw }
-{}
-
-/// What stands for a `$` parameter names nothing, so it fits everywhere. A parameter that an expression
-/// doesn't mention changes nothing of what the expression is.
-pub fn dollars_law()
-    ensures closed { ClosedLaw }
-    ensures constant { ConstantLaw }
-    ensures mentioned { MentionedLaw }
-    ensures unused { UnusedLaw }
-    ensures none { DollarsFit [] }
-{}
-
-/// A place that has a type is one of a variable that may be changed, and fits the scope at that type. An
-/// assignment and a call that have code fit as statements in every body.
-pub fn places_law()
-    ensures places { PlaceTypeLaw }
-    ensures assignments { AssignmentTypeLaw }
-    ensures compounds { CompoundTypeLaw }
-    ensures calls { CallTypeLaw }
-{}
-
-/// A place is what its expression reads. A name, or what is taken of one, is a place wherever it has a
-/// type and its variable may be changed, and is refused where it may not. `a op= b` is `a = a op b`. A
-/// call that has a value may stand as a statement, and the calls that change a place change the one that
-/// their first argument reads.
-pub fn changes_law()
-    ensures reads { PlaceReadsLaw }
-    ensures whole { NamePlaceLaw }
-    ensures given { PlaceGivenLaw }
-    ensures not_mutable { PlaceRefusedLaw }
-    ensures written_out { CompoundLaw }
-    ensures valued { ValueCallLaw }
-    ensures appends { AppendLaw }
-    ensures removes { RemoveLaw }
-    ensures clears { ClearLaw }
-{}
-
 /// Rows of some files.
 pub fn rows_on_literals()
     ensures plain { rows (record { op = 0; schema = record { name = codes "k"; kind = T.Text } ∷ record { name = codes "n"; kind = T.Int N.I8 } ∷ []; strict = true; limit = 100 })
@@ -199,104 +129,13 @@ pub fn text_on_literals()
         ≡ codes "\"a,\"\"b\"\"\"\n\"\"\n7\n" }
 {}
 
-/// What evaluation does. A code that fits isn't stuck, nor is a statement or a body. A slot that fits is what its name stands for,
-/// and the code of an expression comes to what it comes to over the names of its slots.
-pub fn evaluation_law()
-    ensures never_stuck { NeverStuckLaw }
-    ensures statements { StatementLeadsLaw }
-    ensures bodies { BodyLeavesLaw }
-    ensures written { WrittenLaw }
-    ensures names { NamesLaw }
-{}
-
-/// What a row of statements does doesn't depend on the submits before it. A body that comes to its
-/// end, or to a fault other than want of turns, does so with more turns, and leaves more. What it does
-/// depends on the slots alone that it names, and it changes no other variable, no tuple at a port, and
-/// not the marker.
-pub fn statements_law()
-    ensures submits { SubmitsLaw }
-    ensures runs { RunsTurnsLaw }
-    ensures faults { RunsFaultsLaw }
-    ensures variables { VariablesLaw }
-    ensures unchanged { UnchangedLaw }
-    ensures inputs { InputsLaw }
-    ensures keeps { KeepsLaw }
-{}
-
-/// A code that comes to a value, or to a fault other than want of turns, does so with more turns,
-/// and leaves more. What it comes to depends on the marker and the values of its names alone.
-pub fn value_law<N>()
-    ensures value { ValueTurnsLaw N }
-    ensures faults { ValueFaultsLaw N }
-    ensures names { AgreementLaw N }
-{}
-
-/// A code with other names comes to what the code comes to where each name has the value of the
-/// one that takes its place.
-pub fn renaming_law<N, M>()
-    ensures renaming { RenamingLaw N M }
-{}
-
-/// The slots that two statements name.
-pub fn slots_on_literals()
-    ensures row { row_slots two_statements ≡ L.Port 0 ∷ L.Variable 1 ∷ L.Variable 2 ∷ L.Attribute 0 1 ∷ L.Variable 3 ∷ [] }
-{}
-
-/// What some names stand for where there are two ports, the names of some slots, and an expression
-/// with its code over slots and over names.
-pub fn names_on_literals()
-    ensures alone { stands_for (two_ports [] (codes "B")) (Bare (codes "m")) ≡ Some (L.Attribute 1 1) }
-    ensures behind_port { stands_for (two_ports [] (codes "B")) (Of (codes "B") (codes "k")) ≡ Some (L.Attribute 1 0) }
-    ensures port { stands_for (two_ports [] (codes "B")) (Bare (codes "B")) ≡ Some (L.Port 1) }
-    ensures of_both_ports { stands_for (two_ports [] (codes "B")) (Bare (codes "k")) ≡ None }
-    ensures of_first_port { stands_for (two_ports [] (codes "A")) (Of (codes "A") (codes "m")) ≡ None }
-    ensures of_variable { stands_for (two_ports (variable (codes "A") ∷ []) (codes "B")) (Of (codes "A") (codes "n")) ≡ None }
-    ensures variable { stands_for (two_ports (variable (codes "A") ∷ []) (codes "B")) (Bare (codes "A")) ≡ Some (L.Variable 0) }
-    ensures name_of_port { written (two_ports [] (codes "B")) (L.Port 1) ≡ Bare (codes "B") }
-    ensures name_of_attribute { written (two_ports [] (codes "B")) (L.Attribute 1 1) ≡ Of (codes "B") (codes "m") }
-    ensures name_in_second { written (two_ports [] (codes "A")) (L.Attribute 1 1) ≡ Bare (codes "m") }
-    ensures name_in_hidden { written (two_ports (variable (codes "A") ∷ []) (codes "B")) (L.Attribute 0 1) ≡ Bare (codes "n") }
-    ensures typed { typing (two_ports [] (codes "B")) comparison None
-        ≡ Ok (record { kind = T.Bool; code = C.Binary (D.Order Less) (C.Name (L.Attribute 0 0)) (C.Name (L.Attribute 1 1)) }) }
-    ensures over_names { renamed (written (two_ports [] (codes "B"))) (C.Binary (D.Order Less) (C.Name (L.Attribute 0 0)) (C.Name (L.Attribute 1 1)))
-        ≡ C.Binary (D.Order Less) (C.Name (Of (codes "A") (codes "k"))) (C.Name (Of (codes "B") (codes "m"))) }
-{}
-
-/// A scope with a `$` parameter that stands for the number 5: a sum with it, a parameter that isn't
-/// there, one that stands for a refusal, and two of one name.
-pub fn dollars_on_literals()
-    ensures stands { DollarsFit (parameter (Ok five) ∷ []) }
-    ensures sum { typing (with_parameters (parameter (Ok five) ∷ [])) one_more None
-        ≡ Ok (record { kind = T.Int N.I32; code = C.Binary (D.Integers Add N.I32) (C.Literal (V.Int (pos 5))) (C.Literal (V.Int (pos 1))) }) }
-    ensures other { typing (with_parameters (parameter (Ok five) ∷ [])) (placed 7 (E.Dollar (codes "m"))) None
-        ≡ Err (record { error = Q.Unknown; at = 7; name = Some (codes "m") }) }
-    ensures refused { (r : CheckRefusal) → typing (with_parameters (parameter (Err r) ∷ [])) (placed 7 (E.Dollar (codes "n"))) None ≡ Err r }
-    ensures first { (r : CheckRefusal)
-        → typing (with_parameters (parameter (Ok five) ∷ parameter (Err r) ∷ [])) (placed 7 (E.Dollar (codes "n"))) None ≡ Ok five }
-{}
-
-/// A unit has one answer. Each operator of its graph is one of the unit's, none is left out where no
-/// composite reaches itself, and each stream has one maker. The order has each operator once, behind
-/// those that make what it takes.
-pub fn flat_law()
-    ensures one { OneFlatLaw }
-    ensures operators { OperatorLaw }
-    ensures whole { WholeLaw }
-    ensures makers { MakerLaw }
-    ensures in_order { TopoLaw }
-    ensures connected { ConnectedLaw }
-{}
-
-/// Some units, and what they come to: a name that is declared twice, the main composite, the graph of
-/// a program in which a composite stands twice and each operator before those that it reads, that none
-/// of its composites reaches itself, and two refusals.
-pub fn graphs_on_literals()
-    ensures none_twice { declared_twice [] ≡ None }
-    ensures twice { declared_twice two_types ≡ Some (placed 21 (codes "T")) }
-    ensures no_main { main_of [] ≡ None }
-    ensures main { main_of reversed ≡ Some 1 }
-    ensures acyclic { HasNoRecursion (composite_callers reversed) }
-    ensures graph { flat_from reversed [] (at_place 1 reversed_main) ≡ Ok reversed_graph }
-    ensures waits { flat_from loop_of_two [] (only_composite loop_of_two) ≡ Err (R.Loop (placed 20 (codes "A"))) }
-    ensures undeclared { flat_from unknown_composite [] (at_place 0 reversed_main) ≡ Err (R.Unknown (placed 318 (codes "P"))) }
+/// The graph of operators of a source and a sink behind it. It isn't there yet where a Union stands in
+/// place of the sink.
+pub fn graphs_of_operators()
+    ensures built { graph_of (behind_source O.FileSink [] (A.FileSink (codes "out"))) ≡ Some (record {
+      ops = record { number = 0; functions = []; kind = FileSource (record { file = codes "in"; schema = record { name = codes "line"; kind = T.Text } ∷ []; strict = true }); ins = []; outs = 0 ∷ [] }
+          ∷ record { number = 1; functions = []; kind = FileSink (codes "out"); ins = (0 ∷ []) ∷ []; outs = [] } ∷ [];
+      topo = 0 ∷ 1 ∷ [];
+    }) }
+    ensures not_built { graph_of (behind_source O.Union (1 ∷ []) (A.Union ((0 ∷ []) ∷ []))) ≡ None }
 {}

@@ -7,9 +7,9 @@ use Rattle.spl_value.specs.declared.types.SplType.TheOpen as O
 use Rattle.spl_value.specs.declared.types.SplType.TheOpen.{SplType-F}
 use Rattle.spl_value.specs.declared.types.SplType.TheVariants as S
 use Rattle.spl_value.specs.declared.types.SplType.TheViews.{out-SplType, roll-SplType, roll-out-SplType}
-use Rattle.stream_model.specs.declared.scope.CheckRefusal.{CheckRefusal}
-use Rattle.stream_model.specs.StreamTypes.{Attributes, level_attributes}
-use Rattle.stream_model.specs.Typing.{Found, after, mismatch, unknown}
+use Rattle.language_model.specs.declared.scope.CheckRefusal.{CheckRefusal}
+use Rattle.language_model.specs.StreamTypes.{Attributes, level_attributes}
+use Rattle.language_model.specs.Typing.{Found, after, mismatch, unknown}
 use Rattle.type_rules.specs.declared.answer.TypeAnswer.{TypeAnswer}
 use Rattle.type_rules.specs.declared.answer.TypeAnswer.TheVariants.{Refused, Memory}
 use Rattle.type_rules.specs.Finds.{Finds, IsUnknown}

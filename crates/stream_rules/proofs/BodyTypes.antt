@@ -4,9 +4,9 @@ use Rattle.std.specs.List.{list_any}
 use Rattle.std.specs.Str.{bytes_eq}
 use Rattle.std.proofs.Common.{refl, sym, ◌∙◌}
 use Rattle.spl_tree.specs.declared.unit.TypeDefinition.{TypeDefinition}
-use Rattle.stream_model.specs.Invoking.{is_among}
-use Rattle.stream_model.specs.Scopes.{at_place, first_from}
-use Rattle.stream_model.specs.TypeNames.{definition_of}
+use Rattle.language_model.specs.Invoking.{is_among}
+use Rattle.language_model.specs.Scopes.{at_place, first_from}
+use Rattle.language_model.specs.TypeNames.{definition_of}
 use Rattle.stream_rules.specs.Names.{type_names_of}
 
 first_among : (name : List ℕ) (i : ℕ) (ds : List TypeDefinition) → is_some (first_from (λ d. bytes_eq d.name.what name) i ds) ≡ list_any (λ n. bytes_eq n name) (type_names_of ds)

@@ -15,8 +15,8 @@ use Rattle.spl_tree.specs.declared.expression.ExprKind.TheOpen.{ExprKind-F}
 use Rattle.spl_tree.specs.declared.expression.ExprKind.TheViews.{out-ExprKind}
 use Rattle.spl_tree.specs.declared.expression.ExprKind.TheFolds.{fold-ExprKind, fold_out-ExprKind, map-ExprKind}
 use Rattle.spl_tree.specs.Grammar.{Expr, Prefix}
-use Rattle.stream_model.specs.DollarLaws.{dollars_in}
-use Rattle.stream_model.specs.Mentions.{Mentions, At, level_mentions, expr_mentions, dollars, dollar_at, step_mentions}
+use Rattle.language_model.specs.DollarLaws.{dollars_in}
+use Rattle.language_model.specs.Mentions.{Mentions, At, level_mentions, expr_mentions, dollars, dollar_at, step_mentions}
 use Rattle.stream_rules.specs.Mentioned.{entry_dollars, field_dollars, step_dollars}
 
 abbrev pub names_of : Mentions → List (List ℕ)

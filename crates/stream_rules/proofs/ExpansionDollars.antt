@@ -11,11 +11,11 @@ use Rattle.spl_tree.specs.declared.unit.Composite.{Composite}
 use Rattle.spl_tree.specs.declared.unit.CompositeParameter.{CompositeParameter}
 use Rattle.spl_tree.specs.declared.unit.Definition.{Definition}
 use Rattle.spl_tree.specs.declared.unit.Parameter.{Parameter}
-use Rattle.stream_model.specs.declared.scope.Dollar.{Dollar}
-use Rattle.stream_model.specs.declared.scope.Scope.{Scope}
-use Rattle.stream_model.specs.Parameters.{Tables, constant_scope, expansion_dollars, parameters_given, table_at}
-use Rattle.stream_model.specs.SinkFiles.{arguments_of, composite_of}
-use Rattle.stream_model.specs.TypeNames.{Types, composite_types}
+use Rattle.language_model.specs.declared.scope.Dollar.{Dollar}
+use Rattle.language_model.specs.declared.scope.Scope.{Scope}
+use Rattle.language_model.specs.Parameters.{Tables, constant_scope, expansion_dollars, parameters_given, table_at}
+use Rattle.language_model.specs.SinkFiles.{arguments_of, composite_of}
+use Rattle.language_model.specs.TypeNames.{Types, composite_types}
 use Rattle.body_rules.specs.declared.types.finding.TypeScope.{TypeScope}
 use Rattle.body_rules.specs.TypeScopes.{types_in}
 use Rattle.stream_rules.specs.Sites.{MeansTypes}

@@ -4,8 +4,8 @@ use Rattle.std.specs.Option.{option_to_list}
 use Rattle.std.proofs.Common.{ap, sym, subst, ◌∙◌, arith}
 use Rattle.spl_tree.specs.declared.graph.Graph.{Graph}
 use Rattle.spl_tree.specs.declared.unit.Definition.{Definition}
-use Rattle.stream_model.specs.StreamTypes.{attributes_within, stream_attributes}
-use Rattle.stream_model.specs.Typing.{mismatch}
+use Rattle.language_model.specs.StreamTypes.{attributes_within, stream_attributes}
+use Rattle.language_model.specs.Typing.{mismatch}
 use Rattle.stream_rules.specs.declared.origins.Leads.{Leads}
 use Rattle.stream_rules.specs.Origins.{EndsAt, EndsHere, IsEnd, IsLed, flag_at, lead_at}
 use Rattle.stream_rules.proofs.StreamLeads.{step_on}

@@ -8,11 +8,11 @@ use Rattle.std.proofs.lemmas.Bool.{eq-eqb}
 use Rattle.std.proofs.lemmas.Option.{same_Some}
 use Rattle.spl_tree.specs.declared.unit.CompositeParameter.{CompositeParameter}
 use Rattle.spl_tree.specs.declared.unit.Parameter.{Parameter}
-use Rattle.stream_model.specs.DollarLaws.{dollars_in}
-use Rattle.stream_model.specs.Leading.{leads_back}
-use Rattle.stream_model.specs.Parameters.{default_leads, has_meaning, parameter_leads, parameter_place}
-use Rattle.stream_model.specs.Scopes.{At, at_place, first_from}
-use Rattle.stream_model.specs.SinkFiles.{value_named}
+use Rattle.language_model.specs.DollarLaws.{dollars_in}
+use Rattle.language_model.specs.Leading.{leads_back}
+use Rattle.language_model.specs.Parameters.{default_leads, has_meaning, parameter_leads, parameter_place}
+use Rattle.language_model.specs.Scopes.{At, at_place, first_from}
+use Rattle.language_model.specs.SinkFiles.{value_named}
 use Rattle.stream_rules.specs.Heads.{rows_of}
 use Rattle.body_rules.specs.Stepping.{LeadsWithin, steps_from}
 

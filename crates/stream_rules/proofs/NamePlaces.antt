@@ -5,9 +5,9 @@ use Rattle.std.specs.Option.{option_map}
 use Rattle.std.specs.Str.{bytes_eq}
 use Rattle.std.proofs.Common.{refl, ap, sym, ◌∙◌, add-zero, arith}
 use Rattle.std.proofs.lemmas.Slice.Eq.{bytes_eq-Decides}
-use Rattle.stream_model.specs.Expansion.{place_of}
-use Rattle.stream_model.specs.Invoking.{is_among}
-use Rattle.stream_model.specs.Scopes.{At, at_place, first_from}
+use Rattle.language_model.specs.Expansion.{place_of}
+use Rattle.language_model.specs.Invoking.{is_among}
+use Rattle.language_model.specs.Scopes.{At, at_place, first_from}
 
 abbrev place : {A : Type 0} → Option (At A) → Option ℕ
 place o = option_map (λ n. n.place) o

@@ -7,9 +7,9 @@ use Rattle.std.proofs.lemmas.Option.{slice_get_past}
 use Rattle.spl_tree.specs.declared.graph.Graph.{Graph}
 use Rattle.spl_tree.specs.declared.graph.Stream.{Stream}
 use Rattle.spl_tree.specs.declared.unit.Definition.{Definition}
-use Rattle.stream_model.specs.Leading.{leads_back}
-use Rattle.stream_model.specs.StreamTypes.{named_stream, origin_attributes, attributes_within, output_of_op, stream_attributes, stream_leads}
-use Rattle.stream_model.specs.Typing.{mismatch}
+use Rattle.language_model.specs.Leading.{leads_back}
+use Rattle.language_model.specs.StreamTypes.{named_stream, origin_attributes, attributes_within, output_of_op, stream_attributes, stream_leads}
+use Rattle.language_model.specs.Typing.{mismatch}
 use Rattle.stream_rules.specs.Origins.{Steps, TellsBack, flag_at, lead_at}
 use Rattle.stream_rules.proofs.StreamLeads.{ends}
 

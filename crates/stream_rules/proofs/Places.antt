@@ -8,8 +8,8 @@ use Rattle.std.proofs.lemmas.Option.{same_Some, slice_get-map, slice_get_past, s
 use Rattle.spl_tree.specs.declared.unit.Composite.{Composite}
 use Rattle.spl_tree.specs.declared.unit.Definition.{Definition}
 use Rattle.spl_tree.specs.declared.unit.TypeDefinition.{TypeDefinition}
-use Rattle.stream_model.specs.Composites.{composites}
-use Rattle.stream_model.specs.TypeNames.{types_of, unit_types}
+use Rattle.language_model.specs.Composites.{composites}
+use Rattle.language_model.specs.TypeNames.{types_of, unit_types}
 use Rattle.body_rules.specs.declared.types.finding.TypeScope.{TypeScope}
 use Rattle.body_rules.specs.TypeScopes.{types_in}
 use Rattle.stream_rules.specs.Sites.{MeansTypes}

@@ -6,10 +6,10 @@ use Rattle.spl_tree.specs.declared.graph.Graph.{Graph}
 use Rattle.spl_tree.specs.declared.graph.Site.{Site}
 use Rattle.spl_tree.specs.declared.unit.Definition.{Definition}
 use Rattle.spl_tree.specs.declared.unit.OutputStream.{OutputStream}
-use Rattle.stream_model.specs.Expansion.{place_of}
-use Rattle.stream_model.specs.Invoking.{input_names, stream_names}
-use Rattle.stream_model.specs.StreamTypes.{Attributes, Body, head_input, input_heads, invoked_input, outer_output, output_heads, own_or_head, passed, port_stands_for, stands_for}
-use Rattle.stream_model.specs.Typing.{after}
+use Rattle.language_model.specs.Expansion.{place_of}
+use Rattle.language_model.specs.Invoking.{input_names, stream_names}
+use Rattle.language_model.specs.StreamTypes.{Attributes, Body, head_input, input_heads, invoked_input, outer_output, output_heads, own_or_head, passed, port_stands_for, stands_for}
+use Rattle.language_model.specs.Typing.{after}
 use Rattle.type_rules.specs.declared.answer.TypeAnswer.{TypeAnswer}
 use Rattle.type_rules.specs.declared.answer.TypeAnswer.TheVariants.{Refused, Memory}
 use Rattle.type_rules.specs.Finds.{Finds}

@@ -7,7 +7,7 @@ use Rattle.std.proofs.lemmas.Bool.{eqb-true}
 use Rattle.std.proofs.lemmas.List.{get_or-set_same, get_or-set_other}
 use Rattle.std.proofs.lemmas.Option.{slice_get-get_or}
 use Rattle.spl_tree.specs.declared.unit.CompositeParameter.{CompositeParameter}
-use Rattle.stream_model.specs.Parameters.{constant_scope, parameter_leads}
+use Rattle.language_model.specs.Parameters.{constant_scope, parameter_leads}
 use Rattle.stream_rules.specs.declared.dollars.settling.Settled.{Settled}
 use Rattle.stream_rules.specs.Given.{AreSettled, Given, IsDone, IsReady, Keeps, found_at_last, is_marked, marks_in, means, settled_table, table}
 use Rattle.stream_rules.specs.Heads.{passes_at}

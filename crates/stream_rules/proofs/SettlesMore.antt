@@ -4,12 +4,12 @@ use Rattle.std.specs.List.{insert}
 use Rattle.std.proofs.Common.{refl, ap, sym, ◌∙◌, arith}
 use Rattle.std.proofs.Math.ListN.{set}
 use Rattle.spl_tree.specs.declared.unit.CompositeParameter.{CompositeParameter}
-use Rattle.stream_model.specs.declared.scope.Dollar.{Dollar}
-use Rattle.stream_model.specs.declared.scope.Scope.{Scope}
-use Rattle.stream_model.specs.declared.scope.Typed.{Typed}
-use Rattle.stream_model.specs.DollarLaws.{MentionedLaw}
-use Rattle.stream_model.specs.Parameters.{constant_scope}
-use Rattle.stream_model.specs.Typing.{Found}
+use Rattle.language_model.specs.declared.scope.Dollar.{Dollar}
+use Rattle.language_model.specs.declared.scope.Scope.{Scope}
+use Rattle.language_model.specs.declared.scope.Typed.{Typed}
+use Rattle.language_model.specs.DollarLaws.{MentionedLaw}
+use Rattle.language_model.specs.Parameters.{constant_scope}
+use Rattle.language_model.specs.Typing.{Found}
 use Rattle.stream_rules.specs.Given.{AreSettled, Given, IsReady, found_at_last, found_in, is_marked, marked, marks_in, means, settled_table}
 use Rattle.stream_rules.proofs.Marks.{marked_more}
 use Rattle.stream_rules.proofs.Settling.{found_now}

@@ -11,15 +11,15 @@ use Rattle.std.proofs.lemmas.List.{get_or-set_other, length-set}
 use Rattle.std.proofs.lemmas.Option.{same_Some, slice_get_within}
 use Rattle.spl_tree.specs.declared.unit.CompositeParameter.{CompositeParameter}
 use Rattle.spl_tree.specs.Grammar.{Expr}
-use Rattle.stream_model.specs.declared.scope.Dollar.{Dollar}
-use Rattle.stream_model.specs.DollarLaws.{MentionedLaw, dollars_in}
-use Rattle.stream_model.specs.FitLaws.{no_names}
-use Rattle.stream_model.specs.Parameters.{constant_typing, default_leads, default_typing, is_constant, own_from, parameter_leads, parameter_place, value_typing}
-use Rattle.stream_model.specs.Scopes.{dollar_of}
-use Rattle.stream_model.specs.SinkFiles.{value_named}
-use Rattle.stream_model.specs.TypeNames.{type_meant}
-use Rattle.stream_model.specs.declared.scope.Typed.{Typed}
-use Rattle.stream_model.specs.Typing.{Found, after, mismatch}
+use Rattle.language_model.specs.declared.scope.Dollar.{Dollar}
+use Rattle.language_model.specs.DollarLaws.{MentionedLaw, dollars_in}
+use Rattle.language_model.specs.FitLaws.{no_names}
+use Rattle.language_model.specs.Parameters.{constant_typing, default_leads, default_typing, is_constant, own_from, parameter_leads, parameter_place, value_typing}
+use Rattle.language_model.specs.Scopes.{dollar_of}
+use Rattle.language_model.specs.SinkFiles.{value_named}
+use Rattle.language_model.specs.TypeNames.{type_meant}
+use Rattle.language_model.specs.declared.scope.Typed.{Typed}
+use Rattle.language_model.specs.Typing.{Found, after, mismatch}
 use Rattle.stream_rules.specs.Given.{AreSettled, Given, IsDone, IsReady, found_at_last, found_in, is_marked, marks_in, means, settled_table, table}
 use Rattle.stream_rules.proofs.Marks.{fewer, marked_is, marked_none, one_more}
 use Rattle.stream_rules.proofs.Tables.{dollar_is, same_found, stands_for}

@@ -5,11 +5,11 @@ use Rattle.std.proofs.Common.{ap, ◌∙◌}
 use Rattle.spl_value.specs.declared.types.SplType.TheViews.{out-SplType}
 use Rattle.spl_tree.specs.declared.graph.Graph.{Graph}
 use Rattle.spl_tree.specs.declared.unit.Definition.{Definition}
-use Rattle.stream_model.specs.Leading.{leads_back}
-use Rattle.stream_model.specs.Scopes.{At, at_place}
-use Rattle.stream_model.specs.StreamTypes.{Origin, attributes_within, level_attributes, named_stream, origin_attributes, origin_of, shape_or_stream, stream_leads}
-use Rattle.stream_model.specs.TypeNames.{composite_types, shape_meant}
-use Rattle.stream_model.specs.Typing.{after, mismatch, unknown}
+use Rattle.language_model.specs.Leading.{leads_back}
+use Rattle.language_model.specs.Scopes.{At, at_place}
+use Rattle.language_model.specs.StreamTypes.{Origin, attributes_within, level_attributes, named_stream, origin_attributes, origin_of, shape_or_stream, stream_leads}
+use Rattle.language_model.specs.TypeNames.{composite_types, shape_meant}
+use Rattle.language_model.specs.Typing.{after, mismatch, unknown}
 
 module _ (unit : List Definition) (g : Graph) (left at : ℕ) where
   pub made_nowhere : origin_of unit g at ≡ None → attributes_within (suc left) unit g at ≡ mismatch 0

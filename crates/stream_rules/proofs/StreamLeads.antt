@@ -7,10 +7,10 @@ use Rattle.std.proofs.lemmas.Bool.{eq-eqb}
 use Rattle.spl_tree.specs.declared.graph.Graph.{Graph}
 use Rattle.spl_tree.specs.declared.unit.Definition.{Definition}
 use Rattle.spl_tree.specs.TypeGrammar.{Shape}
-use Rattle.stream_model.specs.Leading.{leads, leads_back}
-use Rattle.stream_model.specs.Scopes.{At}
-use Rattle.stream_model.specs.StreamTypes.{Attributes, Body, Origin, attributes_within, named_stream, origin_attributes, origin_of, shape_or_stream, stream_leads}
-use Rattle.stream_model.specs.Typing.{Found, unknown}
+use Rattle.language_model.specs.Leading.{leads, leads_back}
+use Rattle.language_model.specs.Scopes.{At}
+use Rattle.language_model.specs.StreamTypes.{Attributes, Body, Origin, attributes_within, named_stream, origin_attributes, origin_of, shape_or_stream, stream_leads}
+use Rattle.language_model.specs.Typing.{Found, unknown}
 use Rattle.stream_rules.specs.Origins.{lead_at}
 
 or_false : (b : Bool) → (b || false) ≡ b

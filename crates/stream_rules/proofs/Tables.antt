@@ -4,11 +4,11 @@ use Rattle.std.specs.Option.{option_map}
 use Rattle.std.specs.Str.{bytes_eq}
 use Rattle.std.proofs.Common.{refl, ap, sym, ◌∙◌, arith}
 use Rattle.spl_tree.specs.declared.unit.CompositeParameter.{CompositeParameter}
-use Rattle.stream_model.specs.declared.scope.Dollar.{Dollar}
-use Rattle.stream_model.specs.declared.scope.Typed.{Typed}
-use Rattle.stream_model.specs.Parameters.{own_from}
-use Rattle.stream_model.specs.Scopes.{At, at_place, dollar_of, first_from}
-use Rattle.stream_model.specs.Typing.{Found}
+use Rattle.language_model.specs.declared.scope.Dollar.{Dollar}
+use Rattle.language_model.specs.declared.scope.Typed.{Typed}
+use Rattle.language_model.specs.Parameters.{own_from}
+use Rattle.language_model.specs.Scopes.{At, at_place, dollar_of, first_from}
+use Rattle.language_model.specs.Typing.{Found}
 use Rattle.stream_rules.proofs.Marks.{entry}
 
 abbrev pub stands_for : List Dollar → List ℕ → Option (Found Typed)

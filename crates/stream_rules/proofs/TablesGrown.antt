@@ -5,9 +5,9 @@ use Rattle.std.proofs.lemmas.List.{drop_all, map-append}
 use Rattle.spl_value.specs.declared.memory.NoMemory.{NoMemory}
 use Rattle.spl_tree.specs.declared.graph.Expansion.{Expansion}
 use Rattle.spl_tree.specs.declared.unit.Definition.{Definition}
-use Rattle.stream_model.specs.declared.scope.Dollar.{Dollar}
-use Rattle.stream_model.specs.declared.scope.Scope.{Scope}
-use Rattle.stream_model.specs.Parameters.{Tables, constant_scope, expansion_dollars, tables_from}
+use Rattle.language_model.specs.declared.scope.Dollar.{Dollar}
+use Rattle.language_model.specs.declared.scope.Scope.{Scope}
+use Rattle.language_model.specs.Parameters.{Tables, constant_scope, expansion_dollars, tables_from}
 use Rattle.stream_rules.specs.Tables.{AreConstants, tables_of}
 
 -- the rest of a list from a place on

@@ -7,7 +7,7 @@ use Rattle.std.proofs.Math.Seq.{take-suc}
 use Rattle.spl_tree.specs.declared.unit.Definition.{Definition}
 use Rattle.spl_tree.specs.declared.unit.Definition.TheVariants as D
 use Rattle.spl_tree.specs.declared.unit.TypeDefinition.{TypeDefinition}
-use Rattle.stream_model.specs.TypeNames.{as_type, type_definitions}
+use Rattle.language_model.specs.TypeNames.{as_type, type_definitions}
 use Rattle.stream_rules.specs.declared.names.Names.{Names}
 use Rattle.stream_rules.specs.Names.{StandFor, type_names_of}
 

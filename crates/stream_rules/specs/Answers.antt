@@ -1,6 +1,6 @@
 -- What refusals are answered.
 use Rattle.std.specs.Prelude.{◌≡◌}
-use Rattle.stream_model.specs.declared.scope.CheckRefusal.{CheckRefusal}
+use Rattle.language_model.specs.declared.scope.CheckRefusal.{CheckRefusal}
 use Rattle.type_rules.specs.declared.answer.TypeAnswer.{TypeAnswer}
 use Rattle.type_rules.specs.declared.answer.TypeAnswer.TheVariants.{Refused, Memory}
 

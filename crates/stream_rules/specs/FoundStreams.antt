@@ -2,8 +2,8 @@
 use Rattle.std.specs.Prelude.{◌≡◌, ℕ, ◌<◌, List, length, Option, Some, None, slice_get}
 use Rattle.spl_tree.specs.declared.graph.Graph.{Graph}
 use Rattle.spl_tree.specs.declared.unit.Definition.{Definition}
-use Rattle.stream_model.specs.StreamTypes.{Attributes, stream_attributes}
-use Rattle.stream_model.specs.Typing.{Found, mismatch}
+use Rattle.language_model.specs.StreamTypes.{Attributes, stream_attributes}
+use Rattle.language_model.specs.Typing.{Found, mismatch}
 
 -- the attributes of each, or its refusal
 pub record AreFound (unit : List Definition) (g : Graph) (all : List (Found Attributes)) : Type 0 where

@@ -3,11 +3,11 @@ use Rattle.std.specs.Prelude.{◌≡◌, ◌≤◌, ◌-◌, ℕ, suc, Bool, tru
 use Rattle.std.specs.List.{Contains}
 use Rattle.spl_tree.specs.declared.unit.CompositeParameter.{CompositeParameter}
 use Rattle.spl_tree.specs.declared.unit.Parameter.{Parameter}
-use Rattle.stream_model.specs.declared.scope.Dollar.{Dollar}
-use Rattle.stream_model.specs.declared.scope.Typed.{Typed}
-use Rattle.stream_model.specs.Parameters.{has_meaning, own_within, parameter_leads, parameter_typing}
-use Rattle.stream_model.specs.TypeNames.{Types}
-use Rattle.stream_model.specs.Typing.{Found}
+use Rattle.language_model.specs.declared.scope.Dollar.{Dollar}
+use Rattle.language_model.specs.declared.scope.Typed.{Typed}
+use Rattle.language_model.specs.Parameters.{has_meaning, own_within, parameter_leads, parameter_typing}
+use Rattle.language_model.specs.TypeNames.{Types}
+use Rattle.language_model.specs.Typing.{Found}
 
 -- the parameters of a composite, with what is given for them
 pub record Given : Type 0 where

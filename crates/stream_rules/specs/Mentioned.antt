@@ -6,7 +6,7 @@ use Rattle.spl_tree.specs.declared.expression.Field.{Field}
 use Rattle.spl_tree.specs.declared.expression.Step.{Step}
 use Rattle.spl_tree.specs.declared.expression.Step.TheVariants as N
 use Rattle.spl_tree.specs.Grammar.{Expr}
-use Rattle.stream_model.specs.DollarLaws.{dollars_in}
+use Rattle.language_model.specs.DollarLaws.{dollars_in}
 
 abbrev pub names_seen : List (Bor (List ℕ)) → List (List ℕ)
 names_seen ns = map (λ n. n.now) ns

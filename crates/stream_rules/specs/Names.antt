@@ -4,7 +4,7 @@ use Rattle.std.specs.Borrow.{Bor}
 use Rattle.std.specs.HashMap.{get}
 use Rattle.std.specs.Str.{bytes_eq}
 use Rattle.spl_tree.specs.declared.unit.TypeDefinition.{TypeDefinition}
-use Rattle.stream_model.specs.Expansion.{place_of}
+use Rattle.language_model.specs.Expansion.{place_of}
 use Rattle.stream_rules.specs.declared.names.Names.{Names}
 
 abbrev pub same_bytes : Bor (List ℕ) → Bor (List ℕ) → Bool

@@ -5,9 +5,9 @@ use Rattle.spl_tree.specs.declared.graph.Expansion.{Expansion}
 use Rattle.spl_tree.specs.declared.graph.Graph.{Graph}
 use Rattle.spl_tree.specs.declared.graph.Site.{Site}
 use Rattle.spl_tree.specs.declared.unit.Definition.{Definition}
-use Rattle.stream_model.specs.Leading.{leads_back}
-use Rattle.stream_model.specs.StreamTypes.{Origin, attributes_within, stream_attributes, stream_leads}
-use Rattle.stream_model.specs.Typing.{mismatch}
+use Rattle.language_model.specs.Leading.{leads_back}
+use Rattle.language_model.specs.StreamTypes.{Origin, attributes_within, stream_attributes, stream_leads}
+use Rattle.language_model.specs.Typing.{mismatch}
 use Rattle.stream_rules.specs.declared.origins.Leads.{Leads}
 use Rattle.stream_rules.specs.declared.origins.Origin.{Origin as Kept}
 use Rattle.stream_rules.specs.Bodies.{body_at_sites, body_seen}

@@ -4,9 +4,9 @@ use Rattle.std.specs.Option.{option_map_or}
 use Rattle.spl_tree.specs.declared.graph.Graph.{Graph}
 use Rattle.spl_tree.specs.declared.unit.Definition.{Definition}
 use Rattle.spl_tree.specs.declared.unit.OutputStream.{OutputStream}
-use Rattle.stream_model.specs.Expansion.{place_of}
-use Rattle.stream_model.specs.StreamTypes.{Attributes, Body, Passes, head_output, outer_output, output_heads, output_names, passed, stream_attributes}
-use Rattle.stream_model.specs.Typing.{Found, after}
+use Rattle.language_model.specs.Expansion.{place_of}
+use Rattle.language_model.specs.StreamTypes.{Attributes, Body, Passes, head_output, outer_output, output_heads, output_names, passed, stream_attributes}
+use Rattle.language_model.specs.Typing.{Found, after}
 use Rattle.type_rules.specs.declared.answer.TypeAnswer.{TypeAnswer}
 use Rattle.type_rules.specs.declared.answer.TypeAnswer.TheVariants.{Refused, Memory}
 use Rattle.stream_rules.specs.Bodies.{body_seen}

@@ -1,6 +1,6 @@
 -- What is known while the parameters of a composite are settled one by one.
 use Rattle.std.specs.Prelude.{◌≡◌, ℕ}
-use Rattle.stream_model.specs.Parameters.{constant_scope}
+use Rattle.language_model.specs.Parameters.{constant_scope}
 use Rattle.stream_rules.specs.Given.{AreSettled, Given, IsDone, Keeps, settled_table}
 use Rattle.body_rules.specs.TypeScopes.{types_in}
 use Rattle.stream_rules.specs.declared.dollars.heads.Head.{Head}

@@ -2,7 +2,7 @@
 use Rattle.std.specs.Prelude.{◌≡◌, List, Option, Some, None}
 use Rattle.spl_tree.specs.declared.unit.Composite.{Composite}
 use Rattle.spl_tree.specs.declared.unit.Definition.{Definition}
-use Rattle.stream_model.specs.TypeNames.{composite_types}
+use Rattle.language_model.specs.TypeNames.{composite_types}
 use Rattle.body_rules.specs.declared.types.finding.TypeScope.{TypeScope}
 use Rattle.body_rules.specs.TypeScopes.{types_in}
 

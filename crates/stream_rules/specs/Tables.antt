@@ -1,7 +1,7 @@
 -- Tables of `$` parameters, kept as scopes in which nothing else can be named.
 use Rattle.std.specs.Prelude.{◌≡◌, List, map}
-use Rattle.stream_model.specs.declared.scope.Scope.{Scope}
-use Rattle.stream_model.specs.Parameters.{Tables, constant_scope}
+use Rattle.language_model.specs.declared.scope.Scope.{Scope}
+use Rattle.language_model.specs.Parameters.{Tables, constant_scope}
 
 abbrev pub tables_of : List Scope → Tables
 tables_of scopes = map (λ s. s.dollars) scopes

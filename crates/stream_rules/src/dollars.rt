@@ -1,6 +1,6 @@
 //! What the `$` parameters of composites stand for in each expansion.
 ghost use Rattle.std.specs.Prelude.{◌≡◌, IfOk, map};
-ghost use Rattle.stream_model.specs.Parameters.{constant_scope, dollar_tables, expansion_dollars, tables_from};
+ghost use Rattle.language_model.specs.Parameters.{constant_scope, dollar_tables, expansion_dollars, tables_from};
 ghost use Rattle.stream_rules.specs.Tables.{AreConstants, tables_of};
 
 mod constants;
@@ -11,11 +11,11 @@ mod weights;
 
 use crate::sites::Sites;
 use heads::Head;
+use language_model::{Dollar, Scope};
 use settling::{no_names, settle_all};
 use spl_tree::{Expansion, Unit};
 use spl_value::{Items, NoMemory};
 use std::alloc::Global;
-use stream_model::{Dollar, Scope};
 
 /// What stands for the parameters of an expansion, behind those of the expansions before it.
 fn expansion_dollars(

@@ -1,8 +1,8 @@
 //! What is looked up by name in the bodies of composites.
 ghost use Rattle.std.specs.Prelude.{◌≡◌, ◌∷◌, ◌++◌, [], List, ℕ, IfOk, OnOk, map, flat_map};
-ghost use Rattle.stream_model.specs.Expansion.{place_of};
-ghost use Rattle.stream_model.specs.Invoking.{input_names, is_among, stream_names};
-ghost use Rattle.stream_model.specs.StreamTypes.{output_names};
+ghost use Rattle.language_model.specs.Expansion.{place_of};
+ghost use Rattle.language_model.specs.Invoking.{input_names, is_among, stream_names};
+ghost use Rattle.language_model.specs.StreamTypes.{output_names};
 ghost use Rattle.stream_rules.specs.Names.{StandFor, type_names_of};
 
 use body_rules::TypeTable;

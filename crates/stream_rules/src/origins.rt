@@ -3,8 +3,8 @@ ghost use Rattle.std.specs.Prelude.{◌≡◌, ℕ, List, length, IfOk};
 ghost use Rattle.std.specs.Option.{option_map, option_to_list};
 ghost use Rattle.spl_tree.specs.declared.graph.Graph.{Graph};
 ghost use Rattle.spl_tree.specs.declared.unit.Definition.{Definition};
-ghost use Rattle.stream_model.specs.StreamTypes.{origin_of, stream_leads};
-ghost use Rattle.stream_model.specs.Leading.{leads_back};
+ghost use Rattle.language_model.specs.StreamTypes.{origin_of, stream_leads};
+ghost use Rattle.language_model.specs.Leading.{leads_back};
 ghost use Rattle.stream_rules.specs.Origins.{EndsAt, EndsHere, IsLed, Steps, TellsBack, flag_at, lead_at, origin_in, origin_seen};
 
 use crate::bodies::Body;

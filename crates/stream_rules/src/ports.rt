@@ -1,5 +1,5 @@
 //! The attributes of the ports of operators.
-ghost use Rattle.stream_model.specs.Checking.{are_passed, outputs_checked, passes_on, port_types};
+ghost use Rattle.language_model.specs.Checking.{are_passed, outputs_checked, passes_on, port_types};
 ghost use Rattle.std.specs.Prelude.{◌≡◌};
 ghost use Rattle.type_rules.specs.Finds.{Finds};
 ghost use Rattle.stream_rules.specs.Bodies.{body_seen};
@@ -15,13 +15,13 @@ use crate::refusals::mismatch;
 use crate::sites::Sites;
 use crate::streams::StreamTable;
 use inputs::ports_attributes;
+use language_model::PortTypes;
 use outputs::outputs_attributes;
 use same::same_attributes;
 use spl_tree::{Graph, Invocation, Op, OpKind, OutputStream};
 use spl_value::{Attribute, Schema};
 use standing::Streams;
 use std::alloc::Global;
-use stream_model::PortTypes;
 use type_rules::TypeAnswer;
 
 /// Whether an operator passes tuples on, so that its outputs have the type of its input.

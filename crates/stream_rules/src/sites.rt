@@ -1,10 +1,10 @@
 //! What stands at the places that operators and bodies come from.
 ghost use Rattle.std.specs.Prelude.{◌≡◌, map, slice_get, IfOk};
 ghost use Rattle.std.specs.Option.{option_copied, option_map};
-ghost use Rattle.stream_model.specs.Composites.{composites};
-ghost use Rattle.stream_model.specs.Invoking.{is_among};
-ghost use Rattle.stream_model.specs.SinkFiles.{composite_of, invocation_at, arguments_of};
-ghost use Rattle.stream_model.specs.TypeNames.{type_definitions};
+ghost use Rattle.language_model.specs.Composites.{composites};
+ghost use Rattle.language_model.specs.Invoking.{is_among};
+ghost use Rattle.language_model.specs.SinkFiles.{composite_of, invocation_at, arguments_of};
+ghost use Rattle.language_model.specs.TypeNames.{type_definitions};
 ghost use Rattle.stream_rules.specs.Bodies.{body_at_sites, body_seen};
 ghost use Rattle.stream_rules.specs.Names.{StandFor, type_names_of};
 ghost use Rattle.stream_rules.specs.SameBodies.{same_composites};

@@ -1,9 +1,9 @@
 //! The attributes of the streams of a graph.
 ghost use Rattle.std.specs.Prelude.{◌≡◌, IfOk};
 ghost use Rattle.spl_value.specs.declared.types.SplType.TheViews.{out-SplType};
-ghost use Rattle.stream_model.specs.StreamTypes.{level_attributes, stream_attributes};
-ghost use Rattle.stream_model.specs.TypeNames.{composite_types, shape_meant};
-ghost use Rattle.stream_model.specs.Typing.{after};
+ghost use Rattle.language_model.specs.StreamTypes.{level_attributes, stream_attributes};
+ghost use Rattle.language_model.specs.TypeNames.{composite_types, shape_meant};
+ghost use Rattle.language_model.specs.Typing.{after};
 ghost use Rattle.type_rules.specs.Finds.{Finds};
 ghost use Rattle.stream_rules.specs.Origins.{IsLed};
 ghost use Rattle.stream_rules.specs.Streams.{IsTableOf};
@@ -17,10 +17,10 @@ use crate::origins::{Leads, origin_of};
 use crate::refusals::{mismatch, unknown};
 use crate::sites::Sites;
 use body_rules::shape_of;
+use language_model::CheckRefusal;
 use spl_tree::{Graph, Shape};
 use spl_value::{NoMemory, Schema, SplType};
 use std::alloc::Global;
-use stream_model::CheckRefusal;
 use type_rules::TypeAnswer;
 
 /// The attributes of each stream of a graph, or its refusal. It is made once for all operators.

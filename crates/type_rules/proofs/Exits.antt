@@ -11,11 +11,11 @@ use Rattle.spl_tree.specs.declared.code.Code.{Code}
 use Rattle.spl_tree.specs.declared.code.Code.TheVariants as C
 use Rattle.spl_tree.specs.declared.code.Slot.{Slot}
 use Rattle.spl_tree.specs.declared.code.BuiltIn.{BuiltIn}
-use Rattle.stream_model.specs.declared.scope.Scope.{Scope}
-use Rattle.stream_model.specs.declared.scope.CheckError.TheVariants as E
-use Rattle.stream_model.specs.declared.scope.Typed.{Typed}
-use Rattle.stream_model.specs.Typing.{Found, Part, part_typed, binary_typed, operands_typed, level_operator, after, if_mutable, is_mutable, refused, typed, arguments_typed, first_typed, OnFirst}
-use Rattle.stream_model.specs.TypingLaws.{parts}
+use Rattle.language_model.specs.declared.scope.Scope.{Scope}
+use Rattle.language_model.specs.declared.scope.CheckError.TheVariants as E
+use Rattle.language_model.specs.declared.scope.Typed.{Typed}
+use Rattle.language_model.specs.Typing.{Found, Part, part_typed, binary_typed, operands_typed, level_operator, after, if_mutable, is_mutable, refused, typed, arguments_typed, first_typed, OnFirst}
+use Rattle.language_model.specs.TypingLaws.{parts}
 use Rattle.type_rules.specs.declared.answer.TypeAnswer.{TypeAnswer}
 use Rattle.type_rules.specs.Finds.{Finds}
 use Rattle.type_rules.proofs.Steps.{stops, finds_by, after_after}

@@ -9,10 +9,10 @@ use Rattle.spl_tree.specs.declared.expression.Step.{Step}
 use Rattle.spl_tree.specs.declared.code.Code.{Code}
 use Rattle.spl_tree.specs.declared.code.Slot.{Slot}
 use Rattle.spl_tree.specs.declared.code.Taking.{Taking}
-use Rattle.stream_model.specs.declared.scope.Scope.{Scope}
-use Rattle.stream_model.specs.declared.scope.Typed.{Typed}
-use Rattle.stream_model.specs.Typing.{Found, after, typing, typed, elements_typed, entries_typed, level_step, steps_typed, selected, arguments_typed}
-use Rattle.stream_model.specs.TypingLaws.{parts, entry_parts, step_part, step_parts}
+use Rattle.language_model.specs.declared.scope.Scope.{Scope}
+use Rattle.language_model.specs.declared.scope.Typed.{Typed}
+use Rattle.language_model.specs.Typing.{Found, after, typing, typed, elements_typed, entries_typed, level_step, steps_typed, selected, arguments_typed}
+use Rattle.language_model.specs.TypingLaws.{parts, entry_parts, step_part, step_parts}
 use Rattle.type_rules.specs.Finds.{with_front}
 use Rattle.type_rules.proofs.Rows.{drop_at}
 use Rattle.type_rules.proofs.Steps.{after_after}

@@ -3,8 +3,8 @@ use Rattle.std.specs.Prelude.{◌≡◌, ◌↔◌, IsTrue, ℕ, suc, ◌+◌, �
 use Rattle.std.proofs.Common.{refl, ap, sym, ◌∙◌, arith, get_or, drop-cons, add-one}
 use Rattle.std.proofs.Math.Seq.{take-suc}
 use Rattle.std.proofs.lemmas.List.{length-take-le}
-use Rattle.stream_model.specs.Scopes.{At, at_place, last_from, or_before}
-use Rattle.stream_model.specs.Typing.{is_nil}
+use Rattle.language_model.specs.Scopes.{At, at_place, last_from, or_before}
+use Rattle.language_model.specs.Typing.{is_nil}
 
 -- the rest of a list from a place on
 pub drop_at : {A : Type 0} (xs : List A) (i : ℕ) (x : A) → i < length xs → x ≡ get_or xs i x → drop i xs ≡ x ∷ drop (i + 1) xs

@@ -1,9 +1,9 @@
 -- What a call answers, against the definition of types.
 use Rattle.std.specs.Prelude.{◌≡◌, ℕ, List, ◌++◌, Option, Some, None, Result, Ok, Err}
 use Rattle.std.specs.Borrow.{Bor}
-use Rattle.stream_model.specs.declared.scope.CheckError.TheVariants as E
-use Rattle.stream_model.specs.Scopes.{At, at_place}
-use Rattle.stream_model.specs.Typing.{Found, after}
+use Rattle.language_model.specs.declared.scope.CheckError.TheVariants as E
+use Rattle.language_model.specs.Scopes.{At, at_place}
+use Rattle.language_model.specs.Typing.{Found, after}
 use Rattle.type_rules.specs.declared.answer.TypeAnswer.{TypeAnswer}
 use Rattle.type_rules.specs.declared.answer.TypeAnswer.TheVariants.{Refused, Memory}
 

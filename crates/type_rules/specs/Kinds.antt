@@ -7,7 +7,7 @@ use Rattle.spl_value.specs.declared.types.SplType.TheOpen as T
 use Rattle.spl_value.specs.declared.types.SplType.TheOpen.{SplType-F}
 use Rattle.spl_tree.specs.declared.code.BinaryCode.{BinaryCode}
 use Rattle.spl_tree.specs.declared.code.BinaryCode.TheVariants as D
-use Rattle.stream_model.specs.Typing.{Wants, This, Another}
+use Rattle.language_model.specs.Typing.{Wants, This, Another}
 
 -- something of the literal's own form, or another type
 abbrev pub this_or_other : {A : Type 0} → Option A → Wants A

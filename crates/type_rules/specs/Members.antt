@@ -5,12 +5,12 @@ use Rattle.spl_tree.specs.Grammar.{Expr}
 use Rattle.spl_tree.specs.declared.expression.Placed.{Placed}
 use Rattle.spl_tree.specs.declared.expression.Step.{Step}
 use Rattle.spl_tree.specs.declared.expression.Step.TheVariants as N
-use Rattle.stream_model.specs.declared.scope.Port.{Port}
-use Rattle.stream_model.specs.declared.scope.Scope.{Scope}
-use Rattle.stream_model.specs.declared.scope.Typed.{Typed}
-use Rattle.stream_model.specs.Scopes.{attribute_of}
-use Rattle.stream_model.specs.Typing.{Found, after, part, typing, select_typed, of_base, port_attribute}
-use Rattle.stream_model.specs.TypingLaws.{parted, step_parts}
+use Rattle.language_model.specs.declared.scope.Port.{Port}
+use Rattle.language_model.specs.declared.scope.Scope.{Scope}
+use Rattle.language_model.specs.declared.scope.Typed.{Typed}
+use Rattle.language_model.specs.Scopes.{attribute_of}
+use Rattle.language_model.specs.Typing.{Found, after, part, typing, select_typed, of_base, port_attribute}
+use Rattle.language_model.specs.TypingLaws.{parted, step_parts}
 
 -- what is taken of an expression in turn
 abbrev pub of_steps : Scope → Expr → List (Step Expr) → Found Typed

@@ -3,8 +3,8 @@ use Rattle.std.specs.Prelude.{◌≡◌, ◌<◌, ℕ, suc, List, [], ◌∷◌,
 use Rattle.std.specs.Borrow.{Bor}
 use Rattle.spl_value.specs.declared.types.Named.{Named}
 use Rattle.spl_value.specs.declared.types.SplType.{SplType}
-use Rattle.stream_model.specs.declared.scope.Port.{Port}
-use Rattle.stream_model.specs.Scopes.{at_place, PortAttribute, attributes_from, Meant, OfVariable, OfAttribute, OfPort, Nothing}
+use Rattle.language_model.specs.declared.scope.Port.{Port}
+use Rattle.language_model.specs.Scopes.{at_place, PortAttribute, attributes_from, Meant, OfVariable, OfAttribute, OfPort, Nothing}
 use Rattle.type_rules.specs.declared.names.Meaning.{Meaning}
 use Rattle.type_rules.specs.declared.names.Meaning.TheVariants as M
 

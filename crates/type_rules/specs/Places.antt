@@ -2,8 +2,8 @@
 use Rattle.std.specs.Prelude.{List, [], ◌∷◌, Option, Some, None, Ok}
 use Rattle.spl_value.specs.declared.types.SplType.{SplType}
 use Rattle.spl_tree.specs.declared.body.Place.{Place}
-use Rattle.stream_model.specs.Typing.{Found, after}
-use Rattle.stream_model.specs.StatementTyping.{TypedPlace}
+use Rattle.language_model.specs.Typing.{Found, after}
+use Rattle.language_model.specs.StatementTyping.{TypedPlace}
 
 -- a place, and the type of what it holds
 abbrev pub with_kind : Found TypedPlace → Found (Place × SplType)

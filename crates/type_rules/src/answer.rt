@@ -1,12 +1,12 @@
 //! What is answered where an expression has no type.
 ghost use Rattle.std.specs.Prelude.{◌≡◌, Some, None};
-ghost use Rattle.stream_model.specs.declared.scope.CheckError.TheVariants as E;
+ghost use Rattle.language_model.specs.declared.scope.CheckError.TheVariants as E;
 ghost use Rattle.type_rules.specs.declared.answer.TypeAnswer.TheVariants.{Memory, Refused};
 ghost use Rattle.type_rules.specs.Finds.{IsUnknown, Narrows};
 
+use language_model::{CheckError, CheckRefusal};
 use spl_value::{Items, NoMemory};
 use std::alloc::{AllocError, Global};
-use stream_model::{CheckError, CheckRefusal};
 
 /// Why there is no type.
 #[derive(Debug, Drop)]

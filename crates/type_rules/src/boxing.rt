@@ -1,13 +1,13 @@
 //! Types and codes in boxes.
 ghost use Rattle.std.specs.Prelude.{◌≡◌, Ok};
-ghost use Rattle.stream_model.specs.Typing.{typed};
+ghost use Rattle.language_model.specs.Typing.{typed};
 ghost use Rattle.type_rules.specs.Finds.{Finds};
 
 use crate::answer::TypeAnswer;
+use language_model::Typed;
 use spl_tree::{Code, Slot};
 use spl_value::{Boxed, SplType, copy_type};
 use std::alloc::Global;
-use stream_model::Typed;
 
 /// A copy of a type.
 pub(crate) fn boxed_copy(alloc: Global, kind: &SplType) -> Result<Boxed<SplType>, TypeAnswer>

@@ -2,18 +2,18 @@
 ghost use Rattle.std.specs.Prelude.{◌≡◌, Ok, Some, [], ◌∷◌};
 ghost use Rattle.std.specs.Option.{option_copied};
 ghost use Rattle.spl_value.specs.declared.types.SplType.TheViews.{out-SplType};
-ghost use Rattle.stream_model.specs.Typing.{call_of, argument_count, level_first, level_changed, is_mutable, if_mutable, part, value_given};
-ghost use Rattle.stream_model.specs.TypingLaws.{parted};
+ghost use Rattle.language_model.specs.Typing.{call_of, argument_count, level_first, level_changed, is_mutable, if_mutable, part, value_given};
+ghost use Rattle.language_model.specs.TypingLaws.{parted};
 ghost use Rattle.type_rules.specs.Finds.{Finds};
 
 use crate::answer::{TypeAnswer, mismatch, not_mutable, wrong_call};
 use crate::boxing::boxed_copy;
 use crate::forms::root_name;
 use crate::names::variable;
+use language_model::{Scope, Typed};
 use spl_tree::{BuiltIn, CallName, Code, Expr, Slot};
 use spl_value::{Boxed, IntKind, Items, SplType, copy_type};
 use std::alloc::Global;
-use stream_model::{Scope, Typed};
 
 /// The call that has this name.
 pub(crate) fn call_named(name: &[u8]) -> Option<CallName>

@@ -2,10 +2,10 @@
 ghost use Rattle.std.specs.Prelude.{◌≡◌, IfOk};
 
 use crate::making::{Codes, EntryCodes, FieldCodes, Takings};
+use language_model::{CheckRefusal, Typed};
 use spl_tree::{Code, Slot, Taking};
 use spl_value::{Boxed, Items, NoMemory, copy_type, copy_value};
 use std::alloc::Global;
-use stream_model::{CheckRefusal, Typed};
 
 /// A copy of a code.
 #[cycle(copy)]

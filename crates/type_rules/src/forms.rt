@@ -1,17 +1,17 @@
 //! What the expressions around an expression see of its form.
 ghost use Rattle.std.specs.Prelude.{◌≡◌};
 ghost use Rattle.std.specs.Option.{option_copied};
-ghost use Rattle.stream_model.specs.Typing.{part, marker_of, marker_in, marker_asked};
-ghost use Rattle.stream_model.specs.TypingLaws.{step_parts};
+ghost use Rattle.language_model.specs.Typing.{part, marker_of, marker_in, marker_asked};
+ghost use Rattle.language_model.specs.TypingLaws.{step_parts};
 ghost use Rattle.type_rules.specs.Members.{MemberOfPort};
 
 use crate::names::{Meaning, meaning_of};
+use language_model::{Port, Scope};
 use spl_tree::{BinaryOperator, Code, Expr, ExprKind, Marker, Placed, Slot, Step};
 use spl_value::Name;
-use stream_model::{Port, Scope};
 
 /// The name that the expression is, in parentheses or not.
-#[tactic(auto, using(stream_model::specs::TypingLaws::form_laws))]
+#[tactic(auto, using(language_model::specs::TypingLaws::form_laws))]
 pub(crate) fn own_name(expr: &Expr) -> Option<&Name>
     ensures { option_copied result ≡ (part expr.now.what).form.name }
 {
@@ -23,7 +23,7 @@ pub(crate) fn own_name(expr: &Expr) -> Option<&Name>
 }
 
 /// The name that the expression is, or of which it takes members and elements, in no parentheses.
-#[tactic(auto, using(stream_model::specs::TypingLaws::form_laws))]
+#[tactic(auto, using(language_model::specs::TypingLaws::form_laws))]
 pub(crate) fn root_name(expr: &Expr) -> Option<&Name>
     ensures { option_copied result ≡ (part expr.now.what).form.root }
 {
@@ -35,7 +35,7 @@ pub(crate) fn root_name(expr: &Expr) -> Option<&Name>
 }
 
 /// Whether the expression is `currentPunct()`.
-#[tactic(auto, using(stream_model::specs::TypingLaws::form_laws))]
+#[tactic(auto, using(language_model::specs::TypingLaws::form_laws))]
 pub(crate) fn asks(expr: &Expr) -> bool
     ensures { result ≡ (part expr.now.what).form.asks }
 {
@@ -73,7 +73,7 @@ fn member_marker(base: Option<&Name>, steps: &[Step<Expr>]) -> Option<Marker>
 }
 
 /// The marker that the expression is: `Sys.WindowMarker` or `Sys.FinalMarker`.
-#[tactic(auto, using(stream_model::specs::TypingLaws::form_laws))]
+#[tactic(auto, using(language_model::specs::TypingLaws::form_laws))]
 pub fn marker(expr: &Expr) -> Option<Marker>
     ensures { result ≡ (part expr.now.what).form.marker }
 {

@@ -2,19 +2,19 @@
 ghost use Rattle.std.specs.Prelude.{◌≡◌, not, is_some};
 ghost use Rattle.std.specs.List.{list_all};
 ghost use Rattle.std.specs.Str.{bytes_eq};
-ghost use Rattle.stream_model.specs.Scopes.{attribute_of};
+ghost use Rattle.language_model.specs.Scopes.{attribute_of};
 ghost use Rattle.std.specs.Option.{option_copied};
 ghost use Rattle.spl_value.specs.declared.types.SplType.TheViews.{out-SplType};
-ghost use Rattle.stream_model.specs.Typing.{same_types, as_wanted, level_element, level_pair, level_schema, level_index, gives_each, are_distinct};
+ghost use Rattle.language_model.specs.Typing.{same_types, as_wanted, level_element, level_pair, level_schema, level_index, gives_each, are_distinct};
 ghost use Rattle.type_rules.specs.Finds.{Finds};
 ghost use Rattle.type_rules.specs.Kinds.{this_or_other, pair_copied, held_copied, integer_of, held_of};
-ghost use Rattle.stream_model.specs.TypingLaws.{field_parts};
+ghost use Rattle.language_model.specs.TypingLaws.{field_parts};
 
 use crate::answer::{TypeAnswer, mismatch};
 use crate::names::attribute;
+use language_model::Typed;
 use spl_tree::{BinaryCode, Code, Expr, Field, Slot};
 use spl_value::{Attribute, Boxed, IntKind, Schema, SplType, same_type};
-use stream_model::Typed;
 
 /// Whether two types are the same.
 pub(crate) fn is_same(a: &SplType, b: &SplType) -> bool

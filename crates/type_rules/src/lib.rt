@@ -16,8 +16,8 @@ mod statements;
 
 pub use answer::TypeAnswer;
 pub use forms::marker;
-pub use rules::type_of;
-pub use statements::{assignment_of, call_of, compound_of};
-pub use stream_model::{
+pub use language_model::{
     CheckError, CheckRefusal, Dollar, Port, Scope, Signature, Typed, Unresolved, Variable,
 };
+pub use rules::type_of;
+pub use statements::{assignment_of, call_of, compound_of};

@@ -3,17 +3,17 @@ ghost use Rattle.std.specs.Prelude.{◌≡◌, Ok};
 ghost use Rattle.spl_tree.specs.declared.code.Code.TheVariants as C;
 ghost use Rattle.spl_value.specs.declared.types.SplType.TheVariants as S;
 ghost use Rattle.spl_value.specs.declared.value.Value.TheVariants as V;
-ghost use Rattle.stream_model.specs.Scopes.{attribute_of};
-ghost use Rattle.stream_model.specs.Typing.{typed, number_typed, member_typed, selected, port_attribute};
+ghost use Rattle.language_model.specs.Scopes.{attribute_of};
+ghost use Rattle.language_model.specs.Typing.{typed, number_typed, member_typed, selected, port_attribute};
 ghost use Rattle.type_rules.specs.Finds.{Finds};
 
 use crate::answer::{TypeAnswer, mismatch, narrow, unknown};
 use crate::boxing::{boxed, boxed_copy};
 use crate::names::{attribute, slot_typed};
+use language_model::{Port, Typed};
 use spl_tree::{BuiltIn, Code, Number, Placed, Slot, Taking};
 use spl_value::{Boxed, Bytes, Items, Name, Schema, SplType, Value, is_of_kind};
 use std::alloc::Global;
-use stream_model::{Port, Typed};
 
 /// Codes of expressions.
 pub(crate) type Codes = Items<Code<Slot>>;

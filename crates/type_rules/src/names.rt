@@ -1,19 +1,19 @@
 //! What the names of an expression stand for.
 ghost use Rattle.std.specs.Prelude.{◌≡◌, ◌≤◌, length, Ok};
 ghost use Rattle.std.specs.Option.{option_copied};
-ghost use Rattle.stream_model.specs.Scopes.{variable_of, attribute_of, port_of, function_of, unresolved_of, dollar_of, meant};
+ghost use Rattle.language_model.specs.Scopes.{variable_of, attribute_of, port_of, function_of, unresolved_of, dollar_of, meant};
 ghost use Rattle.spl_tree.specs.declared.code.Code.TheVariants as C;
-ghost use Rattle.stream_model.specs.Typing.{meant_typed, dollar_typed, not_callable, typed};
+ghost use Rattle.language_model.specs.Typing.{meant_typed, dollar_typed, not_callable, typed};
 ghost use Rattle.type_rules.specs.Finds.{Points, Finds};
 ghost use Rattle.type_rules.specs.Names.{Holds, Means};
 
 use crate::answer::{TypeAnswer, narrow, unknown};
 use crate::boxing::boxed_copy;
 use crate::copying::{copy_refusal, copy_typed};
+use language_model::{CheckRefusal, Port, Scope, Signature, Typed, Variable};
 use spl_tree::{Code, Slot};
 use spl_value::{Attribute, Boxed, SplType, copy_schema};
 use std::alloc::Global;
-use stream_model::{CheckRefusal, Port, Scope, Signature, Typed, Variable};
 
 /// The last variable of the name, with its place.
 pub(crate) fn variable<'s>(scope: &'s Scope, name: &[u8]) -> Option<(usize, &'s Variable)>

@@ -2,18 +2,18 @@
 ghost use Rattle.std.specs.Prelude.{◌≡◌, drop, reverse, Ok};
 ghost use Rattle.spl_tree.specs.declared.code.Code.TheVariants as C;
 ghost use Rattle.spl_value.specs.declared.types.SplType.TheViews.{out-SplType};
-ghost use Rattle.stream_model.specs.Typing.{integer_operator, order_operator, on_integers, ordering_of, or_else, level_operator, level_prefix, level_in, prefixes_at, prefixes_typed, typed};
+ghost use Rattle.language_model.specs.Typing.{integer_operator, order_operator, on_integers, ordering_of, or_else, level_operator, level_prefix, level_in, prefixes_at, prefixes_typed, typed};
 ghost use Rattle.type_rules.specs.Finds.{Finds};
 
 use crate::answer::{TypeAnswer, mismatch};
 use crate::kinds::{held_of, is_same};
+use language_model::Typed;
 use spl_tree::{
     BinaryCode, BinaryOperator, CastTarget, Code, IntegerOperator, OrderOperator, Prefix,
     PrefixOperator, Slot, UnaryCode,
 };
 use spl_value::{Boxed, IntKind, Items, SplType};
 use std::alloc::Global;
-use stream_model::Typed;
 
 /// The operator of two integers that gives an integer.
 fn integer_operator(operator: BinaryOperator) -> Option<IntegerOperator>

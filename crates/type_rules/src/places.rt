@@ -2,7 +2,7 @@
 ghost use Rattle.std.specs.Prelude.{◌≡◌};
 ghost use Rattle.spl_tree.specs.declared.code.Code.TheViews.{out-Code};
 ghost use Rattle.spl_tree.specs.declared.code.Slot.{Slot};
-ghost use Rattle.stream_model.specs.StatementTyping.{level_variable, level_place, place_given, place_typing};
+ghost use Rattle.language_model.specs.StatementTyping.{level_variable, level_place, place_given, place_typing};
 ghost use Rattle.type_rules.specs.Finds.{Finds};
 ghost use Rattle.type_rules.specs.Places.{with_kind};
 
@@ -10,10 +10,10 @@ use crate::answer::{TypeAnswer, not_mutable};
 use crate::calls::may_change;
 use crate::making::Takings;
 use crate::rules::type_of;
+use language_model::{Scope, Typed};
 use spl_tree::{Code, Expr, Place, Slot};
 use spl_value::{Boxed, Items, SplType};
 use std::alloc::Global;
-use stream_model::{Scope, Typed};
 
 /// The variable that a code reads, and what is taken of it in turn.
 fn variable_read(code: Boxed<Code<Slot>>, takings: Takings) -> Option<Place>

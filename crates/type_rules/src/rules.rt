@@ -3,9 +3,9 @@
 ghost use Rattle.std.specs.Prelude.{None, Ok, ◌∷◌, ◌&&◌};
 ghost use Rattle.std.specs.Option.{option_copied};
 ghost use Rattle.spl_value.specs.declared.types.SplType.TheViews.{out-SplType};
-ghost use Rattle.stream_model.specs.Scopes.{function_of};
-ghost use Rattle.stream_model.specs.Typing.{Anything, typing, part, elements_typed, list_typed, wants_list, entries_typed, map_typed, wants_map, fields_typed, own_fields, tuple_typed, wants_tuple, level_step, steps_typed, select_typed, of_base, unary_typed, binary_or_marker, marker_asked, binary_typed, level_operator, operands_typed, conditional_typed, branch_wanted, arguments_typed, function_typed, call_typed, call_of, arguments_of, first_typed, level_first, changed_typed, level_changed, no_value, after};
-ghost use Rattle.stream_model.specs.TypingLaws.{parted, parts, entry_parts, field_parts, step_part, step_parts};
+ghost use Rattle.language_model.specs.Scopes.{function_of};
+ghost use Rattle.language_model.specs.Typing.{Anything, typing, part, elements_typed, list_typed, wants_list, entries_typed, map_typed, wants_map, fields_typed, own_fields, tuple_typed, wants_tuple, level_step, steps_typed, select_typed, of_base, unary_typed, binary_or_marker, marker_asked, binary_typed, level_operator, operands_typed, conditional_typed, branch_wanted, arguments_typed, function_typed, call_typed, call_of, arguments_of, first_typed, level_first, changed_typed, level_changed, no_value, after};
+ghost use Rattle.language_model.specs.TypingLaws.{parted, parts, entry_parts, field_parts, step_part, step_parts};
 ghost use Rattle.type_rules.specs.Finds.{Finds, with_front};
 
 use crate::answer::{TypeAnswer, mismatch, narrow, wrong_call};
@@ -21,12 +21,12 @@ use crate::making::{
 };
 use crate::names::{attribute, dollar_typed, function, name_typed, not_callable};
 use crate::operators::{binary, in_typed, operator_on, prefixes_on};
+use language_model::{Scope, Typed};
 use spl_tree::{
     BinaryOperator, BuiltIn, CallName, Code, Expr, ExprKind, Field, Prefix, Slot, Step, Taking,
 };
 use spl_value::{Boxed, IntKind, Items, Named, Schema, SplType, Value, copy_schema};
 use std::alloc::Global;
-use stream_model::{Scope, Typed};
 
 /// The type and the code of an expression in a scope, under the type that its place wants, if it
 /// wants one.
@@ -47,7 +47,7 @@ pub fn type_of(
 }
 
 #[cycle(types)]
-#[tactic(auto, using(stream_model::specs::TypingLaws::typing_laws))]
+#[tactic(auto, using(language_model::specs::TypingLaws::typing_laws))]
 fn type_at(
     alloc: Global,
     scope: &Scope,

@@ -1,9 +1,9 @@
 //! Assignments, and calls as statements.
 ghost use Rattle.std.specs.Prelude.{◌≡◌, None};
-ghost use Rattle.stream_model.specs.Scopes.{function_of};
-ghost use Rattle.stream_model.specs.Typing.{call_of};
-ghost use Rattle.stream_model.specs.TypingLaws.{parts};
-ghost use Rattle.stream_model.specs.StatementTyping.{assignment_typing, compound_typing, call_typing, call_statement, built_in_statement, function_statement, change_typing, change_made};
+ghost use Rattle.language_model.specs.Scopes.{function_of};
+ghost use Rattle.language_model.specs.Typing.{call_of};
+ghost use Rattle.language_model.specs.TypingLaws.{parts};
+ghost use Rattle.language_model.specs.StatementTyping.{assignment_typing, compound_typing, call_typing, call_statement, built_in_statement, function_statement, change_typing, change_made};
 ghost use Rattle.type_rules.specs.Finds.{Finds};
 ghost use Rattle.type_rules.specs.Places.{only};
 
@@ -14,10 +14,10 @@ use crate::making::{Codes, code_of};
 use crate::names::{function, not_callable};
 use crate::places::{place_given, place_of};
 use crate::rules::{arguments, built_in, changed, same_operands, type_of};
+use language_model::Scope;
 use spl_tree::{BinaryOperator, CallName, Change, Code, Expr, ExprKind, Place, Slot, Statement};
 use spl_value::Items;
 use std::alloc::Global;
-use stream_model::Scope;
 
 /// The statement `place = value;` in a scope.
 ///

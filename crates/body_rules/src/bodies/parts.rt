@@ -2,7 +2,7 @@
 ghost use Rattle.std.specs.Prelude.{◌≡◌, IfOk, length};
 ghost use Rattle.std.specs.Option.{option_copied};
 ghost use Rattle.spl_value.specs.declared.types.SplType.TheViews.{out-SplType};
-ghost use Rattle.stream_model.specs.BodyTyping.{assigned, condition_typing, declaration_typing, first_value, level_over, over_typing, return_typing};
+ghost use Rattle.language_model.specs.BodyTyping.{assigned, condition_typing, declaration_typing, first_value, level_over, over_typing, return_typing};
 ghost use Rattle.body_rules.specs.Leads.{Leads, inside_loop, shortened};
 ghost use Rattle.body_rules.specs.Settings.{purpose_meant, setting_meant};
 ghost use Rattle.type_rules.specs.Finds.{Finds};
@@ -11,10 +11,10 @@ use super::refusals::{mismatch, wrong_call};
 use super::variables::add_variable;
 use super::{BodyPurpose, BodySetting};
 use crate::types::type_of_written;
+use language_model::{Scope, Typed};
 use spl_tree::{BinaryOperator, Code, Declaration, Expr, Slot, Statement};
 use spl_value::{SplType, default_of, same_type};
 use std::alloc::Global;
-use stream_model::{Scope, Typed};
 use type_rules::{TypeAnswer, assignment_of, compound_of, type_of};
 
 fn code_of(typed: Typed) -> Code<Slot>

@@ -1,12 +1,12 @@
 //! What is answered where a statement has no code.
 ghost use Rattle.std.specs.Prelude.{◌≡◌, None};
-ghost use Rattle.stream_model.specs.declared.scope.CheckError.TheVariants as E;
+ghost use Rattle.language_model.specs.declared.scope.CheckError.TheVariants as E;
 ghost use Rattle.type_rules.specs.declared.answer.TypeAnswer.TheVariants.{Refused};
 ghost use Rattle.type_rules.specs.Finds.{IsUnknown, Narrows};
 
+use language_model::{CheckError, CheckRefusal};
 use spl_value::Items;
 use std::alloc::Global;
-use stream_model::{CheckError, CheckRefusal};
 use type_rules::TypeAnswer;
 
 fn refused(error: CheckError, at: u32) -> TypeAnswer

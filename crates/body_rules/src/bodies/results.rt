@@ -1,7 +1,7 @@
 //! Statements that end with a result.
 ghost use Rattle.std.specs.Prelude.{◌≡◌};
-ghost use Rattle.stream_model.specs.BodyTyping.{returns};
-ghost use Rattle.stream_model.specs.BodyTypingLaws.{all_return, kind_returns};
+ghost use Rattle.language_model.specs.BodyTyping.{returns};
+ghost use Rattle.language_model.specs.BodyTypingLaws.{all_return, kind_returns};
 
 use spl_tree::{Expr, Stmt, StmtKind};
 
@@ -18,7 +18,7 @@ pub fn ends_with_result(statements: &[Stmt]) -> bool
 }
 
 #[cycle(results)]
-#[tactic(auto, using(stream_model::specs::BodyTypingLaws::returns_laws))]
+#[tactic(auto, using(language_model::specs::BodyTypingLaws::returns_laws))]
 fn is_result(statement: &Stmt) -> bool
     ensures { result ≡ kind_returns statement.now.what }
 {

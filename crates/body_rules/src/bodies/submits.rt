@@ -1,17 +1,17 @@
 //! Submits.
 ghost use Rattle.std.specs.Prelude.{◌≡◌};
 ghost use Rattle.std.specs.Str.{bytes_eq};
-ghost use Rattle.stream_model.specs.BodyTyping.{submit_typing, submitted};
-ghost use Rattle.stream_model.specs.Scopes.{first_from};
+ghost use Rattle.language_model.specs.BodyTyping.{submit_typing, submitted};
+ghost use Rattle.language_model.specs.Scopes.{first_from};
 ghost use Rattle.body_rules.specs.Settings.{purpose_meant, setting_meant};
 ghost use Rattle.type_rules.specs.Finds.{Finds, Points};
 
 use super::refusals::{narrow, unknown, wrong_call};
 use super::{BodyPurpose, BodySetting};
+use language_model::{Port, Scope};
 use spl_tree::{Expr, Marker, Placed, Statement};
 use spl_value::{Name, Schema, SplType, copy_schema};
 use std::alloc::Global;
-use stream_model::{Port, Scope};
 use type_rules::{TypeAnswer, marker, type_of};
 
 /// The first port of the name, with its place.

@@ -1,12 +1,12 @@
 //! Variables of scopes.
 ghost use Rattle.std.specs.Prelude.{◌≡◌, IfOk};
-ghost use Rattle.stream_model.specs.BodyFits.{with_variable};
-ghost use Rattle.stream_model.specs.BodyTyping.{variable};
+ghost use Rattle.language_model.specs.BodyFits.{with_variable};
+ghost use Rattle.language_model.specs.BodyTyping.{variable};
 ghost use Rattle.body_rules.specs.Leads.{shortened};
 
+use language_model::{Scope, Variable};
 use spl_value::{Items, Name, NoMemory, SplType};
 use std::alloc::Global;
-use stream_model::{Scope, Variable};
 
 /// Adds a variable behind those that there are.
 pub(crate) fn add_variable(

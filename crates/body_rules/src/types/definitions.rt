@@ -5,8 +5,8 @@ ghost use Rattle.std.specs.HashMap.{get};
 ghost use Rattle.std.specs.Option.{option_copied, option_map};
 ghost use Rattle.spl_tree.specs.contracts.unit.TypeDefinition as row;
 ghost use Rattle.spl_tree.specs.declared.unit.TypeDefinition.{TypeDefinition};
-ghost use Rattle.stream_model.specs.Scopes.{at_place};
-ghost use Rattle.stream_model.specs.TypeNames.{definition_of};
+ghost use Rattle.language_model.specs.Scopes.{at_place};
+ghost use Rattle.language_model.specs.TypeNames.{definition_of};
 ghost use Rattle.body_rules.specs.Definitions.{HasFirst, same_bytes};
 
 use spl_tree::TypeDefinition;

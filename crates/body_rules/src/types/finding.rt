@@ -1,7 +1,7 @@
 //! The types that are meant by types as they are written.
 ghost use Rattle.std.specs.Prelude.{◌≡◌, ◌+◌, IfOk, OnOk};
-ghost use Rattle.stream_model.specs.TypeNames.{type_meant, shape_meant, attributes_type, types_of, written_attributes};
-ghost use Rattle.stream_model.specs.Typing.{unknown};
+ghost use Rattle.language_model.specs.TypeNames.{type_meant, shape_meant, attributes_type, types_of, written_attributes};
+ghost use Rattle.language_model.specs.Typing.{unknown};
 ghost use Rattle.type_rules.specs.Finds.{Finds};
 ghost use Rattle.body_rules.specs.TypeScopes.{StandsFor, types_in};
 
@@ -85,7 +85,7 @@ fn enter(levels: u32, parts: &mut u32) -> Result<u32, NoMemory>
 
 /// The type that is written, as a part of one that may have so many levels and parts more.
 #[cycle(types)]
-#[tactic(auto, using(stream_model::specs::TypeNameLaws::type_laws))]
+#[tactic(auto, using(language_model::specs::TypeNameLaws::type_laws))]
 fn type_at(
     alloc: Global,
     scope: &TypeScope,

@@ -1,6 +1,6 @@
 //! Where the names in types lead.
 ghost use Rattle.std.specs.Prelude.{◌≡◌, ◌++◌, OnOk, IfOk, flat_map};
-ghost use Rattle.stream_model.specs.TypeNames.{type_names, shape_names};
+ghost use Rattle.language_model.specs.TypeNames.{type_names, shape_names};
 ghost use Rattle.body_rules.specs.Definitions.{places_of, rows_of};
 
 use super::DEEPEST;
@@ -11,7 +11,7 @@ use std::alloc::Global;
 
 /// Adds the places of the definitions of the names in a type.
 #[cycle(places)]
-#[tactic(auto, using(stream_model::specs::TypeNameLaws::name_laws, crate::proofs::DefinedPlaces::place_laws))]
+#[tactic(auto, using(language_model::specs::TypeNameLaws::name_laws, crate::proofs::DefinedPlaces::place_laws))]
 fn add_of_type(
     definitions: &Definitions,
     written: &TypeExpr,

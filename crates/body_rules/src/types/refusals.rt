@@ -2,14 +2,14 @@
 ghost use Rattle.std.specs.Prelude.{Some};
 ghost use Rattle.spl_tree.specs.declared.keyword.Keyword.TheVariants as W;
 ghost use Rattle.spl_tree.specs.Words.{keyword_word};
-ghost use Rattle.stream_model.specs.declared.scope.CheckError.TheVariants as E;
-ghost use Rattle.stream_model.specs.Typing.{refused, unknown};
+ghost use Rattle.language_model.specs.declared.scope.CheckError.TheVariants as E;
+ghost use Rattle.language_model.specs.Typing.{refused, unknown};
 ghost use Rattle.type_rules.specs.Finds.{Finds};
 
+use language_model::{CheckError, CheckRefusal};
 use spl_tree::{Keyword, LeftOut};
 use spl_value::{Items, SplType};
 use std::alloc::Global;
-use stream_model::{CheckError, CheckRefusal};
 use type_rules::TypeAnswer;
 
 /// A refusal of a name or a word.

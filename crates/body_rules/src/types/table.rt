@@ -3,7 +3,7 @@ ghost use Rattle.std.specs.Prelude.{◌≡◌, IfOk, List, map, slice_get};
 ghost use Rattle.std.specs.Coded.{coded_list};
 ghost use Rattle.spl_tree.specs.contracts.unit.TypeDefinition as row;
 ghost use Rattle.spl_tree.specs.declared.unit.TypeDefinition.{TypeDefinition};
-ghost use Rattle.stream_model.specs.TypeNames.{definition_of, type_definitions};
+ghost use Rattle.language_model.specs.TypeNames.{definition_of, type_definitions};
 ghost use Rattle.body_rules.specs.Circles.{TellsBack, TellsCircular, told, with_circle};
 ghost use Rattle.body_rules.specs.Stepping.{LeadsWithin};
 

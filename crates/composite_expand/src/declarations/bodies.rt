@@ -1,7 +1,7 @@
 //! Names that stand again within functions and the `logic` of operators.
 ghost use Rattle.std.specs.Prelude.{◌≡◌, IfOk};
 ghost use Rattle.std.specs.Option.{option_copied};
-ghost use Rattle.stream_model.specs.Declarations.{definition_sets, logic_sets, variable_sets};
+ghost use Rattle.language_model.specs.Declarations.{definition_sets, logic_sets, variable_sets};
 ghost use Rattle.composite_expand.specs.Earliest.{earliest_in};
 
 use super::names::{Repeated, earliest_repeated};
@@ -13,7 +13,7 @@ use spl_value::Name;
 use std::alloc::Global;
 
 impl Encloses for Declaration {
-    ghost use Rattle.stream_model.specs.Declarations.{type_sets};
+    ghost use Rattle.language_model.specs.Declarations.{type_sets};
 
     ghost inner = { λ declaration. type_sets declaration.kind };
 
@@ -23,7 +23,7 @@ impl Encloses for Declaration {
 }
 
 impl Encloses for Placed<Handler> {
-    ghost use Rattle.stream_model.specs.Declarations.{block_sets};
+    ghost use Rattle.language_model.specs.Declarations.{block_sets};
 
     ghost inner = { λ handler. block_sets handler.what.body };
 

@@ -1,7 +1,7 @@
 //! Names that stand again within composites and other definitions.
 ghost use Rattle.std.specs.Prelude.{◌≡◌, IfOk};
 ghost use Rattle.std.specs.Option.{option_copied};
-ghost use Rattle.stream_model.specs.Declarations.{definition_sets, first_of, repeated_in_composite, repeated_in_definition};
+ghost use Rattle.language_model.specs.Declarations.{definition_sets, first_of, repeated_in_composite, repeated_in_definition};
 ghost use Rattle.composite_expand.specs.Earliest.{earliest_in};
 
 use super::bodies::{earliest_in_function, earliest_in_logic};
@@ -40,7 +40,7 @@ pub(super) fn repeated_in_definition<'u>(alloc: Global, definition: &'u Definiti
 }
 
 impl Encloses for HeadPort {
-    ghost use Rattle.stream_model.specs.Declarations.{port_sets};
+    ghost use Rattle.language_model.specs.Declarations.{port_sets};
 
     ghost inner = { port_sets };
 
@@ -53,7 +53,7 @@ impl Encloses for HeadPort {
 }
 
 impl Encloses for CompositeParameter {
-    ghost use Rattle.stream_model.specs.Declarations.{type_sets};
+    ghost use Rattle.language_model.specs.Declarations.{type_sets};
 
     ghost inner = { λ parameter. type_sets parameter.kind };
 
@@ -63,7 +63,7 @@ impl Encloses for CompositeParameter {
 }
 
 impl Encloses for TypeDefinition {
-    ghost use Rattle.stream_model.specs.Declarations.{shape_sets};
+    ghost use Rattle.language_model.specs.Declarations.{shape_sets};
 
     ghost inner = { λ definition. shape_sets definition.shape };
 
@@ -73,7 +73,7 @@ impl Encloses for TypeDefinition {
 }
 
 impl Encloses for OutputStream {
-    ghost use Rattle.stream_model.specs.Declarations.{shape_sets};
+    ghost use Rattle.language_model.specs.Declarations.{shape_sets};
 
     ghost inner = { λ stream. shape_sets stream.shape };
 
@@ -84,7 +84,7 @@ impl Encloses for OutputStream {
 
 #[tactic(auto, using(crate::proofs::Best::best_laws))]
 impl Encloses for Invocation {
-    ghost use Rattle.stream_model.specs.Declarations.{invocation_sets};
+    ghost use Rattle.language_model.specs.Declarations.{invocation_sets};
 
     ghost inner = { invocation_sets };
 
@@ -114,7 +114,7 @@ fn earliest_in_composite<'u>(
 }
 
 impl Encloses for Definition {
-    ghost use Rattle.stream_model.specs.Declarations.{definition_sets};
+    ghost use Rattle.language_model.specs.Declarations.{definition_sets};
 
     ghost inner = { definition_sets };
 

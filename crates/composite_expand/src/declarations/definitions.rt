@@ -1,8 +1,8 @@
 //! Names that stand again among the definitions of a unit.
 ghost use Rattle.std.specs.Prelude.{◌≡◌, IfOk, is_some};
 ghost use Rattle.std.specs.Option.{option_copied};
-ghost use Rattle.stream_model.specs.Declarations.{definition_name, first_of, is_built_in, repeated_definitions};
-ghost use Rattle.stream_model.specs.Typing.{call_of};
+ghost use Rattle.language_model.specs.Declarations.{definition_name, first_of, is_built_in, repeated_definitions};
+ghost use Rattle.language_model.specs.Typing.{call_of};
 
 use super::names::{NamesBefore, Repeated};
 use spl_tree::{CallName, Definition, Placed};

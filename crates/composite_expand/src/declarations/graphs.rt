@@ -1,7 +1,7 @@
 //! Names of streams, aliases and ports that stand again in a composite.
 ghost use Rattle.std.specs.Prelude.{◌≡◌, [], ◌++◌, List, IfOk, OnOk, map, flat_map, not};
 ghost use Rattle.std.specs.Option.{option_copied};
-ghost use Rattle.stream_model.specs.Declarations.{Declared, first_of, declared_name, is_declared, repeated, stand_before, head_names, invocation_names, graph_names, InputPort, OutputPort, MadeStream};
+ghost use Rattle.language_model.specs.Declarations.{Declared, first_of, declared_name, is_declared, repeated, stand_before, head_names, invocation_names, graph_names, InputPort, OutputPort, MadeStream};
 ghost use Rattle.composite_expand.specs.Graphs.{Adds, AddsOther, AddsOutput, Stand, shown};
 
 use super::names::{NamesBefore, Repeated};

@@ -1,7 +1,7 @@
 //! Names that stand again in a row.
 ghost use Rattle.std.specs.Prelude.{◌≡◌, IfOk, List, [], filter_map};
 ghost use Rattle.std.specs.Option.{option_copied};
-ghost use Rattle.stream_model.specs.Declarations.{Name, first_of, repeated_names};
+ghost use Rattle.language_model.specs.Declarations.{Name, first_of, repeated_names};
 ghost use Rattle.composite_expand.specs.Earliest.{earlier, earliest};
 ghost use Rattle.composite_expand.specs.NamesBefore.{Hold, Adds, Has, Passes};
 

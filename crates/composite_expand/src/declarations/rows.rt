@@ -10,7 +10,7 @@ use std::alloc::Global;
 
 /// A part of a row, within which there may be sets of names.
 pub(super) trait Encloses {
-    ghost use Rattle.stream_model.specs.Declarations.{Sets};
+    ghost use Rattle.language_model.specs.Declarations.{Sets};
 
     ghost inner: { Self → Sets };
 

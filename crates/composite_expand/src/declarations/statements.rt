@@ -1,7 +1,7 @@
 //! Names that stand again among the variables of blocks.
 ghost use Rattle.std.specs.Prelude.{◌≡◌, IfOk, flat_map};
 ghost use Rattle.std.specs.Option.{option_copied};
-ghost use Rattle.stream_model.specs.Declarations.{block_sets, statement_scoped};
+ghost use Rattle.language_model.specs.Declarations.{block_sets, statement_scoped};
 ghost use Rattle.composite_expand.specs.Earliest.{earliest_in};
 
 use super::names::{Declares, Repeated, earliest_repeated};

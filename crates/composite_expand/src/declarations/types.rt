@@ -1,7 +1,7 @@
 //! Names that stand again among the attributes of types.
 ghost use Rattle.std.specs.Prelude.{◌≡◌, IfOk};
 ghost use Rattle.std.specs.Option.{option_copied};
-ghost use Rattle.stream_model.specs.Declarations.{type_sets, attribute_sets, shape_sets};
+ghost use Rattle.language_model.specs.Declarations.{type_sets, attribute_sets, shape_sets};
 ghost use Rattle.composite_expand.specs.Earliest.{earliest_in};
 
 use super::names::{Repeated, earliest_repeated};

@@ -1,13 +1,13 @@
 //! Operators with the numbers of their streams.
 ghost use Rattle.std.specs.Prelude.{◌≡◌, ◌++◌, map, filter_map, IfOk, OnOk};
-ghost use Rattle.stream_model.specs.Numbering.{numbers_from, streams_from};
+ghost use Rattle.language_model.specs.Numbering.{numbers_from, streams_from};
 ghost use Rattle.composite_expand.specs.StreamTable.{stream_in, op_in, ops_in};
 
 use super::sum_of;
+use language_model::{Operation, Source};
 use spl_tree::{Op, Stream};
 use spl_value::{Ids, Items, NoMemory};
 use std::alloc::Global;
-use stream_model::{Operation, Source};
 
 /// The stream that a table has for a source.
 pub(super) fn stream_at(table: &[Items<Option<u32>>], source: Source) -> Option<u32>

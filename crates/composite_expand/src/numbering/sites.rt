@@ -1,9 +1,9 @@
 //! Numbers by the sites of bodies.
+use language_model::Operation;
 use spl_tree::Site;
 use spl_value::NoMemory;
 use std::alloc::Global;
 use std::collections::HashMap;
-use stream_model::Operation;
 
 /// The first number that was given for each site.
 #[derive(Drop)]
@@ -15,7 +15,7 @@ impl Sites {
     ghost use Rattle.std.specs.Prelude.{◌≡◌, OnOk, if◌then◌else◌};
     ghost use Rattle.std.specs.Option.{option_or};
     ghost use Rattle.spl_tree.specs.declared.graph.Site.{Site};
-    ghost use Rattle.stream_model.specs.Numbering.{is_site};
+    ghost use Rattle.language_model.specs.Numbering.{is_site};
     ghost use Rattle.composite_expand.specs.SiteTable.{number_at};
 
     pub(super) fn new(alloc: Global) -> Sites

@@ -2,7 +2,7 @@
 ghost use Rattle.std.specs.Prelude.{◌≡◌, ◌++◌, [], map, replicate, IfOk, OnOk};
 ghost use Rattle.std.specs.Option.{option_map};
 ghost use Rattle.spl_tree.specs.declared.graph.Site.{Site};
-ghost use Rattle.stream_model.specs.Numbering.{numbers_from};
+ghost use Rattle.language_model.specs.Numbering.{numbers_from};
 ghost use Rattle.composite_expand.specs.SiteTable.{Parts, parts_of, number_at, first_at, body_at, composite_of, output_of, stream_there, row_of, row_at, table_of};
 
 use super::operators::stream_at;
@@ -10,10 +10,10 @@ use super::sites::Sites;
 use super::sum_of;
 use crate::made::Body;
 use crate::tables::{Composites, Scope};
+use language_model::{Operation, Source};
 use spl_tree::{Composite, Site};
 use spl_value::{Items, NoMemory};
 use std::alloc::Global;
-use stream_model::{Operation, Source};
 
 /// The first streams of operators, each at the site of its operator.
 pub(super) fn first_streams(alloc: Global, operations: &[Operation]) -> Result<Sites, NoMemory>

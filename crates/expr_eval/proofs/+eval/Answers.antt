@@ -17,11 +17,11 @@ use Rattle.spl_value.specs.Values.{fits}
 use Rattle.std.proofs.Common.{[], ap, arith, length, refl, subst, sym, ◌≡◌, ◌<◌, ◌∙◌, ◌∷◌}
 use Rattle.std.proofs.lemmas.Option.{slice_get_read}
 use Rattle.std.specs.Prelude.{IsTrue}
-use Rattle.stream_model.specs.Evaluation.{code_value, world_of}
-use Rattle.stream_model.specs.Functions.{bodies_of, calls_of}
-use Rattle.stream_model.specs.Operators.{binary_of}
-use Rattle.stream_model.specs.Outcomes.{enter, settled}
-use Rattle.stream_model.specs.Statements.{row_acts, scoped, turns_over}
+use Rattle.language_model.specs.Evaluation.{code_value, world_of}
+use Rattle.language_model.specs.Functions.{bodies_of, calls_of}
+use Rattle.language_model.specs.Operators.{binary_of}
+use Rattle.language_model.specs.Outcomes.{enter, settled}
+use Rattle.language_model.specs.Statements.{row_acts, scoped, turns_over}
 use Rattle.spl_tree.specs.declared.code.Code.TheVariants as C
 use Rattle.spl_tree.specs.declared.body.Statement.TheVariants as S
 use Rattle.expr_eval.proofs.StatementForms.{change_stops, change_done, arguments_stopped, function_stops, function_done, if_leads, while_leads}
@@ -31,7 +31,7 @@ use Rattle.expr_eval.proofs.Calling.{body_done, body_is_fit, body_stops, called_
 use Rattle.expr_eval.proofs.PlaceChanges.{can_change, leads_next_by, leads_next_stops, place_change_done, place_change_stops, steps_begin, taken_begins}
 use Rattle.expr_eval.proofs.StepValues.{first_step_is_fit, later_steps_are_fit, next_step_is_fit, others_fit, step_fits, steps_on, steps_past, steps_start, steps_stop, taken_on, taken_past, taken_stop_at_step, taken_stop_at_value}
 use Rattle.expr_eval.specs.Changing.{CanChangeAt}
-use Rattle.stream_model.specs.Statements.{changed_at}
+use Rattle.language_model.specs.Statements.{changed_at}
 use Rattle.expr_eval.proofs.+eval.Goals as goal
 
 pub evaluate::eval_at-slot_value-requires : goal.evaluate::eval_at-slot_value-requires

@@ -4,17 +4,17 @@ use Rattle.expr_eval.specs.Fitting.{FitTakings}
 use Rattle.spl_value.specs.Pairs.{are_pairs}
 use Rattle.std.proofs.Common.{drop, ◌*◌, ◌+◌, ◌≡◌}
 use Rattle.std.specs.Prelude.{IsTrue}
-use Rattle.stream_model.specs.Evaluation.{map_of, world_of}
-use Rattle.stream_model.specs.Functions.{bodies_of, calls_of}
-use Rattle.stream_model.specs.EvaluationLaws.{field_values, pair_values, takings_value, values_of}
-use Rattle.stream_model.specs.Outcomes.{Done, followed}
-use Rattle.stream_model.specs.Statements.{step_values, steps_taken}
+use Rattle.language_model.specs.Evaluation.{map_of, world_of}
+use Rattle.language_model.specs.Functions.{bodies_of, calls_of}
+use Rattle.language_model.specs.EvaluationLaws.{field_values, pair_values, takings_value, values_of}
+use Rattle.language_model.specs.Outcomes.{Done, followed}
+use Rattle.language_model.specs.Statements.{step_values, steps_taken}
 use Rattle.expr_eval.proofs.StepValues.{steps_from, taken_from, StepsFrom}
 use Rattle.expr_eval.specs.Running.{StepsAreFit, state}
 use Rattle.spl_value.specs.declared.value.Value.{Value}
 use Rattle.std.specs.Prelude.{[], Some, slice_get}
-use Rattle.stream_model.specs.Statements.{row_acts, turns_over}
-use Rattle.stream_model.specs.StatementLaws.{arms_act}
+use Rattle.language_model.specs.Statements.{row_acts, turns_over}
+use Rattle.language_model.specs.StatementLaws.{arms_act}
 use Rattle.expr_eval.proofs.LoopParts.{while_from}
 use Rattle.expr_eval.specs.Running.{RowIsFit, ArmsAreFit, LoopIsFit, OverIsFit}
 use Rattle.expr_eval.proofs.+eval.Given as goal

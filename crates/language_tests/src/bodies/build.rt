@@ -1,6 +1,6 @@
 //! Bodies, made from lines.
 ghost use Rattle.std.specs.Prelude.{◌≡◌, true, false, IfOk, take};
-ghost use Rattle.stream_model.specs.BodyFits.{Purpose, StatementFits, RowFits, ArmsFit, with_variable};
+ghost use Rattle.language_model.specs.BodyFits.{Purpose, StatementFits, RowFits, ArmsFit, with_variable};
 ghost use Rattle.language_tests.specs.Building.{Serves, Grown, IsOver};
 
 use crate::bodies::call::call;
@@ -13,10 +13,10 @@ use crate::bodies::places::{code_of, gone_over, kind_of};
 use crate::bodies::unbuilt::Unbuilt;
 use crate::kinds::Kinds;
 use crate::typed::typed;
+use language_model::{Scope, Variable};
 use spl_tree::{Body, Code, Slot, Statement};
 use spl_value::{Items, SplType, same_type};
 use std::alloc::Global;
-use stream_model::{Scope, Variable};
 
 /// How deep the statements of a body may nest.
 pub(crate) const ROOM: u32 = 100;

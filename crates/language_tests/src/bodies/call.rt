@@ -1,15 +1,15 @@
 //! Calls of functions as statements.
 ghost use Rattle.std.specs.Prelude.{IfOk};
-ghost use Rattle.stream_model.specs.CodeFits.{ArgumentsFit};
+ghost use Rattle.language_model.specs.CodeFits.{ArgumentsFit};
 ghost use Rattle.language_tests.specs.Building.{Keeps};
 
 use crate::bodies::unbuilt::Unbuilt;
 use crate::reading::read;
 use crate::typed::typed_expr;
+use language_model::Scope;
 use spl_tree::{Code, Expr, ExprKind, Slot, Statement};
 use spl_value::{Items, SplType};
 use std::alloc::Global;
-use stream_model::Scope;
 
 // The place of the function of that name.
 fn place_of_function(scope: &Scope, name: &[u8]) -> Result<u32, Unbuilt> {

@@ -1,7 +1,7 @@
 //! Functions, made from lines.
 ghost use Rattle.std.specs.Prelude.{◌≡◌, [], Some, slice_get, IfOk};
-ghost use Rattle.stream_model.specs.declared.scope.Signature.{Signature};
-ghost use Rattle.stream_model.specs.WorldFits.{FunctionFits, FunctionsFit};
+ghost use Rattle.language_model.specs.declared.scope.Signature.{Signature};
+ghost use Rattle.language_model.specs.WorldFits.{FunctionFits, FunctionsFit};
 ghost use Rattle.language_tests.specs.Contexts.{SeesVariables};
 
 use crate::bodies::build::{Builder, ROOM, scoped};
@@ -12,10 +12,10 @@ use crate::bodies::returns::returns_result;
 use crate::bodies::unbuilt::Unbuilt;
 use crate::functions::{NamedKinds, copies, variables};
 use crate::kinds::Kinds;
+use language_model::{Scope, Signature};
 use spl_tree::{Function, Functions};
 use spl_value::{Items, NoMemory, copy_type};
 use std::alloc::Global;
-use stream_model::{Scope, Signature};
 
 /// A function: its name, its parameters, the type of its result where it has one, and its body.
 pub(crate) type FunctionLines = (

@@ -1,16 +1,16 @@
 //! Statements without statements in them, made from texts.
 ghost use Rattle.std.specs.Prelude.{Bool, IfOk};
-ghost use Rattle.stream_model.specs.BodyFits.{Purpose, StatementFits};
+ghost use Rattle.language_model.specs.BodyFits.{Purpose, StatementFits};
 ghost use Rattle.language_tests.specs.Building.{Grown, Keeps, KeepsIn};
 
 use crate::bodies::places::{code_of, kind_of, place_of};
 use crate::bodies::unbuilt::Unbuilt;
 use crate::kinds::Kinds;
 use crate::typed::typed;
+use language_model::{Scope, Variable};
 use spl_tree::{Change, Code, Statement};
 use spl_value::{Items, Schema, SplType, copy_schema};
 use std::alloc::Global;
-use stream_model::{Scope, Variable};
 
 /// What a body may return, and the attributes of the output ports to which it may submit.
 #[derive(Drop)]

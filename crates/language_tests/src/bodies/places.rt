@@ -3,19 +3,19 @@ ghost use Rattle.std.specs.Prelude.{◌≡◌, IfOk};
 ghost use Rattle.spl_tree.specs.declared.code.Code.TheVariants as C;
 ghost use Rattle.spl_tree.specs.declared.code.Slot.TheVariants as L;
 ghost use Rattle.spl_value.specs.declared.types.SplType.{SplType};
-ghost use Rattle.stream_model.specs.declared.scope.Scope.{Scope};
-ghost use Rattle.stream_model.specs.BodyFits.{GoesOver, PlaceFits};
-ghost use Rattle.stream_model.specs.CodeFits.{CodeFits};
+ghost use Rattle.language_model.specs.declared.scope.Scope.{Scope};
+ghost use Rattle.language_model.specs.BodyFits.{GoesOver, PlaceFits};
+ghost use Rattle.language_model.specs.CodeFits.{CodeFits};
 ghost use Rattle.language_tests.specs.Building.{Stands};
 
 use crate::bodies::unbuilt::Unbuilt;
 use crate::kinds::Kinds;
 use crate::reading::read;
 use crate::typed::{typed, typed_expr};
+use language_model::{Scope, Typed};
 use spl_tree::{Code, Expr, ExprKind, Place, Slot};
 use spl_value::{Items, SplType, copy_type};
 use std::alloc::Global;
-use stream_model::{Scope, Typed};
 
 /// A copy of the type of that text.
 pub(crate) fn kind_of(

@@ -1,7 +1,7 @@
 //! Whether bodies end with a `return`.
 ghost use Rattle.std.specs.Prelude.{◌≡◌, IsTrue, Some};
 ghost use Rattle.spl_value.specs.declared.types.SplType.{SplType};
-ghost use Rattle.stream_model.specs.BodyFits.{RowReturns, Returns, ArmsReturn};
+ghost use Rattle.language_model.specs.BodyFits.{RowReturns, Returns, ArmsReturn};
 
 use crate::bodies::build::ROOM;
 use spl_tree::{Body, Code, Slot, Statement};

@@ -1,9 +1,9 @@
 //! What can be named, by names.
 use crate::plain::stop::{Plain, Stop};
+use language_model::{Env, Scope};
 use spl_tree::Slot;
 use spl_value::{Attribute, Bytes, Items, Name, Value, Values, copy_value, copy_values};
 use std::alloc::Global;
-use stream_model::{Env, Scope};
 
 /// A name with its value.
 #[derive(Drop)]

@@ -2,13 +2,13 @@
 ghost use Rattle.std.specs.Prelude.{◌≡◌, [], Some, IfOk, slice_set};
 ghost use Rattle.spl_tree.specs.declared.unit.HandledEvent.{HandledEvent};
 ghost use Rattle.spl_tree.specs.declared.unit.HandledEvent.TheVariants as H;
-ghost use Rattle.stream_model.specs.LogicTyping.{handlers_on};
+ghost use Rattle.language_model.specs.LogicTyping.{handlers_on};
 ghost use Rattle.logic_rules.specs.Handling.{made_of};
 
+use language_model::{Handled, Handlers, StateVariable};
 use spl_tree::{Body, HandledEvent};
 use spl_value::{Items, NoMemory};
 use std::alloc::Global;
-use stream_model::{Handled, Handlers, StateVariable};
 
 /// So many ports without a handler of an event.
 fn without_handlers(alloc: Global, count: usize) -> Result<Items<Option<Body>>, NoMemory>

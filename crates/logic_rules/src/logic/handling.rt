@@ -1,21 +1,21 @@
 //! The handlers of a Custom.
 ghost use Rattle.std.specs.Prelude.{◌≡◌, ◌<◌, ◌==◌, ◌&&◌, ◌∷◌, [], length, false, true, is_some, slice_get, Some, Ok, IfOk};
 ghost use Rattle.std.specs.Str.{bytes_eq};
-ghost use Rattle.stream_model.specs.declared.scope.Port.{Port};
-ghost use Rattle.stream_model.specs.BodyTyping.{body_typing};
-ghost use Rattle.stream_model.specs.LogicTyping.{handler_of, is_event};
-ghost use Rattle.stream_model.specs.Scopes.{first_from};
-ghost use Rattle.stream_model.specs.Typing.{after};
+ghost use Rattle.language_model.specs.declared.scope.Port.{Port};
+ghost use Rattle.language_model.specs.BodyTyping.{body_typing};
+ghost use Rattle.language_model.specs.LogicTyping.{handler_of, is_event};
+ghost use Rattle.language_model.specs.Scopes.{first_from};
+ghost use Rattle.language_model.specs.Typing.{after};
 ghost use Rattle.body_rules.specs.Settings.{setting_meant};
 ghost use Rattle.type_rules.specs.Finds.{Finds, Points};
 ghost use Rattle.logic_rules.specs.Handling.{handled_in, handlers_in, seen_scope};
 
 use super::refusals::{handled_twice, narrow, unknown};
 use body_rules::{BodySetting, body_of};
+use language_model::{Handled, Port, Scope};
 use spl_tree::{Body, HandledEvent, Handler, Placed, Stmt};
 use spl_value::Items;
 use std::alloc::Global;
-use stream_model::{Handled, Port, Scope};
 use type_rules::TypeAnswer;
 
 /// The first port of the name, with its place.

@@ -1,14 +1,14 @@
 //! Refusals of the logic of a Custom.
 ghost use Rattle.std.specs.Prelude.{◌≡◌, Some, codes};
-ghost use Rattle.stream_model.specs.declared.scope.CheckError.TheVariants as E;
-ghost use Rattle.stream_model.specs.LogicTyping.{event_word};
-ghost use Rattle.stream_model.specs.Typing.{refused, unknown};
+ghost use Rattle.language_model.specs.declared.scope.CheckError.TheVariants as E;
+ghost use Rattle.language_model.specs.LogicTyping.{event_word};
+ghost use Rattle.language_model.specs.Typing.{refused, unknown};
 ghost use Rattle.type_rules.specs.Finds.{Finds, Narrows};
 
+use language_model::{CheckError, CheckRefusal};
 use spl_tree::HandledEvent;
 use spl_value::Items;
 use std::alloc::Global;
-use stream_model::{CheckError, CheckRefusal};
 use type_rules::TypeAnswer;
 
 /// A refusal of a name or a word.

@@ -2,12 +2,12 @@
 ghost use Rattle.std.specs.Prelude.{◌≡◌, ◌&&◌};
 ghost use Rattle.std.specs.List.{list_all};
 ghost use Rattle.std.specs.Option.{option_copied};
-ghost use Rattle.stream_model.specs.LogicTyping.{is_minus_prefix, is_state_value, plain_parameter};
-ghost use Rattle.stream_model.specs.Scopes.{dollar_of};
+ghost use Rattle.language_model.specs.LogicTyping.{is_minus_prefix, is_state_value, plain_parameter};
+ghost use Rattle.language_model.specs.Scopes.{dollar_of};
 
 use super::plain_codes::is_plain;
+use language_model::{CheckRefusal, Dollar, Typed};
 use spl_tree::{Expr, ExprKind, Field, Prefix, PrefixOperator};
-use stream_model::{CheckRefusal, Dollar, Typed};
 
 /// What stands for the `$` parameter of the name.
 fn dollar<'s>(dollars: &'s [Dollar], name: &[u8]) -> Option<&'s Result<Typed, CheckRefusal>>

@@ -1,16 +1,16 @@
 //! Attributes of an output with what they get, whatever that is.
 ghost use Rattle.std.specs.Prelude.{◌≡◌, ◌<◌, ℕ, List, [], length, IfOk, slice_set, true};
-ghost use Rattle.stream_model.specs.OutputTyping.{assignment_typing, assignments_typing, places, rows_typing, with_others};
-ghost use Rattle.stream_model.specs.Typing.{after};
+ghost use Rattle.language_model.specs.OutputTyping.{assignment_typing, assignments_typing, places, rows_typing, with_others};
+ghost use Rattle.language_model.specs.Typing.{after};
 ghost use Rattle.type_rules.specs.Finds.{Finds, with_front};
 ghost use Rattle.output_rules.specs.Marking.{Tells};
 
 use super::answers::{bad_output, narrow, unknown};
 use super::index::Index;
+use language_model::Port;
 use spl_tree::{Expr, Field, OutputAssignments};
 use spl_value::{Attribute, Items, SplType};
 use std::alloc::Global;
-use stream_model::Port;
 use type_rules::TypeAnswer;
 
 /// Attributes by their places, each with what it gets.
@@ -19,7 +19,7 @@ pub(super) type Assigned<A> = Items<(u32, A)>;
 /// What an operator gives to the attributes of its output.
 pub(super) trait Gives {
     ghost use Rattle.std.specs.Option.{option_copied};
-    ghost use Rattle.stream_model.specs.OutputTyping.{Assigns, Fills};
+    ghost use Rattle.language_model.specs.OutputTyping.{Assigns, Fills};
     ghost use Rattle.type_rules.specs.Finds.{Finds};
 
     type Given: Drop;

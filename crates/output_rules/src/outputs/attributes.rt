@@ -1,16 +1,16 @@
 //! What an output takes over from the ports of its scope.
 ghost use Rattle.std.specs.Prelude.{◌≡◌, ◌≤◌, IfOk, length, map};
-ghost use Rattle.stream_model.specs.OutputTyping.{one_attribute, taken_over};
-ghost use Rattle.stream_model.specs.Typing.{same_types};
+ghost use Rattle.language_model.specs.OutputTyping.{one_attribute, taken_over};
+ghost use Rattle.language_model.specs.Typing.{same_types};
 ghost use Rattle.type_rules.specs.Finds.{Finds};
 ghost use Rattle.output_rules.specs.Indexed.{HoldsIn, attributes_in, same_schemas};
 
 use super::answers::{bad_output, narrow};
 use super::index::Index;
+use language_model::{Port, Scope};
 use spl_tree::{Code, Slot};
 use spl_value::{Attribute, NoMemory, SplType, same_type};
 use std::alloc::Global;
-use stream_model::{Port, Scope};
 use type_rules::TypeAnswer;
 
 /// The attributes of ports.

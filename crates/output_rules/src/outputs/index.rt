@@ -2,7 +2,7 @@
 ghost use Rattle.std.specs.Prelude.{◌≡◌, ◌<◌, IfOk, IfSome, length, slice_get};
 ghost use Rattle.std.specs.HashMap.{get};
 ghost use Rattle.std.specs.Option.{option_copied};
-ghost use Rattle.stream_model.specs.Scopes.{attribute_of};
+ghost use Rattle.language_model.specs.Scopes.{attribute_of};
 ghost use Rattle.type_rules.specs.Finds.{Points};
 ghost use Rattle.output_rules.specs.Indexed.{HasFirst, place_from, same_bytes};
 

@@ -1,14 +1,14 @@
 //! Outputs of one tuple.
 ghost use Rattle.std.specs.Option.{option_copied};
-ghost use Rattle.stream_model.specs.OutputTyping.{assigned_code, taken_over, tuple_typing};
+ghost use Rattle.language_model.specs.OutputTyping.{assigned_code, taken_over, tuple_typing};
 ghost use Rattle.type_rules.specs.Finds.{Finds};
 
 use super::assigned::{Gives, all_given};
 use super::attributes::Inputs;
+use language_model::{Port, Scope};
 use spl_tree::{Code, Expr, OutputAssignments, Slot};
 use spl_value::{Attribute, SplType};
 use std::alloc::Global;
-use stream_model::{Port, Scope};
 use type_rules::{TypeAnswer, type_of};
 
 /// Values in a scope, for an output at an invocation.

@@ -1,6 +1,6 @@
 //! Attributes that clauses name.
 ghost use Rattle.std.specs.Prelude.{◌≡◌};
-ghost use Rattle.stream_model.specs.Scopes.{attribute_of};
+ghost use Rattle.language_model.specs.Scopes.{attribute_of};
 ghost use Rattle.type_rules.specs.Finds.{Points};
 
 use spl_value::Attribute;

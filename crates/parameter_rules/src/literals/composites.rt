@@ -1,8 +1,8 @@
 //! The composites of a unit by their places.
 ghost use Rattle.std.specs.Prelude.{◌≡◌, map, IfOk};
 ghost use Rattle.std.specs.Option.{option_copied};
-ghost use Rattle.stream_model.specs.Composites.{composites};
-ghost use Rattle.stream_model.specs.SinkFiles.{composite_of};
+ghost use Rattle.language_model.specs.Composites.{composites};
+ghost use Rattle.language_model.specs.SinkFiles.{composite_of};
 
 use spl_tree::{Composite, Definition, Expansion, Unit};
 use spl_value::NoMemory;

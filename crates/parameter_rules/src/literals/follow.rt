@@ -1,8 +1,8 @@
 //! The expressions behind `$` parameters.
 ghost use Rattle.std.specs.Prelude.{◌≡◌, slice_get, length};
 ghost use Rattle.std.specs.Option.{option_copied};
-ghost use Rattle.stream_model.specs.Literals.{behind, behind_in, followed, parameter_behind};
-ghost use Rattle.stream_model.specs.SinkFiles.{arguments_of, default_named, heads_of, invocation_at, only_value, value_named};
+ghost use Rattle.language_model.specs.Literals.{behind, behind_in, followed, parameter_behind};
+ghost use Rattle.language_model.specs.SinkFiles.{arguments_of, default_named, heads_of, invocation_at, only_value, value_named};
 ghost use Rattle.parameter_rules.specs.Following.{behind_seen};
 ghost use Rattle.parameter_rules.specs.Sites.{followed_in};
 

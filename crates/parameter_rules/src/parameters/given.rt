@@ -2,14 +2,14 @@
 //! are read.
 ghost use Rattle.std.specs.Prelude.{◌≡◌, codes};
 ghost use Rattle.std.specs.Option.{option_copied};
-ghost use Rattle.stream_model.specs.Checking.{code_given, file_given, places_given, position_given, strict_given};
-ghost use Rattle.stream_model.specs.ParameterTyping.{value_given};
+ghost use Rattle.language_model.specs.Checking.{code_given, file_given, places_given, position_given, strict_given};
+ghost use Rattle.language_model.specs.ParameterTyping.{value_given};
 ghost use Rattle.parameter_rules.specs.Taking.{IsFirst, KeepsOthers};
 
+use language_model::{Given, ParameterValue, Position};
 use spl_tree::{Code, Slot};
 use spl_value::{Bytes, Items, Places};
 use std::alloc::Global;
-use stream_model::{Given, ParameterValue, Position};
 
 /// The place of the first parameter of the name.
 fn place_given(given: &[Given], name: &[u8]) -> Option<usize>

@@ -4,11 +4,11 @@ ghost use Rattle.std.specs.List.{list_any};
 ghost use Rattle.std.specs.Option.{option_copied, option_map};
 ghost use Rattle.std.specs.Str.{bytes_eq};
 ghost use Rattle.spl_tree.specs.declared.graph.OpKind.TheVariants as O;
-ghost use Rattle.stream_model.specs.ParameterTyping.{missing, needed, role_of};
+ghost use Rattle.language_model.specs.ParameterTyping.{missing, needed, role_of};
 ghost use Rattle.parameter_rules.specs.Roles.{role_seen};
 
+use language_model::Given;
 use spl_tree::OpKind;
-use stream_model::Given;
 
 /// What the values of a parameter are.
 #[derive(Clone, Copy)]

@@ -1,11 +1,11 @@
 //! What the names in a body stand for.
 ghost use Rattle.std.specs.Prelude.{◌≡◌};
 ghost use Rattle.std.specs.Option.{option_copied, option_map};
-ghost use Rattle.stream_model.specs.Expansion.{place_of};
-ghost use Rattle.stream_model.specs.Invoking.{input_names, stream_names};
-ghost use Rattle.stream_model.specs.Scopes.{at_place};
-ghost use Rattle.stream_model.specs.StreamTypes.{input_stream, is_type, kind_alone, named_stream, output_names, own_stream, stream_in, stream_unless_type};
-ghost use Rattle.stream_model.specs.TypeNames.{composite_types};
+ghost use Rattle.language_model.specs.Expansion.{place_of};
+ghost use Rattle.language_model.specs.Invoking.{input_names, stream_names};
+ghost use Rattle.language_model.specs.Scopes.{at_place};
+ghost use Rattle.language_model.specs.StreamTypes.{input_stream, is_type, kind_alone, named_stream, output_names, own_stream, stream_in, stream_unless_type};
+ghost use Rattle.language_model.specs.TypeNames.{composite_types};
 ghost use Rattle.body_rules.specs.TypeScopes.{types_in};
 ghost use Rattle.stream_rules.specs.Bodies.{body_seen};
 

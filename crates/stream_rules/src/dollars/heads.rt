@@ -1,8 +1,8 @@
 //! The parameters of a composite, with what is given for them.
 ghost use Rattle.std.specs.Prelude.{◌≡◌, IfOk, filter_map};
 ghost use Rattle.std.specs.Option.{option_copied};
-ghost use Rattle.stream_model.specs.Parameters.{constant_scope, constant_typing, default_leads, has_meaning, parameter_leads, parameter_place, parameter_typing};
-ghost use Rattle.stream_model.specs.SinkFiles.{only_value, value_named};
+ghost use Rattle.language_model.specs.Parameters.{constant_scope, constant_typing, default_leads, has_meaning, parameter_leads, parameter_place, parameter_typing};
+ghost use Rattle.language_model.specs.SinkFiles.{only_value, value_named};
 ghost use Rattle.type_rules.specs.Finds.{Finds, IsUnknown};
 ghost use Rattle.stream_rules.specs.Mentioned.{names_seen};
 ghost use Rattle.body_rules.specs.TypeScopes.{types_in};
@@ -13,10 +13,10 @@ use super::mentions::dollars_in;
 use super::weights::is_small;
 use crate::narrow;
 use body_rules::{TypeScope, leads_back, type_of_written};
+use language_model::{CheckError, CheckRefusal, Scope, Typed};
 use spl_tree::{CompositeParameter, Expr, Parameter, Placed};
 use spl_value::{Items, Name, NoMemory, SplType};
 use std::alloc::Global;
-use stream_model::{CheckError, CheckRefusal, Scope, Typed};
 use type_rules::{TypeAnswer, type_of};
 
 /// The parameters of a composite, with what is given for them where it is invoked.

@@ -1,6 +1,6 @@
 //! The `$` parameters that stand in expressions.
 ghost use Rattle.std.specs.Prelude.{◌≡◌, ◌++◌, ◌∷◌, [], map, flat_map, IfOk, OnOk};
-ghost use Rattle.stream_model.specs.DollarLaws.{dollars_in};
+ghost use Rattle.language_model.specs.DollarLaws.{dollars_in};
 ghost use Rattle.stream_rules.specs.Mentioned.{Adds, entry_dollars, field_dollars, step_dollars};
 
 use spl_tree::{Expr, ExprKind, Field, Step};

@@ -3,16 +3,16 @@
 ghost use Rattle.std.specs.Prelude.{◌≡◌, ◌<◌, [], ℕ, IfOk, OnOk, IsTrue, ◌↔◌, true, false, slice_get, take, length, ◌≤◌};
 ghost use Rattle.std.specs.List.{Contains};
 ghost use Rattle.spl_tree.specs.declared.unit.CompositeParameter.{CompositeParameter};
-ghost use Rattle.stream_model.specs.Parameters.{constant_scope, parameter_leads, parameters_given};
+ghost use Rattle.language_model.specs.Parameters.{constant_scope, parameter_leads, parameters_given};
 ghost use Rattle.stream_rules.specs.Given.{IsReady, is_marked, marks_in, means};
 ghost use Rattle.stream_rules.specs.Settling.{IsSettled, Settles, given_of};
 ghost use Rattle.body_rules.specs.TypeScopes.{types_in};
 
 use super::heads::Head;
 use crate::narrow;
+use language_model::{Dollar, Scope, dollars_law};
 use spl_value::{Items, NoMemory};
 use std::alloc::Global;
-use stream_model::{Dollar, Scope, dollars_law};
 
 /// The longest row of parameters each of which the default of the one before mentions.
 const LONGEST_ROW: u32 = 1_000;

@@ -1,8 +1,8 @@
 //! Inputs of operators, and what the heads around them say.
 ghost use Rattle.std.specs.Prelude.{◌≡◌, ◌<◌, ◌≤◌, length};
-ghost use Rattle.stream_model.specs.StreamTypes.{are_alike, name_places, port_attributes, ports_attributes, so_often, taken_by};
-ghost use Rattle.stream_model.specs.Expansion.{place_of};
-ghost use Rattle.stream_model.specs.Invoking.{stream_names};
+ghost use Rattle.language_model.specs.StreamTypes.{are_alike, name_places, port_attributes, ports_attributes, so_often, taken_by};
+ghost use Rattle.language_model.specs.Expansion.{place_of};
+ghost use Rattle.language_model.specs.Invoking.{stream_names};
 ghost use Rattle.type_rules.specs.Finds.{Finds};
 ghost use Rattle.stream_rules.specs.Bodies.{body_seen};
 ghost use Rattle.stream_rules.specs.Among.{Hold, graph_of, unit_of};

@@ -1,6 +1,6 @@
 //! Outputs of operators, and what the heads around them say.
 ghost use Rattle.std.specs.Prelude.{◌≡◌, length};
-ghost use Rattle.stream_model.specs.StreamTypes.{outer_output, output_heads, outputs_attributes};
+ghost use Rattle.language_model.specs.StreamTypes.{outer_output, output_heads, outputs_attributes};
 ghost use Rattle.type_rules.specs.Finds.{Finds};
 ghost use Rattle.stream_rules.specs.Bodies.{body_seen};
 ghost use Rattle.stream_rules.specs.Outside.{StandsOutside, output_found};

@@ -1,6 +1,6 @@
 //! Whether attributes are the same.
 ghost use Rattle.std.specs.Prelude.{◌≡◌, ◌↔◌, IsTrue};
-ghost use Rattle.stream_model.specs.StreamTypes.{same_attributes};
+ghost use Rattle.language_model.specs.StreamTypes.{same_attributes};
 
 use spl_value::{Attribute, same_type};
 

@@ -1,7 +1,7 @@
 //! What shapes in bodies stand for, among the streams of a graph.
 ghost use Rattle.std.specs.Prelude.{◌≡◌};
 ghost use Rattle.std.specs.Option.{option_copied};
-ghost use Rattle.stream_model.specs.StreamTypes.{port_stands_for, shape_attributes, stands_for, stream_attributes};
+ghost use Rattle.language_model.specs.StreamTypes.{port_stands_for, shape_attributes, stands_for, stream_attributes};
 ghost use Rattle.type_rules.specs.Finds.{Finds};
 ghost use Rattle.stream_rules.specs.Among.{Hold, graph_of, unit_of};
 ghost use Rattle.stream_rules.specs.Bodies.{body_seen};

@@ -2,8 +2,8 @@
 ghost use Rattle.std.specs.Prelude.{◌≡◌, List, length};
 ghost use Rattle.spl_tree.specs.declared.graph.Graph.{Graph};
 ghost use Rattle.spl_tree.specs.declared.unit.Definition.{Definition};
-ghost use Rattle.stream_model.specs.Leading.{leads_back};
-ghost use Rattle.stream_model.specs.StreamTypes.{stream_attributes, stream_leads};
+ghost use Rattle.language_model.specs.Leading.{leads_back};
+ghost use Rattle.language_model.specs.StreamTypes.{stream_attributes, stream_leads};
 ghost use Rattle.type_rules.specs.Finds.{Finds};
 ghost use Rattle.stream_rules.specs.Streams.{IsTableOf};
 

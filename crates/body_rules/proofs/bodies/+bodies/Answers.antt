@@ -1,11 +1,11 @@
 use Rattle.std.proofs.Common.{◌≡◌, ◌∙◌, ◌+◌, ◌∷◌, ◌++◌, [], Ok, Err, true, false, ap, arith, drop, length, refl, subst, sym}
 use Rattle.spl_tree.specs.declared.body.Statement.TheVariants as T
 use Rattle.spl_tree.specs.declared.statement.StmtKind.TheVariants as V
-use Rattle.stream_model.specs.BodyFits.{with_variable}
-use Rattle.stream_model.specs.BodyTyping.{alone, arms_typing, assigned, condition_typing, for_typing, other_typing, return_typing, row_typing, stated, submit_typing, variable}
-use Rattle.stream_model.specs.BodyTypingLaws.{arms_stated, assign_stated, block_stated, call_stated, declare_stated, for_stated, if_stated, kind_stated, other_stated, return_stated, row_stated, submit_stated, while_stated}
-use Rattle.stream_model.specs.StatementTyping.{call_typing}
-use Rattle.stream_model.specs.Typing.{after}
+use Rattle.language_model.specs.BodyFits.{with_variable}
+use Rattle.language_model.specs.BodyTyping.{alone, arms_typing, assigned, condition_typing, for_typing, other_typing, return_typing, row_typing, stated, submit_typing, variable}
+use Rattle.language_model.specs.BodyTypingLaws.{arms_stated, assign_stated, block_stated, call_stated, declare_stated, for_stated, if_stated, kind_stated, other_stated, return_stated, row_stated, submit_stated, while_stated}
+use Rattle.language_model.specs.StatementTyping.{call_typing}
+use Rattle.language_model.specs.Typing.{after}
 use Rattle.type_rules.specs.Finds.{Finds, with_front}
 use Rattle.body_rules.specs.Leads.{shortened}
 use Rattle.body_rules.specs.Settings.{purpose_meant, setting_meant}

@@ -1,6 +1,6 @@
 use Rattle.std.proofs.Common.{Err, Ok, ap, get_or, length, subst, sym, ◌+◌, ◌<◌, ◌≡◌, ◌∙◌}
-use Rattle.stream_model.specs.TypeNames.{types_of, unit_types}
-use Rattle.stream_model.specs.Typing.{unknown}
+use Rattle.language_model.specs.TypeNames.{types_of, unit_types}
+use Rattle.language_model.specs.Typing.{unknown}
 use Rattle.type_rules.specs.Finds.{Finds}
 use Rattle.body_rules.specs.TypeScopes.{types_in}
 use Rattle.body_rules.proofs.Signing.{in_unit, scope_is, typed_from, typed_on, typed_past, typed_stops}

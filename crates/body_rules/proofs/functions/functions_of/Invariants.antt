@@ -1,6 +1,6 @@
 use Rattle.std.proofs.Common.{◌≡◌, drop}
-use Rattle.stream_model.specs.Composites.{functions}
-use Rattle.stream_model.specs.FunctionTyping.{each_typed, unit_scope}
+use Rattle.language_model.specs.Composites.{functions}
+use Rattle.language_model.specs.FunctionTyping.{each_typed, unit_scope}
 use Rattle.type_rules.specs.Finds.{with_front}
 use Rattle.body_rules.proofs.functions.functions_of.Given as goal
 

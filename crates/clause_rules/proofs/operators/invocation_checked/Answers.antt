@@ -1,5 +1,5 @@
 use Rattle.std.proofs.Common.{Err, ap, sym, ◌∙◌}
-use Rattle.stream_model.specs.Literals.{followed}
+use Rattle.language_model.specs.Literals.{followed}
 use Rattle.body_rules.specs.TypeScopes.{types_in}
 use Rattle.parameter_rules.specs.Sites.{followed_in}
 use Rattle.stream_rules.specs.Bodies.{body_seen}

@@ -1,5 +1,5 @@
 use Rattle.std.proofs.Common.{◌≡◌, drop}
-use Rattle.stream_model.specs.Checking.{has_text_form}
+use Rattle.language_model.specs.Checking.{has_text_form}
 use Rattle.clause_rules.proofs.parts.has_text_form.Given as goal
 
 abbrev pub invariant-loop-attribute : goal.invariant-loop-attribute

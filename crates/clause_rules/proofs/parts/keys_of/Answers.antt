@@ -1,5 +1,5 @@
 use Rattle.std.proofs.Common.{◌∙◌, ap, refl, codes}
-use Rattle.stream_model.specs.Checking.{as_places}
+use Rattle.language_model.specs.Checking.{as_places}
 use Rattle.clause_rules.proofs.parts.keys_of.Goals as goal
 
 pub returns-clause-group : goal.returns-clause-group

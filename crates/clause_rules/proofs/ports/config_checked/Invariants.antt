@@ -1,5 +1,5 @@
 use Rattle.std.proofs.Common.{◌≡◌, drop}
-use Rattle.stream_model.specs.Checking.{config_checked}
+use Rattle.language_model.specs.Checking.{config_checked}
 use Rattle.clause_rules.proofs.ports.config_checked.Given as goal
 
 abbrev pub invariant-loop-entry : goal.invariant-loop-entry

@@ -2,7 +2,7 @@ use Rattle.std.specs.Prelude.{slice_get}
 use Rattle.std.proofs.Common.{◌∙◌, ◌∷◌, ◌++◌, [], ap, sym}
 use Rattle.std.specs.Option.{option_copied}
 use Rattle.spl_tree.specs.declared.unit.InputPort.{InputPort}
-use Rattle.stream_model.specs.Checking.{port_name}
+use Rattle.language_model.specs.Checking.{port_name}
 use Rattle.clause_rules.proofs.Naming.{named_next, named_none, named_past}
 use Rattle.clause_rules.proofs.ports.ports_of.Goals as goal
 

@@ -1,5 +1,5 @@
 use Rattle.std.proofs.Common.{◌≡◌}
-use Rattle.stream_model.specs.Checking.{port_name}
+use Rattle.language_model.specs.Checking.{port_name}
 use Rattle.clause_rules.specs.Operators.{named}
 use Rattle.clause_rules.proofs.ports.ports_of.Given as goal
 

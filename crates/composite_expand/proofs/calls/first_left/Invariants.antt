@@ -1,5 +1,5 @@
 use Rattle.std.proofs.Common.{◌<◌, ℕ}
-use Rattle.stream_model.specs.Recursion.{Leads}
+use Rattle.language_model.specs.Recursion.{Leads}
 use Rattle.composite_expand.proofs.calls.first_left.Given as goal
 
 abbrev pub invariant-loop-caller : goal.invariant-loop-caller

@@ -1,6 +1,6 @@
 use Rattle.std.proofs.Common.{◌≡◌, drop}
 use Rattle.std.specs.Prelude.{flat_map}
-use Rattle.stream_model.specs.Declarations.{first_of, repeated_in_definition}
+use Rattle.language_model.specs.Declarations.{first_of, repeated_in_definition}
 use Rattle.composite_expand.proofs.declarations.repeated_in_definitions.Given as goal
 
 abbrev pub invariant-loop-definition : goal.invariant-loop-definition

@@ -1,5 +1,5 @@
 use Rattle.std.proofs.Common.{◌≡◌, drop}
-use Rattle.stream_model.specs.SinkFiles.{default_named}
+use Rattle.language_model.specs.SinkFiles.{default_named}
 use Rattle.composite_expand.proofs.files.default_of.Given as goal
 
 abbrev pub invariant-loop-head : goal.invariant-loop-head

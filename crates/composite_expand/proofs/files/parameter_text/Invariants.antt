@@ -1,5 +1,5 @@
 use Rattle.std.proofs.Common.{◌≡◌, length}
-use Rattle.stream_model.specs.SinkFiles.{dollar_text}
+use Rattle.language_model.specs.SinkFiles.{dollar_text}
 use Rattle.composite_expand.proofs.files.parameter_text.Given as goal
 
 abbrev pub invariant-defaults : goal.invariant-defaults

@@ -1,7 +1,7 @@
 use Rattle.std.proofs.Common.{◌≡◌, map, reverse, drop, []}
 use Rattle.std.specs.Prelude.{flat_map}
-use Rattle.stream_model.specs.Declarations.{first_of, repeated_after}
-use Rattle.stream_model.specs.SinkFiles.{is_had, op_file}
+use Rattle.language_model.specs.Declarations.{first_of, repeated_after}
+use Rattle.language_model.specs.SinkFiles.{is_had, op_file}
 use Rattle.composite_expand.specs.Seen.{file_seen}
 use Rattle.composite_expand.proofs.files.same_file.Given as goal
 

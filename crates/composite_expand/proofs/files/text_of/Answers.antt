@@ -1,7 +1,7 @@
 use Rattle.std.specs.Prelude.{◌-◌}
 use Rattle.std.specs.Option.{option_copied}
 use Rattle.std.proofs.Common.{sym, ap, ◌∙◌}
-use Rattle.stream_model.specs.SinkFiles.{Literal, Argument, NoText}
+use Rattle.language_model.specs.SinkFiles.{Literal, Argument, NoText}
 use Rattle.composite_expand.proofs.Texts.{text_step, outside}
 use Rattle.composite_expand.proofs.files.text_of.Goals as goal
 

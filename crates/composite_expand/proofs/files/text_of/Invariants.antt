@@ -1,5 +1,5 @@
 use Rattle.std.proofs.Common.{◌≡◌, length}
-use Rattle.stream_model.specs.SinkFiles.{text_in}
+use Rattle.language_model.specs.SinkFiles.{text_in}
 use Rattle.composite_expand.proofs.files.text_of.Given as goal
 
 abbrev pub invariant-expansions : goal.invariant-expansions

@@ -1,9 +1,9 @@
 use Rattle.std.proofs.Common.{◌≡◌, ◌∙◌, sym, ap, subst, Some, Err}
 use Rattle.std.specs.Prelude.{MatchOption}
-use Rattle.stream_model.specs.Composites.{main_of}
-use Rattle.stream_model.specs.Declarations.{declared_twice}
-use Rattle.stream_model.specs.Flat.{IsFlat, flat_from}
-use Rattle.stream_model.specs.Recursion.{IsRecursive, IsNotRecursive, HasNoRecursion, composite_callers}
+use Rattle.language_model.specs.Composites.{main_of}
+use Rattle.language_model.specs.Declarations.{declared_twice}
+use Rattle.language_model.specs.Flat.{IsFlat, flat_from}
+use Rattle.language_model.specs.Recursion.{IsRecursive, IsNotRecursive, HasNoRecursion, composite_callers}
 use Rattle.composite_expand.specs.Expands.{Expands, IsAnswer}
 use Rattle.composite_expand.proofs.Comes.{main_starts, recursive, answered, refused}
 use Rattle.composite_expand.proofs.graph.expand.Goals as goal

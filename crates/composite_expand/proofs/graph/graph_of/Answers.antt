@@ -6,10 +6,10 @@ use Rattle.spl_tree.specs.declared.expression.Placed.{Placed}
 use Rattle.spl_tree.specs.declared.graph.Expansion.{Expansion}
 use Rattle.spl_tree.specs.declared.graph.Op.{Op}
 use Rattle.spl_tree.specs.declared.graph.Stream.{Stream}
-use Rattle.stream_model.specs.declared.expansion.Operation.{Operation}
-use Rattle.stream_model.specs.Declarations.{first_of}
-use Rattle.stream_model.specs.Flat.{files_had}
-use Rattle.stream_model.specs.Taking.{taken, first_untaken}
+use Rattle.language_model.specs.declared.expansion.Operation.{Operation}
+use Rattle.language_model.specs.Declarations.{first_of}
+use Rattle.language_model.specs.Flat.{files_had}
+use Rattle.language_model.specs.Taking.{taken, first_untaken}
 use Rattle.composite_expand.proofs.Comes.{loops, same_files, numbered_is, untaken_within}
 use Rattle.composite_expand.proofs.graph.graph_of.Goals as goal
 

@@ -1,7 +1,7 @@
 use Rattle.std.proofs.Common.{◌∙◌, ◌^◌, ap, flat_map, length, map, min, arith}
 use Rattle.std.specs.List.{sum_by}
 use Rattle.std.proofs.lemmas.List.{take_all}
-use Rattle.stream_model.specs.Expansion.{sources_of}
+use Rattle.language_model.specs.Expansion.{sources_of}
 use Rattle.composite_expand.proofs.Counting.{port_counted, streams_taken}
 use Rattle.composite_expand.proofs.inputs.connections.Goals as goal
 

@@ -1,6 +1,6 @@
 use Rattle.std.proofs.Common.{◌≡◌, ◌^◌, List, length, map, flat_map, take, min}
 use Rattle.std.specs.List.{sum_by}
-use Rattle.stream_model.specs.Expansion.{Inlined, sources_of}
+use Rattle.language_model.specs.Expansion.{Inlined, sources_of}
 use Rattle.composite_expand.specs.Reading.{IsBody}
 use Rattle.composite_expand.proofs.inputs.connections.Given as goal
 

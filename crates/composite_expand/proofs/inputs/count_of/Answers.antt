@@ -1,6 +1,6 @@
 use Rattle.std.proofs.Common.{flat_map, subst, arith}
 use Rattle.std.proofs.lemmas.List.{take_all}
-use Rattle.stream_model.specs.Expansion.{sources_of}
+use Rattle.language_model.specs.Expansion.{sources_of}
 use Rattle.composite_expand.specs.Reading.{Counts}
 use Rattle.composite_expand.proofs.inputs.count_of.Goals as goal
 

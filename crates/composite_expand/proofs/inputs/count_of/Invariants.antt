@@ -1,5 +1,5 @@
 use Rattle.std.proofs.Common.{List, flat_map, take}
-use Rattle.stream_model.specs.Expansion.{Inlined, sources_of}
+use Rattle.language_model.specs.Expansion.{Inlined, sources_of}
 use Rattle.composite_expand.specs.Reading.{IsBody, Counts}
 use Rattle.composite_expand.proofs.inputs.count_of.Given as goal
 

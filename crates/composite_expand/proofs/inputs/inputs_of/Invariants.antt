@@ -1,5 +1,5 @@
 use Rattle.std.proofs.Common.{◌≡◌, List, Some, length, slice_get}
-use Rattle.stream_model.specs.Expansion.{Inlined}
+use Rattle.language_model.specs.Expansion.{Inlined}
 use Rattle.composite_expand.specs.Reading.{IsBody, PortsStand}
 use Rattle.composite_expand.proofs.inputs.inputs_of.Given as goal
 

@@ -1,8 +1,8 @@
 use Rattle.std.proofs.Common.{arith, ◌≡◌, ◌∙◌, ap, sym, slice_get}
 use Rattle.std.proofs.lemmas.Grind.{common_steps}
 use Rattle.std.proofs.lemmas.Option.{gets}
-use Rattle.stream_model.specs.Expansion.{place_of}
-use Rattle.stream_model.specs.Invoking.{input_names, stream_names}
+use Rattle.language_model.specs.Expansion.{place_of}
+use Rattle.language_model.specs.Invoking.{input_names, stream_names}
 use Rattle.composite_expand.proofs.Taking.{input_taken}
 use Rattle.composite_expand.proofs.inputs.taken_by.Goals as goal
 

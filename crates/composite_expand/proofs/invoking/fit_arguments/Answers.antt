@@ -1,6 +1,6 @@
 use Rattle.std.proofs.Common.{◌≡◌, [], ◌++◌, ◌∷◌, ◌∙◌, ◌+◌, true, ap, sym, subst, drop, take, eq-eqb}
 use Rattle.std.specs.Prelude.{◌&&◌, length}
-use Rattle.stream_model.specs.Invoking.{is_argument, is_parameter, is_among}
+use Rattle.language_model.specs.Invoking.{is_argument, is_parameter, is_among}
 use Rattle.composite_expand.specs.Names.{StandFor}
 use Rattle.composite_expand.specs.Invocations.{argument_names}
 use Rattle.composite_expand.proofs.Fitting.{fit_behind, fitting, names_at, rest_at, stand_at}

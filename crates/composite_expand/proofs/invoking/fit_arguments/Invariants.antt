@@ -1,5 +1,5 @@
 use Rattle.std.proofs.Common.{◌≡◌, List, take, drop}
-use Rattle.stream_model.specs.Declarations.{Name}
+use Rattle.language_model.specs.Declarations.{Name}
 use Rattle.composite_expand.specs.Names.{StandFor}
 use Rattle.composite_expand.specs.Invocations.{argument_names, fit_once}
 use Rattle.composite_expand.proofs.Fitting.{Stand, fit_behind}

@@ -1,7 +1,7 @@
 use Rattle.std.proofs.Common.{◌∙◌, ap, subst, is_some}
 use Rattle.std.specs.Prelude.{◌||◌}
 use Rattle.std.specs.List.{list_all}
-use Rattle.stream_model.specs.Invoking.{is_among}
+use Rattle.language_model.specs.Invoking.{is_among}
 use Rattle.composite_expand.specs.Invocations.{argument_names, FitArguments}
 use Rattle.composite_expand.proofs.Fitting.{parameters_left}
 use Rattle.composite_expand.proofs.invoking.fit_parameters.Goals as goal

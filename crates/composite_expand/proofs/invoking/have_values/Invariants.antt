@@ -1,7 +1,7 @@
 use Rattle.std.proofs.Common.{◌≡◌, List, ℕ, drop}
 use Rattle.std.specs.Prelude.{◌||◌, is_some}
 use Rattle.std.specs.List.{list_all}
-use Rattle.stream_model.specs.Invoking.{is_among}
+use Rattle.language_model.specs.Invoking.{is_among}
 use Rattle.composite_expand.specs.Names.{StandFor}
 use Rattle.composite_expand.proofs.invoking.have_values.Given as goal
 

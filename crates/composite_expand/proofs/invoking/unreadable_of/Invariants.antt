@@ -1,5 +1,5 @@
 use Rattle.std.proofs.Common.{◌≡◌, drop}
-use Rattle.stream_model.specs.Declarations.{first_of}
+use Rattle.language_model.specs.Declarations.{first_of}
 use Rattle.composite_expand.specs.Invocations.{unreadable}
 use Rattle.composite_expand.proofs.invoking.unreadable_of.Given as goal
 

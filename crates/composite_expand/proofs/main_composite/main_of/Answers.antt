@@ -1,7 +1,7 @@
 use Rattle.std.proofs.Common.{◌∙◌, sym, ap}
 use Rattle.std.specs.Option.{option_map}
-use Rattle.stream_model.specs.Composites.{composite_named}
-use Rattle.stream_model.specs.Scopes.{at_place}
+use Rattle.language_model.specs.Composites.{composite_named}
+use Rattle.language_model.specs.Scopes.{at_place}
 use Rattle.composite_expand.proofs.Portless.{main_only, main_several}
 use Rattle.composite_expand.proofs.main_composite.main_of.Goals as goal
 

@@ -1,5 +1,5 @@
 use Rattle.std.proofs.Common.{◌∙◌, sym}
-use Rattle.stream_model.specs.Composites.{composites}
+use Rattle.language_model.specs.Composites.{composites}
 use Rattle.composite_expand.proofs.Portless.{first_here, first_later}
 use Rattle.composite_expand.proofs.main_composite.portless_from.Goals as goal
 

@@ -1,6 +1,6 @@
 use Rattle.std.proofs.Common.{◌≡◌, drop}
-use Rattle.stream_model.specs.Composites.{composites, has_no_ports}
-use Rattle.stream_model.specs.Scopes.{first_from}
+use Rattle.language_model.specs.Composites.{composites, has_no_ports}
+use Rattle.language_model.specs.Scopes.{first_from}
 use Rattle.composite_expand.proofs.main_composite.portless_from.Given as goal
 
 abbrev pub invariant-loop-place : goal.invariant-loop-place

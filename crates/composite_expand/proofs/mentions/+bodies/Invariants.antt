@@ -1,5 +1,5 @@
 use Rattle.std.proofs.Common.{◌≡◌, ◌+◌, ◌++◌, flat_map, take}
-use Rattle.stream_model.specs.Mentions.{block_mentions}
+use Rattle.language_model.specs.Mentions.{block_mentions}
 use Rattle.composite_expand.specs.Mentioned.{mentions_seen, arm_mentions}
 use Rattle.composite_expand.proofs.StatementLaws.{statement_weight, statement_weights, arm_weights, other_weight}
 use Rattle.composite_expand.proofs.mentions.+bodies.Given as goal

@@ -1,6 +1,6 @@
 use Rattle.std.proofs.Common.{◌∙◌, ◌++◌, ◌∷◌, ap, sym, arith, flat_map}
 use Rattle.spl_tree.specs.Grammar.{placed}
-use Rattle.stream_model.specs.Mentions.{expr_mentions, Called}
+use Rattle.language_model.specs.Mentions.{expr_mentions, Called}
 use Rattle.composite_expand.specs.Mentioned.{step_mentions}
 use Rattle.composite_expand.proofs.Adding.{adds_behind, both_behind}
 use Rattle.composite_expand.proofs.MentionLaws.{mentions, of_call, of_select, of_binary, of_conditional}

@@ -1,5 +1,5 @@
 use Rattle.std.proofs.Common.{◌≡◌, ◌+◌, ◌++◌, flat_map, take}
-use Rattle.stream_model.specs.Mentions.{expr_mentions}
+use Rattle.language_model.specs.Mentions.{expr_mentions}
 use Rattle.composite_expand.specs.Mentioned.{mentions_seen, entry_mentions, field_mentions, step_mentions}
 use Rattle.composite_expand.proofs.Weights.{expr_weight, weights, entry_weights, field_weights, step_weights}
 use Rattle.composite_expand.proofs.mentions.+mentions.Given as goal

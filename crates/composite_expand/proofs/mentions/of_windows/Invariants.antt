@@ -1,5 +1,5 @@
 use Rattle.std.proofs.Common.{◌≡◌, ◌++◌, flat_map, take}
-use Rattle.stream_model.specs.Mentions.{window_mentions}
+use Rattle.language_model.specs.Mentions.{window_mentions}
 use Rattle.composite_expand.specs.Mentioned.{mentions_seen}
 use Rattle.composite_expand.proofs.mentions.of_windows.Given as goal
 

@@ -1,5 +1,5 @@
 use Rattle.std.proofs.Common.{ap, ◌∙◌}
-use Rattle.stream_model.specs.Numbering.{streams_from}
+use Rattle.language_model.specs.Numbering.{streams_from}
 use Rattle.composite_expand.specs.SiteTable.{parts_of, table_of}
 use Rattle.composite_expand.specs.StreamTable.{ops_in, expansions_in}
 use Rattle.composite_expand.proofs.Numbered.{all_is}

@@ -1,5 +1,5 @@
 use Rattle.std.proofs.Common.{◌≡◌, ◌-◌}
-use Rattle.stream_model.specs.Taking.{first_untaken}
+use Rattle.language_model.specs.Taking.{first_untaken}
 use Rattle.composite_expand.proofs.order.first_outside.Given as goal
 
 abbrev pub invariant-loop-number : goal.invariant-loop-number

@@ -1,7 +1,7 @@
 use Rattle.std.specs.Prelude.{◌≡◌, ◌<◌, ◌+◌, ◌∷◌, [], ◌++◌, length, map, Some, None}
 use Rattle.std.proofs.Common.{sym, ap, ◌∙◌, arith, length-append}
 use Rattle.std.proofs.lemmas.List.{length-set}
-use Rattle.stream_model.specs.Taking.{is_taken, next_from}
+use Rattle.language_model.specs.Taking.{is_taken, next_from}
 use Rattle.composite_expand.specs.Makers.{covers_all, first_ready}
 use Rattle.composite_expand.proofs.Flags.{next_by_rows, taken_done, round_more, flags_more}
 use Rattle.composite_expand.proofs.order.topological_order.Goals as goal

@@ -1,5 +1,5 @@
 use Rattle.std.proofs.Common.{◌≡◌, ◌-◌, ◌≤◌, length}
-use Rattle.stream_model.specs.Taking.{taken, taken_on}
+use Rattle.language_model.specs.Taking.{taken, taken_on}
 use Rattle.composite_expand.proofs.Flags.{AreFlags}
 use Rattle.composite_expand.proofs.order.topological_order.Given as goal
 

@@ -1,5 +1,5 @@
 use Rattle.std.proofs.Common.{◌≡◌, map, take}
-use Rattle.stream_model.specs.Mentions.{calls}
+use Rattle.language_model.specs.Mentions.{calls}
 use Rattle.composite_expand.specs.Mentioned.{mentions_seen}
 use Rattle.composite_expand.specs.Named.{name_seen}
 use Rattle.composite_expand.proofs.recursion.calls_of.Given as goal

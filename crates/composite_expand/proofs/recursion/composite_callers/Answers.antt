@@ -1,7 +1,7 @@
 use Rattle.std.proofs.Common.{◌≡◌, ◌∙◌, ◌++◌, ◌∷◌, [], add-one, Some, ap, sym}
 use Rattle.std.specs.Prelude.{slice_get}
 use Rattle.std.proofs.lemmas.Option.{slice_get-get_or}
-use Rattle.stream_model.specs.Recursion.{composite_callers}
+use Rattle.language_model.specs.Recursion.{composite_callers}
 use Rattle.composite_expand.proofs.Snoc.{composites_snoc}
 use Rattle.composite_expand.proofs.recursion.composite_callers.Goals as goal
 

@@ -1,5 +1,5 @@
 use Rattle.std.proofs.Common.{◌≡◌, take}
-use Rattle.stream_model.specs.Recursion.{composite_callers}
+use Rattle.language_model.specs.Recursion.{composite_callers}
 use Rattle.composite_expand.specs.Named.{callers_seen}
 use Rattle.composite_expand.proofs.recursion.composite_callers.Given as goal
 

@@ -1,7 +1,7 @@
 use Rattle.std.proofs.Common.{◌≡◌, ◌∙◌, ◌<◌, length, Some, ap, sym, subst}
 use Rattle.std.specs.Prelude.{slice_get, filter_map, MatchOption}
 use Rattle.std.proofs.lemmas.Option.{slice_get-get_or}
-use Rattle.stream_model.specs.Recursion.{call_among, calls_among, IsAcyclic, IsFirstRecursion}
+use Rattle.language_model.specs.Recursion.{call_among, calls_among, IsAcyclic, IsFirstRecursion}
 use Rattle.composite_expand.specs.Named.{caller_seen, callers_seen}
 use Rattle.composite_expand.proofs.Gets.{get_below}
 use Rattle.composite_expand.proofs.CallTables.{get_map, get_back}

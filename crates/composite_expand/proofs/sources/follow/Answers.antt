@@ -1,5 +1,5 @@
 use Rattle.std.proofs.Common.{◌∙◌, ◌≤◌, ap, flat_map, sym, subst, length}
-use Rattle.stream_model.specs.Expansion.{sources_of}
+use Rattle.language_model.specs.Expansion.{sources_of}
 use Rattle.composite_expand.specs.Reading.{most_names}
 use Rattle.composite_expand.specs.Inputs.{list_taken}
 use Rattle.composite_expand.proofs.Following.{few_names, names_shown, names_smaller, one_smaller}

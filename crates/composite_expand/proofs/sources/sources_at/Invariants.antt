@@ -1,5 +1,5 @@
 use Rattle.std.proofs.Common.{◌≡◌, ◌+◌, ◌++◌, List, flat_map}
-use Rattle.stream_model.specs.Expansion.{Inlined, sources_of}
+use Rattle.language_model.specs.Expansion.{Inlined, sources_of}
 use Rattle.composite_expand.specs.Reading.{AreKept, list_left, most_names, size_left}
 use Rattle.composite_expand.proofs.sources.sources_at.Given as goal
 

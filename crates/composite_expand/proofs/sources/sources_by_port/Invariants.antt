@@ -1,5 +1,5 @@
 use Rattle.std.proofs.Common.{◌≡◌, List, flat_map, map, take}
-use Rattle.stream_model.specs.Expansion.{Inlined, sources_of}
+use Rattle.language_model.specs.Expansion.{Inlined, sources_of}
 use Rattle.composite_expand.specs.Reading.{AreKept}
 use Rattle.composite_expand.proofs.sources.sources_by_port.Given as goal
 

@@ -3,7 +3,7 @@ use Rattle.std.specs.Prelude.{List, Some, None}
 use Rattle.spl_value.specs.declared.value.Value.{Value}
 use Rattle.spl_value.specs.declared.value.Value.TheVariants as V
 use Rattle.spl_tree.specs.declared.code.Taking.TheVariants as K
-use Rattle.stream_model.specs.Changes.{changed, change_of}
+use Rattle.language_model.specs.Changes.{changed, change_of}
 use Rattle.expr_eval.specs.Changing.{IsPlaceIn}
 use Rattle.expr_eval.specs.Running.{Changes}
 use Rattle.expr_eval.proofs.Parts.{not_tuple, member_within, not_list, not_map, keys_rise}

@@ -1,6 +1,6 @@
 use Rattle.std.proofs.Common.{not, sym, ap, ◌∙◌}
 use Rattle.spl_tree.specs.declared.code.BinaryCode.{BinaryCode}
-use Rattle.stream_model.specs.Operators.{boolean, binary_of}
+use Rattle.language_model.specs.Operators.{boolean, binary_of}
 use Rattle.expr_eval.proofs.Operands.{integer_operands, holds_in_128}
 use Rattle.expr_eval.proofs.Operating.{order_gives, equal_is}
 use Rattle.expr_eval.proofs.operators.binary_of.Goals as goal

@@ -1,9 +1,9 @@
 use Rattle.std.proofs.Common.{◌-◌, get_or, take, sym, ap, subst, ◌∙◌, arith}
 use Rattle.spl_value.specs.declared.value.Value.{Value}
 use Rattle.spl_tree.specs.declared.code.UnaryCode.TheVariants.{Not}
-use Rattle.stream_model.specs.Evaluation.{unaries_of}
-use Rattle.stream_model.specs.Operators.{unary_of}
-use Rattle.stream_model.specs.Outcomes.{followed, settled}
+use Rattle.language_model.specs.Evaluation.{unaries_of}
+use Rattle.language_model.specs.Operators.{unary_of}
+use Rattle.language_model.specs.Outcomes.{followed, settled}
 use Rattle.expr_eval.specs.Answers.{held}
 use Rattle.expr_eval.specs.Fitting.{FitsUnary}
 use Rattle.expr_eval.proofs.Unaries.{last_fits, rest_fits, applied}

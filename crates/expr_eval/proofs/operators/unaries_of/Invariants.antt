@@ -1,5 +1,5 @@
 use Rattle.std.proofs.Common.{◌≡◌, ℕ, ◌≤◌, length, take}
-use Rattle.stream_model.specs.Evaluation.{unaries_of}
+use Rattle.language_model.specs.Evaluation.{unaries_of}
 use Rattle.expr_eval.specs.Answers.{held}
 use Rattle.expr_eval.specs.Fitting.{FitsUnaries}
 use Rattle.expr_eval.proofs.operators.unaries_of.Given as goal

@@ -1,6 +1,6 @@
 use Rattle.std.proofs.Common.{sym, subst}
-use Rattle.stream_model.specs.Functions.{bodies_of, runs}
-use Rattle.stream_model.specs.Statements.{row_acts, scoped}
+use Rattle.language_model.specs.Functions.{bodies_of, runs}
+use Rattle.language_model.specs.Statements.{row_acts, scoped}
 use Rattle.expr_eval.specs.Running.{Leads, RanAs, state}
 use Rattle.expr_eval.proofs.Bodies.{ran}
 use Rattle.expr_eval.proofs.run.run_body.Goals as goal

@@ -5,8 +5,8 @@ use Rattle.spl_tree.specs.declared.code.Code.TheVariants as C
 use Rattle.spl_tree.specs.declared.code.Slot.{Slot}
 use Rattle.spl_tree.specs.declared.code.UnaryCode.{UnaryCode}
 use Rattle.spl_tree.specs.declared.code.UnaryCode.TheVariants as U
-use Rattle.stream_model.specs.declared.scope.Scope.{Scope}
-use Rattle.stream_model.specs.CodeFits.{CodeFits, unary, inverts, no_unary, outer}
+use Rattle.language_model.specs.declared.scope.Scope.{Scope}
+use Rattle.language_model.specs.CodeFits.{CodeFits, unary, inverts, no_unary, outer}
 use Rattle.expr_eval.proofs.tests.inverted.Goals as goal
 
 one_more : (scope : Scope) (operators : List UnaryCode) (x y : Code Slot) → operators ≡ U.Not ∷ [] → y ≡ x → CodeFits scope x T.Bool → CodeFits scope (C.Unary operators y) T.Bool

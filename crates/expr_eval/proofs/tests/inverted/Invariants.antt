@@ -1,6 +1,6 @@
 use Rattle.spl_value.specs.declared.types.SplType.TheVariants as T
-use Rattle.stream_model.specs.declared.scope.Scope.{Scope}
-use Rattle.stream_model.specs.CodeFits.{CodeFits}
+use Rattle.language_model.specs.declared.scope.Scope.{Scope}
+use Rattle.language_model.specs.CodeFits.{CodeFits}
 use Rattle.expr_eval.proofs.tests.inverted.Given as goal
 
 abbrev pub invariant-loop : goal.invariant-loop

@@ -11,10 +11,10 @@ use Rattle.spl_tree.specs.declared.code.BinaryCode.TheVariants as D
 use Rattle.spl_tree.specs.declared.code.Code.TheVariants as C
 use Rattle.spl_tree.specs.declared.code.OrderOperator.TheVariants.{Greater}
 use Rattle.spl_tree.specs.declared.code.Slot.TheVariants as L
-use Rattle.stream_model.specs.declared.env.Env.{Env}
-use Rattle.stream_model.specs.declared.scope.Port.{Port}
-use Rattle.stream_model.specs.declared.scope.Scope.{Scope}
-use Rattle.stream_model.specs.CodeFits.{literal, name, binary, attribute, orders_integers}
+use Rattle.language_model.specs.declared.env.Env.{Env}
+use Rattle.language_model.specs.declared.scope.Port.{Port}
+use Rattle.language_model.specs.declared.scope.Scope.{Scope}
+use Rattle.language_model.specs.CodeFits.{literal, name, binary, attribute, orders_integers}
 use Rattle.expr_eval.specs.Fitting.{IsFit}
 use Rattle.expr_eval.proofs.tests.is_above_ten.Goals as goal
 

@@ -4,8 +4,8 @@ use Rattle.spl_value.specs.declared.types.SplType.TheVariants as T
 use Rattle.spl_tree.specs.declared.body.Statement.TheVariants as S
 use Rattle.spl_tree.specs.declared.code.IntegerOperator.TheVariants.{Add}
 use Rattle.spl_tree.specs.declared.code.OrderOperator.TheVariants.{Less}
-use Rattle.stream_model.specs.CodeFits.{integers, orders_integers}
-use Rattle.stream_model.specs.Functions.{function_env}
+use Rattle.language_model.specs.CodeFits.{integers, orders_integers}
+use Rattle.language_model.specs.Functions.{function_env}
 use Rattle.expr_eval.specs.Running.{BodyIsFit}
 use Rattle.expr_eval.proofs.Counter.{counts, named, scope, turn}
 use Rattle.expr_eval.proofs.tests.loop_to_ten.Goals as goal

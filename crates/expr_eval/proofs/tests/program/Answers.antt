@@ -7,13 +7,13 @@ use Rattle.spl_tree.specs.declared.code.Code.TheVariants as C
 use Rattle.spl_tree.specs.declared.body.Function.{Function}
 use Rattle.spl_tree.specs.declared.body.Statement.TheVariants as S
 use Rattle.spl_tree.specs.declared.code.Slot.{Slot}
-use Rattle.stream_model.specs.declared.scope.Scope.{Scope}
-use Rattle.stream_model.specs.declared.scope.Signature.{Signature}
-use Rattle.stream_model.specs.BodyFits as B
-use Rattle.stream_model.specs.BodyFits.{Purpose, OfFunction, RowFits, RowReturns}
-use Rattle.stream_model.specs.CodeFits.{CodeFits, literal, call, no_arguments}
-use Rattle.stream_model.specs.Functions.{function_env}
-use Rattle.stream_model.specs.WorldFits.{FunctionFits, FunctionsFit, body_scope}
+use Rattle.language_model.specs.declared.scope.Scope.{Scope}
+use Rattle.language_model.specs.declared.scope.Signature.{Signature}
+use Rattle.language_model.specs.BodyFits as B
+use Rattle.language_model.specs.BodyFits.{Purpose, OfFunction, RowFits, RowReturns}
+use Rattle.language_model.specs.CodeFits.{CodeFits, literal, call, no_arguments}
+use Rattle.language_model.specs.Functions.{function_env}
+use Rattle.language_model.specs.WorldFits.{FunctionFits, FunctionsFit, body_scope}
 use Rattle.expr_eval.specs.Fitting.{IsFit}
 use Rattle.expr_eval.proofs.tests.program.Goals as goal
 

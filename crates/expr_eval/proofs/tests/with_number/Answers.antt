@@ -3,7 +3,7 @@ use Rattle.spl_value.specs.declared.types.IntKind.TheVariants.{I64}
 use Rattle.spl_value.specs.declared.types.SplType.TheVariants as T
 use Rattle.spl_tree.specs.declared.code.Code.TheVariants as C
 use Rattle.spl_tree.specs.declared.code.Slot.TheVariants as L
-use Rattle.stream_model.specs.CodeFits.{binary, literal, name}
+use Rattle.language_model.specs.CodeFits.{binary, literal, name}
 use Rattle.expr_eval.proofs.tests.with_number.Goals as goal
 
 pub returns : goal.returns

@@ -1,6 +1,6 @@
 use Rattle.std.proofs.Common.{◌≡◌, map, Some, refl, subst, rules}
-use Rattle.stream_model.specs.declared.scope.Variable.{Variable}
-use Rattle.stream_model.specs.CodeFits.{CodeFits}
+use Rattle.language_model.specs.declared.scope.Variable.{Variable}
+use Rattle.language_model.specs.CodeFits.{CodeFits}
 use Rattle.language_tests.specs.Contexts.{returning}
 use Rattle.language_tests.proofs.Steps.{function_fits}
 use Rattle.language_tests.proofs.functions.function.Goals as goal

@@ -1,6 +1,6 @@
 use Rattle.std.proofs.Common.{◌≡◌, ◌+◌, ◌<◌, [], ◌∷◌, length, Some, slice_get, sym, ap, subst, ◌∙◌, arith, length-append}
-use Rattle.stream_model.specs.declared.scope.Signature.{Signature}
-use Rattle.stream_model.specs.WorldFits.{FunctionFits}
+use Rattle.language_model.specs.declared.scope.Signature.{Signature}
+use Rattle.language_model.specs.WorldFits.{FunctionFits}
 use Rattle.language_tests.proofs.Steps.{FitBelow, with_function, all_fit}
 use Rattle.language_tests.proofs.functions.functions.Goals as goal
 

@@ -1,7 +1,7 @@
 use Rattle.std.specs.Prelude.{IsTrue, not}
 use Rattle.std.specs.List.{list_all}
 use Rattle.std.proofs.Common.{◌≡◌, map, take}
-use Rattle.stream_model.specs.declared.scope.Variable.{Variable}
+use Rattle.language_model.specs.declared.scope.Variable.{Variable}
 use Rattle.language_tests.proofs.functions.variables.Given as goal
 
 abbrev pub invariant-loop-at : goal.invariant-loop-at

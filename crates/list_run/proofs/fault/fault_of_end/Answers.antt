@@ -1,6 +1,6 @@
 use Rattle.std.proofs.Common.{◌≡◌, ◌∙◌, ◌<◌, ◌≤◌, true, false, ap, subst, sym, length, slice_get, Some}
-use Rattle.stream_model.specs.CheckedGraph.{CheckedGraph}
-use Rattle.stream_model.specs.Keeping.{Keeps}
+use Rattle.language_model.specs.CheckedGraph.{CheckedGraph}
+use Rattle.language_model.specs.Keeping.{Keeps}
 use Rattle.stream_model.specs.Meaning.{meaning}
 use Rattle.list_run.proofs.Ends.{end_input, end_output, end_of_sink, end_of_read, end_of_unread}
 use Rattle.list_run.proofs.fault.fault_of_end.Goals as goal

@@ -1,6 +1,6 @@
 use Rattle.std.proofs.Common.{◌≡◌, ◌∙◌, ◌<◌, ◌≤◌, true, false, ap, subst, sym, length, slice_get, Some}
-use Rattle.stream_model.specs.CheckedGraph.{CheckedGraph}
-use Rattle.stream_model.specs.Keeping.{Keeps}
+use Rattle.language_model.specs.CheckedGraph.{CheckedGraph}
+use Rattle.language_model.specs.Keeping.{Keeps}
 use Rattle.stream_model.specs.Meaning.{meaning}
 use Rattle.list_run.proofs.Ends.{ends_found, ends_on, ends_over}
 use Rattle.list_run.proofs.fault.fault_of_run.Goals as goal

@@ -1,6 +1,6 @@
 use Rattle.std.proofs.Common.{◌∙◌, ◌<◌, ◌≤◌, ap, subst, sym, length, get_or}
-use Rattle.stream_model.specs.CheckedGraph.{CheckedGraph}
-use Rattle.stream_model.specs.Keeping.{Keeps}
+use Rattle.language_model.specs.CheckedGraph.{CheckedGraph}
+use Rattle.language_model.specs.Keeping.{Keeps}
 use Rattle.list_run.specs.Sinks.{reads_at}
 use Rattle.list_run.proofs.Reading.{read_found, read_on, read_end}
 use Rattle.list_run.proofs.readers.is_read.Goals as goal

@@ -1,7 +1,7 @@
 use Rattle.std.proofs.Common.{List, Err, Ok, [], ap, length, map, subst, sym, ◌∙◌}
-use Rattle.stream_model.specs.LogicTyping.{handler_setting}
-use Rattle.stream_model.specs.declared.scope.Port.{Port}
-use Rattle.stream_model.specs.Typing.{after}
+use Rattle.language_model.specs.LogicTyping.{handler_setting}
+use Rattle.language_model.specs.declared.scope.Port.{Port}
+use Rattle.language_model.specs.Typing.{after}
 use Rattle.type_rules.specs.Finds.{Finds}
 use Rattle.logic_rules.specs.Handling.{handlers_in, made_of, surroundings}
 use Rattle.logic_rules.proofs.HandlersFound.{as_made, found_as, inside}

@@ -2,10 +2,10 @@ use Rattle.std.specs.Prelude.{map, reverse, Some, Ok, Err}
 use Rattle.std.specs.List.{list_any}
 use Rattle.std.specs.Str.{bytes_eq}
 use Rattle.std.proofs.Common.{ap, sym, ◌∙◌}
-use Rattle.stream_model.specs.declared.checked.Given.{Given}
-use Rattle.stream_model.specs.declared.scope.CheckError.TheVariants as E
-use Rattle.stream_model.specs.ParameterTyping.{role_of, value_typing}
-use Rattle.stream_model.specs.Typing.{after, refused}
+use Rattle.language_model.specs.declared.checked.Given.{Given}
+use Rattle.language_model.specs.declared.scope.CheckError.TheVariants as E
+use Rattle.language_model.specs.ParameterTyping.{role_of, value_typing}
+use Rattle.language_model.specs.Typing.{after, refused}
 use Rattle.parameter_rules.specs.Roles.{role_seen}
 use Rattle.parameter_rules.specs.Sites.{site_seen}
 use Rattle.parameter_rules.proofs.Answering.{fails, finds_by, refuses, stops}

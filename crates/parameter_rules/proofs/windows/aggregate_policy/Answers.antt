@@ -1,7 +1,7 @@
 use Rattle.std.specs.Prelude.{Ok, Err}
 use Rattle.std.proofs.Common.{ap, sym, refl, ◌∙◌}
-use Rattle.stream_model.specs.Policies.{aggregate_policy, aggregate_rule, partitioned_or_not}
-use Rattle.stream_model.specs.Typing.{after}
+use Rattle.language_model.specs.Policies.{aggregate_policy, aggregate_rule, partitioned_or_not}
+use Rattle.language_model.specs.Typing.{after}
 use Rattle.parameter_rules.specs.Sites.{numbers_at}
 use Rattle.parameter_rules.proofs.Answering.{fails, finds_by, stops}
 use Rattle.parameter_rules.proofs.windows.aggregate_policy.Goals as goal

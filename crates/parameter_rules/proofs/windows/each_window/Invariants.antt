@@ -1,5 +1,5 @@
 use Rattle.std.proofs.Common.{◌≡◌, drop}
-use Rattle.stream_model.specs.Checking.{each_window}
+use Rattle.language_model.specs.Checking.{each_window}
 use Rattle.type_rules.specs.Finds.{with_front}
 use Rattle.parameter_rules.proofs.windows.each_window.Given as goal
 

@@ -1,6 +1,6 @@
 use Rattle.std.proofs.Common.{◌≡◌, drop}
 use Rattle.std.specs.Str.{bytes_eq}
-use Rattle.stream_model.specs.Scopes.{first_from}
+use Rattle.language_model.specs.Scopes.{first_from}
 use Rattle.parameter_rules.proofs.windows.port_named.Given as goal
 
 abbrev pub invariant-loop-at : goal.invariant-loop-at

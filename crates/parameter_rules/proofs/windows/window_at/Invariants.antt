@@ -1,5 +1,5 @@
 use Rattle.std.proofs.Common.{◌≡◌, drop}
-use Rattle.stream_model.specs.Policies.{window_at}
+use Rattle.language_model.specs.Policies.{window_at}
 use Rattle.parameter_rules.proofs.windows.window_at.Given as goal
 
 abbrev pub invariant-loop-place : goal.invariant-loop-place

@@ -1,11 +1,11 @@
 use Rattle.std.specs.Prelude.{◌≡◌, ℕ, map, reverse, codes, Some, Ok, Err}
 use Rattle.std.specs.Str.{bytes_eq}
 use Rattle.std.proofs.Common.{ap, sym, ◌∙◌}
-use Rattle.stream_model.specs.declared.checked.Policy.{Policy}
-use Rattle.stream_model.specs.declared.scope.CheckError.TheVariants as E
-use Rattle.stream_model.specs.Checking.{policy_of}
-use Rattle.stream_model.specs.Scopes.{at_place, first_from}
-use Rattle.stream_model.specs.Typing.{after}
+use Rattle.language_model.specs.declared.checked.Policy.{Policy}
+use Rattle.language_model.specs.declared.scope.CheckError.TheVariants as E
+use Rattle.language_model.specs.Checking.{policy_of}
+use Rattle.language_model.specs.Scopes.{at_place, first_from}
+use Rattle.language_model.specs.Typing.{after}
 use Rattle.parameter_rules.specs.Sites.{numbers_at}
 use Rattle.parameter_rules.proofs.Answering.{fails, finds_by, refuses, stops}
 use Rattle.parameter_rules.proofs.Windowing.{window_once, window_twice}

@@ -1,8 +1,8 @@
 use Rattle.std.specs.Prelude.{◌≡◌, true, [], Err}
 use Rattle.std.specs.Option.{option_copied}
 use Rattle.std.proofs.Common.{ap, sym, arith, ◌∙◌}
-use Rattle.stream_model.specs.Checking.{each_window, has_windows, policy_of}
-use Rattle.stream_model.specs.Policies.{windows_typing}
+use Rattle.language_model.specs.Checking.{each_window, has_windows, policy_of}
+use Rattle.language_model.specs.Policies.{windows_typing}
 use Rattle.parameter_rules.specs.Sites.{numbers_at}
 use Rattle.parameter_rules.proofs.Answering.{fails, finds_by, goes, stops}
 use Rattle.parameter_rules.proofs.Windowing.{windows_written}

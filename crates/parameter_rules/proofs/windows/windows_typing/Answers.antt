@@ -1,7 +1,7 @@
 use Rattle.std.specs.Prelude.{map, reverse, drop, ◌+◌, Err}
 use Rattle.std.proofs.Common.{ap, sym, ◌∙◌}
-use Rattle.stream_model.specs.Checking.{policy_of}
-use Rattle.stream_model.specs.Policies.{windows_typing}
+use Rattle.language_model.specs.Checking.{policy_of}
+use Rattle.language_model.specs.Policies.{windows_typing}
 use Rattle.type_rules.specs.Finds.{with_front}
 use Rattle.parameter_rules.specs.Sites.{numbers_at}
 use Rattle.parameter_rules.proofs.Answering.{fails, finds_by, row_on, row_stops}

@@ -1,6 +1,6 @@
 use Rattle.std.proofs.Common.{rules, arith, ◌≡◌, ◌<◌, ◌≤◌, List, length, get_or, ap, subst}
 use Rattle.std.proofs.lemmas.List.{take_all}
-use Rattle.stream_model.specs.declared.checked.Part.{Part}
+use Rattle.language_model.specs.declared.checked.Part.{Part}
 use Rattle.spl_driver.proofs.Fetching.{told_twice, quiet_twice, lent_twice}
 use Rattle.spl_driver.proofs.OperatorRows.{rows_on, read_on, other_on, false_true, one_failed, all_sources}
 use Rattle.spl_driver.proofs.sources.read_sources.Goals.{in-Rows+else-is_err, in-Other}

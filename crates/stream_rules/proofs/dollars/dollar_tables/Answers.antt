@@ -1,5 +1,5 @@
 use Rattle.std.proofs.Common.{◌≡◌, ◌∙◌}
-use Rattle.stream_model.specs.Parameters.{constant_scope, dollar_tables, expansion_dollars}
+use Rattle.language_model.specs.Parameters.{constant_scope, dollar_tables, expansion_dollars}
 use Rattle.stream_rules.specs.Tables.{tables_of}
 use Rattle.stream_rules.proofs.TablesGrown.{constants_more, same_if_ok, tables_all, tables_more}
 use Rattle.stream_rules.proofs.dollars.dollar_tables.Goals as goal

@@ -1,5 +1,5 @@
 use Rattle.std.proofs.Common.{◌≡◌, ◌++◌, drop}
-use Rattle.stream_model.specs.Parameters.{dollar_tables, tables_from}
+use Rattle.language_model.specs.Parameters.{dollar_tables, tables_from}
 use Rattle.stream_rules.specs.Tables.{AreConstants, tables_of}
 use Rattle.stream_rules.proofs.dollars.dollar_tables.Given as goal
 

@@ -1,9 +1,9 @@
 use Rattle.std.proofs.Common.{◌≡◌, [], Some, Bor, ap, sym, ◌∙◌}
 use Rattle.std.specs.Option.{option_map_or}
 use Rattle.spl_tree.specs.declared.graph.Site.{Site}
-use Rattle.stream_model.specs.declared.scope.Scope.{Scope}
-use Rattle.stream_model.specs.Parameters.{table_at}
-use Rattle.stream_model.specs.SinkFiles.{composite_of}
+use Rattle.language_model.specs.declared.scope.Scope.{Scope}
+use Rattle.language_model.specs.Parameters.{table_at}
+use Rattle.language_model.specs.SinkFiles.{composite_of}
 use Rattle.body_rules.specs.TypeScopes.{types_in}
 use Rattle.stream_rules.specs.Tables.{tables_of}
 use Rattle.stream_rules.proofs.ExpansionDollars.{dollars_there, means_there, outer_dollars, settled_for}

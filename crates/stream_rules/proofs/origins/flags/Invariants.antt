@@ -1,5 +1,5 @@
 use Rattle.std.proofs.Common.{◌≡◌, ◌<◌, ℕ, List, length}
-use Rattle.stream_model.specs.Leading.{leads_back}
+use Rattle.language_model.specs.Leading.{leads_back}
 use Rattle.stream_rules.specs.Origins.{Steps, flag_at}
 use Rattle.stream_rules.proofs.origins.flags.Given as goal
 

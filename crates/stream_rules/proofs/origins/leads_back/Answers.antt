@@ -1,6 +1,6 @@
 use Rattle.std.proofs.Common.{◌≡◌, ◌-◌, suc, ap, sym, ◌∙◌, arith}
 use Rattle.std.proofs.lemmas.Bool.{ne_eqb}
-use Rattle.stream_model.specs.Leading.{leads}
+use Rattle.language_model.specs.Leading.{leads}
 use Rattle.stream_rules.proofs.StreamLeads.{arrives, ends, goes_on}
 use Rattle.stream_rules.proofs.origins.leads_back.Goals as goal
 

@@ -1,5 +1,5 @@
 use Rattle.std.proofs.Common.{◌≡◌, ℕ, List, length}
-use Rattle.stream_model.specs.Leading.{leads, leads_back}
+use Rattle.language_model.specs.Leading.{leads, leads_back}
 use Rattle.stream_rules.specs.Origins.{Steps}
 use Rattle.stream_rules.proofs.origins.leads_back.Given as goal
 

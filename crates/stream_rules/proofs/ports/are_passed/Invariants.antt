@@ -1,5 +1,5 @@
 use Rattle.std.proofs.Common.{◌≡◌, drop}
-use Rattle.stream_model.specs.Checking.{are_passed}
+use Rattle.language_model.specs.Checking.{are_passed}
 use Rattle.stream_rules.proofs.ports.are_passed.Given as goal
 
 abbrev pub invariant-loop-at : goal.invariant-loop-at

@@ -1,5 +1,5 @@
 use Rattle.std.proofs.Common.{◌≡◌, map, ◌++◌, drop}
-use Rattle.stream_model.specs.Composites.{composites}
+use Rattle.language_model.specs.Composites.{composites}
 use Rattle.stream_rules.proofs.sites.bodies_of.Given as goal
 
 abbrev pub invariant-loop-definition : goal.invariant-loop-definition

@@ -1,5 +1,5 @@
 use Rattle.std.proofs.Common.{take}
-use Rattle.stream_model.specs.TypeNames.{type_definitions}
+use Rattle.language_model.specs.TypeNames.{type_definitions}
 use Rattle.stream_rules.specs.Names.{StandFor, type_names_of}
 use Rattle.stream_rules.proofs.sites.type_names.Given as goal
 

@@ -1,6 +1,6 @@
 use Rattle.std.proofs.Common.{◌≡◌, ◌<◌, ℕ, Some, length}
 use Rattle.std.specs.Prelude.{slice_get}
-use Rattle.stream_model.specs.StreamTypes.{stream_attributes}
+use Rattle.language_model.specs.StreamTypes.{stream_attributes}
 use Rattle.stream_rules.proofs.streams.all_found.Given as goal
 
 abbrev pub invariant-loop-stream : goal.invariant-loop-stream

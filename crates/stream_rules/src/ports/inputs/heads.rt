@@ -1,6 +1,6 @@
 //! What the heads around an operator say of its inputs.
 ghost use Rattle.std.specs.Prelude.{◌≡◌, ◌≤◌, OnOk, IsTrue, length};
-ghost use Rattle.stream_model.specs.StreamTypes.{each_name, input_heads, invoked_input};
+ghost use Rattle.language_model.specs.StreamTypes.{each_name, input_heads, invoked_input};
 ghost use Rattle.type_rules.specs.Finds.{Finds};
 ghost use Rattle.stream_rules.specs.Bodies.{body_seen};
 ghost use Rattle.stream_rules.specs.Looked.{HavePassed, PassesAlso, has_looked, nothing_looked};

@@ -1,5 +1,5 @@
 use Rattle.std.proofs.Common.{arith}
-use Rattle.stream_model.specs.TypingLaws.{parted, call_form}
+use Rattle.language_model.specs.TypingLaws.{parted, call_form}
 use Rattle.type_rules.proofs.Rows.{nil_as}
 use Rattle.type_rules.proofs.forms.+asks.Goals as goal
 

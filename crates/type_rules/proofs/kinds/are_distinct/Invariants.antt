@@ -1,6 +1,6 @@
 use Rattle.std.proofs.Common.{◌≡◌, drop}
-use Rattle.stream_model.specs.Typing.{are_distinct}
-use Rattle.stream_model.specs.TypingLaws.{field_parts}
+use Rattle.language_model.specs.Typing.{are_distinct}
+use Rattle.language_model.specs.TypingLaws.{field_parts}
 use Rattle.type_rules.proofs.kinds.are_distinct.Given as goal
 
 abbrev pub invariant-loop-at : goal.invariant-loop-at

@@ -1,8 +1,8 @@
 use Rattle.std.proofs.Common.{◌≡◌, drop}
 use Rattle.std.specs.Prelude.{is_some}
 use Rattle.std.specs.List.{list_all}
-use Rattle.stream_model.specs.Scopes.{attribute_of}
-use Rattle.stream_model.specs.TypingLaws.{field_parts}
+use Rattle.language_model.specs.Scopes.{attribute_of}
+use Rattle.language_model.specs.TypingLaws.{field_parts}
 use Rattle.type_rules.proofs.kinds.are_known.Given as goal
 
 abbrev pub invariant-loop-field : goal.invariant-loop-field

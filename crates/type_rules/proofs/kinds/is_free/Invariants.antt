@@ -2,7 +2,7 @@ use Rattle.std.proofs.Common.{◌≡◌, drop}
 use Rattle.std.specs.Prelude.{not}
 use Rattle.std.specs.List.{list_all}
 use Rattle.std.specs.Str.{bytes_eq}
-use Rattle.stream_model.specs.TypingLaws.{field_parts}
+use Rattle.language_model.specs.TypingLaws.{field_parts}
 use Rattle.type_rules.proofs.kinds.is_free.Given as goal
 
 abbrev pub invariant-loop-field : goal.invariant-loop-field

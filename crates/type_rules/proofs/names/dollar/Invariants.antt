@@ -1,7 +1,7 @@
 use Rattle.std.proofs.Common.{◌≡◌, drop}
 use Rattle.std.specs.Option.{option_map}
 use Rattle.std.specs.Str.{bytes_eq}
-use Rattle.stream_model.specs.Scopes.{first_from, dollar_of}
+use Rattle.language_model.specs.Scopes.{first_from, dollar_of}
 use Rattle.type_rules.proofs.names.dollar.Given as goal
 
 abbrev pub invariant-loop-at : goal.invariant-loop-at

@@ -1,5 +1,5 @@
 use Rattle.std.proofs.Common.{◌≡◌, ◌≤◌, ◌-◌, length, drop}
-use Rattle.stream_model.specs.Scopes.{attributes_from}
+use Rattle.language_model.specs.Scopes.{attributes_from}
 use Rattle.type_rules.proofs.names.holder.Given as goal
 
 abbrev pub invariant-ports : goal.invariant-ports

@@ -1,6 +1,6 @@
 use Rattle.std.proofs.Common.{◌≡◌, drop}
 use Rattle.std.specs.Str.{bytes_eq}
-use Rattle.stream_model.specs.Scopes.{first_from, port_of}
+use Rattle.language_model.specs.Scopes.{first_from, port_of}
 use Rattle.type_rules.proofs.names.port.Given as goal
 
 abbrev pub invariant-loop-at : goal.invariant-loop-at

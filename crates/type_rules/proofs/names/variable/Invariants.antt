@@ -1,6 +1,6 @@
 use Rattle.std.proofs.Common.{◌≡◌, ◌≤◌, length, take}
 use Rattle.std.specs.Str.{bytes_eq}
-use Rattle.stream_model.specs.Scopes.{last_from, variable_of}
+use Rattle.language_model.specs.Scopes.{last_from, variable_of}
 use Rattle.type_rules.proofs.names.variable.Given as goal
 
 abbrev pub invariant-variables : goal.invariant-variables

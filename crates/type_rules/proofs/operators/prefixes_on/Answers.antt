@@ -1,5 +1,5 @@
 use Rattle.std.proofs.Common.{◌-◌, ◌∙◌, Err, None, Ok, arith, ap, sym, reverse}
-use Rattle.stream_model.specs.declared.scope.CheckError.TheVariants as E
+use Rattle.language_model.specs.declared.scope.CheckError.TheVariants as E
 use Rattle.type_rules.proofs.Prefixes.{prefix_stops}
 use Rattle.type_rules.proofs.operators.prefixes_on.Goals as goal
 

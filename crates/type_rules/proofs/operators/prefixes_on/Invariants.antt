@@ -1,5 +1,5 @@
 use Rattle.std.proofs.Common.{◌≡◌, ◌≤◌, Ok, length, drop, reverse}
-use Rattle.stream_model.specs.Typing.{prefixes_typed}
+use Rattle.language_model.specs.Typing.{prefixes_typed}
 use Rattle.type_rules.proofs.operators.prefixes_on.Given as goal
 
 abbrev pub invariant-prefixes : goal.invariant-prefixes

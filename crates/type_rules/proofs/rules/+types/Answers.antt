@@ -1,7 +1,7 @@
 use Rattle.spl_value.specs.declared.types.SplType.TheViews.{out-SplType}
 use Rattle.std.proofs.Common.{Ok, Some, [], ap, arith, sym, ◌++◌, ◌∙◌, ◌∷◌}
-use Rattle.stream_model.specs.Typing.{after, elements_typed, entries_typed, first_typed, level_first, level_step, typed, typing}
-use Rattle.stream_model.specs.TypingLaws.{entry_parts, parted, parts, step_part}
+use Rattle.language_model.specs.Typing.{after, elements_typed, entries_typed, first_typed, level_first, level_step, typed, typing}
+use Rattle.language_model.specs.TypingLaws.{entry_parts, parted, parts, step_part}
 use Rattle.type_rules.proofs.Exits.{first_done, first_stops, same_operands}
 use Rattle.type_rules.proofs.Loops.{arguments_on, arguments_past, element, elements_row, entries_row, entry, kinds_past, row_on, row_past, taken_on, taken_past}
 use Rattle.type_rules.proofs.Steps.{fails, finds_by, goes}

@@ -1,6 +1,6 @@
 use Rattle.std.proofs.Common.{◌≡◌, ◌+◌, ◌-◌, ◌++◌, Ok, drop, length}
-use Rattle.stream_model.specs.Typing.{after, typed, elements_typed, entries_typed, fields_typed, own_fields, steps_typed, select_typed, selected, arguments_typed}
-use Rattle.stream_model.specs.TypingLaws.{parts, entry_parts, field_parts, step_parts}
+use Rattle.language_model.specs.Typing.{after, typed, elements_typed, entries_typed, fields_typed, own_fields, steps_typed, select_typed, selected, arguments_typed}
+use Rattle.language_model.specs.TypingLaws.{parts, entry_parts, field_parts, step_parts}
 use Rattle.type_rules.specs.Finds.{with_front}
 use Rattle.type_rules.proofs.Weights.{expr_weight, weights, entry_weights, field_weights, step_weight, step_weights}
 use Rattle.type_rules.proofs.rules.+types.Given as goal

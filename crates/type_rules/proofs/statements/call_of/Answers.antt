@@ -1,9 +1,9 @@
 use Rattle.std.proofs.Common.{ap, sym, ◌∙◌}
 use Rattle.spl_tree.specs.declared.expression.ExprKind.TheVariants as V
 use Rattle.spl_tree.specs.declared.expression.ExprKind.TheViews.{out-ExprKind}
-use Rattle.stream_model.specs.Typing.{call_of}
-use Rattle.stream_model.specs.TypingLaws.{parts}
-use Rattle.stream_model.specs.StatementTyping.{call_statement, level_call}
+use Rattle.language_model.specs.Typing.{call_of}
+use Rattle.language_model.specs.TypingLaws.{parts}
+use Rattle.language_model.specs.StatementTyping.{call_statement, level_call}
 use Rattle.type_rules.proofs.Steps.{finds_by}
 use Rattle.type_rules.proofs.statements.call_of.Goals as goal
 

@@ -1,8 +1,8 @@
 use Rattle.std.proofs.Common.{ap, sym, ◌∙◌}
 use Rattle.spl_value.specs.declared.types.SplType.TheVariants as S
 use Rattle.spl_value.specs.declared.types.SplType.TheViews.{out-SplType}
-use Rattle.stream_model.specs.BodyTyping.{level_over}
-use Rattle.stream_model.specs.Typing.{same_types}
+use Rattle.language_model.specs.BodyTyping.{level_over}
+use Rattle.language_model.specs.Typing.{same_types}
 use Rattle.body_rules.proofs.SameKinds.{same_as}
 use Rattle.body_rules.proofs.bodies.parts.goes_over.Goals as goal
 

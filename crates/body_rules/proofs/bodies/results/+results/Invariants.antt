@@ -1,5 +1,5 @@
 use Rattle.std.proofs.Common.{◌≡◌, ◌+◌, drop}
-use Rattle.stream_model.specs.BodyTypingLaws.{all_return}
+use Rattle.language_model.specs.BodyTypingLaws.{all_return}
 use Rattle.body_rules.proofs.Weights.{statement_weight, statement_weights, arm_weights}
 use Rattle.body_rules.proofs.bodies.results.+results.Given as goal
 

@@ -1,5 +1,5 @@
 use Rattle.std.proofs.Common.{Err, ap, sym, subst, ◌∙◌}
-use Rattle.stream_model.specs.BodyTyping.{submitted}
+use Rattle.language_model.specs.BodyTyping.{submitted}
 use Rattle.type_rules.specs.Finds.{IsUnknown}
 use Rattle.body_rules.proofs.Steps.{finds_by}
 use Rattle.body_rules.proofs.Submitting.{no_port, port_by, submits_as, this_port, unknown_is}

@@ -1,5 +1,5 @@
 use Rattle.std.proofs.Common.{◌≡◌, ◌+◌, ◌*◌, drop}
-use Rattle.stream_model.specs.TypeNames.{attributes_type, written_attributes}
+use Rattle.language_model.specs.TypeNames.{attributes_type, written_attributes}
 use Rattle.type_rules.specs.Finds.{with_front}
 use Rattle.body_rules.specs.TypeScopes.{types_in}
 use Rattle.body_rules.proofs.types.finding.+types.Given as goal

@@ -1,6 +1,6 @@
 use Rattle.std.proofs.Common.{ap, sym, ◌∙◌}
-use Rattle.stream_model.specs.TypeNames.{shape_meant}
-use Rattle.stream_model.specs.Typing.{unknown}
+use Rattle.language_model.specs.TypeNames.{shape_meant}
+use Rattle.language_model.specs.Typing.{unknown}
 use Rattle.body_rules.specs.Circles.{told}
 use Rattle.body_rules.specs.TypeScopes.{outside_types}
 use Rattle.body_rules.proofs.Meanings.{has_none, has_shape}

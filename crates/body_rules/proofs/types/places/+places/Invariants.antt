@@ -1,6 +1,6 @@
 use Rattle.std.proofs.Common.{◌≡◌, ◌+◌, ◌*◌, ◌++◌, take}
 use Rattle.std.specs.Prelude.{flat_map}
-use Rattle.stream_model.specs.TypeNames.{type_names}
+use Rattle.language_model.specs.TypeNames.{type_names}
 use Rattle.body_rules.specs.Definitions.{places_of}
 use Rattle.body_rules.proofs.types.places.+places.Given as goal
 

@@ -1,5 +1,5 @@
 use Rattle.std.proofs.Common.{ap, map, ◌∙◌}
-use Rattle.stream_model.specs.TypeNames.{shape_names}
+use Rattle.language_model.specs.TypeNames.{shape_names}
 use Rattle.body_rules.specs.Definitions.{places_of}
 use Rattle.body_rules.proofs.Rows.{all_taken}
 use Rattle.body_rules.proofs.types.places.rows_of.Goals as goal

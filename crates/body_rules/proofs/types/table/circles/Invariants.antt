@@ -1,5 +1,5 @@
 use Rattle.std.proofs.Common.{length}
-use Rattle.stream_model.specs.Leading.{leads_back}
+use Rattle.language_model.specs.Leading.{leads_back}
 use Rattle.body_rules.specs.Circles.{Tells}
 use Rattle.body_rules.specs.Stepping.{steps_from}
 use Rattle.body_rules.proofs.types.table.circles.Given as goal

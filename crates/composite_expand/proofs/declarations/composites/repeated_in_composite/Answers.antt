@@ -1,7 +1,7 @@
 use Rattle.std.proofs.Common.{ap, sym, map, ◌∙◌}
 use Rattle.std.specs.Option.{option_copied}
 use Rattle.std.proofs.lemmas.Result.{IfOk-weaker}
-use Rattle.stream_model.specs.Declarations.{declared_name, first_of, graph_names, is_declared, repeated, repeated_names}
+use Rattle.language_model.specs.Declarations.{declared_name, first_of, graph_names, is_declared, repeated, repeated_names}
 use Rattle.composite_expand.proofs.Firsts.{second_of_three, third_of_three}
 use Rattle.composite_expand.proofs.declarations.composites.repeated_in_composite.Goals as goal
 

@@ -1,7 +1,7 @@
 use Rattle.std.proofs.Common.{◌≡◌, ◌+◌, ◌∷◌, Some, true, false, ap, sym, subst, ◌∙◌, drop, map}
 use Rattle.std.specs.Prelude.{◌||◌}
 use Rattle.std.specs.List.{list_any}
-use Rattle.stream_model.specs.Declarations.{definition_name, first_of, is_built_in, is_defined, is_same, repeated_after}
+use Rattle.language_model.specs.Declarations.{definition_name, first_of, is_built_in, is_defined, is_same, repeated_after}
 use Rattle.composite_expand.specs.NamesBefore.{Has, Hold}
 use Rattle.composite_expand.proofs.DefinitionNames.{same_names}
 use Rattle.composite_expand.proofs.NameRows.{is_taken, not_taken, or_true, passed, stopped}

@@ -1,7 +1,7 @@
 use Rattle.std.proofs.Common.{◌≡◌, drop, map}
 use Rattle.std.specs.Prelude.{List}
 use Rattle.spl_tree.specs.declared.unit.Definition.{Definition}
-use Rattle.stream_model.specs.Declarations.{definition_name, first_of, is_defined, repeated_after, repeated_definitions}
+use Rattle.language_model.specs.Declarations.{definition_name, first_of, is_defined, repeated_after, repeated_definitions}
 use Rattle.composite_expand.specs.NamesBefore.{Hold}
 use Rattle.composite_expand.proofs.declarations.definitions.repeated_definition.Given as goal
 

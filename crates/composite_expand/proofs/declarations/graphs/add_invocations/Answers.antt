@@ -1,5 +1,5 @@
 use Rattle.std.proofs.Common.{sym, map, ◌∙◌}
-use Rattle.stream_model.specs.Declarations.{invocation_names}
+use Rattle.language_model.specs.Declarations.{invocation_names}
 use Rattle.composite_expand.specs.Graphs.{shown}
 use Rattle.composite_expand.proofs.GraphNames.{rows_on, rows_past}
 use Rattle.composite_expand.proofs.declarations.graphs.add_invocations.Goals as goal

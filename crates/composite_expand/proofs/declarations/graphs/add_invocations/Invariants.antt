@@ -1,6 +1,6 @@
 use Rattle.std.proofs.Common.{◌≡◌, ◌++◌, drop, map}
 use Rattle.std.specs.Prelude.{flat_map}
-use Rattle.stream_model.specs.Declarations.{invocation_names}
+use Rattle.language_model.specs.Declarations.{invocation_names}
 use Rattle.composite_expand.specs.Graphs.{shown}
 use Rattle.composite_expand.proofs.declarations.graphs.add_invocations.Given as goal
 

@@ -1,5 +1,5 @@
 use Rattle.std.proofs.Common.{refl, sym, ◌∙◌}
-use Rattle.stream_model.specs.Declarations.{OutputPort}
+use Rattle.language_model.specs.Declarations.{OutputPort}
 use Rattle.composite_expand.proofs.GraphNames.{added_on, added_past}
 use Rattle.composite_expand.proofs.declarations.graphs.add_outputs.Goals as goal
 

@@ -1,5 +1,5 @@
 use Rattle.std.proofs.Common.{◌≡◌, ◌++◌, drop, map}
-use Rattle.stream_model.specs.Declarations.{OutputPort}
+use Rattle.language_model.specs.Declarations.{OutputPort}
 use Rattle.composite_expand.specs.Graphs.{shown}
 use Rattle.composite_expand.proofs.declarations.graphs.add_outputs.Given as goal
 

@@ -1,5 +1,5 @@
 use Rattle.std.proofs.Common.{refl, sym, ◌∙◌}
-use Rattle.stream_model.specs.Declarations.{MadeStream}
+use Rattle.language_model.specs.Declarations.{MadeStream}
 use Rattle.composite_expand.proofs.GraphNames.{added_on, added_past}
 use Rattle.composite_expand.proofs.declarations.graphs.add_streams.Goals as goal
 

@@ -1,5 +1,5 @@
 use Rattle.std.proofs.Common.{◌≡◌, ◌++◌, drop, map}
-use Rattle.stream_model.specs.Declarations.{MadeStream}
+use Rattle.language_model.specs.Declarations.{MadeStream}
 use Rattle.composite_expand.specs.Graphs.{shown}
 use Rattle.composite_expand.proofs.declarations.graphs.add_streams.Given as goal
 

@@ -1,5 +1,5 @@
 use Rattle.std.proofs.Common.{◌≡◌, ◌+◌, ◌∷◌, Some, true, false, ap, sym, ◌∙◌, drop, map}
-use Rattle.stream_model.specs.Declarations.{declared_name, first_of, is_declared, repeated_after}
+use Rattle.language_model.specs.Declarations.{declared_name, first_of, is_declared, repeated_after}
 use Rattle.composite_expand.specs.Graphs.{shown}
 use Rattle.composite_expand.proofs.NameRows.{passed_new, passed_old}
 use Rattle.composite_expand.proofs.Rows.{rest_at}

@@ -1,6 +1,6 @@
 use Rattle.std.proofs.Common.{◌≡◌, drop, map}
 use Rattle.std.specs.Prelude.{List}
-use Rattle.stream_model.specs.Declarations.{Declared, declared_name, first_of, is_declared, repeated, repeated_after}
+use Rattle.language_model.specs.Declarations.{Declared, declared_name, first_of, is_declared, repeated, repeated_after}
 use Rattle.composite_expand.specs.Graphs.{Stand, shown}
 use Rattle.composite_expand.proofs.declarations.graphs.first_repeated_in.Given as goal
 

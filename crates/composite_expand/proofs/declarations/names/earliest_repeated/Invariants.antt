@@ -1,7 +1,7 @@
 use Rattle.std.proofs.Common.{◌≡◌, drop}
 use Rattle.std.specs.Prelude.{List, filter_map}
 use Rattle.std.specs.Option.{option_copied}
-use Rattle.stream_model.specs.Declarations.{Name, repeated_names}
+use Rattle.language_model.specs.Declarations.{Name, repeated_names}
 use Rattle.composite_expand.specs.Earliest.{earliest}
 use Rattle.composite_expand.specs.NamesBefore.{Hold, again}
 use Rattle.composite_expand.proofs.declarations.names.earliest_repeated.Given as goal

@@ -2,7 +2,7 @@ use Rattle.std.proofs.Common.{◌+◌, ap, ◌∙◌, drop}
 use Rattle.std.specs.Prelude.{filter_map}
 use Rattle.std.specs.List.{cons_option}
 use Rattle.std.specs.Option.{option_copied}
-use Rattle.stream_model.specs.Declarations.{first_of}
+use Rattle.language_model.specs.Declarations.{first_of}
 use Rattle.composite_expand.specs.NamesBefore.{again}
 use Rattle.composite_expand.proofs.Rows.{rest_at}
 use Rattle.composite_expand.proofs.declarations.names.first_repeated.Goals as goal

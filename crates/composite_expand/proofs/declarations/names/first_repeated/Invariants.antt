@@ -1,6 +1,6 @@
 use Rattle.std.proofs.Common.{◌≡◌, drop}
 use Rattle.std.specs.Prelude.{List, filter_map}
-use Rattle.stream_model.specs.Declarations.{Name, first_of, repeated_names}
+use Rattle.language_model.specs.Declarations.{Name, first_of, repeated_names}
 use Rattle.composite_expand.specs.NamesBefore.{Hold, again}
 use Rattle.composite_expand.proofs.declarations.names.first_repeated.Given as goal
 

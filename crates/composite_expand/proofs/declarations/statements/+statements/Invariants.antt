@@ -1,7 +1,7 @@
 use Rattle.std.proofs.Common.{◌≡◌, ◌+◌, drop}
 use Rattle.std.specs.Prelude.{flat_map}
 use Rattle.std.specs.Option.{option_copied}
-use Rattle.stream_model.specs.Declarations.{block_sets, statement_scoped}
+use Rattle.language_model.specs.Declarations.{block_sets, statement_scoped}
 use Rattle.composite_expand.specs.Earliest.{earliest_in}
 use Rattle.composite_expand.proofs.SetWeights.{statement_weight, statement_weights, arm_weights}
 use Rattle.composite_expand.proofs.declarations.statements.+statements.Given as goal

@@ -1,6 +1,6 @@
 use Rattle.std.proofs.Common.{ap, arith, ◌∙◌}
 use Rattle.std.specs.Option.{option_copied}
-use Rattle.stream_model.specs.Declarations.{type_sets}
+use Rattle.language_model.specs.Declarations.{type_sets}
 use Rattle.composite_expand.proofs.Rows.{row_on}
 use Rattle.composite_expand.proofs.SetWeights.{kind_weight, attribute_weight, attribute_weights, item_below, tuple_weight}
 use Rattle.composite_expand.proofs.declarations.types.+types.Goals as goal

@@ -1,7 +1,7 @@
 use Rattle.std.proofs.Common.{◌≡◌, ◌+◌, drop}
 use Rattle.std.specs.Prelude.{flat_map}
 use Rattle.std.specs.Option.{option_copied}
-use Rattle.stream_model.specs.Declarations.{type_sets, attribute_sets}
+use Rattle.language_model.specs.Declarations.{type_sets, attribute_sets}
 use Rattle.composite_expand.specs.Earliest.{earliest_in}
 use Rattle.composite_expand.proofs.SetWeights.{type_weight, attribute_weights}
 use Rattle.composite_expand.proofs.declarations.types.+types.Given as goal

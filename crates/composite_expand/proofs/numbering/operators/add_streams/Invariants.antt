@@ -1,5 +1,5 @@
 use Rattle.std.proofs.Common.{◌≡◌, ◌++◌, map}
-use Rattle.stream_model.specs.Numbering.{numbers_from}
+use Rattle.language_model.specs.Numbering.{numbers_from}
 use Rattle.composite_expand.proofs.numbering.operators.add_streams.Given as goal
 
 abbrev pub invariant-loop-port : goal.invariant-loop-port

@@ -1,5 +1,5 @@
 use Rattle.std.proofs.Common.{◌≡◌}
-use Rattle.stream_model.specs.Numbering.{numbers_from}
+use Rattle.language_model.specs.Numbering.{numbers_from}
 use Rattle.composite_expand.proofs.numbering.operators.numbers.Given as goal
 
 abbrev pub invariant-loop-k : goal.invariant-loop-k

@@ -1,5 +1,5 @@
 use Rattle.std.proofs.Common.{◌≡◌, ◌++◌, drop}
-use Rattle.stream_model.specs.Numbering.{streams_from}
+use Rattle.language_model.specs.Numbering.{streams_from}
 use Rattle.composite_expand.proofs.numbering.operators.streams_of.Given as goal
 
 abbrev pub invariant-loop-operation : goal.invariant-loop-operation

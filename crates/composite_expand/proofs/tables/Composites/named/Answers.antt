@@ -1,6 +1,6 @@
 use Rattle.std.proofs.Common.{ap, sym, ◌∙◌}
 use Rattle.std.specs.Option.{option_map}
-use Rattle.stream_model.specs.Scopes.{at_place}
+use Rattle.language_model.specs.Scopes.{at_place}
 use Rattle.composite_expand.specs.Names.{composite_names}
 use Rattle.composite_expand.proofs.Naming.{unnamed, is_named, is_there}
 use Rattle.composite_expand.proofs.tables.Composites.named.Goals as goal

@@ -1,5 +1,5 @@
 use Rattle.std.proofs.Common.{◌≡◌, map, take}
-use Rattle.stream_model.specs.Composites.{composites}
+use Rattle.language_model.specs.Composites.{composites}
 use Rattle.composite_expand.specs.Names.{StandFor, composite_names}
 use Rattle.composite_expand.proofs.tables.Composites.new.Given as goal
 

@@ -1,7 +1,7 @@
 use Rattle.std.proofs.Common.{take, refl, ap, subst, ◌∙◌}
 use Rattle.spl_value.specs.declared.types.SplType.TheVariants as S
-use Rattle.stream_model.specs.BodyFits.{RowFits}
-use Rattle.stream_model.specs.CodeFits.{CodeFits}
+use Rattle.language_model.specs.BodyFits.{RowFits}
+use Rattle.language_model.specs.CodeFits.{CodeFits}
 use Rattle.language_tests.proofs.Building.{leads_start, leads_on, leads_all, arm_more, grown_none, grown_on, grown_by, back, behind_variable, arms_none, blocked, looped, branched, looped_over}
 use Rattle.language_tests.proofs.bodies.build.+build.Goals as goal
 

@@ -1,5 +1,5 @@
 use Rattle.std.proofs.Common.{◌≡◌, ◌*◌, ◌+◌}
-use Rattle.stream_model.specs.BodyFits.{Purpose, ArmsFit}
+use Rattle.language_model.specs.BodyFits.{Purpose, ArmsFit}
 use Rattle.language_tests.specs.Building.{Serves, Grown}
 use Rattle.language_tests.proofs.Building.{Leads}
 use Rattle.language_tests.proofs.bodies.build.+build.Given as goal

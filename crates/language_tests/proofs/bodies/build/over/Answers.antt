@@ -1,5 +1,5 @@
 use Rattle.std.proofs.Common.{refl}
-use Rattle.stream_model.specs.CodeFits.{CodeFits}
+use Rattle.language_model.specs.CodeFits.{CodeFits}
 use Rattle.language_tests.proofs.bodies.build.over.Goals as goal
 
 pub returns : goal.returns

@@ -1,6 +1,6 @@
 use Rattle.std.proofs.Common.{◌≡◌, ◌+◌, take, [], ◌∷◌, ◌++◌, subst, refl, arith}
 use Rattle.std.proofs.lemmas.Grind.{common_steps}
-use Rattle.stream_model.specs.CodeFits.{CodeFits}
+use Rattle.language_model.specs.CodeFits.{CodeFits}
 use Rattle.language_tests.proofs.Building.{arguments_none, argument_more}
 use Rattle.language_tests.proofs.bodies.call.arguments.Goals as goal
 

@@ -1,5 +1,5 @@
 use Rattle.std.proofs.Common.{take}
-use Rattle.stream_model.specs.CodeFits.{ArgumentsFit}
+use Rattle.language_model.specs.CodeFits.{ArgumentsFit}
 use Rattle.language_tests.proofs.bodies.call.arguments.Given as goal
 
 abbrev pub invariant-loop-at : goal.invariant-loop-at

@@ -1,5 +1,5 @@
 use Rattle.std.proofs.Common.{◌≡◌, Some, slice_get, rules}
-use Rattle.stream_model.specs.CodeFits.{ArgumentsFit}
+use Rattle.language_model.specs.CodeFits.{ArgumentsFit}
 use Rattle.language_tests.proofs.Building.{called}
 use Rattle.language_tests.proofs.bodies.call.call.Goals as goal
 

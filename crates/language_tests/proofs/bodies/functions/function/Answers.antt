@@ -1,6 +1,6 @@
 use Rattle.std.proofs.Common.{◌≡◌, map, sym, subst, ◌∙◌, rules}
-use Rattle.stream_model.specs.declared.scope.Variable.{Variable}
-use Rattle.stream_model.specs.BodyFits.{OfFunction, RowReturns}
+use Rattle.language_model.specs.declared.scope.Variable.{Variable}
+use Rattle.language_model.specs.BodyFits.{OfFunction, RowReturns}
 use Rattle.language_tests.proofs.Steps.{lines_fit}
 use Rattle.language_tests.proofs.bodies.functions.function.Goals as goal
 

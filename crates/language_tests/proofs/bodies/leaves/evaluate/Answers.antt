@@ -1,4 +1,4 @@
-use Rattle.stream_model.specs.CodeFits.{CodeFits}
+use Rattle.language_model.specs.CodeFits.{CodeFits}
 use Rattle.language_tests.proofs.Building.{evaluated}
 use Rattle.language_tests.proofs.bodies.leaves.evaluate.Goals as goal
 

@@ -1,5 +1,5 @@
 use Rattle.std.proofs.Common.{◌≡◌, Some, slice_get, rules}
-use Rattle.stream_model.specs.CodeFits.{CodeFits}
+use Rattle.language_model.specs.CodeFits.{CodeFits}
 use Rattle.language_tests.proofs.Building.{stands_fits}
 use Rattle.language_tests.proofs.bodies.places.place_of.Goals as goal
 

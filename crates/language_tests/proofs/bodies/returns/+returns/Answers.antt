@@ -1,6 +1,6 @@
 use Rattle.std.proofs.Common.{◌≡◌, ◌+◌, take, [], ◌∷◌, ◌++◌, sym, subst, arith}
 use Rattle.std.proofs.lemmas.Grind.{common_steps}
-use Rattle.stream_model.specs.BodyFits.{RowReturns, Returns, ArmsReturn}
+use Rattle.language_model.specs.BodyFits.{RowReturns, Returns, ArmsReturn}
 use Rattle.language_tests.proofs.Building.{row_ends, arm_ends}
 use Rattle.language_tests.proofs.bodies.returns.+returns.Goals as goal
 

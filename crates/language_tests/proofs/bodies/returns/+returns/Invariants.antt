@@ -1,6 +1,6 @@
 use Rattle.std.proofs.Common.{◌+◌, ◌*◌, take}
 use Rattle.std.specs.Prelude.{IsTrue}
-use Rattle.stream_model.specs.BodyFits.{RowReturns, ArmsReturn}
+use Rattle.language_model.specs.BodyFits.{RowReturns, ArmsReturn}
 use Rattle.language_tests.proofs.bodies.returns.+returns.Given as goal
 
 -- each statement that is entered takes one of the room, so that the room falls

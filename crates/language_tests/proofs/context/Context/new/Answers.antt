@@ -1,5 +1,5 @@
 use Rattle.std.proofs.Common.{sym, subst}
-use Rattle.stream_model.specs.WorldFits.{FunctionsFit}
+use Rattle.language_model.specs.WorldFits.{FunctionsFit}
 use Rattle.language_tests.proofs.context.Context.new.Goals as goal
 
 pub calling-requires : goal.calling-requires

@@ -1,4 +1,4 @@
-use Rattle.stream_model.specs.CodeFits.{CodeFits}
+use Rattle.language_model.specs.CodeFits.{CodeFits}
 use Rattle.language_tests.proofs.Steps.{value_fits}
 use Rattle.language_tests.proofs.context.Context.valued.Goals as goal
 

@@ -1,6 +1,6 @@
 use Rattle.std.proofs.Common.{ap, arith, sym, ◌∙◌, ◌≡◌, ◌++◌, ◌∷◌, [], None}
 use Rattle.spl_tree.specs.declared.unit.HandledEvent.TheVariants as H
-use Rattle.stream_model.specs.LogicTyping.{handlers_on}
+use Rattle.language_model.specs.LogicTyping.{handlers_on}
 use Rattle.logic_rules.proofs.ByPorts.{none_each, none_more}
 use Rattle.logic_rules.proofs.logic.by_ports.without_handlers.Goals as goal
 

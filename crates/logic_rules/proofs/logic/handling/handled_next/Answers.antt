@@ -1,8 +1,8 @@
 use Rattle.std.proofs.Common.{Err, Some, ap, subst, sym, ◌∙◌}
 use Rattle.std.specs.Str.{bytes_eq}
-use Rattle.stream_model.specs.BodyTyping.{body_typing}
-use Rattle.stream_model.specs.Scopes.{at_place, first_from}
-use Rattle.stream_model.specs.Typing.{after}
+use Rattle.language_model.specs.BodyTyping.{body_typing}
+use Rattle.language_model.specs.Scopes.{at_place, first_from}
+use Rattle.language_model.specs.Typing.{after}
 use Rattle.body_rules.specs.Settings.{setting_meant}
 use Rattle.type_rules.specs.Finds.{Finds}
 use Rattle.logic_rules.specs.Handling.{seen_scope}

@@ -1,6 +1,6 @@
 use Rattle.std.proofs.Common.{Err, ap, subst, sym, ◌∙◌}
 use Rattle.std.specs.Str.{bytes_eq}
-use Rattle.stream_model.specs.Scopes.{first_from}
+use Rattle.language_model.specs.Scopes.{first_from}
 use Rattle.body_rules.specs.Settings.{setting_meant}
 use Rattle.type_rules.specs.Finds.{Finds}
 use Rattle.logic_rules.specs.Handling.{handled_in}

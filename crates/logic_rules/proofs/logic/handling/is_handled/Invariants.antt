@@ -1,6 +1,6 @@
 use Rattle.std.proofs.Common.{◌≡◌, drop}
 use Rattle.std.specs.Prelude.{is_some}
-use Rattle.stream_model.specs.LogicTyping.{handler_of}
+use Rattle.language_model.specs.LogicTyping.{handler_of}
 use Rattle.logic_rules.proofs.logic.handling.is_handled.Given as goal
 
 abbrev pub invariant-loop-before : goal.invariant-loop-before

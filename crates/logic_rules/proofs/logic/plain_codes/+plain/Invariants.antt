@@ -1,7 +1,7 @@
 use Rattle.std.proofs.Common.{◌≡◌, ◌+◌, drop}
 use Rattle.std.specs.Prelude.{◌&&◌}
 use Rattle.std.specs.List.{list_all}
-use Rattle.stream_model.specs.LogicTyping.{is_plain}
+use Rattle.language_model.specs.LogicTyping.{is_plain}
 use Rattle.logic_rules.proofs.CodeWeights.{weight, weights, entry_weights, field_weights}
 use Rattle.logic_rules.proofs.logic.plain_codes.+plain.Given as goal
 

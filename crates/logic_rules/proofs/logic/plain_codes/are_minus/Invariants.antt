@@ -1,6 +1,6 @@
 use Rattle.std.proofs.Common.{◌≡◌, drop}
 use Rattle.std.specs.List.{list_all}
-use Rattle.stream_model.specs.LogicTyping.{is_minus}
+use Rattle.language_model.specs.LogicTyping.{is_minus}
 use Rattle.logic_rules.proofs.logic.plain_codes.are_minus.Given as goal
 
 abbrev pub invariant-loop-operator : goal.invariant-loop-operator

@@ -1,5 +1,5 @@
 use Rattle.std.proofs.Common.{◌∙◌}
-use Rattle.stream_model.specs.LogicTyping.{state_typing, state_variable}
+use Rattle.language_model.specs.LogicTyping.{state_typing, state_variable}
 use Rattle.body_rules.specs.TypeScopes.{types_in}
 use Rattle.logic_rules.proofs.FoundRows.{row_on, row_stops}
 use Rattle.logic_rules.proofs.StateTyping.{state_row}

@@ -1,5 +1,5 @@
 use Rattle.std.proofs.Common.{◌≡◌, drop}
-use Rattle.stream_model.specs.LogicTyping.{state_typing}
+use Rattle.language_model.specs.LogicTyping.{state_typing}
 use Rattle.body_rules.specs.TypeScopes.{types_in}
 use Rattle.type_rules.specs.Finds.{with_front}
 use Rattle.logic_rules.proofs.logic.state.state_of.Given as goal

@@ -1,9 +1,9 @@
 use Rattle.std.proofs.Common.{◌≡◌, Err, Ok, Some, false, true, ap, subst, sym, ◌∙◌}
 use Rattle.std.specs.Option.{option_copied}
-use Rattle.stream_model.specs.declared.scope.Scope.{Scope}
-use Rattle.stream_model.specs.LogicTyping.{is_state_value, state_value}
-use Rattle.stream_model.specs.Parameters.{constant_scope}
-use Rattle.stream_model.specs.Typing.{after, typing}
+use Rattle.language_model.specs.declared.scope.Scope.{Scope}
+use Rattle.language_model.specs.LogicTyping.{is_state_value, state_value}
+use Rattle.language_model.specs.Parameters.{constant_scope}
+use Rattle.language_model.specs.Typing.{after, typing}
 use Rattle.type_rules.specs.Finds.{Finds}
 use Rattle.logic_rules.proofs.StateTyping.{value_refused, value_typed}
 use Rattle.logic_rules.proofs.Steps.{fails, finds_by, stops}

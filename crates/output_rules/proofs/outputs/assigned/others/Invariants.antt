@@ -1,5 +1,5 @@
 use Rattle.std.proofs.Common.{◌≡◌, drop}
-use Rattle.stream_model.specs.OutputTyping.{filled_from, with_others}
+use Rattle.language_model.specs.OutputTyping.{filled_from, with_others}
 use Rattle.type_rules.specs.Finds.{with_front}
 use Rattle.output_rules.proofs.outputs.assigned.others.Given as goal
 

@@ -1,5 +1,5 @@
 use Rattle.std.proofs.Common.{◌≡◌, drop}
-use Rattle.stream_model.specs.OutputTyping.{places_typing}
+use Rattle.language_model.specs.OutputTyping.{places_typing}
 use Rattle.type_rules.specs.Finds.{with_front}
 use Rattle.output_rules.proofs.outputs.unions.places_by.Given as goal
 

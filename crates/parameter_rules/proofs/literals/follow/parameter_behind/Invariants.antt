@@ -1,5 +1,5 @@
 use Rattle.std.proofs.Common.{◌≡◌, length}
-use Rattle.stream_model.specs.Literals.{parameter_behind}
+use Rattle.language_model.specs.Literals.{parameter_behind}
 use Rattle.parameter_rules.proofs.literals.follow.parameter_behind.Given as goal
 
 abbrev pub invariant-defaults : goal.invariant-defaults

@@ -1,5 +1,5 @@
 use Rattle.std.proofs.Common.{◌≡◌, drop}
-use Rattle.stream_model.specs.SinkFiles.{value_named}
+use Rattle.language_model.specs.SinkFiles.{value_named}
 use Rattle.parameter_rules.proofs.literals.follow.value_of.Given as goal
 
 abbrev pub invariant-loop-parameter : goal.invariant-loop-parameter

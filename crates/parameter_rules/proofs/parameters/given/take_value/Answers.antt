@@ -1,7 +1,7 @@
 use Rattle.std.specs.Prelude.{◌≡◌, Some, slice_get}
 use Rattle.std.specs.Option.{option_map}
 use Rattle.std.proofs.Common.{ap, sym, ◌∙◌}
-use Rattle.stream_model.specs.ParameterTyping.{value_given}
+use Rattle.language_model.specs.ParameterTyping.{value_given}
 use Rattle.parameter_rules.proofs.Taking.{keeps_others}
 use Rattle.parameter_rules.proofs.parameters.given.take_value.Goals as goal
 

@@ -1,5 +1,5 @@
 use Rattle.std.proofs.Common.{◌≡◌, drop}
-use Rattle.stream_model.specs.ParameterTyping.{value_given}
+use Rattle.language_model.specs.ParameterTyping.{value_given}
 use Rattle.parameter_rules.proofs.parameters.given.value_given.Given as goal
 
 abbrev pub invariant-loop-parameter : goal.invariant-loop-parameter

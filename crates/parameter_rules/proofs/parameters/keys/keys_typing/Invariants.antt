@@ -1,5 +1,5 @@
 use Rattle.std.proofs.Common.{◌≡◌, reverse, drop, []}
-use Rattle.stream_model.specs.ParameterTyping.{keys_typing}
+use Rattle.language_model.specs.ParameterTyping.{keys_typing}
 use Rattle.type_rules.specs.Finds.{with_front}
 use Rattle.parameter_rules.proofs.parameters.keys.keys_typing.Given as goal
 

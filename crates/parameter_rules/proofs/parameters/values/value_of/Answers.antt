@@ -1,5 +1,5 @@
 use Rattle.std.proofs.Common.{ap, sym, ◌∙◌}
-use Rattle.stream_model.specs.ParameterTyping.{one_value, single_value}
+use Rattle.language_model.specs.ParameterTyping.{one_value, single_value}
 use Rattle.parameter_rules.specs.Roles.{role_seen}
 use Rattle.parameter_rules.specs.Sites.{site_seen}
 use Rattle.parameter_rules.proofs.Answering.{finds_by}

@@ -1,4 +1,4 @@
-use Rattle.stream_model.specs.Policies.{bad_window}
+use Rattle.language_model.specs.Policies.{bad_window}
 use Rattle.parameter_rules.specs.Sites.{numbers_at}
 use Rattle.parameter_rules.proofs.Answering.{fails, stops}
 use Rattle.parameter_rules.proofs.Windowing.{measure_or, measured_by}

@@ -1,6 +1,6 @@
 use Rattle.std.proofs.Common.{◌≡◌, ap, ◌∙◌, is_some}
-use Rattle.stream_model.specs.Invoking.{is_among}
-use Rattle.stream_model.specs.TypeNames.{definition_of, type_definitions}
+use Rattle.language_model.specs.Invoking.{is_among}
+use Rattle.language_model.specs.TypeNames.{definition_of, type_definitions}
 use Rattle.stream_rules.specs.Names.{type_names_of}
 use Rattle.stream_rules.proofs.BodyTypes.{defined_among, type_here, type_outside}
 use Rattle.stream_rules.proofs.bodies.Body.has_type.Goals as goal

@@ -1,7 +1,7 @@
 use Rattle.std.proofs.Common.{◌≡◌, ◌+◌, drop}
 use Rattle.std.specs.Prelude.{◌&&◌}
 use Rattle.std.specs.List.{list_all}
-use Rattle.stream_model.specs.Parameters.{is_constant}
+use Rattle.language_model.specs.Parameters.{is_constant}
 use Rattle.stream_rules.proofs.ExprWeights.{expr_weight, weights, entry_weights, field_weights}
 use Rattle.stream_rules.proofs.dollars.constants.+constants.Given as goal
 

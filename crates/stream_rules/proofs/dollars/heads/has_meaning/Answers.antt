@@ -1,5 +1,5 @@
 use Rattle.std.proofs.Common.{◌≡◌, ℕ, List, Some, ap, sym, subst, ◌∙◌}
-use Rattle.stream_model.specs.Parameters.{parameter_place}
+use Rattle.language_model.specs.Parameters.{parameter_place}
 use Rattle.body_rules.specs.Stepping.{LeadsWithin}
 use Rattle.stream_rules.proofs.Leading.{meaning_of_first, rows_within}
 use Rattle.stream_rules.proofs.dollars.heads.has_meaning.Goals as goal

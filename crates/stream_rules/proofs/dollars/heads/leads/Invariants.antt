@@ -1,6 +1,6 @@
 use Rattle.std.proofs.Common.{◌≡◌, ◌++◌, drop, map}
 use Rattle.stream_rules.specs.Heads.{rows_of}
-use Rattle.stream_model.specs.Parameters.{default_leads}
+use Rattle.language_model.specs.Parameters.{default_leads}
 use Rattle.stream_rules.proofs.dollars.heads.leads.Given as goal
 
 abbrev pub invariant-loop-parameter : goal.invariant-loop-parameter

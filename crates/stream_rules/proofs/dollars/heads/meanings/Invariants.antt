@@ -1,5 +1,5 @@
 use Rattle.std.proofs.Common.{◌≡◌, ◌++◌, drop}
-use Rattle.stream_model.specs.Parameters.{has_meaning}
+use Rattle.language_model.specs.Parameters.{has_meaning}
 use Rattle.stream_rules.specs.Heads.{passes_from}
 use Rattle.stream_rules.proofs.dollars.heads.meanings.Given as goal
 

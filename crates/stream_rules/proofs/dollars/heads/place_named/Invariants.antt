@@ -1,8 +1,8 @@
 use Rattle.std.proofs.Common.{◌≡◌, drop}
 use Rattle.std.specs.Option.{option_map}
 use Rattle.std.specs.Str.{bytes_eq}
-use Rattle.stream_model.specs.Parameters.{parameter_place}
-use Rattle.stream_model.specs.Scopes.{first_from}
+use Rattle.language_model.specs.Parameters.{parameter_place}
+use Rattle.language_model.specs.Scopes.{first_from}
 use Rattle.stream_rules.proofs.dollars.heads.place_named.Given as goal
 
 abbrev pub invariant-loop-at : goal.invariant-loop-at

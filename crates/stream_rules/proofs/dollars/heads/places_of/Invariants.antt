@@ -1,5 +1,5 @@
 use Rattle.std.proofs.Common.{◌≡◌, ◌++◌, drop, filter_map}
-use Rattle.stream_model.specs.Parameters.{parameter_place}
+use Rattle.language_model.specs.Parameters.{parameter_place}
 use Rattle.stream_rules.specs.Mentioned.{names_seen}
 use Rattle.stream_rules.proofs.dollars.heads.places_of.Given as goal
 

@@ -1,5 +1,5 @@
 use Rattle.std.proofs.Common.{◌≡◌, drop}
-use Rattle.stream_model.specs.SinkFiles.{value_named}
+use Rattle.language_model.specs.SinkFiles.{value_named}
 use Rattle.stream_rules.proofs.dollars.heads.value_named.Given as goal
 
 abbrev pub invariant-loop-argument : goal.invariant-loop-argument

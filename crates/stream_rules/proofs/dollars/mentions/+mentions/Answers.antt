@@ -1,5 +1,5 @@
 use Rattle.std.proofs.Common.{◌∙◌, ◌++◌, ap, sym, arith, flat_map}
-use Rattle.stream_model.specs.DollarLaws.{dollars_in}
+use Rattle.language_model.specs.DollarLaws.{dollars_in}
 use Rattle.stream_rules.specs.Mentioned.{step_dollars}
 use Rattle.stream_rules.proofs.Adding.{adds_behind, both_behind}
 use Rattle.stream_rules.proofs.DollarLaws.{form_dollars, of_select, of_binary, of_conditional}

@@ -1,5 +1,5 @@
 use Rattle.std.proofs.Common.{◌≡◌, ◌+◌, ◌++◌, flat_map, take}
-use Rattle.stream_model.specs.DollarLaws.{dollars_in}
+use Rattle.language_model.specs.DollarLaws.{dollars_in}
 use Rattle.stream_rules.specs.Mentioned.{names_seen, entry_dollars, field_dollars, step_dollars}
 use Rattle.stream_rules.proofs.ExprWeights.{expr_weight, weights, entry_weights, field_weights, step_weights}
 use Rattle.stream_rules.proofs.dollars.mentions.+mentions.Given as goal

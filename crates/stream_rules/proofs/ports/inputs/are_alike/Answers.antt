@@ -1,9 +1,9 @@
 use Rattle.std.proofs.Common.{◌≡◌, Err, List, ℕ, refl, ap, sym, ◌∙◌, take, drop, flat_map}
 use Rattle.std.proofs.lemmas.List.{take_rest}
 use Rattle.spl_tree.specs.declared.expression.Placed.{Placed}
-use Rattle.stream_model.specs.Expansion.{place_of}
-use Rattle.stream_model.specs.Invoking.{stream_names}
-use Rattle.stream_model.specs.StreamTypes.{are_alike, so_often, taken_by}
+use Rattle.language_model.specs.Expansion.{place_of}
+use Rattle.language_model.specs.Invoking.{stream_names}
+use Rattle.language_model.specs.StreamTypes.{are_alike, so_often, taken_by}
 use Rattle.stream_rules.specs.Among.{graph_of, unit_of}
 use Rattle.stream_rules.specs.Bodies.{body_seen}
 use Rattle.stream_rules.proofs.AlikeStreams.{long_enough, name_on, name_stops}

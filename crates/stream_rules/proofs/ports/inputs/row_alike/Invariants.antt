@@ -1,5 +1,5 @@
 use Rattle.std.proofs.Common.{◌≡◌, drop, length}
-use Rattle.stream_model.specs.StreamTypes.{are_alike, so_often}
+use Rattle.language_model.specs.StreamTypes.{are_alike, so_often}
 use Rattle.stream_rules.specs.Among.{graph_of, unit_of}
 use Rattle.stream_rules.proofs.ports.inputs.row_alike.Given as goal
 

@@ -1,5 +1,5 @@
 use Rattle.std.proofs.Common.{◌≡◌, drop}
-use Rattle.stream_model.specs.StreamTypes.{outputs_attributes}
+use Rattle.language_model.specs.StreamTypes.{outputs_attributes}
 use Rattle.type_rules.specs.Finds.{with_front}
 use Rattle.stream_rules.specs.Among.{graph_of, unit_of}
 use Rattle.stream_rules.specs.Bodies.{body_seen}

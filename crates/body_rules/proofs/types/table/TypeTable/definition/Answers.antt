@@ -1,7 +1,7 @@
 use Rattle.std.proofs.Common.{ap, sym, ◌∙◌}
 use Rattle.std.specs.List.{slice_get}
 use Rattle.std.specs.Option.{option_map}
-use Rattle.stream_model.specs.Scopes.{at_place}
+use Rattle.language_model.specs.Scopes.{at_place}
 use Rattle.body_rules.proofs.Circles.{has_flag, told_is}
 use Rattle.body_rules.proofs.types.table.TypeTable.definition.Goals as goal
 

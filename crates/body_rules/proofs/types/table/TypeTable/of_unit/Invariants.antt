@@ -1,5 +1,5 @@
 use Rattle.std.proofs.Common.{◌≡◌, map, take}
-use Rattle.stream_model.specs.TypeNames.{type_definitions}
+use Rattle.language_model.specs.TypeNames.{type_definitions}
 use Rattle.body_rules.proofs.types.table.TypeTable.of_unit.Given as goal
 
 abbrev pub invariant-loop-definition : goal.invariant-loop-definition

@@ -1,7 +1,7 @@
 use Rattle.std.proofs.Common.{◌∷◌, ap, sym, subst, ◌∙◌}
 use Rattle.std.specs.Prelude.{not}
 use Rattle.std.proofs.lemmas.Result.{IfOk-weaker}
-use Rattle.stream_model.specs.Declarations.{is_declared}
+use Rattle.language_model.specs.Declarations.{is_declared}
 use Rattle.composite_expand.specs.Graphs.{Stand, shown, others_of}
 use Rattle.composite_expand.proofs.GraphNames.{declared_output, declared_input, declared_stream, declared_alias}
 use Rattle.composite_expand.proofs.declarations.graphs.GraphNamesBefore.add.Goals as goal

@@ -1,5 +1,5 @@
 use Rattle.std.proofs.Common.{◌≡◌, ◌++◌, map}
-use Rattle.stream_model.specs.Numbering.{numbers_from}
+use Rattle.language_model.specs.Numbering.{numbers_from}
 use Rattle.composite_expand.specs.Describes.{Describes}
 use Rattle.composite_expand.specs.SiteTable.{Parts, stream_there}
 use Rattle.composite_expand.proofs.numbering.standing.Standing.add_outputs.Given as goal

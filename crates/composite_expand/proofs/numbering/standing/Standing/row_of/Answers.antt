@@ -1,5 +1,5 @@
 use Rattle.std.proofs.Common.{◌∙◌}
-use Rattle.stream_model.specs.Numbering.{site_at}
+use Rattle.language_model.specs.Numbering.{site_at}
 use Rattle.composite_expand.specs.SiteTable.{stream_there}
 use Rattle.composite_expand.proofs.Numbers.{outputs_step}
 use Rattle.composite_expand.proofs.numbering.standing.Standing.row_of.Goals as goal

@@ -1,5 +1,5 @@
 use Rattle.std.proofs.Common.{◌≡◌, ◌++◌, map, drop}
-use Rattle.stream_model.specs.Numbering.{outputs_from, site_at}
+use Rattle.language_model.specs.Numbering.{outputs_from, site_at}
 use Rattle.composite_expand.specs.Describes.{Describes}
 use Rattle.composite_expand.specs.SiteTable.{Parts, stream_there, row_of}
 use Rattle.composite_expand.proofs.numbering.standing.Standing.row_of.Given as goal

@@ -1,6 +1,6 @@
 use Rattle.std.specs.Prelude.{◌-◌}
 use Rattle.std.proofs.Common.{ap, ◌∙◌}
-use Rattle.stream_model.specs.Literals.{Outside}
+use Rattle.language_model.specs.Literals.{Outside}
 use Rattle.parameter_rules.proofs.Following.{follow_step, outside}
 use Rattle.parameter_rules.proofs.literals.follow.Follow.behind.Goals as goal
 

@@ -1,5 +1,5 @@
 use Rattle.std.proofs.Common.{◌≡◌, length}
-use Rattle.stream_model.specs.Literals.{followed_within}
+use Rattle.language_model.specs.Literals.{followed_within}
 use Rattle.parameter_rules.proofs.literals.follow.Follow.behind.Given as goal
 
 abbrev pub invariant-expansions : goal.invariant-expansions

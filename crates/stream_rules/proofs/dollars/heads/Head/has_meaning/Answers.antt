@@ -1,7 +1,7 @@
 use Rattle.std.proofs.Common.{ap, sym, ◌∙◌}
 use Rattle.std.specs.Prelude.{false}
 use Rattle.std.specs.Option.{option_copied, option_map_or}
-use Rattle.stream_model.specs.Parameters.{has_meaning}
+use Rattle.language_model.specs.Parameters.{has_meaning}
 use Rattle.stream_rules.proofs.Passing.{passes_read}
 use Rattle.stream_rules.proofs.dollars.heads.Head.has_meaning.Goals as goal
 

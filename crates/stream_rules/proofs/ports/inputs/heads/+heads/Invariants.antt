@@ -1,5 +1,5 @@
 use Rattle.std.proofs.Common.{◌≡◌, ◌+◌, ◌*◌, drop}
-use Rattle.stream_model.specs.StreamTypes.{each_name, input_heads}
+use Rattle.language_model.specs.StreamTypes.{each_name, input_heads}
 use Rattle.stream_rules.specs.Among.{graph_of, unit_of}
 use Rattle.stream_rules.specs.Bodies.{body_seen}
 use Rattle.stream_rules.specs.Looked.{HavePassed}

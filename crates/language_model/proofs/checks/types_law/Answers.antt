@@ -1,0 +1,5 @@
+use Rattle.language_model.specs.DefinedTypes.{names_law}
+use Rattle.language_model.proofs.checks.types_law.Goals as goal
+
+pub returns : goal.returns
+returns c = record { names = names_law }

@@ -1,0 +1,192 @@
+-- The operators and expansions that remain of a unit once each invocation of a composite has given way to its body, or the first
+-- refusal, invocation by invocation.
+use Rattle.std.specs.Prelude.{ℕ, zero, suc, ◌^◌, ◌==◌, nat_lt, nat_le, Bool, ◌&&◌, List, [], ◌∷◌, ◌++◌, map, flat_map, length, sum_by, if◌then◌else◌, codes, Option, Some, None, slice_get, Result, Ok, Err}
+use Rattle.std.specs.Option.{option_map, option_map_or}
+use Rattle.std.specs.Str.{bytes_eq}
+use Rattle.spl_tree.specs.declared.expression.Placed.{Placed}
+use Rattle.spl_tree.specs.declared.graph.OpKind.{OpKind}
+use Rattle.spl_tree.specs.declared.graph.Site.{Site}
+use Rattle.spl_tree.specs.declared.unit.Composite.{Composite}
+use Rattle.spl_tree.specs.declared.unit.Definition.{Definition}
+use Rattle.spl_tree.specs.declared.unit.Invocation.{Invocation}
+use Rattle.spl_tree.specs.declared.unit.OutputStream.{OutputStream}
+use Rattle.spl_tree.specs.Grammar.{placed}
+use Rattle.language_model.specs.declared.expansion.ExpansionRefusal.{ExpansionRefusal}
+use Rattle.language_model.specs.declared.expansion.ExpansionRefusal.TheVariants as R
+use Rattle.language_model.specs.declared.expansion.Operation.{Operation}
+use Rattle.language_model.specs.declared.expansion.Source.{Source}
+use Rattle.language_model.specs.Composites.{composites}
+use Rattle.language_model.specs.Declarations.{first_of}
+use Rattle.language_model.specs.Invoking.{Target, Operator, Body, Nothing, target_of, undeclared, fits_head, stream_names, input_names}
+use Rattle.language_model.specs.Scopes.{At, first_from}
+
+-- ---- what is made
+
+abbrev pub source : ℕ → ℕ → Source
+source expansion place = record { expansion = expansion; place = place }
+
+-- the body of a composite, and where it is invoked; the main one isn't
+pub record Inlined : Type 0 where
+  pub composite : At Composite
+  pub site : Option Site
+
+pub record Made : Type 0 where
+  pub ops : List Operation
+  pub expansions : List Inlined
+
+abbrev pub Found : Type 0 → Type 0
+Found A = Result A ExpansionRefusal
+
+abbrev pub after : {A B : Type 0} → Found A → (A → Found B) → Found B
+after (Ok x) f = f x
+after (Err refusal) f = Err refusal
+
+-- ---- names
+
+-- the body that is being expanded: its number among the expansions, and what stands in front of each name in it
+pub record Opened : Type 0 where
+  pub number : ℕ
+  pub prefix : List ℕ
+  pub body : Inlined
+
+abbrev pub first_output : List OutputStream → List ℕ
+first_output [] = []
+first_output (o ∷ os) = o.name.what
+
+-- the alias or else the first output stream
+abbrev pub invocation_name : Invocation → List ℕ
+invocation_name i = option_map_or (λ n. n.what) i.alias (first_output i.outputs)
+
+-- the first output stream or else the alias
+abbrev pub label_of : Invocation → List OutputStream → List ℕ
+label_of i [] = invocation_name i
+label_of i (o ∷ os) = o.name.what
+
+-- the place of a name in a list
+abbrev pub place_of : List ℕ → List (List ℕ) → Option ℕ
+place_of name names = option_map (λ n. n.place) (first_from (λ n. bytes_eq n name) 0 names)
+
+-- the names of an input port of the invocation at a site
+abbrev pub names_of_port : ℕ → Invocation → List (Placed (List ℕ))
+names_of_port k i = option_map_or (λ q. q.streams) (slice_get i.inputs k) []
+
+abbrev pub port_names : List Inlined → Site → ℕ → List (Placed (List ℕ))
+port_names es s k = option_map_or (λ e. option_map_or (names_of_port k) (slice_get e.composite.what.graph s.invocation) []) (slice_get es s.expansion) []
+
+-- what an input of a head takes: what the names of that port do where the composite is invoked
+abbrev pub input_sources : (ℕ → List ℕ → List Source) → List Inlined → Option Site → ℕ → List Source
+input_sources outside es None k = []
+input_sources outside es (Some s) k = flat_map (λ n. outside s.expansion n.what) (port_names es s k)
+
+-- what a name takes: the stream that the graph makes, or else what the input of that name does
+abbrev pub own_or_input : (ℕ → List ℕ → List Source) → List Inlined → ℕ → Inlined → List ℕ → Option ℕ → List Source
+own_or_input outside es number e name (Some k) = source number k ∷ []
+own_or_input outside es number e name None = option_map_or (input_sources outside es e.site) (place_of name (input_names e.composite.what)) []
+
+-- inputs are followed outwards at most so often
+abbrev pub taken_in : ℕ → List Inlined → ℕ → List ℕ → List Source
+taken_in zero es number name = []
+taken_in (suc count) es number name =
+    option_map_or (λ e. own_or_input (taken_in count es) es number e name (place_of name (stream_names e.composite.what))) (slice_get es number) []
+
+-- what a name takes in the expansion at a number
+abbrev pub sources_of : List Inlined → ℕ → List ℕ → List Source
+sources_of es number name = taken_in (length es) es number name
+
+-- what each input port of an invocation takes
+abbrev pub ports_of : List Inlined → ℕ → Invocation → List (List Source)
+ports_of es number i = map (λ q. flat_map (λ n. sources_of es number n.what) q.streams) i.inputs
+
+abbrev pub site_in : Opened → ℕ → Site
+site_in p number = record { expansion = p.number; invocation = number }
+
+-- ---- operators
+
+abbrev pub operation : List Inlined → Opened → ℕ → Invocation → OpKind → Operation
+operation es p number i kind = record {
+  name = p.prefix ++ invocation_name i;
+  label = p.prefix ++ label_of i i.outputs;
+  kind = kind;
+  ins = ports_of es p.number i;
+  outputs = length i.outputs;
+  site = site_in p number;
+  at = i.at;
+}
+
+-- how many streams the ports of an operator take
+abbrev pub connections_of : Operation → ℕ
+connections_of op = sum_by length op.ins
+
+-- at most 256 operators, and fewer than 2^30 connections
+abbrev pub is_within : List Operation → Bool
+is_within ops = nat_le (length ops) 256 && nat_lt (sum_by connections_of ops) (2 ^ 30)
+
+abbrev pub with_operation : Operation → Made → Made
+with_operation op made = record { ops = made.ops ++ op ∷ []; expansions = made.expansions }
+
+abbrev pub if_within : ℕ → Made → Found Made
+if_within at made = if is_within made.ops then Ok made else Err (R.TooMany at)
+
+-- ---- composites
+
+-- the body that an invocation of a composite stands for
+abbrev pub inlined : Opened → ℕ → At Composite → Inlined
+inlined p number c = record { composite = c; site = Some (site_in p number) }
+
+abbrev pub opened_in : Opened → ℕ → Invocation → At Composite → Made → Opened
+opened_in p number i c made = record {
+  number = length made.expansions;
+  prefix = p.prefix ++ invocation_name i ++ codes ".";
+  body = inlined p number c;
+}
+
+abbrev pub with_expansion : Inlined → Made → Made
+with_expansion e made = record { ops = made.ops; expansions = made.expansions ++ e ∷ [] }
+
+-- an expansion that makes no operator isn't kept
+abbrev pub if_grown : Made → Made → Made
+if_grown before made = if length before.ops == length made.ops then before else made
+
+-- ---- the work
+
+-- how the body at a place is expanded
+abbrev pub Expands : Type 0
+Expands = Opened → Made → Found Made
+
+abbrev pub expanded_target : Expands → Opened → ℕ → Invocation → Target → Made → Found Made
+expanded_target expands p number i (Operator kind) made = if_within i.at (with_operation (operation made.expansions p number i kind) made)
+expanded_target expands p number i (Body c) made =
+    if fits_head c.what i
+    then after (expands (opened_in p number i c made) (with_expansion (inlined p number c) made)) (λ m. Ok (if_grown made m))
+    else Err (R.Ports (placed i.at i.operator.what))
+expanded_target expands p number i Nothing made = Err (R.Unknown i.operator)
+
+-- what isn't declared is refused first
+abbrev pub if_declared : Option (Placed (List ℕ)) → Found Made → Found Made
+if_declared None found = found
+if_declared (Some n) found = Err (R.Unknown n)
+
+abbrev pub expanded_invocation : Expands → List Definition → Opened → ℕ → Invocation → Made → Found Made
+expanded_invocation expands unit p number i made =
+    if_declared (first_of (undeclared unit p.body.composite.what i)) (expanded_target expands p number i (target_of unit i.operator.what) made)
+
+-- the invocations of a graph one after another, from a number on
+abbrev pub expanded_graph : Expands → List Definition → Opened → ℕ → List Invocation → Made → Found Made
+expanded_graph expands unit p number [] made = Ok made
+expanded_graph expands unit p number (i ∷ is) made =
+    after (expanded_invocation expands unit p number i made) (expanded_graph expands unit p (suc number) is)
+
+-- the body at a place, in which others nest at most so deep
+abbrev pub expanded : ℕ → List Definition → Expands
+expanded zero unit p made = Ok made
+expanded (suc depth) unit p made = expanded_graph (expanded depth unit) unit p 0 p.body.composite.what.graph made
+
+abbrev pub main_body : At Composite → Inlined
+main_body main = record { composite = main; site = None }
+
+-- where no composite reaches itself, they nest no deeper than there are composites
+abbrev pub expanded_main : List Definition → At Composite → Found Made
+expanded_main unit main =
+    expanded (length (composites unit)) unit
+    (record { number = 0; prefix = []; body = main_body main })
+    (record { ops = []; expansions = main_body main ∷ [] })

@@ -1,0 +1,179 @@
+-- The parameters of an operator with their values, in the order of the text, or the first refusal.
+use Rattle.std.specs.Prelude.{ℕ, ◌==◌, Bool, true, false, List, [], ◌∷◌, if◌then◌else◌, codes, Option, Some, None, Ok}
+use Rattle.std.specs.List.{list_any}
+use Rattle.std.specs.Str.{bytes_eq}
+use Rattle.spl_value.specs.declared.types.Named.{Named}
+use Rattle.spl_value.specs.declared.types.SplType.{SplType}
+use Rattle.spl_value.specs.declared.types.SplType.TheOpen as T
+use Rattle.spl_value.specs.declared.types.SplType.TheOpen.{SplType-F}
+use Rattle.spl_value.specs.declared.types.SplType.TheVariants as S
+use Rattle.spl_value.specs.declared.types.SplType.TheViews.{out-SplType}
+use Rattle.spl_tree.specs.declared.code.Code.{Code}
+use Rattle.spl_tree.specs.declared.code.Slot.{Slot}
+use Rattle.spl_tree.specs.declared.expression.ExprKind.{ExprKind}
+use Rattle.spl_tree.specs.declared.expression.ExprKind.TheOpen as X
+use Rattle.spl_tree.specs.declared.expression.ExprKind.TheOpen.{ExprKind-F}
+use Rattle.spl_tree.specs.declared.expression.ExprKind.TheViews.{out-ExprKind}
+use Rattle.spl_tree.specs.declared.graph.OpKind.{OpKind}
+use Rattle.spl_tree.specs.declared.graph.OpKind.TheVariants as O
+use Rattle.spl_tree.specs.declared.unit.Parameter.{Parameter}
+use Rattle.spl_tree.specs.Grammar.{Expr}
+use Rattle.language_model.specs.declared.checked.Given.{Given}
+use Rattle.language_model.specs.declared.checked.ParameterValue.{ParameterValue}
+use Rattle.language_model.specs.declared.checked.ParameterValue.TheVariants as V
+use Rattle.language_model.specs.declared.checked.Position.TheVariants as P
+use Rattle.language_model.specs.declared.scope.CheckError.TheVariants as E
+use Rattle.language_model.specs.declared.scope.Port.{Port}
+use Rattle.language_model.specs.declared.scope.Scope.{Scope}
+use Rattle.language_model.specs.Literals.{file_typing}
+use Rattle.language_model.specs.Scopes.{At, attribute_of}
+use Rattle.language_model.specs.Typing.{Found, after, mismatch, refused, typing, unknown}
+
+-- ---- which parameters an operator has
+
+pub data Role : Type 0 where
+  AsFile : Role
+  AsFormat : Role
+  AsParsing : Role
+  AsCondition : Role
+  AsPosition : Role
+  AsIndex : Role
+  AsAttributes : Role
+
+abbrev pub if_named : List ℕ → List ℕ → Role → Option Role → Option Role
+if_named name own role other = if bytes_eq name own then Some role else other
+
+-- the parameter of the name, where the operator has one. `partitionBy` goes with a window that is partitioned
+abbrev pub role_of : OpKind → Bool → List ℕ → Option Role
+role_of O.FileSource partitioned name =
+    if_named name (codes "file") AsFile (if_named name (codes "format") AsFormat (if_named name (codes "parsing") AsParsing None))
+role_of O.FileSink partitioned name = if_named name (codes "file") AsFile (if_named name (codes "format") AsFormat None)
+role_of O.Filter partitioned name = if_named name (codes "filter") AsCondition None
+role_of O.Functor partitioned name = if_named name (codes "filter") AsCondition None
+role_of O.Punctor partitioned name = if_named name (codes "punctuation") AsCondition (if_named name (codes "position") AsPosition None)
+role_of O.Split partitioned name = if_named name (codes "index") AsIndex None
+role_of O.Aggregate partitioned name =
+    if partitioned then if_named name (codes "partitionBy") AsAttributes (if_named name (codes "groupBy") AsAttributes None)
+    else if_named name (codes "groupBy") AsAttributes None
+role_of O.Join partitioned name = if_named name (codes "match") AsCondition None
+role_of O.Union partitioned name = None
+role_of O.Custom partitioned name = None
+
+-- those that it needs
+abbrev pub needed : OpKind → Bool → List (List ℕ)
+needed O.FileSource partitioned = codes "file" ∷ []
+needed O.FileSink partitioned = codes "file" ∷ []
+needed O.Punctor partitioned = codes "punctuation" ∷ codes "position" ∷ []
+needed O.Split partitioned = codes "index" ∷ []
+needed O.Aggregate partitioned = if partitioned then codes "partitionBy" ∷ [] else []
+needed kind partitioned = []
+
+-- ---- values
+
+-- where the expressions of an operator stand: what they may name, and what is behind their `$` parameters
+pub record Site : Type 0 where
+  pub scope : Scope
+  pub follow : Expr → Option Expr
+
+-- a word, which is a name in the tree
+abbrev pub level_word : ExprKind-F ExprKind → Option (List ℕ)
+level_word (X.Name name) = Some name
+level_word _ = None
+
+abbrev pub word_of : Expr → Option (List ℕ)
+word_of e = level_word (out-ExprKind e.what)
+
+abbrev pub format_of : ℕ → Option (List ℕ) → Found ParameterValue
+format_of at None = mismatch at
+format_of at (Some word) = if bytes_eq word (codes "csv") then Ok V.Format else mismatch at
+
+abbrev pub parsing_of : ℕ → Option (List ℕ) → Found ParameterValue
+parsing_of at None = mismatch at
+parsing_of at (Some word) =
+    if bytes_eq word (codes "strict") then Ok (V.Strict true) else if bytes_eq word (codes "permissive") then Ok (V.Strict false) else mismatch at
+
+abbrev pub position_of : ℕ → Option (List ℕ) → Found ParameterValue
+position_of at None = mismatch at
+position_of at (Some word) =
+    if bytes_eq word (codes "before") then Ok (V.Position P.Before) else if bytes_eq word (codes "after") then Ok (V.Position P.After) else mismatch at
+
+abbrev pub level_index : ℕ → Code Slot → SplType-F SplType → Found ParameterValue
+level_index at code (T.Int kind) = Ok (V.Code code)
+level_index at code _ = mismatch at
+
+-- an attribute by whose values tuples are told apart: an integer, a boolean or a text
+abbrev pub level_key : SplType-F SplType → Bool
+level_key (T.Int kind) = true
+level_key T.Bool = true
+level_key T.Text = true
+level_key _ = false
+
+abbrev pub key_at : ℕ → List ℕ → List ℕ → Option (At (Named SplType)) → Found ℕ
+key_at at name before None = unknown at name
+key_at at name before (Some a) = if level_key (out-SplType a.what.kind) then (if list_any (λ n. n == a.place) before then mismatch at else Ok a.place) else mismatch at
+
+abbrev pub key_of : List (Named SplType) → List ℕ → ℕ → Option (List ℕ) → Found ℕ
+key_of schema before at None = mismatch at
+key_of schema before at (Some name) = key_at at name before (attribute_of schema name)
+
+-- bare names of attributes, each once
+abbrev pub keys_typing : List (Named SplType) → List ℕ → List Expr → Found (List ℕ)
+keys_typing schema before [] = Ok []
+keys_typing schema before (e ∷ es) =
+    after (key_of schema before e.at (word_of e)) (λ place. after (keys_typing schema (place ∷ before) es) (λ rest. Ok (place ∷ rest)))
+
+-- one or more
+abbrev pub some_keys : ℕ → List (Named SplType) → List Expr → Found (List ℕ)
+some_keys at schema [] = mismatch at
+some_keys at schema (e ∷ es) = keys_typing schema [] (e ∷ es)
+
+-- the attributes of the first port
+abbrev pub first_schema : List Port → List (Named SplType)
+first_schema [] = []
+first_schema (p ∷ ps) = p.schema
+
+-- the one value of a parameter; a second one is refused behind it
+abbrev pub one_value : ℕ → (Expr → Found ParameterValue) → List Expr → Found ParameterValue
+one_value at value [] = mismatch at
+one_value at value (e ∷ []) = value e
+one_value at value (e ∷ d ∷ es) = after (value e) (λ x. mismatch d.at)
+
+abbrev pub single_value : Site → Role → Expr → Found ParameterValue
+single_value site AsFile e = after (file_typing site.scope site.follow e) (λ bytes. Ok (V.File bytes))
+single_value site AsFormat e = format_of e.at (word_of e)
+single_value site AsParsing e = parsing_of e.at (word_of e)
+single_value site AsPosition e = position_of e.at (word_of e)
+single_value site AsCondition e = after (typing site.scope e (Some S.Bool)) (λ t. Ok (V.Code t.code))
+single_value site AsIndex e = after (typing site.scope e None) (λ t. level_index e.at t.code (out-SplType t.kind))
+single_value site AsAttributes e = mismatch e.at
+
+abbrev pub value_typing : Site → Parameter → Role → Found ParameterValue
+value_typing site p AsAttributes = after (some_keys p.name.at (first_schema site.scope.ports) p.values) (λ places. Ok (V.Places places))
+value_typing site p role = one_value p.name.at (single_value site role) p.values
+
+-- ---- a clause
+
+abbrev pub extra : {A : Type 0} → Parameter → Found A
+extra p = refused E.ExtraParameter p.name.at (Some p.name.what)
+
+-- one that the operator has, and that wasn't given before
+abbrev pub parameter_typing : Site → List (List ℕ) → Parameter → Option Role → Found Given
+parameter_typing site before p None = extra p
+parameter_typing site before p (Some role) =
+    if list_any (λ name. bytes_eq name p.name.what) before then extra p
+    else after (value_typing site p role) (λ value. Ok (record { name = p.name.what; value = value }))
+
+abbrev pub parameters_typing : Site → OpKind → Bool → List (List ℕ) → List Parameter → Found (List Given)
+parameters_typing site kind partitioned before [] = Ok []
+parameters_typing site kind partitioned before (p ∷ ps) =
+    after (parameter_typing site before p (role_of kind partitioned p.name.what)) (λ given.
+    after (parameters_typing site kind partitioned (p.name.what ∷ before) ps) (λ rest. Ok (given ∷ rest)))
+
+abbrev pub value_given : List Given → List ℕ → Option ParameterValue
+value_given [] name = None
+value_given (g ∷ gs) name = if bytes_eq g.name name then Some g.value else value_given gs name
+
+-- the first that isn't given of those that are needed
+abbrev pub missing : List Given → List (List ℕ) → Option (List ℕ)
+missing given [] = None
+missing given (name ∷ names) = if list_any (λ g. bytes_eq g.name name) given then missing given names else Some name

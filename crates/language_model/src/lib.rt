@@ -1,0 +1,32 @@
+//! What a unit of the language comes to: its types, its flat graph, the checks of its clauses, and
+//! what its expressions and bodies do.
+#![tactic(auto)]
+
+mod checked;
+mod checked_graph;
+mod checks;
+mod env;
+mod expansion;
+mod flow;
+mod laws;
+mod outs;
+mod scope;
+
+pub use checked::{
+    Collected, Collector, Gathers, Given, Handled, Handlers, ParameterValue, Part, Policy,
+    PortTypes, Position, StateVariable, WindowRule,
+};
+pub use checked_graph::Checked;
+pub use checks::{bodies_law, checks_on_literals, types_law, types_on_literals};
+pub use env::{Env, Tuples};
+pub use expansion::{ExpansionRefusal, Operation, Source};
+pub use flow::Flow;
+pub use laws::{
+    changes_law, dollars_law, dollars_on_literals, evaluation_law, flat_law, graphs_on_literals,
+    names_on_literals, places_law, renaming_law, slots_on_literals, statements_law, typing_law,
+    value_law,
+};
+pub use outs::{Output, Outs};
+pub use scope::{
+    CheckError, CheckRefusal, Dollar, Port, Scope, Signature, Typed, Unresolved, Variable,
+};

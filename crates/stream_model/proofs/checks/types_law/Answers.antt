@@ -1,5 +1,0 @@
-use Rattle.stream_model.specs.DefinedTypes.{names_law}
-use Rattle.stream_model.proofs.checks.types_law.Goals as goal
-
-pub returns : goal.returns
-returns c = record { names = names_law }
