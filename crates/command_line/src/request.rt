@@ -44,7 +44,7 @@ pub enum Request {
         schedule: u32,
         steps: u32,
     },
-    /// Writes so many generated rows, from this number on, to the file of this name.
+    /// Writes so many generated rows to the file of this name. The generator begins with this number.
     Make {
         name: Name,
         rows: u32,

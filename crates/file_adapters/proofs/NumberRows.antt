@@ -20,8 +20,9 @@ use Rattle.spl_value.specs.declared.types.IntKind.TheVariants.{I64}
 use Rattle.stream_model.specs.Rows.{Setting, pieces, onto_first, items_from, rows, closing}
 use Rattle.stream_model.specs.RowsLaws.{some_pieces}
 use Rattle.stream_model.specs.Laws.{but_empty_last, lines}
+use Rattle.stream_model.specs.Stream.{TuplesFit}
 use Rattle.file_adapters.specs.Lines.{line_number, number_row, row_in_front, number_rows}
-use Rattle.file_adapters.specs.Source.{is_number_line, is_number_file, is_number_schema, TuplesFit}
+use Rattle.file_adapters.specs.Source.{is_number_line, is_number_file, is_number_schema}
 use Rattle.file_adapters.proofs.NumberLines.{has_number, piece_row, int64_level}
 
 -- the lines among these pieces are numbers

@@ -7,11 +7,12 @@ use Rattle.std.proofs.lemmas.List.{append-nil, take_all, get_or-set_same, get_or
 use Rattle.std.proofs.lemmas.List.Quantifiers.{any-set}
 use Rattle.spl_value.specs.declared.item.Item.{Item}
 use Rattle.stream_model.specs.Rows.{text_of}
+use Rattle.stream_model.specs.Stream.{is_tuple}
 use Rattle.feed_pour.specs.Counts.{Counted}
 use Rattle.feed_pour.specs.Contents.{PouredSoFar, failed_write}
 use Rattle.feed_pour.specs.declared.outside.PourAnswer.{PourAnswer}
 use Rattle.feed_pour.specs.declared.outside.PourAnswer.TheVariants as P
-use Rattle.file_adapters.specs.Sinks.{is_tuple, sink_rows, sink_text, stream_at}
+use Rattle.file_adapters.specs.Sinks.{sink_rows, sink_text, stream_at}
 use Rattle.file_adapters.specs.Steps.{RowsPoured, EachPoured, WriteFault}
 use Rattle.file_adapters.specs.declared.sinks.Sink.{Sink}
 

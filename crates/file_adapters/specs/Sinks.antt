@@ -5,10 +5,10 @@ use Rattle.std.specs.List.{All, Any, list_any, count_by}
 use Rattle.std.specs.Option.{unwrap_or}
 use Rattle.std.specs.Str.{bytes_eq}
 use Rattle.spl_value.specs.declared.item.Item.{Item}
-use Rattle.spl_value.specs.declared.item.Item.TheVariants as I
 use Rattle.feed_pour.specs.Counts.{PerName, Rose}
 use Rattle.feed_pour.specs.Contents.{Told, WhereTold}
 use Rattle.stream_model.specs.Rows.{text_of}
+use Rattle.stream_model.specs.Stream.{is_tuple}
 use Rattle.file_adapters.specs.declared.sinks.Sink.{Sink}
 use Rattle.file_adapters.specs.declared.sinks.Sunk.{Sunk}
 use Rattle.file_adapters.specs.declared.sinks.Sunk.TheVariants as S
@@ -16,12 +16,6 @@ use Rattle.file_adapters.specs.declared.sinks.Sunk.TheVariants as S
 -- no file stands twice
 abbrev pub AreDistinct : List (List ℕ) → Type 0
 AreDistinct files = (before after : List (List ℕ)) (file : List ℕ) → files ≡ before ++ file ∷ after → list_any (λ n. bytes_eq n file) after ≡ false
-
-abbrev pub is_tuple : Item → Bool
-is_tuple (I.Tuple values) = true
-is_tuple I.Window = false
-is_tuple I.Final = false
-is_tuple (I.Bad f) = false
 
 -- a sink's stream
 abbrev pub stream_at : List (List Item) → Sink → List Item

@@ -1,18 +1,13 @@
 -- A source's file of whole numbers, one a line.
-use Rattle.std.specs.Prelude.{ℕ, ◌==◌, ◌&&◌, nat_le, Bool, true, false, List, [], ◌∷◌, length, if◌then◌else◌, IsTrue, ⊤}
+use Rattle.std.specs.Prelude.{ℕ, ◌==◌, ◌&&◌, nat_le, Bool, true, false, List, [], ◌∷◌, length, if◌then◌else◌}
 use Rattle.std.specs.List.{list_all}
 use Rattle.spl_value.specs.Decimal.{is_digit}
-use Rattle.spl_value.specs.Values.{fits}
-use Rattle.spl_value.specs.declared.item.Item.{Item}
-use Rattle.spl_value.specs.declared.item.Item.TheVariants as I
 use Rattle.spl_value.specs.declared.types.IntKind.TheVariants.{I64}
 use Rattle.spl_value.specs.declared.types.Named.{Named}
 use Rattle.spl_value.specs.declared.types.SplType.{SplType}
 use Rattle.spl_value.specs.declared.types.SplType.TheOpen as O
 use Rattle.spl_value.specs.declared.types.SplType.TheOpen.{SplType-F}
-use Rattle.spl_value.specs.declared.types.SplType.TheVariants as S
 use Rattle.spl_value.specs.declared.types.SplType.TheViews.{out-SplType}
-use Rattle.spl_value.specs.declared.value.Value.TheVariants as V
 use Rattle.stream_model.specs.Laws.{lines}
 
 -- 1 to 18 digits
@@ -36,9 +31,3 @@ level_is_int64 _ = false
 abbrev pub is_number_schema : List (Named SplType) → Bool
 is_number_schema (a ∷ []) = level_is_int64 (out-SplType a.kind)
 is_number_schema _ = false
-
--- each tuple of a stream has values of these attributes
-abbrev pub TuplesFit : List (Named SplType) → List Item → Type 0
-TuplesFit schema [] = ⊤
-TuplesFit schema (I.Tuple values ∷ items) = IsTrue (fits (S.Tuple schema) (V.Tuple values)) × TuplesFit schema items
-TuplesFit schema (_ ∷ items) = TuplesFit schema items

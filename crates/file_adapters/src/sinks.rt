@@ -5,8 +5,9 @@ ghost use Rattle.std.specs.Vec.{vec_capacity};
 ghost use Rattle.feed_pour.specs.Counts.{Counted};
 ghost use Rattle.feed_pour.specs.Contents.{AllPoured, Finished, WhereTold, failed_read, failed_write};
 ghost use Rattle.stream_model.specs.Rows.{item_text, text_of};
+ghost use Rattle.stream_model.specs.Stream.{is_tuple};
 ghost use Rattle.spl_value.specs.declared.item.Item.TheVariants as I;
-ghost use Rattle.file_adapters.specs.Sinks.{AreDistinct, EmptyBefore, FailedAs, SinksCount, SinksCounted, SinksWritten, is_tuple, sink_rows, stream_at};
+ghost use Rattle.file_adapters.specs.Sinks.{AreDistinct, EmptyBefore, FailedAs, SinksCount, SinksCounted, SinksWritten, sink_rows, stream_at};
 ghost use Rattle.file_adapters.specs.Steps.{CreateCounted, CreatedCount, EachFinished, EachPoured, FinishCounted, RowsPoured, WriteFault, sunk_of};
 
 use crate::row::add_row;

@@ -35,10 +35,10 @@ use Rattle.language_model.specs.Keeping.{Keeps, GraphKeeps, OperatorFits, PortsH
 use Rattle.language_model.specs.Literals.{is_file_name}
 use Rattle.stream_model.specs.Meaning.{connections}
 use Rattle.stream_model.specs.React.{Operator, Source, FileSource}
-use Rattle.stream_model.specs.Stream.{is_closed}
+use Rattle.stream_model.specs.Stream.{is_closed, TuplesFit}
 use Rattle.language_model.specs.StreamTypes.{Attributes}
 use Rattle.list_run.specs.Chain.{numbers, divides, chain, chain_graph, chain_rows}
-use Rattle.list_run.specs.Runs.{CanRun, RowsFit, TuplesFit, rows_at}
+use Rattle.list_run.specs.Runs.{CanRun, RowsFit, rows_at}
 
 abbrev flat : Flat
 flat = chain.graph

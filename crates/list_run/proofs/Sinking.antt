@@ -16,10 +16,9 @@ use Rattle.stream_model.specs.PathLaws.{written, sink_out}
 use Rattle.stream_model.specs.React.{Operator, Kind, FileSource, Filter, FileSink}
 use Rattle.stream_model.specs.Rows.{item_text, text_of}
 use Rattle.stream_model.specs.Stages.{out}
-use Rattle.stream_model.specs.Stream.{Event, came, is_closed, is_empty}
+use Rattle.stream_model.specs.Stream.{Event, came, is_closed, is_empty, is_tuple}
 use Rattle.list_run.specs.Runs.{CanRun}
 use Rattle.list_run.specs.SinkLaws.{SinkTextLaw, SinkCountLaw}
-use Rattle.list_run.specs.Sinks.{is_tuple}
 use Rattle.list_run.proofs.GraphOperators.{Shape, source, filter, sink, shape_of, operator_at, is_numbered}
 use Rattle.list_run.proofs.Streams.{none_left}
 

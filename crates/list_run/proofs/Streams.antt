@@ -21,11 +21,10 @@ use Rattle.language_model.specs.Keeping.{NamesPorts}
 use Rattle.language_model.specs.Outcomes.{Outcome, Done, Faulted, Stuck}
 use Rattle.stream_model.specs.PathLaws.{pass, passed, fault_by}
 use Rattle.stream_model.specs.React.{at_tuple, passes}
-use Rattle.stream_model.specs.Stream.{is_closed, is_empty}
+use Rattle.stream_model.specs.Stream.{is_closed, is_empty, TuplesFit}
 use Rattle.language_model.specs.StreamTypes.{Attributes}
 use Rattle.language_model.specs.WorldFits.{EnvFits, FunctionsFit}
 use Rattle.list_run.specs.Fitting.{EndsOnce, IsStream, FitsTuples, FitsStream, FitsSchema}
-use Rattle.list_run.specs.Runs.{TuplesFit}
 
 -- ---- streams that end
 

@@ -9,10 +9,10 @@ use Rattle.language_model.specs.declared.scope.Scope.{Scope}
 use Rattle.language_model.specs.declared.scope.Signature.{Signature}
 use Rattle.language_model.specs.Keeping.{ConditionFits, NamesPorts}
 use Rattle.stream_model.specs.React.{at_tuple}
+use Rattle.stream_model.specs.Stream.{TuplesFit}
 use Rattle.language_model.specs.StreamTypes.{Attributes}
 use Rattle.language_model.specs.WorldFits.{FunctionsFit}
 use Rattle.expr_eval.specs.Fitting.{IsFit}
-use Rattle.list_run.specs.Runs.{TuplesFit}
 
 -- nothing follows a final marker or a fault
 abbrev pub EndsOnce : List Item → Type 0

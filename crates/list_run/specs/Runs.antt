@@ -1,17 +1,14 @@
 -- When a checked graph can be run stream by stream, from the rows of its sources, and what the run comes to.
-use Rattle.std.specs.Prelude.{◌≡◌, ◌<◌, ◌≤◌, ℕ, true, IsTrue, ⊤, List, [], ◌∷◌, length, Some, slice_get}
+use Rattle.std.specs.Prelude.{◌≡◌, ◌<◌, ◌≤◌, ℕ, true, List, [], length, Some, slice_get}
 use Rattle.std.specs.Option.{unwrap_or}
 use Rattle.spl_value.specs.declared.item.Item.{Item}
-use Rattle.spl_value.specs.declared.item.Item.TheVariants as I
-use Rattle.spl_value.specs.declared.types.SplType.TheVariants as T
-use Rattle.spl_value.specs.declared.value.Value.TheVariants as V
-use Rattle.spl_value.specs.Values.{fits}
 use Rattle.language_model.specs.CheckedGraph.{CheckedGraph}
+use Rattle.language_model.specs.Keeping.{Keeps}
 use Rattle.stream_model.specs.CheckedMeaning.{graph_of}
-use Rattle.stream_model.specs.Meaning.{Graph, Lists, Meaning, connections}
+use Rattle.stream_model.specs.Laws.{IsOrdered, IsNumbered}
+use Rattle.stream_model.specs.Meaning.{Graph, Lists, Meaning, connections, in_topo}
 use Rattle.stream_model.specs.React.{Operator, Source, FileSource}
-use Rattle.stream_model.specs.Stream.{is_closed}
-use Rattle.language_model.specs.StreamTypes.{Attributes}
+use Rattle.stream_model.specs.Stream.{is_closed, TuplesFit}
 use Rattle.list_run.specs.Sinks.{stays}
 
 -- the graph of operators is there, and no operator has several connections
@@ -23,14 +20,6 @@ pub record CanRun (c : CheckedGraph) (g : Graph) : Type 0 where
 abbrev pub rows_at : List (List Item) → Lists
 rows_at rows n = unwrap_or (slice_get rows n) []
 
--- each tuple of a stream has these attributes
-abbrev pub TuplesFit : Attributes → List Item → Type 0
-TuplesFit schema [] = ⊤
-TuplesFit schema (I.Tuple vs ∷ items) = IsTrue (fits (T.Tuple schema) (V.Tuple vs)) × TuplesFit schema items
-TuplesFit schema (I.Window ∷ items) = TuplesFit schema items
-TuplesFit schema (I.Final ∷ items) = TuplesFit schema items
-TuplesFit schema (I.Bad f ∷ items) = TuplesFit schema items
-
 -- there is a list for each operator, and that of a source is a closed stream of tuples of its attributes
 pub record RowsFit (g : Graph) (rows : List (List Item)) : Type 0 where
   pub count : length rows ≡ length g.ops
@@ -41,3 +30,7 @@ pub record RowsFit (g : Graph) (rows : List (List Item)) : Type 0 where
 pub record AreStreams (c : CheckedGraph) (g : Graph) (m : Meaning) (streams : List (List Item)) : Type 0 where
   pub kept : (s : ℕ) → s < length c.graph.streams → stays g s ≡ true → slice_get streams s ≡ Some (m.streams s)
   pub closed : (s : ℕ) → s < length c.graph.streams → stays g s ≡ true → is_closed (m.streams s) ≡ true
+
+-- the operators of a checked graph can be taken in its order, and have the numbers of their places
+abbrev pub OrderedLaw : Type 0
+OrderedLaw = (c : CheckedGraph) (g : Graph) → Keeps c → graph_of c ≡ Some g → IsOrdered (in_topo g) × IsNumbered g

@@ -11,9 +11,8 @@ use Rattle.stream_model.specs.Meaning.{Graph, Lists, Entries, meaning, text}
 use Rattle.stream_model.specs.React.{Operator, Source, FileSource, FileSink}
 use Rattle.stream_model.specs.Rows.{text_of}
 use Rattle.stream_model.specs.Stages.{out}
-use Rattle.stream_model.specs.Stream.{is_closed}
+use Rattle.stream_model.specs.Stream.{is_closed, is_tuple}
 use Rattle.list_run.specs.Runs.{CanRun}
-use Rattle.list_run.specs.Sinks.{is_tuple}
 
 -- a sink writes the text of its stream, where that is closed
 abbrev pub SinkTextLaw : Type 0

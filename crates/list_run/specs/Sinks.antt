@@ -1,9 +1,7 @@
--- Which streams a run keeps to its end, and which items of a stream a sink writes.
+-- Which streams a run keeps to its end.
 use Rattle.std.specs.Prelude.{ℕ, ◌==◌, Bool, true, false, ◌&&◌, ◌||◌, not, List, slice_get}
 use Rattle.std.specs.List.{concat, list_any}
 use Rattle.std.specs.Option.{option_map_or}
-use Rattle.spl_value.specs.declared.item.Item.{Item}
-use Rattle.spl_value.specs.declared.item.Item.TheVariants as I
 use Rattle.spl_tree.specs.declared.graph.Op.{Op}
 use Rattle.language_model.specs.declared.checked.Part.{Part}
 use Rattle.language_model.specs.declared.checked.Part.TheVariants as A
@@ -12,12 +10,6 @@ use Rattle.stream_model.specs.Ends.{is_read}
 use Rattle.stream_model.specs.Laws.{reads_stream}
 use Rattle.stream_model.specs.Meaning.{Graph}
 use Rattle.stream_model.specs.React.{Kind, Operator, FileSource, Filter, FileSink}
-
-abbrev pub is_tuple : Item → Bool
-is_tuple (I.Tuple values) = true
-is_tuple I.Window = false
-is_tuple I.Final = false
-is_tuple (I.Bad f) = false
 
 -- ---- by the operators of a checked graph
 

@@ -1,10 +1,16 @@
 //! What sinks write, and whom faults name.
 ghost use Rattle.language_model.specs.Keeping.{Keeps};
 ghost use Rattle.list_run.specs.Chain.{chain, chain_graph, chain_rows};
-ghost use Rattle.list_run.specs.Runs.{CanRun, RowsFit};
+ghost use Rattle.list_run.specs.Runs.{CanRun, RowsFit, OrderedLaw};
 ghost use Rattle.list_run.specs.SinkLaws.{SinkTextLaw, SinkCountLaw, FaultNamesLaw};
 
 use stream_model::graph_law;
+
+/// The graph of operators of a checked graph is ordered, and its operators are numbered by their places,
+/// so the laws of graphs speak of each graph that is run.
+pub fn ordered_law()
+    ensures ordered { OrderedLaw }
+{}
 
 /// A sink writes the text of its stream, which is a row for each tuple, where the stream is closed. The
 /// fault of a run names one of the operators, where the rows' faults name their own sources.

@@ -8,5 +8,5 @@ mod readers;
 mod run;
 
 pub use fault::fault_of_run;
-pub use laws::{runs_on_literals, sinks_law};
+pub use laws::{ordered_law, runs_on_literals, sinks_law};
 pub use run::streams_of;

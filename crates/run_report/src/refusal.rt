@@ -11,7 +11,7 @@ pub enum ExpansionError {
     Recursive,
     /// `E3`: a name is declared twice in one place.
     Twice,
-    /// `E4`: an operator waits for itself.
+    /// `E4`: an operator waits for itself, or for one that does.
     Loop,
     /// `E5`: a sink's file is had by another operator or the command line.
     SameFile,

@@ -17,7 +17,7 @@ use Rattle.stream_model.specs.React.{Kind, Operator, FileSource, Filter, FileSin
 use Rattle.command_line.specs.declared.request.Request.{Request}
 use Rattle.spl_driver.specs.Built.{is_built}
 use Rattle.spl_driver.specs.Outcome.{Outcome, NoRequest, Unreadable, Refused, NotBuilt, Checks, Runs, IsOutcome, ArePartsIn}
-use Rattle.spl_driver.specs.Answer.{AtSink, EachSink, HoldsText, HoldsPrefix, sink_text, CarriedOut, RunsTo, ChecksTo, Begun, Stands, DeviceFailed, CreatedLast, Untold, NoCountChanged, Answered, Shown, IsOr, IsRun, IsAnswer, IsComplete, Untouched, ByWords, cause_of}
+use Rattle.spl_driver.specs.Answer.{AtSink, EachSink, HoldsText, HoldsPrefix, sink_text, CarriedOut, RunsTo, ChecksTo, Begun, Stands, DeviceFailed, CreatedLast, Untold, NoCountChanged, Answered, Shown, IsOr, IsRun, IsAnswer, IsComplete, Untouched, ByWords, MayBe, cause_of}
 use Rattle.spl_driver.specs.Lines.{ToldAs}
 use Rattle.spl_driver.specs.RequestLaws.{OneOutcomeLaw}
 use Rattle.spl_driver.specs.declared.ended.Ended.{Ended}
@@ -96,7 +96,7 @@ quiet_run : (fault : Option Fault) (request : Option Request) (counts later : Pe
 quiet_run None request counts later Line h = h
 quiet_run (Some fault) request counts later Line h = h
 
-quiet_stop : (c : Cause) (request : Option Request) (counts later : PerName) (Line : Type 0) → IsRun c → Shown c request counts later Line → NoCountChanged counts later
+pub quiet_stop : (c : Cause) (request : Option Request) (counts later : PerName) (Line : Type 0) → IsRun c → Shown c request counts later Line → NoCountChanged counts later
 quiet_stop c request counts later Line (fault, is) h = quiet_run fault request counts later Line (subst (λ (x : Cause). Shown x request counts later Line) is h)
 
 created_said : (c r : Cause) (request : Option Request) (parts : List Part) (counts later : PerName) (Line : Type 0) (t u : Told) → ToldAs c r Line → Shown c request counts later ⊥
@@ -183,6 +183,13 @@ part_not_run (Some fault) e = cc
 pub words_said : (request : Option Request) (c r : Cause) (counts later : PerName) (Line : Type 0) → ToldAs c r Line → ByWords request c counts later → ByWords request r counts later
 words_said None c r counts later Line told h = untouched_said C.BadWords c r counts later Line words_not_run told h
 words_said (Some request) c r counts later Line told h = λ part. untouched_said C.NotBuilt c r counts later Line part_not_run told (h part)
+
+-- ---- by the request
+
+pub may_be_said : (request : Option Request) (c r : Cause) (Line : Type 0) → ToldAs c r Line → MayBe request c → MayBe request r
+may_be_said request c r Line (inl e) h = subst (MayBe request) (sym e) h
+may_be_said request c r Line (inr (inl e)) h = subst (MayBe request) (sym e) tt
+may_be_said request c r Line (inr (inr (e, run, line))) h = subst (MayBe request) (sym e) tt
 
 -- ---- completeness
 

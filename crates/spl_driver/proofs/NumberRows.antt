@@ -16,23 +16,15 @@ use Rattle.language_model.specs.declared.checked.Part.TheVariants as A
 use Rattle.stream_model.specs.Meaning.{setting_of, rows_of}
 use Rattle.stream_model.specs.Rows.{Setting, rows}
 use Rattle.stream_model.specs.RowsLaws.{rows_close}
-use Rattle.stream_model.specs.Stream.{is_closed}
+use Rattle.stream_model.specs.Stream.{is_closed, TuplesFit}
 use Rattle.language_model.specs.StreamTypes.{Attributes}
-use Rattle.file_adapters.specs.Source.{is_number_file, is_number_schema, TuplesFit as HaveValues}
+use Rattle.file_adapters.specs.Source.{is_number_file, is_number_schema}
 use Rattle.file_laws.specs.Files.{source_files}
-use Rattle.list_run.specs.Runs.{TuplesFit}
 use Rattle.spl_driver.specs.Answer.{NoCountChanged}
 use Rattle.spl_driver.specs.Steps.{AreNumbers, RowsRead, RowsOf, SourceTold, OtherTold, SourceOf, HoldsOther, OpensCounted, source_failed}
 use Rattle.spl_driver.specs.declared.sources.OneSource.{OneSource}
 use Rattle.spl_driver.specs.declared.sources.OneSource.TheVariants as O
 use Rattle.spl_driver.proofs.Fetching.{no_fault, long_fault, is_short, is_long, told_before}
-
-fit_alike : (schema : Attributes) (items : List Item) → HaveValues schema items → TuplesFit schema items
-fit_alike schema [] h = tt
-fit_alike schema (I.Tuple vs ∷ items) h = (h.0, fit_alike schema items h.1)
-fit_alike schema (I.Window ∷ items) h = fit_alike schema items h
-fit_alike schema (I.Final ∷ items) h = fit_alike schema items h
-fit_alike schema (I.Bad f ∷ items) h = fit_alike schema items h
 
 abbrev one_number : Setting
 one_number = record { op = 0; schema = record { name = []; kind = T.Int K.I64 } ∷ []; strict = true; limit = 2 ^ 40 }
@@ -43,15 +35,15 @@ is_number = refl
 
 -- a stream of the rows of a file of whole numbers
 pub are_numbers : (items : List Item) (bytes : List ℕ) → ((o : Setting) → is_number_schema o.schema ≡ true → o.limit ≡ 2 ^ 40 → items ≡ rows o bytes End)
-    → ((schema : Attributes) → is_number_schema schema ≡ true → HaveValues schema items) → AreNumbers items
+    → ((schema : Attributes) → is_number_schema schema ≡ true → TuplesFit schema items) → AreNumbers items
 are_numbers items bytes all fit = record {
   closed = ap is_closed (all one_number is_number refl) ∙ rows_close one_number bytes End;
-  fit = λ schema numbers. fit_alike schema items (fit schema numbers);
+  fit = fit;
 }
 
 pub rows_found : (found : Option (List Item)) (items : List Item) (bytes : List ℕ) → found ≡ Some items → is_some found ≡ is_number_file bytes
     → IfSome found (λ xs. (o : Setting) → is_number_schema o.schema ≡ true → o.limit ≡ 2 ^ 40 → xs ≡ rows o bytes End)
-    → IfSome found (λ xs. (schema : Attributes) → is_number_schema schema ≡ true → HaveValues schema xs) → RowsRead (O.Rows items) bytes
+    → IfSome found (λ xs. (schema : Attributes) → is_number_schema schema ≡ true → TuplesFit schema xs) → RowsRead (O.Rows items) bytes
 rows_found None items bytes e form stream tuples = let bad : None ≡ Some items = e in cc
 rows_found (Some xs) items bytes e form stream tuples =
     let is : Some xs ≡ Some items = e in

@@ -9,7 +9,7 @@ use Rattle.command_line.specs.Request.{file_names}
 use Rattle.spl_compile.specs.Laws.{OneAcceptedLaw, SomeAcceptedLaw}
 use Rattle.spl_driver.specs.Built.{is_built}
 use Rattle.spl_driver.specs.Files.{program_of, parts_of}
-use Rattle.spl_driver.specs.Outcome.{Outcome, NoRequest, Unreadable, NotBuilt, has_fault, with_program, IsOutcomeBehind, IsOutcomeOf, IsOutcomeWhere, ArePartsOf}
+use Rattle.spl_driver.specs.Outcome.{Outcome, NoRequest, Unreadable, NotBuilt, has_fault, with_program, IsOutcomeBehind, IsOutcomeOf, IsOutcomeWhere, ArePartsBehind, ArePartsOf}
 use Rattle.spl_driver.specs.RequestLaws.{OneOutcomeLaw, SomeOutcomeLaw, OnePartsLaw, SomePartsLaw}
 
 -- ---- what a request comes to
@@ -55,18 +55,27 @@ some_outcome law (Some request) t arrivals none = some_where law (is_built reque
 
 -- ---- the operators of its program
 
+one_parts_behind : OneAcceptedLaw → (fault : Bool) (request : Request) (bytes : List ℕ) (x y : List Part)
+    → ArePartsBehind fault request bytes x → ArePartsBehind fault request bytes y → x ≡ y
+one_parts_behind law true request bytes x y e d = e ∙ sym d
+one_parts_behind law false request bytes x y (a, is, e) (b, has, d) = e ∙ ap parts_of (law bytes (file_names request) a b is has) ∙ sym d
+
 one_parts_of : OneAcceptedLaw → (program : Option (List ℕ)) (request : Request) (t : Told) (x y : List Part)
     → ArePartsOf program request t x → ArePartsOf program request t y → x ≡ y
 one_parts_of law None request t x y e d = e ∙ sym d
-one_parts_of law (Some p) request t x y (a, is, e) (b, has, d) = e ∙ ap parts_of (law (t.script p).bytes (file_names request) a b is has) ∙ sym d
+one_parts_of law (Some p) request t x y e d = one_parts_behind law (has_fault (t.script p)) request (t.script p).bytes x y e d
 
 pub one_parts : OneAcceptedLaw → OnePartsLaw
 one_parts law None t x y e d = e ∙ sym d
 one_parts law (Some request) t x y e d = one_parts_of law (program_of request) request t x y e d
 
+some_parts_behind : SomeAcceptedLaw → (fault : Bool) (request : Request) (bytes : List ℕ) → ((x : List Part) → ArePartsBehind fault request bytes x → ⊥) → ⊥
+some_parts_behind law true request bytes none = none [] refl
+some_parts_behind law false request bytes none = law bytes (file_names request) (λ found is. none (parts_of found) (found, is, refl))
+
 some_parts_of : SomeAcceptedLaw → (program : Option (List ℕ)) (request : Request) (t : Told) → ((x : List Part) → ArePartsOf program request t x → ⊥) → ⊥
 some_parts_of law None request t none = none [] refl
-some_parts_of law (Some p) request t none = law (t.script p).bytes (file_names request) (λ found is. none (parts_of found) (found, is, refl))
+some_parts_of law (Some p) request t none = some_parts_behind law (has_fault (t.script p)) request (t.script p).bytes none
 
 pub some_parts : SomeAcceptedLaw → SomePartsLaw
 some_parts law None t none = none [] refl

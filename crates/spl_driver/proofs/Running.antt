@@ -321,32 +321,43 @@ lent_behind c sinks old mid new keeps e first second small =
 
 -- ---- lines
 
--- what the run comes to, or anything where nothing is told
-some_outcome : (told : Option Told) (c : CheckedGraph) (streams : List (List Item)) (arrivals : Arrivals) → StreamsFor c streams told
-    → (g : Graph) × (m : Meaning) × RunComes c arrivals told (Runs c g m)
-some_outcome None c streams arrivals p = (p.graph, meaning p.graph p.rows (entries_in arrivals.lists), tt)
-some_outcome (Some t) c streams arrivals p =
-    (p.graph, meant p.graph t arrivals.lists, sym (ap (with_graph c t arrivals.lists) p.runs.graph ∙ p.outcome arrivals.lists))
+-- what the run comes to, or anything where nothing is told; its fault is the run's
+some_outcome : (told : Option Told) (c : CheckedGraph) (streams : List (List Item)) (arrivals : Arrivals) (fault : Option Fault) → StreamsFor c streams told
+    → ((g : Graph) (rows : Lists) (entries : Entries) → graph_of c ≡ Some g → AreStreams c g (meaning g rows entries) streams → fault ≡ run_fault g (meaning g rows entries))
+    → (g : Graph) × (m : Meaning) × RunComes c arrivals told (Runs c g m) × (fault ≡ run_fault g m)
+some_outcome None c streams arrivals fault p faults = (
+  p.graph,
+  meaning p.graph p.rows (entries_in arrivals.lists),
+  tt,
+  faults p.graph p.rows (entries_in arrivals.lists) p.runs.graph (p.streams_of (entries_in arrivals.lists)),
+)
+some_outcome (Some t) c streams arrivals fault p faults = (
+  p.graph,
+  meant p.graph t arrivals.lists,
+  sym (ap (with_graph c t arrivals.lists) p.runs.graph ∙ p.outcome arrivals.lists),
+  faults p.graph p.rows (entries_in arrivals.lists) p.runs.graph (p.streams_of (entries_in arrivals.lists))
+      ∙ ap (run_fault p.graph) (meaning_same p.graph p.rows t arrivals.lists p.told_rows),
+)
 
-line_of_fault : (fault : Option Fault) (Is : Outcome → Type 0) (c : CheckedGraph) (g : Graph) (m : Meaning) (line : List ℕ) → Is (Runs c g m)
+line_of_fault : (fault : Option Fault) (Is : Outcome → Type 0) (c : CheckedGraph) (g : Graph) (m : Meaning) (line : List ℕ) → Is (Runs c g m) → fault ≡ run_fault g m
     → line ≡ status_text (Some c) (cause_of fault) → IsLine (cause_of fault) Is line
-line_of_fault None Is c g m line is e = (Runs c g m, is, e)
-line_of_fault (Some fault) Is c g m line is e = (Runs c g m, is, e)
+line_of_fault None Is c g m line is ends e = (Runs c g m, is, ap cause_of ends, e)
+line_of_fault (Some fault) Is c g m line is ends e = (Runs c g m, is, ap cause_of ends, e)
 
 -- the line of a run that was carried out
 run_line_of : (told : Option Told) (c : CheckedGraph) (streams : List (List Item)) (fault : Option Fault) (sinks : List SinkCount) (ended : Ended) (line : List ℕ) → StreamsFor c streams told
-    → EndsAs fault sinks ended → TellsRun c fault ended.cause line → IsLine ended.cause (RunComes c ended.arrivals told) line
-run_line_of told c streams fault sinks ended line p (inr is) tells = subst (λ (k : Cause). IsLine k (RunComes c ended.arrivals told) line) (sym is) tt
-run_line_of told c streams fault sinks ended line p (inl (is, counts)) (inr wanting) = subst (λ (k : Cause). IsLine k (RunComes c ended.arrivals told) line) (sym wanting) tt
-run_line_of told c streams fault sinks ended line p (inl (is, counts)) (inl e) =
-    let some = some_outcome told c streams ended.arrivals p in
+    → IsFaultOf (S.Done []) c streams fault → EndsAs fault sinks ended → TellsRun c fault ended.cause line → IsLine ended.cause (RunComes c ended.arrivals told) line
+run_line_of told c streams fault sinks ended line p faults (inr is) tells = subst (λ (k : Cause). IsLine k (RunComes c ended.arrivals told) line) (sym is) tt
+run_line_of told c streams fault sinks ended line p faults (inl (is, counts)) (inr wanting) = subst (λ (k : Cause). IsLine k (RunComes c ended.arrivals told) line) (sym wanting) tt
+run_line_of told c streams fault sinks ended line p faults (inl (is, counts)) (inl e) =
+    let some = some_outcome told c streams ended.arrivals fault p faults in
     subst (λ (k : Cause). IsLine k (RunComes c ended.arrivals told) line) (sym is)
-    (line_of_fault fault (RunComes c ended.arrivals told) c some.0 some.1 line some.2 (e ∙ ap (status_text (Some c)) is))
+    (line_of_fault fault (RunComes c ended.arrivals told) c some.0 some.1 line some.2 some.3 (e ∙ ap (status_text (Some c)) is))
 
 pub run_line : (told : Option Told) (c : CheckedGraph) (streams : List (List Item)) (fault : Option Fault) (sinks : List SinkCount) (ended : Ended) (line : Result (List ℕ) NoMemory) → StreamsFor c streams told
-    → EndsAs fault sinks ended → IfOk line (TellsRun c fault ended.cause) → IfOk line (IsLine ended.cause (RunComes c ended.arrivals told))
-run_line told c streams fault sinks ended (Ok line) p ends tells = run_line_of told c streams fault sinks ended line p ends tells
-run_line told c streams fault sinks ended (Err e) p ends tells = tt
+    → IsFaultOf (S.Done []) c streams fault → EndsAs fault sinks ended → IfOk line (TellsRun c fault ended.cause) → IfOk line (IsLine ended.cause (RunComes c ended.arrivals told))
+run_line told c streams fault sinks ended (Ok line) p faults ends tells = run_line_of told c streams fault sinks ended line p faults ends tells
+run_line told c streams fault sinks ended (Err e) p faults ends tells = tt
 
 -- the line of another cause
 pub plain_line : (cause k : Cause) (Is : Outcome → Type 0) (line : List ℕ) → cause ≡ k → (IsRun k → ⊥) → line ≡ status_text None k → IsLine cause Is line

@@ -7,7 +7,6 @@ use Rattle.std.specs.Prelude.{if◌then◌else◌}
 use Rattle.std.specs.Str.{bytes_eq}
 use borrow.Author.Tests.{eq-eqb}
 use Rattle.spl_value.specs.declared.item.Item.{Item}
-use Rattle.spl_value.specs.declared.item.Item.TheVariants as I
 use Rattle.feed_pour.specs.Contents.{Told}
 use Rattle.spl_tree.specs.declared.graph.Op.{Op}
 use Rattle.language_model.specs.declared.checked.Part.{Part}
@@ -22,7 +21,7 @@ use Rattle.stream_model.specs.Meaning.{Entries, Graph, Lists, Meaning, connectio
 use Rattle.stream_model.specs.React.{Kind, Operator, Source, FileSource, Filter, FileSink}
 use Rattle.stream_model.specs.Rows.{text_of}
 use Rattle.stream_model.specs.Stages.{out}
-use Rattle.stream_model.specs.Stream.{is_closed}
+use Rattle.stream_model.specs.Stream.{is_closed, is_tuple}
 use Rattle.file_laws.specs.Files.{sink_file, sink_files, is_named, OwnFiles}
 use Rattle.file_adapters.specs.declared.sinks.Sink.{Sink}
 use Rattle.file_adapters.specs.declared.sinks.Sunk.{Sunk}
@@ -31,7 +30,6 @@ use Rattle.file_adapters.specs.Sinks as S
 use Rattle.file_adapters.specs.Sinks.{AreDistinct, HeldAfter, HoldsFront, SinksCount, SinksWritten, is_file, sink_rows, stream_at}
 use Rattle.list_run.specs.Runs.{AreStreams, CanRun}
 use Rattle.list_run.specs.SinkLaws.{SinkCountLaw, SinkTextLaw}
-use Rattle.list_run.specs.Sinks as L
 use Rattle.list_run.specs.Sinks.{is_sunk, sinks_stream, stays}
 use Rattle.spl_driver.specs.Answer.{AtSink, EachSink, HoldsPrefix, HoldsText, SameFiles, sink_count, sink_text, tuples_of}
 use Rattle.spl_driver.specs.Built.{has_several, has_numbers, is_built_graph, is_built_now}
@@ -307,12 +305,6 @@ prefixes c g rows entries streams k r are law result t u w =
 
 -- ---- their rows
 
-same_tuple : (x : Item) → L.is_tuple x ≡ S.is_tuple x
-same_tuple (I.Tuple values) = refl
-same_tuple I.Window = refl
-same_tuple I.Final = refl
-same_tuple (I.Bad f) = refl
-
 least : (n : ℕ) → n < 2 ^ 64 → min n (2 ^ 64 - 1) ≡ n
 least n small = omega (arith, small)
 
@@ -324,7 +316,7 @@ rows_are c g rows entries streams n op file k r are law there has small =
     let s = sink_runs c g (meaning g rows entries) streams n op file k r are there has in
     let made : length (out (operator_with c n op (FileSink file)) 0 ((meaning g rows entries).events n)) ≡ sink_rows streams (sink_with op file) =
     law c g n (operator_with c n op (FileSink file)) file (first_input op) rows entries k r s.there refl s.ins s.closed
-    ∙ (λ i. count_by (λ x. same_tuple x i) (sym s.given i)) in
+    ∙ ap (count_by is_tuple) (sym s.given) in
     ap (λ k. min k (2 ^ 64 - 1)) made ∙ least (sink_rows streams (sink_with op file)) small
 
 -- so many tuples at each place

@@ -18,8 +18,8 @@ use Rattle.command_line.specs.declared.request.Request.TheVariants as R
 use Rattle.command_line.specs.Request.{file_names}
 use Rattle.file_laws.specs.Files.{is_named}
 use Rattle.spl_driver.specs.Built.{is_built}
-use Rattle.spl_driver.specs.Files.{opens, creates, program_of}
-use Rattle.spl_driver.specs.Outcome.{Outcome, NoRequest, Unreadable, Refused, NotBuilt, Checks, Runs, has_fault, with_program, carried_out, IsOutcomeBehind, IsOutcomeOf, IsOutcomeWhere, IsOutcome, ArePartsOf, ArePartsIn}
+use Rattle.spl_driver.specs.Files.{opens, creates, program_of, built_parts}
+use Rattle.spl_driver.specs.Outcome.{Outcome, NoRequest, Unreadable, Refused, NotBuilt, Checks, Runs, has_fault, with_program, carried_out, IsOutcomeBehind, IsOutcomeOf, IsOutcomeWhere, IsOutcome, ArePartsBehind, ArePartsOf, ArePartsIn}
 use Rattle.spl_driver.specs.Answer.{SameFiles, Begun, Stands, OpenFailed, CreateFailed, DeviceFailed, NoCountChanged, ReadsFailed, Answered, SomeRose, Shown, IsOr, Untouched, ByWords}
 use Rattle.spl_driver.specs.Lines.{Comes, IsLine, IsLineOf}
 use Rattle.spl_driver.specs.RequestLaws.{OneOutcomeLaw, OnePartsLaw}
@@ -63,7 +63,7 @@ stands_map C.Device Is Js ended t u to from h = λ r js. h r (from r js)
 stands_map C.NoMemory Is Js ended t u to from h = λ r js. h r (from r js)
 
 line_of_map : (Is Js : Outcome → Type 0) (cause : Cause) (line : List ℕ) → ((r : Outcome) → Is r → Js r) → IsLineOf Is cause line → IsLineOf Js cause line
-line_of_map Is Js cause line to (r, is, e) = (r, to r is, e)
+line_of_map Is Js cause line to (r, is, ends, e) = (r, to r is, ends, e)
 
 pub line_map : (cause : Cause) (Is Js : Outcome → Type 0) (line : List ℕ) → ((r : Outcome) → Is r → Js r) → IsLine cause Is line → IsLine cause Js line
 line_map C.Done Is Js line to is = line_of_map Is Js C.Done line to is
@@ -125,10 +125,11 @@ outcome_of t request program arrivals found built of quiet accepted =
     (subst (λ (p : Option (List ℕ)). IsOutcomeOf p request t arrivals.lists (with_program request t arrivals.lists found)) (sym of)
     (subst (λ (b : Bool). IsOutcomeBehind b request (t.script program).bytes t arrivals.lists (with_program request t arrivals.lists found)) (sym quiet) (found, accepted, refl)))
 
-parts_in : (t : Told) (request : Request) (program : List ℕ) (found : Result CheckedGraph ProgramRefusal) → program_of request ≡ Some program
+parts_in : (t : Told) (request : Request) (program : List ℕ) (found : Result CheckedGraph ProgramRefusal) → program_of request ≡ Some program → has_fault (t.script program) ≡ false
     → IsAccepted (t.script program).bytes (file_names request) found → (parts : List Part) → parts ≡ Rattle.spl_driver.specs.Files.parts_of found → ArePartsIn (Some request) t parts
-parts_in t request program found of accepted parts e =
-    subst (λ (p : Option (List ℕ)). ArePartsOf p request t parts) (sym of) (found, accepted, e)
+parts_in t request program found of quiet accepted parts e =
+    subst (λ (p : Option (List ℕ)). ArePartsOf p request t parts) (sym of)
+    (subst (λ (b : Bool). ArePartsBehind b request (t.script program).bytes parts) (sym quiet) (found, accepted, e))
 
 -- the program is the first of the files that are opened
 abbrev OpensFirst : Request → List ℕ → List Part → Type 0
@@ -204,25 +205,25 @@ pub carried_answer : OneOutcomeLaw → OnePartsLaw → (told mid now : Option To
     → is_built request ≡ true → program_of request ≡ Some program
     → IfSome told (λ t. CompiledAt (P.Checked c) (t.script program) (file_names request))
     → WhereTold told mid TellsSame → NoCountChanged counts between
-    → WhereTold mid now (λ t u. FilesShow (IsCarried request c ended.arrivals t) (creates (Some request) c.parts) ended between later t u)
-    → CountsShow ended.cause (opens (Some request) c.parts) (creates (Some request) c.parts) between later
+    → WhereTold mid now (λ t u. FilesShow (IsCarried request c ended.arrivals t) (creates (Some request) (built_parts c)) ended between later t u)
+    → CountsShow ended.cause (opens (Some request) (built_parts c)) (creates (Some request) (built_parts c)) between later
     → WhereTold told now (Answered (Some request) ended counts later ⊥)
 carried_answer one parts_one None mid now request program c ended counts between later built of made same quiet files shown = tt
 carried_answer one parts_one (Some t) None now request program c ended counts between later built of made same quiet files shown = absurd same
 carried_answer one parts_one (Some t) (Some s) None request program c ended counts between later built of made same quiet files shown = files
 carried_answer one parts_one (Some t) (Some s) (Some u) request program c ended counts between later built of made same quiet files shown =
-    go (subst (λ (k : PerName). FilesShow (IsCarried request c ended.arrivals t) (creates (Some request) c.parts) ended k later t u) (same_counts counts between quiet)
-    (subst (λ (x : Told). FilesShow (IsCarried request c ended.arrivals x) (creates (Some request) c.parts) ended between later x u) (same_told t s same) files))
-    (subst (λ (k : PerName). CountsShow ended.cause (opens (Some request) c.parts) (creates (Some request) c.parts) k later) (same_counts counts between quiet) shown)
+    go (subst (λ (k : PerName). FilesShow (IsCarried request c ended.arrivals t) (creates (Some request) (built_parts c)) ended k later t u) (same_counts counts between quiet)
+    (subst (λ (x : Told). FilesShow (IsCarried request c ended.arrivals x) (creates (Some request) (built_parts c)) ended between later x u) (same_told t s same) files))
+    (subst (λ (k : PerName). CountsShow ended.cause (opens (Some request) (built_parts c)) (creates (Some request) (built_parts c)) k later) (same_counts counts between quiet) shown)
   where
     comes : IsOutcome (Some request) t ended.arrivals (carried_out request c t ended.arrivals.lists)
     comes = outcome_of t request program ended.arrivals (Ok c) built of made.0 made.1
 
-    parts_are : (parts : List Part) → ArePartsIn (Some request) t parts → c.parts ≡ parts
-    parts_are parts are = parts_one (Some request) t c.parts parts (parts_in t request program (Ok c) of made.1 c.parts refl) are
+    parts_are : (parts : List Part) → ArePartsIn (Some request) t parts → built_parts c ≡ parts
+    parts_are parts are = parts_one (Some request) t (built_parts c) parts (parts_in t request program (Ok c) of made.0 made.1 (built_parts c) refl) are
 
-    go : FilesShow (IsCarried request c ended.arrivals t) (creates (Some request) c.parts) ended counts later t u
-        → CountsShow ended.cause (opens (Some request) c.parts) (creates (Some request) c.parts) counts later
+    go : FilesShow (IsCarried request c ended.arrivals t) (creates (Some request) (built_parts c)) ended counts later t u
+        → CountsShow ended.cause (opens (Some request) (built_parts c)) (creates (Some request) (built_parts c)) counts later
         → Answered (Some request) ended counts later ⊥ t u
     go f k = record {
       stands = stands_map ended.cause (IsCarried request c ended.arrivals t) (IsOutcome (Some request) t ended.arrivals) ended t u

@@ -4,15 +4,17 @@ use Rattle.std.specs.Prelude.{IfOk}
 use Rattle.spl_value.specs.declared.item.Fault.{Fault}
 use Rattle.spl_value.specs.declared.memory.NoMemory.{NoMemory}
 use Rattle.feed_pour.specs.Contents.{AllPoured, failed_write}
-use Rattle.feed_pour.specs.Counts.{Counted, Rose}
+use Rattle.feed_pour.specs.Counts.{Counted, PerName, Rose}
 use Rattle.feed_pour.specs.declared.outside.PourAnswer.{PourAnswer}
 use Rattle.feed_pour.specs.declared.outside.PourAnswer.TheVariants as E
 use Rattle.run_report.specs.declared.cause.Cause.{Cause}
 use Rattle.run_report.specs.declared.cause.Cause.TheVariants as C
 use Rattle.run_report.specs.Texts.{status_text}
-use Rattle.spl_driver.specs.Answer.{IsRun, cause_of}
+use Rattle.command_line.specs.declared.request.Request.{Request}
+use Rattle.spl_driver.specs.Answer.{IsRun, NoCountChanged, Shown, SomeRose, cause_of}
 use Rattle.spl_driver.specs.Lines.{is_run, ToldAs, LinePoured, whole, front, failed, wanting, Pours, PoursLine, IsLine, IsLineOf, PouredText, PouredLine, PouredFront, Said}
 use Rattle.spl_driver.specs.Outcome.{Outcome}
+use Rattle.spl_driver.proofs.Answering.{quiet_stop}
 
 -- ---- causes of requests that were carried out
 
@@ -73,41 +75,60 @@ text_whole text line old now Failed e held = inl (held ∙ ap (λ (l : List ℕ)
 text_front : (text line old : List ℕ) (now : Option (List ℕ)) (Failed : Type 0) → line ≡ text → Failed → (n : ℕ) → now ≡ Some (old ++ take n line) → PouredText text old now Failed
 text_front text line old now Failed e rises n held = inr (rises, (n, held ∙ ap (λ (l : List ℕ). Some (old ++ take n l)) e))
 
-said_whole : (cause : Cause) (Is : Outcome → Type 0) (line old : List ℕ) (now : Option (List ℕ)) (Failed : Type 0) → IsLine cause Is line → now ≡ Some (old ++ line) → Said cause Is (Some old) now Failed
-said_whole C.Done Is line old now Failed is held = (line, is, held)
-said_whole (C.Stopped fault) Is line old now Failed is held = (line, is, held)
-said_whole C.NoMemory Is line old now Failed is held = tt
-said_whole C.BadWords Is line old now Failed is held = text_whole _ line old now Failed is held
-said_whole (C.Refused refusal) Is line old now Failed is held = text_whole _ line old now Failed is held
-said_whole C.NotBuilt Is line old now Failed is held = text_whole _ line old now Failed is held
-said_whole C.Device Is line old now Failed is held = inl (text_whole _ line old now Failed is held)
+-- what the counts of the shelf show of a cause, before it is told
+abbrev pub ShelfShows : Cause → PerName → PerName → Type 0
+ShelfShows cause counts later = (cause ≡ C.Device → SomeRose counts later) × (IsRun cause → NoCountChanged counts later)
 
-said_front : (cause : Cause) (Is : Outcome → Type 0) (line old : List ℕ) (now : Option (List ℕ)) (Failed : Type 0) → IsLine cause Is line → (IsRun cause → ⊥) → Failed
-    → (n : ℕ) → now ≡ Some (old ++ take n line) → Said cause Is (Some old) now Failed
-said_front C.Done Is line old now Failed is other rises n held = absurd (other (None, refl))
-said_front (C.Stopped fault) Is line old now Failed is other rises n held = absurd (other (Some fault, refl))
-said_front C.NoMemory Is line old now Failed is other rises n held = tt
-said_front C.BadWords Is line old now Failed is other rises n held = text_front _ line old now Failed is rises n held
-said_front (C.Refused refusal) Is line old now Failed is other rises n held = text_front _ line old now Failed is rises n held
-said_front C.NotBuilt Is line old now Failed is other rises n held = text_front _ line old now Failed is rises n held
-said_front C.Device Is line old now Failed is other rises n held = inl (text_front _ line old now Failed is rises n held)
+said_whole : (cause : Cause) (Is : Outcome → Type 0) (counts later : PerName) (line old : List ℕ) (now : Option (List ℕ)) (Failed : Type 0) → ShelfShows cause counts later
+    → IsLine cause Is line → now ≡ Some (old ++ line) → Said cause Is counts later (Some old) now Failed
+said_whole C.Done Is counts later line old now Failed shows is held = (line, is, held)
+said_whole (C.Stopped fault) Is counts later line old now Failed shows is held = (line, is, held)
+said_whole C.NoMemory Is counts later line old now Failed shows is held = tt
+said_whole C.BadWords Is counts later line old now Failed shows is held = text_whole _ line old now Failed is held
+said_whole (C.Refused refusal) Is counts later line old now Failed shows is held = text_whole _ line old now Failed is held
+said_whole C.NotBuilt Is counts later line old now Failed shows is held = text_whole _ line old now Failed is held
+said_whole C.Device Is counts later line old now Failed shows is held = inl (shows.0 refl, text_whole _ line old now Failed is held)
 
-said_poured : (cause r : Cause) (Is : Outcome → Type 0) (line old : List ℕ) (now : Option (List ℕ)) (Failed : Type 0) → IsLine cause Is line → LinePoured cause r line old now Failed
-    → Said r Is (Some old) now Failed
-said_poured cause r Is line old now Failed is (whole e held) = subst (λ (c : Cause). Said c Is (Some old) now Failed) (sym e) (said_whole cause Is line old now Failed is held)
-said_poured cause r Is line old now Failed is (front e other rises n held) =
-    subst (λ (c : Cause). Said c Is (Some old) now Failed) (sym e) (said_front cause Is line old now Failed is other rises n held)
-said_poured cause r Is line old now Failed is (failed e (fault, run) rises n held) =
-    subst (λ (c : Cause). Said c Is (Some old) now Failed) (sym e) (inr (rises, (fault, line, line_of_run Is cause line fault run is, n, held)))
-said_poured cause r Is line old now Failed is (wanting e) = subst (λ (c : Cause). Said c Is (Some old) now Failed) (sym e) tt
+said_front : (cause : Cause) (Is : Outcome → Type 0) (counts later : PerName) (line old : List ℕ) (now : Option (List ℕ)) (Failed : Type 0) → ShelfShows cause counts later
+    → IsLine cause Is line → (IsRun cause → ⊥) → Failed → (n : ℕ) → now ≡ Some (old ++ take n line) → Said cause Is counts later (Some old) now Failed
+said_front C.Done Is counts later line old now Failed shows is other rises n held = absurd (other (None, refl))
+said_front (C.Stopped fault) Is counts later line old now Failed shows is other rises n held = absurd (other (Some fault, refl))
+said_front C.NoMemory Is counts later line old now Failed shows is other rises n held = tt
+said_front C.BadWords Is counts later line old now Failed shows is other rises n held = text_front _ line old now Failed is rises n held
+said_front (C.Refused refusal) Is counts later line old now Failed shows is other rises n held = text_front _ line old now Failed is rises n held
+said_front C.NotBuilt Is counts later line old now Failed shows is other rises n held = text_front _ line old now Failed is rises n held
+said_front C.Device Is counts later line old now Failed shows is other rises n held = inl (shows.0 refl, text_front _ line old now Failed is rises n held)
 
-said_nothing : (r : Cause) (Is : Outcome → Type 0) (old now : Option (List ℕ)) (Failed : Type 0) → r ≡ C.NoMemory → Said r Is old now Failed
-said_nothing r Is None now Failed e = tt
-said_nothing r Is (Some old) now Failed e = subst (λ (c : Cause). Said c Is (Some old) now Failed) (sym e) tt
+said_poured : (cause r : Cause) (Is : Outcome → Type 0) (counts later : PerName) (line old : List ℕ) (now : Option (List ℕ)) (Failed : Type 0) → ShelfShows cause counts later
+    → IsLine cause Is line → LinePoured cause r line old now Failed → Said r Is counts later (Some old) now Failed
+said_poured cause r Is counts later line old now Failed shows is (whole e held) =
+    subst (λ (c : Cause). Said c Is counts later (Some old) now Failed) (sym e) (said_whole cause Is counts later line old now Failed shows is held)
+said_poured cause r Is counts later line old now Failed shows is (front e other rises n held) =
+    subst (λ (c : Cause). Said c Is counts later (Some old) now Failed) (sym e) (said_front cause Is counts later line old now Failed shows is other rises n held)
+said_poured cause r Is counts later line old now Failed shows is (failed e (fault, run) rises n held) =
+    subst (λ (c : Cause). Said c Is counts later (Some old) now Failed) (sym e)
+    (inr (shows.1 (fault, run), (rises, (cause_of fault, line, line_of_run Is cause line fault run is, n, held))))
+said_poured cause r Is counts later line old now Failed shows is (wanting e) = subst (λ (c : Cause). Said c Is counts later (Some old) now Failed) (sym e) tt
+
+said_nothing : (r : Cause) (Is : Outcome → Type 0) (counts later : PerName) (old now : Option (List ℕ)) (Failed : Type 0) → r ≡ C.NoMemory → Said r Is counts later old now Failed
+said_nothing r Is counts later None now Failed e = tt
+said_nothing r Is counts later (Some old) now Failed e = subst (λ (c : Cause). Said c Is counts later (Some old) now Failed) (sym e) tt
+
+-- what the shelf's counts show before the line is told
+shelf_shows : (cause : Cause) (request : Option Request) (counts later : PerName) → Shown cause request counts later ⊥ → ShelfShows cause counts later
+shelf_shows cause request counts later h = (rose, λ run. quiet_stop cause request counts later ⊥ run h)
+  where
+    at_device : Shown C.Device request counts later ⊥ → SomeRose counts later
+    at_device (inl rose) = rose
+    at_device (inr (never, same)) = absurd never
+
+    rose : cause ≡ C.Device → SomeRose counts later
+    rose e = at_device (subst (λ (c : Cause). Shown c request counts later ⊥) e h)
 
 -- the line of a cause, once it is told
-pub said : (cause r : Cause) (Is : Outcome → Type 0) (line : Result (List ℕ) NoMemory) (old now : Option (List ℕ)) (Failed : Type 0) → IfOk line (IsLine cause Is)
-    → PoursLine cause r line old now Failed → Said r Is old now Failed
-said cause r Is (Ok line) None now Failed is poured = tt
-said cause r Is (Ok line) (Some old) now Failed is poured = said_poured cause r Is line old now Failed is poured
-said cause r Is (Err e) old now Failed is poured = said_nothing r Is old now Failed poured
+pub said : (cause r : Cause) (request : Option Request) (Is : Outcome → Type 0) (counts later : PerName) (line : Result (List ℕ) NoMemory) (old now : Option (List ℕ)) (Failed : Type 0)
+    → Shown cause request counts later ⊥ → IfOk line (IsLine cause Is) → PoursLine cause r line old now Failed → Said r Is counts later old now Failed
+said cause r request Is counts later (Ok line) None now Failed shown is poured = tt
+said cause r request Is counts later (Ok line) (Some old) now Failed shown is poured =
+    said_poured cause r Is counts later line old now Failed (shelf_shows cause request counts later shown) is poured
+said cause r request Is counts later (Err e) old now Failed shown is poured = said_nothing r Is counts later old now Failed poured

@@ -1,5 +1,5 @@
 -- Which answer a request gets, and what stands behind each answer.
-use Rattle.std.specs.Prelude.{◌≡◌, ◌≢◌, ◌-◌, ◌^◌, ◌⊎◌, ◌||◌, min, ℕ, List, [], ◌∷◌, map, length, take, false, true, Option, Some, None, ⊤, IfSome}
+use Rattle.std.specs.Prelude.{◌≡◌, ◌≢◌, ◌-◌, ◌^◌, ◌⊎◌, ◌||◌, min, ℕ, Bool, List, [], ◌∷◌, map, length, take, false, true, Option, Some, None, ⊤, IfSome}
 use Rattle.std.specs.List.{filter_map}
 use Rattle.feed_pour.specs.Counts.{PerName, Rose}
 use Rattle.feed_pour.specs.Contents.{Told}
@@ -16,6 +16,7 @@ use Rattle.stream_model.specs.Stages.{out}
 use Rattle.run_report.specs.declared.cause.Cause.{Cause}
 use Rattle.run_report.specs.declared.cause.Cause.TheVariants as C
 use Rattle.command_line.specs.declared.request.Request.{Request}
+use Rattle.command_line.specs.declared.request.Request.TheVariants as R
 use Rattle.file_laws.specs.Files.{is_named}
 use Rattle.spl_driver.specs.Built.{is_built}
 use Rattle.spl_driver.specs.Files.{opens, creates}
@@ -149,6 +150,23 @@ Shown (C.Refused refusal) request old new LineFailed = NoCountChanged old new
 Shown C.NotBuilt request old new LineFailed = NoCountChanged old new
 Shown C.Device request old new LineFailed = SomeRose old new ⊎ (LineFailed × NoCountChanged old new)
 Shown C.NoMemory request old new LineFailed = ⊤
+
+-- ---- what the request alone shows
+
+abbrev pub is_check : Option Request → Bool
+is_check None = false
+is_check (Some (R.Check program)) = true
+is_check (Some _) = false
+
+-- a check of a program ends with no fault, and is built
+abbrev pub MayBe : Option Request → Cause → Type 0
+MayBe request (C.Stopped fault) = is_check request ≡ false
+MayBe request C.NotBuilt = is_check request ≡ false
+MayBe request C.Done = ⊤
+MayBe request C.BadWords = ⊤
+MayBe request (C.Refused refusal) = ⊤
+MayBe request C.NoMemory = ⊤
+MayBe request C.Device = ⊤
 
 -- ---- statuses
 

@@ -2,13 +2,14 @@
 use Rattle.std.specs.Prelude.{◌≡◌, ◌⊎◌, ℕ, Bool, true, false, List, [], ◌++◌, take, Option, Some, None, Result, Ok, Err, ⊤, IfSome}
 use Rattle.spl_value.specs.declared.memory.NoMemory.{NoMemory}
 use Rattle.feed_pour.specs.Contents.{Told}
-use Rattle.spl_value.specs.declared.item.Fault.{Fault}
+use Rattle.feed_pour.specs.Counts.{PerName}
 use Rattle.stream_model.specs.declared.record.Arrivals.{Arrivals}
+use Rattle.stream_model.specs.Ends.{run_fault}
 use Rattle.run_report.specs.declared.cause.Cause.{Cause}
 use Rattle.run_report.specs.declared.cause.Cause.TheVariants as C
 use Rattle.run_report.specs.Texts.{status_text, check_text}
 use Rattle.command_line.specs.declared.request.Request.{Request}
-use Rattle.spl_driver.specs.Answer.{IsRun, cause_of}
+use Rattle.spl_driver.specs.Answer.{IsRun, NoCountChanged, SomeRose, cause_of}
 use Rattle.spl_driver.specs.Outcome.{Outcome, Checks, Runs, IsOutcome}
 
 -- what the request comes to, where the shelf tells its files; anything where it doesn't
@@ -21,9 +22,15 @@ line_of (Checks c) cause = check_text c
 line_of (Runs c g m) cause = status_text (Some c) cause
 line_of _ cause = []
 
--- a request that comes to something was carried out, and this is its line
+-- how a request ends that is carried out: a check is done, and a run ends with its fault, or without
+abbrev pub EndsWith : Outcome → Cause → Type 0
+EndsWith (Checks c) cause = cause ≡ C.Done
+EndsWith (Runs c g m) cause = cause ≡ cause_of (run_fault g m)
+EndsWith _ cause = ⊥
+
+-- a request that comes to something was carried out, it ended so, and this is its line
 abbrev pub IsLineOf : (Outcome → Type 0) → Cause → List ℕ → Type 0
-IsLineOf Is cause line = (result : Outcome) × Is result × (line ≡ line_of result cause)
+IsLineOf Is cause line = (result : Outcome) × Is result × EndsWith result cause × (line ≡ line_of result cause)
 
 -- the line of a cause; nothing is said of that of want of memory
 abbrev pub IsLine : Cause → (Outcome → Type 0) → List ℕ → Type 0
@@ -46,18 +53,20 @@ PouredLine Is cause old now = (line : List ℕ) × IsLineOf Is cause line × (no
 -- or a front of it and no more, since the pour failed
 abbrev pub PouredFront : (Outcome → Type 0) → List ℕ → Option (List ℕ) → Type 0 → Type 0
 PouredFront Is old now Failed =
-    Failed × ((fault : Option Fault) × (line : List ℕ) × IsLineOf Is (cause_of fault) line × (n : ℕ) × (now ≡ Some (old ++ take n line)))
+    Failed × ((cause : Cause) × (line : List ℕ) × IsLineOf Is cause line × (n : ℕ) × (now ≡ Some (old ++ take n line)))
 
--- the cause's line was poured; nothing is said of want of memory
-abbrev pub Said : Cause → (Outcome → Type 0) → Option (List ℕ) → Option (List ℕ) → Type 0 → Type 0
-Said cause Is None now Failed = ⊤
-Said C.NoMemory Is (Some old) now Failed = ⊤
-Said C.Done Is (Some old) now Failed = PouredLine Is C.Done old now
-Said (C.Stopped fault) Is (Some old) now Failed = PouredLine Is (C.Stopped fault) old now
-Said C.BadWords Is (Some old) now Failed = PouredText (status_text None C.BadWords) old now Failed
-Said (C.Refused refusal) Is (Some old) now Failed = PouredText (status_text None (C.Refused refusal)) old now Failed
-Said C.NotBuilt Is (Some old) now Failed = PouredText (status_text None C.NotBuilt) old now Failed
-Said C.Device Is (Some old) now Failed = PouredText (status_text None C.Device) old now Failed ⊎ PouredFront Is old now Failed
+-- The cause's line was poured; nothing is said of want of memory. Where a device failed, that is one of the shelf's, and its line was poured; or
+-- none of the shelf's failed, and the line that would have come was begun.
+abbrev pub Said : Cause → (Outcome → Type 0) → PerName → PerName → Option (List ℕ) → Option (List ℕ) → Type 0 → Type 0
+Said cause Is counts later None now Failed = ⊤
+Said C.NoMemory Is counts later (Some old) now Failed = ⊤
+Said C.Done Is counts later (Some old) now Failed = PouredLine Is C.Done old now
+Said (C.Stopped fault) Is counts later (Some old) now Failed = PouredLine Is (C.Stopped fault) old now
+Said C.BadWords Is counts later (Some old) now Failed = PouredText (status_text None C.BadWords) old now Failed
+Said (C.Refused refusal) Is counts later (Some old) now Failed = PouredText (status_text None (C.Refused refusal)) old now Failed
+Said C.NotBuilt Is counts later (Some old) now Failed = PouredText (status_text None C.NotBuilt) old now Failed
+Said C.Device Is counts later (Some old) now Failed =
+    (SomeRose counts later × PouredText (status_text None C.Device) old now Failed) ⊎ (NoCountChanged counts later × PouredFront Is old now Failed)
 
 -- ---- how a line is told
 

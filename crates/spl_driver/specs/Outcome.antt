@@ -120,12 +120,16 @@ IsOutcome (Some request) told arrivals result = IsOutcomeWhere (is_built request
 
 -- ---- the operators of its program
 
+-- a program that can't be read to its end has none
+abbrev pub ArePartsBehind : Bool → Request → List ℕ → List Part → Type 0
+ArePartsBehind true request bytes parts = parts ≡ []
+ArePartsBehind false request bytes parts = (found : Result CheckedGraph ProgramRefusal) × IsAccepted bytes (file_names request) found × (parts ≡ parts_of found)
+
 abbrev pub ArePartsOf : Option (List ℕ) → Request → Told → List Part → Type 0
 ArePartsOf None request told parts = parts ≡ []
-ArePartsOf (Some program) request told parts =
-    (found : Result CheckedGraph ProgramRefusal) × IsAccepted (told.script program).bytes (file_names request) found × (parts ≡ parts_of found)
+ArePartsOf (Some program) request told parts = ArePartsBehind (has_fault (told.script program)) request (told.script program).bytes parts
 
--- the clauses of the operators of the request's program, which are none where it isn't accepted
+-- the clauses of the operators that the request's program is run by, which are none where it isn't accepted or its graph isn't built
 abbrev pub ArePartsIn : Option Request → Told → List Part → Type 0
 ArePartsIn None told parts = parts ≡ []
 ArePartsIn (Some request) told parts = ArePartsOf (program_of request) request told parts

@@ -19,7 +19,7 @@ use Rattle.language_model.specs.CheckedGraph.{CheckedGraph}
 use Rattle.stream_model.specs.CheckedMeaning.{graph_of}
 use Rattle.stream_model.specs.React.{Source}
 use Rattle.stream_model.specs.Rows.{Setting, rows}
-use Rattle.stream_model.specs.Stream.{is_closed}
+use Rattle.stream_model.specs.Stream.{is_closed, TuplesFit}
 use Rattle.language_model.specs.StreamTypes.{Attributes}
 use Rattle.stream_model.specs.Meaning.{Graph, Lists, Entries, meaning, rows_of}
 use Rattle.run_report.specs.declared.cause.Cause.{Cause}
@@ -29,7 +29,7 @@ use Rattle.run_report.specs.Texts.{status_text}
 use Rattle.file_laws.specs.Files.{source_files, sink_files, is_named, OwnFiles}
 use Rattle.file_adapters.specs.Source.{is_number_file, is_number_schema}
 use Rattle.file_adapters.specs.declared.sinks.Sink.{Sink}
-use Rattle.list_run.specs.Runs.{CanRun, RowsFit, AreStreams, TuplesFit, rows_at}
+use Rattle.list_run.specs.Runs.{CanRun, RowsFit, AreStreams, rows_at}
 use Rattle.spl_driver.specs.Outcome.{Outcome, NotBuilt, Runs, has_fault, holds_numbers, rows_told, meant, with_graph, carried_out}
 use Rattle.spl_driver.specs.Answer.{Stands, OpenFailed, CreateFailed, NoCountChanged, SameFiles, ReadsFailed, IsOr, cause_of}
 use Rattle.spl_driver.specs.declared.compiled.Compiled.{Compiled}

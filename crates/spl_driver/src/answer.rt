@@ -4,12 +4,13 @@ ghost use Rattle.feed_pour.specs.Contents.{WhereTold};
 ghost use Rattle.run_report.specs.Texts.{status_text, check_text};
 ghost use Rattle.command_line.specs.Request.{file_names};
 ghost use Rattle.file_laws.specs.Files.{OwnFiles};
-ghost use Rattle.spl_driver.specs.Answer.{Answered, Shown};
+ghost use Rattle.spl_driver.specs.Answer.{Answered, MayBe, Shown};
 ghost use Rattle.spl_driver.specs.Built.{is_built};
-ghost use Rattle.spl_driver.specs.Files.{opens, creates, program_of};
+ghost use Rattle.spl_driver.specs.Files.{opens, creates, built_parts, program_of};
 ghost use Rattle.spl_driver.specs.Lines.{Comes, IsLine};
 ghost use Rattle.spl_driver.specs.Steps.{IsCarried, CarriedComes, CountsShow, FilesShow};
 
+use crate::built::is_built_graph;
 use crate::compiled::{Compiled, compile_file};
 use crate::ended::{Ended, uncounted_end};
 use crate::laws::request_law;
@@ -64,18 +65,27 @@ fn carry_out<H: Shelf>(
     requires own { OwnFiles (file_names request.now) accepted.now.parts }
     ensures files { WhereTold (H.told shelf.old) (H.told shelf.new)
         (λ old new. FilesShow (IsCarried request.now accepted.now result.ended.arrivals old)
-        (creates (Some request.now) accepted.now.parts)
+        (creates (Some request.now) (built_parts accepted.now))
         result.ended (H.counts shelf.old) (H.counts shelf.new) old new) }
-    ensures counts { CountsShow result.ended.cause (opens (Some request.now) accepted.now.parts)
-        (creates (Some request.now) accepted.now.parts) (H.counts shelf.old) (H.counts shelf.new) }
+    ensures counts { CountsShow result.ended.cause
+        (opens (Some request.now) (built_parts accepted.now))
+        (creates (Some request.now) (built_parts accepted.now))
+        (H.counts shelf.old) (H.counts shelf.new) }
     ensures line { IfOk result.line (IsLine result.ended.cause
         (CarriedComes request.now accepted.now result.ended.arrivals (H.told shelf.old))) }
+    ensures kinds { MayBe (Some request.now) result.ended.cause }
     ensures lists { result.ended.arrivals.lists ≡ [] }
     ensures lent { H.lent shelf.old < 2 ^ 64 - 256 → H.lent shelf.new ≡ H.lent shelf.old }
 {
     match request {
         Request::Check(_) => checked(alloc, accepted),
-        Request::Run { .. } => run(alloc, shelf, accepted),
+        Request::Run { .. } => {
+            if is_built_graph(accepted) {
+                run(alloc, shelf, accepted)
+            } else {
+                plain(alloc, Cause::NotBuilt)
+            }
+        }
         _ => plain(alloc, Cause::NotBuilt),
     }
 }
@@ -97,6 +107,7 @@ fn answer_file<H: Shelf>(
         (H.counts shelf.new) ⊥ }
     ensures line { IfOk result.line (IsLine result.ended.cause
         (Comes (Some request.now) (H.told shelf.old) result.ended.arrivals)) }
+    ensures kinds { MayBe (Some request.now) result.ended.cause }
     ensures lists { result.ended.arrivals.lists ≡ [] }
     ensures lent { H.lent shelf.old < 2 ^ 64 - 256 → H.lent shelf.new ≡ H.lent shelf.old }
 {
@@ -124,6 +135,7 @@ pub fn answer_program<H: Shelf>(
         (H.counts shelf.new) ⊥ }
     ensures line { IfOk result.line (IsLine result.ended.cause
         (Comes (Some request.now) (H.told shelf.old) result.ended.arrivals)) }
+    ensures kinds { MayBe (Some request.now) result.ended.cause }
     ensures lists { result.ended.arrivals.lists ≡ [] }
     ensures lent { H.lent shelf.old < 2 ^ 64 - 256 → H.lent shelf.new ≡ H.lent shelf.old }
 {

@@ -1,11 +1,11 @@
 //! A run made ready: its sources read, and its streams computed.
-ghost use Rattle.std.specs.Prelude.{◌≡◌, ◌<◌, ◌-◌, ◌^◌, IfSome};
+ghost use Rattle.std.specs.Prelude.{◌≡◌, ◌<◌, ◌-◌, ◌^◌, true, IfSome};
 ghost use Rattle.feed_pour.specs.Contents.{WhereTold, TellsSame};
 ghost use Rattle.file_laws.specs.Files.{source_files};
 ghost use Rattle.spl_driver.specs.Answer.{ReadsFailed};
+ghost use Rattle.spl_driver.specs.Built.{is_built_now};
 ghost use Rattle.spl_driver.specs.Steps.{PreparedOf, OpensCounted, prepare_failed};
 
-use crate::built::is_built_graph;
 use crate::sources::{Sources, read_sources};
 use feed_pour::Shelf;
 use language_model::Checked;
@@ -23,8 +23,10 @@ pub enum Prepared {
     Memory,
 }
 
-/// Reads the sources of a graph, and computes its streams.
+/// Reads the sources of a graph that is built, and computes its streams. It is `NotBuilt` where a source's
+/// file doesn't hold whole numbers.
 pub fn prepare<H: Shelf>(alloc: Global, shelf: &mut H, checked: &Checked) -> Prepared
+    requires built { is_built_now checked.now ≡ true }
     ensures made { PreparedOf result checked.now (H.told shelf.old) }
     ensures told { WhereTold (H.told shelf.old) (H.told shelf.new) TellsSame }
     ensures reads { IfSome (H.told shelf.old)
@@ -33,9 +35,6 @@ pub fn prepare<H: Shelf>(alloc: Global, shelf: &mut H, checked: &Checked) -> Pre
         (H.counts shelf.old) (H.counts shelf.new) }
     ensures lent { H.lent shelf.old < 2 ^ 64 - 1 → H.lent shelf.new ≡ H.lent shelf.old }
 {
-    if !is_built_graph(checked) {
-        return Prepared::NotBuilt;
-    }
     match read_sources(alloc, shelf, checked) {
         Sources::NotBuilt => Prepared::NotBuilt,
         Sources::Device => Prepared::Device,

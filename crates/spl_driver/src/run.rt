@@ -1,8 +1,9 @@
 //! A run of a checked graph, from its sources to its sinks.
-ghost use Rattle.std.specs.Prelude.{◌≡◌, ◌<◌, ◌-◌, ◌^◌, ℕ, List, [], IfOk};
+ghost use Rattle.std.specs.Prelude.{◌≡◌, ◌<◌, ◌-◌, ◌^◌, true, ℕ, List, [], IfOk};
 ghost use Rattle.feed_pour.specs.Contents.{WhereTold};
 ghost use Rattle.file_laws.specs.Files.{source_files, sink_files, OwnFiles};
 ghost use Rattle.spl_driver.specs.Answer.{cause_of};
+ghost use Rattle.spl_driver.specs.Built.{is_built_now};
 ghost use Rattle.spl_driver.specs.Lines.{IsLine};
 ghost use Rattle.spl_driver.specs.Steps.{IsRunOf, RunComes, CountsShow, FilesShow, EndsAs, TellsRun, counts_from};
 
@@ -58,8 +59,9 @@ fn carried_out(alloc: Global, checked: &Checked, rows: &Items<u64>, fault: Optio
     }
 }
 
-/// Runs a checked graph: reads its sources, and writes its sinks.
+/// Runs a checked graph that is built: reads its sources, and writes its sinks.
 pub fn run<H: Shelf>(alloc: Global, shelf: &mut H, checked: &Checked) -> Answer
+    requires built { is_built_now checked.now ≡ true }
     requires own { (names : List (List ℕ)) × OwnFiles names checked.now.parts }
     ensures files { WhereTold (H.told shelf.old) (H.told shelf.new)
         (λ old new. FilesShow (IsRunOf checked.now result.ended.arrivals old) (sink_files checked.now.parts)

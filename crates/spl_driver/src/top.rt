@@ -3,7 +3,7 @@ ghost use Rattle.std.specs.Prelude.{◌≡◌, ◌⊎◌, ◌<◌, ◌-◌, ◌^
 ghost use Rattle.feed_pour.specs.Counts.{Rose};
 ghost use Rattle.feed_pour.specs.Contents.{WhereTold};
 ghost use Rattle.command_line.specs.Request.{request_of};
-ghost use Rattle.spl_driver.specs.Answer.{Answered, Shown, NoCountChanged, ByWords, status_of, IsComplete, IsRun};
+ghost use Rattle.spl_driver.specs.Answer.{Answered, Shown, NoCountChanged, ByWords, MayBe, status_of, IsComplete, IsRun};
 ghost use Rattle.spl_driver.specs.Lines.{Comes, IsLine, Said, ToldAs, PoursLine};
 
 use crate::answer::{Answer, answer_program, plain};
@@ -29,6 +29,7 @@ fn carried<H: Shelf>(alloc: Global, shelf: &mut H, request: &Request) -> Answer
         (Comes (Some request.now) (H.told shelf.old) result.ended.arrivals)) }
     ensures words { ByWords (Some request.now) result.ended.cause (H.counts shelf.old)
         (H.counts shelf.new) }
+    ensures kinds { MayBe (Some request.now) result.ended.cause }
     ensures lists { result.ended.arrivals.lists ≡ [] }
     ensures lent { H.lent shelf.old < 2 ^ 64 - 256 → H.lent shelf.new ≡ H.lent shelf.old }
 {
@@ -58,6 +59,7 @@ fn answer<H: Shelf>(alloc: Global, words: &[String], shelf: &mut H) -> Answer
         (Comes (request_of words.now) (H.told shelf.old) result.ended.arrivals)) }
     ensures words { ByWords (request_of words.now) result.ended.cause (H.counts shelf.old)
         (H.counts shelf.new) }
+    ensures kinds { MayBe (request_of words.now) result.ended.cause }
     ensures lists { result.ended.arrivals.lists ≡ [] }
     ensures lent { H.lent shelf.old < 2 ^ 64 - 256 → H.lent shelf.new ≡ H.lent shelf.old }
 {
@@ -109,8 +111,9 @@ pub fn spl<W: Threads + Wait + Sync, H: Shelf, S: Starter, G: Gate, P: Pour>(
 
     // The line that was poured.
     ensures said { Said result.cause
-        (Comes (request_of words.now) (H.told shelf.old) result.arrivals) (P.poured out.old)
-        (P.poured out.new) (Rose (P.faults out.old) (P.faults out.new)) }
+        (Comes (request_of words.now) (H.told shelf.old) result.arrivals) (H.counts shelf.old)
+        (H.counts shelf.new) (P.poured out.old) (P.poured out.new)
+        (Rose (P.faults out.old) (P.faults out.new)) }
 
     // Every feed and every pour is given back.
     ensures lent { H.lent shelf.old < 2 ^ 64 - 256 → H.lent shelf.new ≡ H.lent shelf.old }
@@ -121,6 +124,9 @@ pub fn spl<W: Threads + Wait + Sync, H: Shelf, S: Starter, G: Gate, P: Pour>(
     // The words alone decide that there is no request, or that it isn't built.
     ensures words { ByWords (request_of words.now) result.cause (H.counts shelf.old)
         (H.counts shelf.new) }
+
+    // A check ends with no fault, and is built.
+    ensures kinds { MayBe (request_of words.now) result.cause }
 
     // Where no device fails, what the request comes to is the answer, unless memory is wanting.
     ensures complete { IfSome (H.told shelf.old)

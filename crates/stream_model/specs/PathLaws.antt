@@ -147,3 +147,20 @@ pub sink_fault : (op : Operator) (file : List ℕ) (s : ℕ) (items : List Item)
 sink_fault op file s items k i o =
     ap (λ (one : Operator). operator_fault one (map (came 0) items)) (one_in-parts op (FileSink file) s [] k i o)
     ∙ sink_fault_from op.number s op.functions file [] items
+
+-- ---- the laws
+
+-- a filter with one connection passes the tuples for which its condition holds, up to one for which it faults, window markers, and the end
+abbrev pub FilterLaw : Type 0
+FilterLaw = (op : Operator) (condition : Option (Code Slot)) (s t : ℕ) (items : List Item)
+    → op.kind ≡ Filter condition → op.ins ≡ (s ∷ []) ∷ [] → op.outs ≡ t ∷ [] → out op 0 (map (came 0) items) ≡ passed op.number op.functions condition items
+
+-- a sink with one connection gives its writer the tuples before the end
+abbrev pub SinkLaw : Type 0
+SinkLaw = (op : Operator) (file : List ℕ) (s : ℕ) (items : List Item)
+    → op.kind ≡ FileSink file → op.ins ≡ (s ∷ []) ∷ [] → op.outs ≡ [] → out op 0 (map (came 0) items) ≡ written items
+
+-- and ends with the fault that its stream does
+abbrev pub SinkFaultLaw : Type 0
+SinkFaultLaw = (op : Operator) (file : List ℕ) (s : ℕ) (items : List Item)
+    → op.kind ≡ FileSink file → op.ins ≡ (s ∷ []) ∷ [] → op.outs ≡ [] → operator_fault op (map (came 0) items) ≡ stream_fault items

@@ -10,7 +10,7 @@ ghost use Rattle.stream_model.specs.Laws.{StartLaw, HistoryLaw, EndLaw, EndItemL
 ghost use Rattle.stream_model.specs.React.{Source, FileSource, Filter, FileSink};
 ghost use Rattle.spl_tree.specs.declared.code.Code.{Code};
 ghost use Rattle.spl_tree.specs.declared.code.Slot.{Slot};
-ghost use Rattle.stream_model.specs.PathLaws.{path_graph};
+ghost use Rattle.stream_model.specs.PathLaws.{path_graph, FilterLaw, SinkLaw, SinkFaultLaw};
 ghost use Rattle.stream_model.specs.TwoSinks.{two_sinks, unread_source, bad_row, fault_of_run};
 ghost use Rattle.stream_model.specs.Rows.{Setting, rows, too_long, text_of};
 ghost use Rattle.spl_tree.specs.declared.graph.OpKind.TheVariants as O;
@@ -40,11 +40,20 @@ pub fn order_law()
     ensures closed { ClosedGivesClosed }
 {}
 
-/// No kind of operator gives a final marker or a fault by its body, or an item on a port past its
-/// own.
+/// No kind of operator gives a final marker or a fault by its body, or an item on another port than the
+/// first.
 pub fn kinds_law()
     ensures items { BodyLaw }
     ensures ports { BodyPorts }
+{}
+
+/// What operators with one connection make of a stream. A filter passes the tuples for which its
+/// condition holds, up to one for which it faults, window markers, and the end. A sink gives its writer
+/// the tuples before the end, and ends with the fault that its stream does.
+pub fn path_law()
+    ensures filters { FilterLaw }
+    ensures sinks { SinkLaw }
+    ensures faults { SinkFaultLaw }
 {}
 
 /// The streams of an ordered graph are what its operators make of them, and the events of each

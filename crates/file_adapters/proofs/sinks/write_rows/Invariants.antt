@@ -1,7 +1,7 @@
 use Rattle.std.proofs.Common.{◌≡◌, ◌≤◌, take, count_by}
 use Rattle.feed_pour.specs.Contents.{PouredSoFar}
 use Rattle.stream_model.specs.Rows.{text_of}
-use Rattle.file_adapters.specs.Sinks.{is_tuple}
+use Rattle.stream_model.specs.Stream.{is_tuple}
 use Rattle.file_adapters.proofs.sinks.write_rows.Given as goal
 
 abbrev pub invariant-loop-item : goal.invariant-loop-item

@@ -1,16 +1,13 @@
-use Rattle.std.proofs.Common.{◌≡◌, ◌∙◌, true, sym, rules}
-use Rattle.spl_driver.specs.Built.{is_built_now}
 use Rattle.spl_driver.proofs.Preparing.{runs, rows_fit, streams_for}
 use Rattle.spl_driver.proofs.prepare.prepare.Goals as goal
 
 pub streams_of-requires-clause-runs : goal.streams_of-requires-clause-runs
 streams_of-requires-clause-runs g c =
-    let built : is_built_now c.args.checked.now ≡ true = search rules in runs c.args.checked.now built
+    runs c.args.checked.now c.requires.built
 
 pub streams_of-requires-clause-rows : goal.streams_of-requires-clause-rows
 streams_of-requires-clause-rows g c = rows_fit c.args.checked.now c.in-Rows.rows _ c.in-Rows.ensures.made
 
 pub returns-in-Ok-clause-made : goal.returns-in-Ok-clause-made
 returns-in-Ok-clause-made g c =
-    let built : is_built_now c.args.checked.now ≡ true = search rules in
-    streams_for c.args.checked.now c.in-Rows.rows c.in-Ok.streams _ built c.in-Rows.ensures.made c.in-Ok.ensures
+    streams_for c.args.checked.now c.in-Rows.rows c.in-Ok.streams _ c.requires.built c.in-Rows.ensures.made c.in-Ok.ensures

@@ -56,7 +56,7 @@ returns-clause-files g c =
 
 pub returns-clause-line : goal.returns-clause-line
 returns-clause-line g c =
-    run_line _ c.args.checked.now c.in-Streams.streams c.fault_of_run-fault.result _ c.carried_out.result.ended c.carried_out.result.line c.in-Streams.ensures.made c.carried_out.ensures.ends c.carried_out.ensures.line
+    run_line _ c.args.checked.now c.in-Streams.streams c.fault_of_run-fault.result _ c.carried_out.result.ended c.carried_out.result.line c.in-Streams.ensures.made c.fault_of_run-fault.ensures c.carried_out.ensures.ends c.carried_out.ensures.line
 
 pub returns-clause-lent : goal.returns-clause-lent
 returns-clause-lent g c = lent_behind c.args.checked.now c.in-Ok.sinks _ _ _ c.in-Ok.ensures.kept c.in-Ok.ensures.sinks c.in-Streams.ensures.lent c.in-Done.ensures.lent
