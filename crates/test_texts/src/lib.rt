@@ -1,0 +1,10 @@
+//! Tables of rows, and values, types, trees, codes and graphs as texts, for the crates of tests.
+//!
+//! A crate of tests has its cases in literals, a row a line, and asks here which of them have another
+//! answer than their line says.
+#![tactic(auto)]
+
+pub mod rows;
+pub mod text;
+pub mod types;
+pub mod values;

@@ -1,0 +1,62 @@
+//! Texts that grow piece by piece.
+use std::alloc::{AllocError, Global};
+
+/// A text that grows. Once memory is wanting, nothing more is added.
+#[derive(Drop)]
+pub struct Text {
+    text: String,
+    outcome: Result<(), AllocError>,
+}
+
+impl Text {
+    /// The empty text.
+    pub fn new(alloc: Global) -> Text {
+        Text {
+            text: String::new(alloc),
+            outcome: Ok(()),
+        }
+    }
+
+    /// Adds a piece.
+    pub fn add(&mut self, piece: &str) {
+        if self.outcome.is_ok() {
+            self.outcome = self.text.push_str(piece);
+        }
+    }
+
+    /// Adds bytes, each as the character of its number.
+    pub fn add_bytes(&mut self, bytes: &[u8]) {
+        for byte in bytes {
+            if self.outcome.is_ok() {
+                self.outcome = self.text.push(char::from(*byte));
+            }
+        }
+    }
+
+    /// Adds a number in decimal digits.
+    pub fn add_number(&mut self, number: i128) {
+        if self.outcome.is_ok() {
+            self.outcome = write!(self.text, "{number}");
+        }
+    }
+
+    /// Adds a word and a place behind it, as in `v3`.
+    pub fn add_place(&mut self, word: &str, place: u32) {
+        self.add(word);
+        self.add_number(i128::from(place));
+    }
+
+    /// Adds what stands between the items of a list, unless this is the first.
+    pub fn add_between(&mut self, at: usize, between: &str) {
+        if at > 0 {
+            self.add(between);
+        }
+    }
+
+    /// The text, if there was memory for all of it.
+    pub fn finish(self) -> Result<String, AllocError> {
+        let Text { text, outcome } = self;
+        outcome?;
+        Ok(text)
+    }
+}
