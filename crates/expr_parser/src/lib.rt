@@ -10,8 +10,6 @@ mod parts;
 mod prefixes;
 mod reading;
 mod stop;
-#[cfg(test)]
-mod tests;
 mod weight;
 
 pub use answer::{ParsedExpr, SyntaxAnswer};

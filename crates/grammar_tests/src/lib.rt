@@ -1,29 +1,20 @@
-//! Texts of programs against their trees or their first refusals, worked out by hand from the grammar.
+//! Texts of programs against their tokens, their trees or their first refusals, worked out by hand from
+//! the grammar.
 #![tactic(auto)]
 
 #[cfg(test)]
-mod answer;
+mod asked;
 #[cfg(test)]
-mod branches;
+mod deep;
 #[cfg(test)]
-mod clauses;
+mod definitions;
 #[cfg(test)]
-mod composites;
-#[cfg(test)]
-mod functions;
+mod expressions;
 #[cfg(test)]
 mod invocations;
-#[cfg(test)]
-mod large;
 #[cfg(test)]
 mod places;
 #[cfg(test)]
 mod statements;
 #[cfg(test)]
-mod trades;
-#[cfg(test)]
-mod trees;
-#[cfg(test)]
-mod types;
-#[cfg(test)]
-mod units;
+mod tokens;

@@ -7,8 +7,6 @@ mod front;
 mod lengths;
 mod numbers;
 mod symbols;
-#[cfg(test)]
-mod tests;
 mod texts;
 mod tokens;
 mod words;

@@ -6,5 +6,7 @@
 
 pub mod rows;
 pub mod text;
+pub mod tokens;
+pub mod trees;
 pub mod types;
 pub mod values;

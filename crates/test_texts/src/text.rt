@@ -1,18 +1,30 @@
 //! Texts that grow piece by piece.
 use std::alloc::{AllocError, Global};
 
-/// A text that grows. Once memory is wanting, nothing more is added.
+/// A text that grows, and whether it shows where in the program things stand. Once memory is wanting,
+/// nothing more is added.
 #[derive(Drop)]
 pub struct Text {
     text: String,
+    places: bool,
     outcome: Result<(), AllocError>,
 }
 
 impl Text {
-    /// The empty text.
+    /// The empty text, without places.
     pub fn new(alloc: Global) -> Text {
         Text {
             text: String::new(alloc),
+            places: false,
+            outcome: Ok(()),
+        }
+    }
+
+    /// The empty text, with places.
+    pub fn with_places(alloc: Global) -> Text {
+        Text {
+            text: String::new(alloc),
+            places: true,
             outcome: Ok(()),
         }
     }
@@ -46,6 +58,14 @@ impl Text {
         self.add_number(i128::from(place));
     }
 
+    /// Adds where in the program the next piece stands, as in `5:`, in a text with places.
+    pub fn add_at(&mut self, at: u32) {
+        if self.places {
+            self.add_number(i128::from(at));
+            self.add(":");
+        }
+    }
+
     /// Adds what stands between the items of a list, unless this is the first.
     pub fn add_between(&mut self, at: usize, between: &str) {
         if at > 0 {
@@ -55,7 +75,7 @@ impl Text {
 
     /// The text, if there was memory for all of it.
     pub fn finish(self) -> Result<String, AllocError> {
-        let Text { text, outcome } = self;
+        let Text { text, outcome, .. } = self;
         outcome?;
         Ok(text)
     }

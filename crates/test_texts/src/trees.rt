@@ -14,12 +14,22 @@
 //! | `logic [state [int8 a] onTuple X {}] window [X: t, count()] param [p: 1, 2]` | clauses |
 //! | `(a + b)`, `<a>`, `(a.b[1])`, `(- ! a)`, `(a ? b : c)` | expressions: operators in parentheses, those of the program as `<>` |
 //!
-//! Where places are shown, each of them stands in front of what is there, as `5:T`.
-mod expressions;
-mod invocations;
-mod shown;
-mod statements;
-mod types;
-mod units;
+//! In a text with places each of them stands in front of what is there, as `5:T`.
+pub mod expressions;
+pub mod invocations;
+pub mod statements;
+pub mod types;
+pub mod units;
 
-pub(crate) use units::unit_text;
+use crate::text::Text;
+use spl_tree::Placed;
+use spl_value::Name;
+
+/// Adds a name.
+pub fn add_name(text: &mut Text, name: &Placed<Name>) {
+    text.add_at(name.at);
+    text.add_bytes(name.what.as_slice());
+}
+
+/// How deep types, expressions and statements may nest to be shown.
+const ROOM: u32 = 1500;
