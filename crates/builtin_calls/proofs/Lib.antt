@@ -1,4 +1,3 @@
 pub mod Opposites
 pub mod Shapes
 pub mod Chosen
-pub mod Samples

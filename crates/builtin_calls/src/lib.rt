@@ -5,8 +5,6 @@ mod collections;
 mod extremes;
 mod integers;
 mod laws;
-#[cfg(test)]
-mod tests;
 mod texts;
 
 pub use collections::{append_m, clear_m, has, remove_m, size};

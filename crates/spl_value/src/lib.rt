@@ -8,13 +8,9 @@ mod integer;
 mod item;
 mod items;
 mod key;
-#[cfg(test)]
-mod key_tests;
 mod memory;
 mod packet;
 mod pairs;
-#[cfg(test)]
-mod tests;
 mod types;
 mod value;
 mod wrapping;

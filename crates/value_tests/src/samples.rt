@@ -1,8 +1,8 @@
 //! Values for tests.
-use crate::{Items, Value};
+use spl_value::{Items, Value};
 use std::alloc::{AllocError, Global};
 
-pub fn text(alloc: Global, bytes: &[u8]) -> Result<Value, AllocError> {
+pub(crate) fn text(alloc: Global, bytes: &[u8]) -> Result<Value, AllocError> {
     Ok(Value::Text(Items::from_slice(alloc, bytes)?))
 }
 
@@ -14,15 +14,15 @@ fn integers(alloc: Global, numbers: &[i128]) -> Result<Vec<Value>, AllocError> {
     Ok(values)
 }
 
-pub fn list(alloc: Global, numbers: &[i128]) -> Result<Value, AllocError> {
+pub(crate) fn list(alloc: Global, numbers: &[i128]) -> Result<Value, AllocError> {
     Ok(Value::List(Items::from_vec(integers(alloc, numbers)?)))
 }
 
-pub fn tuple(alloc: Global, numbers: &[i128]) -> Result<Value, AllocError> {
+pub(crate) fn tuple(alloc: Global, numbers: &[i128]) -> Result<Value, AllocError> {
     Ok(Value::Tuple(Items::from_vec(integers(alloc, numbers)?)))
 }
 
-pub fn map(alloc: Global, numbers: &[(i128, i128)]) -> Result<Value, AllocError> {
+pub(crate) fn map(alloc: Global, numbers: &[(i128, i128)]) -> Result<Value, AllocError> {
     let mut pairs = Vec::new(alloc);
     for (key, value) in numbers {
         pairs.push((Value::Int(*key), Value::Int(*value)))?;
@@ -31,7 +31,7 @@ pub fn map(alloc: Global, numbers: &[(i128, i128)]) -> Result<Value, AllocError>
 }
 
 /// A list of one list of one list .., with the number in the innermost.
-pub fn nested(alloc: Global, depth: usize, n: i128) -> Result<Value, AllocError> {
+pub(crate) fn nested(alloc: Global, depth: usize, n: i128) -> Result<Value, AllocError> {
     let mut value = Value::Int(n);
     for _ in 0..depth {
         value = Value::List(Items::from_vec(vec![in alloc; value]?));

@@ -1,5 +1,10 @@
-use super::values::{list, map, nested, text, tuple};
-use crate::{NoMemory, Value, copy_value, default_law, order, order_law, pairs_law, same};
+//! The order of values, and the laws.
+use crate::samples::{list, map, nested, text, tuple};
+use builtin_calls::{calls_law, values_law};
+use spl_value::{
+    NoMemory, Value, copy_value, default_law, key_law, key_on_literals, order, order_law,
+    pairs_law, same, wrap_law,
+};
 use std::alloc::Global;
 use std::cmp::Ordering;
 use std::test::Fail;
@@ -64,4 +69,9 @@ fn the_laws_are_called(_: HostRuntime) {
     order_law();
     default_law();
     pairs_law();
+    wrap_law();
+    key_law();
+    key_on_literals();
+    calls_law();
+    values_law();
 }

@@ -1,0 +1,125 @@
+//! Hashes of bytes and of keys.
+ghost use Rattle.std.specs.Prelude.{IsTrue};
+ghost use Rattle.spl_value.specs.Key.{is_key_value};
+
+use crate::words::number;
+use spl_value::{Items, Value, fnv, hash_key};
+use std::alloc::{AllocError, Global};
+use std::test::Fail;
+use test_texts::rows::{Answers, others};
+
+// The hash of a key with this value alone.
+fn hash_of_one(alloc: Global, value: Value) -> Result<u64, AllocError>
+    requires { IsTrue (is_key_value value) }
+{
+    let tuple = Items::from_vec(vec![in alloc; value]?);
+    let key = Items::from_slice(alloc, &[0])?;
+    Ok(hash_key(&tuple, &key))
+}
+
+// The remainder of the hash of a text, divided by a width above 0.
+fn channel(alloc: Global, width: u64, text: &str) -> Result<String, AllocError> {
+    let value = Value::Text(Items::from_slice(alloc, text.as_bytes())?);
+    let hash = hash_of_one(alloc, value)?;
+    match hash.checked_rem(width) {
+        Some(channel) => format!(in alloc; "{channel}"),
+        None => "no width".to_string(alloc),
+    }
+}
+
+// Whether a value alone has the hash of these bytes.
+fn is_hashed_as(alloc: Global, value: &str, bytes: &[u8]) -> Result<String, AllocError> {
+    let hash = match value {
+        "false" => hash_of_one(alloc, Value::Bool(false))?,
+        "true" => hash_of_one(alloc, Value::Bool(true))?,
+        word => hash_of_one(alloc, Value::Int(number(word)))?,
+    };
+    format!(in alloc; "{}", hash == fnv(bytes))
+}
+
+// The bytes whose numbers these words are.
+fn bytes_of(alloc: Global, words: &str) -> Result<Vec<u8>, AllocError> {
+    let mut bytes = Vec::new(alloc);
+    for word in words.split_whitespace() {
+        bytes.push(word.parse::<u8>().unwrap_or(0))?;
+    }
+    Ok(bytes)
+}
+
+// The hash of bytes, the channel of so many that a text goes to, and whether a value is hashed as
+// bytes.
+struct Hashes;
+
+impl Answers for Hashes {
+    fn answer(&self, alloc: Global, text: &str) -> Result<String, AllocError> {
+        let Some((call, rest)) = text.split_once(' ') else {
+            return "no call".to_string(alloc);
+        };
+        match call {
+            "fnv" => format!(in alloc; "{:016x}", fnv(rest.as_bytes())),
+            "channel" => match rest.split_once(' ') {
+                Some((width, text)) => channel(alloc, width.parse::<u64>().unwrap_or(0), text),
+                None => "no text".to_string(alloc),
+            },
+            _ => match rest.split_once(" as ") {
+                Some((value, bytes)) => {
+                    let bytes = bytes_of(alloc, bytes)?;
+                    is_hashed_as(alloc, value, bytes.as_slice())
+                }
+                None => "no bytes".to_string(alloc),
+            },
+        }
+    }
+}
+
+const ROWS: &str = r#"
+# Known bytes have their hash
+fnv  => cbf29ce484222325
+fnv a => af63dc4c8601ec8c
+fnv foobar => 85944171f73967e8
+
+# A text key goes to its channel
+channel 2 a => 1
+channel 2 b => 0
+channel 4 IBM => 0
+channel 4 MSFT => 3
+channel 4 A,B => 3
+
+# A value of a key has these bytes
+same 0 as 0 0 0 0 0 0 0 0 => true
+same 258 as 2 1 0 0 0 0 0 0 => true
+same -1 as 255 255 255 255 255 255 255 255 => true
+same -2 as 254 255 255 255 255 255 255 255 => true
+same -9223372036854775808 as 0 0 0 0 0 0 0 128 => true
+same 18446744073709551615 as 255 255 255 255 255 255 255 255 => true
+same false as 0 => true
+same true as 1 => true
+"#;
+
+#[test]
+fn bytes_and_keys_have_their_hashes(rt: HostRuntime) -> Result<(), Fail> {
+    let others = others(rt.alloc(), &Hashes, ROWS)?;
+    assert_eq!(rt; others.as_str(), "");
+    Ok(())
+}
+
+#[test]
+fn a_key_is_hashed_in_the_order_of_its_places(rt: HostRuntime) -> Result<(), Fail> {
+    let text = Value::Text(Items::from_slice(rt.alloc(), b"a")?);
+    let tuple = Items::from_vec(vec![in rt.alloc(); text, Value::Int(1)]?);
+    for (places, bytes) in [
+        (
+            [0, 1].as_slice(),
+            [1, 0, 0, 0, 0, 0, 0, 0, b'a', 1, 0, 0, 0, 0, 0, 0, 0].as_slice(),
+        ),
+        (
+            &[1, 0],
+            &[1, 0, 0, 0, 0, 0, 0, 0, 1, 0, 0, 0, 0, 0, 0, 0, b'a'],
+        ),
+        (&[], &[]),
+    ] {
+        let key = Items::from_slice(rt.alloc(), places)?;
+        assert_eq!(rt; hash_key(&tuple, &key), fnv(bytes));
+    }
+    Ok(())
+}

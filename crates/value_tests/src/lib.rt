@@ -1,0 +1,22 @@
+//! Values, their texts and keys, and the built-in calls on them, against what they are by the rules of
+//! the language.
+#![tactic(auto)]
+
+#[cfg(test)]
+mod calls;
+#[cfg(test)]
+mod integers;
+#[cfg(test)]
+mod items;
+#[cfg(test)]
+mod keys;
+#[cfg(test)]
+mod order;
+#[cfg(test)]
+mod pairs;
+#[cfg(test)]
+mod samples;
+#[cfg(test)]
+mod types;
+#[cfg(test)]
+mod words;

@@ -1,0 +1,193 @@
+//! Pairs of keys and values.
+ghost use Rattle.std.specs.Prelude.{IsTrue, IfOk};
+ghost use Rattle.spl_value.specs.Pairs.{are_pairs};
+
+use crate::words::number;
+use spl_value::{Items, NoMemory, Pairs, Value};
+use std::alloc::{AllocError, Global};
+use std::test::Fail;
+use test_texts::rows::{Answers, others};
+use test_texts::text::Text;
+use test_texts::values::add_value;
+
+// The pairs of words as `5:50`, put in this order.
+fn pairs_of(alloc: Global, words: &str) -> Result<Pairs, NoMemory>
+    ensures { IfOk result (λ ps. IsTrue (are_pairs ps)) }
+{
+    let mut pairs = Items::new(alloc);
+    for word in words.split_whitespace() {
+        if let Some((key, value)) = word.split_once(':') {
+            pairs.put(Value::Int(number(key)), Value::Int(number(value)))?;
+        }
+    }
+    Ok(pairs)
+}
+
+fn add_optional(text: &mut Text, value: Option<&Value>) {
+    match value {
+        Some(value) => add_value(text, value),
+        None => text.add("none"),
+    }
+}
+
+fn shown(alloc: Global, value: &Value) -> Result<String, NoMemory> {
+    let mut text = Text::new(alloc);
+    add_value(&mut text, value);
+    Ok(text.finish()?)
+}
+
+fn found(alloc: Global, value: Option<&Value>) -> Result<String, NoMemory> {
+    let mut text = Text::new(alloc);
+    add_optional(&mut text, value);
+    Ok(text.finish()?)
+}
+
+// The pairs with 7 at the key.
+fn put(alloc: Global, key: Value, pairs: Pairs) -> Result<String, NoMemory>
+    requires { IsTrue (are_pairs pairs) }
+{
+    let mut pairs = pairs;
+    pairs.put(key, Value::Int(7))?;
+    shown(alloc, &Value::Map(pairs))
+}
+
+// The pairs with 7 written at the place that the key lends, if it lends one.
+fn written(alloc: Global, key: &Value, pairs: Pairs) -> Result<String, NoMemory>
+    requires { IsTrue (are_pairs pairs) }
+{
+    let mut pairs = pairs;
+    let Some(place) = pairs.find_mut(key) else {
+        return Ok("none".to_string(alloc)?);
+    };
+    *place = Value::Int(7);
+    shown(alloc, &Value::Map(pairs))
+}
+
+// The value that the key had, and the pairs without it.
+fn removed(alloc: Global, key: &Value, pairs: Pairs) -> Result<String, NoMemory>
+    requires { IsTrue (are_pairs pairs) }
+{
+    let mut pairs = pairs;
+    let value = pairs.remove_key(key);
+    let mut text = Text::new(alloc);
+    add_optional(&mut text, value.as_ref());
+    text.add(" of ");
+    add_value(&mut text, &Value::Map(pairs));
+    Ok(text.finish()?)
+}
+
+// What a call on a key and pairs comes to.
+fn called(alloc: Global, call: &str, key: Value, words: &str) -> Result<String, NoMemory> {
+    let pairs = pairs_of(alloc, words)?;
+    match call {
+        "find" => found(alloc, pairs.find(&key)),
+        "contains" => shown(alloc, &Value::Bool(pairs.contains_key(&key))),
+        "put" => put(alloc, key, pairs),
+        "write" => written(alloc, &key, pairs),
+        "remove" => removed(alloc, &key, pairs),
+        _ => shown(alloc, &Value::Map(pairs)),
+    }
+}
+
+// Calls on a key and pairs.
+struct Calls;
+
+impl Answers for Calls {
+    fn answer(&self, alloc: Global, text: &str) -> Result<String, AllocError> {
+        let Some((front, pairs)) = text.split_once(" in ") else {
+            return "no pairs".to_string(alloc);
+        };
+        let Some((call, key)) = front.split_once(' ') else {
+            return "no key".to_string(alloc);
+        };
+        match called(alloc, call, Value::Int(number(key)), pairs) {
+            Ok(answer) => Ok(answer),
+            Err(NoMemory) => "memory".to_string(alloc),
+        }
+    }
+}
+
+const ROWS: &str = r#"
+# A value is found at its key
+find 1 in 5:50 1:10 9:90 3:30 => 10
+contains 1 in 5:50 1:10 9:90 3:30 => true
+find 3 in 5:50 1:10 9:90 3:30 => 30
+contains 3 in 5:50 1:10 9:90 3:30 => true
+find 5 in 5:50 1:10 9:90 3:30 => 50
+contains 5 in 5:50 1:10 9:90 3:30 => true
+find 9 in 5:50 1:10 9:90 3:30 => 90
+contains 9 in 5:50 1:10 9:90 3:30 => true
+find 0 in 5:50 1:10 9:90 3:30 => none
+contains 0 in 5:50 1:10 9:90 3:30 => false
+find 4 in 5:50 1:10 9:90 3:30 => none
+contains 4 in 5:50 1:10 9:90 3:30 => false
+find 10 in 5:50 1:10 9:90 3:30 => none
+contains 10 in 5:50 1:10 9:90 3:30 => false
+find 1 in  => none
+contains 1 in  => false
+
+# Pairs stand by ascending key
+all 0 in 5:50 1:10 3:30 => {1: 10, 3: 30, 5: 50}
+all 0 in 1:10 3:30 5:50 => {1: 10, 3: 30, 5: 50}
+all 0 in 9:90 5:50 -1:0 => {-1: 0, 5: 50, 9: 90}
+
+# A value is replaced at its key by 7
+put 1 in 1:10 3:30 5:50 => {1: 7, 3: 30, 5: 50}
+write 1 in 1:10 3:30 5:50 => {1: 7, 3: 30, 5: 50}
+put 3 in 1:10 3:30 5:50 => {1: 10, 3: 7, 5: 50}
+write 3 in 1:10 3:30 5:50 => {1: 10, 3: 7, 5: 50}
+put 5 in 1:10 3:30 5:50 => {1: 10, 3: 30, 5: 7}
+write 5 in 1:10 3:30 5:50 => {1: 10, 3: 30, 5: 7}
+# An absent key lends no place
+write 0 in 1:10 3:30 => none
+write 2 in 1:10 3:30 => none
+write 4 in 1:10 3:30 => none
+
+# A key is removed with its value
+remove 1 in 1:10 3:30 5:50 => 10 of {3: 30, 5: 50}
+remove 3 in 1:10 3:30 5:50 => 30 of {1: 10, 5: 50}
+remove 5 in 1:10 3:30 5:50 => 50 of {1: 10, 3: 30}
+remove 0 in 1:10 3:30 5:50 => none of {1: 10, 3: 30, 5: 50}
+remove 2 in 1:10 3:30 5:50 => none of {1: 10, 3: 30, 5: 50}
+remove 6 in 1:10 3:30 5:50 => none of {1: 10, 3: 30, 5: 50}
+remove 1 in  => none of {}
+"#;
+
+#[test]
+fn pairs_are_found_and_changed_at_their_keys(rt: HostRuntime) -> Result<(), Fail> {
+    let others = others(rt.alloc(), &Calls, ROWS)?;
+    assert_eq!(rt; others.as_str(), "");
+    Ok(())
+}
+
+#[test]
+fn a_key_of_another_type_is_not_found(rt: HostRuntime) -> Result<(), Fail> {
+    let none = pairs_of(rt.alloc(), "")?;
+    assert_eq!(rt; none.find(&Value::Bool(false)), None);
+    Ok(())
+}
+
+// The even keys below 2,000, each with its half, put in a mixed order.
+fn even_keys(alloc: Global) -> Result<Pairs, NoMemory>
+    ensures { IfOk result (λ ps. IsTrue (are_pairs ps)) }
+{
+    let mut pairs = Items::new(alloc);
+    for i in 0..1000u32 {
+        let key = i128::from(i * 7 % 1000);
+        pairs.put(Value::Int(2 * key), Value::Int(key))?;
+    }
+    Ok(pairs)
+}
+
+#[test]
+fn each_of_a_thousand_keys_is_found(rt: HostRuntime) -> Result<(), Fail> {
+    let pairs = even_keys(rt.alloc())?;
+    assert_eq!(rt; pairs.len(), 1000);
+    for i in 0..1000u32 {
+        let key = i128::from(i);
+        let found = pairs.find(&Value::Int(2 * key));
+        assert_eq!(rt; found, Some(&Value::Int(key)));
+        assert!(rt; !pairs.contains_key(&Value::Int(2 * key + 1)));
+    }
+    Ok(())
+}
