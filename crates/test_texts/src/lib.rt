@@ -4,9 +4,15 @@
 //! answer than their line says.
 #![tactic(auto)]
 
+pub mod checked;
+pub mod graphs;
+pub mod refusals;
 pub mod rows;
+pub mod shells;
+pub mod spelled;
 pub mod text;
 pub mod tokens;
 pub mod trees;
 pub mod types;
 pub mod values;
+pub mod windows;
