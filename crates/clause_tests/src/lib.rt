@@ -9,8 +9,6 @@ mod bodies;
 #[cfg(test)]
 mod bytes;
 #[cfg(test)]
-mod deep;
-#[cfg(test)]
 mod dollars;
 #[cfg(test)]
 mod logic;
@@ -26,8 +24,6 @@ mod parameters;
 mod parts;
 #[cfg(test)]
 mod shells;
-#[cfg(test)]
-mod shown;
 #[cfg(test)]
 mod types;
 #[cfg(test)]
