@@ -10,6 +10,4 @@ mod large;
 #[cfg(test)]
 mod refusals;
 #[cfg(test)]
-mod shown;
-#[cfg(test)]
-mod trades;
+mod shells;

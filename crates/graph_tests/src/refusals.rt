@@ -1,438 +1,141 @@
 //! Programs that are refused.
-use crate::answer::{Row, others, others_beside};
-use spl_value::Items;
+use crate::answer::Asked;
 use std::test::Fail;
+use test_texts::rows::others;
 
-const NO_MAIN: &[Row] = &[
-    ("", "E1 at 0"),
-    ("type T = int8;", "E1 at 0"),
-    ("composite A {} composite B {}", "E1 at 0"),
-    (
-        "composite A(output O) {graph stream<T> O = FileSource();}",
-        "E1 at 0",
-    ),
-    ("composite A(input I) {}", "E1 at 0"),
-    ("composite A {} composite Main(input I) {}", "E1 at 0"),
-    ("composite A {param expression<int64> $x;}", "E1 at 0"),
-    (
-        "composite A {param expression<int64> $x: 1l; expression<int64> $y;}",
-        "E1 at 0",
-    ),
-    ("composite A {param expression<int64> $x: 1l;}", " |  | 0:"),
-];
+const ROWS: &str = r#"
+# A program has a main composite.
+ => E1 at 0
+type T = int8; => E1 at 0
+composite A {} composite B {} => E1 at 0
+composite A(output O) {graph stream<T> O = FileSource();} => E1 at 0
+composite A(input I) {} => E1 at 0
+composite A {} composite Main(input I) {} => E1 at 0
+composite A {param expression<int64> $x;} => E1 at 0
+composite A {param expression<int64> $x: 1l; expression<int64> $y;} => E1 at 0
+composite A {param expression<int64> $x: 1l;} =>  |  | 0:
 
-#[test]
-fn a_program_has_a_main_composite(rt: HostRuntime) -> Result<(), Fail> {
-    let others = others(rt.alloc(), NO_MAIN)?;
-    assert_eq!(rt; others.as_str(), "");
-    Ok(())
-}
+# What reaches itself is refused.
+composite A {graph () as X = A();} => E2 at 19 A
+composite Main {} composite A {graph () as X = B();} composite B {graph () as X = A();} => E2 at 37 A
+composite Main {} composite A {graph () as X = Main(); () as Y = B();} composite B {graph () as X = C();} composite C {graph () as X = B(); () as Y = A();} => E2 at 55 A
+composite Main {graph () as X = A();} composite A {graph () as X = A();} => E2 at 57 A
+int8 f() {return f();} composite A {} => E2 at 17 f
+composite A {graph () as X = A();} int8 f(int8 a) {return g(a);} int8 g(int8 a) {return g2(g(a));} int8 g2(int8 a) {return a;} => E2 at 91 g
+int8 f() {return g() + h();} int8 g() {return 1b;} int8 h() {if (true) {return f();} return h();} composite A {} => E2 at 23 f
+int8 f() {return 1b;} int8 g() {return f() + f();} composite A {} =>  |  | 0:
 
-const RECURSIVE: &[Row] = &[
-    ("composite A {graph () as X = A();}", "E2 at 19 A"),
-    (
-        "composite Main {} composite A {graph () as X = B();} composite B {graph () as X = A();}",
-        "E2 at 37 A",
-    ),
-    (
-        "composite Main {} composite A {graph () as X = Main(); () as Y = B();} composite B {graph () as X = C();} composite C {graph () as X = B(); () as Y = A();}",
-        "E2 at 55 A",
-    ),
-    (
-        "composite Main {graph () as X = A();} composite A {graph () as X = A();}",
-        "E2 at 57 A",
-    ),
-    ("int8 f() {return f();} composite A {}", "E2 at 17 f"),
-    (
-        "composite A {graph () as X = A();} int8 f(int8 a) {return g(a);} int8 g(int8 a) {return g2(g(a));} int8 g2(int8 a) {return a;}",
-        "E2 at 91 g",
-    ),
-    (
-        "int8 f() {return g() + h();} int8 g() {return 1b;} int8 h() {if (true) {return f();} return h();} composite A {}",
-        "E2 at 23 f",
-    ),
-    (
-        "int8 f() {return 1b;} int8 g() {return f() + f();} composite A {}",
-        " |  | 0:",
-    ),
-];
+# A name is declared once in one place.
+type T = int32; type T = int32; => E3 at 21 T
+composite A {} void A() {} => E3 at 20 A
+void f() {} composite B {} type f = int8; => E3 at 32 f
+composite A {graph stream<T> B = FileSource(); stream<T> B = FileSource();} => E3 at 57 B
+composite A {graph stream<T> B = FileSource(); () as B = FileSink(B);} => E3 at 53 B
+composite A {graph stream<T> B as B = FileSource();} => E3 at 34 B
+composite A {graph stream<T> B as C = FileSource(); () as C = FileSink(B);} => E3 at 58 C
+composite A(output B; input B) {} => E3 at 28 B
+composite A(output B, B) {} => E3 at 22 B
+composite A(input I) {graph stream<T> I = Filter(I);} => E3 at 38 I
+composite A {type T = int8; T = int16;} => E3 at 28 T
+composite A {param expression<int8> $x: 1b; expression<int8> $x: 2b;} => E3 at 61 x
+type T = int8 a, int8 a; composite A {} => E3 at 22 a
+type T = tuple<int8 a, int8 a>; composite A {} => E3 at 28 a
+composite A {graph stream<int8 a, int8 a> B = FileSource();} => E3 at 39 a
+void f(int8 a, int8 a) {} composite A {} => E3 at 20 a
+void f() {int8 a = 1b; int8 a = 2b;} composite A {} => E3 at 28 a
+void f() {int8 a = 1b; {int8 a = 2b;} if (true) {int8 b = 1b; int8 b = 1b;}} composite A {} => E3 at 67 b
+composite A {graph stream<T> B = FileSource(); () as C = Custom(B) {logic state: {int8 s = 1b; int8 s = 2b;}}} => E3 at 100 s
+composite A {type A = int8; param expression<int8> $A: 1b;} => no tree
+composite A {param expression<int8> $A: 1b; type A = int8; graph stream<int8 A> A = FileSource();} => FileSource A() 0 | 0 | 0: 0
 
-#[test]
-fn what_reaches_itself_is_refused(rt: HostRuntime) -> Result<(), Fail> {
-    let others = others(rt.alloc(), RECURSIVE)?;
-    assert_eq!(rt; others.as_str(), "");
-    Ok(())
-}
+# An operator that waits for itself is refused.
+composite M { graph stream<int32 a> A = Filter(B) { } stream<int32 a> B = Filter(A) { } } => E4 at 20 A
+composite M {graph stream<T> S = FileSource(); stream<T> A = Filter(A);} => E4 at 47 A
+composite M {graph stream<T> S = FileSource(); stream<T> B = Filter(S); stream<T> C = Union(D; S); stream<T> D as E = Filter(C);} => E4 at 72 C
+composite M {graph stream<T> D as E = Filter(C); stream<T> C = Union(D; S); stream<T> S = FileSource();} => E4 at 19 D
+composite M {graph () as X = FileSink(A); stream<T> A = Filter(A);} => E4 at 19 X
+composite C(output O; input I) {graph stream<T> O = Filter(I);} composite Main {graph stream<T> A = C(A);} => E4 at 38 A.O
+composite M {graph () as X = FileSink(S); stream<T> S = FileSource(); (stream<T> A; stream<T> B) = Split(B) {param index: 0;}} => E4 at 70 A
 
-const TWICE: &[Row] = &[
-    ("type T = int32; type T = int32;", "E3 at 21 T"),
-    ("composite A {} void A() {}", "E3 at 20 A"),
-    ("void f() {} composite B {} type f = int8;", "E3 at 32 f"),
-    (
-        "composite A {graph stream<T> B = FileSource(); stream<T> B = FileSource();}",
-        "E3 at 57 B",
-    ),
-    (
-        "composite A {graph stream<T> B = FileSource(); () as B = FileSink(B);}",
-        "E3 at 53 B",
-    ),
-    (
-        "composite A {graph stream<T> B as B = FileSource();}",
-        "E3 at 34 B",
-    ),
-    (
-        "composite A {graph stream<T> B as C = FileSource(); () as C = FileSink(B);}",
-        "E3 at 58 C",
-    ),
-    ("composite A(output B; input B) {}", "E3 at 28 B"),
-    ("composite A(output B, B) {}", "E3 at 22 B"),
-    (
-        "composite A(input I) {graph stream<T> I = Filter(I);}",
-        "E3 at 38 I",
-    ),
-    ("composite A {type T = int8; T = int16;}", "E3 at 28 T"),
-    (
-        "composite A {param expression<int8> $x: 1b; expression<int8> $x: 2b;}",
-        "E3 at 61 x",
-    ),
-    ("type T = int8 a, int8 a; composite A {}", "E3 at 22 a"),
-    (
-        "type T = tuple<int8 a, int8 a>; composite A {}",
-        "E3 at 28 a",
-    ),
-    (
-        "composite A {graph stream<int8 a, int8 a> B = FileSource();}",
-        "E3 at 39 a",
-    ),
-    ("void f(int8 a, int8 a) {} composite A {}", "E3 at 20 a"),
-    (
-        "void f() {int8 a = 1b; int8 a = 2b;} composite A {}",
-        "E3 at 28 a",
-    ),
-    (
-        "void f() {int8 a = 1b; {int8 a = 2b;} if (true) {int8 b = 1b; int8 b = 1b;}} composite A {}",
-        "E3 at 67 b",
-    ),
-    (
-        "composite A {graph stream<T> B = FileSource(); () as C = Custom(B) {logic state: {int8 s = 1b; int8 s = 2b;}}}",
-        "E3 at 100 s",
-    ),
-    (
-        "composite A {type A = int8; param expression<int8> $A: 1b;}",
-        "no tree",
-    ),
-    (
-        "composite A {param expression<int8> $A: 1b; type A = int8; graph stream<int8 A> A = FileSource();}",
-        "FileSource A() 0 | 0 | 0: 0",
-    ),
-];
+# A sink has a file of its own.
+composite M {graph stream<T> S = FileSource() {param file: "a";} () as X = FileSink(S) {param file: "a";}} => E5 at 65 a
+composite M {graph stream<T> S = FileSource() {param file: "a";} () as X = FileSink(S) {param file: "b";} () as Y = FileSink(S) {param file: "b";}} => E5 at 106 b
+composite M {graph () as X = FileSink(S) {param file: "a";} stream<T> S = FileSource() {param file: "a";} } => E5 at 60 a
+composite M {graph stream<T> S = FileSource() {param file: "a";} stream<T> R = FileSource() {param file: "a";}} => FileSource S() 0; FileSource R() 1 | 0 1 | 0: 0 1
+composite M {graph stream<T> S = FileSource() {param file: "a";} () as X = FileSink(S) {param file: "A";} () as Y = FileSink(S) {param file: "a ";}} => FileSource S() 0; FileSink X(0); FileSink Y(0) | 0 1 2 | 0: 0
+composite C(input I) {param expression<rstring> $f: "c"; graph () as X = FileSink(I) {param file: $f;}} composite Main {graph stream<T> S = FileSource() {param file: "a";} () as A = C(S) {param f: "b";} () as B = C(S);} => FileSource S() 0; FileSink A.X(0); FileSink B.X(0) | 0 1 2 | 1: 0; 0@0.1: (1 from 0); 0@0.2: (1 from 0)
+composite C(input I) {param expression<rstring> $f: "a"; graph () as X = FileSink(I) {param file: $f;}} composite Main {graph stream<T> S = FileSource() {param file: "a";} () as A = C(S) {param f: "b";} () as B = C(S);} => E5 at 63 a
+composite C(input I) {param expression<rstring> $f: "c"; graph () as X = FileSink(I) {param file: $f;}} composite Main {param expression<rstring> $g: "a"; graph stream<T> S = FileSource() {param file: "a";} () as A = C(S) {param f: $g;}} => E5 at 63 a
 
-#[test]
-fn a_name_is_declared_once_in_one_place(rt: HostRuntime) -> Result<(), Fail> {
-    let others = others(rt.alloc(), TWICE)?;
-    assert_eq!(rt; others.as_str(), "");
-    Ok(())
-}
+# A name that is used is declared.
+composite M {graph () as X = Foo();} => E7 at 29 Foo
+composite M {graph () as X = M2(Y);} composite M3(input I) {} => E7 at 29 M2
+composite M {graph () as X = FileSink(S);} => E7 at 38 S
+composite M {graph stream<T> S = FileSource(); stream<T> A = Union(S; S, B);} => E7 at 73 B
+composite M {graph stream<T> S as A = FileSource(); () as X = FileSink(A);} => E7 at 71 A
+composite C(input I) {graph () as X = FileSink(S);} composite Main {graph stream<T> S = FileSource(); () as A = C(S);} => E7 at 47 S
+composite C(output O) {graph stream<T> O = FileSource(); stream<T> P = FileSource();} composite Main {graph stream<T> A = C(); () as X = FileSink(P);} => E7 at 146 P
+composite M {graph stream<T> S = FileSource() {param file: $f;}} => E7 at 59 f
+composite M {graph stream<T> S = FileSource() {config x: $f;}} => E7 at 57 f
+composite C {param expression<int64> $x;} composite Main {graph () as A = C() {param x: 1l + $x;}} => E7 at 93 x
+composite M {graph stream<T> S = FileSource(); stream<T> A = Functor(S) {output A: a = -$f;}} => E7 at 88 f
+composite M {graph stream<T> S = FileSource(); () as A = Custom(S) {logic onTuple S: {g($f);}}} => E7 at 88 f
+composite Main {} composite A {graph () as X = Foo();} =>  |  | 0:
 
-const LOOPS: &[Row] = &[
-    (
-        "composite M { graph stream<int32 a> A = Filter(B) { } stream<int32 a> B = Filter(A) { } }",
-        "E4 at 20 A",
-    ),
-    (
-        "composite M {graph stream<T> S = FileSource(); stream<T> A = Filter(A);}",
-        "E4 at 47 A",
-    ),
-    (
-        "composite M {graph stream<T> S = FileSource(); stream<T> B = Filter(S); stream<T> C = Union(D; S); stream<T> D as E = Filter(C);}",
-        "E4 at 72 C",
-    ),
-    (
-        "composite M {graph stream<T> D as E = Filter(C); stream<T> C = Union(D; S); stream<T> S = FileSource();}",
-        "E4 at 19 D",
-    ),
-    (
-        "composite M {graph () as X = FileSink(A); stream<T> A = Filter(A);}",
-        "E4 at 19 X",
-    ),
-    (
-        "composite C(output O; input I) {graph stream<T> O = Filter(I);} composite Main {graph stream<T> A = C(A);}",
-        "E4 at 38 A.O",
-    ),
-    (
-        "composite M {graph () as X = FileSink(S); stream<T> S = FileSource(); (stream<T> A; stream<T> B) = Split(B) {param index: 0;}}",
-        "E4 at 70 A",
-    ),
-];
+# An invocation fits the head of its composite.
+invoke: stream<T> A = C(S) {param x: 1l;} => FileSource S() 0; Filter A.O(0) 1 | 0 1 | 1: 0 1; 0@0.1: 1 (1 from 0)
+invoke: stream<T> A = C(S) {param y: 2l; x: 1l; config placement: x;} => FileSource S() 0; Filter A.O(0) 1 | 0 1 | 1: 0 1; 0@0.1: 1 (1 from 0)
+invoke: stream<T> A = C(S); => E8 at 168 C
+invoke: stream<T> A = C(S) {param y: 1l;} => E8 at 168 C
+invoke: stream<T> A = C(S) {param x: 1l; z: 1l;} => E8 at 168 C
+invoke: stream<T> A = C(S) {param x: 1l; x: 1l;} => E8 at 168 C
+invoke: stream<T> A = C(S) {param x: 1l, 2l;} => E8 at 168 C
+invoke: () as A = C(S) {param x: 1l;} => E8 at 168 C
+invoke: (stream<T> A; stream<T> B) = C(S) {param x: 1l;} => E8 at 168 C
+invoke: stream<T> A = C() {param x: 1l;} => E8 at 168 C
+invoke: stream<T> A = C(S; S) {param x: 1l;} => E8 at 168 C
+invoke: stream<T> A = C(S) {logic onTuple S: {} param x: 1l;} => E8 at 168 C
+invoke: stream<T> A = C(S) {window S: tumbling, count(1); param x: 1l;} => E8 at 168 C
+invoke: stream<T> A = C(S) {param x: 1l; output A: a = 1;} => E8 at 168 C
+composite C(output O) {graph stream<T> P = FileSource();} composite Main {graph stream<T> A = C();} => E8 at 80 C
+composite D(output O) {} composite C {graph stream<T> A = D();} composite Main {graph () as X = C();} => E8 at 44 D
 
-#[test]
-fn an_operator_that_waits_for_itself_is_refused(rt: HostRuntime) -> Result<(), Fail> {
-    let others = others(rt.alloc(), LOOPS)?;
-    assert_eq!(rt; others.as_str(), "");
-    Ok(())
-}
-
-const FILES: &[Row] = &[
-    (
-        "composite M {graph stream<T> S = FileSource() {param file: \"a\";} () as X = FileSink(S) {param file: \"a\";}}",
-        "E5 at 65 a",
-    ),
-    (
-        "composite M {graph stream<T> S = FileSource() {param file: \"a\";} () as X = FileSink(S) {param file: \"b\";} () as Y = FileSink(S) {param file: \"b\";}}",
-        "E5 at 106 b",
-    ),
-    (
-        "composite M {graph () as X = FileSink(S) {param file: \"a\";} stream<T> S = FileSource() {param file: \"a\";} }",
-        "E5 at 60 a",
-    ),
-    (
-        "composite M {graph stream<T> S = FileSource() {param file: \"a\";} stream<T> R = FileSource() {param file: \"a\";}}",
-        "FileSource S() 0; FileSource R() 1 | 0 1 | 0: 0 1",
-    ),
-    (
-        "composite M {graph stream<T> S = FileSource() {param file: \"a\";} () as X = FileSink(S) {param file: \"A\";} () as Y = FileSink(S) {param file: \"a \";}}",
-        "FileSource S() 0; FileSink X(0); FileSink Y(0) | 0 1 2 | 0: 0",
-    ),
-    (
-        "composite C(input I) {param expression<rstring> $f: \"c\"; graph () as X = FileSink(I) {param file: $f;}} composite Main {graph stream<T> S = FileSource() {param file: \"a\";} () as A = C(S) {param f: \"b\";} () as B = C(S);}",
-        "FileSource S() 0; FileSink A.X(0); FileSink B.X(0) | 0 1 2 | 1: 0; 0@0.1: (1 from 0); 0@0.2: (1 from 0)",
-    ),
-    (
-        "composite C(input I) {param expression<rstring> $f: \"a\"; graph () as X = FileSink(I) {param file: $f;}} composite Main {graph stream<T> S = FileSource() {param file: \"a\";} () as A = C(S) {param f: \"b\";} () as B = C(S);}",
-        "E5 at 63 a",
-    ),
-    (
-        "composite C(input I) {param expression<rstring> $f: \"c\"; graph () as X = FileSink(I) {param file: $f;}} composite Main {param expression<rstring> $g: \"a\"; graph stream<T> S = FileSource() {param file: \"a\";} () as A = C(S) {param f: $g;}}",
-        "E5 at 63 a",
-    ),
-];
-
-#[test]
-fn a_sink_has_a_file_of_its_own(rt: HostRuntime) -> Result<(), Fail> {
-    let others = others(rt.alloc(), FILES)?;
-    assert_eq!(rt; others.as_str(), "");
-    Ok(())
-}
-
-// The command line has the files `o` and `p`.
-const FILES_BESIDE: &[Row] = &[
-    (
-        "composite M {graph stream<T> S = FileSource() {param file: \"o\";} () as X = FileSink(S) {param file: \"p\";}}",
-        "E5 at 65 p",
-    ),
-    (
-        "composite M {graph stream<T> S = FileSource() {param file: \"o\";} () as X = FileSink(S) {param file: \"q\";}}",
-        "FileSource S() 0; FileSink X(0) | 0 1 | 0: 0",
-    ),
-];
-
-#[test]
-fn no_sink_has_a_file_of_the_command_line(rt: HostRuntime) -> Result<(), Fail> {
-    let alloc = rt.alloc();
-    let mut files = Items::new(alloc);
-    for file in ["o", "p"] {
-        files.push(Items::from_slice(alloc, file.as_bytes())?)?;
-    }
-    let others = others_beside(alloc, &files, FILES_BESIDE)?;
-    assert_eq!(rt; others.as_str(), "");
-    Ok(())
-}
-
-const UNKNOWN: &[Row] = &[
-    ("composite M {graph () as X = Foo();}", "E7 at 29 Foo"),
-    (
-        "composite M {graph () as X = M2(Y);} composite M3(input I) {}",
-        "E7 at 29 M2",
-    ),
-    ("composite M {graph () as X = FileSink(S);}", "E7 at 38 S"),
-    (
-        "composite M {graph stream<T> S = FileSource(); stream<T> A = Union(S; S, B);}",
-        "E7 at 73 B",
-    ),
-    (
-        "composite M {graph stream<T> S as A = FileSource(); () as X = FileSink(A);}",
-        "E7 at 71 A",
-    ),
-    (
-        "composite C(input I) {graph () as X = FileSink(S);} composite Main {graph stream<T> S = FileSource(); () as A = C(S);}",
-        "E7 at 47 S",
-    ),
-    (
-        "composite C(output O) {graph stream<T> O = FileSource(); stream<T> P = FileSource();} composite Main {graph stream<T> A = C(); () as X = FileSink(P);}",
-        "E7 at 146 P",
-    ),
-    (
-        "composite M {graph stream<T> S = FileSource() {param file: $f;}}",
-        "E7 at 59 f",
-    ),
-    (
-        "composite M {graph stream<T> S = FileSource() {config x: $f;}}",
-        "E7 at 57 f",
-    ),
-    (
-        "composite C {param expression<int64> $x;} composite Main {graph () as A = C() {param x: 1l + $x;}}",
-        "E7 at 93 x",
-    ),
-    (
-        "composite M {graph stream<T> S = FileSource(); stream<T> A = Functor(S) {output A: a = -$f;}}",
-        "E7 at 88 f",
-    ),
-    (
-        "composite M {graph stream<T> S = FileSource(); () as A = Custom(S) {logic onTuple S: {g($f);}}}",
-        "E7 at 88 f",
-    ),
-    (
-        "composite Main {} composite A {graph () as X = Foo();}",
-        " |  | 0:",
-    ),
-];
-
-#[test]
-fn a_name_that_is_used_is_declared(rt: HostRuntime) -> Result<(), Fail> {
-    let others = others(rt.alloc(), UNKNOWN)?;
-    assert_eq!(rt; others.as_str(), "");
-    Ok(())
-}
-
-const PORTS: &[Row] = &[
-    (
-        "composite C(output O; input I) {param expression<int64> $x; expression<int64> $y: 1l; graph stream<T> O = Filter(I);} composite Main {graph stream<T> S = FileSource(); stream<T> A = C(S) {param x: 1l;}}",
-        "FileSource S() 0; Filter A.O(0) 1 | 0 1 | 1: 0 1; 0@0.1: 1 (1 from 0)",
-    ),
-    (
-        "composite C(output O; input I) {param expression<int64> $x; expression<int64> $y: 1l; graph stream<T> O = Filter(I);} composite Main {graph stream<T> S = FileSource(); stream<T> A = C(S) {param y: 2l; x: 1l; config placement: x;}}",
-        "FileSource S() 0; Filter A.O(0) 1 | 0 1 | 1: 0 1; 0@0.1: 1 (1 from 0)",
-    ),
-    (
-        "composite C(output O; input I) {param expression<int64> $x; expression<int64> $y: 1l; graph stream<T> O = Filter(I);} composite Main {graph stream<T> S = FileSource(); stream<T> A = C(S);}",
-        "E8 at 168 C",
-    ),
-    (
-        "composite C(output O; input I) {param expression<int64> $x; expression<int64> $y: 1l; graph stream<T> O = Filter(I);} composite Main {graph stream<T> S = FileSource(); stream<T> A = C(S) {param y: 1l;}}",
-        "E8 at 168 C",
-    ),
-    (
-        "composite C(output O; input I) {param expression<int64> $x; expression<int64> $y: 1l; graph stream<T> O = Filter(I);} composite Main {graph stream<T> S = FileSource(); stream<T> A = C(S) {param x: 1l; z: 1l;}}",
-        "E8 at 168 C",
-    ),
-    (
-        "composite C(output O; input I) {param expression<int64> $x; expression<int64> $y: 1l; graph stream<T> O = Filter(I);} composite Main {graph stream<T> S = FileSource(); stream<T> A = C(S) {param x: 1l; x: 1l;}}",
-        "E8 at 168 C",
-    ),
-    (
-        "composite C(output O; input I) {param expression<int64> $x; expression<int64> $y: 1l; graph stream<T> O = Filter(I);} composite Main {graph stream<T> S = FileSource(); stream<T> A = C(S) {param x: 1l, 2l;}}",
-        "E8 at 168 C",
-    ),
-    (
-        "composite C(output O; input I) {param expression<int64> $x; expression<int64> $y: 1l; graph stream<T> O = Filter(I);} composite Main {graph stream<T> S = FileSource(); () as A = C(S) {param x: 1l;}}",
-        "E8 at 168 C",
-    ),
-    (
-        "composite C(output O; input I) {param expression<int64> $x; expression<int64> $y: 1l; graph stream<T> O = Filter(I);} composite Main {graph stream<T> S = FileSource(); (stream<T> A; stream<T> B) = C(S) {param x: 1l;}}",
-        "E8 at 168 C",
-    ),
-    (
-        "composite C(output O; input I) {param expression<int64> $x; expression<int64> $y: 1l; graph stream<T> O = Filter(I);} composite Main {graph stream<T> S = FileSource(); stream<T> A = C() {param x: 1l;}}",
-        "E8 at 168 C",
-    ),
-    (
-        "composite C(output O; input I) {param expression<int64> $x; expression<int64> $y: 1l; graph stream<T> O = Filter(I);} composite Main {graph stream<T> S = FileSource(); stream<T> A = C(S; S) {param x: 1l;}}",
-        "E8 at 168 C",
-    ),
-    (
-        "composite C(output O; input I) {param expression<int64> $x; expression<int64> $y: 1l; graph stream<T> O = Filter(I);} composite Main {graph stream<T> S = FileSource(); stream<T> A = C(S) {logic onTuple S: {} param x: 1l;}}",
-        "E8 at 168 C",
-    ),
-    (
-        "composite C(output O; input I) {param expression<int64> $x; expression<int64> $y: 1l; graph stream<T> O = Filter(I);} composite Main {graph stream<T> S = FileSource(); stream<T> A = C(S) {window S: tumbling, count(1); param x: 1l;}}",
-        "E8 at 168 C",
-    ),
-    (
-        "composite C(output O; input I) {param expression<int64> $x; expression<int64> $y: 1l; graph stream<T> O = Filter(I);} composite Main {graph stream<T> S = FileSource(); stream<T> A = C(S) {param x: 1l; output A: a = 1;}}",
-        "E8 at 168 C",
-    ),
-    (
-        "composite C(output O) {graph stream<T> P = FileSource();} composite Main {graph stream<T> A = C();}",
-        "E8 at 80 C",
-    ),
-    (
-        "composite D(output O) {} composite C {graph stream<T> A = D();} composite Main {graph () as X = C();}",
-        "E8 at 44 D",
-    ),
-];
-
-#[test]
-fn an_invocation_fits_the_head_of_its_composite(rt: HostRuntime) -> Result<(), Fail> {
-    let others = others(rt.alloc(), PORTS)?;
-    assert_eq!(rt; others.as_str(), "");
-    Ok(())
-}
-
-const BOTH: &[Row] = &[
-    ("type T = int8; type T = int8;", "E3 at 20 T"),
-    (
-        "composite Main {graph () as X = Main();} composite A {graph () as X = Foo(); stream<T> X = FileSource();}",
-        "E3 at 87 X",
-    ),
-    ("composite A(output B, B) {} composite A {}", "E3 at 38 A"),
-    (
-        "type T = int8 a, int8 a; composite A(output B, B) {}",
-        "E3 at 47 B",
-    ),
-    (
-        "composite A {param expression<int8> $x: 1b; expression<int8> $x: 1b; graph stream<T> B = FileSource(); stream<T> B = FileSource();}",
-        "E3 at 113 B",
-    ),
-    ("composite A(input I) {graph () as X = A(I);}", "E1 at 0"),
-    (
-        "composite Main {graph () as X = Foo(); () as Y = Main();}",
-        "E2 at 39 Main",
-    ),
-    (
-        "composite Main {graph () as X = Main();} void f() {f();}",
-        "E2 at 51 f",
-    ),
-    (
-        "composite C {graph () as X = FileSink(S);} composite Main {graph () as A = C(); () as B = Foo();}",
-        "E7 at 38 S",
-    ),
-    (
-        "composite C {graph () as X = FileSink(S);} composite Main {graph () as B = Foo(); () as A = C();}",
-        "E7 at 75 Foo",
-    ),
-    (
-        "composite C {} composite Main {graph stream<T> S = FileSource(); () as A = C(S); () as B = FileSink(R);}",
-        "E8 at 65 C",
-    ),
-    (
-        "composite M {graph stream<T> A = Foo(S) {param p: $x;}}",
-        "E7 at 33 Foo",
-    ),
-    (
-        "composite M {graph stream<T> A = Filter(S) {param filter: $x;}}",
-        "E7 at 40 S",
-    ),
-    (
-        "composite C {} composite Main {graph () as A = C(S);}",
-        "E7 at 49 S",
-    ),
-    (
-        "composite C {} composite Main {graph () as A = C() {param p: $x;}}",
-        "E7 at 61 x",
-    ),
-    (
-        "composite M {graph stream<T> A = Filter(A); () as X = FileSink(S);}",
-        "E7 at 63 S",
-    ),
-    (
-        "composite M {graph stream<T> A = Filter(A); () as X = FileSink(S) {param file: \"a\";} stream<T> S = FileSource() {param file: \"a\";}}",
-        "E4 at 19 A",
-    ),
-];
+# The first refusal counts.
+type T = int8; type T = int8; => E3 at 20 T
+composite Main {graph () as X = Main();} composite A {graph () as X = Foo(); stream<T> X = FileSource();} => E3 at 87 X
+composite A(output B, B) {} composite A {} => E3 at 38 A
+type T = int8 a, int8 a; composite A(output B, B) {} => E3 at 47 B
+composite A {param expression<int8> $x: 1b; expression<int8> $x: 1b; graph stream<T> B = FileSource(); stream<T> B = FileSource();} => E3 at 113 B
+composite A(input I) {graph () as X = A(I);} => E1 at 0
+composite Main {graph () as X = Foo(); () as Y = Main();} => E2 at 39 Main
+composite Main {graph () as X = Main();} void f() {f();} => E2 at 51 f
+composite C {graph () as X = FileSink(S);} composite Main {graph () as A = C(); () as B = Foo();} => E7 at 38 S
+composite C {graph () as X = FileSink(S);} composite Main {graph () as B = Foo(); () as A = C();} => E7 at 75 Foo
+composite C {} composite Main {graph stream<T> S = FileSource(); () as A = C(S); () as B = FileSink(R);} => E8 at 65 C
+composite M {graph stream<T> A = Foo(S) {param p: $x;}} => E7 at 33 Foo
+composite M {graph stream<T> A = Filter(S) {param filter: $x;}} => E7 at 40 S
+composite C {} composite Main {graph () as A = C(S);} => E7 at 49 S
+composite C {} composite Main {graph () as A = C() {param p: $x;}} => E7 at 61 x
+composite M {graph stream<T> A = Filter(A); () as X = FileSink(S);} => E7 at 63 S
+composite M {graph stream<T> A = Filter(A); () as X = FileSink(S) {param file: "a";} stream<T> S = FileSource() {param file: "a";}} => E4 at 19 A
+"#;
 
 #[test]
 fn the_first_refusal_counts(rt: HostRuntime) -> Result<(), Fail> {
-    let others = others(rt.alloc(), BOTH)?;
+    let others = others(rt.alloc(), &Asked::Graph, ROWS)?;
+    assert_eq!(rt; others.as_str(), "");
+    Ok(())
+}
+
+const BESIDE: &str = r#"
+# No sink has a file of the command line.
+composite M {graph stream<T> S = FileSource() {param file: "o";} () as X = FileSink(S) {param file: "p";}} => E5 at 65 p
+composite M {graph stream<T> S = FileSource() {param file: "o";} () as X = FileSink(S) {param file: "q";}} => FileSource S() 0; FileSink X(0) | 0 1 | 0: 0
+"#;
+
+#[test]
+fn no_sink_has_a_file_of_the_command_line(rt: HostRuntime) -> Result<(), Fail> {
+    let others = others(rt.alloc(), &Asked::GraphBesideFiles, BESIDE)?;
     assert_eq!(rt; others.as_str(), "");
     Ok(())
 }
