@@ -3,9 +3,6 @@ ghost use Rattle.std.specs.Prelude.{◌≡◌, length, IfOk};
 ghost use Rattle.language_model.specs.Leading.{leads_back};
 ghost use Rattle.body_rules.specs.Stepping.{steps_from, LeadsWithin};
 
-#[cfg(test)]
-mod tests;
-
 use crate::place_set::PlaceSet;
 use spl_value::{Items, NoMemory};
 use std::alloc::Global;

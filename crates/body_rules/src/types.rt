@@ -4,8 +4,6 @@ mod finding;
 mod places;
 mod refusals;
 mod table;
-#[cfg(test)]
-mod tests;
 
 pub use finding::{TypeScope, attributes_of, shape_of, type_of_written};
 pub use table::TypeTable;

@@ -85,6 +85,25 @@ composite Main {graph stream<A> A = FileSource() {param file: 's';}} => Y1 at 29
 composite Main {graph stream<B> A = FileSource() {param file: 's';} stream<A> B = FileSource() {param file: 's';}} => Y1 at 29 B
 # a stream of the type of such a stream
 composite Main {graph stream<B> A = FileSource() {param file: 's';} stream<B> B = FileSource() {param file: 's';}} => Y1 at 29 B
+# a circle of three types, a way to it, and what stands beside it
+type A = tuple<E e, B b>; type B = list<C>; type C = list<A>; type D = tuple<E e, A a>; type E = int32; void f(A x) {} composite Main {} => Y1 at 111 A
+type A = tuple<E e, B b>; type B = list<C>; type C = list<A>; type D = tuple<E e, A a>; type E = int32; void f(B x) {} composite Main {} => Y1 at 111 B
+type A = tuple<E e, B b>; type B = list<C>; type C = list<A>; type D = tuple<E e, A a>; type E = int32; void f(C x) {} composite Main {} => Y1 at 111 C
+type A = tuple<E e, B b>; type B = list<C>; type C = list<A>; type D = tuple<E e, A a>; type E = int32; void f(D x) {} composite Main {} => Y1 at 82 A
+type A = tuple<E e, B b>; type B = list<C>; type C = list<A>; type D = tuple<E e, A a>; type E = int32; void f(E x) {} composite Main {} => ok 0 operators 0 streams
+# a thousand types in a row that is closed, and one that is not
+«0 999 type T{n} = T{n+1}; »type T999 = T0; void f(T0 a) {} composite Main {} => Y1 at 17787 T0
+«0 999 type T{n} = T{n+1}; »type T999 = T0; void f(T500 a) {} composite Main {} => Y1 at 17787 T500
+«0 999 type T{n} = T{n+1}; »type T999 = T0; void f(T999 a) {} composite Main {} => Y1 at 17787 T999
+«0 999 type T{n} = T{n+1}; »type T999 = int32; void f(T1 a) {} composite Main {} => ok 0 operators 0 streams
+
+# A type has at most a thousand types and names inside one another, and a million parts.
+type T0 = int32; «0 998 type T{n+1} = T{n} a; »void f(T998 a) {} composite Main {} => ok 0 operators 0 streams
+type T0 = int32; «0 999 type T{n+1} = T{n} a; »void f(T999 a) {} composite Main {} => memory
+type T0 = int32; «0 1099 type T{n+1} = T{n} a; »void f(T1099 a) {} composite Main {} => memory
+type T0 = int32; «0 18 type T{n+1} = T{n} a, T{n} b; »void f(T18 a) {} composite Main {} => ok 0 operators 0 streams
+type T0 = int32; «0 19 type T{n+1} = T{n} a, T{n} b; »void f(T19 a) {} composite Main {} => memory
+type T0 = int32; «0 40 type T{n+1} = T{n} a, T{n} b; »void f(T40 a) {} composite Main {} => memory
 
 # A name means the nearest type.
 # the composite's before the program's
