@@ -10,8 +10,6 @@ mod graphs;
 mod names;
 mod rows;
 mod statements;
-#[cfg(test)]
-mod tests;
 mod types;
 
 use composites::repeated_in_definition;

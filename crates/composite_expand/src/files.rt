@@ -14,9 +14,6 @@ use spl_tree::{
 use spl_value::{Items, Name, NoMemory};
 use std::alloc::Global;
 
-#[cfg(test)]
-mod tests;
-
 /// The first file that an operator may not have, at its invocation: of a sink one of the names of the
 /// command line or the file of an operator before it, of a source the file of a sink before it.
 ///

@@ -8,9 +8,6 @@ ghost use Rattle.composite_expand.specs.Mentioned.{mentions_seen};
 ghost use Rattle.composite_expand.specs.Taking.{AreAmong};
 ghost use Rattle.composite_expand.specs.Named.{name_seen, caller_seen, callers_seen, place_from, found_place};
 
-#[cfg(test)]
-mod tests;
-
 use crate::calls;
 use crate::mentions::{Mention, of_body};
 use spl_tree::{Composite, Definition, FunctionDefinition, Placed, Unit};

@@ -25,6 +25,14 @@ composite C(output O) {graph stream<T> O = D();} composite D(output P) {graph st
 
 # The trades program has nine operators and seven streams.
 namespace demo.trades;␊type Trade = int64 ts, rstring sym, int64 price, int64 qty;␊composite Clean(output Good; input Raw) {␊  param expression<int64> $least : 1l;␊  graph␊    stream<Trade> Good = Filter(Raw) {␊      param filter: qty >= $least && price > 0l; // both must hold␊    }␊}␊composite Main {␊  graph␊    stream<Trade> In = FileSource() { param file: "trades.csv"; format: csv; }␊    stream<Trade> C1 = Clean(In) { param least: 10l; }␊    stream<Trade> C2 = Clean(In) { param least: 100l; }␊    stream<rstring sym, int64 value> V = Functor(C1) { output V: value = price * qty; }␊    stream<rstring sym, int64 total, int32 n> A = Aggregate(V) {␊      window V: sliding, count(2), count(1), partitioned;␊      param partitionBy: sym;␊      output A: sym = Any(sym), total = Sum(value), n = Count();␊    }␊    (stream<A> Lo; stream<A> Hi) = Split(A) { param index: total >= 10000l ? 1 : 0; }␊    () as LoOut = FileSink(Lo) { param file: "lo.csv"; format: csv; }␊    () as HiOut = FileSink(Hi) { param file: "hi.csv"; format: csv; }␊    () as BigOut = FileSink(C2) { param file: "big.csv"; format: csv; }␊}␊ => FileSource In() 0; Filter C1.Good(0) 1; Filter C2.Good(0) 2; Functor V(1) 3; Aggregate A(3) 4; Split Lo(4) 5 6; FileSink LoOut(5); FileSink HiOut(6); FileSink BigOut(2) | 0 1 2 3 4 5 6 7 8 | 1: 0 1 2 3 4 5 6; 0@0.1: 1 (1 from 0); 0@0.2: 2 (1 from 0)
+
+# The first operator that is ready comes next.
+# a chain from last to first
+composite M {graph stream<T> A = Filter(B); stream<T> B = Filter(C); stream<T> C = FileSource();} => Filter A(1) 0; Filter B(2) 1; FileSource C() 2 | 2 1 0 | 0: 0 1 2
+# also where it stands before the last one
+composite M {graph stream<T> A = Union(B, C); stream<T> B = Filter(D); stream<T> C = Filter(D, D); stream<T> D = FileSource();} => Union A(1 2) 0; Filter B(3) 1; Filter C(3 3) 2; FileSource D() 3 | 3 1 2 0 | 0: 0 1 2 3
+# the search begins anew at the first
+composite M {graph stream<T> A = Filter(B); stream<T> B = FileSource(); stream<T> C = FileSource();} => Filter A(1) 0; FileSource B() 1; FileSource C() 2 | 1 0 2 | 0: 0 1 2
 "#;
 
 #[test]

@@ -10,9 +10,12 @@ composite Main {graph «1000 257 stream<T> S{n} as A{n+1} = FileSource(); »} =>
 
 # One body in another, many times.
 «10000 20000 composite C{n} {graph () as X = C{n+1}();} »composite C30000 {graph () as X = FileSink(S); stream<T> S = FileSource();} composite Main {graph () as A = C10000();} => 2 operators 1 streams 20002 bodies
+# far from one another in the text
+«1000 2000 composite C{n}0 {graph () as X = C{n}1();} »«1000 2000 composite C{n}1 {graph () as X = C{n}2();} »«1000 2000 composite C{n}2 {graph () as X = C{n}3();} »«1000 2000 composite C{n}3 {graph () as X = C{n}4();} »«1000 2000 composite C{n}4 {graph () as X = C{n}5();} »«1000 2000 composite C{n}5 {graph () as X = C{n}6();} »«1000 2000 composite C{n}6 {graph () as X = C{n}7();} »«1000 2000 composite C{n}7 {graph () as X = C{n}8();} »«1000 2000 composite C{n}8 {graph () as X = C{n}9();} »«1000 2000 composite C{n}9 {graph () as X = C{n+1}0();} »composite C30000 {graph stream<T> S = FileSource();} composite Main {graph () as A = C10000();} => 1 operators 1 streams 20002 bodies
 
-# The last composite reaches the first one.
+# The last composite reaches the first one, and itself.
 composite Main {} «10000 20000 composite C{n} {graph () as X = C{n+1}();} »composite C30000 {graph () as X = C10000();} => E2 at 42 C10000
+composite Main {} «10000 20000 composite C{n} {graph () as X = C{n+1}();} »composite C30000 {graph () as X = C30000();} => E2 at 900042 C30000
 
 # Inputs that double: as many connections as streams of the last input.
 «1000 10 composite C{n}(input I) {graph () as X = C{n+1}(I, I);} »composite C1010(input I) {graph () as X = FileSink(I);} composite Main {graph stream<T> S = FileSource(); () as A = C1000(S);} => 2 operators 1 streams 12 bodies

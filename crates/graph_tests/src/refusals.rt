@@ -24,6 +24,12 @@ int8 f() {return f();} composite A {} => E2 at 17 f
 composite A {graph () as X = A();} int8 f(int8 a) {return g(a);} int8 g(int8 a) {return g2(g(a));} int8 g2(int8 a) {return a;} => E2 at 91 g
 int8 f() {return g() + h();} int8 g() {return 1b;} int8 h() {if (true) {return f();} return h();} composite A {} => E2 at 23 f
 int8 f() {return 1b;} int8 g() {return f() + f();} composite A {} =>  |  | 0:
+# a function in its own argument
+composite A {graph () as X = A();} void f() {size(f());} => E2 at 50 f
+# a circle behind a chain
+void a() {b();} void b() {c();} void c() {d();} void d() {b();} composite Main {} => E2 at 26 b
+# no circle
+void a() {b();} void b() {size([1]);} composite Main {graph () as X = B();} composite B {graph stream<T> F = Filter(S); stream<T> S = FileSource();} => Filter X.F(1) 0; FileSource X.S() 1 | 1 0 | 0:; 1@0.0: 0 1
 
 # A name is declared once in one place.
 type T = int32; type T = int32; => E3 at 21 T
@@ -47,6 +53,25 @@ void f() {int8 a = 1b; {int8 a = 2b;} if (true) {int8 b = 1b; int8 b = 1b;}} com
 composite A {graph stream<T> B = FileSource(); () as C = Custom(B) {logic state: {int8 s = 1b; int8 s = 2b;}}} => E3 at 100 s
 composite A {type A = int8; param expression<int8> $A: 1b;} => no tree
 composite A {param expression<int8> $A: 1b; type A = int8; graph stream<int8 A> A = FileSource();} => FileSource A() 0 | 0 | 0: 0
+# definitions are one set
+type a = int32; composite a {} => E3 at 26 a
+# a function named as a built-in call
+void currentPunct() {} composite Main {} => E3 at 5 currentPunct
+# an output shares its name with one stream alone
+composite A(output s) {graph (stream<T> s; stream<T> s) = Split(r) {param index: 0;} stream<T> r = FileSource();} => E3 at 53 s
+# an alias shares no name
+composite A(output s) {graph () as s = Custom();} => E3 at 35 s
+# the later port in the text
+composite A(input s; output s) {} => E3 at 28 s
+# types of a composite come before its parameters
+composite A {param expression<int8> $p: 1b; expression<int8> $p: 1b; type t = int8; t = int8;} => E3 at 84 t
+# parameters of a composite come before attributes
+type t = tuple<int8 a, int8 a>; composite A {param expression<int8> $p: 1b; expression<int8> $p: 1b;} => E3 at 93 p
+# of attributes the first in the text counts
+type t = tuple<tuple<int8 b, int8 b> a, int8 a>; composite A {} => E3 at 34 b
+type t = tuple<int8 b, int8 b>; type u = tuple<int8 a, int8 a>; composite A {} => E3 at 28 b
+# parameters and variables of a function are two sets
+void f(int8 a) {int8 a = 1b;} composite A {} =>  |  | 0:
 
 # An operator that waits for itself is refused.
 composite M { graph stream<int32 a> A = Filter(B) { } stream<int32 a> B = Filter(A) { } } => E4 at 20 A
@@ -56,6 +81,8 @@ composite M {graph stream<T> D as E = Filter(C); stream<T> C = Union(D; S); stre
 composite M {graph () as X = FileSink(A); stream<T> A = Filter(A);} => E4 at 19 X
 composite C(output O; input I) {graph stream<T> O = Filter(I);} composite Main {graph stream<T> A = C(A);} => E4 at 38 A.O
 composite M {graph () as X = FileSink(S); stream<T> S = FileSource(); (stream<T> A; stream<T> B) = Split(B) {param index: 0;}} => E4 at 70 A
+# a sink behind a loop of two
+composite M {graph stream<T> A = FileSource(); stream<T> B = Filter(C, A); stream<T> C = Filter(B); () as D = FileSink(C);} => E4 at 47 B
 
 # A sink has a file of its own.
 composite M {graph stream<T> S = FileSource() {param file: "a";} () as X = FileSink(S) {param file: "a";}} => E5 at 65 a
@@ -66,6 +93,22 @@ composite M {graph stream<T> S = FileSource() {param file: "a";} () as X = FileS
 composite C(input I) {param expression<rstring> $f: "c"; graph () as X = FileSink(I) {param file: $f;}} composite Main {graph stream<T> S = FileSource() {param file: "a";} () as A = C(S) {param f: "b";} () as B = C(S);} => FileSource S() 0; FileSink A.X(0); FileSink B.X(0) | 0 1 2 | 1: 0; 0@0.1: (1 from 0); 0@0.2: (1 from 0)
 composite C(input I) {param expression<rstring> $f: "a"; graph () as X = FileSink(I) {param file: $f;}} composite Main {graph stream<T> S = FileSource() {param file: "a";} () as A = C(S) {param f: "b";} () as B = C(S);} => E5 at 63 a
 composite C(input I) {param expression<rstring> $f: "c"; graph () as X = FileSink(I) {param file: $f;}} composite Main {param expression<rstring> $g: "a"; graph stream<T> S = FileSource() {param file: "a";} () as A = C(S) {param f: $g;}} => E5 at 63 a
+# behind two others
+files: () as X = FileSink(I) {param file: 'a';} () as Y = FileSink(I) {param file: 'b';} () as Z = FileSink(I) {param file: 'a';} => E5 at 222 a
+files: stream<T> X = FileSource() {param file: 'a';} () as Y = FileSink(I) {param file: 'a';} => E5 at 186 a
+files: () as X = FileSink(I) {param file: 'a';} stream<T> Y = FileSource() {param file: 'a';} => E5 at 181 a
+files: stream<T> X = FileSource() {param file: 'a';} stream<T> Y = FileSource() {param file: 'a';} => FileSource S() 0; FileSource A.X() 1; FileSource A.Y() 2 | 0 1 2 | 1: 0; 0@0.1: 1 2 (1 from 0)
+# a Filter has no file
+files: () as X = FileSink(I) {param file: 'a';} stream<T> Y = Filter(I) {param file: 'a';} => FileSource S() 0; FileSink A.X(0); Filter A.Y(0) 1 | 0 1 2 | 1: 0; 0@0.1: 1 (1 from 0)
+# a default of a default
+files: () as X = FileSink(I) {param file: $first;} () as Y = FileSink(I) {param file: $second;} () as Z = FileSink(I) {param file: 'd';} => E5 at 184 d
+# a default that leads back to itself
+files: () as X = FileSink(I) {param file: $third;} () as Y = FileSink(I) {param file: $third;} => FileSource S() 0; FileSink A.X(0); FileSink A.Y(0) | 0 1 2 | 1: 0; 0@0.1: (1 from 0)
+# a default of an argument
+composite C(input I) {param expression<rstring> $first: 'd'; expression<rstring> $second: $first; expression<rstring> $third: $third; graph () as X = FileSink(I) {param file: 'd';} () as Y = FileSink(I) {param file: 'x';} () as Z = FileSink(I) {param file: $second;}} composite Main {graph stream<T> S = FileSource(); () as A = C(S) {param first: 'x';}} => E5 at 222 x
+composite C(input I) {param expression<rstring> $first: 'd'; expression<rstring> $second: $first; expression<rstring> $third: $third; graph () as X = FileSink(I) {param file: 'd';} () as Y = FileSink(I) {param file: 'x';} () as Z = FileSink(I) {param file: $second;}} composite Main {graph stream<T> S = FileSource(); () as A = C(S) {param first: 'y';}} => FileSource S() 0; FileSink A.X(0); FileSink A.Y(0); FileSink A.Z(0) | 0 1 2 3 | 1: 0; 0@0.1: (1 from 0)
+# an argument that leads back to itself
+composite C(input I) {param expression<rstring> $first: 'd'; expression<rstring> $second: $first; expression<rstring> $third: $third; graph () as X = FileSink(I) {param file: 'd';} () as Y = FileSink(I) {param file: 'x';} () as Z = FileSink(I) {param file: $second;}} composite Main {param expression<rstring> $second: $second; graph stream<T> S = FileSource(); () as A = C(S) {param first: $second;}} => FileSource S() 0; FileSink A.X(0); FileSink A.Y(0); FileSink A.Z(0) | 0 1 2 3 | 1: 0; 0@0.1: (1 from 0)
 
 # A name that is used is declared.
 composite M {graph () as X = Foo();} => E7 at 29 Foo
@@ -81,6 +124,7 @@ composite C {param expression<int64> $x;} composite Main {graph () as A = C() {p
 composite M {graph stream<T> S = FileSource(); stream<T> A = Functor(S) {output A: a = -$f;}} => E7 at 88 f
 composite M {graph stream<T> S = FileSource(); () as A = Custom(S) {logic onTuple S: {g($f);}}} => E7 at 88 f
 composite Main {} composite A {graph () as X = Foo();} =>  |  | 0:
+composite M {graph stream<T> A = Filter(C); stream<T> B = FileSource();} => E7 at 40 C
 
 # An invocation fits the head of its composite.
 invoke: stream<T> A = C(S) {param x: 1l;} => FileSource S() 0; Filter A.O(0) 1 | 0 1 | 1: 0 1; 0@0.1: 1 (1 from 0)
@@ -131,6 +175,8 @@ const BESIDE: &str = r#"
 # No sink has a file of the command line.
 composite M {graph stream<T> S = FileSource() {param file: "o";} () as X = FileSink(S) {param file: "p";}} => E5 at 65 p
 composite M {graph stream<T> S = FileSource() {param file: "o";} () as X = FileSink(S) {param file: "q";}} => FileSource S() 0; FileSink X(0) | 0 1 | 0: 0
+files: () as X = FileSink(I) {param file: 'o';} => E5 at 140 o
+files: stream<T> X = FileSource() {param file: 'o';} => FileSource S() 0; FileSource A.X() 1 | 0 1 | 1: 0; 0@0.1: 1 (1 from 0)
 "#;
 
 #[test]
