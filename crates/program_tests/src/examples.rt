@@ -1,9 +1,7 @@
 //! The programs of the folder `examples` with their input, and what is expected of them there.
-use crate::answer::{File, answer, compare, open_out, run_text, shelf_with, told};
-use crate::programs::FIRST;
-use std::test::Fail;
 
-const TELEMETRY: &str =
+/// Readings of a thermometer.
+pub(crate) const TELEMETRY: &str =
     r#"// Readings of a thermometer, in tenths of a degree. Its range is from -40 to 125 degrees; a number
 // beyond that is a failure of the sensor, and no temperature.
 
@@ -31,7 +29,8 @@ composite Main {
 }
 "#;
 
-const TRADES: &str =
+/// Prices of trades.
+pub(crate) const TRADES: &str =
     r#"/* Prices of trades, in cents. Small and large trades go to a file each, and what lies between
    them, or below 0, goes nowhere. */
 namespace demo.trades;
@@ -59,7 +58,8 @@ composite Main {
 }
 "#;
 
-const LOGS: &str =
+/// From the log of a server.
+pub(crate) const LOGS: &str =
     r#"// From the log of a server: how long each request took, in milliseconds, and the status of each
 // answer.
 
@@ -81,7 +81,8 @@ composite Main {
 }
 "#;
 
-const WRONG: &str =
+/// A program that is refused.
+pub(crate) const WRONG: &str =
     r#"// `price` is an int64 and `10` an int32: no number is made another type by itself. `10l` is meant.
 composite Main {
   graph
@@ -91,81 +92,22 @@ composite Main {
 }
 "#;
 
-// An example's name, its program, the files beside it, the files of its sinks, what is answered to
-// `check p.spl`, and what is answered to `run p.spl`.
-type Example = (
-    &'static str,
-    &'static str,
-    &'static [File],
-    &'static [&'static str],
-    &'static str,
-    &'static str,
-);
-
-const EXAMPLES: &[Example] = &[
-    (
-        "first",
-        FIRST,
-        &[("t.csv", "5\n10\n11\n")],
-        &["o.csv"],
-        "0 ok 3 operators 2 streams\n",
-        "0; o.csv 11\n; counts 2:1",
-    ),
-    (
-        "telemetry",
-        TELEMETRY,
-        &[(
-            "readings.csv",
-            "214\n253\n-1000\n305\n412\n401\n-12\n9999\n400\n250\n",
-        )],
-        &["warm.csv", "hot.csv", "failures.csv"],
-        "0 ok 8 operators 5 streams\n",
-        "0; warm.csv 253\n305\n412\n401\n400\n; hot.csv 412\n401\n; failures.csv -1000\n9999\n; counts 5:5 6:2 7:2",
-    ),
-    (
-        "trades",
-        TRADES,
-        &[(
-            "trades.csv",
-            "1999\n250000\n10000\n9999\n100000\n99999\n5\n-300\n",
-        )],
-        &["small.csv", "large.csv"],
-        "0 ok 5 operators 3 streams\n",
-        "0; small.csv 1999\n9999\n5\n; large.csv 250000\n100000\n; counts 3:3 4:2",
-    ),
-    (
-        "logs",
-        LOGS,
-        &[
-            ("answers.csv", "200\n404\n500\n503\n301\n599\n600\n"),
-            ("times.csv", "12\n1000\n999\n45210\n87\n1001\n"),
-        ],
-        &["slow.csv", "failed.csv"],
-        "0 ok 6 operators 4 streams\n",
-        "0; slow.csv 1000\n45210\n1001\n; failed.csv 500\n503\n599\n; counts 4:3 5:3",
-    ),
-    (
-        "wrong",
-        WRONG,
-        &[],
-        &["o.csv"],
-        "2 refused Y2 at 266\n",
-        "2 refused Y2 at 266\n",
-    ),
-];
-
-#[test]
-fn the_examples_are_answered_as_expected(rt: HostRuntime) -> Result<(), Fail> {
-    let alloc = rt.alloc();
-    let mut others = String::new(alloc);
-    for (name, program, files, sinks, checked, want) in EXAMPLES {
-        let seen = told(&rt, alloc, &["check", "p.spl"], program, files)?;
-        compare(&mut others, name, seen.as_str(), checked)?;
-        let shelf = shelf_with(alloc, program, files)?;
-        let answer = answer(&rt, alloc, &["run", "p.spl"], shelf, open_out(alloc))?;
-        let seen = run_text(alloc, &answer, sinks, files)?;
-        compare(&mut others, name, seen.as_str(), want)?;
-    }
-    assert_eq!(rt; others.as_str(), "");
-    Ok(())
-}
+/// What is answered to each, by `run` unless a row says otherwise.
+pub(crate) const EXAMPLES: &str = r#"
+# The examples are answered as expected.
+# first
+@first | t.csv: 5␊10␊11␊ | $ check p.spl => 0 ok 3 operators 2 streams␊
+@first | t.csv: 5␊10␊11␊ => 0; o.csv 11␊; counts 2:1
+# telemetry
+@telemetry | readings.csv: 214␊253␊-1000␊305␊412␊401␊-12␊9999␊400␊250␊ | $ check p.spl => 0 ok 8 operators 5 streams␊
+@telemetry | readings.csv: 214␊253␊-1000␊305␊412␊401␊-12␊9999␊400␊250␊ => 0; warm.csv 253␊305␊412␊401␊400␊; hot.csv 412␊401␊; failures.csv -1000␊9999␊; counts 5:5 6:2 7:2
+# trades
+@trades | trades.csv: 1999␊250000␊10000␊9999␊100000␊99999␊5␊-300␊ | $ check p.spl => 0 ok 5 operators 3 streams␊
+@trades | trades.csv: 1999␊250000␊10000␊9999␊100000␊99999␊5␊-300␊ => 0; small.csv 1999␊9999␊5␊; large.csv 250000␊100000␊; counts 3:3 4:2
+# logs
+@logs | answers.csv: 200␊404␊500␊503␊301␊599␊600␊ | times.csv: 12␊1000␊999␊45210␊87␊1001␊ | $ check p.spl => 0 ok 6 operators 4 streams␊
+@logs | answers.csv: 200␊404␊500␊503␊301␊599␊600␊ | times.csv: 12␊1000␊999␊45210␊87␊1001␊ => 0; slow.csv 1000␊45210␊1001␊; failed.csv 500␊503␊599␊; counts 4:3 5:3
+# wrong
+@wrong | $ check p.spl => 2 refused Y2 at 266␊
+@wrong => 2 refused Y2 at 266␊
+"#;

@@ -2,11 +2,7 @@
 #![tactic(auto)]
 
 #[cfg(test)]
-mod answer;
-#[cfg(test)]
-mod checks;
-#[cfg(test)]
-mod composites;
+mod ask;
 #[cfg(test)]
 mod devices;
 #[cfg(test)]
@@ -14,12 +10,22 @@ mod examples;
 #[cfg(test)]
 mod faults;
 #[cfg(test)]
+mod generated;
+#[cfg(test)]
 mod programs;
 #[cfg(test)]
 mod refusals;
 #[cfg(test)]
-mod requests;
+mod rows;
 #[cfg(test)]
 mod runs;
 #[cfg(test)]
+mod shelf;
+#[cfg(test)]
+mod shown;
+#[cfg(test)]
+mod stopped;
+#[cfg(test)]
 mod unbuilt;
+#[cfg(test)]
+mod words;

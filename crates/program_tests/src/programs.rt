@@ -1,26 +1,31 @@
-//! Programs, and what stands in front of the texts of rows and behind them.
+//! The programs of rows.
+//!
+//! | Program of a row | What `p.spl` holds |
+//! |---|---|
+//! | `@source TEXT` | a composite with a source `T` and the text |
+//! | `@filter TEXT` | a source `T`, a Filter `B` with the text as its condition, and a sink |
+//! | `@first`, `@pair`, `@sums`, `@telemetry`, `@trades`, `@logs`, `@wrong` | that program |
+//! | `@sums OLD → NEW` | that program with the first such piece replaced |
+//! | `@nested 9` | `@first` with its attribute in nine pairs of parentheses |
+//! | `@parentheses 9`, `@sources 9`, `@chain 9`, `@padded 9 TEXT` | what `generated` says |
+//! | `@text TEXT` | the text, where it begins with `#` or `@` |
+//! | another text | the text |
+use crate::examples::{LOGS, TELEMETRY, TRADES, WRONG};
+use crate::generated::{chain, edited, nested, padded, parentheses, sources};
+use std::alloc::{AllocError, Global};
+use test_texts::signs::without_signs;
 
-/// What stands in front of the text of a row, and what stands behind.
-pub(crate) type Shell = (&'static str, &'static str);
+// What stands in front of the text of a composite behind its source, and in front of a condition and
+// behind it.
+const SOURCE: &str =
+    r#"composite Main {graph stream<int64 price> T = FileSource() {param file: "t.csv";} "#;
 
-/// Nothing around it.
-pub(crate) const WHOLE: Shell = ("", "");
+const FILTER: &str = r#"stream<int64 price> B = Filter(T) {param filter: "#;
 
-/// Behind a source T.
-pub(crate) const BEHIND_SOURCE: Shell = (
-    "composite Main {graph stream<int64 price> T = FileSource() {param file: \"t.csv\";} ",
-    "}",
-);
+const SINK: &str = r#";} () as Out = FileSink(B) {param file: "o.csv";}}"#;
 
-/// The condition of a Filter B between a source T and a sink.
-pub(crate) const CONDITION: Shell = (
-    "composite Main {graph stream<int64 price> T = FileSource() {param file: \"t.csv\";} \
-     stream<int64 price> B = Filter(T) {param filter: ",
-    ";} () as Out = FileSink(B) {param file: \"o.csv\";}}",
-);
-
-/// A source, a Filter and a sink.
-pub(crate) const FIRST: &str = r#"composite Main {
+// A source, a Filter and a sink.
+const FIRST: &str = r#"composite Main {
   graph
     stream<int64 price> T = FileSource() { param file: "t.csv"; format: csv; }
     stream<int64 price> B = Filter(T) { param filter: price > 10l; }
@@ -28,8 +33,8 @@ pub(crate) const FIRST: &str = r#"composite Main {
 }
 "#;
 
-/// Two sources, each with a sink.
-pub(crate) const PAIR: &str = r#"composite Main {
+// Two sources, each with a sink.
+const PAIR: &str = r#"composite Main {
   graph
     stream<int64 n> A = FileSource() { param file: "a.csv"; }
     stream<int64 n> B = FileSource() { param file: "b.csv"; }
@@ -38,8 +43,8 @@ pub(crate) const PAIR: &str = r#"composite Main {
 }
 "#;
 
-/// Trades that are cleaned, summed by symbol and split by their sum.
-pub(crate) const TRADES: &str = r#"namespace demo.trades;
+// Trades that are cleaned, summed by symbol and split by their sum.
+const SUMS: &str = r#"namespace demo.trades;
 type Trade = int64 ts, rstring sym, int64 price, int64 qty;
 composite Clean(output Good; input Raw) {
   param expression<int64> $least : 1l;
@@ -65,3 +70,68 @@ composite Main {
     () as BigOut = FileSink(C2) { param file: "big.csv"; format: csv; }
 }
 "#;
+
+// The program of that name. It is empty where there is none.
+fn named(name: &str) -> &'static str {
+    match name {
+        "first" => FIRST,
+        "pair" => PAIR,
+        "sums" => SUMS,
+        "telemetry" => TELEMETRY,
+        "trades" => TRADES,
+        "logs" => LOGS,
+        "wrong" => WRONG,
+        _ => "",
+    }
+}
+
+// The program of that name, edited where the text says so.
+fn named_of(alloc: Global, name: &str, text: &str) -> Result<String, AllocError> {
+    match text.split_once(" → ") {
+        None => named(name).to_string(alloc),
+        Some((old, new)) => edited(alloc, named(name), old, new),
+    }
+}
+
+// The number at the front of a text, or 0.
+fn number_of(text: &str) -> u32 {
+    let (number, _) = text.split_once(' ').unwrap_or((text, ""));
+    number.parse::<u32>().unwrap_or(0)
+}
+
+// The text behind the number, padded to so many bytes.
+fn padded_of(alloc: Global, text: &str) -> Result<String, AllocError> {
+    let (_, program) = text.split_once(' ').unwrap_or(("", text));
+    let program = if program == "@first" { FIRST } else { program };
+    padded(alloc, program, number_of(text))
+}
+
+// A program by its name and what stands behind the name.
+fn program_by_name(alloc: Global, name: &str, text: &str) -> Result<String, AllocError> {
+    match name {
+        "text" => text.to_string(alloc),
+        "source" => format!(in alloc; "{SOURCE}{text}}}"),
+        "filter" => format!(in alloc; "{SOURCE}{FILTER}{text}{SINK}"),
+        "nested" => {
+            let condition = nested(alloc, number_of(text))?;
+            edited(alloc, FIRST, "price > 10l", condition.as_str())
+        }
+        "parentheses" => parentheses(alloc, number_of(text)),
+        "sources" => sources(alloc, number_of(text)),
+        "chain" => chain(alloc, number_of(text)),
+        "padded" => padded_of(alloc, text),
+        name => named_of(alloc, name, text),
+    }
+}
+
+/// The program of a row.
+pub(crate) fn program_of(alloc: Global, text: &str) -> Result<String, AllocError> {
+    let text = without_signs(alloc, text)?;
+    match text.as_str().strip_prefix("@") {
+        None => text.as_str().to_string(alloc),
+        Some(asked) => {
+            let (name, text) = asked.split_once(' ').unwrap_or((asked, ""));
+            program_by_name(alloc, name, text)
+        }
+    }
+}

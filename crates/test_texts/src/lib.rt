@@ -9,6 +9,7 @@ pub mod graphs;
 pub mod refusals;
 pub mod rows;
 pub mod shells;
+pub mod signs;
 pub mod spelled;
 pub mod text;
 pub mod tokens;

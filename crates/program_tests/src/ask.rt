@@ -1,0 +1,72 @@
+//! Rows that are asked of the program.
+//!
+//! | Part of a row | What it says |
+//! |---|---|
+//! | the first one | the file `p.spl`, as `programs` says; `@none` where it isn't there |
+//! | `t.csv: 5␊` | a file beside it, and what it holds; `@lines 9 x` are 9 lines with 11, and `x` |
+//! | `fail read 2 t.csv` | a call that fails, by its number from 1: of the reads of a file; `write 2 o.csv` of the writes to one; `call 3` of the shelf's own calls, which open, create and finish; `line` is the line that is told |
+//! | `$ run p.spl` | the words, where others are asked than those of the table; they stand last |
+use crate::shelf::{File, files_of, out_of, shelf_of};
+use crate::shown::shown;
+use feed_pour::{AllStart, MemoryShelf, OpenGate};
+use spl_driver::{Ended, spl};
+use spl_value::Bytes;
+use std::alloc::{AllocError, Global};
+use std::sync::Wait;
+use std::thread::Threads;
+use test_texts::rows::Answers;
+use test_texts::signs::words;
+
+/// What is seen of an answer.
+#[derive(Drop)]
+pub(crate) struct Seen {
+    pub ended: Ended,
+    pub told: Bytes,
+    pub shelf: MemoryShelf,
+    /// Those that were there before.
+    pub files: Vec<File>,
+}
+
+/// What is answered to words where these files and devices stand beside the program.
+pub(crate) fn ask<W: Threads + Wait + Sync>(
+    rt: &W,
+    alloc: Global,
+    row: &str,
+    line: &str,
+) -> Result<Seen, AllocError> {
+    let (program, beside) = row.split_once(" | ").unwrap_or((row, ""));
+    let words = words(alloc, line)?;
+    let files = files_of(alloc, program, beside)?;
+    let mut shelf = shelf_of(alloc, files.as_slice(), beside)?;
+    let mut out = out_of(alloc, beside)?;
+    let ended = spl(
+        rt,
+        alloc,
+        words.as_slice(),
+        &mut shelf,
+        &mut AllStart,
+        &OpenGate,
+        &mut out,
+    );
+    Ok(Seen {
+        ended,
+        told: out.into_bytes(),
+        shelf,
+        files,
+    })
+}
+
+/// Rows to which these words are asked, unless a row has its own.
+#[derive(Drop)]
+pub(crate) struct Asked<'w, W: Threads + Wait + Sync> {
+    pub rt: &'w W,
+    pub words: &'static str,
+}
+
+impl<W: Threads + Wait + Sync> Answers for Asked<'_, W> {
+    fn answer(&self, alloc: Global, text: &str) -> Result<String, AllocError> {
+        let (row, words) = text.split_once(" | $ ").unwrap_or((text, self.words));
+        let seen = ask(self.rt, alloc, row, words)?;
+        shown(alloc, &seen)
+    }
+}

@@ -1,0 +1,107 @@
+//! The files of a row, and the calls that fail.
+use crate::generated::held_of;
+use crate::programs::program_of;
+use feed_pour::{MemoryPour, MemoryShelf};
+use spl_value::{Bytes, Items};
+use std::alloc::{AllocError, Global};
+
+/// A file's name, and what it holds.
+#[derive(Drop)]
+pub(crate) struct File {
+    pub name: Bytes,
+    pub held: Bytes,
+}
+
+/// The bytes of a text.
+pub(crate) fn bytes(alloc: Global, text: &str) -> Result<Bytes, AllocError> {
+    Items::from_slice(alloc, text.as_bytes())
+}
+
+fn make_file(alloc: Global, name: &str, held: &str) -> Result<File, AllocError> {
+    Ok(File {
+        name: bytes(alloc, name)?,
+        held: bytes(alloc, held)?,
+    })
+}
+
+// Adds the file of a part, if it has one.
+fn add_file(alloc: Global, files: &mut Vec<File>, part: &str) -> Result<(), AllocError> {
+    let Some((name, held)) = part.split_once(": ") else {
+        return Ok(());
+    };
+    let held = held_of(alloc, held)?;
+    files.push(make_file(alloc, name, held.as_str())?)?;
+    Ok(())
+}
+
+/// The program of a row, if it has one, and the files beside it.
+pub(crate) fn files_of(
+    alloc: Global,
+    program: &str,
+    beside: &str,
+) -> Result<Vec<File>, AllocError> {
+    let mut files = Vec::new(alloc);
+    if program != "@none" {
+        let program = program_of(alloc, program)?;
+        files.push(make_file(alloc, "p.spl", program.as_str())?)?;
+    }
+    for part in beside.split(" | ") {
+        add_file(alloc, &mut files, part)?;
+    }
+    Ok(files)
+}
+
+fn one(alloc: Global, number: u64) -> Result<Items<u64>, AllocError> {
+    let mut numbers = Items::new(alloc);
+    numbers.push(number)?;
+    Ok(numbers)
+}
+
+// Lets a call fail: `read 1 a.csv`, `write 2 o.csv`, or `call 3` of the shelf's own calls, which open,
+// create and finish.
+fn fail(alloc: Global, shelf: &mut MemoryShelf, call: &str) -> Result<(), AllocError> {
+    let (kind, which) = call.split_once(' ').unwrap_or((call, ""));
+    let (number, name) = which.split_once(' ').unwrap_or((which, ""));
+    let numbers = one(alloc, number.parse::<u64>().unwrap_or(0))?;
+    let name = bytes(alloc, name)?;
+    let done = match kind {
+        "read" => shelf.fail_reads(&name, numbers),
+        "write" => shelf.fail_writes(&name, numbers),
+        "call" => {
+            shelf.fail_calls(numbers);
+            Ok(())
+        }
+        "line" => Ok(()),
+        _ => return Err(AllocError),
+    };
+    done.map_err(|_| AllocError)
+}
+
+/// A shelf with these files, on which the calls fail that are told beside them.
+pub(crate) fn shelf_of(
+    alloc: Global,
+    files: &[File],
+    beside: &str,
+) -> Result<MemoryShelf, AllocError> {
+    let mut shelf = MemoryShelf::new(alloc);
+    for file in files {
+        let held = Items::from_slice(alloc, file.held.as_slice())?;
+        shelf.put_file(&file.name, held).map_err(|_| AllocError)?;
+    }
+    for part in beside.split(" | ") {
+        if let Some(call) = part.strip_prefix("fail ") {
+            fail(alloc, &mut shelf, call)?;
+        }
+    }
+    Ok(shelf)
+}
+
+/// What takes the line that is told. It takes none where `fail line` stands beside the program.
+pub(crate) fn out_of(alloc: Global, beside: &str) -> Result<MemoryPour, AllocError> {
+    let failing = if beside.contains("fail line") {
+        one(alloc, 1)?
+    } else {
+        Items::new(alloc)
+    };
+    Ok(MemoryPour::new(alloc, failing))
+}

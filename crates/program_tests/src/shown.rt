@@ -1,0 +1,110 @@
+//! What is answered, as a text.
+//!
+//! The parts of an answer stand behind one another:
+//!
+//! | Text | Part |
+//! |---|---|
+//! | `3 stopped B DivZero␊` | the status, and behind a blank what was told, where anything was |
+//! | `; o.csv 20␊` | a file that a sink made, and what it holds, or its length, `of 1200 bytes` |
+//! | `; t.csv changed` | a file that was there before, and isn't as it was |
+//! | `; counts 2:1 3:0` | of a run with status 0 or 3, each sink's number and the rows that it wrote |
+//! | `; a record` | an arrival record, or counts of channels |
+use crate::ask::Seen;
+use crate::shelf::{File, bytes};
+use feed_pour::MemoryShelf;
+use spl_driver::Ended;
+use std::alloc::{AllocError, Global};
+use test_texts::signs::with_signs;
+use test_texts::text::Text;
+
+// The files that a row's request may make.
+const MADE: [&str; 14] = [
+    "o.csv",
+    "x.csv",
+    "y.csv",
+    "z.csv",
+    "m.csv",
+    "a.txt",
+    "r.txt",
+    "warm.csv",
+    "hot.csv",
+    "failures.csv",
+    "small.csv",
+    "large.csv",
+    "slow.csv",
+    "failed.csv",
+];
+
+fn add_told(text: &mut Text, seen: &Seen) {
+    text.add_number(i128::from(seen.ended.status));
+    if !seen.told.is_empty() {
+        text.add(" ");
+        text.add_bytes(seen.told.as_slice());
+    }
+}
+
+fn add_made(text: &mut Text, name: &str, held: &[u8]) {
+    text.add("; ");
+    text.add(name);
+    if held.is_empty() {
+        text.add(" ∅");
+    } else if held.len() <= 1000 {
+        text.add(" ");
+        text.add_bytes(held);
+    } else {
+        text.add(" of ");
+        text.add_number(held.len() as i128);
+        text.add(" bytes");
+    }
+}
+
+fn add_all_made(alloc: Global, text: &mut Text, shelf: &MemoryShelf) -> Result<(), AllocError> {
+    for name in MADE {
+        if let Some(held) = shelf.file(&bytes(alloc, name)?) {
+            add_made(text, name, held);
+        }
+    }
+    Ok(())
+}
+
+// Whether a file is as it was.
+fn is_kept(shelf: &MemoryShelf, file: &File) -> bool {
+    match shelf.file(&file.name) {
+        None => false,
+        Some(held) => held == file.held.as_slice(),
+    }
+}
+
+fn add_changed(text: &mut Text, shelf: &MemoryShelf, files: &[File]) {
+    for file in files {
+        if !is_kept(shelf, file) {
+            text.add("; ");
+            text.add_bytes(file.name.as_slice());
+            text.add(" changed");
+        }
+    }
+}
+
+fn add_counts(text: &mut Text, ended: &Ended) {
+    for (at, sink) in ended.counts.sinks.as_slice().iter().enumerate() {
+        text.add(if at == 0 { "; counts " } else { " " });
+        text.add_number(i128::from(sink.op));
+        text.add(":");
+        text.add_number(i128::from(sink.tuples));
+    }
+    if !ended.counts.channels.is_empty() || !ended.arrivals.lists.is_empty() {
+        text.add("; a record");
+    }
+}
+
+/// What was answered.
+pub(crate) fn shown(alloc: Global, seen: &Seen) -> Result<String, AllocError> {
+    let mut text = Text::new(alloc);
+    add_told(&mut text, seen);
+    add_all_made(alloc, &mut text, &seen.shelf)?;
+    add_changed(&mut text, &seen.shelf, seen.files.as_slice());
+    if seen.ended.status == 0 || seen.ended.status == 3 {
+        add_counts(&mut text, &seen.ended);
+    }
+    with_signs(alloc, text.finish()?.as_str())
+}

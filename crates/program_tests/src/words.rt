@@ -1,0 +1,178 @@
+//! What is answered to the words of a command line.
+use crate::ask::{Seen, ask};
+use crate::shelf::bytes;
+use crate::shown::shown;
+use std::alloc::{AllocError, Global};
+use std::sync::Wait;
+use std::test::Fail;
+use std::thread::Threads;
+use test_texts::rows::{Answers, others};
+
+// Words that are asked beside the first program and its source, and beside no file at all. Both have
+// the same answer, and the second opens no file.
+#[derive(Drop)]
+struct Unopened<'w, W: Threads + Wait + Sync> {
+    rt: &'w W,
+}
+
+// Whether the program was never asked for.
+fn is_untouched(alloc: Global, seen: &Seen) -> Result<bool, AllocError> {
+    let tallies = seen.shelf.tallies(&bytes(alloc, "p.spl")?);
+    Ok(
+        tallies.opening == 0
+            && tallies.creating == 0
+            && tallies.reading == 0
+            && tallies.writing == 0,
+    )
+}
+
+impl<W: Threads + Wait + Sync> Answers for Unopened<'_, W> {
+    fn answer(&self, alloc: Global, text: &str) -> Result<String, AllocError> {
+        let full = ask(self.rt, alloc, "@first | t.csv: 5␊10␊11␊", text)?;
+        let empty = ask(self.rt, alloc, "@none", text)?;
+        let full = shown(alloc, &full)?;
+        let other = shown(alloc, &empty)?;
+        if full.as_str() != other.as_str() {
+            return format!(in alloc; "{full}; without files {other}");
+        }
+        if !is_untouched(alloc, &empty)? {
+            return format!(in alloc; "{full}; the program is opened");
+        }
+        Ok(full)
+    }
+}
+
+#[test]
+fn words_that_open_no_file_are_answered(rt: HostRuntime) -> Result<(), Fail> {
+    let others = others(rt.alloc(), &Unopened { rt: &rt }, WORDS)?;
+    assert_eq!(rt; others.as_str(), "");
+    Ok(())
+}
+
+/// Words with their own answers.
+pub(crate) const BUILT: &str = r#"
+# Check and run are built.
+@first | t.csv: 5␊10␊11␊ | $ check p.spl => 0 ok 3 operators 2 streams␊
+@first | t.csv: 5␊10␊11␊ | $ run p.spl => 0; o.csv 11␊; counts 2:1
+
+# A program of three numbers.
+@first | t.csv: 5␊10␊11␊ | $ check t.csv => 2 refused S1 at 0␊
+@first | t.csv: 5␊10␊11␊ | $ run t.csv => 2 refused S1 at 0␊
+
+# Names of files that aren't there.
+@first | t.csv: 5␊10␊11␊ | $ check check => 14 device failed␊
+@first | t.csv: 5␊10␊11␊ | $ run run => 14 device failed␊
+@first | t.csv: 5␊10␊11␊ | $ run P.spl => 14 device failed␊
+@first | t.csv: 5␊10␊11␊ | $ run a=b => 14 device failed␊
+@first | t.csv: 5␊10␊11␊ | $ run ␣ => 14 device failed␊
+
+# A request that is not built comes before a refused program.
+@text # | $ plan p.spl => 13 not built␊
+@text # | $ walk p.spl => 1 bad words␊
+@text # | $ check p.spl => 2 refused L1 at 0␊
+"#;
+
+const WORDS: &str = r#"
+# Other requests are not built.
+plan p.spl => 13 not built␊
+run p.spl --width 1 => 13 not built␊
+run p.spl --width 16 => 13 not built␊
+run --width=2 p.spl => 13 not built␊
+run p.spl --workers 1 => 13 not built␊
+run p.spl --workers=64 => 13 not built␊
+run p.spl --capacity 18 => 13 not built␊
+run p.spl --capacity 4096 => 13 not built␊
+run p.spl --counts => 13 not built␊
+run --counts p.spl => 13 not built␊
+run p.spl --arrivals a.txt => 13 not built␊
+run --arrivals=a.txt --width 4 p.spl --workers 3 --counts --capacity=64 => 13 not built␊
+replay p.spl --arrivals r.txt => 13 not built␊
+replay --arrivals=r.txt p.spl => 13 not built␊
+simulate p.spl --width 2 --schedule 0 => 13 not built␊
+simulate --steps 1 --schedule=2147483647 p.spl --width 16 => 13 not built␊
+simulate p.spl --width 1 --schedule 0 --steps 1000000000 => 13 not built␊
+make m.csv --rows 2 --start 0 => 13 not built␊
+make --start=2147483647 m.csv --rows=10000000 => 13 not built␊
+make m.csv --rows 0 --start 0 => 13 not built␊
+
+# Other words are no request.
+ => 1 bad words␊
+∅ => 1 bad words␊
+
+# No command, or no file name.
+p.spl => 1 bad words␊
+p.spl run => 1 bad words␊
+walk p.spl => 1 bad words␊
+Run p.spl => 1 bad words␊
+help => 1 bad words␊
+--help => 1 bad words␊
+--version => 1 bad words␊
+run => 1 bad words␊
+check => 1 bad words␊
+run --counts => 1 bad words␊
+
+# File names.
+run ∅ => 1 bad words␊
+run - => 1 bad words␊
+run -p => 1 bad words␊
+run -- p.spl => 1 bad words␊
+run p.spl -- => 1 bad words␊
+run p.spl q.spl => 1 bad words␊
+check p.spl p.spl => 1 bad words␊
+check p.spl ∅ => 1 bad words␊
+
+# Options that the command doesn't have.
+check p.spl --counts => 1 bad words␊
+check p.spl --width 1 => 1 bad words␊
+plan p.spl --width 1 => 1 bad words␊
+run p.spl --steps 5 => 1 bad words␊
+run p.spl --count => 1 bad words␊
+run p.spl -counts => 1 bad words␊
+run p.spl --Width 2 => 1 bad words␊
+replay p.spl --arrivals r.txt --counts => 1 bad words␊
+simulate p.spl --width 2 --schedule 0 --workers 2 => 1 bad words␊
+make m.csv --rows 2 --start 0 --width 2 => 1 bad words␊
+
+# Options that are needed.
+replay p.spl => 1 bad words␊
+simulate p.spl --width 2 => 1 bad words␊
+simulate p.spl --schedule 0 => 1 bad words␊
+make m.csv => 1 bad words␊
+make m.csv --rows 2 => 1 bad words␊
+make m.csv --start 0 => 1 bad words␊
+
+# Options given twice.
+run p.spl --width 2 --width 2 => 1 bad words␊
+run p.spl --width 2 --width=3 => 1 bad words␊
+run p.spl --counts --counts => 1 bad words␊
+
+# Values.
+run p.spl --width => 1 bad words␊
+run p.spl --width ∅ => 1 bad words␊
+run p.spl --width= => 1 bad words␊
+run p.spl --width two => 1 bad words␊
+run p.spl --width +2 => 1 bad words␊
+run p.spl --width -2 => 1 bad words␊
+run p.spl --width 2.0 => 1 bad words␊
+run p.spl --width ␣2 => 1 bad words␊
+run p.spl --width 04 => 1 bad words␊
+run p.spl --width 0 => 1 bad words␊
+run p.spl --width 17 => 1 bad words␊
+run p.spl --width 10000000000000000002 => 1 bad words␊
+run p.spl --workers 0 => 1 bad words␊
+run p.spl --workers 65 => 1 bad words␊
+run p.spl --capacity 17 => 1 bad words␊
+run p.spl --capacity 4097 => 1 bad words␊
+run p.spl --counts=1 => 1 bad words␊
+run p.spl --counts= => 1 bad words␊
+run p.spl --arrivals p.spl => 1 bad words␊
+run p.spl --arrivals -a => 1 bad words␊
+run p.spl --arrivals= => 1 bad words␊
+replay p.spl --arrivals=p.spl => 1 bad words␊
+replay p.spl --arrivals => 1 bad words␊
+simulate p.spl --width 2 --schedule 2147483648 => 1 bad words␊
+simulate p.spl --width 2 --schedule 0 --steps 0 => 1 bad words␊
+simulate p.spl --width 2 --schedule 0 --steps 1000000001 => 1 bad words␊
+make m.csv --rows 10000001 --start 0 => 1 bad words␊
+make m.csv --rows 2 --start 2147483648 => 1 bad words␊
+"#;
