@@ -6,8 +6,6 @@ mod commands;
 mod laws;
 mod options;
 mod request;
-#[cfg(test)]
-mod tests;
 
 pub use laws::{request_law, request_on_literals};
 pub use request::{Request, RunOptions, file_names, read_request};

@@ -15,8 +15,6 @@ mod starters;
 mod stdout;
 mod table;
 mod tallies;
-#[cfg(test)]
-mod tests;
 mod whole;
 
 pub use calls::Calls;

@@ -5,8 +5,6 @@
 mod row;
 mod sinks;
 mod source;
-#[cfg(test)]
-mod tests;
 
 pub use sinks::{Sink, Sunk, write_sinks};
 pub use source::number_stream;

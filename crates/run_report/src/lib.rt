@@ -5,8 +5,6 @@ mod cause;
 mod check;
 mod refusal;
 mod status;
-#[cfg(test)]
-mod tests;
 
 pub use cause::Cause;
 pub use check::check_text;

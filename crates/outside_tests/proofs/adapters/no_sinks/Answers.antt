@@ -1,7 +1,7 @@
 use Rattle.std.proofs.Common.{List, [], ◌∷◌, map, subst, sym}
 use Rattle.file_adapters.specs.Sinks.{AreDistinct}
 use Rattle.file_adapters.specs.declared.sinks.Sink.{Sink}
-use Rattle.file_adapters.proofs.tests.no_sinks.Goals as goal
+use Rattle.outside_tests.proofs.adapters.no_sinks.Goals as goal
 
 none : AreDistinct []
 none [] after file e = absurd cc

@@ -1,7 +1,7 @@
 use Rattle.std.proofs.Common.{◌≡◌, ◌∙◌, List, [], ◌∷◌, ◌++◌, map, subst, sym, refl, ap}
 use Rattle.file_adapters.specs.Sinks.{AreDistinct}
 use Rattle.file_adapters.specs.declared.sinks.Sink.{Sink}
-use Rattle.file_adapters.proofs.tests.two_sinks.Goals as goal
+use Rattle.outside_tests.proofs.adapters.two_sinks.Goals as goal
 
 -- the names `a` and `b`
 two : AreDistinct ((97 ∷ []) ∷ (98 ∷ []) ∷ [])

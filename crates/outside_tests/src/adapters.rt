@@ -1,0 +1,268 @@
+//! The rows of files: those of a source as its stream, and streams as the rows of sinks.
+ghost use Rattle.std.specs.Prelude.{map, IfOk};
+ghost use Rattle.file_adapters.specs.Sinks.{AreDistinct};
+
+use crate::shown::{add_faults, add_held, bytes, cut, number, numbers};
+use feed_pour::MemoryShelf;
+use file_adapters::{Sink, Sunk, number_stream, write_sinks};
+use spl_value::{Item, Items, Name, Value};
+use std::alloc::{AllocError, Global};
+use std::test::Fail;
+use test_texts::rows::{Answers, others};
+use test_texts::signs::{with_signs, without_signs, words};
+use test_texts::text::Text;
+
+// The bytes of a source.
+struct Sources;
+
+// The values of a tuple.
+struct Rows;
+
+// The streams of the sinks `a` and `b`, or `none` for no sinks, and the call that fails: one of the
+// shelf's, or a write to `a`.
+struct Sinks;
+
+fn add_item(text: &mut Text, item: &Item) {
+    match item {
+        Item::Tuple(values) => match values.as_slice() {
+            [Value::Int(number)] => text.add_number(*number),
+            _ => text.add("?"),
+        },
+        Item::Window => text.add("Window"),
+        Item::Final => text.add("Final"),
+        Item::Bad(_) => text.add("Bad"),
+    }
+}
+
+fn add_stream(text: &mut Text, items: &[Item]) {
+    for (at, item) in items.iter().enumerate() {
+        text.add_between(at, ", ");
+        add_item(text, item);
+    }
+}
+
+impl Answers for Sources {
+    fn answer(&self, alloc: Global, text: &str) -> Result<String, AllocError> {
+        let source = without_signs(alloc, text)?;
+        let mut shown = Text::new(alloc);
+        if source.len() > 1000 {
+            return "too long".to_string(alloc);
+        }
+        match number_stream(alloc, source.as_bytes()) {
+            Ok(Some(items)) => add_stream(&mut shown, items.as_slice()),
+            Ok(None) => shown.add("no numbers"),
+            Err(_) => shown.add("no memory"),
+        }
+        shown.finish()
+    }
+}
+
+fn value_of(alloc: Global, word: &str) -> Result<Value, AllocError> {
+    match word {
+        "true" => Ok(Value::Bool(true)),
+        "false" => Ok(Value::Bool(false)),
+        _ => match word.parse::<i64>() {
+            Ok(number) => Ok(Value::Int(i128::from(number))),
+            Err(_) => Ok(Value::Text(bytes(alloc, word)?)),
+        },
+    }
+}
+
+// The stream of one tuple.
+fn stream_of(alloc: Global, row: &str) -> Result<Items<Item>, AllocError> {
+    let mut values = Items::new(alloc);
+    for word in words(alloc, row)?.as_slice() {
+        values.push(value_of(alloc, word.as_str())?)?;
+    }
+    let mut items = Items::new(alloc);
+    items.push(Item::Tuple(values))?;
+    Ok(items)
+}
+
+// A stream with a tuple of each text.
+fn texts(alloc: Global, texts: &[&str]) -> Result<Items<Item>, AllocError> {
+    let mut items = Items::new(alloc);
+    for text in texts {
+        let mut values = Items::new(alloc);
+        values.push(Value::Text(bytes(alloc, text)?))?;
+        items.push(Item::Tuple(values))?;
+    }
+    items.push(Item::Window)?;
+    items.push(Item::Final)?;
+    Ok(items)
+}
+
+fn no_sinks(alloc: Global) -> Items<Sink>
+    ensures { AreDistinct (map (λ s. s.file) result) }
+{
+    Items::new(alloc)
+}
+
+// The files `a` and `b` of these streams.
+fn two_sinks(alloc: Global, first: u32, second: u32) -> Result<Items<Sink>, AllocError>
+    ensures { IfOk result (λ sinks. AreDistinct (map (λ s. s.file) sinks)) }
+{
+    let mut sinks = Items::new(alloc);
+    let file = Items::from_slice(alloc, b"a")?;
+    sinks.push(Sink {
+        file,
+        stream: first,
+    })?;
+    let file = Items::from_slice(alloc, b"b")?;
+    sinks.push(Sink {
+        file,
+        stream: second,
+    })?;
+    Ok(sinks)
+}
+
+impl Answers for Rows {
+    fn answer(&self, alloc: Global, text: &str) -> Result<String, AllocError> {
+        let mut streams = Items::new(alloc);
+        streams.push(stream_of(alloc, text)?)?;
+        let mut shelf = MemoryShelf::new(alloc);
+        let sunk = write_sinks(alloc, &mut shelf, &two_sinks(alloc, 0, 1)?, &streams);
+        let mut shown = Text::new(alloc);
+        add_sunk(&mut shown, &sunk);
+        shown.add("; ");
+        add_held(&mut shown, shelf.file(&bytes(alloc, "a")?));
+        with_signs(alloc, shown.finish()?.as_str())
+    }
+}
+
+fn add_sunk(text: &mut Text, sunk: &Sunk) {
+    match sunk {
+        Sunk::Done(rows) => {
+            text.add("done");
+            for rows in rows.as_slice() {
+                text.add(" ");
+                text.add_number(i128::from(*rows));
+            }
+        }
+        Sunk::Failed => text.add("failed"),
+        Sunk::Memory => text.add("no memory"),
+    }
+}
+
+fn put(alloc: Global, shelf: &mut MemoryShelf, name: &str, held: &str) -> Result<(), AllocError> {
+    let done = shelf.put_file(&bytes(alloc, name)?, bytes(alloc, held)?);
+    done.map_err(|_| AllocError)
+}
+
+// A shelf whose calls of this number fail, or the writes of this number to `a`.
+fn shelf_of(alloc: Global, failing: &str) -> Result<MemoryShelf, AllocError> {
+    let mut shelf = MemoryShelf::new(alloc);
+    put(alloc, &mut shelf, "b", "was here")?;
+    put(alloc, &mut shelf, "c", "stays")?;
+    let (kind, number) = cut(failing);
+    let numbers = numbers(alloc, number)?;
+    if kind == "call" {
+        shelf.fail_calls(numbers);
+    } else {
+        let done = shelf.fail_writes(&bytes(alloc, "a")?, numbers);
+        done.map_err(|_| AllocError)?;
+    }
+    Ok(shelf)
+}
+
+fn add_file(text: &mut Text, shelf: &MemoryShelf, name: &Name) {
+    text.add("; ");
+    text.add_bytes(name.as_slice());
+    text.add(" ");
+    add_held(text, shelf.file(name));
+    text.add(" ");
+    add_faults(text, shelf.tallies(name));
+}
+
+// What comes of sinks of the streams 0 and 1.
+fn sunk_of(alloc: Global, shelf: &mut MemoryShelf, sinks: &str) -> Result<Sunk, AllocError> {
+    let mut streams = Items::new(alloc);
+    streams.push(texts(alloc, &["1", "2", "3"])?)?;
+    streams.push(texts(alloc, &["x,y", "z"])?)?;
+    if sinks == "none" {
+        return Ok(write_sinks(alloc, shelf, &no_sinks(alloc), &streams));
+    }
+    let (first, second) = cut(sinks);
+    let sinks = two_sinks(alloc, number(first), number(second))?;
+    Ok(write_sinks(alloc, shelf, &sinks, &streams))
+}
+
+impl Answers for Sinks {
+    fn answer(&self, alloc: Global, text: &str) -> Result<String, AllocError> {
+        let (sinks, failing) = text.split_once(" | ").unwrap_or((text, ""));
+        let mut shelf = shelf_of(alloc, failing)?;
+        let sunk = sunk_of(alloc, &mut shelf, sinks)?;
+        let mut shown = Text::new(alloc);
+        add_sunk(&mut shown, &sunk);
+        for name in ["a", "b", "c"] {
+            add_file(&mut shown, &shelf, &bytes(alloc, name)?);
+        }
+        with_signs(alloc, shown.finish()?.as_str())
+    }
+}
+
+#[test]
+fn sources_are_these_streams(rt: HostRuntime) -> Result<(), Fail> {
+    assert_eq!(rt; others(rt.alloc(), &Sources, SOURCES)?.as_str(), "");
+    Ok(())
+}
+
+#[test]
+fn streams_are_written_to_sinks(rt: HostRuntime) -> Result<(), Fail> {
+    let alloc = rt.alloc();
+    assert_eq!(rt; others(alloc, &Rows, ROWS)?.as_str(), "");
+    assert_eq!(rt; others(alloc, &Sinks, SINKS)?.as_str(), "");
+    Ok(())
+}
+
+const SOURCES: &str = r#"
+∅ => Window, Final
+5␊10␊11␊ => 5, 10, 11, Window, Final
+-3 => -3, Window, Final
+-0␊007 => 0, 7, Window, Final
+999999999999999999␊ => 999999999999999999, Window, Final
+1000000000000000000␊ => no numbers
+-999999999999999999 => -999999999999999999, Window, Final
+x␊ => no numbers
+1␊␊2␊ => no numbers
+␊ => no numbers
+-␊ => no numbers
+--1␊ => no numbers
+1␍␊ => no numbers
+"#;
+
+const ROWS: &str = r#"
+-5 a,b true => done 1 0; -5,"a,b",true␊
+-5 q"q true => done 1 0; -5,"q""q",true␊
+-5 ∅ true => done 1 0; -5,,true␊
+-5 a␣b true => done 1 0; -5,a b,true␊
+
+# an empty text alone
+∅ => done 1 0; ""␊
+"#;
+
+const SINKS: &str = r#"
+# both
+0 1 => done 3 2; a 1␊2␊3␊ 0 0 0 0; b "x,y"␊z␊ 0 0 0 0; c stays 0 0 0 0
+
+# one stream
+1 1 => done 2 2; a "x,y"␊z␊ 0 0 0 0; b "x,y"␊z␊ 0 0 0 0; c stays 0 0 0 0
+
+# no stream
+2 0 => done 0 3; a ∅ 0 0 0 0; b 1␊2␊3␊ 0 0 0 0; c stays 0 0 0 0
+
+# first create
+0 1 | call 1 => failed; a - 0 1 0 0; b was here 0 0 0 0; c stays 0 0 0 0
+
+# second create
+0 1 | call 2 => failed; a ∅ 0 0 0 0; b was here 0 1 0 0; c stays 0 0 0 0
+
+# second write
+0 1 | write 2 => failed; a 1␊ 0 0 0 1; b ∅ 0 0 0 0; c stays 0 0 0 0
+
+# first finish
+0 1 | call 3 => failed; a 1␊2␊3␊ 0 0 0 1; b "x,y"␊z␊ 0 0 0 0; c stays 0 0 0 0
+
+# no sinks
+none | call 1 => done; a - 0 0 0 0; b was here 0 0 0 0; c stays 0 0 0 0
+"#;

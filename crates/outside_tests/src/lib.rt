@@ -1,0 +1,17 @@
+//! What the program reads from and writes to: words, rows, files, devices and the lines that it tells.
+#![tactic(auto)]
+
+#[cfg(test)]
+mod adapters;
+#[cfg(test)]
+mod devices;
+#[cfg(test)]
+mod files;
+#[cfg(test)]
+mod reports;
+#[cfg(test)]
+mod requests;
+#[cfg(test)]
+mod shelves;
+#[cfg(test)]
+mod shown;

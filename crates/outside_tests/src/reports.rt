@@ -1,0 +1,163 @@
+//! The lines that tell why the program ended.
+use crate::shown::{add_held, cut, number};
+use language_model::CheckError;
+use run_report::{Cause, Code, ExpansionError, Refusal, status_text};
+use spl_tree::LexicalError;
+use spl_value::Items;
+use std::alloc::{AllocError, Global};
+use std::test::Fail;
+use test_texts::rows::{Answers, others};
+use test_texts::signs::with_signs;
+use test_texts::text::Text;
+
+// Causes other than faults, each by its name; a refusal with its place and its name.
+struct Lines;
+
+fn lexical_code(name: &str) -> Option<Code> {
+    let error = match name {
+        "BadByte" => LexicalError::BadByte,
+        "OpenText" => LexicalError::OpenText,
+        "OpenComment" => LexicalError::OpenComment,
+        "BadNumber" => LexicalError::BadNumber,
+        "TooLong" => LexicalError::TooLong,
+        _ => return None,
+    };
+    Some(Code::Lexical(error))
+}
+
+fn expansion_code(name: &str) -> Option<Code> {
+    let error = match name {
+        "NoMain" => ExpansionError::NoMain,
+        "Recursive" => ExpansionError::Recursive,
+        "Twice" => ExpansionError::Twice,
+        "Loop" => ExpansionError::Loop,
+        "SameFile" => ExpansionError::SameFile,
+        "TooMany" => ExpansionError::TooMany,
+        "Unknown" => ExpansionError::Unknown,
+        "Ports" => ExpansionError::Ports,
+        _ => return None,
+    };
+    Some(Code::Expansion(error))
+}
+
+fn check_code(name: &str) -> Option<Code> {
+    let error = match name {
+        "Unknown" => CheckError::Unknown,
+        "Mismatch" => CheckError::Mismatch,
+        "NotMutable" => CheckError::NotMutable,
+        "WrongCall" => CheckError::WrongCall,
+        "LeftOut" => CheckError::LeftOut,
+        "NoReturn" => CheckError::NoReturn,
+        "MissingParameter" => CheckError::MissingParameter,
+        "ExtraParameter" => CheckError::ExtraParameter,
+        "BadWindow" => CheckError::BadWindow,
+        "BadOutput" => CheckError::BadOutput,
+        "PortCount" => CheckError::PortCount,
+        "NoTextForm" => CheckError::NoTextForm,
+        _ => return None,
+    };
+    Some(Code::Check(error))
+}
+
+fn code(kind: &str, name: &str) -> Option<Code> {
+    match kind {
+        "lexical" => lexical_code(name),
+        "syntax" => Some(if name == "Unexpected" {
+            Code::Unexpected
+        } else {
+            Code::TooDeep
+        }),
+        "expansion" => expansion_code(name),
+        "check" => check_code(name),
+        _ => None,
+    }
+}
+
+fn refused(alloc: Global, code: Code, parts: &str) -> Result<Cause, AllocError> {
+    let (at, name) = cut(parts);
+    let name = if name.is_empty() {
+        None
+    } else {
+        Some(Items::from_slice(alloc, name.as_bytes())?)
+    };
+    Ok(Cause::Refused(Refusal {
+        code,
+        at: number(at),
+        name,
+    }))
+}
+
+// The cause with these parts.
+fn cause(alloc: Global, text: &str) -> Result<Cause, AllocError> {
+    let (kind, parts) = cut(text);
+    match kind {
+        "Done" => Ok(Cause::Done),
+        "BadWords" => Ok(Cause::BadWords),
+        "NotBuilt" => Ok(Cause::NotBuilt),
+        "Device" => Ok(Cause::Device),
+        _ => {
+            let (name, parts) = cut(parts);
+            match code(kind, name) {
+                Some(code) => refused(alloc, code, parts),
+                None => Ok(Cause::NoMemory),
+            }
+        }
+    }
+}
+
+impl Answers for Lines {
+    fn answer(&self, alloc: Global, text: &str) -> Result<String, AllocError> {
+        let cause = cause(alloc, text)?;
+        let line = status_text(alloc, None, &cause).map_err(|_| AllocError)?;
+        let mut shown = Text::new(alloc);
+        add_held(&mut shown, Some(line.as_slice()));
+        with_signs(alloc, shown.finish()?.as_str())
+    }
+}
+
+#[test]
+fn each_cause_has_its_line(rt: HostRuntime) -> Result<(), Fail> {
+    assert_eq!(rt; others(rt.alloc(), &Lines, LINES)?.as_str(), "");
+    Ok(())
+}
+
+const LINES: &str = r#"
+lexical BadByte 0 => refused L1 at 0␊
+lexical OpenText 0 => refused L2 at 0␊
+lexical OpenComment 1 => refused L3 at 1␊
+lexical BadNumber 0 => refused L4 at 0␊
+lexical TooLong 1048576 => refused L5 at 1048576␊
+syntax Unexpected 9 => refused S1 at 9␊
+syntax TooDeep 342 => refused S2 at 342␊
+expansion NoMain 0 => refused E1 at 0␊
+expansion Recursive 20 A => refused E2 at 20 A␊
+expansion Twice 21 T => refused E3 at 21 T␊
+expansion Loop 20 A => refused E4 at 20 A␊
+expansion SameFile 128 o.csv => refused E5 at 128 o.csv␊
+expansion TooMany 9000 => refused E6 at 9000␊
+expansion Unknown 40 Fliter => refused E7 at 40 Fliter␊
+expansion Ports 50 P => refused E8 at 50 P␊
+check Unknown 27 foo => refused Y1 at 27 foo␊
+check Mismatch 67 => refused Y2 at 67␊
+check NotMutable 80 => refused Y3 at 80␊
+check WrongCall 81 => refused Y4 at 81␊
+check LeftOut 27 float64 => refused Y5 at 27 float64␊
+check NoReturn 6 f => refused Y6 at 6 f␊
+check MissingParameter 20 file => refused C1 at 20 file␊
+check ExtraParameter 61 window => refused C2 at 61 window␊
+check BadWindow 62 => refused C3 at 62␊
+check BadOutput 63 => refused C4 at 63␊
+check PortCount 20 => refused C5 at 20␊
+check NoTextForm 4294967295 => refused C6 at 4294967295␊
+
+# A name that isn't told, and one that isn't there.
+check NotMutable 80 price => refused Y3 at 80␊
+check LeftOut 27 => refused Y5 at 27␊
+
+# causes without parts
+Done => ∅
+BadWords => bad words␊
+NotBuilt => not built␊
+Device => device failed␊
+NoMemory => no memory␊
+"#;

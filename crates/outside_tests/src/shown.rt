@@ -1,0 +1,61 @@
+//! Files and their counts of faults, as texts.
+use feed_pour::Tallies;
+use spl_value::{Bytes, Items};
+use std::alloc::{AllocError, Global};
+use test_texts::text::Text;
+
+/// The bytes of a text.
+pub(crate) fn bytes(alloc: Global, text: &str) -> Result<Bytes, AllocError> {
+    Items::from_slice(alloc, text.as_bytes())
+}
+
+/// So many bytes.
+pub(crate) fn fives(alloc: Global, size: u32) -> Result<Bytes, AllocError> {
+    let mut fives = Vec::new(alloc);
+    fives.resize(size as usize, 5u8)?;
+    Ok(Items::from_vec(fives))
+}
+
+/// The number that a text is, or 0.
+pub(crate) fn number(text: &str) -> u32 {
+    text.parse::<u32>().unwrap_or(0)
+}
+
+/// The pieces of a text that stand in front of the first blank and behind it.
+pub(crate) fn cut(text: &str) -> (&str, &str) {
+    text.split_once(' ').unwrap_or((text, ""))
+}
+
+/// The numbers of a text, with a blank between two.
+pub(crate) fn numbers(alloc: Global, text: &str) -> Result<Items<u64>, AllocError> {
+    let mut numbers = Items::new(alloc);
+    for piece in text.split(' ') {
+        numbers.push(u64::from(number(piece)))?;
+    }
+    Ok(numbers)
+}
+
+/// Adds what a file holds: `-` where there is none.
+pub(crate) fn add_held(text: &mut Text, held: Option<&[u8]>) {
+    match held {
+        None => text.add("-"),
+        Some(held) => {
+            if held.is_empty() {
+                text.add("∅");
+            } else {
+                text.add_bytes(held);
+            }
+        }
+    }
+}
+
+/// Adds the faults of opening, creating, reading and writing.
+pub(crate) fn add_faults(text: &mut Text, tallies: Tallies) {
+    text.add_number(i128::from(tallies.opening));
+    text.add(" ");
+    text.add_number(i128::from(tallies.creating));
+    text.add(" ");
+    text.add_number(i128::from(tallies.reading));
+    text.add(" ");
+    text.add_number(i128::from(tallies.writing));
+}
