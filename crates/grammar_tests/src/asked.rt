@@ -3,7 +3,8 @@ use expr_parser::SyntaxAnswer;
 use spl_lexer::lex;
 use spl_tree::Unit;
 use std::alloc::{AllocError, Global};
-use test_texts::rows::{Answers, with_controls};
+use test_texts::rows::Answers;
+use test_texts::signs::without_signs;
 use test_texts::text::Text;
 use test_texts::trees::units::add_unit;
 use unit_parser::parse_unit;
@@ -39,7 +40,7 @@ impl Programs {
 
 impl Answers for Programs {
     fn answer(&self, alloc: Global, text: &str) -> Result<String, AllocError> {
-        let program = with_controls(alloc, text)?;
+        let program = without_signs(alloc, text)?;
         let Ok(tokens) = lex(alloc, program.as_bytes()) else {
             return "no tokens".to_string(alloc);
         };

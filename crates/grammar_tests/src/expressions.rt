@@ -9,7 +9,8 @@ use spl_tree::{Expr, ExprKind, Exprs, Placed, Symbol, Token, TokenKind};
 use spl_value::Items;
 use std::alloc::{AllocError, Global};
 use std::test::Fail;
-use test_texts::rows::{Answers, others, spread};
+use test_texts::rows::{Answers, others};
+use test_texts::spelled::spread;
 use test_texts::text::Text;
 use test_texts::trees::expressions::add_expression;
 
@@ -257,26 +258,26 @@ fn expressions_have_their_trees_or_first_refusals(rt: HostRuntime) -> Result<(),
 const DEEP: &str = r#"
 # Parentheses nest up to their limit
 ( a )  => <a> 3
-⟨195 ( ⟩a ⟨195 ) ⟩ => ⟨195 <⟩a⟨195 >⟩ 391
-⟨200 ( ⟩a ⟨200 ) ⟩ => ⟨200 <⟩a⟨200 >⟩ 401
+«0 195 ( »a «0 195 ) » => «0 195 <»a«0 195 >» 391
+«0 200 ( »a «0 200 ) » => «0 200 <»a«0 200 >» 401
 # A long sum
-⟨190 a + ⟩a => ⟨190 (⟩a⟨190  + a)⟩ 381
+«0 190 a + »a => «0 190 (»a«0 190  + a)» 381
 # Weights are looked at before the rest, of all tokens from there on
-⟨201 ( ⟩ => too deep 400
-⟨1000 ( ⟩ => too deep 400
-) ⟨201 ( ⟩ => too deep 402
-a ; ⟨201 ( ⟩ => too deep 404
-a ; ⟨201 ( ⟩a @ 203 => too deep 406
-⟨201 ( ⟩; a @ 202 => too deep 404
+«0 201 ( » => too deep 400
+«0 1000 ( » => too deep 400
+) «0 201 ( » => too deep 402
+a ; «0 201 ( » => too deep 404
+a ; «0 201 ( »a @ 203 => too deep 406
+«0 201 ( »; a @ 202 => too deep 404
 # What stands before may be too deep
-⟨201 ( ⟩⟨201 ) ⟩; a @ 201 => unexpected 402
-⟨201 ( ⟩⟨201 ) ⟩; a @ 403 => a 404
-⟨201 ( ⟩⟨201 ) ⟩; a @ 404 => unexpected 807
+«0 201 ( »«0 201 ) »; a @ 201 => unexpected 402
+«0 201 ( »«0 201 ) »; a @ 403 => a 404
+«0 201 ( »«0 201 ) »; a @ 404 => unexpected 807
 # Nesting without weight is bounded by memory
-⟨3000 { } [ 0 ] + ⟩a => memory
-⟨300 { } [ 0 ] ? b : ⟩a => memory
+«0 3000 { } [ 0 ] + »a => memory
+«0 300 { } [ 0 ] ? b : »a => memory
 # A hundred thousand tokens
-[ ⟨49999 a , ⟩a ] => [⟨49999 a, ⟩a] 100001
+[ «0 49999 a , »a ] => [«0 49999 a, »a] 100001
 "#;
 
 #[test]
@@ -450,9 +451,9 @@ pass name: ( a ; => stops 3
 pass name: a ; => a 0, 1 behind
 
 # The first token that weighs too much
-too deep: ⟨200 ( ⟩ => none
-too deep: ⟨201 ( ⟩ => 200
-too deep: ⟨300 ( ⟩ => 200
+too deep: «0 200 ( » => none
+too deep: «0 201 ( » => 200
+too deep: «0 300 ( » => 200
 "#;
 
 #[test]

@@ -3,7 +3,8 @@ use spl_lexer::{LexAnswer, lex};
 use spl_tree::{LexicalError, Token, TokenKind};
 use std::alloc::{AllocError, Global};
 use std::test::Fail;
-use test_texts::rows::{Answers, others, with_controls};
+use test_texts::rows::{Answers, others};
+use test_texts::signs::without_signs;
 use test_texts::text::Text;
 use test_texts::tokens::add_token;
 
@@ -30,7 +31,7 @@ struct Lexed;
 
 impl Answers for Lexed {
     fn answer(&self, alloc: Global, text: &str) -> Result<String, AllocError> {
-        let program = with_controls(alloc, text)?;
+        let program = without_signs(alloc, text)?;
         match lex(alloc, program.as_bytes()) {
             Ok(tokens) => shown(alloc, tokens.list.as_slice()),
             Err(answer) => refused(alloc, answer),

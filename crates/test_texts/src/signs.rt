@@ -2,7 +2,7 @@
 //!
 //! | Sign | What it stands for |
 //! |---|---|
-//! | `␊`, `␍` | a line feed, a carriage return |
+//! | `␊`, `␍`, `␉`, `␀` | a line feed, a carriage return, a tab, a byte of number 0 |
 //! | `␣` | a blank, where it would be lost or would part two words |
 //! | `◆` | a byte order mark |
 //! | `∅` | nothing: an empty text or word |
@@ -13,6 +13,8 @@ fn meant(sign: char) -> Option<char> {
     match sign {
         '␊' => Some('\n'),
         '␍' => Some('\r'),
+        '␉' => Some('\t'),
+        '␀' => Some('\0'),
         '␣' => Some(' '),
         '◆' => Some('\u{feff}'),
         '∅' => None,

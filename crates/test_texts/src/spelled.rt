@@ -1,9 +1,6 @@
-//! What stands in rows for what no line holds, or for many like pieces.
-//!
-//! | In a row | What it stands for |
-//! |---|---|
-//! | `␊` | a line feed |
-//! | `«5 20 A{n}, B{n+1}; »` | 20 times the piece behind the two numbers, with 5, 6 and so on for `{n}`, and the next number for `{n+1}` |
+//! What stands in rows for many like pieces: `«5 20 A{n}, B{n+1}; »` is 20 times the piece behind the two
+//! numbers, with 5, 6 and so on for `{n}`, and the next number for `{n+1}`.
+use crate::signs::without_signs;
 use std::alloc::{AllocError, Global};
 
 // Adds a piece with its number and the next one.
@@ -34,8 +31,8 @@ fn add_pieces(alloc: Global, text: &mut String, marked: &str) -> Result<(), Allo
     Ok(())
 }
 
-/// The text that a row stands for.
-pub fn spelled_out(alloc: Global, row: &str) -> Result<String, AllocError> {
+/// A row, or a whole table, with all its pieces.
+pub fn spread(alloc: Global, row: &str) -> Result<String, AllocError> {
     let mut text = String::new(alloc);
     for part in row.split("«") {
         match part.split_once("»") {
@@ -46,5 +43,10 @@ pub fn spelled_out(alloc: Global, row: &str) -> Result<String, AllocError> {
             None => text.push_str(part)?,
         }
     }
-    text.as_str().replace(alloc, "␊", "\n")
+    Ok(text)
+}
+
+/// The text that a row stands for: with all its pieces, and without signs.
+pub fn spelled_out(alloc: Global, row: &str) -> Result<String, AllocError> {
+    without_signs(alloc, spread(alloc, row)?.as_str())
 }
