@@ -17,6 +17,7 @@
 //! In a text with places each of them stands in front of what is there, as `5:T`.
 pub mod expressions;
 pub mod invocations;
+pub mod operators;
 pub mod statements;
 pub mod types;
 pub mod units;

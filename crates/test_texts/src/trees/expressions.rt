@@ -1,34 +1,9 @@
 //! Expressions as texts.
 use crate::text::Text;
+use crate::trees::operators::{add_prefixes, operator_text};
 use crate::trees::{ROOM, add_name};
-use crate::types::integer_word;
-use spl_tree::{
-    BinaryOperator, CastTarget, Expr, ExprKind, Field, Number, Prefix, PrefixOperator, Step,
-};
+use spl_tree::{Expr, ExprKind, Field, Number, Step};
 use spl_value::IntKind;
-
-/// The text of an operator.
-pub fn operator_text(operator: BinaryOperator) -> &'static str {
-    match operator {
-        BinaryOperator::Multiply => "*",
-        BinaryOperator::Divide => "/",
-        BinaryOperator::Remainder => "%",
-        BinaryOperator::Add => "+",
-        BinaryOperator::Subtract => "-",
-        BinaryOperator::Less => "<",
-        BinaryOperator::LessOrEqual => "<=",
-        BinaryOperator::Greater => ">",
-        BinaryOperator::GreaterOrEqual => ">=",
-        BinaryOperator::In => "in",
-        BinaryOperator::Equal => "==",
-        BinaryOperator::NotEqual => "!=",
-        BinaryOperator::BitAnd => "&",
-        BinaryOperator::BitXor => "^",
-        BinaryOperator::BitOr => "|",
-        BinaryOperator::And => "&&",
-        BinaryOperator::Or => "||",
-    }
-}
 
 // What stands behind the digits of a literal of that type.
 fn suffix(kind: IntKind) -> &'static str {
@@ -47,28 +22,6 @@ fn suffix(kind: IntKind) -> &'static str {
 fn add_literal(text: &mut Text, number: Number) {
     text.add_number(i128::from(number.value));
     text.add(suffix(number.kind));
-}
-
-fn add_prefix(text: &mut Text, prefix: &Prefix) {
-    text.add_at(prefix.at);
-    match prefix.what {
-        PrefixOperator::Not => text.add("!"),
-        PrefixOperator::Negate => text.add("-"),
-        PrefixOperator::Complement => text.add("~"),
-        PrefixOperator::Cast(CastTarget::Text) => text.add("(rstring)"),
-        PrefixOperator::Cast(CastTarget::Int(kind)) => {
-            text.add("(");
-            text.add(integer_word(kind));
-            text.add(")");
-        }
-    }
-    text.add(" ");
-}
-
-fn add_prefixes(text: &mut Text, prefixes: &[Prefix]) {
-    for prefix in prefixes {
-        add_prefix(text, prefix);
-    }
 }
 
 // Adds an expression without expressions in it.

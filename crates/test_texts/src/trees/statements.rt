@@ -1,6 +1,7 @@
 //! Statements as texts.
 use crate::text::Text;
-use crate::trees::expressions::{add_expression, operator_text};
+use crate::trees::expressions::add_expression;
+use crate::trees::operators::operator_text;
 use crate::trees::types::add_type;
 use crate::trees::{ROOM, add_name};
 use spl_tree::{Declaration, Expr, Stmt, StmtKind};
