@@ -97,14 +97,6 @@ type A = tuple<E e, B b>; type B = list<C>; type C = list<A>; type D = tuple<E e
 «0 999 type T{n} = T{n+1}; »type T999 = T0; void f(T999 a) {} composite Main {} => Y1 at 17787 T999
 «0 999 type T{n} = T{n+1}; »type T999 = int32; void f(T1 a) {} composite Main {} => ok 0 operators 0 streams
 
-# A type has at most a thousand types and names inside one another, and a million parts.
-type T0 = int32; «0 998 type T{n+1} = T{n} a; »void f(T998 a) {} composite Main {} => ok 0 operators 0 streams
-type T0 = int32; «0 999 type T{n+1} = T{n} a; »void f(T999 a) {} composite Main {} => memory
-type T0 = int32; «0 1099 type T{n+1} = T{n} a; »void f(T1099 a) {} composite Main {} => memory
-type T0 = int32; «0 18 type T{n+1} = T{n} a, T{n} b; »void f(T18 a) {} composite Main {} => ok 0 operators 0 streams
-type T0 = int32; «0 19 type T{n+1} = T{n} a, T{n} b; »void f(T19 a) {} composite Main {} => memory
-type T0 = int32; «0 40 type T{n+1} = T{n} a, T{n} b; »void f(T40 a) {} composite Main {} => memory
-
 # A name means the nearest type.
 # the composite's before the program's
 type T = int32 a; composite Main {type T = int64 b; graph stream<T> S = FileSource() {param file: 's';} stream<S> F = Filter(S) {param filter: b > 0l;}} => ok 2 operators 2 streams
@@ -205,6 +197,22 @@ composite C(input I, J) {graph () as X = FileSink(I, J) {param file: 'x';}} comp
 #[test]
 fn names_of_types_stand_for_their_types(rt: HostRuntime) -> Result<(), Fail> {
     let others = others(rt.alloc(), &Asked::Counts, ROWS)?;
+    assert_eq!(rt; others.as_str(), "");
+    Ok(())
+}
+
+const BOUNDS: &str = r#"
+# A type has at most a thousand types and names inside one another, and a million parts.
+type T0 = int32; «0 998 type T{n+1} = T{n} a; »void f(T998 a) {} composite Main {} => ok 0 operators 0 streams
+type T0 = int32; «0 999 type T{n+1} = T{n} a; »void f(T999 a) {} composite Main {} => memory
+type T0 = int32; «0 1099 type T{n+1} = T{n} a; »void f(T1099 a) {} composite Main {} => memory
+type T0 = int32; «0 18 type T{n+1} = T{n} a, T{n} b; »void f(T18 a) {} composite Main {} => ok 0 operators 0 streams
+type T0 = int32; «0 40 type T{n+1} = T{n} a, T{n} b; »void f(T40 a) {} composite Main {} => memory
+"#;
+
+#[test]
+fn types_are_bounded_in_depth_and_parts(rt: HostRuntime) -> Result<(), Fail> {
+    let others = others(rt.alloc(), &Asked::Counts, BOUNDS)?;
     assert_eq!(rt; others.as_str(), "");
     Ok(())
 }

@@ -8,15 +8,6 @@ const ROWS: &str = r#"
 composite Main {graph «1000 256 stream<T> S{n} as A{n+1} = FileSource(); »} => 256 operators 256 streams 1 bodies
 composite Main {graph «1000 257 stream<T> S{n} as A{n+1} = FileSource(); »} => E6 at 10518
 
-# One body in another, many times.
-«10000 20000 composite C{n} {graph () as X = C{n+1}();} »composite C30000 {graph () as X = FileSink(S); stream<T> S = FileSource();} composite Main {graph () as A = C10000();} => 2 operators 1 streams 20002 bodies
-# far from one another in the text
-«1000 2000 composite C{n}0 {graph () as X = C{n}1();} »«1000 2000 composite C{n}1 {graph () as X = C{n}2();} »«1000 2000 composite C{n}2 {graph () as X = C{n}3();} »«1000 2000 composite C{n}3 {graph () as X = C{n}4();} »«1000 2000 composite C{n}4 {graph () as X = C{n}5();} »«1000 2000 composite C{n}5 {graph () as X = C{n}6();} »«1000 2000 composite C{n}6 {graph () as X = C{n}7();} »«1000 2000 composite C{n}7 {graph () as X = C{n}8();} »«1000 2000 composite C{n}8 {graph () as X = C{n}9();} »«1000 2000 composite C{n}9 {graph () as X = C{n+1}0();} »composite C30000 {graph stream<T> S = FileSource();} composite Main {graph () as A = C10000();} => 1 operators 1 streams 20002 bodies
-
-# The last composite reaches the first one, and itself.
-composite Main {} «10000 20000 composite C{n} {graph () as X = C{n+1}();} »composite C30000 {graph () as X = C10000();} => E2 at 42 C10000
-composite Main {} «10000 20000 composite C{n} {graph () as X = C{n+1}();} »composite C30000 {graph () as X = C30000();} => E2 at 900042 C30000
-
 # Inputs that double: as many connections as streams of the last input.
 «1000 10 composite C{n}(input I) {graph () as X = C{n+1}(I, I);} »composite C1010(input I) {graph () as X = FileSink(I);} composite Main {graph stream<T> S = FileSource(); () as A = C1000(S);} => 2 operators 1 streams 12 bodies
 «1000 30 composite C{n}(input I) {graph () as X = C{n+1}(I, I);} »composite C1030(input I) {graph () as X = FileSink(I);} composite Main {graph stream<T> S = FileSource(); () as A = C1000(S);} => E6 at 1712
@@ -38,6 +29,33 @@ composite C(input I«1 255 , I{n}») {graph () as X = FileSink(I); «1 253 () as
 #[test]
 fn large_programs_are_answered(rt: HostRuntime) -> Result<(), Fail> {
     let others = others(rt.alloc(), &Asked::Counts, ROWS)?;
+    assert_eq!(rt; others.as_str(), "");
+    Ok(())
+}
+
+const NESTED: &str = r#"
+# One body in another, many times.
+«10000 20000 composite C{n} {graph () as X = C{n+1}();} »composite C30000 {graph () as X = FileSink(S); stream<T> S = FileSource();} composite Main {graph () as A = C10000();} => 2 operators 1 streams 20002 bodies
+# far from one another in the text
+«1000 2000 composite C{n}0 {graph () as X = C{n}1();} »«1000 2000 composite C{n}1 {graph () as X = C{n}2();} »«1000 2000 composite C{n}2 {graph () as X = C{n}3();} »«1000 2000 composite C{n}3 {graph () as X = C{n}4();} »«1000 2000 composite C{n}4 {graph () as X = C{n}5();} »«1000 2000 composite C{n}5 {graph () as X = C{n}6();} »«1000 2000 composite C{n}6 {graph () as X = C{n}7();} »«1000 2000 composite C{n}7 {graph () as X = C{n}8();} »«1000 2000 composite C{n}8 {graph () as X = C{n}9();} »«1000 2000 composite C{n}9 {graph () as X = C{n+1}0();} »composite C30000 {graph stream<T> S = FileSource();} composite Main {graph () as A = C10000();} => 1 operators 1 streams 20002 bodies
+"#;
+
+#[test]
+fn composites_may_nest_deep(rt: HostRuntime) -> Result<(), Fail> {
+    let others = others(rt.alloc(), &Asked::Counts, NESTED)?;
+    assert_eq!(rt; others.as_str(), "");
+    Ok(())
+}
+
+const CIRCLES: &str = r#"
+# The last composite reaches the first one, and itself.
+composite Main {} «10000 20000 composite C{n} {graph () as X = C{n+1}();} »composite C30000 {graph () as X = C10000();} => E2 at 42 C10000
+composite Main {} «10000 20000 composite C{n} {graph () as X = C{n+1}();} »composite C30000 {graph () as X = C30000();} => E2 at 900042 C30000
+"#;
+
+#[test]
+fn long_circles_are_refused(rt: HostRuntime) -> Result<(), Fail> {
+    let others = others(rt.alloc(), &Asked::Counts, CIRCLES)?;
     assert_eq!(rt; others.as_str(), "");
     Ok(())
 }
