@@ -116,17 +116,39 @@ fn two_sinks(alloc: Global, first: u32, second: u32) -> Result<Items<Sink>, Allo
     Ok(sinks)
 }
 
+// The stream 0 of one tuple.
+fn one_stream(alloc: Global, row: &str) -> Result<Items<Items<Item>>, AllocError> {
+    let mut streams = Items::new(alloc);
+    streams.push(stream_of(alloc, row)?)?;
+    Ok(streams)
+}
+
+// What comes of the sinks of the streams 0 and 1.
+fn both_sunk(
+    alloc: Global,
+    shelf: &mut MemoryShelf,
+    streams: &Items<Items<Item>>,
+) -> Result<Sunk, AllocError> {
+    let sinks = two_sinks(alloc, 0, 1)?;
+    Ok(write_sinks(alloc, shelf, &sinks, streams))
+}
+
+fn shown_row(alloc: Global, shelf: &MemoryShelf, sunk: &Sunk) -> Result<String, AllocError> {
+    let name = bytes(alloc, "a")?;
+    let mut shown = Text::new(alloc);
+    add_sunk(&mut shown, sunk);
+    shown.add("; ");
+    add_held(&mut shown, shelf.file(&name));
+    shown.finish()
+}
+
 impl Answers for Rows {
     fn answer(&self, alloc: Global, text: &str) -> Result<String, AllocError> {
-        let mut streams = Items::new(alloc);
-        streams.push(stream_of(alloc, text)?)?;
+        let streams = one_stream(alloc, text)?;
         let mut shelf = MemoryShelf::new(alloc);
-        let sunk = write_sinks(alloc, &mut shelf, &two_sinks(alloc, 0, 1)?, &streams);
-        let mut shown = Text::new(alloc);
-        add_sunk(&mut shown, &sunk);
-        shown.add("; ");
-        add_held(&mut shown, shelf.file(&bytes(alloc, "a")?));
-        with_signs(alloc, shown.finish()?.as_str())
+        let sunk = both_sunk(alloc, &mut shelf, &streams)?;
+        let shown = shown_row(alloc, &shelf, &sunk)?;
+        with_signs(alloc, shown.as_str())
     }
 }
 
@@ -149,20 +171,23 @@ fn put(alloc: Global, shelf: &mut MemoryShelf, name: &str, held: &str) -> Result
     done.map_err(|_| AllocError)
 }
 
-// A shelf whose calls of this number fail, or the writes of this number to `a`.
-fn shelf_of(alloc: Global, failing: &str) -> Result<MemoryShelf, AllocError> {
-    let mut shelf = MemoryShelf::new(alloc);
-    put(alloc, &mut shelf, "b", "was here")?;
-    put(alloc, &mut shelf, "c", "stays")?;
+// Lets the shelf's calls of this number fail, or the writes of this number to `a`.
+fn fail(alloc: Global, shelf: &mut MemoryShelf, failing: &str) -> Result<(), AllocError> {
     let (kind, number) = cut(failing);
     let numbers = numbers(alloc, number)?;
     if kind == "call" {
         shelf.fail_calls(numbers);
-    } else {
-        let done = shelf.fail_writes(&bytes(alloc, "a")?, numbers);
-        done.map_err(|_| AllocError)?;
+        return Ok(());
     }
-    Ok(shelf)
+    let done = shelf.fail_writes(&bytes(alloc, "a")?, numbers);
+    done.map_err(|_| AllocError)
+}
+
+// Puts two files on the shelf, and lets calls fail.
+fn prepare(alloc: Global, shelf: &mut MemoryShelf, failing: &str) -> Result<(), AllocError> {
+    put(alloc, shelf, "b", "was here")?;
+    put(alloc, shelf, "c", "stays")?;
+    fail(alloc, shelf, failing)
 }
 
 fn add_file(text: &mut Text, shelf: &MemoryShelf, name: &Name) {
@@ -174,11 +199,16 @@ fn add_file(text: &mut Text, shelf: &MemoryShelf, name: &Name) {
     add_faults(text, shelf.tallies(name));
 }
 
-// What comes of sinks of the streams 0 and 1.
-fn sunk_of(alloc: Global, shelf: &mut MemoryShelf, sinks: &str) -> Result<Sunk, AllocError> {
+fn two_streams(alloc: Global) -> Result<Items<Items<Item>>, AllocError> {
     let mut streams = Items::new(alloc);
     streams.push(texts(alloc, &["1", "2", "3"])?)?;
     streams.push(texts(alloc, &["x,y", "z"])?)?;
+    Ok(streams)
+}
+
+// What comes of sinks of two streams.
+fn sunk_of(alloc: Global, shelf: &mut MemoryShelf, sinks: &str) -> Result<Sunk, AllocError> {
+    let streams = two_streams(alloc)?;
     if sinks == "none" {
         return Ok(write_sinks(alloc, shelf, &no_sinks(alloc), &streams));
     }
@@ -187,17 +217,23 @@ fn sunk_of(alloc: Global, shelf: &mut MemoryShelf, sinks: &str) -> Result<Sunk, 
     Ok(write_sinks(alloc, shelf, &sinks, &streams))
 }
 
+fn shown_files(alloc: Global, shelf: &MemoryShelf, sunk: &Sunk) -> Result<String, AllocError> {
+    let mut shown = Text::new(alloc);
+    add_sunk(&mut shown, sunk);
+    for name in ["a", "b", "c"] {
+        add_file(&mut shown, shelf, &bytes(alloc, name)?);
+    }
+    shown.finish()
+}
+
 impl Answers for Sinks {
     fn answer(&self, alloc: Global, text: &str) -> Result<String, AllocError> {
         let (sinks, failing) = text.split_once(" | ").unwrap_or((text, ""));
-        let mut shelf = shelf_of(alloc, failing)?;
+        let mut shelf = MemoryShelf::new(alloc);
+        prepare(alloc, &mut shelf, failing)?;
         let sunk = sunk_of(alloc, &mut shelf, sinks)?;
-        let mut shown = Text::new(alloc);
-        add_sunk(&mut shown, &sunk);
-        for name in ["a", "b", "c"] {
-            add_file(&mut shown, &shelf, &bytes(alloc, name)?);
-        }
-        with_signs(alloc, shown.finish()?.as_str())
+        let shown = shown_files(alloc, &shelf, &sunk)?;
+        with_signs(alloc, shown.as_str())
     }
 }
 
@@ -210,8 +246,9 @@ fn sources_are_these_streams(rt: HostRuntime) -> Result<(), Fail> {
 #[test]
 fn streams_are_written_to_sinks(rt: HostRuntime) -> Result<(), Fail> {
     let alloc = rt.alloc();
-    assert_eq!(rt; others(alloc, &Rows, ROWS)?.as_str(), "");
-    assert_eq!(rt; others(alloc, &Sinks, SINKS)?.as_str(), "");
+    let mut all = others(alloc, &Rows, ROWS)?;
+    all.push_str(others(alloc, &Sinks, SINKS)?.as_str())?;
+    assert_eq!(rt; all.as_str(), "");
     Ok(())
 }
 

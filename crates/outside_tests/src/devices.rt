@@ -10,6 +10,7 @@ use std::io;
 use std::io::Write;
 use std::test::Fail;
 use test_texts::rows::{Answers, others};
+use test_texts::signs::{with_signs, without_signs};
 use test_texts::text::Text;
 
 // A feed of so many bytes, of whose reads one of this number fails and the 90th: how many bytes reads of
@@ -55,37 +56,93 @@ const READS: &str = r#"
 10000 0 => 10000 in all
 "#;
 
-#[test]
-fn a_feed_in_memory_gives_what_stands_before_the_failing_read(rt: HostRuntime) -> Result<(), Fail> {
-    assert_eq!(rt; others(rt.alloc(), &FeedReads, READS)?.as_str(), "");
-    Ok(())
+// Writes to a pour in memory, of which one fails: what each takes, what the pour then holds, and its
+// faults.
+struct PourWrites;
+
+fn add_write(text: &mut Text, pour: &mut MemoryPour, piece: &str) {
+    let piece = piece.as_bytes();
+    if piece.is_empty() {
+        return;
+    }
+    match pour.write(piece) {
+        Ok(taken) => text.add_number(taken as i128),
+        Err(PourAnswer::Failed) => text.add("failed"),
+        Err(PourAnswer::Memory) => text.add("no memory"),
+    }
+    text.add("; ");
 }
 
-#[test]
-fn a_pour_in_memory_takes_all_or_nothing(rt: HostRuntime) -> Result<(), Fail> {
-    let alloc = rt.alloc();
-    let mut pour = MemoryPour::new(alloc, numbers(alloc, "2")?);
-    assert_eq!(rt; pour.write(b"a\n"), Ok(2));
-    assert_eq!(rt; pour.write(b"b\n"), Err(PourAnswer::Failed));
-    assert_eq!(rt; pour.write(b"c\n"), Ok(2));
-    assert_eq!(rt; pour.bytes(), b"a\nc\n".as_slice());
-    assert_eq!(rt; pour.calls.faults, 1);
-    assert_eq!(rt; pour.into_bytes().as_slice(), b"a\nc\n".as_slice());
-    Ok(())
+fn add_writes(text: &mut Text, mut pour: MemoryPour, pieces: &str) {
+    for piece in pieces.split(' ') {
+        add_write(text, &mut pour, piece);
+    }
+    text.add_bytes(pour.bytes());
+    text.add("; ");
+    text.add_number(i128::from(pour.calls.faults));
+    text.add("; ");
+    text.add_bytes(pour.into_bytes().as_slice());
 }
 
-#[test]
-fn a_plain_feed_and_a_plain_pour_never_fail(rt: HostRuntime) -> Result<(), Fail> {
-    let alloc = rt.alloc();
-    let mut feed = PlainFeed::new(bytes(alloc, "alone")?);
+impl Answers for PourWrites {
+    fn answer(&self, alloc: Global, text: &str) -> Result<String, AllocError> {
+        let text = without_signs(alloc, text)?;
+        let (failing, pieces) = cut(text.as_str());
+        let failing = numbers(alloc, failing)?;
+        let mut shown = Text::new(alloc);
+        add_writes(&mut shown, MemoryPour::new(alloc, failing), pieces);
+        with_signs(alloc, shown.finish()?.as_str())
+    }
+}
+
+const POUR_WRITES: &str = r#"
+2 a␊ b␊ c␊ => 2; failed; 2; a␊c␊; 1; a␊c␊
+"#;
+
+// A feed and a pour whose calls never fail: how much a read of two bytes gives, what stands behind it, and
+// what the pour takes of that.
+struct PlainRest;
+
+fn add_rest(alloc: Global, text: &mut Text, mut feed: PlainFeed, mut pour: PlainPour) {
     let mut two = [0u8; 2];
-    assert_eq!(rt; feed.read(&mut two), Ok(2));
-    assert!(rt;
-        matches!(read_all(alloc, &mut feed, 9), ReadAll::Whole(b) if b.as_slice() == b"one".as_slice())
-    );
-    let mut pour = PlainPour::new(alloc);
-    assert_eq!(rt; write_all(&mut pour, b"row"), Ok(()));
-    assert_eq!(rt; pour.bytes(), b"row".as_slice());
+    if feed.read(&mut two) == Ok(2) {
+        text.add("2; ");
+    }
+    if let ReadAll::Whole(rest) = read_all(alloc, &mut feed, 9) {
+        text.add_bytes(rest.as_slice());
+        text.add(if write_all(&mut pour, rest.as_slice()).is_ok() {
+            "; "
+        } else {
+            "; failed"
+        });
+    }
+    text.add_bytes(pour.bytes());
+}
+
+impl Answers for PlainRest {
+    fn answer(&self, alloc: Global, text: &str) -> Result<String, AllocError> {
+        let feed = PlainFeed::new(bytes(alloc, text)?);
+        let mut shown = Text::new(alloc);
+        add_rest(alloc, &mut shown, feed, PlainPour::new(alloc));
+        shown.finish()
+    }
+}
+
+const PLAIN_REST: &str = r#"
+alone => 2; one; one
+"#;
+
+// Those rows that have other answers.
+fn others_of_all(alloc: Global) -> Result<String, AllocError> {
+    let mut all = others(alloc, &FeedReads, READS)?;
+    all.push_str(others(alloc, &PourWrites, POUR_WRITES)?.as_str())?;
+    all.push_str(others(alloc, &PlainRest, PLAIN_REST)?.as_str())?;
+    Ok(all)
+}
+
+#[test]
+fn feeds_and_pours_in_memory_answer_as_their_rows_say(rt: HostRuntime) -> Result<(), Fail> {
+    assert_eq!(rt; others_of_all(rt.alloc())?.as_str(), "");
     Ok(())
 }
 
@@ -102,26 +159,39 @@ impl Write for Full {
     }
 }
 
+// What is poured on a writer that takes all.
+fn poured(alloc: Global) -> Result<String, AllocError> {
+    let mut pour = StdoutPour::new(Vec::new(alloc));
+    let mut text = Text::new(alloc);
+    if write_all(&mut pour, b"row\n").is_ok() {
+        text.add_bytes(pour.into_writer().as_slice());
+    }
+    text.finish()
+}
+
 #[test]
 fn a_pour_over_a_writer_counts_its_faults(rt: HostRuntime) -> Result<(), Fail> {
-    let alloc = rt.alloc();
-    let mut pour = StdoutPour::new(Vec::new(alloc));
-    assert_eq!(rt; write_all(&mut pour, b"row\n"), Ok(()));
-    assert_eq!(rt; pour.into_writer().as_slice(), b"row\n".as_slice());
+    assert_eq!(rt; poured(rt.alloc())?.as_str(), "row\n");
     let mut full = StdoutPour::new(Full);
-    assert_eq!(rt; full.write(b"row\n"), Err(PourAnswer::Failed));
+    assert!(rt; full.write(b"row\n") == Err(PourAnswer::Failed));
     Ok(())
+}
+
+// Who starts of the groups 0 to 3.
+fn started<S: Starter>(alloc: Global, starter: &mut S) -> Result<String, AllocError> {
+    let mut text = Text::new(alloc);
+    for group in 0..4 {
+        text.add(if starter.may_start(group) { "+" } else { "-" });
+    }
+    text.finish()
 }
 
 #[test]
 fn starters_answer_by_group(rt: HostRuntime) -> Result<(), Fail> {
-    let mut these = NotThese {
-        groups: Items::from_slice(rt.alloc(), &[1u32, 3])?,
-    };
-    for (group, want) in [(0, true), (1, false), (2, true), (3, false)] {
-        assert_eq!(rt; these.may_start(group), want, "at {group}");
-        assert!(rt; AllStart.may_start(group));
-    }
+    let alloc = rt.alloc();
+    let groups = Items::from_slice(alloc, &[1u32, 3])?;
+    assert_eq!(rt; started(alloc, &mut NotThese { groups })?.as_str(), "+-+-");
+    assert_eq!(rt; started(alloc, &mut AllStart)?.as_str(), "++++");
     OpenGate.before_put(0, 0);
     Ok(())
 }

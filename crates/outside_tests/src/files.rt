@@ -1,19 +1,12 @@
 //! The system's files.
-use crate::shown::bytes;
-use feed_pour::{Fetched, FileShelf, Opened, Shelf, Tallies, fetch, write_all};
+use crate::shown::{add_faults, bytes};
+use feed_pour::{Fetched, FileShelf, Opened, Shelf, fetch, write_all};
 use spl_value::{Bytes, Items};
 use std::alloc::{AllocError, Global};
 use std::fs;
+use std::rt::Files;
 use std::test::Fail;
-
-fn counts(opening: u64, creating: u64, writing: u64) -> Tallies {
-    Tallies {
-        opening,
-        creating,
-        reading: 0,
-        writing,
-    }
-}
+use test_texts::text::Text;
 
 // 200,000 bytes, in rows of ten.
 fn rows(alloc: Global) -> Result<Vec<u8>, AllocError> {
@@ -25,6 +18,14 @@ fn rows(alloc: Global) -> Result<Vec<u8>, AllocError> {
         ])?;
     }
     Ok(rows)
+}
+
+fn add_opened<H: Shelf>(text: &mut Text, shelf: &mut H, name: &Bytes) {
+    text.add(match shelf.open_in(name) {
+        Opened::Ok(_) => "opened",
+        Opened::Failed => "not opened",
+        Opened::Memory => "no memory",
+    });
 }
 
 // Writes a file row by row, and finishes it.
@@ -39,6 +40,14 @@ fn is_written<H: Shelf>(shelf: &mut H, name: &Bytes, rows: &[u8]) -> bool {
     }
 }
 
+fn add_written<H: Shelf>(text: &mut Text, shelf: &mut H, name: &Bytes, rows: &[u8]) {
+    text.add(if is_written(shelf, name, rows) {
+        "; written"
+    } else {
+        "; not written"
+    });
+}
+
 fn is_whole(read: Fetched, want: &[u8]) -> bool {
     match read {
         Fetched::Whole(bytes) => bytes.as_slice() == want,
@@ -46,45 +55,95 @@ fn is_whole(read: Fetched, want: &[u8]) -> bool {
     }
 }
 
+fn add_counts<R: Files + Drop>(text: &mut Text, shelf: &FileShelf<R>, name: &Bytes)
+where
+    R::File: Send,
+{
+    text.add("; ");
+    add_faults(text, shelf.tallies(name));
+}
+
+// A name is opened before there is such a file, the file is written, and it is read.
+fn written_and_read<R: Files + Drop>(
+    alloc: Global,
+    shelf: &mut FileShelf<R>,
+    path: &str,
+) -> Result<String, AllocError>
+where
+    R::File: Send,
+{
+    let name = bytes(alloc, path)?;
+    let rows = rows(alloc)?;
+    let mut text = Text::new(alloc);
+    add_opened(&mut text, shelf, &name);
+    add_counts(&mut text, shelf, &name);
+    add_written(&mut text, shelf, &name, rows.as_slice());
+    let read = fetch(alloc, shelf, &name, 200000);
+    if is_whole(read, rows.as_slice()) {
+        text.add(" and read");
+    }
+    add_counts(&mut text, shelf, &name);
+    text.finish()
+}
+
 #[test]
 fn files_are_written_and_read(rt: HostRuntime) -> Result<(), Fail> {
     let alloc = rt.alloc();
     let path = "outside_tests_files_are_written_and_read.rows";
-    let name = bytes(alloc, path)?;
     let mut shelf = FileShelf::new(rt.clone()?, alloc);
-    assert!(rt; matches!(shelf.open_in(&name), Opened::Failed));
-    assert_eq!(rt; shelf.tallies(&name), counts(1, 0, 0));
-    let want = rows(alloc)?;
-    assert!(rt; is_written(&mut shelf, &name, want.as_slice()));
-    let read = fetch(alloc, &mut shelf, &name, 200000);
+    let seen = written_and_read(alloc, &mut shelf, path)?;
     fs::remove_file(&rt, path)?;
-    assert!(rt; is_whole(read, want.as_slice()));
-    assert_eq!(rt; shelf.tallies(&name), counts(1, 0, 0));
+    assert_eq!(rt;
+        seen.as_str(),
+        "not opened; 1 0 0 0; written and read; 1 0 0 0"
+    );
     Ok(())
 }
 
-#[test]
-fn a_name_that_is_no_text_fails(rt: HostRuntime) -> Result<(), Fail> {
-    let alloc = rt.alloc();
+// What is answered to a name that isn't UTF-8.
+fn no_text<R: Files + Drop>(alloc: Global, shelf: &mut FileShelf<R>) -> Result<String, AllocError>
+where
+    R::File: Send,
+{
     let name = Items::from_slice(alloc, &[0xC3u8, 0x28])?;
-    let mut shelf = FileShelf::new(rt.clone()?, alloc);
-    assert!(rt; matches!(shelf.open_in(&name), Opened::Failed));
-    assert!(rt; matches!(shelf.create(&name), Opened::Failed));
-    assert_eq!(rt; shelf.tallies(&name), counts(1, 1, 0));
-    Ok(())
+    let mut text = Text::new(alloc);
+    add_opened(&mut text, shelf, &name);
+    if let Opened::Failed = shelf.create(&name) {
+        text.add("; not created");
+    }
+    add_counts(&mut text, shelf, &name);
+    text.finish()
 }
 
 // The system's device that takes no byte: a few bytes wait in the buffer until the pour is finished,
 // and more than it holds are written before.
-#[test]
-fn a_full_device_fails(rt: HostRuntime) -> Result<(), Fail> {
-    let alloc = rt.alloc();
+fn full_device<R: Files + Drop>(
+    alloc: Global,
+    shelf: &mut FileShelf<R>,
+) -> Result<String, AllocError>
+where
+    R::File: Send,
+{
     let name = bytes(alloc, "/dev/full")?;
+    let rows = rows(alloc)?;
+    let mut text = Text::new(alloc);
+    add_written(&mut text, shelf, &name, b"1\n");
+    add_counts(&mut text, shelf, &name);
+    add_written(&mut text, shelf, &name, rows.as_slice());
+    add_counts(&mut text, shelf, &name);
+    text.finish()
+}
+
+#[test]
+fn names_that_are_no_text_and_full_devices_fail(rt: HostRuntime) -> Result<(), Fail> {
+    let alloc = rt.alloc();
     let mut shelf = FileShelf::new(rt.clone()?, alloc);
-    assert!(rt; !is_written(&mut shelf, &name, b"1\n"));
-    assert_eq!(rt; shelf.tallies(&name), counts(0, 0, 1));
-    let more = rows(alloc)?;
-    assert!(rt; !is_written(&mut shelf, &name, more.as_slice()));
-    assert_eq!(rt; shelf.tallies(&name), counts(0, 0, 2));
+    let seen = no_text(alloc, &mut shelf)?;
+    assert_eq!(rt; seen.as_str(), "not opened; not created; 1 1 0 0");
+    let seen = full_device(alloc, &mut shelf)?;
+    assert_eq!(rt;
+        seen.as_str(),
+        "; not written; 0 0 0 1; not written; 0 0 0 2"
+    );
     Ok(())
 }

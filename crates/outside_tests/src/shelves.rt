@@ -150,29 +150,47 @@ fn add_plain_step(
     }
 }
 
+fn memory_steps(
+    alloc: Global,
+    shelf: &mut MemoryShelf,
+    name: &Name,
+    steps: &str,
+) -> Result<String, AllocError> {
+    let mut text = Text::new(alloc);
+    for step in steps.split(" | ") {
+        text.add("; ");
+        add_memory_step(alloc, &mut text, shelf, name, step)?;
+    }
+    text.finish()
+}
+
+fn plain_steps(
+    alloc: Global,
+    shelf: &mut PlainShelf,
+    name: &Name,
+    steps: &str,
+) -> Result<String, AllocError> {
+    let mut text = Text::new(alloc);
+    for step in steps.split(" | ") {
+        text.add("; ");
+        add_plain_step(alloc, &mut text, shelf, name, step)?;
+    }
+    text.finish()
+}
+
 impl Answers for Memory {
     fn answer(&self, alloc: Global, text: &str) -> Result<String, AllocError> {
         let name = bytes(alloc, "rows")?;
-        let mut shelf = MemoryShelf::new(alloc);
-        let mut shown = Text::new(alloc);
-        for step in text.split(" | ") {
-            shown.add("; ");
-            add_memory_step(alloc, &mut shown, &mut shelf, &name, step)?;
-        }
-        with_signs(alloc, shown.finish()?.as_str())
+        let seen = memory_steps(alloc, &mut MemoryShelf::new(alloc), &name, text)?;
+        with_signs(alloc, seen.as_str())
     }
 }
 
 impl Answers for Plain {
     fn answer(&self, alloc: Global, text: &str) -> Result<String, AllocError> {
         let name = bytes(alloc, "rows")?;
-        let mut shelf = PlainShelf::new(alloc);
-        let mut shown = Text::new(alloc);
-        for step in text.split(" | ") {
-            shown.add("; ");
-            add_plain_step(alloc, &mut shown, &mut shelf, &name, step)?;
-        }
-        with_signs(alloc, shown.finish()?.as_str())
+        let seen = plain_steps(alloc, &mut PlainShelf::new(alloc), &name, text)?;
+        with_signs(alloc, seen.as_str())
     }
 }
 
@@ -190,7 +208,8 @@ fetch 9 | holds | put @fives 9000 | fetch 9000 | fetch 8999 | write a␊ | holds
 #[test]
 fn a_shelf_in_memory_answers_as_it_is_told(rt: HostRuntime) -> Result<(), Fail> {
     let alloc = rt.alloc();
-    assert_eq!(rt; others(alloc, &Memory, MEMORY)?.as_str(), "");
-    assert_eq!(rt; others(alloc, &Plain, PLAIN)?.as_str(), "");
+    let mut all = others(alloc, &Memory, MEMORY)?;
+    all.push_str(others(alloc, &Plain, PLAIN)?.as_str())?;
+    assert_eq!(rt; all.as_str(), "");
     Ok(())
 }

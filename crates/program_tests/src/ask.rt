@@ -14,7 +14,6 @@ use spl_value::Bytes;
 use std::alloc::{AllocError, Global};
 use std::sync::Wait;
 use std::thread::Threads;
-use test_texts::rows::Answers;
 use test_texts::signs::words;
 
 /// What is seen of an answer.
@@ -56,17 +55,14 @@ pub(crate) fn ask<W: Threads + Wait + Sync>(
     })
 }
 
-/// Rows to which these words are asked, unless a row has its own.
-#[derive(Drop)]
-pub(crate) struct Asked<'w, W: Threads + Wait + Sync> {
-    pub rt: &'w W,
-    pub words: &'static str,
-}
-
-impl<W: Threads + Wait + Sync> Answers for Asked<'_, W> {
-    fn answer(&self, alloc: Global, text: &str) -> Result<String, AllocError> {
-        let (row, words) = text.split_once(" | $ ").unwrap_or((text, self.words));
-        let seen = ask(self.rt, alloc, row, words)?;
-        shown(alloc, &seen)
-    }
+/// What is answered to these words, unless the row has its own.
+pub(crate) fn asked<W: Threads + Wait + Sync>(
+    rt: &W,
+    alloc: Global,
+    words: &str,
+    text: &str,
+) -> Result<String, AllocError> {
+    let (row, words) = text.split_once(" | $ ").unwrap_or((text, words));
+    let seen = ask(rt, alloc, row, words)?;
+    shown(alloc, &seen)
 }

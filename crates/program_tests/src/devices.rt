@@ -4,15 +4,7 @@ use crate::shelf::bytes;
 use crate::shown::shown;
 use std::alloc::{AllocError, Global};
 use std::sync::Wait;
-use std::test::Fail;
 use std::thread::Threads;
-use test_texts::rows::{Answers, others};
-
-// A call that fails where the program with two sources and two sinks is run.
-#[derive(Drop)]
-struct Failing<'w, W: Threads + Wait + Sync> {
-    rt: &'w W,
-}
 
 // Whether a file isn't there, or holds a front of this text.
 fn has_front(alloc: Global, seen: &Seen, name: &str, text: &str) -> Result<bool, AllocError> {
@@ -33,25 +25,30 @@ fn is_told(alloc: Global, seen: &Seen) -> Result<bool, AllocError> {
     )
 }
 
-impl<W: Threads + Wait + Sync> Answers for Failing<'_, W> {
-    fn answer(&self, alloc: Global, text: &str) -> Result<String, AllocError> {
-        let row = format!(in alloc; "@pair | a.csv: 1␊2␊ | b.csv: 3␊ | fail {text}")?;
-        let seen = ask(self.rt, alloc, row.as_str(), "run p.spl")?;
-        let answer = shown(alloc, &seen)?;
-        match answer.as_str() {
-            "0; x.csv 1␊2␊; y.csv 3␊; counts 2:2 3:1" => "done".to_string(alloc),
-            "14 device failed␊" => "told before the sinks are created".to_string(alloc),
-            _ if is_told(alloc, &seen)? => "told".to_string(alloc),
-            _ => Ok(answer),
-        }
+// The answer in short.
+fn in_short(answer: &str, is_told: bool) -> &str {
+    match answer {
+        "0; x.csv 1␊2␊; y.csv 3␊; counts 2:2 3:1" => "done",
+        "14 device failed␊" => "told before the sinks are created",
+        answer => { if is_told { "told" } else { answer } }
     }
 }
 
-#[test]
-fn each_failing_call_is_told(rt: HostRuntime) -> Result<(), Fail> {
-    let others = others(rt.alloc(), &Failing { rt: &rt }, FAILING)?;
-    assert_eq!(rt; others.as_str(), "");
-    Ok(())
+fn shown_in_short(alloc: Global, seen: &Seen) -> Result<String, AllocError> {
+    let is_told = is_told(alloc, seen)?;
+    let answer = shown(alloc, seen)?;
+    in_short(answer.as_str(), is_told).to_string(alloc)
+}
+
+/// What is answered where a call fails and the program with two sources and two sinks is run.
+pub(crate) fn failing<W: Threads + Wait + Sync>(
+    rt: &W,
+    alloc: Global,
+    text: &str,
+) -> Result<String, AllocError> {
+    let row = format!(in alloc; "@pair | a.csv: 1␊2␊ | b.csv: 3␊ | fail {text}")?;
+    let seen = ask(rt, alloc, row.as_str(), "run p.spl")?;
+    shown_in_short(alloc, &seen)
 }
 
 /// What is answered to `run`, unless a row says otherwise.
@@ -125,7 +122,8 @@ composite Main {graph stream<int64 n> T = FileSource() {param file: "t.csv";} st
 @pair | a.csv: 1␊2␊ | b.csv: 3␊ | fail line 1 | $ walk p.spl => 1
 "#;
 
-const FAILING: &str = r#"
+/// Calls that fail.
+pub(crate) const FAILING: &str = r#"
 # Each file is read once, and once more for its end.
 read 1 p.spl => told before the sinks are created
 read 2 p.spl => told before the sinks are created

@@ -1,43 +1,96 @@
-//! The tables of programs.
-use crate::ask::Asked;
-use crate::devices::DEVICES;
+//! The tables.
+use crate::ask::asked;
+use crate::devices::{DEVICES, FAILING, failing};
 use crate::examples::EXAMPLES;
 use crate::faults::{FAULTS, TURNS};
 use crate::refusals::{CHECKS, REFUSALS};
 use crate::runs::RUNS;
 use crate::unbuilt::UNBUILT;
-use crate::words::BUILT;
+use crate::words::{BUILT, WORDS, unopened};
+use std::alloc::{AllocError, Global};
+use std::sync::Wait;
 use std::test::Fail;
-use test_texts::rows::others;
+use std::thread::Threads;
+use test_texts::rows::{compare, row_of};
 
-// Words, and the tables whose rows they are asked to.
-const TABLES: [(&str, &str); 9] = [
-    ("run p.spl", RUNS),
-    ("run p.spl", FAULTS),
-    ("run p.spl", EXAMPLES),
-    ("run p.spl", UNBUILT),
-    ("run p.spl", DEVICES),
-    ("run p.spl", BUILT),
-    ("check p.spl", CHECKS),
-    ("check p.spl", REFUSALS),
-    ("run p.spl", REFUSALS),
+// What is asked of a row.
+#[derive(Clone, Copy)]
+enum Question {
+    /// These words, unless the row has its own.
+    Words(&'static str),
+    /// The words of the row, which open no file.
+    Unopened,
+    /// A run in which the call of the row fails.
+    Failing,
+}
+
+const RUN: Question = Question::Words("run p.spl");
+
+const CHECK: Question = Question::Words("check p.spl");
+
+const TABLES: [(Question, &str); 11] = [
+    (RUN, RUNS),
+    (RUN, FAULTS),
+    (RUN, EXAMPLES),
+    (RUN, UNBUILT),
+    (RUN, DEVICES),
+    (RUN, BUILT),
+    (CHECK, CHECKS),
+    (CHECK, REFUSALS),
+    (RUN, REFUSALS),
+    (Question::Unopened, WORDS),
+    (Question::Failing, FAILING),
 ];
 
-#[test]
-fn programs_are_answered_as_their_rows_say(rt: HostRuntime) -> Result<(), Fail> {
-    for (words, rows) in TABLES {
-        let others = others(rt.alloc(), &Asked { rt: &rt, words }, rows)?;
-        assert_eq!(rt; others.as_str(), "");
+fn answer<W: Threads + Wait + Sync>(
+    rt: &W,
+    alloc: Global,
+    question: Question,
+    text: &str,
+) -> Result<String, AllocError> {
+    match question {
+        Question::Words(words) => asked(rt, alloc, words, text),
+        Question::Unopened => unopened(rt, alloc, text),
+        Question::Failing => failing(rt, alloc, text),
     }
+}
+
+// Adds those rows of a table that have other answers.
+fn add_others<W: Threads + Wait + Sync>(
+    rt: &W,
+    alloc: Global,
+    others: &mut String,
+    question: Question,
+    table: &str,
+) -> Result<(), AllocError> {
+    for line in table.lines() {
+        if let Some((text, wanted)) = row_of(line) {
+            let seen = answer(rt, alloc, question, text)?;
+            compare(others, text, seen.as_str(), wanted)?;
+        }
+    }
+    Ok(())
+}
+
+fn others_of_all<W: Threads + Wait + Sync>(rt: &W, alloc: Global) -> Result<String, AllocError> {
+    let mut others = String::new(alloc);
+    for (question, table) in &TABLES {
+        add_others(rt, alloc, &mut others, *question, table)?;
+    }
+    Ok(others)
+}
+
+#[test]
+fn the_program_answers_as_the_rows_say(rt: HostRuntime) -> Result<(), Fail> {
+    assert_eq!(rt; others_of_all(&rt, rt.alloc())?.as_str(), "");
     Ok(())
 }
 
 #[test]
 fn a_condition_has_a_million_turns(rt: HostRuntime) -> Result<(), Fail> {
-    let asked = Asked {
-        rt: &rt,
-        words: "run p.spl",
-    };
-    assert_eq!(rt; others(rt.alloc(), &asked, TURNS)?.as_str(), "");
+    let alloc = rt.alloc();
+    let mut others = String::new(alloc);
+    add_others(&rt, alloc, &mut others, RUN, TURNS)?;
+    assert_eq!(rt; others.as_str(), "");
     Ok(())
 }

@@ -34,6 +34,16 @@ fn add_file(alloc: Global, files: &mut Vec<File>, part: &str) -> Result<(), Allo
     Ok(())
 }
 
+// Adds the program of a row, if it has one.
+fn add_program(alloc: Global, files: &mut Vec<File>, program: &str) -> Result<(), AllocError> {
+    if program == "@none" {
+        return Ok(());
+    }
+    let program = program_of(alloc, program)?;
+    files.push(make_file(alloc, "p.spl", program.as_str())?)?;
+    Ok(())
+}
+
 /// The program of a row, if it has one, and the files beside it.
 pub(crate) fn files_of(
     alloc: Global,
@@ -41,10 +51,7 @@ pub(crate) fn files_of(
     beside: &str,
 ) -> Result<Vec<File>, AllocError> {
     let mut files = Vec::new(alloc);
-    if program != "@none" {
-        let program = program_of(alloc, program)?;
-        files.push(make_file(alloc, "p.spl", program.as_str())?)?;
-    }
+    add_program(alloc, &mut files, program)?;
     for part in beside.split(" | ") {
         add_file(alloc, &mut files, part)?;
     }
@@ -77,6 +84,30 @@ fn fail(alloc: Global, shelf: &mut MemoryShelf, call: &str) -> Result<(), AllocE
     done.map_err(|_| AllocError)
 }
 
+fn put_files(alloc: Global, shelf: &mut MemoryShelf, files: &[File]) -> Result<(), AllocError> {
+    for file in files {
+        let held = Items::from_slice(alloc, file.held.as_slice())?;
+        shelf.put_file(&file.name, held).map_err(|_| AllocError)?;
+    }
+    Ok(())
+}
+
+// Puts the files on the shelf, and lets the calls fail that are told beside them.
+fn prepare(
+    alloc: Global,
+    shelf: &mut MemoryShelf,
+    files: &[File],
+    beside: &str,
+) -> Result<(), AllocError> {
+    put_files(alloc, shelf, files)?;
+    for part in beside.split(" | ") {
+        if let Some(call) = part.strip_prefix("fail ") {
+            fail(alloc, shelf, call)?;
+        }
+    }
+    Ok(())
+}
+
 /// A shelf with these files, on which the calls fail that are told beside them.
 pub(crate) fn shelf_of(
     alloc: Global,
@@ -84,15 +115,7 @@ pub(crate) fn shelf_of(
     beside: &str,
 ) -> Result<MemoryShelf, AllocError> {
     let mut shelf = MemoryShelf::new(alloc);
-    for file in files {
-        let held = Items::from_slice(alloc, file.held.as_slice())?;
-        shelf.put_file(&file.name, held).map_err(|_| AllocError)?;
-    }
-    for part in beside.split(" | ") {
-        if let Some(call) = part.strip_prefix("fail ") {
-            fail(alloc, &mut shelf, call)?;
-        }
-    }
+    prepare(alloc, &mut shelf, files, beside)?;
     Ok(shelf)
 }
 

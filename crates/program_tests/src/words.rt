@@ -1,19 +1,10 @@
 //! What is answered to the words of a command line.
-use crate::ask::{Seen, ask};
+use crate::ask::{Seen, ask, asked};
 use crate::shelf::bytes;
 use crate::shown::shown;
 use std::alloc::{AllocError, Global};
 use std::sync::Wait;
-use std::test::Fail;
 use std::thread::Threads;
-use test_texts::rows::{Answers, others};
-
-// Words that are asked beside the first program and its source, and beside no file at all. Both have
-// the same answer, and the second opens no file.
-#[derive(Drop)]
-struct Unopened<'w, W: Threads + Wait + Sync> {
-    rt: &'w W,
-}
 
 // Whether the program was never asked for.
 fn is_untouched(alloc: Global, seen: &Seen) -> Result<bool, AllocError> {
@@ -26,27 +17,28 @@ fn is_untouched(alloc: Global, seen: &Seen) -> Result<bool, AllocError> {
     )
 }
 
-impl<W: Threads + Wait + Sync> Answers for Unopened<'_, W> {
-    fn answer(&self, alloc: Global, text: &str) -> Result<String, AllocError> {
-        let full = ask(self.rt, alloc, "@first | t.csv: 5␊10␊11␊", text)?;
-        let empty = ask(self.rt, alloc, "@none", text)?;
-        let full = shown(alloc, &full)?;
-        let other = shown(alloc, &empty)?;
-        if full.as_str() != other.as_str() {
-            return format!(in alloc; "{full}; without files {other}");
-        }
-        if !is_untouched(alloc, &empty)? {
-            return format!(in alloc; "{full}; the program is opened");
-        }
-        Ok(full)
+// The answer, and what is other where no file is there.
+fn shown_beside(alloc: Global, empty: &Seen, full: String) -> Result<String, AllocError> {
+    let other = shown(alloc, empty)?;
+    if full.as_str() != other.as_str() {
+        return format!(in alloc; "{full}; without files {other}");
     }
+    if !is_untouched(alloc, empty)? {
+        return format!(in alloc; "{full}; the program is opened");
+    }
+    Ok(full)
 }
 
-#[test]
-fn words_that_open_no_file_are_answered(rt: HostRuntime) -> Result<(), Fail> {
-    let others = others(rt.alloc(), &Unopened { rt: &rt }, WORDS)?;
-    assert_eq!(rt; others.as_str(), "");
-    Ok(())
+/// What is answered to words beside the first program and its source. Where no file is there, they have
+/// the same answer and open none.
+pub(crate) fn unopened<W: Threads + Wait + Sync>(
+    rt: &W,
+    alloc: Global,
+    text: &str,
+) -> Result<String, AllocError> {
+    let full = asked(rt, alloc, text, "@first | t.csv: 5␊10␊11␊")?;
+    let empty = ask(rt, alloc, "@none", text)?;
+    shown_beside(alloc, &empty, full)
 }
 
 /// Words with their own answers.
@@ -72,7 +64,8 @@ pub(crate) const BUILT: &str = r#"
 @text # | $ check p.spl => 2 refused L1 at 0␊
 "#;
 
-const WORDS: &str = r#"
+/// Words that open no file.
+pub(crate) const WORDS: &str = r#"
 # Other requests are not built.
 plan p.spl => 13 not built␊
 run p.spl --width 1 => 13 not built␊

@@ -10,26 +10,27 @@ pub trait Answers {
     fn answer(&self, alloc: Global, text: &str) -> Result<String, AllocError>;
 }
 
-// Adds the row to the others where its answer is another, or where it is no row.
-fn compare<A: Answers>(
-    alloc: Global,
-    answers: &A,
-    row: &str,
+/// The text of a row and the answer that is wanted, or nothing where the line is no row. The text may begin
+/// as a title does. A row without an answer wants one that nothing gives.
+pub fn row_of(line: &str) -> Option<(&str, &str)> {
+    match line.split_once(" => ") {
+        Some(row) => Some(row),
+        None if line.is_empty() || line.starts_with("# ") => None,
+        None => Some((line, "an answer")),
+    }
+}
+
+/// Adds a row to the others where its answer is another.
+pub fn compare(
     others: &mut String,
+    text: &str,
+    seen: &str,
+    wanted: &str,
 ) -> Result<(), AllocError> {
-    let Some((text, wanted)) = row.split_once(" => ") else {
-        return write!(others, "\nno row: {row}");
-    };
-    let seen = answers.answer(alloc, text)?;
-    if seen.as_str() == wanted {
+    if seen == wanted {
         return Ok(());
     }
     write!(others, "\n{text} => {seen}, not {wanted}")
-}
-
-// Whether a line of a table is a row. The text of a row may begin as a title does.
-fn is_row(line: &str) -> bool {
-    !line.is_empty() && (!line.starts_with("# ") || line.contains(" => "))
 }
 
 /// Those rows of the table that have other answers, each with its answer. A table without rows is
@@ -38,9 +39,10 @@ pub fn others<A: Answers>(alloc: Global, answers: &A, table: &str) -> Result<Str
     let mut others = String::new(alloc);
     let mut is_empty = true;
     for line in table.lines() {
-        if is_row(line) {
+        if let Some((text, wanted)) = row_of(line) {
             is_empty = false;
-            compare(alloc, answers, line, &mut others)?;
+            let seen = answers.answer(alloc, text)?;
+            compare(&mut others, text, seen.as_str(), wanted)?;
         }
     }
     if is_empty {
