@@ -4,13 +4,17 @@
 //! answer than their line says.
 #![tactic(auto)]
 
+pub mod check_errors;
 pub mod checked;
+pub mod codes;
 pub mod graphs;
+mod operators;
 pub mod refusals;
 pub mod rows;
 pub mod shells;
 pub mod signs;
 pub mod spelled;
+pub mod statements;
 pub mod text;
 pub mod tokens;
 pub mod trees;
