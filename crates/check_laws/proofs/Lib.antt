@@ -1,7 +1,7 @@
 mod FoundSteps
 mod PlainStates
 mod DollarTables
-mod SignedFunctions
+pub mod SignedFunctions
 mod UnitGraphs
 mod GrownBodies
 mod SourceCounts
