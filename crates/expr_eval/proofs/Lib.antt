@@ -6,7 +6,6 @@ mod BuiltIns
 mod Calling
 mod Changed
 mod CodeParts
-mod Counter
 mod Exact
 mod Following
 mod Forms

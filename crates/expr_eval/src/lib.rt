@@ -14,8 +14,6 @@ mod run;
 mod slots;
 mod stop;
 mod taking;
-#[cfg(test)]
-mod tests;
 
 pub use evaluate::{DEEPEST, eval};
 pub use language_model::{Env, Tuples};

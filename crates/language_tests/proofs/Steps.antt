@@ -1,32 +1,38 @@
--- What still holds when a variable or a port is added with its value, or a function is.
-use Rattle.std.specs.Prelude.{◌≡◌, ◌+◌, ◌<◌, ℕ, zero, suc, IsTrue, false, not, List, [], ◌∷◌, ◌++◌, map, length, Option, Some, None, slice_get}
-use Rattle.std.specs.List.{list_all}
+-- What still holds when a variable or a port is added with its value, and what can be evaluated and run then.
+use Rattle.std.specs.Prelude.{◌≡◌, ◌+◌, ℕ, Bool, zero, suc, IsTrue, false, List, [], ◌∷◌, ◌++◌, length, Option, Some, None, Ok, slice_get}
 use Rattle.std.specs.Option.{is_some}
-use Rattle.std.proofs.Common.{refl, sym, ap, subst, ◌∙◌, below_more, length-append}
-use Rattle.std.proofs.lemmas.Option.{slice_get_within}
+use Rattle.std.proofs.Common.{refl, sym, ap, subst, ◌∙◌, length-append}
+use Rattle.spl_value.specs.declared.types.Named.{Named}
 use Rattle.spl_value.specs.declared.types.SplType.{SplType}
 use Rattle.spl_value.specs.declared.types.SplType.TheVariants as S
 use Rattle.spl_value.specs.declared.value.Value.{Value}
 use Rattle.spl_value.specs.declared.value.Value.TheVariants as V
 use Rattle.spl_value.specs.Values.{fits}
 use Rattle.spl_tree.specs.declared.body.Function.{Function}
-use Rattle.spl_tree.specs.declared.body.Statement.TheVariants as T
+use Rattle.spl_tree.specs.declared.body.Statement.{Statement}
 use Rattle.spl_tree.specs.declared.code.Code.{Code}
 use Rattle.spl_tree.specs.declared.code.Marker.{Marker}
 use Rattle.spl_tree.specs.declared.code.Slot.{Slot}
+use Rattle.spl_tree.specs.declared.unit.Definition.{Definition}
+use Rattle.spl_tree.specs.StatementGrammar.{Stmt}
 use Rattle.language_model.specs.declared.env.Env.{Env}
 use Rattle.language_model.specs.declared.scope.Port.{Port}
 use Rattle.language_model.specs.declared.scope.Scope.{Scope}
-use Rattle.language_model.specs.declared.scope.Signature.{Signature}
 use Rattle.language_model.specs.declared.scope.Variable.{Variable}
-use Rattle.language_model.specs.BodyFits.{OfFunction, ReturnFits, StatementFits, RowFits, Returns, RowReturns}
+use Rattle.language_model.specs.BodyFits.{Purpose, OfHandler, RowFits}
+use Rattle.language_model.specs.BodyLaws.{BodyFitLaw, BodyReturnsLaw}
+use Rattle.language_model.specs.BodyTyping.{Setting, body_typing}
 use Rattle.language_model.specs.CodeFits.{CodeFits}
 use Rattle.language_model.specs.Evaluation.{world_of}
+use Rattle.language_model.specs.FitLaws.{DollarsFit}
+use Rattle.language_model.specs.FunctionTyping.{functions_typing, unit_scope}
 use Rattle.language_model.specs.Functions.{value}
 use Rattle.language_model.specs.Outcomes.{Done}
 use Rattle.language_model.specs.ValueLaws.{NeverStuckLaw}
-use Rattle.language_model.specs.WorldFits.{body_scope, FunctionFits, FunctionsFit, Fits, ComesTo}
-use Rattle.language_tests.specs.Contexts.{Holds, SeesVariables, returning}
+use Rattle.language_model.specs.WorldFits.{FunctionsFit, Fits, ComesTo}
+use Rattle.expr_eval.specs.Running.{BodyIsFit}
+use Rattle.check_laws.proofs.SignedFunctions.{functions_fit}
+use Rattle.language_tests.specs.Contexts.{Holds}
 
 -- ---- lists that grow side by side
 
@@ -43,15 +49,6 @@ added R (z ∷ xs) (w ∷ ys) x y e h r (suc i) a p = let f : length ys ≡ leng
 
 longer : {A B : Type 0} (xs : List A) (ys : List B) (x : A) (y : B) → length ys ≡ length xs → length (ys ++ y ∷ []) ≡ length (xs ++ x ∷ [])
 longer xs ys x y e = length-append ys (y ∷ []) ∙ ap (λ n. n + 1) e ∙ sym (length-append xs (x ∷ []))
-
-front_stays : {A : Type 0} (xs : List A) (y : A) (i : ℕ) (x : A) → slice_get xs i ≡ Some x → slice_get (xs ++ y ∷ []) i ≡ Some x
-front_stays [] y i x e = absurd cc
-front_stays (z ∷ xs) y zero x e = e
-front_stays (z ∷ xs) y (suc i) x e = front_stays xs y i x e
-
-last_is : {A : Type 0} (xs : List A) (y : A) → slice_get (xs ++ y ∷ []) (length xs) ≡ Some y
-last_is [] y = refl
-last_is (z ∷ xs) y = last_is xs y
 
 -- ---- what can be named
 
@@ -105,72 +102,13 @@ with_functions scope env functions vars ports values inputs punct h = record {
   functions_fit = h;
 }
 
--- ---- functions
-
-pub variables_alone : (scope : Scope) (vars : List Variable) → SeesVariables scope → body_scope scope.functions vars ≡ record scope { vars = vars }
-variables_alone scope vars sees = λ i. record {
-  vars = vars;
-  ports = sym sees.ports i;
-  functions = scope.functions;
-  unresolved = sym sees.unresolved i;
-  dollars = sym sees.dollars i;
-  punct = sym sees.punct i;
-}
-
-returning_fits : (scope : Scope) (code : Code Slot) (t : SplType) → CodeFits scope code t → RowFits (OfFunction (Some t)) false scope (returning code)
-returning_fits scope code t fit =
-    RowFits.statement false scope scope (T.Return (Some code)) []
-    (StatementFits.return false scope (Some code) (ReturnFits.result code t fit))
-    (RowFits.no_statements false scope)
-
--- a function fits that returns the value of an expression
-pub function_fits : (scope : Scope) (vars : List Variable) (s : Signature) (t : SplType) (code : Code Slot) (f : Function) → SeesVariables scope → s.result ≡ Some t
-    → map {A = Variable} (λ x. x.kind) vars ≡ s.parameters → IsTrue (list_all (λ (x : Variable). not x.mutable) vars) → CodeFits (record scope { vars = vars }) code t
-    → f.parameters ≡ s.parameters → f.result ≡ Some t → f.body ≡ returning code → FunctionFits scope.functions s f
-function_fits scope vars s t code f sees is kinds immutable fit parameters result body = record {
-  parameters = parameters;
-  result = result ∙ sym is;
-  variables = vars;
-  kinds = kinds;
-  immutable = immutable;
-  body =
-      subst (λ o. RowFits (OfFunction o) false (body_scope scope.functions vars) f.body) (sym is)
-      (subst (RowFits (OfFunction (Some t)) false (body_scope scope.functions vars)) (sym body)
-      (returning_fits (body_scope scope.functions vars) code t (subst (λ z. CodeFits z code t) (sym (variables_alone scope vars sees)) fit)));
-  returns = λ u e. subst RowReturns (sym body) (RowReturns.last (T.Return (Some code)) (Returns.return (Some code)));
-}
-
--- a function fits whose body fits and, where the function has a result, ends with one
-pub lines_fit : (scope : Scope) (vars : List Variable) (s : Signature) (f : Function) → SeesVariables scope
-    → map {A = Variable} (λ x. x.kind) vars ≡ s.parameters → IsTrue (list_all (λ (x : Variable). not x.mutable) vars)
-    → RowFits (OfFunction s.result) false (record scope { vars = vars }) f.body → ((t : SplType) → s.result ≡ Some t → RowReturns f.body)
-    → f.parameters ≡ s.parameters → f.result ≡ s.result → FunctionFits scope.functions s f
-lines_fit scope vars s f sees kinds immutable fit returns parameters result = record {
-  parameters = parameters;
-  result = result;
-  variables = vars;
-  kinds = kinds;
-  immutable = immutable;
-  body = subst (λ z. RowFits (OfFunction s.result) false z f.body) (sym (variables_alone scope vars sees)) fit;
-  returns = returns;
-}
-
--- the functions of the first signatures are there, and fit
-abbrev pub FitBelow : ℕ → List Signature → List Function → Type 0
-FitBelow n signatures functions =
-    (i : ℕ) → i < n → (s : Signature) → slice_get signatures i ≡ Some s → (f : Function) × (slice_get functions i ≡ Some f) × FunctionFits signatures s f
-
-pub with_function : (signatures : List Signature) (functions : List Function) (g : Function) (n : ℕ) → length functions ≡ n → FitBelow n signatures functions
-    → ((s : Signature) → slice_get signatures n ≡ Some s → FunctionFits signatures s g) → FitBelow (n + 1) signatures (functions ++ g ∷ [])
-with_function signatures functions g n long h fit =
-    below_more
-    (λ i. (s : Signature) → slice_get signatures i ≡ Some s → (f : Function) × (slice_get (functions ++ g ∷ []) i ≡ Some f) × FunctionFits signatures s f)
-    n
-    (λ i lt s at. ((h i lt s at).0, front_stays functions g i (h i lt s at).0 (h i lt s at).1, (h i lt s at).2))
-    (λ s at. (g, ap (slice_get (functions ++ g ∷ [])) (sym long) ∙ last_is functions g, fit s at))
-
-pub all_fit : (signatures : List Signature) (functions : List Function) → FitBelow (length signatures) signatures functions → FunctionsFit signatures functions
-all_fit signatures functions h i s at = h i (slice_get_within signatures i s at) s at
+-- the functions of a unit alone are there, and the marker if one came
+pub unit_holds : BodyFitLaw → BodyReturnsLaw → DollarsFit [] → (unit : List Definition) (scope : Scope) (punct : Bool) (env : Env) (functions : List Function)
+    → functions_typing unit ≡ Ok functions → scope ≡ unit_scope unit → punct ≡ is_some env.punct → env.vars ≡ [] → env.inputs ≡ []
+    → Holds (record scope { punct = punct }) env functions
+unit_holds fits ends none unit scope punct env functions found e p values inputs =
+    with_functions (record scope { punct = punct }) env functions (ap (λ (s : Scope). s.vars) e) (ap (λ (s : Scope). s.ports) e) values inputs p
+    (subst (λ signatures. FunctionsFit signatures functions) (sym (ap (λ (s : Scope). s.functions) e)) (functions_fit unit functions fits ends none found))
 
 -- ---- values
 
@@ -180,3 +118,25 @@ value_fits law scope env functions code t h fit turns left v e = subst (ComesTo 
   where
     all_fits : Fits functions code env t
     all_fits = record { scope = scope; code_fits = fit; env_fits = h.env_fits; functions_fit = h.functions_fit }
+
+-- ---- bodies
+
+-- the code of a body fits where no `$` parameters are
+pub body_fits : BodyFitLaw → DollarsFit [] → (purpose : Purpose) (setting : Setting) (scope : Scope) (ss : List Stmt) (row : List Statement) → setting.purpose ≡ purpose
+    → scope.dollars ≡ [] → body_typing setting scope ss ≡ Ok row → RowFits purpose false scope row
+body_fits law none purpose setting scope ss row is empty e =
+    subst (λ p. RowFits p false scope row) is (law setting scope ss row (subst DollarsFit (sym empty) none) e)
+
+-- a handler's body that fits the scope can be run
+pub handler_is_fit : (scope : Scope) (env : Env) (functions : List Function) (outputs : List (List (Named SplType))) (row : List Statement)
+    → Holds scope env functions → RowFits (OfHandler outputs) false scope row → BodyIsFit functions row env
+handler_is_fit scope env functions outputs row h fit = (
+  OfHandler outputs,
+  scope,
+  record {
+    row_fits = fit;
+    returns = λ t e. absurd cc;
+    variables_fit = record { env_fits = h.env_fits; count = h.variables };
+    functions_fit = h.functions_fit;
+  },
+)

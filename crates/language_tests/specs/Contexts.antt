@@ -1,10 +1,6 @@
 -- What expressions are evaluated in: when a scope, an environment and functions belong together.
-use Rattle.std.specs.Prelude.{◌≡◌, false, List, [], ◌∷◌, length, Some}
+use Rattle.std.specs.Prelude.{◌≡◌, List, length}
 use Rattle.spl_tree.specs.declared.body.Function.{Function}
-use Rattle.spl_tree.specs.declared.body.Statement.{Statement}
-use Rattle.spl_tree.specs.declared.body.Statement.TheVariants as T
-use Rattle.spl_tree.specs.declared.code.Code.{Code}
-use Rattle.spl_tree.specs.declared.code.Slot.{Slot}
 use Rattle.language_model.specs.declared.env.Env.{Env}
 use Rattle.language_model.specs.declared.scope.Scope.{Scope}
 use Rattle.language_model.specs.WorldFits.{EnvFits, FunctionsFit}
@@ -16,14 +12,3 @@ pub record Holds (scope : Scope) (env : Env) (functions : List Function) : Type 
   pub ports : length env.inputs ≡ length scope.ports
   pub env_fits : EnvFits scope env
   pub functions_fit : FunctionsFit scope.functions functions
-
--- variables and functions alone can be named, as in the body of a function
-pub record SeesVariables (scope : Scope) : Type 0 where
-  pub ports : scope.ports ≡ []
-  pub unresolved : scope.unresolved ≡ []
-  pub dollars : scope.dollars ≡ []
-  pub punct : scope.punct ≡ false
-
--- the body that returns the value of an expression
-abbrev pub returning : Code Slot → List Statement
-returning code = T.Return (Some code) ∷ []

@@ -1,157 +1,118 @@
-//! Bodies of statements against what they leave.
-ghost use Rattle.std.specs.Prelude.{◌≡◌, false, IfOk};
+//! Texts of bodies against what they leave.
+ghost use Rattle.std.specs.Prelude.{◌≡◌, false, [], map, IfOk};
+ghost use Rattle.language_model.specs.declared.scope.Port.{Port};
 ghost use Rattle.language_model.specs.BodyFits.{OfHandler, RowFits};
 ghost use Rattle.language_tests.specs.Contexts.{Holds};
 
-mod build;
-mod call;
-mod calls;
-mod faults;
-mod functions;
-mod leaves;
-mod line;
-mod loops;
-mod places;
-mod program;
-mod refused;
-mod returns;
-pub(crate) mod unbuilt;
-mod variables;
+mod tables;
 
 use crate::context::Context;
-use crate::kinds::Kinds;
-use crate::shown::Shown;
-use crate::value::{add_value, fault};
-use build::{Builder, ROOM, scoped};
+use crate::reading::{body_named, unit_of};
+use crate::scopes::scope_of;
+use crate::unanswered::{Unanswered, finish};
+use crate::values::with_turns;
+use body_rules::{BodyPurpose, BodySetting, TypeScope, TypeTable, body_of, functions_of};
 use expr_eval::{Ran, run_body};
-use functions::functions_of;
-use language_model::{Output, Outs, Scope};
-use leaves::Ends;
-use line::Lines;
-use program::FUNCTIONS;
-use spl_tree::Body;
-use spl_value::{Item, Items, Schema, Value};
+use language_model::{Output, Outs, Port, Scope, bodies_law, dollars_law};
+use spl_tree::{Body, Unit};
+use spl_value::{Item, Items, Value};
 use std::alloc::{AllocError, Global};
-use std::process::Abort;
 use std::test::Fail;
-use unbuilt::Unbuilt;
+use test_texts::rows::{Answers, others};
+use test_texts::text::Text;
+use test_texts::values::add_value;
 
-/// Variables of a handler, which may be changed: the name, the type and the first value of each.
-pub(crate) type State = &'static [(&'static str, &'static str, &'static str)];
-
-/// A handler's variables and body, the turns that there are, and what the body comes to: the values
-/// of the variables, what it submits and the turns that are left, as `5, [1] | 0:<7> | 3`, or the
-/// name of the fault.
-pub(crate) type Row = (State, Lines, u32, &'static str);
-
-// Where a body runs.
-fn context(alloc: Global, kinds: &Kinds, state: State) -> Result<Context, Fail>
-    ensures { IfOk result (λ it. Holds it.scope it.env it.functions) }
-{
-    let (signatures, functions) = functions_of(alloc, kinds, FUNCTIONS)?;
-    let mut context = Context::calling(alloc, signatures, functions, None);
-    for (name, kind, text) in state {
-        let kind = kinds.get(kind).ok_or(*kind)?;
-        context.add_variable(alloc, name, kind, text)?;
-    }
-    Ok(context)
+/// What bodies of a handler leave that may call the functions of a unit and has these output ports. A row
+/// has the declarations of the variables of the state, the statements, and the turns that there are, with
+/// ` @ ` between them. The answer has the values of the variables, what is submitted and the turns that
+/// are left, as `5, [1] | 0:<7> | 3`, or is a fault, or a refusal, whose place is counted from `void body() { `
+/// in front of the statements.
+#[derive(Drop)]
+struct Bodies {
+    functions: Unit,
+    outputs: Items<Port>,
 }
 
-// The attributes of the output ports.
-fn outputs(alloc: Global, kinds: &Kinds) -> Result<Items<Schema>, Fail> {
-    let mut outputs = Items::new(alloc);
-    outputs.push(kinds.schema(alloc, &[("n", "int32")])?)?;
-    outputs.push(kinds.schema(alloc, &[("s", "rstring")])?)?;
-    Ok(outputs)
-}
-
-fn add_all(shown: &mut Shown, values: &[Value]) {
+fn add_all(out: &mut Text, values: &[Value]) {
     for (at, value) in values.iter().enumerate() {
-        if at > 0 {
-            shown.add(", ");
-        }
-        add_value(shown, value);
+        out.add_between(at, ", ");
+        add_value(out, value);
     }
 }
 
-fn add_output(shown: &mut Shown, output: &Output) {
-    shown.add_number(i128::from(output.port));
+fn add_output(out: &mut Text, output: &Output) {
+    out.add_number(i128::from(output.port));
     match &output.item {
         Item::Tuple(values) => {
-            shown.add(":<");
-            add_all(shown, values.as_slice());
-            shown.add(">");
+            out.add(":<");
+            add_all(out, values.as_slice());
+            out.add(">");
         }
-        Item::Window => shown.add(":window"),
-        _ => shown.add(":final"),
+        Item::Window => out.add(":window"),
+        _ => out.add(":final"),
     }
 }
 
-fn add_outputs(shown: &mut Shown, submits: &Outs) {
+fn add_left(out: &mut Text, values: &[Value], submits: &Outs, turns: u32) {
+    add_all(out, values);
+    out.add(" | ");
     if submits.is_empty() {
-        shown.add("none");
+        out.add("none");
     }
     for (at, output) in submits.as_slice().iter().enumerate() {
-        if at > 0 {
-            shown.add(", ");
-        }
-        add_output(shown, output);
+        out.add_between(at, ", ");
+        add_output(out, output);
     }
+    out.add_place(" | ", turns);
 }
 
-fn left(
+// The code of the function `body` of a unit, as that of a handler with these output ports.
+fn body_code(
     alloc: Global,
-    ran: Ran,
-    values: &[Value],
-    submits: &Outs,
-    turns: u32,
-) -> Result<String, AllocError> {
-    let mut shown = Shown::new(alloc);
-    match ran {
-        Ran::Done => {
-            add_all(&mut shown, values);
-            shown.add(" | ");
-            add_outputs(&mut shown, submits);
-            shown.add(" | ");
-            shown.add_number(i128::from(turns));
-        }
-        Ran::Bad(kind) => shown.add(fault(kind)),
-        Ran::Memory => shown.add("no memory"),
-    }
-    shown.finish()
+    unit: &Unit,
+    scope: &mut Scope,
+    outputs: &[Port],
+) -> Result<Body, Unanswered>
+    requires { scope.old.dollars ≡ [] }
+    ensures fits { IfOk result (λ row. RowFits (OfHandler (map {A = Port} (λ p. p.schema) outputs.now)) false scope.old row) }
+    ensures same { IfOk result (λ _. scope.new ≡ scope.old) }
+{
+    bodies_law();
+    dollars_law();
+    let table = TypeTable::of_unit(alloc, unit)?;
+    let setting = BodySetting {
+        types: TypeScope::of_unit(&table),
+        purpose: BodyPurpose::Handler(outputs),
+    };
+    let body = body_of(alloc, &setting, scope, body_named(unit, "body"))?;
+    Ok(body)
 }
 
-// The body of a handler.
+// The same in a scope without `$` parameters.
 fn handler(
     alloc: Global,
-    kinds: &Kinds,
+    unit: &Unit,
     scope: &mut Scope,
-    outputs: Items<Schema>,
-    lines: Lines,
-) -> Result<Body, Unbuilt>
-    ensures fits { IfOk result (λ row. RowFits (OfHandler outputs) false scope.old row) }
-    ensures same { IfOk result (λ row. scope.new ≡ scope.old) }
+    outputs: &[Port],
+) -> Result<Body, Unanswered>
+    ensures fits { IfOk result (λ row. RowFits (OfHandler (map {A = Port} (λ p. p.schema) outputs.now)) false scope.old row) }
+    ensures same { IfOk result (λ _. scope.new ≡ scope.old) }
 {
-    let ends = Ends {
-        result: None,
-        outputs,
-    };
-    let builder = Builder {
-        alloc,
-        kinds,
-        ends: &ends,
-    };
-    scoped(&builder, scope, false, ROOM, lines)
+    if !scope.dollars.is_empty() {
+        return Err(Unanswered::Unread("parameters without values"));
+    }
+    body_code(alloc, unit, scope, outputs)
 }
 
-// What a handler's body comes to.
-fn outcome(
+// Runs the body of a unit.
+fn run(
     alloc: Global,
-    kinds: &Kinds,
     context: Context,
-    lines: Lines,
+    unit: &Unit,
+    outputs: &[Port],
     turns: u32,
-) -> Result<String, Fail>
+    out: &mut Text,
+) -> Result<(), Unanswered>
     requires { Holds context.scope context.env context.functions }
 {
     let Context {
@@ -159,61 +120,82 @@ fn outcome(
         mut env,
         functions,
     } = context;
-    let outputs = outputs(alloc, kinds)?;
-    let body = handler(alloc, kinds, &mut scope, outputs, lines)?;
-    let mut left_turns = turns;
+    let body = handler(alloc, unit, &mut scope, outputs)?;
+    let mut left = turns;
     let mut submits = Items::new(alloc);
-    let ran = run_body(
-        alloc,
-        &functions,
-        &body,
-        &mut env,
-        &mut left_turns,
-        &mut submits,
-    );
-    let values = env.vars.as_slice();
-    Ok(left(alloc, ran, values, &submits, left_turns)?)
-}
-
-// What the body of a row comes to.
-fn row_outcome(alloc: Global, kinds: &Kinds, row: &Row) -> Result<String, Fail> {
-    let (state, lines, turns, _) = row;
-    let context = context(alloc, kinds, state)?;
-    outcome(alloc, kinds, context, lines, *turns)
-}
-
-// The rows whose bodies come to something else, with what they come to.
-fn others(alloc: Global, kinds: &Kinds, rows: &[Row]) -> Result<String, Fail> {
-    let mut others = String::new(alloc);
-    for (at, row) in rows.iter().enumerate() {
-        let seen = row_outcome(alloc, kinds, row)?;
-        if seen.as_str() != row.3 {
-            write!(others, "\n{at}: {seen}")?;
+    match run_body(alloc, &functions, &body, &mut env, &mut left, &mut submits) {
+        Ran::Done => {
+            add_left(out, env.vars.as_slice(), &submits, left);
+            Ok(())
         }
+        Ran::Bad(kind) => Err(Unanswered::Fault(kind)),
+        Ran::Memory => Err(Unanswered::Memory),
     }
-    Ok(others)
 }
 
-fn finish(rt: &impl Abort, others: &str) {
-    assert_eq!(*rt; others, "");
+impl Bodies {
+    fn new(alloc: Global) -> Result<Bodies, Unanswered> {
+        let outputs = scope_of(alloc, tables::OUTPUTS, None)?.ports;
+        let functions = unit_of(alloc, tables::FUNCTIONS)?;
+        Ok(Bodies { functions, outputs })
+    }
+
+    fn add_outcome(&self, alloc: Global, text: &str, out: &mut Text) -> Result<(), Unanswered> {
+        let (text, Some(turns)) = with_turns(text)? else {
+            return Err(Unanswered::Unread("no turns"));
+        };
+        let Some((state, body)) = text.split_once(" @ ") else {
+            return Err(Unanswered::Unread("no state"));
+        };
+        let text = format!(in alloc; "void body() {{ {body} }} void variables() {{ {state} }}")?;
+        let unit = unit_of(alloc, text.as_str())?;
+        let context = Context::new(alloc, &self.functions, &unit, None)?;
+        run(alloc, context, &unit, self.outputs.as_slice(), turns, out)
+    }
 }
 
-/// Fails unless each body comes to what its row says.
-pub(crate) fn expect(rt: &impl Abort, alloc: Global, rows: &[Row]) -> Result<(), Fail> {
-    let kinds = Kinds::new(alloc)?;
-    let others = others(alloc, &kinds, rows)?;
-    finish(rt, others.as_str());
+impl Answers for Bodies {
+    fn answer(&self, alloc: Global, text: &str) -> Result<String, AllocError> {
+        let mut out = Text::new(alloc);
+        let outcome = self.add_outcome(alloc, text, &mut out);
+        finish(out, outcome)
+    }
+}
+
+/// Refusals of functions. A row is a unit.
+struct Functions;
+
+fn add_refusal(alloc: Global, text: &str, out: &mut Text) -> Result<(), Unanswered> {
+    functions_of(alloc, &unit_of(alloc, text)?)?;
+    out.add("no refusal");
     Ok(())
 }
 
-// Why no body of a handler is made, or nothing where one is.
-fn refusal(alloc: Global, state: State, lines: Lines) -> Result<&'static str, Fail> {
-    let kinds = Kinds::new(alloc)?;
-    let mut context = context(alloc, &kinds, state)?;
-    let outputs = outputs(alloc, &kinds)?;
-    match handler(alloc, &kinds, &mut context.scope, outputs, lines) {
-        Ok(_) => Ok(""),
-        Err(Unbuilt::Refused(why)) => Ok(why),
-        Err(other) => Err(Fail::from(other)),
+impl Answers for Functions {
+    fn answer(&self, alloc: Global, text: &str) -> Result<String, AllocError> {
+        let mut out = Text::new(alloc);
+        let outcome = add_refusal(alloc, text, &mut out);
+        finish(out, outcome)
     }
+}
+
+#[test]
+fn bodies_leave_what_they_say_or_are_refused(rt: HostRuntime) -> Result<(), Fail> {
+    let alloc = rt.alloc();
+    let bodies = Bodies::new(alloc)?;
+    assert_eq!(rt; others(alloc, &bodies, tables::ROWS)?.as_str(), "");
+    assert_eq!(rt; others(alloc, &bodies, tables::REFUSED)?.as_str(), "");
+    assert_eq!(rt;
+        others(alloc, &Functions, tables::FUNCTIONS_REFUSED)?.as_str(),
+        ""
+    );
+    Ok(())
+}
+
+#[test]
+fn a_million_turns_are_run(rt: HostRuntime) -> Result<(), Fail> {
+    let alloc = rt.alloc();
+    let bodies = Bodies::new(alloc)?;
+    assert_eq!(rt; others(alloc, &bodies, tables::MILLIONS)?.as_str(), "");
+    Ok(())
 }

@@ -1,20 +1,21 @@
-//! What expressions are evaluated in.
+//! What texts stand in, which is a text too: the functions of a unit, of which `variables` and `ports`
+//! declare the variables and the ports with their values.
 ghost use Rattle.std.specs.Prelude.{IsTrue, IfOk, OnOk};
 ghost use Rattle.spl_value.specs.Values.{fits};
 ghost use Rattle.language_model.specs.CodeFits.{CodeFits};
-ghost use Rattle.language_model.specs.WorldFits.{FunctionsFit};
 ghost use Rattle.language_tests.specs.Contexts.{Holds};
 
-use crate::functions::{FunctionText, functions, signatures};
-use crate::kinds::Kinds;
-use crate::plain::{Plain, Stop, plain};
-use crate::typed::{Unvalued, typed};
+use crate::reading::body_named;
+use crate::unanswered::Unanswered;
+use body_rules::{TypeScope, TypeTable, functions_of, scope_of_unit, type_of_written};
 use expr_eval::eval;
-use language_model::{Env, Port, Scope, Signature, Typed, Variable, evaluation_law};
-use spl_tree::{Functions, Marker};
-use spl_value::{Evaluated, FaultKind, Items, SplType, Value, same};
+use language_model::{
+    Env, Port, Scope, Typed, Variable, bodies_law, dollars_law, evaluation_law, typing_law,
+};
+use spl_tree::{Declaration, Expr, Functions, Marker, Stmt, StmtKind, Unit};
+use spl_value::{Evaluated, Items, Name, NoMemory, SplType, Value};
 use std::alloc::Global;
-use std::test::Fail;
+use type_rules::type_of;
 
 /// A scope, the values of what can be named in it, and the functions that can be called.
 #[derive(Drop)]
@@ -34,168 +35,158 @@ pub(crate) struct Valued {
 /// The turns that a text may take where nothing else is said.
 pub(crate) const TURNS: u32 = 1_000_000;
 
-// Whether a plain evaluation gave this value and left so many turns.
-fn gives(plain: &Plain, left: u32, value: &Value, turns: u32) -> bool {
-    match plain {
-        Ok(other) => same(other, value) && left == turns,
-        Err(_) => false,
+/// The type and the code of an expression.
+fn typed(
+    alloc: Global,
+    scope: &Scope,
+    expr: &Expr,
+    wanted: Option<&SplType>,
+) -> Result<Typed, Unanswered>
+    ensures { IfOk result (λ t. CodeFits scope.now t.code t.kind) }
+{
+    typing_law();
+    dollars_law();
+    if !scope.dollars.is_empty() {
+        return Err(Unanswered::Unread("parameters without values"));
     }
-}
-
-fn faults(plain: &Plain, fault: FaultKind) -> bool {
-    match plain {
-        Err(Stop::Fault(other)) => *other == fault,
-        _ => false,
+    match type_of(alloc, scope, expr, wanted) {
+        Ok(typed) => Ok(typed),
+        Err(answer) => Err(Unanswered::Untyped(answer)),
     }
 }
 
 impl Context {
-    /// A context with functions alone, where a marker came or, as `None`, a tuple.
-    pub(crate) fn new(
-        alloc: Global,
-        kinds: &Kinds,
-        from: &[FunctionText<'_>],
-        came: Option<Marker>,
-    ) -> Result<Context, Fail>
+    /// A context with the functions of a unit alone, where a marker came or, as `None`, a tuple.
+    fn calling(alloc: Global, unit: &Unit, came: Option<Marker>) -> Result<Context, Unanswered>
         ensures { IfOk result (λ it. Holds it.scope it.env it.functions) }
     {
-        let mut scope = Scope {
-            vars: Items::new(alloc),
-            ports: Items::new(alloc),
-            functions: signatures(alloc, kinds, from)?,
-            unresolved: Items::new(alloc),
-            dollars: Items::new(alloc),
-            punct: false,
-        };
-        let functions = functions(alloc, &mut scope, from)?;
-        let Scope {
-            functions: signatures,
-            ..
-        } = scope;
-        Ok(Context::calling(alloc, signatures, functions, came))
-    }
-
-    /// A context with these functions alone, where a marker came or, as `None`, a tuple.
-    pub(crate) fn calling(
-        alloc: Global,
-        signatures: Items<Signature>,
-        functions: Functions,
-        came: Option<Marker>,
-    ) -> Context
-        requires { FunctionsFit signatures functions }
-        ensures { Holds result.scope result.env result.functions }
-    {
-        let scope = Scope {
-            vars: Items::new(alloc),
-            ports: Items::new(alloc),
-            functions: signatures,
-            unresolved: Items::new(alloc),
-            dollars: Items::new(alloc),
-            punct: came.is_some(),
-        };
+        bodies_law();
+        dollars_law();
+        let functions = functions_of(alloc, unit)?;
+        let mut scope = scope_of_unit(alloc, unit)?;
+        scope.punct = came.is_some();
         let env = Env {
             inputs: Items::new(alloc),
             vars: Items::new(alloc),
             punct: came,
         };
-        Context {
+        Ok(Context {
             scope,
             env,
             functions,
-        }
+        })
     }
 
-    // The value of a code, and of the turns those that are left. A plain evaluation has to come to the
-    // same.
-    fn valued(&self, alloc: Global, typed: Typed, turns: &mut u32) -> Result<Valued, Unvalued>
-        requires holds { Holds self.now.scope self.now.env self.now.functions }
-        requires fits { CodeFits self.now.scope typed.code typed.kind }
-        ensures { IfOk result (λ v. IsTrue (fits v.kind v.value)) }
-    {
-        evaluation_law();
-        let Typed { kind, code } = typed;
-        let mut left = *turns;
-        let plain = plain(
-            alloc,
-            &self.functions,
-            code.get(),
-            &self.scope,
-            &self.env,
-            &mut left,
-        );
-        match eval(alloc, &self.functions, code.get(), &self.env, turns) {
-            Evaluated::Value(value) => {
-                if !gives(&plain, left, &value, *turns) {
-                    return Err(Unvalued::Disputed);
-                }
-                Ok(Valued {
-                    kind: kind.into_inner(),
-                    value,
-                })
-            }
-            Evaluated::Bad(fault) => Err(if faults(&plain, fault) {
-                Unvalued::Fault(fault)
-            } else {
-                Unvalued::Disputed
-            }),
-            Evaluated::Memory => Err(Unvalued::Memory),
-        }
-    }
-
-    /// The value of a text, and of the turns those that are left.
+    /// The value of an expression, and of the turns those that are left.
     pub(crate) fn value_of(
         &self,
         alloc: Global,
-        text: &str,
+        expr: &Expr,
         wanted: Option<&SplType>,
         turns: &mut u32,
-    ) -> Result<Valued, Unvalued>
+    ) -> Result<Valued, Unanswered>
         requires { Holds self.now.scope self.now.env self.now.functions }
         ensures { IfOk result (λ v. IsTrue (fits v.kind v.value)) }
     {
-        let typed = typed(alloc, &self.scope, text, wanted)?;
-        self.valued(alloc, typed, turns)
+        evaluation_law();
+        let Typed { kind, code } = typed(alloc, &self.scope, expr, wanted)?;
+        match eval(alloc, &self.functions, code.get(), &self.env, turns) {
+            Evaluated::Value(value) => Ok(Valued {
+                kind: kind.into_inner(),
+                value,
+            }),
+            Evaluated::Bad(fault) => Err(Unanswered::Fault(fault)),
+            Evaluated::Memory => Err(Unanswered::Memory),
+        }
     }
 
-    /// Adds a variable of that type, with the value of a text.
-    pub(crate) fn add_variable(
-        &mut self,
-        alloc: Global,
-        name: &str,
-        kind: &SplType,
-        text: &str,
-    ) -> Result<(), Fail>
-        requires { Holds self.old.scope self.old.env self.old.functions }
+    fn add_variable(&mut self, name: Name, mutable: bool, valued: Valued) -> Result<(), NoMemory>
+        requires holds { Holds self.old.scope self.old.env self.old.functions }
+        requires fits { IsTrue (fits valued.kind valued.value) }
         ensures { OnOk result (Holds self.new.scope self.new.env self.new.functions) }
     {
-        let mut turns = TURNS;
-        let Valued { kind, value } = self.value_of(alloc, text, Some(kind), &mut turns)?;
-        let name = Items::from_slice(alloc, name.as_bytes())?;
+        let Valued { kind, value } = valued;
         self.scope.vars.push(Variable {
             name,
             kind,
-            mutable: true,
+            mutable,
         })?;
         self.env.vars.push(value)?;
         Ok(())
     }
 
-    /// Adds a port, with the tuple that a text is.
-    pub(crate) fn add_port(&mut self, alloc: Global, name: &str, text: &str) -> Result<(), Fail>
-        requires { Holds self.old.scope self.old.env self.old.functions }
+    fn add_port(&mut self, name: Name, valued: Valued) -> Result<(), Unanswered>
+        requires holds { Holds self.old.scope self.old.env self.old.functions }
+        requires fits { IsTrue (fits valued.kind valued.value) }
         ensures { OnOk result (Holds self.new.scope self.new.env self.new.functions) }
     {
-        let mut turns = TURNS;
-        let Valued { kind, value } = self.value_of(alloc, text, None, &mut turns)?;
+        let Valued { kind, value } = valued;
         let SplType::Tuple(schema) = kind else {
-            return Err(Fail::from("no tuple"));
+            return Err(Unanswered::Unread("no tuple"));
         };
         let Value::Tuple(tuple) = value else {
-            return Err(Fail::from("no tuple"));
+            return Err(Unanswered::Unread("no tuple"));
         };
-        let name = Items::from_slice(alloc, name.as_bytes())?;
         self.scope.ports.push(Port { name, schema })?;
         self.env.inputs.push(tuple)?;
         Ok(())
+    }
+
+    // Adds a declared variable, or a port with its tuple.
+    fn add(
+        &mut self,
+        alloc: Global,
+        types: &TypeScope,
+        declared: &Stmt,
+        is_port: bool,
+    ) -> Result<(), Unanswered>
+        requires { Holds self.old.scope self.old.env self.old.functions }
+        ensures { OnOk result (Holds self.new.scope self.new.env self.new.functions) }
+    {
+        let StmtKind::Declare(
+            Declaration {
+                mutable,
+                kind,
+                name,
+                value: Some(value),
+            },
+        ) = &declared.what
+        else {
+            return Err(Unanswered::Unread("no declaration"));
+        };
+        let mut turns = TURNS;
+        let kind = type_of_written(alloc, types, kind)?;
+        let valued = self.value_of(alloc, value, Some(&kind), &mut turns)?;
+        let name = Items::from_slice(alloc, name.what.as_slice())?;
+        if is_port {
+            self.add_port(name, valued)?;
+        } else {
+            self.add_variable(name, *mutable, valued)?;
+        }
+        Ok(())
+    }
+
+    /// A context with the functions of a unit, and what another one declares: its variables, and its ports
+    /// unless a marker came.
+    pub(crate) fn new(
+        alloc: Global,
+        functions: &Unit,
+        declared: &Unit,
+        came: Option<Marker>,
+    ) -> Result<Context, Unanswered>
+        ensures { IfOk result (λ it. Holds it.scope it.env it.functions) }
+    {
+        let mut context = Context::calling(alloc, functions, came)?;
+        let table = TypeTable::of_unit(alloc, declared)?;
+        let types = TypeScope::of_unit(&table);
+        for variable in body_named(declared, "variables") {
+            context.add(alloc, &types, variable, false)?;
+        }
+        for port in body_named(declared, "ports") {
+            if came.is_none() {
+                context.add(alloc, &types, port, true)?;
+            }
+        }
+        Ok(context)
     }
 }

@@ -7,5 +7,5 @@ use Rattle.language_tests.proofs.context.Context.add_port.Goals as goal
 
 pub returns : goal.returns
 returns c =
-    let fit : IsTrue (fits (S.Tuple c.in-Tuple.schema) (V.Tuple c.in-Tuple-value.tuple)) = cc c.in_ok-kind.ensures in
-    with_port c.args.self.now.scope c.args.self.now.env c.args.self.now.functions _ _ c.requires _ _ c.in_ok-push.ensures.ok c.in_ok-push-2.ensures.ok fit
+    let fit : IsTrue (fits (S.Tuple c.in-Tuple.schema) (V.Tuple c.in-Tuple-value.tuple)) = cc c.requires.fits in
+    with_port c.args.self.now.scope c.args.self.now.env c.args.self.now.functions _ _ c.requires.holds _ _ c.in_ok-push.ensures.ok c.in_ok-push-2.ensures.ok fit
