@@ -36,8 +36,6 @@ fn large_programs_are_answered(rt: HostRuntime) -> Result<(), Fail> {
 const NESTED: &str = r#"
 # One body in another, many times.
 «10000 20000 composite C{n} {graph () as X = C{n+1}();} »composite C30000 {graph () as X = FileSink(S); stream<T> S = FileSource();} composite Main {graph () as A = C10000();} => 2 operators 1 streams 20002 bodies
-# far from one another in the text
-«1000 2000 composite C{n}0 {graph () as X = C{n}1();} »«1000 2000 composite C{n}1 {graph () as X = C{n}2();} »«1000 2000 composite C{n}2 {graph () as X = C{n}3();} »«1000 2000 composite C{n}3 {graph () as X = C{n}4();} »«1000 2000 composite C{n}4 {graph () as X = C{n}5();} »«1000 2000 composite C{n}5 {graph () as X = C{n}6();} »«1000 2000 composite C{n}6 {graph () as X = C{n}7();} »«1000 2000 composite C{n}7 {graph () as X = C{n}8();} »«1000 2000 composite C{n}8 {graph () as X = C{n}9();} »«1000 2000 composite C{n}9 {graph () as X = C{n+1}0();} »composite C30000 {graph stream<T> S = FileSource();} composite Main {graph () as A = C10000();} => 1 operators 1 streams 20002 bodies
 "#;
 
 #[test]
@@ -47,10 +45,22 @@ fn composites_may_nest_deep(rt: HostRuntime) -> Result<(), Fail> {
     Ok(())
 }
 
+const SCATTERED: &str = r#"
+# The same where they stand far from one another in the text.
+«1000 2000 composite C{n}0 {graph () as X = C{n}1();} »«1000 2000 composite C{n}1 {graph () as X = C{n}2();} »«1000 2000 composite C{n}2 {graph () as X = C{n}3();} »«1000 2000 composite C{n}3 {graph () as X = C{n}4();} »«1000 2000 composite C{n}4 {graph () as X = C{n}5();} »«1000 2000 composite C{n}5 {graph () as X = C{n}6();} »«1000 2000 composite C{n}6 {graph () as X = C{n}7();} »«1000 2000 composite C{n}7 {graph () as X = C{n}8();} »«1000 2000 composite C{n}8 {graph () as X = C{n}9();} »«1000 2000 composite C{n}9 {graph () as X = C{n+1}0();} »composite C30000 {graph stream<T> S = FileSource();} composite Main {graph () as A = C10000();} => 1 operators 1 streams 20002 bodies
+"#;
+
+#[test]
+fn composites_far_from_one_another_may_too(rt: HostRuntime) -> Result<(), Fail> {
+    let others = others(rt.alloc(), &Asked::Counts, SCATTERED)?;
+    assert_eq!(rt; others.as_str(), "");
+    Ok(())
+}
+
 const CIRCLES: &str = r#"
 # The last composite reaches the first one, and itself.
 composite Main {} «10000 20000 composite C{n} {graph () as X = C{n+1}();} »composite C30000 {graph () as X = C10000();} => E2 at 42 C10000
-composite Main {} «10000 20000 composite C{n} {graph () as X = C{n+1}();} »composite C30000 {graph () as X = C30000();} => E2 at 900042 C30000
+composite Main {} «10000 2000 composite C{n} {graph () as X = C{n+1}();} »composite C12000 {graph () as X = C12000();} => E2 at 90042 C12000
 "#;
 
 #[test]
