@@ -206,7 +206,7 @@ const BOUNDS: &str = r#"
 type T0 = int32; «0 998 type T{n+1} = T{n} a; »void f(T998 a) {} composite Main {} => ok 0 operators 0 streams
 type T0 = int32; «0 999 type T{n+1} = T{n} a; »void f(T999 a) {} composite Main {} => memory
 type T0 = int32; «0 1099 type T{n+1} = T{n} a; »void f(T1099 a) {} composite Main {} => memory
-type T0 = int32; «0 18 type T{n+1} = T{n} a, T{n} b; »void f(T18 a) {} composite Main {} => ok 0 operators 0 streams
+type T0 = int32; «0 15 type T{n+1} = T{n} a, T{n} b; »void f(T15 a) {} composite Main {} => ok 0 operators 0 streams
 type T0 = int32; «0 40 type T{n+1} = T{n} a, T{n} b; »void f(T40 a) {} composite Main {} => memory
 "#;
 
