@@ -5,7 +5,7 @@ use spl_tree::Expr;
 use spl_value::NoMemory;
 
 /// An expression, and the place in the list of the token behind it.
-#[derive(Debug, Drop)]
+#[derive(Drop)]
 pub struct ParsedExpr {
     pub expr: Expr,
     pub next: u32,

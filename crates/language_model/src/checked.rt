@@ -43,7 +43,7 @@ pub enum Position {
 }
 
 /// The value of a parameter of an operator.
-#[derive(Debug, Drop)]
+#[derive(Drop)]
 pub enum ParameterValue {
     File(Bytes),
     /// The one format that there is.
@@ -58,7 +58,7 @@ pub enum ParameterValue {
 }
 
 /// A parameter that an operator is given, with its value.
-#[derive(Debug, Drop)]
+#[derive(Drop)]
 pub struct Given {
     pub name: Name,
     pub value: ParameterValue,
@@ -77,7 +77,7 @@ pub enum Collector {
 }
 
 /// What an output attribute of an Aggregate gets, of which type. `Count` has no argument.
-#[derive(Debug, Drop)]
+#[derive(Drop)]
 pub struct Gathers {
     pub collector: Collector,
     pub argument: Option<Code<Slot>>,
@@ -85,7 +85,7 @@ pub struct Gathers {
 }
 
 /// An output attribute of an Aggregate, by its place, and what it gets. `Count` has no argument.
-#[derive(Debug, Drop)]
+#[derive(Drop)]
 pub struct Collected {
     pub attribute: u32,
     pub collector: Collector,
@@ -93,14 +93,14 @@ pub struct Collected {
 }
 
 /// A variable of the state of a Custom, and its first value.
-#[derive(Debug, Drop)]
+#[derive(Drop)]
 pub struct StateVariable {
     pub variable: Variable,
     pub first: Code<Slot>,
 }
 
 /// A handler of a Custom: the event, the input port by its number, and what is done.
-#[derive(Debug, Drop)]
+#[derive(Drop)]
 pub struct Handled {
     pub event: HandledEvent,
     pub port: u32,
@@ -109,7 +109,7 @@ pub struct Handled {
 
 /// What a Custom does on tuples and on markers, by its input ports. The first variables of each body are
 /// those of the state. The one port that a body on tuples sees, as port 0, is its own.
-#[derive(Debug, Drop)]
+#[derive(Drop)]
 pub struct Handlers {
     pub state: Items<StateVariable>,
     pub on_tuple: Items<Option<Body>>,
@@ -118,7 +118,7 @@ pub struct Handlers {
 
 /// The clauses of an operator with their codes. The output of a Functor or a Join is the code of a
 /// tuple, whose fields stand in the order in which they are evaluated.
-#[derive(Debug, Drop)]
+#[derive(Drop)]
 pub enum Part {
     FileSource {
         file: Bytes,
@@ -163,7 +163,7 @@ pub enum Part {
 }
 
 /// The attributes of an operator's input and output ports.
-#[derive(Debug, Drop)]
+#[derive(Drop)]
 pub struct PortTypes {
     pub ins: Items<Schema>,
     pub outs: Items<Schema>,

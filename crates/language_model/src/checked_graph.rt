@@ -8,7 +8,7 @@ use std::marker::Model;
 ///
 /// Contracts see it as a `CheckedGraph`, and its invariant is `Keeps`: the graph has an order and stays
 /// within the limits, the functions fit, and so do the ports, the types and the clauses of each operator.
-#[derive(Debug, Drop)]
+#[derive(Drop)]
 pub struct Checked {
     pub graph: Graph,
     /// The attributes of each stream.

@@ -6,7 +6,7 @@ pub type Tuples = Items<Values>;
 
 /// What an expression is evaluated in: the tuple at each port of its scope, the value of each
 /// variable, by the places in the scope, and the marker that came where one did.
-#[derive(Debug, Drop)]
+#[derive(Drop)]
 pub struct Env {
     pub inputs: Tuples,
     pub vars: Values,

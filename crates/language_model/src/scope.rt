@@ -2,7 +2,7 @@ use spl_tree::{Code, Slot};
 use spl_value::{Boxed, Items, Name, Schema, SplType};
 
 /// A variable that can be named.
-#[derive(Debug, Drop)]
+#[derive(Drop)]
 pub struct Variable {
     pub name: Name,
     pub kind: SplType,
@@ -11,14 +11,14 @@ pub struct Variable {
 }
 
 /// A port whose tuple can be named, with its attributes.
-#[derive(Debug, Drop)]
+#[derive(Drop)]
 pub struct Port {
     pub name: Name,
     pub schema: Schema,
 }
 
 /// A function that can be called: the types of its parameters, and of its result where it has one.
-#[derive(Debug, Drop)]
+#[derive(Drop)]
 pub struct Signature {
     pub name: Name,
     pub parameters: Items<SplType>,
@@ -26,7 +26,7 @@ pub struct Signature {
 }
 
 /// A function whose types aren't any. A call of it is refused as they are.
-#[derive(Debug, Drop)]
+#[derive(Drop)]
 pub struct Unresolved {
     pub name: Name,
     pub refusal: CheckRefusal,
@@ -34,7 +34,7 @@ pub struct Unresolved {
 
 /// A `$` parameter of the composite in whose body an expression stands: what stands for it there, or the
 /// refusal of that, which comes where the parameter is used.
-#[derive(Debug, Drop)]
+#[derive(Drop)]
 pub struct Dollar {
     /// Without the `$`.
     pub name: Name,
@@ -44,7 +44,7 @@ pub struct Dollar {
 /// What an expression may name. Variables stand in the order of their declarations, those of the
 /// state before local ones; of several with one name the last is meant. Of functions and of `$`
 /// parameters the first is.
-#[derive(Debug, Drop)]
+#[derive(Drop)]
 pub struct Scope {
     pub vars: Items<Variable>,
     pub ports: Items<Port>,
@@ -57,7 +57,7 @@ pub struct Scope {
 }
 
 /// The type and the code of an expression, each in a box: both become parts of greater ones.
-#[derive(Debug, Drop)]
+#[derive(Drop)]
 pub struct Typed {
     pub kind: Boxed<SplType>,
     pub code: Boxed<Code<Slot>>,

@@ -17,7 +17,7 @@ use spl_value::{Items, Name};
 use std::alloc::Global;
 
 /// What the file of a program comes to.
-#[derive(Debug, Drop)]
+#[derive(Drop)]
 pub enum Compiled {
     Checked(Checked),
     Refused(Refusal),

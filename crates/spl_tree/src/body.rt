@@ -2,7 +2,7 @@ use crate::code::{Code, Slot, Taking};
 use spl_value::{Items, SplType};
 
 /// What is changed: a variable, or what is taken of it in turn.
-#[derive(Debug, Drop)]
+#[derive(Drop)]
 pub struct Place {
     /// The variable's place in the scope, from 0.
     pub variable: u32,
@@ -10,7 +10,7 @@ pub struct Place {
 }
 
 /// How a place is changed.
-#[derive(Debug, Drop)]
+#[derive(Drop)]
 pub enum Change<C> {
     /// An assignment: the place holds the value, and a key that its last step doesn't find is added.
     /// `a += b` puts `a + b`, in which the place is read.
@@ -24,7 +24,7 @@ pub enum Change<C> {
 }
 
 /// A typed statement.
-#[derive(Debug, Drop)]
+#[derive(Drop)]
 pub enum Statement {
     Block(Body),
     /// A new variable with its first value. Its place is behind those of all that there are. It ends
@@ -60,7 +60,7 @@ pub type Body = Items<Statement>;
 
 /// A function of the program: the types of its parameters, that of its result where it has one, and
 /// its body. The first variables of the body are the parameters, in their order.
-#[derive(Debug, Drop)]
+#[derive(Drop)]
 pub struct Function {
     pub parameters: Items<SplType>,
     pub result: Option<SplType>,

@@ -3,7 +3,7 @@ use spl_value::{Boxed, IntKind, Items, Value};
 /// A typed expression. Each name in it is a place in the expression's scope, and each operator and
 /// call whose result depends on its operands' type has that type. Parentheses are gone. `N` is how
 /// names are given.
-#[derive(Debug, Drop)]
+#[derive(Drop)]
 pub enum Code<N> {
     /// A number, a boolean or a text; or the default of a variable's type.
     Literal(Value),
@@ -43,7 +43,7 @@ pub enum Slot {
 }
 
 /// What is taken of a value.
-#[derive(Debug, Drop)]
+#[derive(Drop)]
 pub enum Taking<C> {
     /// The attribute of a tuple at that place, from 0.
     Member(u32),

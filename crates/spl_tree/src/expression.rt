@@ -23,7 +23,7 @@ pub type Prefixes = Items<Prefix>;
 pub type Steps = Items<Step<Expr>>;
 
 /// What an expression is.
-#[derive(Debug, PartialEq, Eq, Drop)]
+#[derive(Drop)]
 pub enum ExprKind {
     Name(Name),
     /// A `$` parameter of a composite. The name is without the `$`.
@@ -48,14 +48,14 @@ pub enum ExprKind {
 }
 
 /// A field of a tuple literal: its name, and the expression of its value.
-#[derive(Debug, PartialEq, Eq, Drop)]
+#[derive(Drop)]
 pub struct Field<E> {
     pub name: Placed<Name>,
     pub value: E,
 }
 
 /// A step behind a primary expression.
-#[derive(Debug, PartialEq, Eq, Drop)]
+#[derive(Drop)]
 pub enum Step<E> {
     /// `.name`: the place is that of the name.
     Member(Placed<Name>),

@@ -2,7 +2,7 @@ use spl_value::{Ids, Items, Name};
 
 /// What remains of a program once each composite has given way to its body: operators, and the streams
 /// between them.
-#[derive(Debug, PartialEq, Eq, Drop)]
+#[derive(Drop)]
 pub struct Graph {
     /// In order of declaration: those of a composite stand where it is invoked.
     pub ops: Items<Op>,
@@ -17,7 +17,7 @@ pub struct Graph {
 }
 
 /// An operator. Its clauses are those of its invocation.
-#[derive(Debug, PartialEq, Eq, Drop)]
+#[derive(Drop)]
 pub struct Op {
     /// Its alias or else its first output stream. Within the expansion of an invocation that is named
     /// N, it is N, a dot and that.
@@ -64,7 +64,7 @@ pub struct Site {
 
 /// The body of a composite, put where it is invoked. What the body names, `$` parameters among it, is
 /// meant by the composite and by the invocation there.
-#[derive(Debug, PartialEq, Eq, Drop)]
+#[derive(Drop)]
 pub struct Expansion {
     /// The composite's place among those of the unit.
     pub composite: u32,

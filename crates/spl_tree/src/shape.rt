@@ -5,7 +5,7 @@ use spl_value::{Boxed, IntKind, Items, Name};
 pub type TypeExpr = Placed<TypeKind>;
 
 /// What a written type is.
-#[derive(Debug, PartialEq, Eq, Drop)]
+#[derive(Drop)]
 pub enum TypeKind {
     Boolean,
     Rstring,
@@ -25,7 +25,7 @@ pub enum TypeKind {
 
 /// A type, and the name of what is of it: an attribute, a parameter of a function, or the variable of
 /// a `for`.
-#[derive(Debug, PartialEq, Eq, Drop)]
+#[derive(Drop)]
 pub struct Attribute<T> {
     pub kind: T,
     pub name: Placed<Name>,
@@ -36,7 +36,7 @@ pub type Attributes = Items<Attribute<TypeExpr>>;
 /// What stands between `stream<` and `>`, or behind the name of a new type; at its first token.
 pub type Shape = Placed<ShapeKind>;
 
-#[derive(Debug, PartialEq, Eq, Drop)]
+#[derive(Drop)]
 pub enum ShapeKind {
     Type(TypeExpr),
     /// `type name, ..`: one attribute or more, as within `tuple<` and `>`.

@@ -8,7 +8,7 @@ pub type Stmt = Placed<StmtKind>;
 pub type Block = Items<Stmt>;
 
 /// What a written statement is.
-#[derive(Debug, PartialEq, Eq, Drop)]
+#[derive(Drop)]
 pub enum StmtKind {
     Block(Items<Stmt>),
     Declare(Declaration),
@@ -31,7 +31,7 @@ pub enum StmtKind {
 }
 
 /// `mutable type name = value;`, where `mutable` and the value may be absent.
-#[derive(Debug, PartialEq, Eq, Drop)]
+#[derive(Drop)]
 pub struct Declaration {
     pub mutable: bool,
     pub kind: TypeExpr,

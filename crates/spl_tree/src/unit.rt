@@ -5,7 +5,7 @@ use spl_value::{Items, Name};
 /// front is ignored.
 pub type Unit = Items<Definition>;
 
-#[derive(Debug, PartialEq, Eq, Drop)]
+#[derive(Drop)]
 pub enum Definition {
     Type(TypeDefinition),
     Function(FunctionDefinition),
@@ -13,13 +13,13 @@ pub enum Definition {
 }
 
 /// `type name = shape;`, or without `type` among the types of a composite.
-#[derive(Debug, PartialEq, Eq, Drop)]
+#[derive(Drop)]
 pub struct TypeDefinition {
     pub name: Placed<Name>,
     pub shape: Shape,
 }
 
-#[derive(Debug, PartialEq, Eq, Drop)]
+#[derive(Drop)]
 pub struct FunctionDefinition {
     /// The type of its result; none for `void`.
     pub result: Option<TypeExpr>,
@@ -30,7 +30,7 @@ pub struct FunctionDefinition {
 
 /// A composite. `public` in front is ignored. In the text the inputs of the head may come before the
 /// outputs. A clause without anything behind its word is as one that isn't there.
-#[derive(Debug, PartialEq, Eq, Drop)]
+#[derive(Drop)]
 pub struct Composite {
     pub name: Placed<Name>,
     pub outputs: Items<HeadPort>,
@@ -42,7 +42,7 @@ pub struct Composite {
 }
 
 /// A port in the head of a composite.
-#[derive(Debug, PartialEq, Eq, Drop)]
+#[derive(Drop)]
 pub struct HeadPort {
     pub shape: Option<Shape>,
     pub name: Placed<Name>,
@@ -50,7 +50,7 @@ pub struct HeadPort {
 
 /// `expression<type> $name : default;`, where the default may be absent. The name is without the `$`,
 /// at which its place is.
-#[derive(Debug, PartialEq, Eq, Drop)]
+#[derive(Drop)]
 pub struct CompositeParameter {
     pub kind: TypeExpr,
     pub name: Placed<Name>,
@@ -58,7 +58,7 @@ pub struct CompositeParameter {
 }
 
 /// An invocation of an operator or of a composite.
-#[derive(Debug, PartialEq, Eq, Drop)]
+#[derive(Drop)]
 pub struct Invocation {
     /// The place of its first token.
     pub at: u32,
@@ -71,14 +71,14 @@ pub struct Invocation {
 }
 
 /// A stream that an invocation makes.
-#[derive(Debug, PartialEq, Eq, Drop)]
+#[derive(Drop)]
 pub struct OutputStream {
     pub shape: Shape,
     pub name: Placed<Name>,
 }
 
 /// An input port of an invocation: the streams that it takes, one or more.
-#[derive(Debug, PartialEq, Eq, Drop)]
+#[derive(Drop)]
 pub struct InputPort {
     pub streams: Items<Placed<Name>>,
     pub alias: Option<Placed<Name>>,
@@ -86,7 +86,7 @@ pub struct InputPort {
 
 /// The clauses of an invocation. `logic`, `window` and `output` are at these words. A `param` or
 /// `config` without anything behind it is as one that isn't there.
-#[derive(Debug, PartialEq, Eq, Drop)]
+#[derive(Drop)]
 pub struct Clauses {
     pub logic: Option<Placed<Logic>>,
     pub window: Option<Placed<Items<PortWindow>>>,
@@ -96,14 +96,14 @@ pub struct Clauses {
 }
 
 /// The variables of a state, and the handlers of events.
-#[derive(Debug, PartialEq, Eq, Drop)]
+#[derive(Drop)]
 pub struct Logic {
     pub state: Items<Declaration>,
     pub handlers: Items<Placed<Handler>>,
 }
 
 /// `onTuple port: block` or `onPunct port: block`, at its first word.
-#[derive(Debug, PartialEq, Eq, Drop)]
+#[derive(Drop)]
 pub struct Handler {
     pub event: HandledEvent,
     pub port: Placed<Name>,
@@ -119,28 +119,28 @@ pub enum HandledEvent {
 }
 
 /// `port: part, ..;`
-#[derive(Debug, PartialEq, Eq, Drop)]
+#[derive(Drop)]
 pub struct PortWindow {
     pub port: Placed<Name>,
     pub parts: Items<WindowPart>,
 }
 
 /// A word of a window, with its arguments where it has parentheses.
-#[derive(Debug, PartialEq, Eq, Drop)]
+#[derive(Drop)]
 pub struct WindowPart {
     pub name: Placed<Name>,
     pub arguments: Option<Exprs>,
 }
 
 /// `name: value, ..;` of `param` or `config`, with one value or more.
-#[derive(Debug, PartialEq, Eq, Drop)]
+#[derive(Drop)]
 pub struct Parameter {
     pub name: Placed<Name>,
     pub values: Exprs,
 }
 
 /// `stream: attribute = value, ..;` of `output`
-#[derive(Debug, PartialEq, Eq, Drop)]
+#[derive(Drop)]
 pub struct OutputAssignments {
     pub stream: Placed<Name>,
     pub assignments: Fields,
