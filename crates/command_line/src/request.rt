@@ -10,7 +10,7 @@ use spl_value::{Items, Name, NoMemory};
 use std::alloc::Global;
 
 /// The options of a run, as they were given.
-#[derive(Debug, PartialEq, Eq, Drop)]
+#[derive(Drop)]
 pub struct RunOptions {
     pub width: Option<u32>,
     pub workers: Option<u32>,
@@ -20,7 +20,7 @@ pub struct RunOptions {
 }
 
 /// What the program is asked to do.
-#[derive(Debug, PartialEq, Eq, Drop)]
+#[derive(Drop)]
 pub enum Request {
     /// Compiles the program in the file of this name.
     Check(Name),

@@ -7,7 +7,7 @@ use spl_value::NoMemory;
 use std::alloc::AllocError;
 
 /// Why there is no graph.
-#[derive(Debug, Drop)]
+#[derive(Drop)]
 pub enum ExpandAnswer {
     /// The program is refused.
     Refused(ExpansionRefusal),

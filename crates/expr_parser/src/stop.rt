@@ -7,7 +7,7 @@ use spl_value::NoMemory;
 use std::alloc::AllocError;
 
 /// Why a line isn't read.
-#[derive(Debug, Drop)]
+#[derive(Drop)]
 pub enum Stop<'t> {
     /// The tokens from the first one on at which the line doesn't go on.
     At(&'t [Token]),

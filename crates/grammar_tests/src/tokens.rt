@@ -57,10 +57,10 @@ a.b => word of 1 0..1;Dot 1..2;word of 1 2..3;
 1.a => I32 1 0..1;Dot 1..2;word of 1 2..3;
 -128b => BadNumber 1
 -127b => Minus 0..1;I8 127 1..5;
-if iffy _if If => If 0..2;word of 4 3..7;word of 3 8..11;word of 2 12..14;
-int8x int8 => word of 5 0..5;Int(I8) 6..10;
+if iffy _if If => if 0..2;word of 4 3..7;word of 3 8..11;word of 2 12..14;
+int8x int8 => word of 5 0..5;int8 6..10;
 $a1 $if a$b => dollar of 2 0..3;dollar of 2 4..7;word of 1 8..9;dollar of 1 9..11;
-ustring set onTuple => LeftOut(Ustring) 0..7;LeftOut(Set) 8..11;OnTuple 12..19;
+ustring set onTuple => ustring 0..7;set 8..11;onTuple 12..19;
 "a"'b"' => text of 1 0..3;text of 2 3..7;
 "//" => text of 2 0..4;
 

@@ -3,7 +3,7 @@ use spl_tree::{Body, Code, HandledEvent, Slot};
 use spl_value::{Bytes, IntKind, Items, Name, Places, Schema, SplType};
 
 /// When a window fires, and what it holds then.
-#[derive(Clone, Copy, Debug, PartialEq, Eq)]
+#[derive(Clone, Copy, PartialEq, Eq)]
 pub enum WindowRule {
     /// So many tuples, and then the window begins anew.
     TumblingCount(u64),
@@ -29,7 +29,7 @@ pub enum WindowRule {
 }
 
 /// A window of an input port. A partitioned one has a window for each value of some attributes.
-#[derive(Clone, Copy, Debug, PartialEq, Eq)]
+#[derive(Clone, Copy, PartialEq, Eq)]
 pub struct Policy {
     pub partitioned: bool,
     pub rule: WindowRule,

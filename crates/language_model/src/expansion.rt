@@ -3,7 +3,7 @@ use spl_value::{Items, Name};
 
 /// Why a program has no graph, with the byte of the program at which that is seen, and the name that it
 /// is about.
-#[derive(Debug, PartialEq, Eq, Drop)]
+#[derive(Drop)]
 pub enum ExpansionRefusal {
     /// There is no main composite. The place is 0.
     NoMain,
@@ -36,7 +36,7 @@ pub struct Source {
 }
 
 /// An operator of a graph in which streams have no numbers yet.
-#[derive(Debug, PartialEq, Eq, Drop)]
+#[derive(Drop)]
 pub struct Operation {
     pub name: Name,
     /// The name of its first stream, or its own where it makes none.

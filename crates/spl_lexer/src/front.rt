@@ -15,7 +15,7 @@ use spl_value::NoMemory;
 use std::alloc::Global;
 
 /// What stands at the front of bytes, with lengths and places in bytes from the front on.
-#[derive(Debug, Drop)]
+#[derive(Drop)]
 pub(crate) enum Ahead {
     /// A token of so many bytes.
     Token(TokenKind, usize),

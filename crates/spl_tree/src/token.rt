@@ -12,7 +12,7 @@ pub struct Number {
 }
 
 /// What a token is.
-#[derive(Debug, PartialEq, Eq, Drop)]
+#[derive(PartialEq, Eq, Drop)]
 pub enum TokenKind {
     /// A word that isn't reserved.
     Word(Name),
@@ -26,7 +26,7 @@ pub enum TokenKind {
 }
 
 /// A token, with the place of its first byte and the place behind its last.
-#[derive(Debug, PartialEq, Eq, Drop)]
+#[derive(PartialEq, Eq, Drop)]
 pub struct Token {
     pub kind: TokenKind,
     pub start: u32,
@@ -37,7 +37,7 @@ pub struct Token {
 pub type TokenList = Items<Token>;
 
 /// The tokens of a program, and the number of its bytes, which is the place of its end.
-#[derive(Debug, PartialEq, Eq, Drop)]
+#[derive(PartialEq, Eq, Drop)]
 pub struct Tokens {
     pub list: TokenList,
     pub length: u32,

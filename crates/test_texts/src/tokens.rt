@@ -10,7 +10,10 @@ pub fn add_token(text: &mut Text, alloc: Global, token: &Token) -> Result<(), Al
         TokenKind::Dollar(name) => format!(in alloc; "dollar of {}", name.len())?,
         TokenKind::Number(number) => format!(in alloc; "{:?} {}", number.kind, number.value)?,
         TokenKind::Text(bytes) => format!(in alloc; "text of {}", bytes.len())?,
-        TokenKind::Keyword(keyword) => format!(in alloc; "{keyword:?}")?,
+        TokenKind::Keyword(keyword) => {
+            text.add_bytes(keyword.word());
+            String::new(alloc)
+        }
         TokenKind::Symbol(symbol) => format!(in alloc; "{symbol:?}")?,
     };
     text.add(kind.as_str());
