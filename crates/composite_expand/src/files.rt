@@ -184,7 +184,7 @@ enum Form<'a> {
 fn form_of(value: &Expr) -> Form
     ensures { (dollar : List ℕ → Text) → text_of dollar value.now ≡ form_text dollar result }
 {
-    match &value.what {
+    match value.what.get() {
         ExprKind::Text(bytes) => Form::Literal(bytes.as_slice()),
         ExprKind::Dollar(name) => Form::Dollar(name.as_slice()),
         _ => Form::Other,

@@ -103,10 +103,7 @@ pub(crate) fn literal(alloc: Global, token: &Token) -> Result<Expr, NoMemory>
         TokenKind::Keyword(Keyword::True) => ExprKind::Bool(true),
         _ => ExprKind::Bool(false),
     };
-    Ok(Placed {
-        at: token.start,
-        what,
-    })
+    Ok(Placed::boxed(alloc, token.start, what)?)
 }
 
 fn prefix_operator(kind: &TokenKind) -> Option<PrefixOperator>

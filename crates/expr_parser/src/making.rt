@@ -1,5 +1,4 @@
 //! The nodes of trees, each one higher than the highest of its parts.
-ghost use Rattle.std.specs.Prelude.{[], ◌∷◌, ◌≡◌, IfOk};
 ghost use Rattle.spl_tree.specs.Grammar.{placed};
 ghost use Rattle.spl_tree.specs.declared.expression.ExprKind.TheVariants as X;
 ghost use Rattle.expr_parser.specs.Gives.{Makes};
@@ -13,18 +12,12 @@ use spl_value::{Boxed, Name};
 use std::alloc::{AllocError, Global};
 
 /// The node over parts of that height.
-fn node<'t>(at: u32, what: ExprKind, height: u32, ts: &'t [Token]) -> Read<'t, Expr>
+fn node<'t>(alloc: Global, at: u32, what: ExprKind, height: u32, ts: &'t [Token]) -> Read<'t, Expr>
     ensures { Makes (placed at what) ts.now result }
 {
+    let expr = Placed::boxed(alloc, at, what)?;
     let height = taller(height)?;
-    Ok((Placed { at, what }, height, ts))
-}
-
-fn pair(alloc: Global, left: Expr, right: Expr) -> Result<(Boxed<Expr>, Boxed<Expr>), AllocError>
-    ensures { IfOk result (λ both. (both.0 ≡ left) × (both.1 ≡ right)) }
-{
-    let right = Boxed::new(alloc, right)?;
-    Ok((Boxed::new(alloc, left)?, right))
+    Ok((expr, height, ts))
 }
 
 pub(crate) fn conditional<'t>(
@@ -38,9 +31,13 @@ pub(crate) fn conditional<'t>(
     ensures { Makes (conditional test first second) ts.now result }
 {
     let at = test.at;
-    let (first, second) = pair(alloc, first, second)?;
-    let test = Boxed::new(alloc, test)?;
-    node(at, ExprKind::Conditional(test, first, second), height, ts)
+    node(
+        alloc,
+        at,
+        ExprKind::Conditional(test, first, second),
+        height,
+        ts,
+    )
 }
 
 pub(crate) fn binary<'t>(
@@ -54,8 +51,13 @@ pub(crate) fn binary<'t>(
     ensures { Makes (binary operator left right) ts.now result }
 {
     let at = left.at;
-    let (left, right) = pair(alloc, left, right)?;
-    node(at, ExprKind::Binary(operator, left, right), height, ts)
+    node(
+        alloc,
+        at,
+        ExprKind::Binary(operator, left, right),
+        height,
+        ts,
+    )
 }
 
 /// An operand with prefix operators and casts in front, or the operand alone where there are none.
@@ -72,8 +74,7 @@ pub(crate) fn unary<'t>(
         [] => return Ok((operand, height, ts)),
         [first, ..] => first.at,
     };
-    let operand = Boxed::new(alloc, operand)?;
-    node(at, ExprKind::Unary(prefixes, operand), height, ts)
+    node(alloc, at, ExprKind::Unary(prefixes, operand), height, ts)
 }
 
 /// A primary expression with members and indices taken of it, or alone where there are none.
@@ -90,8 +91,7 @@ pub(crate) fn selected<'t>(
         return Ok((primary, height, ts));
     }
     let at = primary.at;
-    let primary = Boxed::new(alloc, primary)?;
-    node(at, ExprKind::Select(primary, steps), height, ts)
+    node(alloc, at, ExprKind::Select(primary, steps), height, ts)
 }
 
 pub(crate) fn group<'t>(
@@ -103,11 +103,11 @@ pub(crate) fn group<'t>(
 ) -> Read<'t, Expr>
     ensures { Makes (placed at (X.Group inner)) ts.now result }
 {
-    let inner = Boxed::new(alloc, inner)?;
-    node(at, ExprKind::Group(inner), height, ts)
+    node(alloc, at, ExprKind::Group(inner), height, ts)
 }
 
 pub(crate) fn call<'t>(
+    alloc: Global,
     at: u32,
     name: Name,
     arguments: Exprs,
@@ -116,23 +116,41 @@ pub(crate) fn call<'t>(
 ) -> Read<'t, Expr>
     ensures { Makes (placed at (X.Call name arguments)) ts.now result }
 {
-    node(at, ExprKind::Call(name, arguments), height, ts)
+    node(alloc, at, ExprKind::Call(name, arguments), height, ts)
 }
 
-pub(crate) fn list<'t>(at: u32, items: Exprs, height: u32, ts: &'t [Token]) -> Read<'t, Expr>
+pub(crate) fn list<'t>(
+    alloc: Global,
+    at: u32,
+    items: Exprs,
+    height: u32,
+    ts: &'t [Token],
+) -> Read<'t, Expr>
     ensures { Makes (placed at (X.List items)) ts.now result }
 {
-    node(at, ExprKind::List(items), height, ts)
+    node(alloc, at, ExprKind::List(items), height, ts)
 }
 
-pub(crate) fn map<'t>(at: u32, entries: Entries, height: u32, ts: &'t [Token]) -> Read<'t, Expr>
+pub(crate) fn map<'t>(
+    alloc: Global,
+    at: u32,
+    entries: Entries,
+    height: u32,
+    ts: &'t [Token],
+) -> Read<'t, Expr>
     ensures { Makes (placed at (X.Map entries)) ts.now result }
 {
-    node(at, ExprKind::Map(entries), height, ts)
+    node(alloc, at, ExprKind::Map(entries), height, ts)
 }
 
-pub(crate) fn tuple<'t>(at: u32, fields: Fields, height: u32, ts: &'t [Token]) -> Read<'t, Expr>
+pub(crate) fn tuple<'t>(
+    alloc: Global,
+    at: u32,
+    fields: Fields,
+    height: u32,
+    ts: &'t [Token],
+) -> Read<'t, Expr>
     ensures { Makes (placed at (X.Tuple fields)) ts.now result }
 {
-    node(at, ExprKind::Tuple(fields), height, ts)
+    node(alloc, at, ExprKind::Tuple(fields), height, ts)
 }

@@ -1,6 +1,8 @@
 //! The reader of expressions: a call for each line of the grammar. `depth` is how deep expressions may
 //! still nest in one another.
-ghost use Rattle.std.specs.Prelude.{◌≤◌, ◌<◌, []};
+ghost use Rattle.std.specs.Prelude.{◌≡◌, ◌≢◌, ◌≤◌, ◌<◌, ℕ, List, [], MatchOption};
+ghost use Rattle.spl_tree.specs.Grammar.{placed};
+ghost use Rattle.spl_tree.specs.declared.expression.ExprKind.TheVariants as X;
 ghost use Rattle.expr_parser.specs.Gives.{Gives, Comes, StepsOn};
 ghost use Rattle.expr_parser.specs.Lines.{Whole, Rest, Climb, Chain, Prefixed, Primary, Group, Named, Elements, Brace, Entries, Fields, Steps, operand_rule, list_rule, choice_rule};
 ghost use Rattle.expr_parser.specs.Lines as lines;
@@ -188,11 +190,11 @@ fn named<'t>(alloc: Global, depth: u32, at: u32, name: Name, ts: &'t [Token]) ->
     match after(ts, Symbol::LeftParen) {
         Some((_, behind)) => {
             let (arguments, height, behind) = elements(alloc, depth, Symbol::RightParen, behind)?;
-            making::call(at, name, arguments, height, behind)
+            making::call(alloc, at, name, arguments, height, behind)
         }
         None => {
-            let what = ExprKind::Name(name);
-            Ok((Placed { at, what }, 0, ts))
+            let expr = Placed::boxed(alloc, at, ExprKind::Name(name))?;
+            Ok((expr, 0, ts))
         }
     }
 }
@@ -203,7 +205,7 @@ fn list<'t>(alloc: Global, depth: u32, at: u32, ts: &'t [Token]) -> Read<'t, Exp
     ensures { Comes (list_rule at) ts.now result }
 {
     let (items, height, behind) = elements(alloc, depth, Symbol::RightBracket, ts)?;
-    making::list(at, items, height, behind)
+    making::list(alloc, at, items, height, behind)
 }
 
 /// Expressions with commas between them, or none, and the symbol that closes them.
@@ -247,30 +249,37 @@ pub(crate) fn items<'t>(
     }
 }
 
+/// The name that an expression is, if it is one and nothing else.
+fn name_alone(expr: Expr) -> Option<Placed<Name>>
+    ensures { MatchOption result ((n : List ℕ) → expr.what ≢ X.Name n)
+        (λ name. expr ≡ placed name.at (X.Name name.what)) }
+{
+    let Placed { at, what } = expr;
+    match what.into_inner() {
+        ExprKind::Name(what) => Some(Placed { at, what }),
+        _ => None,
+    }
+}
+
 /// A map or a tuple, behind the opening brace.
 #[cycle(reader)]
 fn brace<'t>(alloc: Global, depth: u32, at: u32, ts: &'t [Token]) -> Read<'t, Expr>
     ensures { Gives (Brace at) ts.now result }
 {
     if let Some((_, behind)) = after(ts, Symbol::RightBrace) {
-        let what = ExprKind::Map(Items::new(alloc));
-        return Ok((Placed { at, what }, 0, behind));
+        let expr = Placed::boxed(alloc, at, ExprKind::Map(Items::new(alloc)))?;
+        return Ok((expr, 0, behind));
     }
     let (first, height, behind) = nested(alloc, depth, ts)?;
     if let Some((_, behind)) = after(behind, Symbol::Colon) {
         return entries(alloc, depth, at, first, height, behind);
     }
-    let Placed { at: place, what } = first;
-    match what {
-        ExprKind::Name(name) => {
+    match name_alone(first) {
+        Some(name) => {
             let behind = pass(behind, Symbol::Assign)?;
-            let name = Placed {
-                at: place,
-                what: name,
-            };
             fields(alloc, depth, at, name, behind)
         }
-        _ => Err(Stop::At(behind)),
+        None => Err(Stop::At(behind)),
     }
 }
 
@@ -296,7 +305,7 @@ fn entries<'t>(
         height = height.max(tall);
         let Some((_, behind)) = after(behind, Symbol::Comma) else {
             let behind = pass(behind, Symbol::RightBrace)?;
-            return making::map(at, all, height, behind);
+            return making::map(alloc, at, all, height, behind);
         };
         let (next, tall, behind) = nested(alloc, depth, behind)?;
         left = pass(behind, Symbol::Colon)?;
@@ -326,7 +335,7 @@ fn fields<'t>(
         height = height.max(tall);
         let Some((_, behind)) = after(behind, Symbol::Comma) else {
             let behind = pass(behind, Symbol::RightBrace)?;
-            return making::tuple(at, all, height, behind);
+            return making::tuple(alloc, at, all, height, behind);
         };
         let (next, behind) = pass_name(alloc, behind)?;
         left = pass(behind, Symbol::Assign)?;

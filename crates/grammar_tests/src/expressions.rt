@@ -325,8 +325,8 @@ fn several(alloc: Global, taken: Taken<'_, Exprs>) -> Result<String, AllocError>
 
 // The name `m`, and what is taken of it.
 fn steps(alloc: Global, ts: &[Token]) -> Result<String, AllocError> {
-    let what = ExprKind::Name(Items::from_slice(alloc, b"m")?);
-    one(alloc, read_steps(alloc, Placed { at: 0, what }, ts))
+    let name = ExprKind::Name(Items::from_slice(alloc, b"m")?);
+    one(alloc, read_steps(alloc, Placed::boxed(alloc, 0, name)?, ts))
 }
 
 fn weighed(alloc: Global, ts: &[Token]) -> Result<String, AllocError> {

@@ -38,7 +38,7 @@ pub(crate) fn number_literal(
 ) -> Result<Option<Number>, TypeAnswer>
     ensures { Finds (numbers_at site.now expr.now) result }
 {
-    match &expr.what {
+    match expr.what.get() {
         ExprKind::Number(number) => {
             type_of(alloc, site.scope, expr, None)?;
             Ok(Some(*number))
@@ -57,7 +57,7 @@ pub(crate) fn number_literal(
 fn number_of(expr: &Expr) -> Option<Number>
     ensures { result ≡ number_of expr.now }
 {
-    match &expr.what {
+    match expr.what.get() {
         ExprKind::Number(number) => Some(*number),
         _ => None,
     }
@@ -72,7 +72,7 @@ pub(crate) fn file_name(
 ) -> Result<Bytes, TypeAnswer>
     ensures { Finds (file_typing site.now.scope.now (behind_at site.now) expr.now) result }
 {
-    match &expr.what {
+    match expr.what.get() {
         ExprKind::Text(bytes) => file_or_mismatch(alloc, expr.at, bytes.as_slice()),
         ExprKind::Dollar(_) => {
             type_of(alloc, site.scope, expr, Some(&SplType::Text))?;
@@ -89,7 +89,7 @@ fn text_at(alloc: Global, at: u32, literal: Option<&Expr>) -> Result<Bytes, Type
     let Some(literal) = literal else {
         return Err(mismatch(at));
     };
-    match &literal.what {
+    match literal.what.get() {
         ExprKind::Text(bytes) => file_or_mismatch(alloc, at, bytes.as_slice()),
         _ => Err(mismatch(at)),
     }

@@ -1,5 +1,6 @@
 use crate::Number;
 use spl_value::{Boxed, Bytes, IntKind, Items, Name};
+use std::alloc::{AllocError, Global};
 
 /// Something, with the place of its first byte in the program.
 #[derive(Debug, PartialEq, Eq, Drop)]
@@ -8,8 +9,22 @@ pub struct Placed<T> {
     pub what: T,
 }
 
-/// An expression, at its first token.
-pub type Expr = Placed<ExprKind>;
+impl<T: Drop> Placed<Boxed<T>> {
+    ghost use Rattle.std.specs.Prelude.{◌≡◌, IfOk};
+    ghost use Rattle.spl_tree.specs.Grammar.{placed};
+
+    /// Something in a box, at that place.
+    pub fn boxed(alloc: Global, at: u32, what: T) -> Result<Placed<Boxed<T>>, AllocError>
+        ensures { IfOk result (λ it. it ≡ placed at what) }
+    {
+        let what = Boxed::new(alloc, what)?;
+        Ok(Placed { at, what })
+    }
+}
+
+/// An expression, at its first token. What it is stands in a box, so that a function that holds an
+/// expression lets go of it in one step.
+pub type Expr = Placed<Boxed<ExprKind>>;
 
 pub type Exprs = Items<Expr>;
 
@@ -32,19 +47,19 @@ pub enum ExprKind {
     Text(Bytes),
     Bool(bool),
     /// An expression in parentheses.
-    Group(Boxed<Expr>),
+    Group(Expr),
     List(Exprs),
     Map(Entries),
     Tuple(Fields),
     /// A call of the function of that name, with its arguments.
     Call(Name, Exprs),
     /// A primary expression, and the members and elements that are taken of it in turn.
-    Select(Boxed<Expr>, Steps),
+    Select(Expr, Steps),
     /// Prefix operators and casts, the outermost first, and their operand.
-    Unary(Prefixes, Boxed<Expr>),
-    Binary(BinaryOperator, Boxed<Expr>, Boxed<Expr>),
+    Unary(Prefixes, Expr),
+    Binary(BinaryOperator, Expr, Expr),
     /// `condition ? first : second`.
-    Conditional(Boxed<Expr>, Boxed<Expr>, Boxed<Expr>),
+    Conditional(Expr, Expr, Expr),
 }
 
 /// A field of a tuple literal: its name, and the expression of its value.

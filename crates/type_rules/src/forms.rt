@@ -15,9 +15,9 @@ use spl_value::Name;
 pub(crate) fn own_name(expr: &Expr) -> Option<&Name>
     ensures { option_copied result ≡ (part expr.now.what).form.name }
 {
-    match &expr.what {
+    match expr.what.get() {
         ExprKind::Name(name) => Some(name),
-        ExprKind::Group(inner) => own_name(inner.get()),
+        ExprKind::Group(inner) => own_name(inner),
         _ => None,
     }
 }
@@ -27,9 +27,9 @@ pub(crate) fn own_name(expr: &Expr) -> Option<&Name>
 pub(crate) fn root_name(expr: &Expr) -> Option<&Name>
     ensures { option_copied result ≡ (part expr.now.what).form.root }
 {
-    match &expr.what {
+    match expr.what.get() {
         ExprKind::Name(name) => Some(name),
-        ExprKind::Select(base, _) => root_name(base.get()),
+        ExprKind::Select(base, _) => root_name(base),
         _ => None,
     }
 }
@@ -39,8 +39,8 @@ pub(crate) fn root_name(expr: &Expr) -> Option<&Name>
 pub(crate) fn asks(expr: &Expr) -> bool
     ensures { result ≡ (part expr.now.what).form.asks }
 {
-    match &expr.what {
-        ExprKind::Group(inner) => asks(inner.get()),
+    match expr.what.get() {
+        ExprKind::Group(inner) => asks(inner),
         ExprKind::Call(name, arguments) => {
             name.as_slice() == b"currentPunct".as_slice() && arguments.is_empty()
         }
@@ -77,9 +77,9 @@ fn member_marker(base: Option<&Name>, steps: &[Step<Expr>]) -> Option<Marker>
 pub fn marker(expr: &Expr) -> Option<Marker>
     ensures { result ≡ (part expr.now.what).form.marker }
 {
-    match &expr.what {
-        ExprKind::Group(inner) => marker(inner.get()),
-        ExprKind::Select(base, steps) => member_marker(root_name(base.get()), steps.as_slice()),
+    match expr.what.get() {
+        ExprKind::Group(inner) => marker(inner),
+        ExprKind::Select(base, steps) => member_marker(root_name(base), steps.as_slice()),
         _ => None,
     }
 }

@@ -57,22 +57,15 @@ fn type_at(
     ensures { Finds (typing scope.now expr.now (option_copied wanted.entry)) result }
 {
     let at = expr.at;
-    let typed = match &expr.what {
-        ExprKind::Group(inner) => return type_at(alloc, scope, inner.get(), wanted),
+    let typed = match expr.what.get() {
+        ExprKind::Group(inner) => return type_at(alloc, scope, inner, wanted),
         ExprKind::List(elements) => {
             return list(alloc, scope, at, elements.as_slice(), wanted);
         }
         ExprKind::Map(entries) => return map(alloc, scope, at, entries.as_slice(), wanted),
         ExprKind::Tuple(fields) => return tuple(alloc, scope, at, fields.as_slice(), wanted),
         ExprKind::Conditional(condition, first, second) => {
-            return conditional(
-                alloc,
-                scope,
-                condition.get(),
-                first.get(),
-                second.get(),
-                wanted,
-            );
+            return conditional(alloc, scope, condition, first, second, wanted);
         }
         ExprKind::Name(name) => name_typed(alloc, scope, at, name.as_slice())?,
         ExprKind::Dollar(name) => dollar_typed(alloc, scope, at, name.as_slice())?,
@@ -82,12 +75,10 @@ fn type_at(
         ExprKind::Call(name, arguments) => {
             call(alloc, scope, at, name.as_slice(), arguments.as_slice())?
         }
-        ExprKind::Select(base, steps) => selection(alloc, scope, base.get(), steps.as_slice())?,
-        ExprKind::Unary(prefixes, operand) => {
-            unary(alloc, scope, prefixes.as_slice(), operand.get())?
-        }
+        ExprKind::Select(base, steps) => selection(alloc, scope, base, steps.as_slice())?,
+        ExprKind::Unary(prefixes, operand) => { unary(alloc, scope, prefixes.as_slice(), operand)? }
         ExprKind::Binary(operator, left, right) => {
-            operation(alloc, scope, *operator, left.get(), right.get())?
+            operation(alloc, scope, *operator, left, right)?
         }
     };
     as_wanted(at, wanted, typed)

@@ -79,7 +79,7 @@ pub fn compound_of(
 pub fn call_of(alloc: Global, scope: &Scope, call: &Expr) -> Result<Statement, TypeAnswer>
     ensures { Finds (call_typing scope.now call.now) result }
 {
-    match &call.what {
+    match call.what.get() {
         ExprKind::Call(name, all) => {
             call_statement(alloc, scope, call.at, name.as_slice(), all.as_slice())
         }

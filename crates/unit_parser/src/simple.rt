@@ -1,5 +1,10 @@
 //! Parts of statements, and statements without statements in them.
+ghost use Rattle.std.specs.Prelude.{[]};
+ghost use Rattle.expr_parser.specs.Gives.{Answers};
+ghost use Rattle.expr_parser.specs.Lines as expressions;
+ghost use Rattle.spl_tree.specs.declared.expression.ExprKind.TheVariants as X;
 ghost use Rattle.spl_tree.specs.declared.statement.StmtKind.TheVariants as Z;
+ghost use Rattle.spl_tree.specs.Grammar.{placed};
 ghost use Rattle.unit_parser.specs.Gives.{Gives, Comes};
 ghost use Rattle.unit_parser.specs.GivesStatements as statements;
 ghost use Rattle.unit_parser.specs.Lines as lines;
@@ -171,17 +176,24 @@ fn called<'t>(alloc: Global, at: u32, name: Name, ts: &'t [Token]) -> Taken<'t, 
 {
     let (arguments, behind) = read_elements(alloc, Symbol::RightParen, ts)?;
     let behind = pass(behind, Symbol::Semicolon)?;
-    let what = ExprKind::Call(name, arguments);
-    let what = StmtKind::Call(Placed { at, what });
+    let call = Placed::boxed(alloc, at, ExprKind::Call(name, arguments))?;
+    let what = StmtKind::Call(call);
     Ok((Placed { at, what }, behind))
+}
+
+/// A place, behind the name with which it begins.
+fn place<'t>(alloc: Global, at: u32, name: Name, ts: &'t [Token]) -> Taken<'t, Expr>
+    ensures { Answers (expressions.Steps (placed at (X.Name name)) []) ts.now result }
+{
+    let base = Placed::boxed(alloc, at, ExprKind::Name(name))?;
+    read_steps(alloc, base, ts)
 }
 
 /// An assignment, behind the name of its place.
 fn assigned<'t>(alloc: Global, at: u32, name: Name, ts: &'t [Token]) -> Taken<'t, Stmt>
     ensures { Comes (statements.assigned_rule at name) ts.now result }
 {
-    let what = ExprKind::Name(name);
-    let (place, behind) = read_steps(alloc, Placed { at, what }, ts)?;
+    let (place, behind) = place(alloc, at, name, ts)?;
     let Some((operator, behind)) = assignment_first(behind) else {
         return Err(Stop::At(behind));
     };

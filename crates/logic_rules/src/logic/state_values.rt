@@ -56,15 +56,15 @@ fn are_minus_prefixes(prefixes: &[Prefix]) -> bool
 pub(super) fn is_state_value(dollars: &[Dollar], expr: &Expr) -> bool
     ensures { result ≡ is_state_value dollars.now expr.now }
 {
-    match &expr.what {
+    match expr.what.get() {
         ExprKind::Number(_) | ExprKind::Text(_) | ExprKind::Bool(_) => true,
         ExprKind::Dollar(name) => is_plain_parameter(dollars, name.as_slice()),
-        ExprKind::Group(inner) => is_state_value(dollars, inner.get()),
+        ExprKind::Group(inner) => is_state_value(dollars, inner),
         ExprKind::List(elements) => are_state_values(dollars, elements.as_slice()),
         ExprKind::Map(entries) => are_state_entries(dollars, entries.as_slice()),
         ExprKind::Tuple(fields) => are_state_fields(dollars, fields.as_slice()),
         ExprKind::Unary(prefixes, operand) => {
-            are_minus_prefixes(prefixes.as_slice()) && is_state_value(dollars, operand.get())
+            are_minus_prefixes(prefixes.as_slice()) && is_state_value(dollars, operand)
         }
         ExprKind::Name(_)
         | ExprKind::Call(_, _)

@@ -121,7 +121,7 @@ fn called(
 fn gathered(alloc: Global, scope: &Scope, value: &Expr) -> Result<Gathers, TypeAnswer>
     ensures { Finds (level_gathered scope.now value.now.at (out-ExprKind value.now.what)) result }
 {
-    let ExprKind::Call(name, arguments) = &value.what else {
+    let ExprKind::Call(name, arguments) = value.what.get() else {
         return Err(mismatch(value.at));
     };
     match collecting_of(name.as_slice()) {

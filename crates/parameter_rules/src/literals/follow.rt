@@ -101,7 +101,7 @@ impl<'u> Follow<'u> {
         'u: 'e,
         ensures { behind_seen result ≡ behind_in self.now.composites.now.unit.now self.now.expansions.now expansion.now expr.now }
     {
-        match &expr.what {
+        match expr.what.get() {
             ExprKind::Dollar(name) => {
                 parameter_behind(
                     self.heads(expansion),
@@ -141,7 +141,7 @@ fn parameter_behind<'e>(
         let Some(default) = default_of(heads, name) else {
             return Behind::Nowhere;
         };
-        name = match &default.what {
+        name = match default.what.get() {
             ExprKind::Dollar(other) => other.as_slice(),
             _ => return Behind::Here(default),
         };

@@ -87,7 +87,7 @@ fn single_value(
 pub(super) fn word_of(value: &Expr) -> Option<&[u8]>
     ensures { option_copied result ≡ word_of value.now }
 {
-    match &value.what {
+    match value.what.get() {
         ExprKind::Name(name) => Some(name.as_slice()),
         _ => None,
     }

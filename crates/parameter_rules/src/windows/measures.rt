@@ -127,7 +127,7 @@ fn integer_attribute(
 ) -> Result<(u32, IntKind), TypeAnswer>
     ensures { Finds (with_kind (level_attribute schema.now expr.now.at (out-ExprKind expr.now.what))) result }
 {
-    match &expr.what {
+    match expr.what.get() {
         ExprKind::Name(name) => integer_named(alloc, schema, expr.at, name.as_slice()),
         _ => Err(bad_window(expr.at)),
     }

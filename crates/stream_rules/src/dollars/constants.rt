@@ -11,16 +11,16 @@ use spl_tree::{Expr, ExprKind, Field};
 pub(super) fn is_constant(expr: &Expr) -> bool
     ensures { result ≡ is_constant expr.now }
 {
-    match &expr.what {
+    match expr.what.get() {
         ExprKind::Name(_) | ExprKind::Call(_, _) | ExprKind::Select(_, _) => false,
         ExprKind::Dollar(_) | ExprKind::Number(_) | ExprKind::Text(_) | ExprKind::Bool(_) => true,
-        ExprKind::Group(inner) | ExprKind::Unary(_, inner) => is_constant(inner.get()),
+        ExprKind::Group(inner) | ExprKind::Unary(_, inner) => is_constant(inner),
         ExprKind::List(elements) => are_constant(elements.as_slice()),
         ExprKind::Map(entries) => are_constant_entries(entries.as_slice()),
         ExprKind::Tuple(fields) => are_constant_fields(fields.as_slice()),
-        ExprKind::Binary(_, left, right) => is_constant(left.get()) && is_constant(right.get()),
+        ExprKind::Binary(_, left, right) => is_constant(left) && is_constant(right),
         ExprKind::Conditional(condition, first, second) => {
-            is_constant(condition.get()) && is_constant(first.get()) && is_constant(second.get())
+            is_constant(condition) && is_constant(first) && is_constant(second)
         }
     }
 }

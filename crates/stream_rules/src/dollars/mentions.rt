@@ -31,26 +31,26 @@ fn add<'u>(name: &'u Name, out: &mut Names<'u>) -> Result<(), NoMemory>
 fn of_expr<'u>(expr: &'u Expr, out: &mut Names<'u>) -> Result<(), NoMemory>
     ensures { Adds out.old.items out.new.items (dollars_in expr.now) result }
 {
-    match &expr.what {
+    match expr.what.get() {
         ExprKind::Name(_) | ExprKind::Number(_) | ExprKind::Text(_) | ExprKind::Bool(_) => Ok(()),
         ExprKind::Dollar(name) => add(name, out),
         ExprKind::Call(_, arguments) => of_exprs(arguments.as_slice(), out),
-        ExprKind::Group(inner) | ExprKind::Unary(_, inner) => of_expr(inner.get(), out),
+        ExprKind::Group(inner) | ExprKind::Unary(_, inner) => of_expr(inner, out),
         ExprKind::List(elements) => of_exprs(elements.as_slice(), out),
         ExprKind::Map(entries) => of_entries(entries.as_slice(), out),
         ExprKind::Tuple(fields) => of_fields(fields.as_slice(), out),
         ExprKind::Select(base, steps) => {
-            of_expr(base.get(), out)?;
+            of_expr(base, out)?;
             of_steps(steps.as_slice(), out)
         }
         ExprKind::Binary(_, left, right) => {
-            of_expr(left.get(), out)?;
-            of_expr(right.get(), out)
+            of_expr(left, out)?;
+            of_expr(right, out)
         }
         ExprKind::Conditional(condition, first, second) => {
-            of_expr(condition.get(), out)?;
-            of_expr(first.get(), out)?;
-            of_expr(second.get(), out)
+            of_expr(condition, out)?;
+            of_expr(first, out)?;
+            of_expr(second, out)
         }
     }
 }

@@ -66,10 +66,10 @@ fn expression_within(text: &mut Text, room: u32, expr: &Expr) {
         return text.add("..");
     };
     text.add_at(expr.at);
-    match &expr.what {
+    match expr.what.get() {
         ExprKind::Group(inner) => {
             text.add("<");
-            expression_within(text, room, inner.get());
+            expression_within(text, room, inner);
             text.add(">");
         }
         ExprKind::List(items) => {
@@ -95,32 +95,32 @@ fn expression_within(text: &mut Text, room: u32, expr: &Expr) {
         }
         ExprKind::Select(base, steps) => {
             text.add("(");
-            expression_within(text, room, base.get());
+            expression_within(text, room, base);
             steps_within(text, room, steps.as_slice());
             text.add(")");
         }
         ExprKind::Unary(prefixes, operand) => {
             text.add("(");
             add_prefixes(text, prefixes.as_slice());
-            expression_within(text, room, operand.get());
+            expression_within(text, room, operand);
             text.add(")");
         }
         ExprKind::Binary(operator, left, right) => {
             text.add("(");
-            expression_within(text, room, left.get());
+            expression_within(text, room, left);
             text.add(" ");
             text.add(operator_text(*operator));
             text.add(" ");
-            expression_within(text, room, right.get());
+            expression_within(text, room, right);
             text.add(")");
         }
         ExprKind::Conditional(test, first, second) => {
             text.add("(");
-            expression_within(text, room, test.get());
+            expression_within(text, room, test);
             text.add(" ? ");
-            expression_within(text, room, first.get());
+            expression_within(text, room, first);
             text.add(" : ");
-            expression_within(text, room, second.get());
+            expression_within(text, room, second);
             text.add(")");
         }
         what => add_simple(text, what),

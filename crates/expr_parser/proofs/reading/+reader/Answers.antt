@@ -174,9 +174,10 @@ pub named-returns-in_ok-arguments-in-Some : goal.named-returns-in_ok-arguments-i
 named-returns-in_ok-arguments-in-Some t c =
     named_goes c.args.at c.args.ts.now c.args.name c.in-Some.field-0-0.now c.in-Some.behind.now c.in-Some.ensures c.in_ok-arguments-in-Some.arguments c.in_ok-arguments-in-Some.behind.now c.call.result c.in_ok-arguments-in-Some.ensures c.call.ensures
 
-pub named-returns-in-None : goal.named-returns-in-None
-named-returns-in-None t c =
-    named_ends c.args.at c.args.ts.now c.args.name c.in-None.ensures
+pub named-returns-in_ok-expr-in-None : goal.named-returns-in_ok-expr-in-None
+named-returns-in_ok-expr-in-None t c =
+    subst (λ e. Reads rule (Named c.args.at c.args.name) c.args.ts.now (Took e c.args.ts.now)) (sym c.in_ok-expr-in-None.ensures)
+    (named_ends c.args.at c.args.ts.now c.args.name c.in-None.ensures)
 
 pub list-returns-in_err-items : goal.list-returns-in_err-items
 list-returns-in_err-items t c =
@@ -229,30 +230,37 @@ items-items-smaller t c =
 
 pub brace-returns-in-Some : goal.brace-returns-in-Some
 brace-returns-in-Some t c =
-    subst (λ es. Reads rule (Brace c.args.at) c.args.ts.now (Took (placed c.args.at (X.Map es)) c.in-Some.behind.now)) (sym c.new.ensures)
-    (brace_empty c.args.at c.args.ts.now c.in-Some.field-0-0.now c.in-Some.behind.now c.in-Some.ensures)
+    subst (λ e. Reads rule (Brace c.args.at) c.args.ts.now (Took e c.in-Some.behind.now)) (sym c.in_ok-expr.ensures)
+    (subst (λ es. Reads rule (Brace c.args.at) c.args.ts.now (Took (placed c.args.at (X.Map es)) c.in-Some.behind.now)) (sym c.new.ensures)
+    (brace_empty c.args.at c.args.ts.now c.in-Some.field-0-0.now c.in-Some.behind.now c.in-Some.ensures))
 
 pub brace-returns-in_err-first : goal.brace-returns-in_err-first
 brace-returns-in_err-first t c =
-    exit (Gives (Brace c.args.at) c.args.ts.now) c.from_residual.result c.in_err-first.field-0.0 c.from_residual.ensures.1
+    exit (Gives (Brace c.args.at) c.args.ts.now) c.from_residual-in_err-first.result c.in_err-first.field-0.0 c.from_residual-in_err-first.ensures.1
     (brace_fails c.args.at c.args.ts.now c.in_default.ensures c.in_err-first.field-0.0 c.in_err-first.ensures)
 
 pub brace-returns-in-Some-after : goal.brace-returns-in-Some-after
 brace-returns-in-Some-after t c =
     brace_entries c.args.at c.args.ts.now c.in_default.ensures c.in_ok-first.first c.in_ok-first.behind.now c.in_ok-first.ensures c.in-Some-after.field-0-0.now c.in-Some-after.behind.now c.entries.result c.in-Some-after.ensures c.entries.ensures
 
-pub brace-returns-in_err-behind-in-Name : goal.brace-returns-in_err-behind-in-Name
-brace-returns-in_err-behind-in-Name t c =
-    exit (Gives (Brace c.args.at) c.args.ts.now) c.from_residual-in_err-behind-in-Name.result c.in_err-behind-in-Name.field-0.0 c.from_residual-in_err-behind-in-Name.ensures.1
-    (name_stops c.args.at c.args.ts.now c.in_default.ensures c.in_ok-first.first c.in_ok-first.behind.now c.in_ok-first.ensures c.in_default-after.ensures c.in-Name.name c.in-Name.is c.in_err-behind-in-Name.field-0.0 c.in_err-behind-in-Name.ensures)
+pub brace-returns-in_err-behind-in-Some-name_alone : goal.brace-returns-in_err-behind-in-Some-name_alone
+brace-returns-in_err-behind-in-Some-name_alone t c =
+    let name = c.in-Some-name_alone.name in
+    exit (Gives (Brace c.args.at) c.args.ts.now) c.from_residual-in_err-behind-in-Some-name_alone.result c.in_err-behind-in-Some-name_alone.field-0.0 c.from_residual-in_err-behind-in-Some-name_alone.ensures.1
+    (name_stops c.args.at c.args.ts.now c.in_default.ensures (placed name.at (X.Name name.what)) c.in_ok-first.behind.now
+    (subst (λ e. Reads rule Whole c.args.ts.now (Took e c.in_ok-first.behind.now)) c.in-Some-name_alone.ensures c.in_ok-first.ensures)
+    c.in_default-after.ensures name.what refl c.in_err-behind-in-Some-name_alone.field-0.0 c.in_err-behind-in-Some-name_alone.ensures)
 
-pub brace-returns-in-Name : goal.brace-returns-in-Name
-brace-returns-in-Name t c =
-    brace_fields c.args.at c.args.ts.now c.in_default.ensures c.in_ok-first.first c.in_ok-first.behind.now c.in_ok-first.ensures c.in_default-after.ensures c.in-Name.name c.in-Name.is c.in_ok-behind-in-Name.behind c.fields.result c.in_ok-behind-in-Name.ensures c.fields.ensures
+pub brace-returns-in_ok-behind-in-Some-name_alone : goal.brace-returns-in_ok-behind-in-Some-name_alone
+brace-returns-in_ok-behind-in-Some-name_alone t c =
+    let name = c.in-Some-name_alone.name in
+    brace_fields c.args.at c.args.ts.now c.in_default.ensures (placed name.at (X.Name name.what)) c.in_ok-first.behind.now
+    (subst (λ e. Reads rule Whole c.args.ts.now (Took e c.in_ok-first.behind.now)) c.in-Some-name_alone.ensures c.in_ok-first.ensures)
+    c.in_default-after.ensures name.what refl c.in_ok-behind-in-Some-name_alone.behind c.fields.result c.in_ok-behind-in-Some-name_alone.ensures c.fields.ensures
 
-pub brace-returns : goal.brace-returns
-brace-returns t c =
-    brace_stops c.args.at c.args.ts.now c.in_default.ensures c.in_ok-first.first c.in_ok-first.behind.now c.in_ok-first.ensures c.in_default-after.ensures c.in_default-what.not-Name c.in_ok-first.behind refl
+pub brace-returns-in-None : goal.brace-returns-in-None
+brace-returns-in-None t c =
+    brace_stops c.args.at c.args.ts.now c.in_default.ensures c.in_ok-first.first c.in_ok-first.behind.now c.in_ok-first.ensures c.in_default-after.ensures c.in-None.ensures c.in_ok-first.behind refl
 
 pub entries-entries-init : goal.entries-entries-init
 entries-entries-init t c =

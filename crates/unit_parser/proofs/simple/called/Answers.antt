@@ -1,3 +1,4 @@
+use Rattle.std.proofs.Common.{Ok, sym, subst}
 use Rattle.expr_parser.specs.Lines as expressions
 use Rattle.expr_parser.specs.Rules.{done}
 use Rattle.spl_tree.specs.declared.expression.ExprKind.TheVariants as X
@@ -5,6 +6,7 @@ use Rattle.spl_tree.specs.declared.statement.StmtKind.TheVariants as Z
 use Rattle.spl_tree.specs.declared.symbol.Symbol.TheVariants as S
 use Rattle.spl_tree.specs.Grammar.{placed}
 use Rattle.unit_parser.specs.GivesStatements as statements
+use Rattle.unit_parser.specs.Gives.{Comes}
 use Rattle.unit_parser.specs.Lines.{expect}
 use Rattle.unit_parser.proofs.Readings.{finished, passed, expression_read, rule_fails, pass_fails, expression_fails}
 use Rattle.unit_parser.proofs.simple.called.Goals as goal
@@ -22,4 +24,6 @@ returns-in_err-behind c =
     (pass_fails _ S.Semicolon (done (placed c.args.at (Z.Call (placed c.args.at (X.Call c.args.name c.in_ok-arguments.arguments))))) _ c.in_err-behind.ensures)
 
 pub returns : goal.returns
-returns c = expression_read c.in_ok-arguments.ensures (passed S.Semicolon c.in_ok-behind.ensures finished)
+returns c =
+    subst (λ e. Comes (statements.called_rule c.args.at c.args.name) c.args.ts.now (Ok (placed c.args.at (Z.Call e), c.in_ok-behind.behind))) (sym c.in_ok-call.ensures)
+    (expression_read c.in_ok-arguments.ensures (passed S.Semicolon c.in_ok-behind.ensures finished))
