@@ -9,8 +9,7 @@ use Rattle.language_model.specs.Expansion.{Made, Found, after, expanded, expande
 use Rattle.language_model.specs.Scopes.{At}
 use Rattle.composite_expand.specs.declared.walk.Opened.{Opened}
 use Rattle.composite_expand.specs.declared.walk.Walk.{Walk}
-use Rattle.composite_expand.specs.Inputs.{Shows, InputsStand}
-use Rattle.composite_expand.specs.Reading.{AreKept}
+use Rattle.composite_tables.specs.Inputs.{Shows, InputsStand, AreKept}
 use Rattle.composite_expand.specs.Walking.{Frame, frame, Keeps, IsIdle, resumed}
 use Rattle.composite_expand.specs.Walks.{IsOn, Starts, IsExpanded}
 use Rattle.composite_expand.proofs.Keeping.{kept_main}

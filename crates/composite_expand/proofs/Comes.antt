@@ -20,12 +20,12 @@ use Rattle.language_model.specs.Taking.{taken, first_untaken, is_taken}
 use Rattle.composite_expand.specs.declared.answer.ExpandAnswer.{ExpandAnswer}
 use Rattle.composite_expand.specs.declared.answer.ExpandAnswer.TheVariants as X
 use Rattle.composite_expand.specs.Expands.{Expands, IsAnswer}
-use Rattle.composite_expand.specs.declared.made.Body as M
-use Rattle.composite_expand.specs.declared.made.Input.{Input}
-use Rattle.composite_expand.specs.declared.numbering.Numbered.{Numbered}
-use Rattle.composite_expand.specs.Inputs.{Shows, AreNested, InputsStand}
+use Rattle.composite_tables.specs.declared.made.Body as M
+use Rattle.composite_tables.specs.declared.made.Input.{Input}
+use Rattle.composite_tables.specs.declared.numbering.Numbered.{Numbered}
+use Rattle.composite_tables.specs.Inputs.{Shows, AreNested, InputsStand}
 use Rattle.composite_expand.specs.declared.walk.Walk.{Walk}
-use Rattle.composite_expand.specs.Numbered.{IsNumbered}
+use Rattle.composite_tables.specs.Numbered.{IsNumbered}
 use Rattle.composite_expand.specs.Walks.{IsExpanded, Starts, Refuses}
 
 label_found : (ops : List Operation) (op : ℕ) (label : Placed (List ℕ)) → slice_get (map (λ (x : Operation). placed x.at x.label) ops) op ≡ Some label

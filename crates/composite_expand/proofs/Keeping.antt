@@ -7,11 +7,10 @@ use Rattle.spl_tree.specs.declared.unit.Definition.{Definition}
 use Rattle.language_model.specs.Composites.{composites}
 use Rattle.language_model.specs.Expansion.{Inlined, main_body}
 use Rattle.language_model.specs.Scopes.{At}
-use Rattle.composite_expand.specs.declared.made.Body.{Body}
-use Rattle.composite_expand.specs.declared.made.Input.{Input}
-use Rattle.composite_expand.specs.Inputs.{AreInputs, IsBefore, ShowsBody}
-use Rattle.composite_expand.specs.Reading.{AreKept, IsBody}
-use Rattle.composite_expand.proofs.Extending.{nested_less, nested_more, shows_less, shows_more, stand_less, stand_more}
+use Rattle.composite_tables.specs.declared.made.Body.{Body}
+use Rattle.composite_tables.specs.declared.made.Input.{Input}
+use Rattle.composite_tables.specs.Inputs.{AreInputs, IsBefore, ShowsBody, AreKept, IsBody}
+use Rattle.composite_tables.proofs.Extending.{nested_less, nested_more, shows_less, shows_more, stand_less, stand_more}
 
 -- a main composite has no inputs
 pub kept_main : (unit : List Definition) (c : At Composite) → slice_get (composites unit) c.place ≡ Some c.what → c.what.inputs ≡ []

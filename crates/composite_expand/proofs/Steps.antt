@@ -18,17 +18,16 @@ use Rattle.language_model.specs.Expansion.{Inlined, if_declared, expanded, expan
 use Rattle.language_model.specs.Invoking.{Target, Operator, Body, Nothing, target_of, undeclared, fits_head}
 use Rattle.language_model.specs.Recursion.{HasNoRecursion, composite_callers}
 use Rattle.language_model.specs.Scopes.{At}
-use Rattle.composite_expand.specs.declared.made.Body as M
-use Rattle.composite_expand.specs.declared.made.Input.{Input}
+use Rattle.composite_tables.specs.declared.made.Body as M
+use Rattle.composite_tables.specs.declared.made.Input.{Input}
 use Rattle.composite_expand.specs.declared.walk.Opened.{Opened}
 use Rattle.composite_expand.specs.declared.walk.Walk.{Walk}
-use Rattle.composite_expand.specs.Inputs.{Shows, AreNested, AreInputs, InputsStand}
-use Rattle.composite_expand.proofs.Extending.{nested_more, nested_less, stand_more, stand_less, shows_more, shows_less}
+use Rattle.composite_tables.specs.Inputs.{Shows, AreNested, AreInputs, InputsStand, IsBody}
+use Rattle.composite_tables.proofs.Extending.{nested_more, nested_less, stand_more, stand_less, shows_more, shows_less}
 use Rattle.language_model.proofs.Inlining.{found}
 use Rattle.language_model.proofs.Nesting.{invoked_is_call}
 use Rattle.std.proofs.lemmas.Option.{slice_get_within, slice_get_read}
 use Rattle.std.proofs.lemmas.Bool.{eqb-true, lt-leb, le-leb, le-ltb, lt-ltb}
-use Rattle.composite_expand.specs.Reading.{IsBody}
 use Rattle.composite_expand.specs.Walking.{Keeps, IsIdle}
 use Rattle.composite_expand.specs.Walks.{AreMarks, IsOn, Front, IsFurther, IsNew, IsAt, IsOver, OpensWith, GoesOn, work_left}
 use Rattle.composite_expand.proofs.Way.{Holds, front, refused, passed_over, added, ended, back, closed_grown, closed_idle, opened, is_deep}

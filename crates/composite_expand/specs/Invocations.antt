@@ -1,24 +1,18 @@
--- What an invocation names and gives, as the code has it.
-use Rattle.std.specs.Prelude.{◌≡◌, ℕ, Bool, true, false, ◌&&◌, not, List, [], ◌∷◌, map, flat_map, filter, if◌then◌else◌, Option, Some, None}
+-- What an invocation names, as the code has it.
+use Rattle.std.specs.Prelude.{ℕ, not, List, [], ◌∷◌, flat_map, filter, if◌then◌else◌, Option}
 use Rattle.std.specs.Borrow.{Bor}
-use Rattle.std.specs.List.{list_all}
 use Rattle.std.specs.Option.{option_map}
 use Rattle.spl_tree.specs.declared.expression.Placed.{Placed}
 use Rattle.spl_tree.specs.declared.unit.Composite.{Composite}
 use Rattle.spl_tree.specs.declared.unit.Definition.{Definition}
 use Rattle.spl_tree.specs.declared.unit.Invocation.{Invocation}
-use Rattle.spl_tree.specs.declared.unit.Parameter.{Parameter}
 use Rattle.spl_tree.specs.Grammar.{placed}
-use Rattle.language_model.specs.Composites.{is_empty}
-use Rattle.language_model.specs.Declarations.{repeated_names}
-use Rattle.language_model.specs.Invoking.{Operator, Body, Nothing, target_of, is_nothing, is_argument, is_parameter, is_readable}
+use Rattle.language_model.specs.Invoking.{Operator, Body, Nothing, target_of, is_nothing, is_parameter, is_readable}
 use Rattle.language_model.specs.Mentions.{Mentions, dollars}
 use Rattle.language_model.specs.Invoking as I
 use Rattle.language_model.specs.Scopes.{at_place}
 use Rattle.composite_expand.specs.declared.invoking.Target.{Target}
 use Rattle.composite_expand.specs.declared.invoking.Target.TheVariants as T
-use Rattle.composite_expand.specs.declared.tables.Names.{Names}
-use Rattle.composite_expand.specs.Names.{StandFor}
 
 abbrev pub seen : Target → I.Target
 seen (T.Operator kind) = Operator kind
@@ -43,15 +37,3 @@ undeclared_parameters c mentions = filter (λ n. not (is_parameter c n.what)) (d
 -- a name that is found, as the definitions see it
 abbrev pub named : Option (Placed (Bor (List ℕ))) → Option (Placed (List ℕ))
 named found = option_map (λ n. placed n.at n.what.now) found
-
-abbrev pub argument_names : List Parameter → List (List ℕ)
-argument_names arguments = map (λ a. a.name.what) arguments
-
--- each argument fits, and none is given twice
-abbrev pub fit_once : Composite → List Parameter → Bool
-fit_once c arguments = list_all (is_argument c) arguments && is_empty (repeated_names (map (λ a. a.name) arguments))
-
--- the names of the arguments are given, where they fit and none is given twice
-abbrev pub FitArguments : Composite → List Parameter → Option Names → Type 0
-FitArguments c arguments None = fit_once c arguments ≡ false
-FitArguments c arguments (Some given) = (fit_once c arguments ≡ true) × StandFor given (argument_names arguments)

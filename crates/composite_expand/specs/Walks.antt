@@ -13,10 +13,10 @@ use Rattle.language_model.specs.Scopes.{At}
 use Rattle.language_model.proofs.Nesting.{IsPath}
 use Rattle.composite_expand.specs.declared.answer.ExpandAnswer.{ExpandAnswer}
 use Rattle.composite_expand.specs.declared.answer.ExpandAnswer.TheVariants as X
-use Rattle.composite_expand.specs.declared.made.Input.{Input}
+use Rattle.composite_tables.specs.declared.made.Input.{Input}
 use Rattle.composite_expand.specs.declared.walk.Opened.{Opened}
 use Rattle.composite_expand.specs.declared.walk.Walk.{Walk}
-use Rattle.composite_expand.specs.Inputs.{Shows, AreNested, AreInputs, InputsStand}
+use Rattle.composite_tables.specs.Inputs.{Shows, AreNested, AreInputs, InputsStand}
 use Rattle.composite_expand.specs.Walking.{Frame, resumed, Keeps, IsIdle}
 
 -- ---- the bodies on the way

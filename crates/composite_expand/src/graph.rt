@@ -5,17 +5,15 @@ ghost use Rattle.language_model.specs.Flat.{flat_from};
 ghost use Rattle.language_model.specs.Scopes.{At};
 ghost use Rattle.spl_tree.specs.declared.unit.Composite.{Composite};
 ghost use Rattle.composite_expand.specs.Expands.{Expands, IsAnswer};
+ghost use Rattle.composite_expand.specs.Waiting.{IsFirstWaiting};
 ghost use Rattle.composite_expand.specs.Walks.{IsExpanded};
+ghost use Rattle.composite_tables.specs.Numbered.{IsNumbered};
 
 use crate::answer::ExpandAnswer;
-use crate::declarations::declared_twice;
-use crate::files::same_file;
-use crate::main_composite::main_of;
-use crate::numbering::number_streams;
-use crate::order::{first_outside, topological_order};
-use crate::recursion::first_recursion;
-use crate::tables::Composites;
 use crate::walk::{Walk, expand_main};
+use composite_tables::{Composites, Numbered, main_of, number_streams};
+use cycle_rules::{first_outside, first_recursion, topological_order};
+use duplicate_rules::{declared_twice, same_file};
 use language_model::{ExpansionRefusal, Operation};
 use spl_tree::{Graph, Placed, Unit};
 use spl_value::{Items, Name, NoMemory};
@@ -35,14 +33,9 @@ fn labels_of(alloc: Global, ops: &[Operation]) -> Result<Items<Placed<Name>>, No
     Ok(labels)
 }
 
-/// The graph of what the main composite came to.
-fn graph_of(
-    alloc: Global,
-    composites: &Composites<'_>,
-    names: &[Name],
-    walk: Walk,
-) -> Result<Graph, ExpandAnswer>
-    ensures { (main : At Composite) → IsExpanded composites.now.unit.now main walk → IsAnswer (flat_from composites.now.unit.now names.now main) result }
+/// The operators, streams and bodies of what the main composite came to.
+fn numbered(alloc: Global, composites: &Composites<'_>, walk: Walk) -> Result<Numbered, NoMemory>
+    ensures { IfOk result (λ parts. (main : At Composite) (is : IsExpanded composites.now.unit.now main walk) → IsNumbered is.made parts) }
 {
     let Walk {
         opened: _,
@@ -53,20 +46,37 @@ fn graph_of(
         connections: _,
         idle: _,
     } = walk;
-    let mut labels = labels_of(alloc, ops.as_slice())?;
-    let parts = number_streams(alloc, composites, bodies.as_slice(), inputs.as_slice(), ops)?;
+    number_streams(alloc, composites, bodies.as_slice(), inputs.as_slice(), ops)
+}
+
+/// The label of the first operator that has no place in an order, of those whose labels these are.
+fn first_waiting(mut labels: Items<Placed<Name>>, order: &[u32]) -> Option<Placed<Name>>
+    ensures { IsFirstWaiting labels order.now result }
+{
+    match first_outside(order, labels.len()) {
+        Some(op) => Some(labels.remove(op)),
+        None => None,
+    }
+}
+
+/// The graph of what the main composite came to.
+fn graph_of(
+    alloc: Global,
+    composites: &Composites<'_>,
+    names: &[Name],
+    walk: Walk,
+) -> Result<Graph, ExpandAnswer>
+    ensures { (main : At Composite) → IsExpanded composites.now.unit.now main walk → IsAnswer (flat_from composites.now.unit.now names.now main) result }
+{
+    let labels = labels_of(alloc, walk.ops.as_slice())?;
+    let parts = numbered(alloc, composites, walk)?;
     let topo = topological_order(alloc, parts.streams.as_slice(), parts.ops.as_slice())?;
-    if let Some(op) = first_outside(topo.as_slice(), labels.len()) {
-        return Err(ExpandAnswer::Refused(ExpansionRefusal::Loop(labels.remove(op))));
+    if let Some(name) = first_waiting(labels, topo.as_slice()) {
+        return Err(ExpandAnswer::Refused(ExpansionRefusal::Loop(name)));
     }
     let expansions = parts.expansions.as_slice();
-    if let Some(file) = same_file(
-        alloc,
-        composites.unit,
-        names,
-        expansions,
-        parts.ops.as_slice(),
-    )? {
+    let ops = parts.ops.as_slice();
+    if let Some(file) = same_file(alloc, composites.unit, names, expansions, ops)? {
         return Err(ExpandAnswer::Refused(ExpansionRefusal::SameFile(file)));
     }
     Ok(Graph {

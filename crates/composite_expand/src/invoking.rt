@@ -1,16 +1,14 @@
-//! What an invocation names, and whether it fits the head of the composite that it invokes.
-ghost use Rattle.std.specs.Prelude.{◌≡◌, ◌&&◌, ◌||◌, ◌++◌, List, ℕ, IfOk, filter, flat_map, not, is_some};
+//! What an invocation names.
+ghost use Rattle.std.specs.Prelude.{◌≡◌, ◌++◌, IfOk, flat_map};
 ghost use Rattle.std.specs.Option.{option_copied};
-ghost use Rattle.std.specs.List.{list_all};
 ghost use Rattle.language_model.specs.Declarations.{first_of};
-ghost use Rattle.language_model.specs.Invoking.{target_of, kind_named, is_readable, is_among, stream_names, undeclared, has_arguments_alone, fit_parameters, fits_head};
+ghost use Rattle.language_model.specs.Invoking.{target_of, kind_named, undeclared};
 ghost use Rattle.language_model.specs.Mentions.{clause_mentions};
-ghost use Rattle.composite_expand.specs.Names.{StandFor};
-ghost use Rattle.composite_expand.specs.Invocations.{seen, named, streams_read, undeclared_operator, undeclared_parameters, unreadable, FitArguments};
+ghost use Rattle.composite_expand.specs.Invocations.{seen, named, streams_read, undeclared_operator, undeclared_parameters, unreadable};
 
-use crate::mentions::{Mention, of_invocation};
-use crate::tables::{Composites, Names, Scope};
-use spl_tree::{Clauses, CompositeParameter, InputPort, Invocation, OpKind, Parameter, Placed};
+use composite_tables::{Composites, Scope};
+use cycle_rules::{Mention, of_invocation};
+use spl_tree::{Clauses, InputPort, Invocation, OpKind, Placed};
 use spl_value::{Name, NoMemory};
 use std::alloc::Global;
 
@@ -142,86 +140,4 @@ pub(crate) fn undeclared<'u>(
         })),
         None => undeclared_parameter(alloc, scope, &invocation.clauses),
     }
-}
-
-/// The names of arguments that each have one value and are of a parameter of the head, where none is
-/// given twice.
-fn fit_arguments<'u>(
-    alloc: Global,
-    head: &Scope<'_>,
-    arguments: &'u [Parameter],
-) -> Result<Option<Names<'u>>, NoMemory>
-    ensures { IfOk result (λ given. FitArguments head.now.composite.now arguments.now given) }
-{
-    let mut given = Names::new(alloc);
-    for argument in arguments {
-        let name = argument.name.what.as_slice();
-        if argument.values.len() != 1 || !head.has_parameter(name) || given.has(name) {
-            return Ok(None);
-        }
-        given.add(name)?;
-    }
-    Ok(Some(given))
-}
-
-/// Whether each parameter has a default or is given.
-fn have_values(parameters: &[CompositeParameter], given: &Names<'_>) -> bool
-    ensures { (names : List (List ℕ)) → StandFor given.now names → result ≡ list_all (λ p. is_some p.default || is_among p.name.what names) parameters.now }
-{
-    for parameter in parameters {
-        if parameter.default.is_none() && !given.has(parameter.name.what.as_slice()) {
-            return false;
-        }
-    }
-    true
-}
-
-/// Whether arguments fit the parameters of a head.
-fn fit_parameters(
-    alloc: Global,
-    head: &Scope<'_>,
-    arguments: &[Parameter],
-) -> Result<bool, NoMemory>
-    ensures { IfOk result (λ fit. fit ≡ fit_parameters head.now.composite.now arguments.now) }
-{
-    match fit_arguments(alloc, head, arguments)? {
-        Some(given) => Ok(have_values(head.composite.parameters.as_slice(), &given)),
-        None => Ok(false),
-    }
-}
-
-/// Whether a composite makes each output of its head.
-fn makes_outputs(head: &Scope<'_>) -> bool
-    ensures { result ≡ list_all (λ p. is_among p.name.what (stream_names head.now.composite.now)) head.now.composite.now.outputs }
-{
-    let outputs = head.composite.outputs.as_slice();
-    outputs
-        .iter()
-        .all(|port| head.makes(port.name.what.as_slice()))
-}
-
-fn has_arguments_alone(clauses: &Clauses) -> bool
-    ensures { result ≡ has_arguments_alone clauses.now }
-{
-    clauses.logic.is_none() && clauses.window.is_none() && clauses.output.is_none()
-}
-
-/// Whether an invocation fits the head of a composite: its ports and arguments; and the composite makes
-/// each of its outputs.
-pub(crate) fn fits_head(
-    alloc: Global,
-    head: &Scope<'_>,
-    invocation: &Invocation,
-) -> Result<bool, NoMemory>
-    ensures { IfOk result (λ fits. fits ≡ fits_head head.now.composite.now invocation.now) }
-{
-    let composite = head.composite;
-    if invocation.outputs.len() != composite.outputs.len()
-        || invocation.inputs.len() != composite.inputs.len()
-        || !has_arguments_alone(&invocation.clauses)
-    {
-        return Ok(false);
-    }
-    let fit = fit_parameters(alloc, head, invocation.clauses.parameters.as_slice())?;
-    Ok(fit && makes_outputs(head))
 }

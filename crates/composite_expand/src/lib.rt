@@ -3,25 +3,9 @@
 #![tactic(auto)]
 
 mod answer;
-mod calls;
-mod declarations;
-mod files;
 mod graph;
-mod inputs;
 mod invoking;
-mod made;
-mod main_composite;
-mod mentions;
-mod numbering;
-mod order;
-mod place_set;
-mod recursion;
-mod sites;
-mod sources;
-mod tables;
 mod walk;
 
 pub use answer::ExpandAnswer;
-pub use declarations::declared_twice;
 pub use graph::expand;
-pub use recursion::first_recursion;

@@ -16,11 +16,10 @@ ghost use Rattle.composite_expand.specs.Walking.{IsIdle};
 ghost use Rattle.composite_expand.specs.Walks.{IsFurther, IsAt, IsOver, IsOn, IsGoing, OpensWith, GoesOn, Refuses, Starts, IsExpanded};
 
 use crate::answer::ExpandAnswer;
-use crate::inputs::{connections, inputs_of};
-use crate::invoking::{Target, fits_head, target_of, undeclared};
-use crate::made::{Body, Input};
-use crate::sources::sources_by_port;
-use crate::tables::{Composites, Scope};
+use crate::invoking::{Target, target_of, undeclared};
+use composite_tables::{
+    Body, Composites, Input, Scope, connections, fits_head, inputs_of, sources_by_port,
+};
 use language_model::{ExpansionRefusal, Operation};
 use spl_tree::{Invocation, OpKind, Placed, Site};
 use spl_value::{Items, Name, NoMemory};
@@ -33,7 +32,7 @@ const MOST_OPERATORS: usize = 256;
 const TOO_MANY_CONNECTIONS: u32 = 1 << 30;
 
 /// A body that is being expanded.
-#[derive(Clone, Copy, Debug, PartialEq, Eq)]
+#[derive(Clone, Copy)]
 pub(crate) struct Opened {
     /// The place of its composite.
     pub(crate) composite: u32,
@@ -383,9 +382,9 @@ fn no_marks(alloc: Global, count: u32) -> Result<Items<bool>, NoMemory>
     Ok(marks)
 }
 
-/// The way with the main composite alone, which is at that place.
-fn begun(alloc: Global, composites: &Composites<'_>, main: u32) -> Result<Walk, NoMemory>
-    ensures { IfOk result (λ walk. (m : At Composite) → Starts composites.now.unit.now main m → IsOn composites.now.unit.now m walk (reverse walk.opened)) }
+/// The body of the main composite, which is at that place, where nothing of it was expanded yet.
+fn main_opened(alloc: Global, main: u32) -> Result<Items<Opened>, NoMemory>
+    ensures { IfOk result (λ opened. opened ≡ record { composite = main; number = 0; next = 0; prefix = 0; ops = 0 } ∷ []) }
 {
     let mut opened = Items::new(alloc);
     opened.push(Opened {
@@ -395,13 +394,37 @@ fn begun(alloc: Global, composites: &Composites<'_>, main: u32) -> Result<Walk, 
         prefix: 0,
         ops: 0,
     })?;
+    Ok(opened)
+}
+
+fn main_body(alloc: Global, main: u32) -> Result<Items<Body>, NoMemory>
+    ensures { IfOk result (λ bodies. bodies ≡ record { composite = main; site = None } ∷ []) }
+{
     let mut bodies = Items::new(alloc);
     bodies.push(Body {
         composite: main,
         site: None,
     })?;
+    Ok(bodies)
+}
+
+/// The main composite has no inputs.
+fn main_inputs(alloc: Global) -> Result<Items<Items<Input>>, NoMemory>
+    ensures { IfOk result (λ inputs. inputs ≡ [] ∷ []) }
+{
     let mut inputs = Items::new(alloc);
     inputs.push(Items::new(alloc))?;
+    Ok(inputs)
+}
+
+/// The way with the main composite alone, which is at that place.
+fn begun(alloc: Global, composites: &Composites<'_>, main: u32) -> Result<Walk, NoMemory>
+    ensures { IfOk result (λ walk. (m : At Composite) → Starts composites.now.unit.now main m → IsOn composites.now.unit.now m walk (reverse walk.opened)) }
+{
+    let opened = main_opened(alloc, main)?;
+    let bodies = main_body(alloc, main)?;
+    let inputs = main_inputs(alloc)?;
+    let idle = no_marks(alloc, composites.count())?;
     Ok(Walk {
         opened,
         names: Vec::new(alloc),
@@ -409,7 +432,7 @@ fn begun(alloc: Global, composites: &Composites<'_>, main: u32) -> Result<Walk, 
         bodies,
         inputs,
         connections: 0,
-        idle: no_marks(alloc, composites.count())?,
+        idle,
     })
 }
 

@@ -1,5 +1,0 @@
-use Rattle.composite_expand.proofs.Calling.{Noted}
-use Rattle.composite_expand.proofs.calls.callers_of.Given as goal
-
-abbrev pub invariant-loop-from : goal.invariant-loop-from
-invariant-loop-from l = Noted l.calls l.callers.items l.from

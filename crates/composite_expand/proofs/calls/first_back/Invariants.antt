@@ -1,8 +1,0 @@
-use Rattle.std.proofs.Common.{◌≡◌, ◌<◌, ℕ, Some}
-use Rattle.std.specs.Prelude.{slice_get}
-use Rattle.spl_tree.specs.declared.expression.Placed.{Placed}
-use Rattle.composite_expand.specs.Backs.{BackBy}
-use Rattle.composite_expand.proofs.calls.first_back.Given as goal
-
-abbrev pub invariant-loop-call : goal.invariant-loop-call
-invariant-loop-call l = (i : ℕ) (c : Placed ℕ) → i < l.call-index → slice_get l.calls i ≡ Some c → BackBy l.leading.places.items l.place c → ⊥

@@ -1,7 +1,0 @@
-use Rattle.std.proofs.Common.{ℕ, take}
-use Rattle.composite_expand.specs.Standing.{Stands}
-use Rattle.composite_expand.specs.Callers.{Calling}
-use Rattle.composite_expand.proofs.calls.is_ready.Given as goal
-
-abbrev pub invariant-loop-call : goal.invariant-loop-call
-invariant-loop-call l = (to : ℕ) → Calling (take l.call-index l.calls) to → Stands l.taken.places.items to

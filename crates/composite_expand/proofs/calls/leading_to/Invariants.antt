@@ -1,9 +1,0 @@
-use Rattle.std.proofs.Common.{◌-◌, length}
-use Rattle.composite_expand.proofs.Reaching.{Searched}
-use Rattle.composite_expand.proofs.calls.leading_to.Given as goal
-
-abbrev pub invariant-told : goal.invariant-told
-invariant-told l = Searched l.callers l.place l.found l.told
-
-abbrev pub decreases-told : goal.decreases-told
-decreases-told l = length l.callers - l.told

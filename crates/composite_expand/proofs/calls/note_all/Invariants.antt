@@ -1,6 +1,0 @@
-use Rattle.std.proofs.Common.{take}
-use Rattle.composite_expand.specs.Callers.{NotesAll}
-use Rattle.composite_expand.proofs.calls.note_all.Given as goal
-
-abbrev pub invariant-loop-call : goal.invariant-loop-call
-invariant-loop-call l = NotesAll l.fn.callers.items l.callers.items (take l.call-index l.calls) l.from

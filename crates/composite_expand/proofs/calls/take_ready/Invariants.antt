@@ -1,6 +1,0 @@
-use Rattle.std.proofs.Common.{take}
-use Rattle.composite_expand.specs.Taking.{Takes}
-use Rattle.composite_expand.proofs.calls.take_ready.Given as goal
-
-abbrev pub invariant-loop-place : goal.invariant-loop-place
-invariant-loop-place l = Takes l.calls (take l.place-index l.places) l.fn.taken l.taken

@@ -1,8 +1,0 @@
-use Rattle.std.proofs.Common.{◌≡◌, ◌++◌, drop, map}
-use Rattle.std.specs.Prelude.{flat_map}
-use Rattle.language_model.specs.Declarations.{invocation_names}
-use Rattle.composite_expand.specs.Graphs.{shown}
-use Rattle.composite_expand.proofs.declarations.graphs.add_invocations.Given as goal
-
-abbrev pub invariant-loop-invocation : goal.invariant-loop-invocation
-invariant-loop-invocation l = map shown l.names.items ++ flat_map invocation_names (drop l.invocation-index l.graph) ≡ map shown l.initial.names.items ++ flat_map invocation_names l.graph

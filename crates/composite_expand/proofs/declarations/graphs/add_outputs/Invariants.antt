@@ -1,7 +1,0 @@
-use Rattle.std.proofs.Common.{◌≡◌, ◌++◌, drop, map}
-use Rattle.language_model.specs.Declarations.{OutputPort}
-use Rattle.composite_expand.specs.Graphs.{shown}
-use Rattle.composite_expand.proofs.declarations.graphs.add_outputs.Given as goal
-
-abbrev pub invariant-loop-port : goal.invariant-loop-port
-invariant-loop-port l = map shown l.names.items ++ map (λ x. OutputPort x.name) (drop l.port-index l.ports) ≡ map shown l.initial.names.items ++ map (λ x. OutputPort x.name) l.ports

@@ -1,6 +1,0 @@
-use Rattle.std.proofs.Common.{length, take}
-use Rattle.composite_expand.specs.Makers.{AreRows}
-use Rattle.composite_expand.proofs.order.rows.Given as goal
-
-abbrev pub invariant-loop-op : goal.invariant-loop-op
-invariant-loop-op l = AreRows l.streams (length l.ops) (take l.op-index l.ops) l.rows

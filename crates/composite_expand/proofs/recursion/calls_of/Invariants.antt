@@ -1,8 +1,0 @@
-use Rattle.std.proofs.Common.{◌≡◌, map, take}
-use Rattle.language_model.specs.Mentions.{calls}
-use Rattle.composite_expand.specs.Mentioned.{mentions_seen}
-use Rattle.composite_expand.specs.Named.{name_seen}
-use Rattle.composite_expand.proofs.recursion.calls_of.Given as goal
-
-abbrev pub invariant-loop-mention : goal.invariant-loop-mention
-invariant-loop-mention l = map name_seen l.called.items ≡ calls (mentions_seen (take l.mention-index l.mentions))

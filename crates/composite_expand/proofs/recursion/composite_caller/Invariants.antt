@@ -1,7 +1,0 @@
-use Rattle.std.proofs.Common.{◌≡◌, map, take}
-use Rattle.spl_tree.specs.Grammar.{placed}
-use Rattle.composite_expand.specs.Named.{name_seen}
-use Rattle.composite_expand.proofs.recursion.composite_caller.Given as goal
-
-abbrev pub invariant-loop-invocation : goal.invariant-loop-invocation
-invariant-loop-invocation l = map name_seen l.called.items ≡ map (λ i. placed i.at i.operator.what) (take l.invocation-index l.composite.graph)

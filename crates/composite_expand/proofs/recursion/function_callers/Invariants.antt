@@ -1,7 +1,0 @@
-use Rattle.std.proofs.Common.{◌≡◌, take}
-use Rattle.language_model.specs.Recursion.{function_callers}
-use Rattle.composite_expand.specs.Named.{callers_seen}
-use Rattle.composite_expand.proofs.recursion.function_callers.Given as goal
-
-abbrev pub invariant-loop-definition : goal.invariant-loop-definition
-invariant-loop-definition l = callers_seen l.callers.items ≡ function_callers (take l.definition-index l.unit)

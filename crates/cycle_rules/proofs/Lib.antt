@@ -1,0 +1,16 @@
+mod Adding
+mod CallTables
+mod Calling
+mod Cases
+mod Flags
+mod Gets
+mod Leading
+mod Lists
+mod MentionLaws
+mod Noting
+mod Reaching
+mod Snoc
+mod StatementLaws
+mod Takings
+mod Weights
+mod Widening

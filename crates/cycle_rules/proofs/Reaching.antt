@@ -1,0 +1,99 @@
+-- What a search over lists has found.
+use Rattle.std.proofs.Common.{◌≡◌, ◌<◌, ◌≤◌, ◌↔◌, ◌∙◌, ℕ, suc, true, false, List, [], length, get_or, Some, ap, sym, inl, inr, subst, arith, ne_eqb, eqb-true}
+use Rattle.std.proofs.Math.Dec.{eqb}
+use Rattle.std.specs.Prelude.{slice_get}
+use Rattle.std.proofs.lemmas.Option.{slice_get-get_or}
+use Rattle.std.proofs.lemmas.Map.Steps.{length-le_from_distinct_below}
+use Rattle.std.proofs.lemmas.Map.Keys.{IsDistinct-from_apart}
+use Rattle.std.proofs.lemmas.Map.Views.{Contains-from_any}
+use Rattle.cycle_rules.specs.declared.place_set.PlaceSet.{PlaceSet}
+use Rattle.cycle_rules.specs.Standing.{Stands, IsSet, Widens}
+use Rattle.cycle_rules.specs.Callers.{Lists, Reached, near, far}
+use Rattle.cycle_rules.proofs.Gets.{get_within, get_below}
+use Rattle.cycle_rules.proofs.Widening.{here}
+use Rattle.cycle_rules.proofs.Calling.{lt_split}
+
+pub within_marks : (s : PlaceSet) → IsSet s → (i : ℕ) → Stands s.places.items i → i < length s.marks.items
+within_marks s h i st = get_within s.marks.items i true (h.marked i st)
+
+-- numbers below a bound, none twice, are no more than the bound
+pub no_more : (xs : List ℕ) (n : ℕ) → ((k m i : ℕ) → slice_get xs k ≡ Some i → slice_get xs m ≡ Some i → k ≡ m) → ((i : ℕ) → Stands xs i → i < n) → length xs ≤ n
+no_more xs n once within =
+    let apart : (i j d : ℕ) → i < j → j < length xs → eqb (get_or xs i d) (get_or xs j d) ≡ false =
+    λ i j d below last.
+    let at_i : slice_get xs i ≡ Some (get_or xs i d) = slice_get-get_or xs i d (omega arith) in
+    let at_j : slice_get xs j ≡ Some (get_or xs j d) = slice_get-get_or xs j d last in
+    ne_eqb _ _ (λ same. let k : i ≡ j = once i j (get_or xs i d) at_i (at_j ∙ ap Some (sym same)) in absurd (omega arith)) in
+    length-le_from_distinct_below xs n (IsDistinct-from_apart eqb xs apart)
+    (λ q any. let k = Contains-from_any {eq = eqb} eqb-true q xs any in within q (here xs k.0 q (slice_get-get_or xs k.0 q k.1 ∙ ap Some k.2)))
+
+pub places_fit : (s : PlaceSet) → IsSet s → length s.places.items ≤ length s.marks.items
+places_fit s h = no_more s.places.items (length s.marks.items) h.once (within_marks s h)
+
+-- the lists of the first so many that were found are found
+pub record Searched (lists : List (List ℕ)) (from : ℕ) (found : PlaceSet) (told : ℕ) : Type 0 where
+  pub set : IsSet found
+  pub size : length found.marks.items ≡ length lists
+  pub sound : (i : ℕ) → Stands found.places.items i → Reached lists from i
+  pub begun : (i : ℕ) → Lists lists from i → Stands found.places.items i
+  pub told_on : (k j i : ℕ) → k < told → slice_get found.places.items k ≡ Some j → Lists lists j i → Stands found.places.items i
+
+same_list : (lists : List (List ℕ)) (at of : ℕ) (list : List ℕ) → slice_get lists at ≡ Some list → Lists lists at of → Stands list of
+same_list lists at of list e h =
+    let same : h.list ≡ list = let p = h.at_place in cc in
+    subst (λ l. Stands l of) same h.stands
+
+pub first_found : (lists : List (List ℕ)) (from : ℕ) (list : List ℕ) (s t : PlaceSet) → slice_get lists from ≡ Some list
+    → s.places.items ≡ [] → length s.marks.items ≡ length lists → Widens s t list → Searched lists from t 0
+first_found lists from list s t e empty size w = record {
+  set = w.set;
+  size = w.size ∙ size;
+  sound = λ i st. elim (w.only i st) [
+    | inl h ↦ let f = h.is in absurd (omega (arith, get_within s.places.items h.at i h.is, ap length empty))
+    | inr h ↦ near i (record { list = list; at_place = e; stands = h })
+  ];
+  begun = λ i h. w.came i (same_list lists from i list e h);
+  told_on = λ k j i below. absurd (omega arith);
+}
+
+still : (s t : PlaceSet) (ps : List ℕ) → Widens s t ps → (k j : ℕ) → k < length s.places.items → slice_get t.places.items k ≡ Some j → slice_get s.places.items k ≡ Some j
+still s t ps w k j below e =
+    let x = get_below s.places.items k below in
+    let f = w.kept k x.0 x.1 in
+    let same : x.0 ≡ j = cc in
+    x.1 ∙ ap Some same
+
+pub more_found : (lists : List (List ℕ)) (from : ℕ) (s t : PlaceSet) (n j : ℕ) (list : List ℕ) → slice_get s.places.items n ≡ Some j → slice_get lists j ≡ Some list
+    → Searched lists from s n → Widens s t list → Searched lists from t (suc n)
+more_found lists from s t n j list at_n at_j h w = record {
+  set = w.set;
+  size = w.size ∙ h.size;
+  sound = λ i st. elim (w.only i st) [
+    | inl g ↦ h.sound i g
+    | inr g ↦ far j i (h.sound j (here s.places.items n j at_n)) (record { list = list; at_place = at_j; stands = g })
+  ];
+  begun = λ i l. let g = h.begun i l in here t.places.items g.at i (w.kept g.at i g.is);
+  told_on = λ k m i below e l.
+      let bound = get_within s.places.items n j at_n in
+      elim (lt_split k n below) [
+        | inl b ↦ let g = h.told_on k m i b (still s t list w k m (omega arith) e) l in here t.places.items g.at i (w.kept g.at i g.is)
+        | inr b ↦
+            let at_m : slice_get s.places.items k ≡ Some m = still s t list w k m (omega arith) e in
+            let same : m ≡ j = let p : slice_get s.places.items k ≡ slice_get s.places.items n = ap (λ x. slice_get s.places.items x) b in cc in
+            w.came i (same_list lists j i list at_j (subst (λ x. Lists lists x i) same l))
+      ];
+}
+
+all_reached : (lists : List (List ℕ)) (from : ℕ) (s : PlaceSet) (n : ℕ) → length s.places.items ≤ n → Searched lists from s n
+    → (i : ℕ) → Reached lists from i → Stands s.places.items i
+all_reached lists from s n past h i (near i' l) = h.begun i l
+all_reached lists from s n past h i (far j i' r l) =
+    let g = all_reached lists from s n past h j r in
+    h.told_on g.at j i (omega (arith, get_within s.places.items g.at j g.is)) g.is l
+
+pub all_found : (lists : List (List ℕ)) (from : ℕ) (s : PlaceSet) (n : ℕ) → length s.places.items ≤ n → Searched lists from s n
+    → (i : ℕ) → Stands s.places.items i ↔ Reached lists from i
+all_found lists from s n past h i = (h.sound i, all_reached lists from s n past h i)
+
+pub found_below : (lists : List (List ℕ)) (from : ℕ) (s : PlaceSet) (n k i : ℕ) → slice_get s.places.items k ≡ Some i → Searched lists from s n → i < length lists
+found_below lists from s n k i e h = let b = within_marks s h.set i (here s.places.items k i e) in subst (λ m. i < m) h.size b

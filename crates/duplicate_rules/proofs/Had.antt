@@ -1,0 +1,45 @@
+-- Files that are had already, by those before them.
+use Rattle.std.specs.Prelude.{◌≡◌, ℕ, Bool, true, false, ◌&&◌, ◌||◌, List, [], ◌∷◌, map, reverse}
+use Rattle.std.specs.List.{list_any}
+use Rattle.std.specs.Str.{bytes_eq}
+use Rattle.std.proofs.Common.{refl, ap, sym, ◌∙◌}
+use Rattle.std.proofs.lemmas.List.{reverse-append}
+use Rattle.std.proofs.lemmas.List.Folds.{list_any-append}
+use Rattle.language_model.specs.Declarations.{is_same}
+use Rattle.language_model.specs.SinkFiles.{OpFile, is_had}
+use Rattle.duplicate_rules.specs.declared.files.UsedFile.{UsedFile}
+use Rattle.duplicate_rules.specs.Seen.{file_seen}
+
+-- ---- those before a file
+
+swap : (a b : Bool) → (a || (b || false)) ≡ (b || a)
+swap true true = refl
+swap true false = refl
+swap false true = refl
+swap false false = refl
+
+any_reverse : {A : Type 0} (p : A → Bool) (xs : List A) → list_any p (reverse xs) ≡ list_any p xs
+any_reverse p [] = refl
+any_reverse p (x ∷ xs) =
+    ap (list_any p) (reverse-append (x ∷ []) xs)
+    ∙ list_any-append p (reverse xs) (x ∷ [])
+    ∙ ap (λ b. b || (p x || false)) (any_reverse p xs)
+    ∙ swap (list_any p xs) (p x)
+
+any_map : {A B : Type 0} (p : B → Bool) (f : A → B) (xs : List A) → list_any p (map f xs) ≡ list_any (λ x. p (f x)) xs
+any_map p f [] = refl
+any_map p f (x ∷ xs) = ap (λ b. p (f x) || b) (any_map p f xs)
+
+-- the files so far, the last one first
+abbrev pub before : List UsedFile → List OpFile
+before files = reverse (map file_seen files)
+
+pub had_is : (names : List (List ℕ)) (files : List UsedFile) (file : UsedFile) (shared : Bool)
+    → (file.sink && list_any (λ n. bytes_eq n file.bytes.now) names) ≡ false
+    → shared ≡ list_any (λ g. bytes_eq g.bytes.now file.bytes.now && (file.sink || g.sink)) files
+    → shared ≡ is_had names (before files) (file_seen file)
+had_is names files file shared n s =
+    s
+    ∙ sym (any_reverse (λ g. is_same g.file (file_seen file).file && (file.sink || g.sink)) (map file_seen files)
+    ∙ any_map (λ g. is_same g.file (file_seen file).file && (file.sink || g.sink)) file_seen files)
+    ∙ ap (λ b. b || list_any (λ g. is_same g.file (file_seen file).file && (file.sink || g.sink)) (before files)) (sym n)

@@ -1,0 +1,12 @@
+mod Best
+mod DefinitionNames
+mod Firsts
+mod GraphNames
+mod Had
+mod Lists
+mod NameRows
+mod Rows
+mod SetWeights
+mod StatementSets
+mod Texts
+mod TypeSets

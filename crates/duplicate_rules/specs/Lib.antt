@@ -1,0 +1,5 @@
+pub mod Earliest
+pub mod Graphs
+pub mod NamesBefore
+pub mod Seen
+pub mod Variables

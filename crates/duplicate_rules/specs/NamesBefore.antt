@@ -1,0 +1,33 @@
+-- What a set of names stands for.
+use Rattle.std.specs.Prelude.{◌≡◌, ℕ, Bool, not, List, ◌∷◌, Option}
+use Rattle.std.specs.List.{list_any, cons_option}
+use Rattle.std.specs.Str.{bytes_eq}
+use Rattle.std.specs.Borrow.{Bor}
+use Rattle.std.specs.HashSet.{contains}
+use Rattle.language_model.specs.Declarations.{Name, is_same, repeated_after}
+use Rattle.duplicate_rules.specs.declared.declarations.names.NamesBefore.{NamesBefore}
+
+abbrev pub same_bytes : Bor (List ℕ) → Bor (List ℕ) → Bool
+same_bytes x y = bytes_eq x.now y.now
+
+-- it has the names that stand before, and no other
+abbrev pub Hold : NamesBefore → List Name → Type 0
+Hold names before = (q : Bor (List ℕ)) → contains same_bytes names.names q ≡ list_any (λ m. bytes_eq m.what q.now) before
+
+-- whether an equal one stands before
+abbrev pub Has : Name → List Name → Bool
+Has n before = list_any (λ m. is_same m n) before
+
+-- a name is added where no equal one stands before, and stands before from then on
+abbrev pub Adds : List Name → Name → Bool → NamesBefore → Type 0
+Adds before n added names = (added ≡ not (Has n before)) × Hold names (n ∷ before)
+
+-- the names of a row that stand again, behind those that stand before
+abbrev pub again : List Name → List Name → List Name
+again before names = repeated_after (λ before n. Has n before) before names
+
+-- the next name of a row, if there is one, is found where it stands again, and the rest of the row is left
+abbrev pub Passes : NamesBefore → Option Name → Option Name → NamesBefore → Type 0
+Passes old own found new =
+    (before : List Name) → Hold old before
+    → (after : List Name) × Hold new after × ((rest : List Name) → again before (cons_option own rest) ≡ cons_option found (again after rest))

@@ -1,0 +1,252 @@
+//! The files of sources and sinks, and the first that a sink has together with another operator.
+ghost use Rattle.std.specs.Prelude.{◌≡◌, [], map, flat_map, reverse, length, codes, List, ℕ, IfOk, ◌&&◌, ◌||◌};
+ghost use Rattle.std.specs.List.{list_any};
+ghost use Rattle.std.specs.Option.{option_copied, option_map, option_to_list};
+ghost use Rattle.std.specs.Str.{bytes_eq};
+ghost use Rattle.language_model.specs.Declarations.{first_of, repeated};
+ghost use Rattle.language_model.specs.SinkFiles.{value_named, default_named, only_value, text_of, dollar_text, own_text, text_in, file_of, op_file, is_had, Text};
+ghost use Rattle.duplicate_rules.specs.Seen.{form_text, text_seen, file_seen};
+
+use crate::sites::Sites;
+use spl_tree::{
+    CompositeParameter, Expansion, Expr, ExprKind, Op, OpKind, Parameter, Placed, Unit,
+};
+use spl_value::{Items, Name, NoMemory};
+use std::alloc::Global;
+
+/// The first file that an operator may not have, at its invocation: of a sink one of the names of the
+/// command line or the file of an operator before it, of a source the file of a sink before it.
+///
+/// Each file is compared with all before it, which are few: a program has at most some hundred
+/// operators.
+pub fn same_file(
+    alloc: Global,
+    unit: &Unit,
+    names: &[Name],
+    expansions: &[Expansion],
+    ops: &[Op],
+) -> Result<Option<Placed<Name>>, NoMemory>
+    ensures { IfOk result (λ found. found ≡ first_of (map (λ f. f.file)
+        (repeated (is_had names.now) (flat_map (op_file unit.now expansions.now) ops.now)))) }
+{
+    let sites = Sites::new(alloc, unit, expansions)?;
+    let mut files = Vec::new(alloc);
+    let found = first_had(&sites, names, ops, &mut files)?;
+    copied(alloc, found)
+}
+
+/// The first such file. The files that stand before it are added to those, of which there is none.
+fn first_had<'a>(
+    sites: &Sites<'a>,
+    names: &[Name],
+    ops: &[Op],
+    files: &mut Vec<UsedFile<'a>>,
+) -> Result<Option<UsedFile<'a>>, NoMemory>
+    requires { files.old.items ≡ [] }
+    ensures { IfOk result (λ found. option_map (λ f. (file_seen f).file) found ≡ first_of (map (λ f. f.file)
+        (repeated (is_had names.now) (flat_map (op_file sites.now.unit.now sites.now.expansions.now) ops.now)))) }
+{
+    for op in ops {
+        if let Some(file) = file_of_op(sites, op) {
+            if is_had_already(names, files.as_slice(), &file) {
+                return Ok(Some(file));
+            }
+            files.push(file)?;
+        }
+    }
+    Ok(None)
+}
+
+/// A file with a copy of its name, at the invocation of its operator.
+fn copied(alloc: Global, found: Option<UsedFile>) -> Result<Option<Placed<Name>>, NoMemory>
+    ensures { IfOk result (λ copy. copy ≡ option_map (λ f. (file_seen f).file) found.entry) }
+{
+    match found {
+        Some(file) => {
+            let what = Items::from_slice(alloc, file.bytes)?;
+            Ok(Some(Placed { at: file.at, what }))
+        }
+        None => Ok(None),
+    }
+}
+
+/// The file of a source or sink, at its invocation.
+#[derive(Clone, Copy)]
+struct UsedFile<'a> {
+    sink: bool,
+    at: u32,
+    bytes: &'a [u8],
+}
+
+/// Whether a file may not be had behind those.
+fn is_had_already(names: &[Name], files: &[UsedFile], file: &UsedFile) -> bool
+    ensures { result ≡ is_had names.now (reverse (map file_seen files.now)) (file_seen file.now) }
+{
+    (file.sink && is_named(names, file.bytes)) || is_shared(files, file)
+}
+
+fn is_named(names: &[Name], file: &[u8]) -> bool
+    ensures { result ≡ list_any (λ n. bytes_eq n file.now) names.now }
+{
+    names.iter().any(|name| name.as_slice() == file)
+}
+
+/// Whether one of these is the same file, and one of the two is a sink's.
+fn is_shared(files: &[UsedFile], file: &UsedFile) -> bool
+    ensures { result ≡ list_any (λ g. bytes_eq g.bytes.now file.now.bytes.now && (file.now.sink || g.sink)) files.now }
+{
+    for other in files {
+        if other.bytes == file.bytes && (file.sink || other.sink) {
+            return true;
+        }
+    }
+    false
+}
+
+/// The file of an operator, where it is a source or sink that has one.
+fn file_of_op<'a>(sites: &Sites<'a>, op: &Op) -> Option<UsedFile<'a>>
+    ensures { option_to_list (option_map file_seen result) ≡ op_file sites.now.unit.now sites.now.expansions.now op.now }
+{
+    if !matches!(op.kind, OpKind::FileSink | OpKind::FileSource) {
+        return None;
+    }
+    let bytes = file_of(sites, op)?;
+    Some(UsedFile {
+        sink: op.kind == OpKind::FileSink,
+        at: op.at,
+        bytes,
+    })
+}
+
+/// The text of its parameter `file`.
+fn file_of<'a>(sites: &Sites<'a>, op: &Op) -> Option<&'a [u8]>
+    ensures { option_copied result ≡ file_of sites.now.unit.now sites.now.expansions.now op.now }
+{
+    let invocation = sites.invocation(op.site)?;
+    let value = value_of(invocation.clauses.parameters.as_slice(), b"file")?;
+    text_of(sites, op.site.expansion, value)
+}
+
+/// The text that an expression stands for in the expansion of a number. An argument is meant where
+/// the composite is invoked, so this goes up through the expansions.
+fn text_of<'a>(sites: &Sites<'a>, number: u32, value: &'a Expr) -> Option<&'a [u8]>
+    ensures { option_copied result ≡ text_in (length sites.now.expansions.now) sites.now.unit.now sites.now.expansions.now number value.now }
+{
+    let mut number = number;
+    let mut value = value;
+    let mut left = sites.expansions.len();
+    'expansions: while left > 0 {
+        left -= 1;
+        let expansion = sites.expansion(number)?;
+        let argument = match text_within(sites, expansion, value) {
+            ValueText::Literal(bytes) => return Some(bytes),
+            ValueText::Argument(argument) => argument,
+            ValueText::Nothing => return None,
+        };
+        let site = expansion.site?;
+        number = site.expansion;
+        value = argument;
+    }
+    None
+}
+
+/// What an expression comes to that should be a text.
+enum ValueText<'a> {
+    Literal(&'a [u8]),
+    /// An argument, which is meant where the composite is invoked.
+    Argument(&'a Expr),
+    Nothing,
+}
+
+/// What an expression in an expansion comes to.
+fn text_within<'a>(sites: &Sites<'a>, expansion: &Expansion, value: &'a Expr) -> ValueText<'a>
+    ensures { text_seen result ≡ own_text sites.now.unit.now sites.now.expansions.now expansion.now value.now }
+{
+    match form_of(value) {
+        Form::Literal(bytes) => ValueText::Literal(bytes),
+        Form::Dollar(name) => parameter_text(
+            sites.heads(expansion),
+            sites.arguments(expansion),
+            name,
+        ),
+        Form::Other => ValueText::Nothing,
+    }
+}
+
+/// What a `$` parameter comes to: its argument, or else its default, which may be a further one.
+/// There are no more of them than parameters, unless they lead back to themselves.
+fn parameter_text<'a>(
+    heads: &'a [CompositeParameter],
+    arguments: &'a [Parameter],
+    name: &'a [u8],
+) -> ValueText<'a>
+    ensures { text_seen result ≡ dollar_text (length heads.now) heads.now arguments.now name.now }
+{
+    let mut name = name;
+    let mut left = heads.len();
+    'defaults: while left > 0 {
+        left -= 1;
+        if let Some(argument) = value_of(arguments, name) {
+            return ValueText::Argument(argument);
+        }
+        let Some(default) = default_of(heads, name) else {
+            return ValueText::Nothing;
+        };
+        name = match form_of(default) {
+            Form::Literal(bytes) => return ValueText::Literal(bytes),
+            Form::Dollar(other) => other,
+            Form::Other => return ValueText::Nothing,
+        };
+    }
+    ValueText::Nothing
+}
+
+/// The forms of an expression that may stand for a text.
+enum Form<'a> {
+    Literal(&'a [u8]),
+    Dollar(&'a [u8]),
+    Other,
+}
+
+fn form_of(value: &Expr) -> Form
+    ensures { (dollar : List ℕ → Text) → text_of dollar value.now ≡ form_text dollar result }
+{
+    match value.what.get() {
+        ExprKind::Text(bytes) => Form::Literal(bytes.as_slice()),
+        ExprKind::Dollar(name) => Form::Dollar(name.as_slice()),
+        _ => Form::Other,
+    }
+}
+
+/// The one value of the first parameter of the name.
+fn value_of<'a>(parameters: &'a [Parameter], name: &[u8]) -> Option<&'a Expr>
+    ensures { option_copied result ≡ value_named parameters.now name.now }
+{
+    for parameter in parameters {
+        if parameter.name.what.as_slice() == name {
+            return only(parameter.values.as_slice());
+        }
+    }
+    None
+}
+
+fn only(values: &[Expr]) -> Option<&Expr>
+    ensures { option_copied result ≡ only_value values.now }
+{
+    match values {
+        [value] => Some(value),
+        _ => None,
+    }
+}
+
+/// The default of the first parameter of the name.
+fn default_of<'a>(heads: &'a [CompositeParameter], name: &[u8]) -> Option<&'a Expr>
+    ensures { option_copied result ≡ default_named heads.now name.now }
+{
+    for head in heads {
+        if head.name.what.as_slice() == name {
+            return head.default.as_ref();
+        }
+    }
+    None
+}
