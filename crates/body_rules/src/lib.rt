@@ -10,4 +10,4 @@ mod types;
 pub use bodies::{BodyPurpose, BodySetting, body_of, ends_with_result};
 pub use functions::{functions_of, scope_of_unit};
 pub use leading::leads_back;
-pub use types::{TypeScope, TypeTable, attributes_of, shape_of, type_of_written};
+pub use types::{TypeScope, TypeTable, attributes_of, narrow, shape_of, type_of_written};

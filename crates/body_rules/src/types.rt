@@ -5,6 +5,7 @@ mod places;
 mod refusals;
 mod table;
 
+pub use definitions::narrow;
 pub use finding::{TypeScope, attributes_of, shape_of, type_of_written};
 pub use table::TypeTable;
 

@@ -9,13 +9,15 @@ ghost use Rattle.clause_rules.specs.Programs.{AreInvoked, found_in};
 
 use crate::operators::{Program, operators_checked};
 use body_rules::{functions_of, scope_of_unit};
+use body_sites::Sites;
 use check_laws::keeps_law;
+use dollar_rules::dollar_tables;
 use language_model::{Checked, Part, flat_law};
 use parameter_rules::CompositeTable;
 use spl_tree::{Graph, Unit};
 use spl_value::{Items, Schema};
 use std::alloc::Global;
-use stream_rules::{Sites, StreamTable, dollar_tables};
+use stream_rules::StreamTable;
 use type_rules::TypeAnswer;
 
 /// Why a graph isn't checked: its first refusal by the rules of types and clauses, or the want of memory.

@@ -5,7 +5,7 @@ ghost use Rattle.language_model.specs.FlatLaws.{IsInvoked};
 ghost use Rattle.language_model.specs.FunctionTyping.{unit_scope};
 ghost use Rattle.language_model.specs.Parameters.{table_at};
 ghost use Rattle.parameter_rules.specs.Sites.{site_seen};
-ghost use Rattle.stream_rules.specs.Bodies.{body_seen};
+ghost use Rattle.body_sites.specs.Bodies.{body_seen};
 ghost use Rattle.stream_rules.specs.Streams.{IsTableOf};
 ghost use Rattle.type_rules.specs.Finds.{Finds};
 ghost use Rattle.clause_rules.specs.Operators.{around_seen, site_at};
@@ -14,6 +14,7 @@ ghost use Rattle.clause_rules.specs.Programs.{AreInvoked, IsBody, invocation_in,
 use crate::parts::{Around, Checks, output_rows, part_of};
 use crate::ports::{config_checked, outputs_of, ports_checked, ports_of};
 use crate::refusals::refused;
+use body_sites::{Body, Sites};
 use language_model::{CheckError, Dollar, Given, Part, Policy, Scope};
 use parameter_rules::{
     CompositeTable, ExpressionSite, Follow, is_partitioned, parameters_of, windows_of,
@@ -22,7 +23,7 @@ use spl_tree::{Clauses, Graph, Invocation, Op, Parameter};
 use spl_value::Items;
 use std::alloc::Global;
 use std::mem::replace;
-use stream_rules::{Body, Sites, StreamTable, port_types};
+use stream_rules::{StreamTable, port_types};
 use type_rules::TypeAnswer;
 
 /// A graph with what is found once for all of its operators.

@@ -13,7 +13,7 @@ use Rattle.language_model.specs.Typing.{after}
 use Rattle.type_rules.specs.declared.answer.TypeAnswer.{TypeAnswer}
 use Rattle.type_rules.specs.declared.answer.TypeAnswer.TheVariants.{Refused, Memory}
 use Rattle.type_rules.specs.Finds.{Finds}
-use Rattle.stream_rules.specs.Bodies.{body_seen}
+use Rattle.body_sites.specs.Bodies.{body_seen}
 use Rattle.stream_rules.specs.Outside.{StandsOutside}
 use Rattle.stream_rules.specs.declared.origins.Origin.{Origin}
 use Rattle.stream_rules.proofs.AnswerSteps.{finds_by, stops}

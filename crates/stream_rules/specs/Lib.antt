@@ -1,12 +1,3 @@
-pub mod Mentioned
-pub mod Heads
-pub mod Given
-pub mod Settling
-pub mod Tables
-pub mod Sites
-pub mod Names
-pub mod Bodies
-pub mod SameBodies
 pub mod Origins
 pub mod FoundStreams
 pub mod Streams

@@ -10,7 +10,7 @@ use Rattle.language_model.specs.StreamTypes.{Origin, attributes_within, stream_a
 use Rattle.language_model.specs.Typing.{mismatch}
 use Rattle.stream_rules.specs.declared.origins.Leads.{Leads}
 use Rattle.stream_rules.specs.declared.origins.Origin.{Origin as Kept}
-use Rattle.stream_rules.specs.Bodies.{body_at_sites, body_seen}
+use Rattle.body_sites.specs.Bodies.{body_at_sites, body_seen}
 
 abbrev pub origin_seen : Kept → Origin
 origin_seen o = record { body = body_seen o.body; output = o.output.now }

@@ -9,7 +9,7 @@ use Rattle.language_model.specs.StreamTypes.{Attributes, Body, Passes, head_outp
 use Rattle.language_model.specs.Typing.{Found, after}
 use Rattle.type_rules.specs.declared.answer.TypeAnswer.{TypeAnswer}
 use Rattle.type_rules.specs.declared.answer.TypeAnswer.TheVariants.{Refused, Memory}
-use Rattle.stream_rules.specs.Bodies.{body_seen}
+use Rattle.body_sites.specs.Bodies.{body_seen}
 use Rattle.stream_rules.specs.declared.origins.Origin.{Origin}
 
 -- what the head around a name says, and then those around it

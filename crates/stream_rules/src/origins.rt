@@ -7,9 +7,8 @@ ghost use Rattle.language_model.specs.StreamTypes.{origin_of, stream_leads};
 ghost use Rattle.language_model.specs.Leading.{leads_back};
 ghost use Rattle.stream_rules.specs.Origins.{EndsAt, EndsHere, IsLed, Steps, TellsBack, flag_at, lead_at, origin_in, origin_seen};
 
-use crate::bodies::Body;
-use crate::narrow;
-use crate::sites::Sites;
+use body_rules::narrow;
+use body_sites::{Body, Sites};
 use spl_tree::{Expansion, Graph, OutputStream, Site};
 use spl_value::NoMemory;
 use std::alloc::Global;

@@ -2,7 +2,7 @@
 ghost use Rattle.language_model.specs.Checking.{are_passed, outputs_checked, passes_on, port_types};
 ghost use Rattle.std.specs.Prelude.{◌≡◌};
 ghost use Rattle.type_rules.specs.Finds.{Finds};
-ghost use Rattle.stream_rules.specs.Bodies.{body_seen};
+ghost use Rattle.body_sites.specs.Bodies.{body_seen};
 ghost use Rattle.stream_rules.specs.Streams.{IsTableOf};
 
 mod inputs;
@@ -10,10 +10,9 @@ mod outputs;
 mod same;
 mod standing;
 
-use crate::bodies::Body;
 use crate::refusals::mismatch;
-use crate::sites::Sites;
 use crate::streams::StreamTable;
+use body_sites::{Body, Sites};
 use inputs::ports_attributes;
 use language_model::PortTypes;
 use outputs::outputs_attributes;

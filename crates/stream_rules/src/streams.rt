@@ -11,12 +11,10 @@ ghost use Rattle.stream_rules.specs.FoundStreams.{AreFound};
 
 mod reading;
 
-use crate::bodies::Body;
-use crate::narrow;
 use crate::origins::{Leads, origin_of};
 use crate::refusals::{mismatch, unknown};
-use crate::sites::Sites;
-use body_rules::shape_of;
+use body_rules::{narrow, shape_of};
+use body_sites::{Body, Sites};
 use language_model::CheckRefusal;
 use spl_tree::{Graph, Shape};
 use spl_value::{NoMemory, Schema, SplType};

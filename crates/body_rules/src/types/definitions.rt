@@ -32,8 +32,8 @@ impl<'u> Model for Definitions<'u> {
     ghost invariant = { λ d. HasFirst (map (λ t. t.now) d.list.items) (get same_bytes d.places) };
 }
 
-/// A place as it stands in tables. A place of more than 32 bits isn't in memory.
-pub(super) fn narrow(place: usize) -> Result<u32, NoMemory>
+/// A place as it stands in tables and rows. A place of more than 32 bits isn't in memory.
+pub fn narrow(place: usize) -> Result<u32, NoMemory>
     ensures { IfOk result (λ n. n ≡ place) }
 {
     match u32::try_from(place) {

@@ -4,15 +4,15 @@ ghost use Rattle.language_model.specs.StreamTypes.{are_alike, name_places, port_
 ghost use Rattle.language_model.specs.Expansion.{place_of};
 ghost use Rattle.language_model.specs.Invoking.{stream_names};
 ghost use Rattle.type_rules.specs.Finds.{Finds};
-ghost use Rattle.stream_rules.specs.Bodies.{body_seen};
+ghost use Rattle.body_sites.specs.Bodies.{body_seen};
 ghost use Rattle.stream_rules.specs.Among.{Hold, graph_of, unit_of};
 
 mod heads;
 
 use super::standing::{Streams, attributes};
-use crate::bodies::Body;
 use crate::ports::same::same_attributes;
 use crate::refusals::mismatch;
+use body_sites::Body;
 use heads::heads;
 use spl_tree::InputPort;
 use spl_value::{Attribute, Ids, Items, Schema};

@@ -2,13 +2,13 @@
 ghost use Rattle.std.specs.Prelude.{◌≡◌, length};
 ghost use Rattle.language_model.specs.StreamTypes.{outer_output, output_heads, outputs_attributes};
 ghost use Rattle.type_rules.specs.Finds.{Finds};
-ghost use Rattle.stream_rules.specs.Bodies.{body_seen};
+ghost use Rattle.body_sites.specs.Bodies.{body_seen};
 ghost use Rattle.stream_rules.specs.Outside.{StandsOutside, output_found};
 ghost use Rattle.stream_rules.specs.Among.{Hold, graph_of, unit_of};
 
 use super::standing::{Streams, attributes, port_stands_for, stands_for};
-use crate::bodies::Body;
 use crate::origins::{Origin, output_at};
+use body_sites::Body;
 use spl_tree::OutputStream;
 use spl_value::{Attribute, Items, Schema};
 use std::alloc::Global;

@@ -4,13 +4,12 @@ ghost use Rattle.std.specs.Option.{option_copied};
 ghost use Rattle.language_model.specs.StreamTypes.{port_stands_for, shape_attributes, stands_for, stream_attributes};
 ghost use Rattle.type_rules.specs.Finds.{Finds};
 ghost use Rattle.stream_rules.specs.Among.{Hold, graph_of, unit_of};
-ghost use Rattle.stream_rules.specs.Bodies.{body_seen};
+ghost use Rattle.body_sites.specs.Bodies.{body_seen};
 
-use crate::bodies::Body;
 use crate::ports::same::same_attributes;
 use crate::refusals::{mismatch, unknown};
-use crate::sites::Sites;
 use crate::streams::{StreamTable, own_attributes};
+use body_sites::{Body, Sites};
 use spl_tree::{Graph, HeadPort, Shape};
 use spl_value::{Attribute, Schema};
 use std::alloc::Global;

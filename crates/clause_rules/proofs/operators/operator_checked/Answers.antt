@@ -1,7 +1,7 @@
 use Rattle.std.specs.Prelude.{[], slice_set}
 use Rattle.std.specs.Option.{option_copied, option_map}
 use Rattle.std.proofs.Common.{Err, ap, sym, ◌∙◌}
-use Rattle.stream_rules.specs.Bodies.{body_at_sites, body_seen}
+use Rattle.body_sites.specs.Bodies.{body_at_sites, body_seen}
 use Rattle.clause_rules.specs.Programs.{program_unit}
 use Rattle.clause_rules.proofs.Invocations.{operator_is}
 use Rattle.clause_rules.proofs.Steps.{fails, finds_by}

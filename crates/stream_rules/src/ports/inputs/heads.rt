@@ -2,13 +2,13 @@
 ghost use Rattle.std.specs.Prelude.{◌≡◌, ◌≤◌, OnOk, IsTrue, length};
 ghost use Rattle.language_model.specs.StreamTypes.{each_name, input_heads, invoked_input};
 ghost use Rattle.type_rules.specs.Finds.{Finds};
-ghost use Rattle.stream_rules.specs.Bodies.{body_seen};
+ghost use Rattle.body_sites.specs.Bodies.{body_seen};
 ghost use Rattle.stream_rules.specs.Looked.{HavePassed, PassesAlso, has_looked, nothing_looked};
 ghost use Rattle.stream_rules.specs.Among.{Hold, graph_of, unit_of};
 
-use crate::bodies::Body;
-use crate::narrow;
 use crate::ports::standing::{Streams, port_stands_for};
+use body_rules::narrow;
+use body_sites::Body;
 use spl_tree::{Placed, Site};
 use spl_value::{Attribute, Name, NoMemory};
 use std::alloc::Global;

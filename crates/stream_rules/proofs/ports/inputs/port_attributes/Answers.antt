@@ -3,7 +3,7 @@ use Rattle.language_model.specs.StreamTypes.{Attributes, are_alike, each_name, i
 use Rattle.language_model.specs.Typing.{Found, after}
 use Rattle.type_rules.specs.Finds.{Finds}
 use Rattle.stream_rules.specs.Among.{graph_of, unit_of}
-use Rattle.stream_rules.specs.Bodies.{body_seen}
+use Rattle.body_sites.specs.Bodies.{body_seen}
 use Rattle.stream_rules.proofs.AlikeStreams.{port_is}
 use Rattle.stream_rules.proofs.AnswerSteps.{fails, finds_by, stops}
 use Rattle.stream_rules.proofs.ports.inputs.port_attributes.Goals as goal

@@ -1,0 +1,4 @@
+pub mod NamePlaces
+pub mod NamesGrowing
+pub mod TypesGathered
+pub mod BodyTypes

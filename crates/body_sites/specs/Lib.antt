@@ -1,0 +1,4 @@
+pub mod Sites
+pub mod Names
+pub mod Bodies
+pub mod SameBodies

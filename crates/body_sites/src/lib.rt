@@ -1,0 +1,9 @@
+//! Bodies of expansions: which composite each is of, and what names and types stand for there.
+#![tactic(auto)]
+
+mod bodies;
+mod names;
+mod sites;
+
+pub use bodies::Body;
+pub use sites::Sites;

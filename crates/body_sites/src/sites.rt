@@ -1,0 +1,155 @@
+//! What stands at the places that operators and bodies come from.
+ghost use Rattle.std.specs.Prelude.{◌≡◌, map, slice_get, IfOk};
+ghost use Rattle.std.specs.Option.{option_copied, option_map};
+ghost use Rattle.language_model.specs.Composites.{composites};
+ghost use Rattle.language_model.specs.Invoking.{is_among};
+ghost use Rattle.language_model.specs.SinkFiles.{composite_of, invocation_at, arguments_of};
+ghost use Rattle.language_model.specs.TypeNames.{type_definitions};
+ghost use Rattle.body_sites.specs.Bodies.{body_at_sites, body_seen};
+ghost use Rattle.body_sites.specs.Names.{StandFor, type_names_of};
+ghost use Rattle.body_sites.specs.SameBodies.{same_composites};
+ghost use Rattle.body_sites.specs.Sites.{MeansTypes};
+
+use crate::bodies::Body;
+use crate::names::{BodyNames, Names};
+use body_rules::{TypeScope, TypeTable};
+use spl_tree::{Composite, Definition, Expansion, Invocation, Parameter, Site, Unit};
+use spl_value::NoMemory;
+use std::alloc::Global;
+
+/// A unit with its expansions, in which names are looked up. It is made once for all operators.
+#[derive(Drop)]
+pub struct Sites<'a> {
+    pub unit: &'a Unit,
+    pub expansions: &'a [Expansion],
+    /// The composites of the unit, by their places.
+    bodies: Vec<BodyNames<'a>>,
+    pub(crate) unit_types: TypeTable<'a>,
+    unit_names: Names<'a>,
+    ghost all: { map (λ b. b.composite.now) bodies.items ≡ composites unit.now } by { same_composites _ _ },
+    ghost unit_defined: { unit_types ≡ type_definitions unit.now },
+    ghost unit_named: { StandFor unit_names (type_names_of (type_definitions unit.now)) },
+}
+
+impl<'a> Sites<'a> {
+    /// Looks at all composites of a unit.
+    pub fn new(
+        alloc: Global,
+        unit: &'a Unit,
+        expansions: &'a [Expansion],
+    ) -> Result<Sites<'a>, NoMemory>
+        ensures unit { IfOk result (λ sites. sites.unit.now ≡ unit.now) }
+        ensures expansions { IfOk result (λ sites. sites.expansions.now ≡ expansions.now) }
+    {
+        let bodies = bodies_of(alloc, unit)?;
+        let unit_types = TypeTable::of_unit(alloc, unit)?;
+        let unit_names = type_names(alloc, unit)?;
+        Ok(Sites {
+            unit,
+            expansions,
+            bodies,
+            unit_types,
+            unit_names,
+        })
+    }
+
+    /// The expansion of a number.
+    pub fn expansion(&self, number: u32) -> Option<&'a Expansion>
+        ensures { option_copied result ≡ slice_get self.now.expansions.now number }
+    {
+        self.expansions.get(number as usize)
+    }
+
+    fn names(&self, expansion: &Expansion) -> Option<&BodyNames<'a>>
+        ensures { option_map (λ b. b.now.composite.now) result ≡ composite_of self.now.unit.now expansion.now }
+    {
+        self.bodies.get(expansion.composite as usize)
+    }
+
+    /// The composite whose body an expansion is.
+    pub fn composite(&self, expansion: &Expansion) -> Option<&'a Composite>
+        ensures { option_copied result ≡ composite_of self.now.unit.now expansion.now }
+    {
+        let names = self.names(expansion)?;
+        Some(names.composite)
+    }
+
+    /// The body of the expansion of a number.
+    pub fn body<'s>(&'s self, number: u32) -> Option<Body<'s>>
+        ensures { option_map body_seen result ≡ body_at_sites self.now.unit.now self.now.expansions.now number }
+    {
+        self.body_among(self.expansions, number)
+    }
+
+    /// The body of one of some expansions, by its number.
+    pub fn body_among<'s>(&'s self, expansions: &'s [Expansion], number: u32) -> Option<Body<'s>>
+        ensures { option_map body_seen result ≡ body_at_sites self.now.unit.now expansions.now number }
+    {
+        let expansion = expansions.get(number as usize)?;
+        let names = self.names(expansion)?;
+        Some(Body::new(number, expansion, names))
+    }
+
+    /// What types stand for in the body of an expansion.
+    pub fn types<'t>(&'t self, expansion: &Expansion) -> Option<TypeScope<'t, 'a>>
+        ensures { MeansTypes self.now.unit.now (composite_of self.now.unit.now expansion.now) result }
+    {
+        let names = self.names(expansion)?;
+        Some(TypeScope::of_composite(&names.table, &self.unit_types))
+    }
+
+    /// Whether the unit defines a type of the name.
+    pub(crate) fn has_type(&self, name: &[u8]) -> bool
+        ensures { result ≡ is_among name.now (type_names_of (type_definitions self.now.unit.now)) }
+    {
+        self.unit_names.has(name)
+    }
+
+    /// The invocation at a site.
+    pub fn invocation(&self, site: Site) -> Option<&'a Invocation>
+        ensures { option_copied result ≡ invocation_at self.now.unit.now self.now.expansions.now site }
+    {
+        let expansion = self.expansion(site.expansion)?;
+        let composite = self.composite(expansion)?;
+        composite.graph.get(site.invocation as usize)
+    }
+
+    /// The arguments that an expansion has; the main one has none.
+    pub fn arguments(&self, expansion: &Expansion) -> &'a [Parameter]
+        ensures { result.now ≡ arguments_of self.now.unit.now self.now.expansions.now expansion.now }
+    {
+        let Some(site) = expansion.site else {
+            return &[];
+        };
+        match self.invocation(site) {
+            Some(invocation) => invocation.clauses.parameters.as_slice(),
+            None => &[],
+        }
+    }
+}
+
+/// The names of the types of a unit.
+fn type_names(alloc: Global, unit: &Unit) -> Result<Names<'_>, NoMemory>
+    ensures { IfOk result (λ names. StandFor names (type_names_of (type_definitions unit.now))) }
+{
+    let mut names = Names::new(alloc);
+    for definition in unit.as_slice() {
+        if let Definition::Type(definition) = definition {
+            names.add(definition.name.what.as_slice())?;
+        }
+    }
+    Ok(names)
+}
+
+/// The composites of a unit, in the order of the text.
+fn bodies_of(alloc: Global, unit: &Unit) -> Result<Vec<BodyNames<'_>>, NoMemory>
+    ensures { IfOk result (λ bodies. map (λ b. b.composite.now) bodies.items ≡ composites unit.now) }
+{
+    let mut bodies = Vec::new(alloc);
+    for definition in unit.as_slice() {
+        if let Definition::Composite(composite) = definition {
+            bodies.push(BodyNames::new(alloc, composite)?)?;
+        }
+    }
+    Ok(bodies)
+}

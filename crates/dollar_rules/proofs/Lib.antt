@@ -1,0 +1,14 @@
+pub mod ExprWeights
+pub mod ConstantLaws
+pub mod DollarLaws
+pub mod Adding
+pub mod Marks
+pub mod Tables
+pub mod Settling
+pub mod Places
+pub mod Passing
+pub mod Leading
+pub mod Settles
+pub mod SettlesMore
+pub mod ExpansionDollars
+pub mod TablesGrown

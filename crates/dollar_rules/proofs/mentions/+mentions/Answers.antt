@@ -1,0 +1,48 @@
+use Rattle.std.proofs.Common.{◌∙◌, ◌++◌, ap, sym, arith, flat_map}
+use Rattle.language_model.specs.DollarLaws.{dollars_in}
+use Rattle.dollar_rules.specs.Mentioned.{step_dollars}
+use Rattle.dollar_rules.proofs.Adding.{adds_behind, both_behind}
+use Rattle.dollar_rules.proofs.DollarLaws.{form_dollars, of_select, of_binary, of_conditional}
+use Rattle.dollar_rules.proofs.ExprWeights.{expr_weight, entry_weight, field_weight, step_weight, item_below}
+use Rattle.dollar_rules.proofs.mentions.+mentions.Goals as goal
+
+pub of_exprs-of_expr-requires : goal.of_exprs-of_expr-requires
+of_exprs-of_expr-requires t c =
+    (let q = item_below expr_weight c.args.exprs.now c.loop-expr.expr-index c.expr-item.result c.loop-expr-test.true c.expr-item.is in omega arith, tt)
+
+pub of_entries-of_expr-requires : goal.of_entries-of_expr-requires
+of_entries-of_expr-requires t c =
+    (let q = item_below entry_weight c.args.entries.now c.loop-key.key-index c.loop-key-item.result c.loop-key-test.true c.loop-key-item.is in omega arith, tt)
+
+pub of_entries-of_expr-requires-in-loop-key : goal.of_entries-of_expr-requires-in-loop-key
+of_entries-of_expr-requires-in-loop-key t c =
+    (let q = item_below entry_weight c.args.entries.now c.loop-key.key-index c.loop-key-item.result c.loop-key-test.true c.loop-key-item.is in omega arith, tt)
+
+pub of_fields-of_expr-requires : goal.of_fields-of_expr-requires
+of_fields-of_expr-requires t c =
+    (let q = item_below field_weight c.args.fields.now c.loop-field.field-index c.field-item.result c.loop-field-test.true c.field-item.is in omega arith, tt)
+
+pub of_steps-of_expr-requires : goal.of_steps-of_expr-requires
+of_steps-of_expr-requires t c = (
+  let q = item_below step_weight c.args.steps.now c.loop-step.step-index c.step-item.result c.loop-step-test.true c.step-item.is in
+      let r = ap step_weight c.in-Index.is in omega arith,
+  tt,
+)
+
+pub of_expr-returns-in_ok-of_expr-in-Select : goal.of_expr-returns-in_ok-of_expr-in-Select
+of_expr-returns-in_ok-of_expr-in-Select t c =
+    adds_behind _ _ _ _ _ _ _ c.in_ok-of_expr-in-Select.ensures c.of_steps.ensures
+    (ap (λ k. form_dollars k c.args.expr.now.at) c.in-Select.is ∙ of_select c.in-Select.base c.in-Select.steps c.args.expr.now.at
+    ∙ (λ i. dollars_in (sym c.get.ensures i) ++ flat_map step_dollars (sym c.as_slice-in-Select.ensures i)))
+
+pub of_expr-returns-in_ok-of_expr-in-Binary : goal.of_expr-returns-in_ok-of_expr-in-Binary
+of_expr-returns-in_ok-of_expr-in-Binary t c =
+    adds_behind _ _ _ _ _ _ _ c.in_ok-of_expr-in-Binary.ensures c.of_expr-in-Binary-2.ensures
+    (ap (λ k. form_dollars k c.args.expr.now.at) c.in-Binary.is ∙ of_binary c.in-Binary.field-0 c.in-Binary.left c.in-Binary.right c.args.expr.now.at
+    ∙ (λ i. dollars_in (sym c.get-in-Binary.ensures i) ++ dollars_in (sym c.get-in-Binary-2.ensures i)))
+
+pub of_expr-returns-in_ok-of_expr-in-Conditional-2 : goal.of_expr-returns-in_ok-of_expr-in-Conditional-2
+of_expr-returns-in_ok-of_expr-in-Conditional-2 t c =
+    adds_behind _ _ _ _ _ _ _ (both_behind _ _ _ _ _ c.in_ok-of_expr-in-Conditional.ensures c.in_ok-of_expr-in-Conditional-2.ensures) c.of_expr-in-Conditional-3.ensures
+    (ap (λ k. form_dollars k c.args.expr.now.at) c.in-Conditional.is ∙ of_conditional c.in-Conditional.condition c.in-Conditional.first c.in-Conditional.second c.args.expr.now.at
+    ∙ (λ i. dollars_in (sym c.get-in-Conditional.ensures i) ++ dollars_in (sym c.get-in-Conditional-2.ensures i) ++ dollars_in (sym c.get-in-Conditional-3.ensures i)))

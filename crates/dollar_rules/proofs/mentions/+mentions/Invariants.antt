@@ -1,0 +1,32 @@
+use Rattle.std.proofs.Common.{◌≡◌, ◌+◌, ◌++◌, flat_map, take}
+use Rattle.language_model.specs.DollarLaws.{dollars_in}
+use Rattle.dollar_rules.specs.Mentioned.{names_seen, entry_dollars, field_dollars, step_dollars}
+use Rattle.dollar_rules.proofs.ExprWeights.{expr_weight, weights, entry_weights, field_weights, step_weights}
+use Rattle.dollar_rules.proofs.mentions.+mentions.Given as goal
+
+abbrev pub invariant-of_entries-loop-key : goal.invariant-of_entries-loop-key
+invariant-of_entries-loop-key l = names_seen l.out.items ≡ names_seen l.fn.out.items ++ flat_map entry_dollars (take l.key-index l.entries)
+
+abbrev pub invariant-of_exprs-loop-expr : goal.invariant-of_exprs-loop-expr
+invariant-of_exprs-loop-expr l = names_seen l.out.items ≡ names_seen l.fn.out.items ++ flat_map dollars_in (take l.expr-index l.exprs)
+
+abbrev pub invariant-of_fields-loop-field : goal.invariant-of_fields-loop-field
+invariant-of_fields-loop-field l = names_seen l.out.items ≡ names_seen l.fn.out.items ++ flat_map field_dollars (take l.field-index l.fields)
+
+abbrev pub invariant-of_steps-loop-step : goal.invariant-of_steps-loop-step
+invariant-of_steps-loop-step l = names_seen l.out.items ≡ names_seen l.fn.out.items ++ flat_map step_dollars (take l.step-index l.steps)
+
+abbrev pub decreases-of_expr : goal.decreases-of_expr
+decreases-of_expr l = expr_weight l.expr.now
+
+abbrev pub decreases-of_exprs : goal.decreases-of_exprs
+decreases-of_exprs l = weights l.exprs.now + 1
+
+abbrev pub decreases-of_entries : goal.decreases-of_entries
+decreases-of_entries l = entry_weights l.entries.now + 1
+
+abbrev pub decreases-of_fields : goal.decreases-of_fields
+decreases-of_fields l = field_weights l.fields.now + 1
+
+abbrev pub decreases-of_steps : goal.decreases-of_steps
+decreases-of_steps l = step_weights l.steps.now + 1

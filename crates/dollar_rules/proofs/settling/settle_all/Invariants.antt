@@ -1,0 +1,10 @@
+use Rattle.std.proofs.Common.{ℕ, ◌<◌}
+use Rattle.dollar_rules.specs.Given.{IsDone}
+use Rattle.dollar_rules.specs.Settling.{IsSettled, given_of}
+use Rattle.dollar_rules.proofs.settling.settle_all.Given as goal
+
+abbrev pub invariant-loop-at : goal.invariant-loop-at
+invariant-loop-at l = record {
+  settled : IsSettled (given_of l.head) l.settled;
+  done : (place : ℕ) → place < l.at → IsDone (given_of l.head) l.settled.marks.items place;
+}

@@ -1,0 +1,11 @@
+//! What `$` parameters of composites stand for.
+#![tactic(auto)]
+
+mod constants;
+mod heads;
+mod mentions;
+mod settling;
+mod tables;
+mod weights;
+
+pub use tables::dollar_tables;

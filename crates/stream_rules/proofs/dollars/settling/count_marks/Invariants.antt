@@ -1,9 +1,0 @@
-use Rattle.std.proofs.Common.{◌≡◌, ◌+◌, ◌≤◌, drop}
-use Rattle.stream_rules.specs.Given.{marks_in}
-use Rattle.stream_rules.proofs.dollars.settling.count_marks.Given as goal
-
-abbrev pub invariant-loop-mark : goal.invariant-loop-mark
-invariant-loop-mark l = record {
-  counted : marks_in l.marks ≡ l.count + marks_in (drop l.mark-index l.marks);
-  within : l.count ≤ l.mark-index;
-}
