@@ -3,8 +3,8 @@ pub mod ConstantLaws
 pub mod DollarLaws
 pub mod Adding
 pub mod Marks
-pub mod Tables
-pub mod Settling
+pub mod MarkedTables
+pub mod SettledOnes
 pub mod Places
 pub mod Passing
 pub mod Leading

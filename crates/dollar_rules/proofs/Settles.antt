@@ -13,7 +13,7 @@ use Rattle.dollar_rules.specs.Given.{AreSettled, Given, IsDone, IsReady, Keeps, 
 use Rattle.dollar_rules.specs.Heads.{passes_at}
 use Rattle.dollar_rules.specs.Settling.{IsSettled, Settles}
 use Rattle.dollar_rules.proofs.Marks.{marked_none}
-use Rattle.dollar_rules.proofs.Settling.{all_settled, apart}
+use Rattle.dollar_rules.proofs.SettledOnes.{all_settled, apart}
 
 -- ---- at first
 

@@ -12,7 +12,7 @@ use Rattle.language_model.specs.Parameters.{constant_scope}
 use Rattle.language_model.specs.Typing.{Found}
 use Rattle.dollar_rules.specs.Given.{AreSettled, Given, IsReady, found_at_last, found_in, is_marked, marked, marks_in, means, settled_table}
 use Rattle.dollar_rules.proofs.Marks.{marked_more}
-use Rattle.dollar_rules.proofs.Settling.{found_now}
+use Rattle.dollar_rules.proofs.SettledOnes.{found_now}
 
 -- no flag is up at first
 down : (n k : ℕ) → is_marked (replicate n false) k ≡ false

@@ -4,5 +4,7 @@ mod Prefixes
 mod Steps
 mod Loops
 mod Exits
+mod LiteralLaws
+mod CallLaws
 mod Weights
 mod PlacesFound

@@ -1,65 +1,34 @@
 -- How far the loops over rows have come.
-use Rattle.std.specs.Prelude.{◌≡◌, ℕ, ◌+◌, ◌<◌, ◌≤◌, List, [], ◌∷◌, ◌++◌, length, drop, Some, Ok}
+use Rattle.std.specs.Prelude.{◌≡◌, ℕ, ◌+◌, ◌<◌, ◌≤◌, List, [], ◌∷◌, ◌++◌, length, drop, Option, Some, Ok, Err}
 use Rattle.std.proofs.Common.{refl, ap, sym, ◌∙◌, append_assoc, append-nil, get_or}
 use Rattle.std.proofs.lemmas.List.{drop_all}
 use Rattle.spl_value.specs.declared.types.SplType.{SplType}
+use Rattle.spl_value.specs.declared.types.SplType.TheOpen as T
+use Rattle.spl_value.specs.declared.types.SplType.TheOpen.{SplType-F}
 use Rattle.spl_value.specs.declared.types.SplType.TheViews.{out-SplType}
 use Rattle.spl_tree.specs.Grammar.{Expr}
+use Rattle.spl_tree.specs.declared.expression.Placed.{Placed}
 use Rattle.spl_tree.specs.declared.expression.Step.{Step}
+use Rattle.spl_tree.specs.declared.expression.Step.TheVariants as N
 use Rattle.spl_tree.specs.declared.code.Code.{Code}
 use Rattle.spl_tree.specs.declared.code.Slot.{Slot}
 use Rattle.spl_tree.specs.declared.code.Taking.{Taking}
 use Rattle.language_model.specs.declared.scope.Scope.{Scope}
 use Rattle.language_model.specs.declared.scope.Typed.{Typed}
-use Rattle.language_model.specs.Typing.{Found, after, typing, typed, elements_typed, entries_typed, level_step, steps_typed, selected, arguments_typed}
-use Rattle.language_model.specs.TypingLaws.{parts, entry_parts, step_part, step_parts}
-use Rattle.type_rules.specs.Finds.{with_front}
+use Rattle.language_model.specs.Typing.{Found, after, typing, typed, level_step, steps_typed, selected, arguments_typed}
+use Rattle.language_model.specs.TypingLaws.{parts, step_part, step_parts}
+use Rattle.type_rules.specs.declared.answer.TypeAnswer.{TypeAnswer}
+use Rattle.type_rules.specs.Finds.{Finds, with_front}
+use Rattle.type_rules.specs.Kinds.{index_for}
+use Rattle.type_rules.specs.Takings.{Taken, behind, index_taken, member_taken}
 use Rattle.type_rules.proofs.Rows.{drop_at}
-use Rattle.type_rules.proofs.Steps.{after_after}
+use Rattle.type_rules.proofs.Steps.{after_after, finds_by, stops}
 
--- a row whose items are gone through by S
-pub record IsRow {X Y : Type 0} (S : X → Found Y) (R : List X → Found (List Y)) : Type 0 where
-  pub none : R [] ≡ Ok []
-  pub more : (x : X) (xs : List X) → R (x ∷ xs) ≡ after (S x) (λ y. after (R xs) (λ ys. Ok (y ∷ ys)))
-
-module _ {X Y : Type 0} (S : X → Found Y) (R : List X → Found (List Y)) (is : IsRow S R) (xs : List X) (i : ℕ) (front : List Y) where
-  pub row_past : length xs ≤ i → with_front front (R (drop i xs)) ≡ Ok front
-  row_past h = ap (λ r. with_front front (R r)) (drop_all i xs h) ∙ ap (with_front front) is.none ∙ ap Ok (append-nil front)
-
-  module _ (x : X) (h : i < length xs) (e : x ≡ get_or xs i x) where
-    rest : R (drop i xs) ≡ after (S x) (λ y. after (R (drop (i + 1) xs)) (λ ys. Ok (y ∷ ys)))
-    rest = ap R (drop_at xs i x h e) ∙ is.more x (drop (i + 1) xs)
-
-    pub row_on : (y : Y) (zs : List Y) → S x ≡ Ok y → zs ≡ front ++ y ∷ [] → with_front front (R (drop i xs)) ≡ with_front zs (R (drop (i + 1) xs))
-    row_on y zs s z =
-        ap (with_front front) (rest ∙ ap (λ o. after o (λ y. after (R (drop (i + 1) xs)) (λ ys. Ok (y ∷ ys)))) s)
-        ∙ after_after (R (drop (i + 1) xs)) (λ ys. Ok (y ∷ ys)) (λ ys. Ok (front ++ ys))
-        ∙ (λ j. after (R (drop (i + 1) xs)) (λ ys. Ok (sym (append_assoc front (y ∷ []) ys) j)))
-        ∙ ap (λ l. with_front l (R (drop (i + 1) xs))) (sym z)
+abbrev found_or : {A : Type 0} → Found A → A → A
+found_or (Ok x) y = x
+found_or (Err r) y = y
 
 module _ (scope : Scope) where
-  abbrev pub element : SplType → Expr → Found (Code Slot)
-  element t e = after (typing scope e (Some t)) (λ x. Ok x.code)
-
-  pub elements_row : (t : SplType) → IsRow (element t) (λ es. elements_typed scope t (parts es))
-  elements_row t = record {
-    none = refl;
-    more = λ e es. sym (after_after (typing scope e (Some t)) (λ x. Ok x.code) (λ y. after (elements_typed scope t (parts es)) (λ ys. Ok (y ∷ ys))));
-  }
-
-  abbrev pub entry : SplType → SplType → Expr × Expr → Found (Code Slot × Code Slot)
-  entry k t e = after (typing scope e.0 (Some k)) (λ x. after (typing scope e.1 (Some t)) (λ y. Ok (x.code, y.code)))
-
-  pub entries_row : (k t : SplType) → IsRow (entry k t) (λ es. entries_typed scope k t (entry_parts es))
-  entries_row k t = record { none = refl; more = λ e es. sym (unrolled e es) }
-    where
-      unrolled : (e : Expr × Expr) (es : List (Expr × Expr))
-          → after (entry k t e) (λ y. after (entries_typed scope k t (entry_parts es)) (λ ys. Ok (y ∷ ys)))
-          ≡ entries_typed scope k t (entry_parts (e ∷ es))
-      unrolled e es =
-          after_after (typing scope e.0 (Some k)) (λ x. after (typing scope e.1 (Some t)) (λ y. Ok (x.code, y.code))) (λ y. after (entries_typed scope k t (entry_parts es)) (λ ys. Ok (y ∷ ys)))
-          ∙ (λ i. after (typing scope e.0 (Some k)) (λ x. after_after (typing scope e.1 (Some t)) (λ y. Ok (x.code, y.code)) (λ y. after (entries_typed scope k t (entry_parts es)) (λ ys. Ok (y ∷ ys))) i))
-
   -- steps from a type on, with what was taken before them
   abbrev taken_from : ℕ → Code Slot → SplType → List (Step Expr) → List (Taking (Code Slot)) → Found Typed
   taken_from base code kind ss takings = after (steps_typed base scope kind (step_parts ss)) (λ xs. Ok (typed xs.1 (selected code (takings ++ xs.0))))
@@ -82,6 +51,18 @@ module _ (scope : Scope) where
           ∙ after_after (steps_typed base scope given (step_parts (drop (i + 1) ss))) (λ xs. Ok (t ∷ xs.0, xs.1)) (λ xs. Ok (typed xs.1 (selected code (takings ++ xs.0))))
           ∙ (λ j. after (steps_typed base scope given (step_parts (drop (i + 1) ss))) (λ xs. Ok (typed xs.1 (selected code (sym (append_assoc takings (t ∷ []) xs.0) j)))))
           ∙ ap (taken_from base code given (drop (i + 1) ss)) (sym z)
+
+      with_taken : (found : Found Taken) (given : SplType) (zs : List (Taking (Code Slot))) → level_step base scope (out-SplType kind) (step_part s) ≡ found → behind takings found ≡ Ok (zs, given)
+          → taken_from base code kind (drop i ss) takings ≡ taken_from base code given (drop (i + 1) ss) zs
+      with_taken (Ok x) given zs l z = let both = ap (λ o. found_or o (zs, given)) z in taken_on x.0 given zs (l ∙ ap (λ p. Ok (x.0, p.1)) both) (sym (ap (λ p. p.0) both))
+      with_taken (Err r) given zs l z = absurd cc
+
+      pub taken_by : (given : SplType) (zs : List (Taking (Code Slot))) → behind takings (level_step base scope (out-SplType kind) (step_part s)) ≡ Ok (zs, given)
+          → taken_from base code kind (drop i ss) takings ≡ taken_from base code given (drop (i + 1) ss) zs
+      taken_by given zs z = with_taken (level_step base scope (out-SplType kind) (step_part s)) given zs refl z
+
+      pub taken_stops : (a : TypeAnswer) → Finds (level_step base scope (out-SplType kind) (step_part s)) (Err a) → Finds (taken_from base code kind (drop i ss) takings) (Err a)
+      taken_stops a h = finds_by _ _ (Err a) (ap (λ o. after o (λ xs. Ok (typed xs.1 (selected code (takings ++ xs.0))))) taken_is) (stops _ _ a (stops _ _ a h))
 
   module _ (ts : List SplType) (es : List Expr) (i : ℕ) (front : List (Code Slot)) where
     abbrev arguments_from : ℕ → List (Code Slot) → Found (List (Code Slot))
@@ -110,3 +91,43 @@ module _ (scope : Scope) where
           ∙ after_after (arguments_typed scope (drop (i + 1) ts) (parts (drop (i + 1) es))) (λ xs. Ok (x.code ∷ xs)) (λ ys. Ok (front ++ ys))
           ∙ (λ j. after (arguments_typed scope (drop (i + 1) ts) (parts (drop (i + 1) es))) (λ ys. Ok (sym (append_assoc front (x.code ∷ []) ys) j)))
           ∙ ap (arguments_from (i + 1)) (sym z)
+
+-- ---- one step
+
+pub member_step : (base : ℕ) (scope : Scope) (t : SplType-F SplType) (m : Placed (List ℕ)) → level_step base scope t (step_part (N.Member m)) ≡ member_taken base t m.at m.what
+member_step base scope (T.Tuple schema) m = refl
+member_step base scope (T.Int k) m = refl
+member_step base scope T.Bool m = refl
+member_step base scope T.Text m = refl
+member_step base scope (T.List t) m = refl
+member_step base scope (T.Map k t) m = refl
+
+pub index_step : (base : ℕ) (scope : Scope) (t : SplType-F SplType) (e : Expr)
+    → level_step base scope t (step_part (N.Index e)) ≡ after (index_for base t) (λ w. after (typing scope e w) (λ x. index_taken base e.at x t))
+index_step base scope (T.List t) e = refl
+index_step base scope (T.Map k t) e = refl
+index_step base scope (T.Tuple schema) e = refl
+index_step base scope (T.Int k) e = refl
+index_step base scope T.Bool e = refl
+index_step base scope T.Text e = refl
+
+-- a member that is taken behind others
+pub member_by : (base : ℕ) (scope : Scope) (k t : SplType) (s : Step Expr) (m : Placed (List ℕ)) (old new zs : List (Taking (Code Slot))) (u given : SplType) → s ≡ N.Member m → k ≡ t
+    → behind old (member_taken base (out-SplType k) m.at m.what) ≡ Ok (new, u) → zs ≡ new → given ≡ u → behind old (level_step base scope (out-SplType t) (step_part s)) ≡ Ok (zs, given)
+member_by base scope k t s m old new zs u given is same taken n g =
+    ap (λ s. behind old (level_step base scope (out-SplType t) (step_part s))) is
+    ∙ ap (behind old) (member_step base scope (out-SplType t) m)
+    ∙ ap (λ k. behind old (member_taken base (out-SplType k) m.at m.what)) (sym same)
+    ∙ taken ∙ (λ i. Ok (sym n i, sym g i))
+
+-- what is taken by an index behind others
+pub index_by : (base : ℕ) (scope : Scope) (k j t : SplType) (s : Step Expr) (e : Expr) (w : Option SplType) (x : Typed) (old new zs : List (Taking (Code Slot))) (u given : SplType) → s ≡ N.Index e → k ≡ t → j ≡ t
+    → index_for base (out-SplType k) ≡ Ok w → typing scope e w ≡ Ok x
+    → behind old (index_taken base e.at x (out-SplType j)) ≡ Ok (new, u) → zs ≡ new → given ≡ u → behind old (level_step base scope (out-SplType t) (step_part s)) ≡ Ok (zs, given)
+index_by base scope k j t s e w x old new zs u given is first second wanted found taken n g =
+    ap (λ s. behind old (level_step base scope (out-SplType t) (step_part s))) is
+    ∙ ap (behind old) (index_step base scope (out-SplType t) e)
+    ∙ ap (λ o. behind old (after o (λ w. after (typing scope e w) (λ x. index_taken base e.at x (out-SplType t))))) (ap (λ k. index_for base (out-SplType k)) (sym first) ∙ wanted)
+    ∙ ap (λ o. behind old (after o (λ x. index_taken base e.at x (out-SplType t)))) found
+    ∙ ap (λ k. behind old (index_taken base e.at x (out-SplType k))) (sym second)
+    ∙ taken ∙ (λ i. Ok (sym n i, sym g i))

@@ -25,6 +25,10 @@ pub after_after : {A B C : Type 0} (o : Found A) (f : A → Found B) (h : B → 
 after_after (Ok x) f h = refl
 after_after (Err r) f h = refl
 
+pub after_each : {A B : Type 0} (o : Found A) (f h : A → Found B) → ((x : A) → f x ≡ h x) → after o f ≡ after o h
+after_each (Ok x) f h same = same x
+after_each (Err r) f h same = refl
+
 -- an error that `?` hands on is one that the definition refuses with
 pub fails : {B : Type 0} (o : Found B) (r : Result B TypeAnswer) (e : TypeAnswer) → IsErrAnd r (λ y. y ≡ e) → Finds o (Err e) → Finds o r
 fails o r e h q = exit (Finds o) r e h q

@@ -13,6 +13,12 @@ Finds found (Ok x) = found ≡ Ok x
 Finds found (Err (Refused refusal)) = found ≡ Err refusal
 Finds found (Err Memory) = Unit {0}
 
+-- what is answered stands for it
+abbrev pub FindsBy : {A B : Type 0} → (B → A) → Found A → Result B TypeAnswer → Type 0
+FindsBy seen found (Ok x) = found ≡ Ok (seen x)
+FindsBy seen found (Err (Refused refusal)) = found ≡ Err refusal
+FindsBy seen found (Err Memory) = Unit {0}
+
 -- the name has no meaning
 abbrev pub IsUnknown : ℕ → List ℕ → TypeAnswer → Type 0
 IsUnknown at name (Refused refusal) = refusal ≡ record { error = E.Unknown; at = at; name = Some name }

@@ -1,16 +1,20 @@
 //! The calls that the language has built in.
-ghost use Rattle.std.specs.Prelude.{◌≡◌, Ok, Some, [], ◌∷◌};
+ghost use Rattle.std.specs.Prelude.{◌≡◌, IfOk, Ok, Some, [], ◌∷◌};
 ghost use Rattle.std.specs.Option.{option_copied};
 ghost use Rattle.spl_value.specs.declared.types.SplType.TheViews.{out-SplType};
+ghost use Rattle.spl_tree.specs.declared.code.Code.TheVariants as C;
+ghost use Rattle.language_model.specs.Scopes.{at_place, function_of};
 ghost use Rattle.language_model.specs.Typing.{call_of, argument_count, level_first, level_changed, is_mutable, if_mutable, part, value_given};
-ghost use Rattle.language_model.specs.TypingLaws.{parted};
-ghost use Rattle.type_rules.specs.Finds.{Finds};
+ghost use Rattle.language_model.specs.TypingLaws.{parted, parts};
+ghost use Rattle.type_rules.specs.Finds.{Finds, FindsBy};
+ghost use Rattle.type_rules.specs.Calls.{asked, change_asked, first_for, function_found, given, row_for};
 
-use crate::answer::{TypeAnswer, mismatch, not_mutable, wrong_call};
+use crate::answer::{TypeAnswer, mismatch, narrow, not_mutable, wrong_call};
 use crate::boxing::boxed_copy;
 use crate::forms::root_name;
-use crate::names::variable;
-use language_model::{Scope, Typed};
+use crate::making::{Codes, call_typed};
+use crate::names::{function, not_callable, variable};
+use language_model::{Scope, Signature, Typed};
 use spl_tree::{BuiltIn, CallName, Code, Expr, Slot};
 use spl_value::{Boxed, IntKind, Items, SplType, copy_type};
 use std::alloc::Global;
@@ -144,6 +148,166 @@ pub(crate) fn may_change(scope: &Scope, at: u32, expr: &Expr) -> Result<(), Type
         return Err(not_mutable(expr.at));
     }
     Ok(())
+}
+
+/// The types that the arguments behind the first have to have, of a call that changes a first one of a
+/// type. It has to be a place that may be changed.
+#[tactic(auto, using(crate::proofs::Exits::if_changed))]
+pub(crate) fn change_asked(
+    alloc: Global,
+    scope: &Scope,
+    at: u32,
+    call: CallName,
+    first: &Expr,
+    kind: &SplType,
+) -> Result<Items<SplType>, TypeAnswer>
+    ensures { Finds (change_asked at scope.now (parted first.now) (level_changed call (out-SplType kind.now))) result }
+{
+    let Some(kinds) = on_changed(alloc, call, kind)? else {
+        return Err(wrong_call(at));
+    };
+    may_change(scope, at, first)?;
+    Ok(kinds)
+}
+
+/// What a call gives, unless it changes its first argument, and the types that the other arguments have
+/// to have.
+pub(crate) type Asked = (Option<(BuiltIn, Boxed<SplType>)>, Items<SplType>);
+
+/// What a call is on a first argument of a type.
+pub(crate) fn asked_of(
+    alloc: Global,
+    scope: &Scope,
+    at: u32,
+    call: CallName,
+    first: &Expr,
+    kind: Boxed<SplType>,
+) -> Result<Asked, TypeAnswer>
+    ensures { Finds (asked at scope.now call (parted first.now) kind) result }
+{
+    match call {
+        CallName::AppendM | CallName::RemoveM | CallName::ClearM => {
+            let kinds = change_asked(alloc, scope, at, call, first, kind.get())?;
+            Ok((None, kinds))
+        }
+        CallName::Length => {
+            let kind = Boxed::new(alloc, SplType::Int(IntKind::I32))?;
+            Ok((Some((BuiltIn::Length, kind)), Items::new(alloc)))
+        }
+        CallName::Substring => {
+            let mut others = one_type(alloc, &SplType::Int(IntKind::I32))?;
+            others.push(SplType::Int(IntKind::I32))?;
+            let kind = Boxed::new(alloc, SplType::Text)?;
+            Ok((Some((BuiltIn::Substring, kind)), others))
+        }
+        CallName::Size
+        | CallName::Has
+        | CallName::Abs
+        | CallName::Min
+        | CallName::Max
+        | CallName::CurrentPunct => match on_first(alloc, call, kind)? {
+            Some((built_in, kind, others)) => Ok((Some((built_in, kind)), others)),
+            None => Err(wrong_call(at)),
+        },
+    }
+}
+
+/// The type that a call wants of its first argument, where it wants one.
+pub(crate) fn first_wanted(
+    alloc: Global,
+    call: CallName,
+) -> Result<Option<Boxed<SplType>>, TypeAnswer>
+    ensures { Finds (Ok (first_for call)) result }
+{
+    match call {
+        CallName::Length | CallName::Substring => Ok(Some(Boxed::new(alloc, SplType::Text)?)),
+        CallName::Size
+        | CallName::Has
+        | CallName::AppendM
+        | CallName::RemoveM
+        | CallName::ClearM
+        | CallName::Abs
+        | CallName::Min
+        | CallName::Max
+        | CallName::CurrentPunct => Ok(None),
+    }
+}
+
+/// The first argument of a call and the others, where there are as many as it has.
+pub(crate) fn argument_row(
+    at: u32,
+    call: CallName,
+    all: &[Expr],
+) -> Result<(&Expr, &[Expr]), TypeAnswer>
+    ensures found { FindsBy (λ p. (parted p.0.now, parts p.1.now)) (row_for at call (parts all.now)) result }
+    ensures row { IfOk result (λ p. all.now ≡ p.0.now ∷ p.1.now) }
+{
+    if all.len() != argument_count(call) {
+        return Err(wrong_call(at));
+    }
+    match all.split_first() {
+        Some((first, rest)) => Ok((first, rest)),
+        None => Err(wrong_call(at)),
+    }
+}
+
+/// What a call gives on these arguments. One that changes a place gives no value, and is refused for
+/// that once all else about it is right.
+pub(crate) fn given(
+    alloc: Global,
+    at: u32,
+    gives: Option<(BuiltIn, Boxed<SplType>)>,
+    codes: Codes,
+) -> Result<Typed, TypeAnswer>
+    ensures { Finds (given at gives codes) result }
+{
+    match gives {
+        Some((call, kind)) => call_typed(alloc, call, kind, codes),
+        None => Err(mismatch(at)),
+    }
+}
+
+/// The function of a name, with its place. It has to have as many parameters as there are arguments.
+pub(crate) fn called<'s>(
+    alloc: Global,
+    scope: &'s Scope,
+    at: u32,
+    name: &[u8],
+    all: &[Expr],
+) -> Result<(usize, &'s Signature), TypeAnswer>
+    ensures { FindsBy (λ p. at_place p.0 p.1.now) (function_found at scope.now name.now (parts all.now) (function_of scope.now name.now)) result }
+{
+    let Some((place, found)) = function(scope, name) else {
+        return not_callable(alloc, scope, at, name);
+    };
+    if all.len() != found.parameters.len() {
+        return Err(wrong_call(at));
+    }
+    Ok((place, found))
+}
+
+/// What a call of the function at a place gives, by the type of its result.
+pub(crate) fn function_given(
+    alloc: Global,
+    at: u32,
+    place: usize,
+    kind: Option<&SplType>,
+    codes: Codes,
+) -> Result<Typed, TypeAnswer>
+    ensures { Finds (value_given at (option_copied kind.entry) (C.Call place codes)) result }
+{
+    let place = narrow(place)?;
+    let code = Boxed::new(alloc, Code::Call(place, codes))?;
+    value_given(alloc, at, kind, code)
+}
+
+/// A row of one code.
+pub(crate) fn one_code(alloc: Global, code: Boxed<Code<Slot>>) -> Result<Codes, TypeAnswer>
+    ensures { Finds (Ok (code ∷ [])) result }
+{
+    let mut codes = Items::new(alloc);
+    codes.push(code.into_inner())?;
+    Ok(codes)
 }
 
 /// A call gives a value of a type, or nothing.

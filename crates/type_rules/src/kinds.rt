@@ -5,16 +5,18 @@ ghost use Rattle.std.specs.Str.{bytes_eq};
 ghost use Rattle.language_model.specs.Scopes.{attribute_of};
 ghost use Rattle.std.specs.Option.{option_copied};
 ghost use Rattle.spl_value.specs.declared.types.SplType.TheViews.{out-SplType};
-ghost use Rattle.language_model.specs.Typing.{same_types, as_wanted, level_element, level_pair, level_schema, level_index, gives_each, are_distinct};
-ghost use Rattle.type_rules.specs.Finds.{Finds};
-ghost use Rattle.type_rules.specs.Kinds.{this_or_other, pair_copied, held_copied, integer_of, held_of};
+ghost use Rattle.language_model.specs.Typing.{same_types, as_wanted, wants_list, wants_map, wants_tuple, level_element, level_pair, level_schema, level_index, gives_each, are_distinct};
+ghost use Rattle.type_rules.specs.Finds.{Finds, FindsBy};
+ghost use Rattle.type_rules.specs.Kinds.{this_or_other, pair_copied, held_copied, integer_of, held_of, if_wanted, schema_for, index_for};
 ghost use Rattle.language_model.specs.TypingLaws.{field_parts};
 
 use crate::answer::{TypeAnswer, mismatch};
+use crate::boxing::boxed_copy;
 use crate::names::attribute;
 use language_model::Typed;
 use spl_tree::{BinaryCode, Code, Expr, Field, Slot};
 use spl_value::{Attribute, Boxed, IntKind, Schema, SplType, same_type};
+use std::alloc::Global;
 
 /// Whether two types are the same.
 pub(crate) fn is_same(a: &SplType, b: &SplType) -> bool
@@ -73,6 +75,76 @@ pub(crate) fn schema_of(kind: &SplType) -> Option<&Schema>
         SplType::Tuple(schema) => Some(schema),
         SplType::Int(_) | SplType::Bool | SplType::Text | SplType::List(_) | SplType::Map(_, _) =>
             None,
+    }
+}
+
+/// The type that is wanted of a list's elements, where one is. The list stands at that place.
+pub(crate) fn element_wanted(
+    alloc: Global,
+    at: u32,
+    wanted: Option<&SplType>,
+) -> Result<Option<Boxed<SplType>>, TypeAnswer>
+    ensures { Finds (if_wanted at (wants_list (option_copied wanted.entry))) result }
+{
+    let Some(kind) = wanted else {
+        return Ok(None);
+    };
+    match element_of(kind) {
+        Some(element) => Ok(Some(boxed_copy(alloc, element)?)),
+        None => Err(mismatch(at)),
+    }
+}
+
+/// The types that are wanted of a map's keys and values, where they are. The map stands at that place.
+pub(crate) fn pair_wanted(
+    alloc: Global,
+    at: u32,
+    wanted: Option<&SplType>,
+) -> Result<Option<(Boxed<SplType>, Boxed<SplType>)>, TypeAnswer>
+    ensures { Finds (if_wanted at (wants_map (option_copied wanted.entry))) result }
+{
+    let Some(kind) = wanted else {
+        return Ok(None);
+    };
+    match pair_of(kind) {
+        Some((key, value)) => {
+            let key = boxed_copy(alloc, key)?;
+            Ok(Some((key, boxed_copy(alloc, value)?)))
+        }
+        None => Err(mismatch(at)),
+    }
+}
+
+/// The attributes that are wanted of a tuple at a place, where they are. Its fields have to be these, or
+/// else of different names.
+pub(crate) fn schema_wanted<'t>(
+    at: u32,
+    wanted: Option<&'t SplType>,
+    fields: &[Field<Expr>],
+) -> Result<Option<&'t Schema>, TypeAnswer>
+    ensures { FindsBy option_copied (schema_for at (wants_tuple (option_copied wanted.entry)) (field_parts fields.now)) result }
+{
+    let Some(kind) = wanted else {
+        return if are_distinct(fields) {
+            Ok(None)
+        } else {
+            Err(mismatch(at))
+        };
+    };
+    match schema_of(kind) {
+        Some(schema) if gives_each(schema.as_slice(), fields) => Ok(Some(schema)),
+        _ => Err(mismatch(at)),
+    }
+}
+
+/// The type that is wanted of an index into a value whose expression begins at `base`, where one is.
+pub(crate) fn index_wanted(base: u32, kind: &SplType) -> Result<Option<&SplType>, TypeAnswer>
+    ensures { FindsBy option_copied (index_for base (out-SplType kind.now)) result }
+{
+    match kind {
+        SplType::List(_) => Ok(None),
+        SplType::Map(key, _) => Ok(Some(key.get())),
+        SplType::Int(_) | SplType::Bool | SplType::Text | SplType::Tuple(_) => Err(mismatch(base)),
     }
 }
 

@@ -1,19 +1,22 @@
 //! The types and codes of expressions whose parts have theirs.
-ghost use Rattle.std.specs.Prelude.{◌≡◌, Ok};
+ghost use Rattle.std.specs.Prelude.{◌≡◌, ◌++◌, ◌∷◌, [], Ok, OnOk};
 ghost use Rattle.spl_tree.specs.declared.code.Code.TheVariants as C;
 ghost use Rattle.spl_value.specs.declared.types.SplType.TheVariants as S;
+ghost use Rattle.spl_value.specs.declared.types.SplType.TheViews.{out-SplType};
 ghost use Rattle.spl_value.specs.declared.value.Value.TheVariants as V;
 ghost use Rattle.language_model.specs.Scopes.{attribute_of};
-ghost use Rattle.language_model.specs.Typing.{typed, number_typed, member_typed, selected, port_attribute};
+ghost use Rattle.language_model.specs.Typing.{typed, number_typed, selected, port_attribute};
 ghost use Rattle.type_rules.specs.Finds.{Finds};
+ghost use Rattle.type_rules.specs.Takings.{Takes, member_taken, index_taken};
 
 use crate::answer::{TypeAnswer, mismatch, narrow, unknown};
 use crate::boxing::{boxed, boxed_copy};
+use crate::kinds::{element_of, index_typed, pair_of, schema_of};
 use crate::names::{attribute, slot_typed};
 use language_model::{Port, Typed};
 use spl_tree::{BuiltIn, Code, Number, Placed, Slot, Taking};
-use spl_value::{Boxed, Bytes, Items, Name, Schema, SplType, Value, is_of_kind};
-use std::alloc::Global;
+use spl_value::{Boxed, Bytes, Items, Name, Named, Schema, SplType, Value, is_of_kind};
+use std::alloc::{AllocError, Global};
 
 /// Codes of expressions.
 pub(crate) type Codes = Items<Code<Slot>>;
@@ -83,23 +86,52 @@ pub(crate) fn tuple_of(
     boxed(alloc, SplType::Tuple(schema), Code::Tuple(codes))
 }
 
-/// The attribute of the member's name.
-pub(crate) fn member_of(
+/// Takes a member of a value of a type, whose expression begins at `base`: the type of that.
+pub(crate) fn take_member(
     alloc: Global,
-    schema: &Schema,
+    base: u32,
+    kind: &SplType,
     member: &Placed<Name>,
-) -> Result<(Taking<Code<Slot>>, Boxed<SplType>), TypeAnswer>
-    ensures { Finds (member_typed member.now.at member.now.what (attribute_of schema.now member.now.what)) result }
+    takings: &mut Takings,
+) -> Result<Boxed<SplType>, TypeAnswer>
+    ensures { Takes (member_taken base (out-SplType kind.now) member.now.at member.now.what) takings.old takings.new result }
 {
+    let Some(schema) = schema_of(kind) else {
+        return Err(mismatch(base));
+    };
     let name = member.what.as_slice();
-    match attribute(schema.as_slice(), name) {
-        Some((place, found)) => {
-            let place = narrow(place)?;
-            let kind = boxed_copy(alloc, &found.kind)?;
-            Ok((Taking::Member(place), kind))
-        }
-        None => Err(unknown(alloc, member.at, name)),
+    let Some((place, found)) = attribute(schema.as_slice(), name) else {
+        return Err(unknown(alloc, member.at, name));
+    };
+    let given = boxed_copy(alloc, &found.kind)?;
+    takings.push(Taking::Member(narrow(place)?))?;
+    Ok(given)
+}
+
+/// Takes what stands in a list at an index, or in a map at a key. The index begins at `at`, and the
+/// value's expression at `base`.
+pub(crate) fn take_index(
+    alloc: Global,
+    base: u32,
+    kind: &SplType,
+    at: u32,
+    index: Typed,
+    takings: &mut Takings,
+) -> Result<Boxed<SplType>, TypeAnswer>
+    ensures { Takes (index_taken base at index (out-SplType kind.now)) takings.old takings.new result }
+{
+    if let Some(element) = element_of(kind) {
+        let code = index_typed(at, index)?;
+        let given = boxed_copy(alloc, element)?;
+        takings.push(Taking::Element(code.into_inner()))?;
+        return Ok(given);
     }
+    let Some((_, value)) = pair_of(kind) else {
+        return Err(mismatch(base));
+    };
+    let given = boxed_copy(alloc, value)?;
+    takings.push(Taking::AtKey(code_of(index)))?;
+    Ok(given)
 }
 
 pub(crate) fn select(
@@ -146,6 +178,49 @@ pub(crate) fn call_typed(
 {
     let code = Boxed::new(alloc, Code::BuiltIn(call, codes))?;
     Ok(Typed { kind, code })
+}
+
+/// Adds a code to others.
+pub(crate) fn push_code(codes: &mut Codes, code: Boxed<Code<Slot>>) -> Result<(), AllocError>
+    ensures { OnOk result (codes.new ≡ codes.old ++ code ∷ []) }
+{
+    codes.push(code.into_inner())
+}
+
+/// Adds the codes of a key and a value.
+pub(crate) fn push_entry(
+    codes: &mut EntryCodes,
+    key: Boxed<Code<Slot>>,
+    value: Boxed<Code<Slot>>,
+) -> Result<(), AllocError>
+    ensures { OnOk result (codes.new ≡ codes.old ++ (key, value) ∷ []) }
+{
+    codes.push((key.into_inner(), value.into_inner()))
+}
+
+/// Adds the code of a field, with the place of its attribute.
+pub(crate) fn push_field(
+    codes: &mut FieldCodes,
+    place: u32,
+    code: Boxed<Code<Slot>>,
+) -> Result<(), AllocError>
+    ensures { OnOk result (codes.new ≡ codes.old ++ (place, code) ∷ []) }
+{
+    codes.push((place, code.into_inner()))
+}
+
+/// Adds an attribute.
+pub(crate) fn push_attribute(
+    schema: &mut Schema,
+    name: Name,
+    kind: Boxed<SplType>,
+) -> Result<(), AllocError>
+    ensures { OnOk result (schema.new ≡ schema.old ++ record { name = name; kind = kind } ∷ []) }
+{
+    schema.push(Named {
+        name,
+        kind: kind.into_inner(),
+    })
 }
 
 /// The code alone.

@@ -1,9 +1,11 @@
 //! What operators are on operands of a type.
 ghost use Rattle.std.specs.Prelude.{◌≡◌, drop, reverse, Ok};
+ghost use Rattle.std.specs.Option.{option_copied};
 ghost use Rattle.spl_tree.specs.declared.code.Code.TheVariants as C;
 ghost use Rattle.spl_value.specs.declared.types.SplType.TheViews.{out-SplType};
-ghost use Rattle.language_model.specs.Typing.{integer_operator, order_operator, on_integers, ordering_of, or_else, level_operator, level_prefix, level_in, prefixes_at, prefixes_typed, typed};
-ghost use Rattle.type_rules.specs.Finds.{Finds};
+ghost use Rattle.language_model.specs.Typing.{integer_operator, order_operator, on_integers, ordering_of, or_else, level_operator, level_prefix, level_in, prefixes_at, prefixes_typed, branch_wanted, typed, after};
+ghost use Rattle.type_rules.specs.Finds.{Finds, FindsBy};
+ghost use Rattle.type_rules.specs.Operands.{right_for, operation_given, same_given};
 
 use crate::answer::{TypeAnswer, mismatch};
 use crate::kinds::{held_of, is_same};
@@ -142,6 +144,86 @@ pub(crate) fn prefixes_on(
         codes.push(code)?;
     }
     Ok((outermost_first(codes), kind))
+}
+
+/// Prefixes on an operand that begins at a place.
+pub(crate) fn prefixed(
+    alloc: Global,
+    prefixes: &[Prefix],
+    at: u32,
+    operand: Typed,
+) -> Result<Typed, TypeAnswer>
+    ensures { Finds (after (prefixes_typed prefixes.now at operand.kind) (λ xs. Ok (typed xs.1 (C.Unary xs.0 operand.code)))) result }
+{
+    let Typed { kind, code } = operand;
+    let (codes, kind) = prefixes_on(alloc, prefixes, at, kind)?;
+    let code = Boxed::new(alloc, Code::Unary(codes, code))?;
+    Ok(Typed { kind, code })
+}
+
+/// The type that is wanted of an operator's right operand, where one is: that of the left one, which
+/// stands at a place and has to be one that the operator is on.
+pub(crate) fn right_wanted(
+    operator: BinaryOperator,
+    at: u32,
+    left: &SplType,
+) -> Result<Option<&SplType>, TypeAnswer>
+    ensures { FindsBy option_copied (right_for at operator left.now) result }
+{
+    match operator {
+        BinaryOperator::In => Ok(None),
+        _ => match operator_on(operator, left) {
+            Some(_) => Ok(Some(left)),
+            None => Err(mismatch(at)),
+        },
+    }
+}
+
+/// An operator on two operands that stand at these places.
+pub(crate) fn operation_of(
+    alloc: Global,
+    operator: BinaryOperator,
+    left_at: u32,
+    left: Typed,
+    right_at: u32,
+    right: Typed,
+) -> Result<Typed, TypeAnswer>
+    ensures { Finds (operation_given left_at right_at left right operator) result }
+{
+    match operator {
+        BinaryOperator::In => in_typed(alloc, left, right, right_at),
+        _ => same_typed(alloc, operator, left_at, left, right),
+    }
+}
+
+/// An operator on two operands of one type.
+pub(crate) fn same_typed(
+    alloc: Global,
+    operator: BinaryOperator,
+    at: u32,
+    left: Typed,
+    right: Typed,
+) -> Result<Typed, TypeAnswer>
+    ensures { Finds (same_given at left right (level_operator operator (out-SplType left.kind))) result }
+{
+    let Some((operator, kind)) = operator_on(operator, left.kind.get()) else {
+        return Err(mismatch(at));
+    };
+    let kind = Boxed::new(alloc, kind)?;
+    binary(alloc, kind, operator, left, right)
+}
+
+/// The type that is wanted of a conditional's second branch: the wanted one, or else the first one's.
+pub(crate) fn branch_wanted<'t>(
+    wanted: Option<&'t SplType>,
+    first: &'t SplType,
+) -> Option<&'t SplType>
+    ensures { option_copied result ≡ branch_wanted (option_copied wanted.entry) first.now }
+{
+    match wanted {
+        Some(kind) => Some(kind),
+        None => Some(first),
+    }
 }
 
 /// `in`: a value is looked for in a list of its type, or in a map with keys of its type. The right

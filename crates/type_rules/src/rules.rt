@@ -1,31 +1,29 @@
 //! The types of expressions, by a call for each form of expression.
 
-ghost use Rattle.std.specs.Prelude.{None, Ok, ◌∷◌, ◌&&◌};
+ghost use Rattle.std.specs.Prelude.{None, Ok, ◌&&◌};
 ghost use Rattle.std.specs.Option.{option_copied};
-ghost use Rattle.spl_value.specs.declared.types.SplType.TheViews.{out-SplType};
-ghost use Rattle.language_model.specs.Scopes.{function_of};
-ghost use Rattle.language_model.specs.Typing.{Anything, typing, part, elements_typed, list_typed, wants_list, entries_typed, map_typed, wants_map, fields_typed, own_fields, tuple_typed, wants_tuple, level_step, steps_typed, select_typed, of_base, unary_typed, binary_or_marker, marker_asked, binary_typed, level_operator, operands_typed, conditional_typed, branch_wanted, arguments_typed, function_typed, call_typed, call_of, arguments_of, first_typed, level_first, changed_typed, level_changed, no_value, after};
-ghost use Rattle.language_model.specs.TypingLaws.{parted, parts, entry_parts, field_parts, step_part, step_parts};
+ghost use Rattle.spl_value.specs.declared.types.SplType.TheVariants as S;
+ghost use Rattle.spl_tree.specs.declared.code.Code.TheVariants as C;
+ghost use Rattle.language_model.specs.Typing.{typing, typed, part, list_typed, wants_list, map_typed, wants_map, fields_typed, own_fields, select_typed, of_base, binary_or_marker, marker_asked, arguments_typed, call_typed, call_of, after};
+ghost use Rattle.language_model.specs.TypingLaws.{parted, parts, entry_parts, field_parts, step_parts};
 ghost use Rattle.type_rules.specs.Finds.{Finds, with_front};
 
-use crate::answer::{TypeAnswer, mismatch, narrow, wrong_call};
-use crate::boxing::{boxed, boxed_copy};
-use crate::calls::{argument_count, call_named, may_change, on_changed, on_first, value_given};
+use crate::answer::{TypeAnswer, mismatch, narrow};
+use crate::boxing::{boxed, kind_in, kinds_in};
+use crate::calls::{
+    argument_row, asked_of, call_named, called, first_wanted, function_given, given, one_code,
+};
 use crate::forms::{asks, marker, marker_test, port_member};
-use crate::kinds::{
-    are_distinct, as_wanted, element_of, gives_each, index_typed, pair_of, schema_of,
-};
+use crate::kinds::{as_wanted, element_wanted, index_wanted, pair_wanted, schema_wanted};
 use crate::making::{
-    Codes, EntryCodes, FieldCodes, call_typed, chosen, code_of, list_of, literal, map_of,
-    member_of, number_typed, of_port, select, text, tuple_of,
+    Codes, chosen, list_of, literal, map_of, number_typed, of_port, push_attribute, push_code,
+    push_entry, push_field, select, take_index, take_member, text, tuple_of,
 };
-use crate::names::{attribute, dollar_typed, function, name_typed, not_callable};
-use crate::operators::{binary, in_typed, operator_on, prefixes_on};
+use crate::names::{attribute, dollar_typed, name_typed};
+use crate::operators::{branch_wanted, operation_of, prefixed, right_wanted};
 use language_model::{Scope, Typed};
-use spl_tree::{
-    BinaryOperator, BuiltIn, CallName, Code, Expr, ExprKind, Field, Prefix, Slot, Step, Taking,
-};
-use spl_value::{Boxed, IntKind, Items, Named, Schema, SplType, Value, copy_schema};
+use spl_tree::{BinaryOperator, Expr, ExprKind, Field, Step};
+use spl_value::{Items, Schema, SplType, Value, copy_schema};
 use std::alloc::Global;
 
 /// The type and the code of an expression in a scope, under the type that its place wants, if it
@@ -47,7 +45,7 @@ pub fn type_of(
 }
 
 #[cycle(types)]
-#[tactic(auto, using(language_model::specs::TypingLaws::typing_laws))]
+#[tactic(auto, using(language_model::specs::TypingLaws::typing_laws, crate::proofs::LiteralLaws::tuple_law))]
 fn type_at(
     alloc: Global,
     scope: &Scope,
@@ -57,52 +55,46 @@ fn type_at(
     ensures { Finds (typing scope.now expr.now (option_copied wanted.entry)) result }
 {
     let at = expr.at;
-    let typed = match expr.what.get() {
+    let found = match expr.what.get() {
         ExprKind::Group(inner) => return type_at(alloc, scope, inner, wanted),
         ExprKind::List(elements) => {
             return list(alloc, scope, at, elements.as_slice(), wanted);
         }
         ExprKind::Map(entries) => return map(alloc, scope, at, entries.as_slice(), wanted),
-        ExprKind::Tuple(fields) => return tuple(alloc, scope, at, fields.as_slice(), wanted),
+        ExprKind::Tuple(fields) => {
+            return match schema_wanted(at, wanted, fields.as_slice())? {
+                Some(schema) => tuple(alloc, scope, schema, fields.as_slice()),
+                None => own_tuple(alloc, scope, fields.as_slice()),
+            };
+        }
         ExprKind::Conditional(condition, first, second) => {
-            return conditional(alloc, scope, condition, first, second, wanted);
+            let test = type_at(alloc, scope, condition, Some(&SplType::Bool))?;
+            let one = type_at(alloc, scope, first, wanted)?;
+            let wanted = branch_wanted(wanted, one.kind.get());
+            let other = type_at(alloc, scope, second, wanted)?;
+            return chosen(alloc, test, one, other);
         }
-        ExprKind::Name(name) => name_typed(alloc, scope, at, name.as_slice())?,
-        ExprKind::Dollar(name) => dollar_typed(alloc, scope, at, name.as_slice())?,
-        ExprKind::Number(number) => number_typed(alloc, at, *number)?,
-        ExprKind::Text(bytes) => text(alloc, bytes)?,
-        ExprKind::Bool(b) => literal(alloc, SplType::Bool, Value::Bool(*b))?,
+        ExprKind::Name(name) => name_typed(alloc, scope, at, name.as_slice()),
+        ExprKind::Dollar(name) => dollar_typed(alloc, scope, at, name.as_slice()),
+        ExprKind::Number(number) => number_typed(alloc, at, *number),
+        ExprKind::Text(bytes) => text(alloc, bytes),
+        ExprKind::Bool(b) => literal(alloc, SplType::Bool, Value::Bool(*b)),
         ExprKind::Call(name, arguments) => {
-            call(alloc, scope, at, name.as_slice(), arguments.as_slice())?
+            call(alloc, scope, at, name.as_slice(), arguments.as_slice())
         }
-        ExprKind::Select(base, steps) => selection(alloc, scope, base, steps.as_slice())?,
-        ExprKind::Unary(prefixes, operand) => { unary(alloc, scope, prefixes.as_slice(), operand)? }
+        ExprKind::Select(base, steps) => selection(alloc, scope, base, steps.as_slice()),
+        ExprKind::Unary(prefixes, operand) => {
+            let typed = type_at(alloc, scope, operand, None)?;
+            prefixed(alloc, prefixes.as_slice(), operand.at, typed)
+        }
         ExprKind::Binary(operator, left, right) => {
-            operation(alloc, scope, *operator, left, right)?
+            operation(alloc, scope, *operator, left, right)
         }
     };
-    as_wanted(at, wanted, typed)
+    as_wanted(at, wanted, found?)
 }
 
-/// The codes of expressions that have to be of one type, behind other codes.
-#[cycle(types)]
-fn elements(
-    alloc: Global,
-    scope: &Scope,
-    kind: &SplType,
-    elements: &[Expr],
-    front: Codes,
-) -> Result<Codes, TypeAnswer>
-    ensures { Finds (with_front front (elements_typed scope.now kind.now (parts elements.now))) result }
-{
-    let mut codes = front;
-    for element in elements {
-        let typed = type_at(alloc, scope, element, Some(kind))?;
-        codes.push(code_of(typed))?;
-    }
-    Ok(codes)
-}
-
+/// A list. Its elements have to be of the wanted type, or else of that of the first one.
 #[cycle(types)]
 fn list(
     alloc: Global,
@@ -113,52 +105,20 @@ fn list(
 ) -> Result<Typed, TypeAnswer>
     ensures { Finds (list_typed at scope.now (wants_list (option_copied wanted.entry)) (parts all.now)) result }
 {
-    let Some(kind) = wanted else {
-        return own_list(alloc, scope, at, all);
-    };
-    let Some(element) = element_of(kind) else {
-        return Err(mismatch(at));
-    };
-    let codes = elements(alloc, scope, element, all, Items::new(alloc))?;
-    list_of(alloc, boxed_copy(alloc, element)?, codes)
-}
-
-/// A list from which no type is wanted: its elements have the first one's.
-#[cycle(types)]
-fn own_list(alloc: Global, scope: &Scope, at: u32, all: &[Expr]) -> Result<Typed, TypeAnswer>
-    ensures { Finds (list_typed at scope.now Anything (parts all.now)) result }
-{
-    let Some((first, rest)) = all.split_first() else {
-        return Err(mismatch(at));
-    };
-    let Typed { kind, code } = type_at(alloc, scope, first, None)?;
-    let mut front = Items::new(alloc);
-    front.push(code.into_inner())?;
-    let codes = elements(alloc, scope, kind.get(), rest, front)?;
-    list_of(alloc, kind, codes)
-}
-
-/// The codes of entries whose keys and values have to be of two types, behind other codes.
-#[cycle(types)]
-fn entries(
-    alloc: Global,
-    scope: &Scope,
-    key: &SplType,
-    value: &SplType,
-    entries: &[(Expr, Expr)],
-    front: EntryCodes,
-) -> Result<EntryCodes, TypeAnswer>
-    ensures { Finds (with_front front (entries_typed scope.now key.now value.now (entry_parts entries.now))) result }
-{
-    let mut codes = front;
-    for entry in entries {
-        let first = type_at(alloc, scope, &entry.0, Some(key))?;
-        let second = type_at(alloc, scope, &entry.1, Some(value))?;
-        codes.push((code_of(first), code_of(second)))?;
+    let mut kind = element_wanted(alloc, at, wanted)?;
+    let mut codes = Items::new(alloc);
+    for element in all {
+        let typed = type_at(alloc, scope, element, kind_in(&kind))?;
+        push_code(&mut codes, typed.code)?;
+        kind = Some(kind.unwrap_or(typed.kind));
     }
-    Ok(codes)
+    match kind {
+        Some(kind) => list_of(alloc, kind, codes),
+        None => Err(mismatch(at)),
+    }
 }
 
+/// A map. Its keys and values have to be of the wanted types, or else of those of the first entry.
 #[cycle(types)]
 fn map(
     alloc: Global,
@@ -169,42 +129,30 @@ fn map(
 ) -> Result<Typed, TypeAnswer>
     ensures { Finds (map_typed at scope.now (wants_map (option_copied wanted.entry)) (entry_parts all.now)) result }
 {
-    let Some(kind) = wanted else {
-        return own_map(alloc, scope, at, all);
-    };
-    let Some((key, value)) = pair_of(kind) else {
-        return Err(mismatch(at));
-    };
-    let codes = entries(alloc, scope, key, value, all, Items::new(alloc))?;
-    let key = boxed_copy(alloc, key)?;
-    map_of(alloc, key, boxed_copy(alloc, value)?, codes)
+    let mut kinds = pair_wanted(alloc, at, wanted)?;
+    let mut codes = Items::new(alloc);
+    for entry in all {
+        let (key, value) = kinds_in(&kinds);
+        let first = type_at(alloc, scope, &entry.0, key)?;
+        let second = type_at(alloc, scope, &entry.1, value)?;
+        push_entry(&mut codes, first.code, second.code)?;
+        kinds = Some(kinds.unwrap_or((first.kind, second.kind)));
+    }
+    match kinds {
+        Some((key, value)) => map_of(alloc, key, value, codes),
+        None => Err(mismatch(at)),
+    }
 }
 
-/// A map from which no type is wanted: its keys and values have the first ones' types.
+/// A tuple of these attributes, each of which is the field of its name.
 #[cycle(types)]
-fn own_map(alloc: Global, scope: &Scope, at: u32, all: &[(Expr, Expr)]) -> Result<Typed, TypeAnswer>
-    ensures { Finds (map_typed at scope.now Anything (entry_parts all.now)) result }
-{
-    let Some((first, rest)) = all.split_first() else {
-        return Err(mismatch(at));
-    };
-    let key = type_at(alloc, scope, &first.0, None)?;
-    let value = type_at(alloc, scope, &first.1, None)?;
-    let mut front = Items::new(alloc);
-    front.push((key.code.into_inner(), value.code.into_inner()))?;
-    let codes = entries(alloc, scope, key.kind.get(), value.kind.get(), rest, front)?;
-    map_of(alloc, key.kind, value.kind, codes)
-}
-
-/// The codes of fields, each of which has to be an attribute of its name and type.
-#[cycle(types)]
-fn fields(
+fn tuple(
     alloc: Global,
     scope: &Scope,
     schema: &Schema,
     fields: &[Field<Expr>],
-) -> Result<FieldCodes, TypeAnswer>
-    ensures { Finds (fields_typed scope.now schema.now (field_parts fields.now)) result }
+) -> Result<Typed, TypeAnswer>
+    ensures { Finds (after (fields_typed scope.now schema.now (field_parts fields.now)) (λ xs. Ok (typed (S.Tuple schema.now) (C.Tuple xs)))) result }
 {
     let mut codes = Items::new(alloc);
     for field in fields {
@@ -213,106 +161,26 @@ fn fields(
         };
         let typed = type_at(alloc, scope, &field.value, Some(&found.kind))?;
         let place = narrow(place)?;
-        codes.push((place, code_of(typed)))?;
+        push_field(&mut codes, place, typed.code)?;
     }
-    Ok(codes)
+    tuple_of(alloc, copy_schema(alloc, schema.as_slice())?, codes)
 }
 
-/// The attributes that fields are by themselves, and their codes.
+/// A tuple whose attributes are its fields.
 #[cycle(types)]
-fn own_fields(
-    alloc: Global,
-    scope: &Scope,
-    fields: &[Field<Expr>],
-) -> Result<(Schema, FieldCodes), TypeAnswer>
-    ensures { Finds (own_fields scope.now 0 (field_parts fields.now)) result }
+fn own_tuple(alloc: Global, scope: &Scope, fields: &[Field<Expr>]) -> Result<Typed, TypeAnswer>
+    ensures { Finds (after (own_fields scope.now 0 (field_parts fields.now)) (λ xs. Ok (typed (S.Tuple xs.0) (C.Tuple xs.1)))) result }
 {
     let mut schema = Items::new(alloc);
     let mut codes = Items::new(alloc);
     for (place, field) in fields.iter().enumerate() {
-        let Typed { kind, code } = type_at(alloc, scope, &field.value, None)?;
+        let typed = type_at(alloc, scope, &field.value, None)?;
         let name = Items::from_slice(alloc, field.name.what.as_slice())?;
         let place = narrow(place)?;
-        schema.push(Named {
-            name,
-            kind: kind.into_inner(),
-        })?;
-        codes.push((place, code.into_inner()))?;
+        push_attribute(&mut schema, name, typed.kind)?;
+        push_field(&mut codes, place, typed.code)?;
     }
-    Ok((schema, codes))
-}
-
-#[cycle(types)]
-fn tuple(
-    alloc: Global,
-    scope: &Scope,
-    at: u32,
-    all: &[Field<Expr>],
-    wanted: Option<&SplType>,
-) -> Result<Typed, TypeAnswer>
-    ensures { Finds (tuple_typed at scope.now (wants_tuple (option_copied wanted.entry)) (field_parts all.now)) result }
-{
-    let Some(kind) = wanted else {
-        return own_tuple(alloc, scope, at, all);
-    };
-    let Some(schema) = schema_of(kind) else {
-        return Err(mismatch(at));
-    };
-    if !gives_each(schema.as_slice(), all) {
-        return Err(mismatch(at));
-    }
-    let codes = fields(alloc, scope, schema, all)?;
-    tuple_of(alloc, copy_schema(alloc, schema.as_slice())?, codes)
-}
-
-/// A tuple from which no type is wanted: its attributes are its fields.
-#[cycle(types)]
-fn own_tuple(
-    alloc: Global,
-    scope: &Scope,
-    at: u32,
-    all: &[Field<Expr>],
-) -> Result<Typed, TypeAnswer>
-    ensures { Finds (tuple_typed at scope.now Anything (field_parts all.now)) result }
-{
-    if !are_distinct(all) {
-        return Err(mismatch(at));
-    }
-    let (schema, codes) = own_fields(alloc, scope, all)?;
     tuple_of(alloc, schema, codes)
-}
-
-/// What a step takes of a value of a type, whose expression begins at `base`, and the type of that.
-#[cycle(types)]
-fn step(
-    alloc: Global,
-    scope: &Scope,
-    base: u32,
-    kind: &SplType,
-    step: &Step<Expr>,
-) -> Result<(Taking<Code<Slot>>, Boxed<SplType>), TypeAnswer>
-    ensures { Finds (level_step base scope.now (out-SplType kind.now) (step_part step.now)) result }
-{
-    match step {
-        Step::Member(member) => match schema_of(kind) {
-            Some(schema) => member_of(alloc, schema, member),
-            None => Err(mismatch(base)),
-        },
-        Step::Index(index) => {
-            if let Some(element) = element_of(kind) {
-                let typed = type_at(alloc, scope, index, None)?;
-                let code = index_typed(index.at, typed)?;
-                let element = boxed_copy(alloc, element)?;
-                return Ok((Taking::Element(code.into_inner()), element));
-            }
-            let Some((key, value)) = pair_of(kind) else {
-                return Err(mismatch(base));
-            };
-            let typed = type_at(alloc, scope, index, Some(key))?;
-            let value = boxed_copy(alloc, value)?;
-            Ok((Taking::AtKey(code_of(typed)), value))
-        }
-    }
 }
 
 /// A value whose expression begins at `base`, and what is taken of it in turn.
@@ -329,9 +197,15 @@ fn taken(
     let Typed { mut kind, code } = first;
     let mut takings = Items::new(alloc);
     for next in steps {
-        let (taking, given) = step(alloc, scope, base, kind.get(), next)?;
-        takings.push(taking)?;
-        kind = given;
+        match next {
+            Step::Member(member) => {
+                kind = take_member(alloc, base, kind.get(), member, &mut takings)?;
+            }
+            Step::Index(index) => {
+                let typed = type_at(alloc, scope, index, index_wanted(base, kind.get())?)?;
+                kind = take_index(alloc, base, kind.get(), index.at, typed, &mut takings)?;
+            }
+        }
     }
     let code = select(alloc, code, takings)?;
     Ok(Typed { kind, code })
@@ -355,22 +229,9 @@ fn selection(
     taken(alloc, scope, base.at, typed, steps)
 }
 
+/// An operator between two operands, or a comparison with a marker.
 #[cycle(types)]
-fn unary(
-    alloc: Global,
-    scope: &Scope,
-    prefixes: &[Prefix],
-    operand: &Expr,
-) -> Result<Typed, TypeAnswer>
-    ensures { Finds (unary_typed scope.now prefixes.now (parted operand.now)) result }
-{
-    let Typed { kind, code } = type_at(alloc, scope, operand, None)?;
-    let (codes, kind) = prefixes_on(alloc, prefixes, operand.at, kind)?;
-    let code = Boxed::new(alloc, Code::Unary(codes, code))?;
-    Ok(Typed { kind, code })
-}
-
-#[cycle(types)]
+#[tactic(auto, using(crate::proofs::Exits::binary_law))]
 fn operation(
     alloc: Global,
     scope: &Scope,
@@ -384,84 +245,13 @@ fn operation(
     if let Some(code) = marker_test(asks, operator, marker(right)) {
         return boxed(alloc, SplType::Bool, code);
     }
-    operands(alloc, scope, operator, left, right)
-}
-
-#[cycle(types)]
-fn operands(
-    alloc: Global,
-    scope: &Scope,
-    operator: BinaryOperator,
-    left: &Expr,
-    right: &Expr,
-) -> Result<Typed, TypeAnswer>
-    ensures { Finds (binary_typed scope.now operator (parted left.now) (parted right.now)) result }
-{
     let first = type_at(alloc, scope, left, None)?;
-    match operator {
-        BinaryOperator::In => {
-            let second = type_at(alloc, scope, right, None)?;
-            in_typed(alloc, first, second, right.at)
-        }
-        _ => same_operands(alloc, scope, operator, first, left, right),
-    }
+    let wanted = right_wanted(operator, left.at, first.kind.get())?;
+    let second = type_at(alloc, scope, right, wanted)?;
+    operation_of(alloc, operator, left.at, first, right.at, second)
 }
 
-/// An operator whose right operand has to have the type of the left one.
-#[cycle(types)]
-pub(crate) fn same_operands(
-    alloc: Global,
-    scope: &Scope,
-    operator: BinaryOperator,
-    first: Typed,
-    left: &Expr,
-    right: &Expr,
-) -> Result<Typed, TypeAnswer>
-    ensures { Finds (operands_typed scope.now first (parted left.now) (parted right.now) (level_operator operator (out-SplType first.kind))) result }
-{
-    let Some((operator, kind)) = operator_on(operator, first.kind.get()) else {
-        return Err(mismatch(left.at));
-    };
-    let kind = Boxed::new(alloc, kind)?;
-    let second = type_at(alloc, scope, right, Some(first.kind.get()))?;
-    binary(alloc, kind, operator, first, second)
-}
-
-#[cycle(types)]
-fn conditional(
-    alloc: Global,
-    scope: &Scope,
-    condition: &Expr,
-    first: &Expr,
-    second: &Expr,
-    wanted: Option<&SplType>,
-) -> Result<Typed, TypeAnswer>
-    ensures { Finds (conditional_typed scope.now (option_copied wanted.entry) (parted condition.now) (parted first.now) (parted second.now)) result }
-{
-    let test = type_at(alloc, scope, condition, Some(&SplType::Bool))?;
-    let one = type_at(alloc, scope, first, wanted)?;
-    let other = second_branch(alloc, scope, second, wanted, one.kind.get())?;
-    chosen(alloc, test, one, other)
-}
-
-/// The second branch of a conditional: it has to be of the wanted type, or else of the first one's.
-#[cycle(types)]
-fn second_branch(
-    alloc: Global,
-    scope: &Scope,
-    branch: &Expr,
-    wanted: Option<&SplType>,
-    first: &SplType,
-) -> Result<Typed, TypeAnswer>
-    ensures { Finds (typing scope.now branch.now (branch_wanted (option_copied wanted.entry) first.now)) result }
-{
-    match wanted {
-        None => type_at(alloc, scope, branch, Some(first)),
-        Some(kind) => type_at(alloc, scope, branch, Some(kind)),
-    }
-}
-
-/// The codes of arguments that have to be of these types, one of each.
+/// The codes of arguments that have to be of these types, one of each, behind other codes.
 #[cycle(types)]
 pub(crate) fn arguments(
     alloc: Global,
@@ -476,14 +266,17 @@ pub(crate) fn arguments(
     let mut at = 0;
     'arguments: while at < kinds.len() && at < arguments.len() {
         let typed = type_at(alloc, scope, &arguments[at], Some(&kinds[at]))?;
-        codes.push(code_of(typed))?;
+        push_code(&mut codes, typed.code)?;
         at += 1;
     }
     Ok(codes)
 }
 
+/// A call of a function, or of one that the language has built in. The first argument of that says
+/// what the others have to be.
 #[cycle(types)]
-fn call(
+#[tactic(auto, using(crate::proofs::CallLaws::built_in_law, crate::proofs::CallLaws::function_law))]
+pub(crate) fn call(
     alloc: Global,
     scope: &Scope,
     at: u32,
@@ -492,173 +285,27 @@ fn call(
 ) -> Result<Typed, TypeAnswer>
     ensures { Finds (call_typed at scope.now name.now (parts all.now) (call_of name.now)) result }
 {
-    match call_named(name) {
-        Some(call) => {
-            if all.len() != argument_count(call) {
-                return Err(wrong_call(at));
-            }
-            built_in(alloc, scope, at, call, all)
-        }
-        None => function_call(alloc, scope, at, name, all),
-    }
-}
-
-#[cycle(types)]
-fn function_call(
-    alloc: Global,
-    scope: &Scope,
-    at: u32,
-    name: &[u8],
-    all: &[Expr],
-) -> Result<Typed, TypeAnswer>
-    ensures { Finds (function_typed at scope.now name.now (parts all.now) (function_of scope.now name.now)) result }
-{
-    let Some((place, found)) = function(scope, name) else {
-        return not_callable(alloc, scope, at, name);
+    let Some(call) = call_named(name) else {
+        let (place, found) = called(alloc, scope, at, name, all)?;
+        let codes = arguments(
+            alloc,
+            scope,
+            found.parameters.as_slice(),
+            all,
+            Items::new(alloc),
+        )?;
+        return function_given(alloc, at, place, found.result.as_ref(), codes);
     };
-    let kinds = found.parameters.as_slice();
-    if all.len() != kinds.len() {
-        return Err(wrong_call(at));
-    }
-    let codes = arguments(alloc, scope, kinds, all, Items::new(alloc))?;
-    let place = narrow(place)?;
-    let code = Boxed::new(alloc, Code::Call(place, codes))?;
-    value_given(alloc, at, found.result.as_ref(), code)
-}
-
-#[cycle(types)]
-pub(crate) fn built_in(
-    alloc: Global,
-    scope: &Scope,
-    at: u32,
-    call: CallName,
-    all: &[Expr],
-) -> Result<Typed, TypeAnswer>
-    ensures { Finds (arguments_of at scope.now call (parts all.now)) result }
-{
-    match call {
-        CallName::Length => {
-            let codes = arguments(alloc, scope, &[SplType::Text], all, Items::new(alloc))?;
-            let kind = Boxed::new(alloc, SplType::Int(IntKind::I32))?;
-            call_typed(alloc, BuiltIn::Length, kind, codes)
-        }
-        CallName::Substring => {
-            let kinds = &[
-                SplType::Text,
-                SplType::Int(IntKind::I32),
-                SplType::Int(IntKind::I32),
-            ];
-            let codes = arguments(alloc, scope, kinds, all, Items::new(alloc))?;
-            let kind = Boxed::new(alloc, SplType::Text)?;
-            call_typed(alloc, BuiltIn::Substring, kind, codes)
-        }
-        CallName::AppendM | CallName::RemoveM | CallName::ClearM => {
-            let Some((first, rest)) = all.split_first() else {
-                return Err(wrong_call(at));
-            };
-            change(alloc, scope, at, call, first, rest)
-        }
-        CallName::Size | CallName::Has | CallName::Abs | CallName::Min | CallName::Max => {
-            let Some((first, rest)) = all.split_first() else {
-                return Err(wrong_call(at));
-            };
-            first_decides(alloc, scope, at, call, first, rest)
-        }
-        CallName::CurrentPunct => Err(wrong_call(at)),
-    }
-}
-
-/// A call whose first argument's type says those of the others.
-#[cycle(types)]
-fn first_decides(
-    alloc: Global,
-    scope: &Scope,
-    at: u32,
-    call: CallName,
-    first: &Expr,
-    rest: &[Expr],
-) -> Result<Typed, TypeAnswer>
-    ensures { Finds (after (typing scope.now first.now None) (λ x. first_typed at scope.now x.code (parts rest.now) (level_first call x.kind (out-SplType x.kind)))) result }
-{
-    let typed = type_at(alloc, scope, first, None)?;
-    with_first(alloc, scope, at, call, typed, rest)
-}
-
-/// A call on a first argument of a type.
-#[cycle(types)]
-fn with_first(
-    alloc: Global,
-    scope: &Scope,
-    at: u32,
-    call: CallName,
-    first: Typed,
-    rest: &[Expr],
-) -> Result<Typed, TypeAnswer>
-    ensures { Finds (first_typed at scope.now first.code (parts rest.now) (level_first call first.kind (out-SplType first.kind))) result }
-{
-    let Typed { kind, code } = first;
-    match on_first(alloc, call, kind)? {
-        Some((call, kind, kinds)) => {
-            let codes = others(alloc, scope, &kinds, code, rest)?;
-            call_typed(alloc, call, kind, codes)
-        }
-        None => Err(wrong_call(at)),
-    }
-}
-
-/// The codes of the arguments of a call: that of the first, and those of the others, which have to be
-/// of these types.
-#[cycle(types)]
-fn others(
-    alloc: Global,
-    scope: &Scope,
-    kinds: &Items<SplType>,
-    first: Boxed<Code<Slot>>,
-    rest: &[Expr],
-) -> Result<Codes, TypeAnswer>
-    ensures { Finds (after (arguments_typed scope.now kinds.now (parts rest.now)) (λ xs. Ok (first ∷ xs))) result }
-{
-    let mut front = Items::new(alloc);
-    front.push(first.into_inner())?;
-    arguments(alloc, scope, kinds.as_slice(), rest, front)
-}
-
-/// A call that changes its first argument: it gives no value, and is refused for that once all else
-/// about it is right.
-#[cycle(types)]
-fn change(
-    alloc: Global,
-    scope: &Scope,
-    at: u32,
-    call: CallName,
-    first: &Expr,
-    rest: &[Expr],
-) -> Result<Typed, TypeAnswer>
-    ensures { Finds (no_value at (after (typing scope.now first.now None) (λ x. changed_typed at scope.now (parted first.now) (parts rest.now) (level_changed call (out-SplType x.kind))))) result }
-{
-    let typed = type_at(alloc, scope, first, None)?;
-    changed(alloc, scope, at, call, typed.kind.get(), first, rest)?;
-    Err(mismatch(at))
-}
-
-/// The codes of the arguments behind the first, of a call that changes that. The first one has this
-/// type; it has to be a place that may be changed.
-#[cycle(types)]
-#[tactic(auto, using(crate::proofs::Exits::if_changed))]
-pub(crate) fn changed(
-    alloc: Global,
-    scope: &Scope,
-    at: u32,
-    call: CallName,
-    kind: &SplType,
-    first: &Expr,
-    rest: &[Expr],
-) -> Result<Codes, TypeAnswer>
-    ensures { Finds (changed_typed at scope.now (parted first.now) (parts rest.now) (level_changed call (out-SplType kind.now))) result }
-{
-    let Some(kinds) = on_changed(alloc, call, kind)? else {
-        return Err(wrong_call(at));
-    };
-    may_change(scope, at, first)?;
-    arguments(alloc, scope, kinds.as_slice(), rest, Items::new(alloc))
+    let (first, rest) = argument_row(at, call, all)?;
+    let wanted = first_wanted(alloc, call)?;
+    let Typed { kind, code } = type_at(alloc, scope, first, kind_in(&wanted))?;
+    let (gives, others) = asked_of(alloc, scope, at, call, first, kind)?;
+    let codes = arguments(
+        alloc,
+        scope,
+        others.as_slice(),
+        rest,
+        one_code(alloc, code)?,
+    )?;
+    given(alloc, at, gives, codes)
 }

@@ -1,22 +1,23 @@
 //! Assignments, and calls as statements.
-ghost use Rattle.std.specs.Prelude.{◌≡◌, None};
+ghost use Rattle.std.specs.Prelude.{◌≡◌, ◌==◌, None, length, if◌then◌else◌};
+ghost use Rattle.spl_value.specs.declared.types.SplType.TheViews.{out-SplType};
 ghost use Rattle.language_model.specs.Scopes.{function_of};
-ghost use Rattle.language_model.specs.Typing.{call_of};
-ghost use Rattle.language_model.specs.TypingLaws.{parts};
-ghost use Rattle.language_model.specs.StatementTyping.{assignment_typing, compound_typing, call_typing, call_statement, built_in_statement, function_statement, change_typing, change_made};
+ghost use Rattle.language_model.specs.Typing.{argument_count, call_of, changed_typed, level_changed, level_operator, operands_typed, wrong_call};
+ghost use Rattle.language_model.specs.TypingLaws.{parted, parts};
+ghost use Rattle.language_model.specs.StatementTyping.{assignment_typing, compound_typing, call_typing, call_statement, function_statement, change_typing, change_made};
 ghost use Rattle.type_rules.specs.Finds.{Finds};
 ghost use Rattle.type_rules.specs.Places.{only};
 
-use crate::answer::{TypeAnswer, narrow, wrong_call};
-use crate::calls::{argument_count, call_named};
+use crate::answer::{TypeAnswer, mismatch, narrow, wrong_call};
+use crate::calls::{argument_count, call_named, called, change_asked};
 use crate::kinds::as_wanted;
 use crate::making::{Codes, code_of};
-use crate::names::{function, not_callable};
+use crate::operators::{binary, operator_on};
 use crate::places::{place_given, place_of};
-use crate::rules::{arguments, built_in, changed, same_operands, type_of};
-use language_model::Scope;
+use crate::rules::{arguments, call, type_of};
+use language_model::{Scope, Typed};
 use spl_tree::{BinaryOperator, CallName, Change, Code, Expr, ExprKind, Place, Slot, Statement};
-use spl_value::Items;
+use spl_value::{Boxed, Items, SplType};
 use std::alloc::Global;
 
 /// The statement `place = value;` in a scope.
@@ -40,6 +41,25 @@ pub fn assignment_of(
     let (target, kind) = place_of(alloc, scope, place)?;
     let typed = type_of(alloc, scope, value, Some(kind.get()))?;
     Ok(Statement::Change(target, Change::Put(code_of(typed))))
+}
+
+/// An operator whose right operand has to have the type of the left one.
+fn same_operands(
+    alloc: Global,
+    scope: &Scope,
+    operator: BinaryOperator,
+    first: Typed,
+    left: &Expr,
+    right: &Expr,
+) -> Result<Typed, TypeAnswer>
+    ensures { Finds (operands_typed scope.now first (parted left.now) (parted right.now) (level_operator operator (out-SplType first.kind))) result }
+{
+    let Some((operator, kind)) = operator_on(operator, first.kind.get()) else {
+        return Err(mismatch(left.at));
+    };
+    let kind = Boxed::new(alloc, kind)?;
+    let second = type_of(alloc, scope, right, Some(first.kind.get()))?;
+    binary(alloc, kind, operator, first, second)
 }
 
 /// The statement `place op= value;` in a scope, which is that of `place = place op value;`. So the
@@ -87,6 +107,7 @@ pub fn call_of(alloc: Global, scope: &Scope, call: &Expr) -> Result<Statement, T
     }
 }
 
+/// A call by its name: one that changes a place, one whose value isn't used, or one of a function.
 fn call_statement(
     alloc: Global,
     scope: &Scope,
@@ -97,40 +118,40 @@ fn call_statement(
     ensures { Finds (call_statement at scope.now name.now (parts all.now) (call_of name.now)) result }
 {
     match call_named(name) {
-        Some(call) => built_in_statement(alloc, scope, at, call, all),
+        Some(found @ (CallName::AppendM | CallName::RemoveM | CallName::ClearM)) => {
+            changing(alloc, scope, at, found, all)
+        }
+        Some(
+            CallName::Length
+            | CallName::Size
+            | CallName::Has
+            | CallName::Abs
+            | CallName::Min
+            | CallName::Max
+            | CallName::Substring
+            | CallName::CurrentPunct,
+        ) => {
+            let typed = call(alloc, scope, at, name, all)?;
+            Ok(Statement::Evaluate(code_of(typed)))
+        }
         None => function_statement(alloc, scope, at, name, all),
     }
 }
 
-/// A call that the language has built in: one that changes a place, or one that gives a value.
-fn built_in_statement(
+/// A call that changes its first argument, with as many arguments as it has.
+fn changing(
     alloc: Global,
     scope: &Scope,
     at: u32,
     call: CallName,
     all: &[Expr],
 ) -> Result<Statement, TypeAnswer>
-    ensures { Finds (built_in_statement at scope.now call (parts all.now)) result }
+    ensures { Finds (if length (parts all.now) == argument_count call then change_typing at scope.now call (parts all.now) else wrong_call at) result }
 {
     if all.len() != argument_count(call) {
         return Err(wrong_call(at));
     }
-    match call {
-        CallName::AppendM | CallName::RemoveM | CallName::ClearM => {
-            change(alloc, scope, at, call, all)
-        }
-        CallName::Length
-        | CallName::Size
-        | CallName::Has
-        | CallName::Abs
-        | CallName::Min
-        | CallName::Max
-        | CallName::Substring
-        | CallName::CurrentPunct => {
-            let typed = built_in(alloc, scope, at, call, all)?;
-            Ok(Statement::Evaluate(code_of(typed)))
-        }
-    }
+    change(alloc, scope, at, call, all)
 }
 
 /// A call that changes its first argument.
@@ -150,6 +171,24 @@ fn change(
     let others = changed(alloc, scope, at, call, typed.kind.get(), first, rest)?;
     let (place, _) = place_given(alloc, first.at, typed)?;
     change_made(at, call, place, others)
+}
+
+/// The codes of the arguments behind the first, of a call that changes that. The first one has this
+/// type; it has to be a place that may be changed.
+#[tactic(auto, using(crate::proofs::CallLaws::changed_law))]
+fn changed(
+    alloc: Global,
+    scope: &Scope,
+    at: u32,
+    call: CallName,
+    kind: &SplType,
+    first: &Expr,
+    rest: &[Expr],
+) -> Result<Codes, TypeAnswer>
+    ensures { Finds (changed_typed at scope.now (parted first.now) (parts rest.now) (level_changed call (out-SplType kind.now))) result }
+{
+    let kinds = change_asked(alloc, scope, at, call, first, kind)?;
+    arguments(alloc, scope, kinds.as_slice(), rest, Items::new(alloc))
 }
 
 /// The only code of a row.
@@ -185,6 +224,7 @@ fn change_made(
 }
 
 /// A call of a function, with a result or without.
+#[tactic(auto, using(crate::proofs::CallLaws::function_statement_law))]
 fn function_statement(
     alloc: Global,
     scope: &Scope,
@@ -194,14 +234,14 @@ fn function_statement(
 ) -> Result<Statement, TypeAnswer>
     ensures { Finds (function_statement at scope.now name.now (parts all.now) (function_of scope.now name.now)) result }
 {
-    let Some((place, found)) = function(scope, name) else {
-        return not_callable(alloc, scope, at, name);
-    };
-    let kinds = found.parameters.as_slice();
-    if all.len() != kinds.len() {
-        return Err(wrong_call(at));
-    }
-    let codes = arguments(alloc, scope, kinds, all, Items::new(alloc))?;
+    let (place, found) = called(alloc, scope, at, name, all)?;
+    let codes = arguments(
+        alloc,
+        scope,
+        found.parameters.as_slice(),
+        all,
+        Items::new(alloc),
+    )?;
     let place = narrow(place)?;
     Ok(Statement::Call(place, codes))
 }

@@ -32,17 +32,15 @@ of_steps-of_expr-requires t c = (
 pub of_expr-returns-in_ok-of_expr-in-Select : goal.of_expr-returns-in_ok-of_expr-in-Select
 of_expr-returns-in_ok-of_expr-in-Select t c =
     adds_behind _ _ _ _ _ _ _ c.in_ok-of_expr-in-Select.ensures c.of_steps.ensures
-    (ap (λ k. form_dollars k c.args.expr.now.at) c.in-Select.is ∙ of_select c.in-Select.base c.in-Select.steps c.args.expr.now.at
-    ∙ (λ i. dollars_in (sym c.get.ensures i) ++ flat_map step_dollars (sym c.as_slice-in-Select.ensures i)))
+    (ap (λ k. form_dollars k c.args.expr.now.at) (sym c.get.ensures ∙ c.in-Select.is) ∙ of_select c.in-Select.base c.in-Select.steps c.args.expr.now.at
+    ∙ ap (λ steps. dollars_in c.in-Select.base ++ flat_map step_dollars steps) (sym c.as_slice-in-Select.ensures))
 
 pub of_expr-returns-in_ok-of_expr-in-Binary : goal.of_expr-returns-in_ok-of_expr-in-Binary
 of_expr-returns-in_ok-of_expr-in-Binary t c =
     adds_behind _ _ _ _ _ _ _ c.in_ok-of_expr-in-Binary.ensures c.of_expr-in-Binary-2.ensures
-    (ap (λ k. form_dollars k c.args.expr.now.at) c.in-Binary.is ∙ of_binary c.in-Binary.field-0 c.in-Binary.left c.in-Binary.right c.args.expr.now.at
-    ∙ (λ i. dollars_in (sym c.get-in-Binary.ensures i) ++ dollars_in (sym c.get-in-Binary-2.ensures i)))
+    (ap (λ k. form_dollars k c.args.expr.now.at) (sym c.get.ensures ∙ c.in-Binary.is) ∙ of_binary c.in-Binary.field-0 c.in-Binary.left c.in-Binary.right c.args.expr.now.at)
 
 pub of_expr-returns-in_ok-of_expr-in-Conditional-2 : goal.of_expr-returns-in_ok-of_expr-in-Conditional-2
 of_expr-returns-in_ok-of_expr-in-Conditional-2 t c =
     adds_behind _ _ _ _ _ _ _ (both_behind _ _ _ _ _ c.in_ok-of_expr-in-Conditional.ensures c.in_ok-of_expr-in-Conditional-2.ensures) c.of_expr-in-Conditional-3.ensures
-    (ap (λ k. form_dollars k c.args.expr.now.at) c.in-Conditional.is ∙ of_conditional c.in-Conditional.condition c.in-Conditional.first c.in-Conditional.second c.args.expr.now.at
-    ∙ (λ i. dollars_in (sym c.get-in-Conditional.ensures i) ++ dollars_in (sym c.get-in-Conditional-2.ensures i) ++ dollars_in (sym c.get-in-Conditional-3.ensures i)))
+    (ap (λ k. form_dollars k c.args.expr.now.at) (sym c.get.ensures ∙ c.in-Conditional.is) ∙ of_conditional c.in-Conditional.condition c.in-Conditional.first c.in-Conditional.second c.args.expr.now.at)

@@ -12,7 +12,7 @@ returns-in-Call c =
     let at = c.args.call.now.at in
     let scope = c.args.scope.now in
     finds_by _ _ _
-    (ap (λ k. level_call at scope (out-ExprKind k)) c.in-Call.is
+    (ap (λ k. level_call at scope (out-ExprKind k)) (sym c.get.ensures ∙ c.in-Call.is)
     ∙ ap (level_call at scope) (V.outs-Call c.in-Call.name c.in-Call.all)
     ∙ (λ i. call_statement at scope (sym c.as_slice.ensures i) (parts (sym c.as_slice-in-Call.ensures i)) (call_of (sym c.as_slice.ensures i))))
     c.call_statement.ensures

@@ -4,7 +4,7 @@ use Rattle.std.proofs.lemmas.Option.{slice_get_read}
 use Rattle.dollar_rules.specs.Given.{found_at_last, found_in, marks_in}
 use Rattle.dollar_rules.specs.Settling.{given_of}
 use Rattle.dollar_rules.proofs.Settles.{one_settled}
-use Rattle.dollar_rules.proofs.Settling.{settled_more}
+use Rattle.dollar_rules.proofs.SettledOnes.{settled_more}
 use Rattle.dollar_rules.proofs.SettlesMore.{before_at_most, kept_more}
 use Rattle.dollar_rules.proofs.settling.Settled.add.Goals as goal
 

@@ -27,11 +27,11 @@ is_state_value-returns-in-Map t c =
     c.are_state_entries.ensures
     ∙ ap (list_all (λ e. is_state_value c.args.dollars.now e.0 && is_state_value c.args.dollars.now e.1)) c.as_slice-in-Map.ensures
     ∙ sym (of_map c.args.dollars.now c.in-Map.entries)
-    ∙ ap (passes c.args.dollars.now) (sym c.in-Map.is)
+    ∙ ap (passes c.args.dollars.now) (sym c.in-Map.is ∙ c.get.ensures)
 
 pub is_state_value-returns-in-Tuple : goal.is_state_value-returns-in-Tuple
 is_state_value-returns-in-Tuple t c =
     c.are_state_fields.ensures
     ∙ ap (list_all (λ f. is_state_value c.args.dollars.now f.value)) c.as_slice-in-Tuple.ensures
     ∙ sym (of_tuple c.args.dollars.now c.in-Tuple.fields)
-    ∙ ap (passes c.args.dollars.now) (sym c.in-Tuple.is)
+    ∙ ap (passes c.args.dollars.now) (sym c.in-Tuple.is ∙ c.get.ensures)

@@ -22,7 +22,7 @@ use Rattle.language_model.specs.declared.scope.Typed.{Typed}
 use Rattle.language_model.specs.Typing.{Found, after, mismatch}
 use Rattle.dollar_rules.specs.Given.{AreSettled, Given, IsDone, IsReady, found_at_last, found_in, is_marked, marks_in, means, settled_table, table}
 use Rattle.dollar_rules.proofs.Marks.{fewer, marked_is, marked_none, one_more}
-use Rattle.dollar_rules.proofs.Tables.{dollar_is, same_found, stands_for}
+use Rattle.dollar_rules.proofs.MarkedTables.{dollar_is, same_found, stands_for}
 
 first_of_both : (a b : Bool) → (a && b) ≡ true → a ≡ true
 first_of_both true b e = refl

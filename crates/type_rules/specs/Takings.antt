@@ -1,0 +1,38 @@
+-- What is taken of a value of a type.
+use Rattle.std.specs.Prelude.{◌≡◌, ℕ, List, [], ◌∷◌, ◌++◌, Result, Ok, Err}
+use Rattle.spl_value.specs.declared.types.SplType.{SplType}
+use Rattle.spl_value.specs.declared.types.SplType.TheOpen as T
+use Rattle.spl_value.specs.declared.types.SplType.TheOpen.{SplType-F}
+use Rattle.spl_value.specs.declared.types.SplType.TheViews.{out-SplType}
+use Rattle.spl_tree.specs.declared.code.Code.{Code}
+use Rattle.spl_tree.specs.declared.code.Slot.{Slot}
+use Rattle.spl_tree.specs.declared.code.Taking.{Taking}
+use Rattle.spl_tree.specs.declared.code.Taking.TheVariants as K
+use Rattle.language_model.specs.declared.scope.Typed.{Typed}
+use Rattle.language_model.specs.Scopes.{attribute_of}
+use Rattle.language_model.specs.Typing.{Found, after, level_index, member_typed, mismatch}
+use Rattle.type_rules.specs.declared.answer.TypeAnswer.{TypeAnswer}
+use Rattle.type_rules.specs.declared.answer.TypeAnswer.TheVariants.{Refused, Memory}
+
+-- what is taken, with its type
+abbrev pub Taken : Type 0
+Taken = Taking (Code Slot) × SplType
+
+abbrev pub member_taken : ℕ → SplType-F SplType → ℕ → List ℕ → Found Taken
+member_taken base (T.Tuple schema) at name = member_typed at name (attribute_of schema name)
+member_taken base _ at name = mismatch base
+
+-- by an index at a place
+abbrev pub index_taken : ℕ → ℕ → Typed → SplType-F SplType → Found Taken
+index_taken base at x (T.List t) = after (level_index at x.code (out-SplType x.kind)) (λ code. Ok (K.Element code, t))
+index_taken base at x (T.Map k t) = Ok (K.AtKey x.code, t)
+index_taken base at x _ = mismatch base
+
+-- it stands behind what was taken before, and its type is answered
+abbrev pub behind : List (Taking (Code Slot)) → Found Taken → Found (List (Taking (Code Slot)) × SplType)
+behind old found = after found (λ x. Ok (old ++ x.0 ∷ [], x.1))
+
+abbrev pub Takes : Found Taken → List (Taking (Code Slot)) → List (Taking (Code Slot)) → Result SplType TypeAnswer → Type 0
+Takes found old new (Ok t) = behind old found ≡ Ok (new, t)
+Takes found old new (Err (Refused refusal)) = found ≡ Err refusal
+Takes found old new (Err Memory) = Unit {0}
