@@ -1,4 +1,4 @@
-//! What the program reads from and writes to: words, rows, files, devices and the lines that it tells.
+//! What the program reads from and writes to: rows, files, devices and the lines that it tells.
 #![tactic(auto)]
 
 #[cfg(test)]
@@ -9,8 +9,6 @@ mod devices;
 mod files;
 #[cfg(test)]
 mod reports;
-#[cfg(test)]
-mod requests;
 #[cfg(test)]
 mod shelves;
 #[cfg(test)]

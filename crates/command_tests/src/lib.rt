@@ -1,0 +1,5 @@
+//! Command lines against what they ask.
+#![tactic(auto)]
+
+#[cfg(test)]
+mod requests;
