@@ -1,7 +1,7 @@
 //! Why a text has no answer.
 use spl_value::{FaultKind, NoMemory};
 use std::alloc::AllocError;
-use test_texts::check_errors::add_check_refusal;
+use test_texts::refusals::add_check_refusal;
 use test_texts::text::Text;
 use test_texts::values::fault;
 use type_rules::TypeAnswer;

@@ -4,7 +4,6 @@
 //! answer than their line says.
 #![tactic(auto)]
 
-pub mod check_errors;
 pub mod checked;
 pub mod codes;
 pub mod graphs;

@@ -33,14 +33,19 @@ fn add_named(text: &mut Text, code: &str, name: &Placed<Name>) {
     text.add_bytes(name.what.as_slice());
 }
 
-/// A refusal of the rules of types or clauses.
-pub fn check_refusal(alloc: Global, refusal: &CheckRefusal) -> Result<String, AllocError> {
-    let mut text = Text::new(alloc);
-    add_at(&mut text, check_code(refusal.error), refusal.at);
+/// Adds a refusal of the rules of types or clauses.
+pub fn add_check_refusal(text: &mut Text, refusal: &CheckRefusal) {
+    add_at(text, check_code(refusal.error), refusal.at);
     if let Some(name) = &refusal.name {
         text.add(" ");
         text.add_bytes(name.as_slice());
     }
+}
+
+/// A refusal of the rules of types or clauses.
+pub fn check_refusal(alloc: Global, refusal: &CheckRefusal) -> Result<String, AllocError> {
+    let mut text = Text::new(alloc);
+    add_check_refusal(&mut text, refusal);
     text.finish()
 }
 

@@ -209,59 +209,59 @@ mutable int32 n = 0; mutable map<rstring, int64> m = {'a' : 1l, 'b' : 2l}; @ whi
 
 pub(crate) const REFUSED: &str = r#"
 # No loop is around it.
-mutable int32 n = 0; mutable list<int32> xs = []; @ break; @ 0 => WrongCall at 14
-mutable int32 n = 0; mutable list<int32> xs = []; @ continue; @ 0 => WrongCall at 14
-mutable int32 n = 0; mutable list<int32> xs = []; @ while (n < 0) {} break; @ 0 => WrongCall at 31
+mutable int32 n = 0; mutable list<int32> xs = []; @ break; @ 0 => Y4 at 14
+mutable int32 n = 0; mutable list<int32> xs = []; @ continue; @ 0 => Y4 at 14
+mutable int32 n = 0; mutable list<int32> xs = []; @ while (n < 0) {} break; @ 0 => Y4 at 31
 # The variable is gone, or isn't there yet.
-mutable int32 n = 0; mutable list<int32> xs = []; @ { mutable int32 i = 0; } i = 1; @ 0 => Unknown at 39 i
-mutable int32 n = 0; mutable list<int32> xs = []; @ mutable int32 i = i + 1; @ 0 => Unknown at 32 i
-mutable int32 n = 0; mutable list<int32> xs = []; @ for (int32 x in xs) {} n = x; @ 0 => Unknown at 41 x
+mutable int32 n = 0; mutable list<int32> xs = []; @ { mutable int32 i = 0; } i = 1; @ 0 => Y1 at 39 i
+mutable int32 n = 0; mutable list<int32> xs = []; @ mutable int32 i = i + 1; @ 0 => Y1 at 32 i
+mutable int32 n = 0; mutable list<int32> xs = []; @ for (int32 x in xs) {} n = x; @ 0 => Y1 at 41 x
 # It may not be changed.
-mutable int32 n = 0; mutable list<int32> xs = []; @ int32 i = 0; i = 1; @ 0 => NotMutable at 27
-mutable int32 n = 0; mutable list<int32> xs = []; @ for (int32 x in xs) { x = 1; } @ 0 => NotMutable at 36
+mutable int32 n = 0; mutable list<int32> xs = []; @ int32 i = 0; i = 1; @ 0 => Y3 at 27
+mutable int32 n = 0; mutable list<int32> xs = []; @ for (int32 x in xs) { x = 1; } @ 0 => Y3 at 36
 # The types differ.
-mutable int32 n = 0; mutable list<int32> xs = []; @ n = 1l; @ 0 => Mismatch at 18
-mutable int32 n = 0; mutable list<int32> xs = []; @ mutable int64 i = n; @ 0 => Mismatch at 32
-mutable int32 n = 0; mutable list<int32> xs = []; @ appendM(xs, 'a'); @ 0 => Mismatch at 26
-mutable int32 n = 0; mutable list<int32> xs = []; @ while (n) {} @ 0 => Mismatch at 21
-mutable int32 n = 0; mutable list<int32> xs = []; @ if (n) {} @ 0 => Mismatch at 18
-mutable int32 n = 0; mutable list<int32> xs = []; @ submit({s = 'x'}, N); @ 0 => Mismatch at 21
-mutable int32 n = 0; mutable list<int32> xs = []; @ appendM(n, 1); @ 0 => WrongCall at 14
-mutable int32 n = 0; mutable list<int32> xs = []; @ removeM(xs, 1); @ 0 => WrongCall at 14
-mutable int32 n = 0; mutable list<int32> xs = []; @ clearM(n); @ 0 => WrongCall at 14
-mutable int32 n = 0; mutable list<int32> xs = []; @ for (int64 x in xs) {} @ 0 => Mismatch at 30
-mutable int32 n = 0; mutable list<int32> xs = []; @ for (int32 x in n) {} @ 0 => Mismatch at 30
+mutable int32 n = 0; mutable list<int32> xs = []; @ n = 1l; @ 0 => Y2 at 18
+mutable int32 n = 0; mutable list<int32> xs = []; @ mutable int64 i = n; @ 0 => Y2 at 32
+mutable int32 n = 0; mutable list<int32> xs = []; @ appendM(xs, 'a'); @ 0 => Y2 at 26
+mutable int32 n = 0; mutable list<int32> xs = []; @ while (n) {} @ 0 => Y2 at 21
+mutable int32 n = 0; mutable list<int32> xs = []; @ if (n) {} @ 0 => Y2 at 18
+mutable int32 n = 0; mutable list<int32> xs = []; @ submit({s = 'x'}, N); @ 0 => Y2 at 21
+mutable int32 n = 0; mutable list<int32> xs = []; @ appendM(n, 1); @ 0 => Y4 at 14
+mutable int32 n = 0; mutable list<int32> xs = []; @ removeM(xs, 1); @ 0 => Y4 at 14
+mutable int32 n = 0; mutable list<int32> xs = []; @ clearM(n); @ 0 => Y4 at 14
+mutable int32 n = 0; mutable list<int32> xs = []; @ for (int64 x in xs) {} @ 0 => Y2 at 30
+mutable int32 n = 0; mutable list<int32> xs = []; @ for (int32 x in n) {} @ 0 => Y2 at 30
 # No place, no such port, and a value where none is returned.
 mutable int32 n = 0; mutable list<int32> xs = []; @ 1 = 1; @ 0 => Unexpected at 14
 mutable int32 n = 0; mutable list<int32> xs = []; @ (xs)[0] = 1; @ 0 => Unexpected at 14
-mutable int32 n = 0; mutable list<int32> xs = []; @ submit({n = 1}, Z); @ 0 => Unknown at 30 Z
-mutable int32 n = 0; mutable list<int32> xs = []; @ submit(Sys.WindowMarker, Z); @ 0 => Unknown at 39 Z
-mutable int32 n = 0; mutable list<int32> xs = []; @ return 1; @ 0 => WrongCall at 14
+mutable int32 n = 0; mutable list<int32> xs = []; @ submit({n = 1}, Z); @ 0 => Y1 at 30 Z
+mutable int32 n = 0; mutable list<int32> xs = []; @ submit(Sys.WindowMarker, Z); @ 0 => Y1 at 39 Z
+mutable int32 n = 0; mutable list<int32> xs = []; @ return 1; @ 0 => Y4 at 14
 # No call, or one that doesn't fit the function.
 mutable int32 n = 0; mutable list<int32> xs = []; @ n + 1; @ 0 => Unexpected at 16
 mutable int32 n = 0; mutable list<int32> xs = []; @ n; @ 0 => Unexpected at 15
-mutable int32 n = 0; mutable list<int32> xs = []; @ nowhere(n); @ 0 => Unknown at 14 nowhere
-mutable int32 n = 0; mutable list<int32> xs = []; @ inc(); @ 0 => WrongCall at 14
-mutable int32 n = 0; mutable list<int32> xs = []; @ inc(1, 2); @ 0 => WrongCall at 14
-mutable int32 n = 0; mutable list<int32> xs = []; @ inc(1l); @ 0 => Mismatch at 18
-mutable int32 n = 0; mutable list<int32> xs = []; @ n = nothing(); @ 0 => Mismatch at 18
+mutable int32 n = 0; mutable list<int32> xs = []; @ nowhere(n); @ 0 => Y1 at 14 nowhere
+mutable int32 n = 0; mutable list<int32> xs = []; @ inc(); @ 0 => Y4 at 14
+mutable int32 n = 0; mutable list<int32> xs = []; @ inc(1, 2); @ 0 => Y4 at 14
+mutable int32 n = 0; mutable list<int32> xs = []; @ inc(1l); @ 0 => Y2 at 18
+mutable int32 n = 0; mutable list<int32> xs = []; @ n = nothing(); @ 0 => Y2 at 18
 "#;
 
 pub(crate) const FUNCTIONS_REFUSED: &str = r#"
 # Some path has no result.
-int32 f(int32 n) {} => NoReturn at 6 f
-int32 f(int32 n) { if (n == 0) { return 1; } } => NoReturn at 6 f
-int32 f(int32 n) { if (n == 0) {} else { return 1; } } => NoReturn at 6 f
-int32 f(int32 n) { while (true) { return 1; } } => NoReturn at 6 f
-int32 f(int32 n) { return 1; int32 i = 0; } => NoReturn at 6 f
+int32 f(int32 n) {} => Y6 at 6 f
+int32 f(int32 n) { if (n == 0) { return 1; } } => Y6 at 6 f
+int32 f(int32 n) { if (n == 0) {} else { return 1; } } => Y6 at 6 f
+int32 f(int32 n) { while (true) { return 1; } } => Y6 at 6 f
+int32 f(int32 n) { return 1; int32 i = 0; } => Y6 at 6 f
 # It has another result, or none.
-int32 f(int32 n) { return 1l; } => Mismatch at 26
-int32 f(int32 n) { return; } => WrongCall at 19
-void f(int32 n) { return 1; } => WrongCall at 18
+int32 f(int32 n) { return 1l; } => Y2 at 26
+int32 f(int32 n) { return; } => Y4 at 19
+void f(int32 n) { return 1; } => Y4 at 18
 # It submits nothing, changes no parameter, and sees no variable but its own.
-void f(int32 n) { submit({n = n}, N); } => WrongCall at 18
-void f(int32 n) { submit(Sys.WindowMarker, N); } => WrongCall at 18
-void f(int32 n) { n = 1; } => NotMutable at 18
-void f(int32 n) { xs = [n]; } => Unknown at 18 xs
-void f(int32 n) { break; } => WrongCall at 18
+void f(int32 n) { submit({n = n}, N); } => Y4 at 18
+void f(int32 n) { submit(Sys.WindowMarker, N); } => Y4 at 18
+void f(int32 n) { n = 1; } => Y3 at 18
+void f(int32 n) { xs = [n]; } => Y1 at 18 xs
+void f(int32 n) { break; } => Y4 at 18
 "#;

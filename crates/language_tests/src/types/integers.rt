@@ -135,69 +135,69 @@ pub(crate) const ROWS: &str = r#"
 
 # no operator is at two integer types
 # `int8` and another type.
-1b * 2h => Mismatch at 5
-1b / 2 => Mismatch at 5
-1b % 2l => Mismatch at 5
-1b + 2ub => Mismatch at 5
-1b - 2uh => Mismatch at 5
-1b & 2u => Mismatch at 5
-1b ^ 2ul => Mismatch at 5
+1b * 2h => Y2 at 5
+1b / 2 => Y2 at 5
+1b % 2l => Y2 at 5
+1b + 2ub => Y2 at 5
+1b - 2uh => Y2 at 5
+1b & 2u => Y2 at 5
+1b ^ 2ul => Y2 at 5
 # `int16` and another type.
-1h | 2b => Mismatch at 5
-1h < 2 => Mismatch at 5
-1h <= 2l => Mismatch at 6
-1h > 2ub => Mismatch at 5
-1h >= 2uh => Mismatch at 6
-1h == 2u => Mismatch at 6
-1h != 2ul => Mismatch at 6
+1h | 2b => Y2 at 5
+1h < 2 => Y2 at 5
+1h <= 2l => Y2 at 6
+1h > 2ub => Y2 at 5
+1h >= 2uh => Y2 at 6
+1h == 2u => Y2 at 6
+1h != 2ul => Y2 at 6
 # `int32` and another type.
-1 * 2b => Mismatch at 4
-1 / 2h => Mismatch at 4
-1 % 2l => Mismatch at 4
-1 + 2ub => Mismatch at 4
-1 - 2uh => Mismatch at 4
-1 & 2u => Mismatch at 4
-1 ^ 2ul => Mismatch at 4
+1 * 2b => Y2 at 4
+1 / 2h => Y2 at 4
+1 % 2l => Y2 at 4
+1 + 2ub => Y2 at 4
+1 - 2uh => Y2 at 4
+1 & 2u => Y2 at 4
+1 ^ 2ul => Y2 at 4
 # `int64` and another type.
-1l | 2b => Mismatch at 5
-1l < 2h => Mismatch at 5
-1l <= 2 => Mismatch at 6
-1l > 2ub => Mismatch at 5
-1l >= 2uh => Mismatch at 6
-1l == 2u => Mismatch at 6
-1l != 2ul => Mismatch at 6
+1l | 2b => Y2 at 5
+1l < 2h => Y2 at 5
+1l <= 2 => Y2 at 6
+1l > 2ub => Y2 at 5
+1l >= 2uh => Y2 at 6
+1l == 2u => Y2 at 6
+1l != 2ul => Y2 at 6
 # `uint8` and another type.
-1ub * 2b => Mismatch at 6
-1ub / 2h => Mismatch at 6
-1ub % 2 => Mismatch at 6
-1ub + 2l => Mismatch at 6
-1ub - 2uh => Mismatch at 6
-1ub & 2u => Mismatch at 6
-1ub ^ 2ul => Mismatch at 6
+1ub * 2b => Y2 at 6
+1ub / 2h => Y2 at 6
+1ub % 2 => Y2 at 6
+1ub + 2l => Y2 at 6
+1ub - 2uh => Y2 at 6
+1ub & 2u => Y2 at 6
+1ub ^ 2ul => Y2 at 6
 # `uint16` and another type.
-1uh | 2b => Mismatch at 6
-1uh < 2h => Mismatch at 6
-1uh <= 2 => Mismatch at 7
-1uh > 2l => Mismatch at 6
-1uh >= 2ub => Mismatch at 7
-1uh == 2u => Mismatch at 7
-1uh != 2ul => Mismatch at 7
+1uh | 2b => Y2 at 6
+1uh < 2h => Y2 at 6
+1uh <= 2 => Y2 at 7
+1uh > 2l => Y2 at 6
+1uh >= 2ub => Y2 at 7
+1uh == 2u => Y2 at 7
+1uh != 2ul => Y2 at 7
 # `uint32` and another type.
-1u * 2b => Mismatch at 5
-1u / 2h => Mismatch at 5
-1u % 2 => Mismatch at 5
-1u + 2l => Mismatch at 5
-1u - 2ub => Mismatch at 5
-1u & 2uh => Mismatch at 5
-1u ^ 2ul => Mismatch at 5
+1u * 2b => Y2 at 5
+1u / 2h => Y2 at 5
+1u % 2 => Y2 at 5
+1u + 2l => Y2 at 5
+1u - 2ub => Y2 at 5
+1u & 2uh => Y2 at 5
+1u ^ 2ul => Y2 at 5
 # `uint64` and another type.
-1ul | 2b => Mismatch at 6
-1ul < 2h => Mismatch at 6
-1ul <= 2 => Mismatch at 7
-1ul > 2l => Mismatch at 6
-1ul >= 2ub => Mismatch at 7
-1ul == 2uh => Mismatch at 7
-1ul != 2u => Mismatch at 7
+1ul | 2b => Y2 at 6
+1ul < 2h => Y2 at 6
+1ul <= 2 => Y2 at 7
+1ul > 2l => Y2 at 6
+1ul >= 2ub => Y2 at 7
+1ul == 2uh => Y2 at 7
+1ul != 2u => Y2 at 7
 
 # casts are from each integer type to each
 # From `int8`.
@@ -285,35 +285,35 @@ pub(crate) const ROWS: &str = r#"
 # `int8`
 -1b -> int8 => int8 | (unary -int8 1)
 ~1b -> int8 => int8 | (unary ~int8 1)
-!1b => Mismatch at 1
+!1b => Y2 at 1
 # `int16`
 -1h -> int16 => int16 | (unary -int16 1)
 ~1h -> int16 => int16 | (unary ~int16 1)
-!1h => Mismatch at 1
+!1h => Y2 at 1
 # `int32`
 -1 -> int32 => int32 | (unary -int32 1)
 ~1 -> int32 => int32 | (unary ~int32 1)
-!1 => Mismatch at 1
+!1 => Y2 at 1
 # `int64`
 -1l -> int64 => int64 | (unary -int64 1)
 ~1l -> int64 => int64 | (unary ~int64 1)
-!1l => Mismatch at 1
+!1l => Y2 at 1
 # `uint8`
 -1ub -> uint8 => uint8 | (unary -uint8 1)
 ~1ub -> uint8 => uint8 | (unary ~uint8 1)
-!1ub => Mismatch at 1
+!1ub => Y2 at 1
 # `uint16`
 -1uh -> uint16 => uint16 | (unary -uint16 1)
 ~1uh -> uint16 => uint16 | (unary ~uint16 1)
-!1uh => Mismatch at 1
+!1uh => Y2 at 1
 # `uint32`
 -1u -> uint32 => uint32 | (unary -uint32 1)
 ~1u -> uint32 => uint32 | (unary ~uint32 1)
-!1u => Mismatch at 1
+!1u => Y2 at 1
 # `uint64`
 -1ul -> uint64 => uint64 | (unary -uint64 1)
 ~1ul -> uint64 => uint64 | (unary ~uint64 1)
-!1ul => Mismatch at 1
+!1ul => Y2 at 1
 
 # calls are at each integer type
 # `int8`

@@ -101,29 +101,29 @@ pub(crate) const HIDDEN: &str = r#"
 # a name may hide others
 # A variable comes before a port.
 L => int32 | v1
-L.low => Mismatch at 0
-L.key => Mismatch at 0
+L.low => Y2 at 0
+L.key => Y2 at 0
 low => int64 | a0.1
-key => Unknown at 0 key
+key => Y1 at 0 key
 # An attribute comes before a port.
 R => tuple<int64 rank> | a1.1
 R -> tuple<int64 rank> => tuple<int64 rank> | a1.1
 R.rank => int64 | (of a1.1 .0)
 (R).rank => int64 | (of a1.1 .0)
-R.key => Unknown at 2 key
-R.R => Unknown at 2 R
+R.key => Y1 at 2 key
+R.R => Y1 at 2 R
 # Calls have names of their own.
 now => int8 | v2
 now() => int64 | (f3)
 size => int16 | v3
 size([1]) => int32 | (size (list 1))
-L(1) => Unknown at 0 L
+L(1) => Y1 at 0 L
 # `Sys` is a name as others.
 Sys => tuple<int32 WindowMarker> | v0
 Sys.WindowMarker => int32 | (of v0 .0)
 Sys.WindowMarker == 1 => boolean | (== (of v0 .0) 1)
-Sys.FinalMarker => Unknown at 4 FinalMarker
-currentPunct() == Sys.WindowMarker => WrongCall at 0
+Sys.FinalMarker => Y1 at 4 FinalMarker
+currentPunct() == Sys.WindowMarker => Y4 at 0
 "#;
 
 pub(crate) const MARKED: &str = r#"
@@ -134,13 +134,13 @@ currentPunct() == Sys.FinalMarker => boolean | is-final
 currentPunct() != Sys.WindowMarker => boolean | not-window
 currentPunct() != Sys.FinalMarker => boolean | not-final
 currentPunct() == Sys.FinalMarker -> boolean => boolean | is-final
-currentPunct() == Sys.FinalMarker -> int32 => Mismatch at 0
+currentPunct() == Sys.FinalMarker -> int32 => Y2 at 0
 # In parentheses.
 (currentPunct()) == (Sys.WindowMarker) => boolean | is-window
 ((currentPunct())) != Sys.FinalMarker => boolean | not-final
 currentPunct() == ((Sys.FinalMarker)) => boolean | is-final
 (currentPunct() == Sys.WindowMarker) => boolean | is-window
-(currentPunct() == Sys.WindowMarker) -> rstring => Mismatch at 1
+(currentPunct() == Sys.WindowMarker) -> rstring => Y2 at 1
 # In other expressions.
 !(currentPunct() == Sys.FinalMarker) => boolean | (unary ! is-final)
 b && currentPunct() == Sys.WindowMarker => boolean | (&& v4 is-window)
@@ -151,48 +151,48 @@ currentPunct() == Sys.WindowMarker == true => boolean | (== is-window true)
 
 # a marker is asked for in no other form
 # Other calls.
-currentPunct() => WrongCall at 0
-(currentPunct()) => WrongCall at 1
-currentPunct() -> boolean => WrongCall at 0
-!currentPunct() => WrongCall at 1
-currentPunct().a => WrongCall at 0
-inc(currentPunct()) => WrongCall at 4
-size(currentPunct()) => WrongCall at 5
-currentPunct() in xs => WrongCall at 0
-currentPunct(1) == Sys.WindowMarker => WrongCall at 0
-currentPunct(z) == Sys.WindowMarker => WrongCall at 0
+currentPunct() => Y4 at 0
+(currentPunct()) => Y4 at 1
+currentPunct() -> boolean => Y4 at 0
+!currentPunct() => Y4 at 1
+currentPunct().a => Y4 at 0
+inc(currentPunct()) => Y4 at 4
+size(currentPunct()) => Y4 at 5
+currentPunct() in xs => Y4 at 0
+currentPunct(1) == Sys.WindowMarker => Y4 at 0
+currentPunct(z) == Sys.WindowMarker => Y4 at 0
 # Other operators.
-currentPunct() < Sys.WindowMarker => WrongCall at 0
-currentPunct() + Sys.FinalMarker => WrongCall at 0
-currentPunct() && Sys.FinalMarker => WrongCall at 0
+currentPunct() < Sys.WindowMarker => Y4 at 0
+currentPunct() + Sys.FinalMarker => Y4 at 0
+currentPunct() && Sys.FinalMarker => Y4 at 0
 # Other right sides.
-currentPunct() == 1 => WrongCall at 0
-currentPunct() == z => WrongCall at 0
-currentPunct() == Sys => WrongCall at 0
-currentPunct() == WindowMarker => WrongCall at 0
-currentPunct() == Sys.Window => WrongCall at 0
-currentPunct() == Sys.WindowMarker.a => WrongCall at 0
-currentPunct() == Sys.WindowMarker[0] => WrongCall at 0
-currentPunct() == t.WindowMarker => WrongCall at 0
-currentPunct() == (Sys).WindowMarker => WrongCall at 0
-currentPunct() == currentPunct() => WrongCall at 0
-(currentPunct()) == 1 => WrongCall at 1
+currentPunct() == 1 => Y4 at 0
+currentPunct() == z => Y4 at 0
+currentPunct() == Sys => Y4 at 0
+currentPunct() == WindowMarker => Y4 at 0
+currentPunct() == Sys.Window => Y4 at 0
+currentPunct() == Sys.WindowMarker.a => Y4 at 0
+currentPunct() == Sys.WindowMarker[0] => Y4 at 0
+currentPunct() == t.WindowMarker => Y4 at 0
+currentPunct() == (Sys).WindowMarker => Y4 at 0
+currentPunct() == currentPunct() => Y4 at 0
+(currentPunct()) == 1 => Y4 at 1
 # The call on the right.
-b == currentPunct() => WrongCall at 5
-Sys.WindowMarker == currentPunct() => Unknown at 0 Sys
-true == currentPunct() == Sys.WindowMarker => WrongCall at 8
+b == currentPunct() => Y4 at 5
+Sys.WindowMarker == currentPunct() => Y1 at 0 Sys
+true == currentPunct() == Sys.WindowMarker => Y4 at 8
 # The markers alone.
-Sys.WindowMarker => Unknown at 0 Sys
-(Sys.FinalMarker) => Unknown at 1 Sys
-1 == Sys.WindowMarker => Unknown at 5 Sys
-Sys => Unknown at 0 Sys
-currentPunct => Unknown at 0 currentPunct
+Sys.WindowMarker => Y1 at 0 Sys
+(Sys.FinalMarker) => Y1 at 1 Sys
+1 == Sys.WindowMarker => Y1 at 5 Sys
+Sys => Y1 at 0 Sys
+currentPunct => Y1 at 0 currentPunct
 # Other names.
 i => int32 | v1
 inc(i) => int32 | (f0 v1)
-price => Unknown at 0 price
-L => Unknown at 0 L
-L.price => Unknown at 0 L
+price => Y1 at 0 price
+L => Y1 at 0 L
+L.price => Y1 at 0 L
 "#;
 
 pub(crate) const NAMED: &str = r#"
@@ -204,10 +204,10 @@ currentPunct() != Sys.FinalMarker => boolean | not-final
 Sys.WindowMarker => int32 | (of v1 .0)
 Sys.WindowMarker == 1 => boolean | (== (of v1 .0) 1)
 i == Sys.WindowMarker => boolean | (== v0 (of v1 .0))
-Sys.FinalMarker => Unknown at 4 FinalMarker
-Sys.WindowMarker == currentPunct() => WrongCall at 20
-currentPunct() < Sys.WindowMarker => WrongCall at 0
-currentPunct() == Sys => WrongCall at 0
+Sys.FinalMarker => Y1 at 4 FinalMarker
+Sys.WindowMarker == currentPunct() => Y4 at 20
+currentPunct() < Sys.WindowMarker => Y4 at 0
+currentPunct() == Sys => Y4 at 0
 "#;
 
 pub(crate) const IN_COMPOSITE: &str = r#"
@@ -238,40 +238,40 @@ inc($n) => int32 | (f0 5)
 $if ? $n : 2 => int32 | (? true 5 2)
 # Another type is wanted.
 $n -> int32 => int32 | 5
-$s -> int32 => Mismatch at 0
-($s) -> int32 => Mismatch at 1
-inc($s) => Mismatch at 4
-$n + 1b => Mismatch at 5
-1b + $n => Mismatch at 5
-!$n => Mismatch at 1
+$s -> int32 => Y2 at 0
+($s) -> int32 => Y2 at 1
+inc($s) => Y2 at 4
+$n + 1b => Y2 at 5
+1b + $n => Y2 at 5
+!$n => Y2 at 1
 # A parameter that isn't there.
-$z => Unknown at 0 z
-$i => Unknown at 0 i
-$n + $z => Unknown at 5 z
-$z -> int32 => Unknown at 0 z
+$z => Y1 at 0 z
+$i => Y1 at 0 i
+$n + $z => Y1 at 5 z
+$z -> int32 => Y1 at 0 z
 # One that stands for a refusal.
-$unknown => Unknown at 681 T
-$unknown -> int32 => Unknown at 681 T
-$missing => MissingParameter at 710
-1 + $missing => MissingParameter at 710
-z + $missing => Unknown at 0 z
-inc($unknown) => Unknown at 681 T
+$unknown => Y1 at 681 T
+$unknown -> int32 => Y1 at 681 T
+$missing => C1 at 710
+1 + $missing => C1 at 710
+z + $missing => Y1 at 0 z
+inc($unknown) => Y1 at 681 T
 
 # a function may have no types
 # The types of the function are refused.
-odd(1) => Unknown at 761 T
-odd() => Unknown at 761 T
-odd(z) => Unknown at 761 T
-odd(1) -> int32 => Unknown at 761 T
-1 + even() => LeftOut at 783 float64
-inc(even(1)) => LeftOut at 783 float64
+odd(1) => Y1 at 761 T
+odd() => Y1 at 761 T
+odd(z) => Y1 at 761 T
+odd(1) -> int32 => Y1 at 761 T
+1 + even() => Y5 at 783 float64
+inc(even(1)) => Y5 at 783 float64
 # One that has types comes first, as does a call that is built in.
 inc(1) => int32 | (f0 1)
-inc(1l) => Mismatch at 4
+inc(1l) => Y2 at 4
 size([1]) => int32 | (size (list 1))
 # Names of no function.
-nope() => Unknown at 0 nope
-odd => Unknown at 0 odd
+nope() => Y1 at 0 nope
+odd => Y1 at 0 odd
 "#;
 
 pub(crate) const WRITTEN: &str = r#"
