@@ -11,9 +11,9 @@ use Rattle.language_model.specs.declared.scope.Scope.{Scope}
 use Rattle.language_model.specs.BodyTyping.{Setting, alone, arms_typing, condition_typing, part_stated, row_typing, stated}
 use Rattle.language_model.specs.BodyTypingLaws.{arms_stated, row_stated}
 use Rattle.language_model.specs.Typing.{Found, after}
-use Rattle.type_rules.specs.declared.answer.TypeAnswer.{TypeAnswer}
-use Rattle.type_rules.specs.declared.answer.TypeAnswer.TheVariants.{Refused, Memory}
-use Rattle.type_rules.specs.Finds.{Finds, with_front}
+use Rattle.language_model.specs.declared.answer.TypeAnswer.{TypeAnswer}
+use Rattle.language_model.specs.declared.answer.TypeAnswer.TheVariants.{Refused, Memory}
+use Rattle.language_model.specs.Finds.{Finds, with_front}
 use Rattle.body_rules.specs.Leads.{Leads}
 use Rattle.body_rules.proofs.Steps.{after_after, stops}
 

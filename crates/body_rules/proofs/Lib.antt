@@ -1,11 +1,3 @@
-mod Gets
-mod Searching
-mod Widening
-mod Rows
-mod DefinedPlaces
-mod Circles
-mod Gathering
-mod Meanings
 mod Weights
 mod Steps
 mod Lengths

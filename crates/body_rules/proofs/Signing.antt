@@ -14,8 +14,8 @@ use Rattle.language_model.specs.Composites.{as_function, functions}
 use Rattle.language_model.specs.FunctionTyping.{FunctionTypes as Typing, signature, as_signature, as_unresolved, each_typed, function_types, function_typing, unit_scope}
 use Rattle.language_model.specs.TypeNames.{Types, unit_types}
 use Rattle.language_model.specs.Typing.{Found, after}
-use Rattle.type_rules.specs.declared.answer.TypeAnswer.{TypeAnswer}
-use Rattle.type_rules.specs.Finds.{Finds, with_front}
+use Rattle.language_model.specs.declared.answer.TypeAnswer.{TypeAnswer}
+use Rattle.language_model.specs.Finds.{Finds, with_front}
 use Rattle.body_rules.specs.Signatures.{function_in, scope_in, with_definition, with_function}
 use Rattle.body_rules.proofs.BodyRows.{drop_at}
 use Rattle.body_rules.proofs.Steps.{after_after, finds_by, stops}

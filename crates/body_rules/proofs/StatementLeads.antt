@@ -8,9 +8,9 @@ use Rattle.language_model.specs.declared.scope.Scope.{Scope}
 use Rattle.language_model.specs.BodyTyping.{Setting, alone, part_stated, stated, staying, way_out}
 use Rattle.language_model.specs.BodyTypingLaws.{kind_stated}
 use Rattle.language_model.specs.Typing.{Found, after}
-use Rattle.type_rules.specs.declared.answer.TypeAnswer.{TypeAnswer}
-use Rattle.type_rules.specs.declared.answer.TypeAnswer.TheVariants.{Refused, Memory}
-use Rattle.type_rules.specs.Finds.{Finds}
+use Rattle.language_model.specs.declared.answer.TypeAnswer.{TypeAnswer}
+use Rattle.language_model.specs.declared.answer.TypeAnswer.TheVariants.{Refused, Memory}
+use Rattle.language_model.specs.Finds.{Finds}
 use Rattle.body_rules.specs.Leads.{Leads, inside_loop}
 use Rattle.body_rules.proofs.Steps.{exit}
 

@@ -16,8 +16,8 @@ use Rattle.language_model.specs.BodyTyping.{Setting, Stated, alone, arms_typing,
 use Rattle.language_model.specs.BodyTypingLaws.{arms_stated, other_stated}
 use Rattle.language_model.specs.TypeNames.{type_meant}
 use Rattle.language_model.specs.Typing.{after}
-use Rattle.type_rules.specs.declared.answer.TypeAnswer.{TypeAnswer}
-use Rattle.type_rules.specs.Finds.{Finds}
+use Rattle.language_model.specs.declared.answer.TypeAnswer.{TypeAnswer}
+use Rattle.language_model.specs.Finds.{Finds}
 use Rattle.body_rules.proofs.BodyRows.{branch}
 use Rattle.body_rules.proofs.Steps.{goes, stops}
 

@@ -14,9 +14,9 @@ use Rattle.language_model.specs.declared.scope.Scope.{Scope}
 use Rattle.language_model.specs.BodyTyping.{submit_typing, submitted, submitted_on, submitted_to}
 use Rattle.language_model.specs.Scopes.{At, at_place, first_from}
 use Rattle.language_model.specs.Typing.{Found, unknown}
-use Rattle.type_rules.specs.declared.answer.TypeAnswer.{TypeAnswer}
-use Rattle.type_rules.specs.declared.answer.TypeAnswer.TheVariants.{Refused, Memory}
-use Rattle.type_rules.specs.Finds.{Finds, IsUnknown}
+use Rattle.language_model.specs.declared.answer.TypeAnswer.{TypeAnswer}
+use Rattle.language_model.specs.declared.answer.TypeAnswer.TheVariants.{Refused, Memory}
+use Rattle.language_model.specs.Finds.{Finds, IsUnknown}
 use Rattle.body_rules.specs.declared.bodies.BodyPurpose.{BodyPurpose}
 use Rattle.body_rules.specs.declared.bodies.BodySetting.{BodySetting}
 use Rattle.body_rules.specs.Settings.{purpose_meant, setting_meant}

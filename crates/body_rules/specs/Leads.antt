@@ -3,8 +3,8 @@ use Rattle.std.specs.Prelude.{◌≡◌, ℕ, Bool, List, take, if◌then◌else
 use Rattle.spl_tree.specs.declared.body.Statement.{Statement}
 use Rattle.language_model.specs.declared.scope.Scope.{Scope}
 use Rattle.language_model.specs.Typing.{Found, wrong_call}
-use Rattle.type_rules.specs.declared.answer.TypeAnswer.{TypeAnswer}
-use Rattle.type_rules.specs.declared.answer.TypeAnswer.TheVariants.{Refused, Memory}
+use Rattle.language_model.specs.declared.answer.TypeAnswer.{TypeAnswer}
+use Rattle.language_model.specs.declared.answer.TypeAnswer.TheVariants.{Refused, Memory}
 
 -- the code that is found is answered with the scope behind it, and so is its refusal. Of want of memory nothing is said
 abbrev pub Leads : Found (Statement × Scope) → Result Statement TypeAnswer → Scope → Type 0

@@ -1,8 +1,3 @@
-pub mod Standing
-pub mod Stepping
-pub mod Definitions
-pub mod Circles
-pub mod TypeScopes
 pub mod Settings
 pub mod Leads
 pub mod Signatures

@@ -6,7 +6,7 @@ use Rattle.language_model.specs.BodyTyping.{Setting}
 use Rattle.body_rules.specs.declared.bodies.BodyPurpose.{BodyPurpose}
 use Rattle.body_rules.specs.declared.bodies.BodyPurpose.TheVariants as P
 use Rattle.body_rules.specs.declared.bodies.BodySetting.{BodySetting}
-use Rattle.body_rules.specs.TypeScopes.{types_in}
+use Rattle.written_types.specs.TypeScopes.{types_in}
 
 abbrev pub purpose_meant : BodyPurpose → Purpose
 purpose_meant (P.Function result) = OfFunction (option_copied result)

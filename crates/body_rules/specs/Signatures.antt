@@ -15,8 +15,8 @@ use Rattle.language_model.specs.Composites.{functions}
 use Rattle.language_model.specs.FunctionTyping.{FunctionTypes as Typing, function_types, signature, as_signature, as_unresolved, if_returning}
 use Rattle.language_model.specs.TypeNames.{Types}
 use Rattle.language_model.specs.Typing.{Found, after}
-use Rattle.type_rules.specs.declared.answer.TypeAnswer.{TypeAnswer}
-use Rattle.type_rules.specs.declared.answer.TypeAnswer.TheVariants.{Refused, Memory}
+use Rattle.language_model.specs.declared.answer.TypeAnswer.{TypeAnswer}
+use Rattle.language_model.specs.declared.answer.TypeAnswer.TheVariants.{Refused, Memory}
 use Rattle.body_rules.specs.declared.functions.FunctionTypes.{FunctionTypes}
 
 -- the same types

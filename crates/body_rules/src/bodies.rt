@@ -4,7 +4,7 @@ ghost use Rattle.language_model.specs.BodyTyping.{alone, arms_typing, body_typin
 ghost use Rattle.language_model.specs.BodyTypingLaws.{arms_stated, other_stated, row_stated};
 ghost use Rattle.body_rules.specs.Leads.{Leads, shortened};
 ghost use Rattle.body_rules.specs.Settings.{setting_meant};
-ghost use Rattle.type_rules.specs.Finds.{Finds};
+ghost use Rattle.language_model.specs.Finds.{Finds};
 
 mod parts;
 mod refusals;
@@ -12,16 +12,16 @@ mod results;
 mod submits;
 mod variables;
 
-use crate::types::{TypeScope, type_of_written};
-use language_model::{Port, Scope};
+use language_model::{Port, Scope, TypeAnswer};
 use parts::{assigned, condition, declared, leave_loop, over, returned};
 pub use results::ends_with_result;
 use spl_tree::{Attribute, Body, Code, Expr, Slot, Statement, Stmt, StmtKind, TypeExpr};
 use spl_value::{Boxed, Items, SplType};
 use std::alloc::Global;
 use submits::submitted;
-use type_rules::{TypeAnswer, call_of};
+use type_rules::call_of;
 pub(crate) use variables::{add_variable, drop_variables};
+use written_types::{TypeScope, type_of_written};
 
 /// What a body is that of.
 #[derive(Clone, Copy)]

@@ -4,18 +4,17 @@ ghost use Rattle.std.specs.Option.{option_copied};
 ghost use Rattle.language_model.specs.FunctionTyping.{function_types, functions_typing, kinds, result_type, unit_scope};
 ghost use Rattle.spl_tree.specs.declared.unit.Definition.TheVariants as D;
 ghost use Rattle.body_rules.specs.Signatures.{MayEnd, as_types, function_in, scope_in, with_definition, with_parameters};
-ghost use Rattle.body_rules.specs.TypeScopes.{types_in};
-ghost use Rattle.type_rules.specs.Finds.{Finds};
+ghost use Rattle.written_types.specs.TypeScopes.{types_in};
+ghost use Rattle.language_model.specs.Finds.{Finds};
 
 use crate::bodies::{
     BodyPurpose, BodySetting, add_variable, body_of, drop_variables, ends_with_result,
 };
-use crate::types::{TypeScope, TypeTable, attributes_of, type_of_written};
-use language_model::{CheckError, CheckRefusal, Scope, Signature, Unresolved};
+use language_model::{CheckError, CheckRefusal, Scope, Signature, TypeAnswer, Unresolved};
 use spl_tree::{Definition, Function, FunctionDefinition, Functions, Placed, TypeExpr, Unit};
 use spl_value::{Attribute, Items, Name, NoMemory, Schema, SplType, copy_type};
 use std::alloc::Global;
-use type_rules::TypeAnswer;
+use written_types::{TypeScope, TypeTable, attributes_of, type_of_written};
 
 /// The types of a function: of its result, where it has one, and of its parameters.
 #[derive(Debug, Drop)]

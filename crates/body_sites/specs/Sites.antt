@@ -3,8 +3,8 @@ use Rattle.std.specs.Prelude.{◌≡◌, List, Option, Some, None}
 use Rattle.spl_tree.specs.declared.unit.Composite.{Composite}
 use Rattle.spl_tree.specs.declared.unit.Definition.{Definition}
 use Rattle.language_model.specs.TypeNames.{composite_types}
-use Rattle.body_rules.specs.declared.types.finding.TypeScope.{TypeScope}
-use Rattle.body_rules.specs.TypeScopes.{types_in}
+use Rattle.written_types.specs.declared.finding.TypeScope.{TypeScope}
+use Rattle.written_types.specs.TypeScopes.{types_in}
 
 -- what they stand for in the composite, where there is one
 abbrev pub MeansTypes : List Definition → Option Composite → Option TypeScope → Type 0

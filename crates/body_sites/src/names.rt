@@ -5,11 +5,11 @@ ghost use Rattle.language_model.specs.Invoking.{input_names, is_among, stream_na
 ghost use Rattle.language_model.specs.StreamTypes.{output_names};
 ghost use Rattle.body_sites.specs.Names.{StandFor, type_names_of};
 
-use body_rules::TypeTable;
 use spl_tree::{Composite, HeadPort, Invocation, OutputStream, TypeDefinition};
 use spl_value::{Name, NoMemory};
 use std::alloc::Global;
 use std::collections::HashMap;
+use written_types::TypeTable;
 
 /// The first place of each name of a list, from 0.
 #[derive(Drop)]

@@ -12,10 +12,10 @@ ghost use Rattle.body_sites.specs.Sites.{MeansTypes};
 
 use crate::bodies::Body;
 use crate::names::{BodyNames, Names};
-use body_rules::{TypeScope, TypeTable};
 use spl_tree::{Composite, Definition, Expansion, Invocation, Parameter, Site, Unit};
 use spl_value::NoMemory;
 use std::alloc::Global;
+use written_types::{TypeScope, TypeTable};
 
 /// A unit with its expansions, in which names are looked up. It is made once for all operators.
 #[derive(Drop)]

@@ -21,7 +21,7 @@ use Rattle.language_model.specs.StreamTypes.{Attributes, Passes, passed}
 use Rattle.language_model.specs.Typing.{Found, after, refused}
 use Rattle.parameter_rules.specs.Sites.{followed_in}
 use Rattle.parameter_rules.specs.declared.literals.follow.Follow.{Follow}
-use Rattle.type_rules.specs.declared.answer.TypeAnswer.{TypeAnswer}
+use Rattle.language_model.specs.declared.answer.TypeAnswer.{TypeAnswer}
 use Rattle.clause_rules.specs.declared.parts.Around.{Around}
 use Rattle.clause_rules.specs.declared.parts.Checks.{Checks}
 use Rattle.logic_rules.specs.Handling.{surroundings}

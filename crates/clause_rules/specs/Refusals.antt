@@ -1,8 +1,8 @@
 -- Refusals that are about a name.
 use Rattle.std.specs.Prelude.{◌≡◌, ℕ, List, Some}
 use Rattle.language_model.specs.declared.scope.CheckError.{CheckError}
-use Rattle.type_rules.specs.declared.answer.TypeAnswer.{TypeAnswer}
-use Rattle.type_rules.specs.declared.answer.TypeAnswer.TheVariants.{Refused, Memory}
+use Rattle.language_model.specs.declared.answer.TypeAnswer.{TypeAnswer}
+use Rattle.language_model.specs.declared.answer.TypeAnswer.TheVariants.{Refused, Memory}
 
 -- the refusal is that one, where there was memory for the name
 abbrev pub IsRefused : CheckError → ℕ → List ℕ → TypeAnswer → Type 0

@@ -4,7 +4,7 @@ ghost use Rattle.language_model.specs.Checking.{checked, each_stream};
 ghost use Rattle.language_model.specs.Flat.{IsFlat};
 ghost use Rattle.language_model.specs.Numbering.{numbers_from};
 ghost use Rattle.stream_rules.specs.Streams.{IsTableOf};
-ghost use Rattle.type_rules.specs.Finds.{Finds, Narrows};
+ghost use Rattle.language_model.specs.Finds.{Finds, Narrows};
 ghost use Rattle.clause_rules.specs.Programs.{AreInvoked, found_in};
 
 use crate::operators::{Program, operators_checked};
@@ -12,13 +12,12 @@ use body_rules::{functions_of, scope_of_unit};
 use body_sites::Sites;
 use check_laws::keeps_law;
 use dollar_rules::dollar_tables;
-use language_model::{Checked, Part, flat_law};
+use language_model::{Checked, Part, TypeAnswer, flat_law};
 use parameter_rules::CompositeTable;
 use spl_tree::{Graph, Unit};
 use spl_value::{Items, Schema};
 use std::alloc::Global;
 use stream_rules::StreamTable;
-use type_rules::TypeAnswer;
 
 /// Why a graph isn't checked: its first refusal by the rules of types and clauses, or the want of memory.
 pub type CheckAnswer = TypeAnswer;

@@ -7,7 +7,7 @@ ghost use Rattle.language_model.specs.Parameters.{table_at};
 ghost use Rattle.parameter_rules.specs.Sites.{site_seen};
 ghost use Rattle.body_sites.specs.Bodies.{body_seen};
 ghost use Rattle.stream_rules.specs.Streams.{IsTableOf};
-ghost use Rattle.type_rules.specs.Finds.{Finds};
+ghost use Rattle.language_model.specs.Finds.{Finds};
 ghost use Rattle.clause_rules.specs.Operators.{around_seen, site_at};
 ghost use Rattle.clause_rules.specs.Programs.{AreInvoked, IsBody, invocation_in, program_unit};
 
@@ -15,7 +15,7 @@ use crate::parts::{Around, Checks, output_rows, part_of};
 use crate::ports::{config_checked, outputs_of, ports_checked, ports_of};
 use crate::refusals::refused;
 use body_sites::{Body, Sites};
-use language_model::{CheckError, Dollar, Given, Part, Policy, Scope};
+use language_model::{CheckError, Dollar, Given, Part, Policy, Scope, TypeAnswer};
 use parameter_rules::{
     CompositeTable, ExpressionSite, Follow, is_partitioned, parameters_of, windows_of,
 };
@@ -24,7 +24,6 @@ use spl_value::Items;
 use std::alloc::Global;
 use std::mem::replace;
 use stream_rules::{StreamTable, port_types};
-use type_rules::TypeAnswer;
 
 /// A graph with what is found once for all of its operators.
 #[derive(Clone, Copy)]

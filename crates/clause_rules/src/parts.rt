@@ -5,19 +5,20 @@ ghost use Rattle.std.specs.Option.{option_copied};
 ghost use Rattle.spl_value.specs.declared.types.SplType.TheViews.{out-SplType};
 ghost use Rattle.language_model.specs.declared.checked.Part.TheVariants as A;
 ghost use Rattle.language_model.specs.Checking.{code_given, file_sink, file_source, aggregated, functor, has_output, has_text_form, joined, level_text_form, no_logic, output_rows, part_of, places_given, plain, position_given, punctor, split, there, union};
-ghost use Rattle.type_rules.specs.Finds.{Finds};
+ghost use Rattle.language_model.specs.Finds.{Finds};
 ghost use Rattle.clause_rules.specs.Operators.{checks_seen, groups_at, rows_of_schemas, rows_seen, tuple_at};
 
 use crate::refusals::{refused, refused_name};
-use body_rules::TypeScope;
-use language_model::{CheckError, Collected, Given, Part, Policy, Port, Position, Scope};
+use language_model::{
+    CheckError, Collected, Given, Part, Policy, Port, Position, Scope, TypeAnswer,
+};
 use logic_rules::logic_of;
 use output_rules::{groups_of, places_of, tuple_of};
 use parameter_rules::{position_given, strict_given, take_code, take_file, take_places};
 use spl_tree::{Clauses, Code, Logic, OpKind, OutputAssignments, Placed, Slot};
 use spl_value::{Attribute, Items, Places, SplType};
 use std::alloc::Global;
-use type_rules::TypeAnswer;
+use written_types::TypeScope;
 
 /// What is around the expressions of an operator: what names of types stand for, and its outputs.
 #[derive(Clone, Copy)]

@@ -1,15 +1,14 @@
 //! How many ports an operator has, and what they are called.
 ghost use Rattle.std.specs.Prelude.{◌≡◌, IfOk};
 ghost use Rattle.language_model.specs.Checking.{config_checked, fit_ports, port_name, ports_checked};
-ghost use Rattle.type_rules.specs.Finds.{Finds};
+ghost use Rattle.language_model.specs.Finds.{Finds};
 ghost use Rattle.clause_rules.specs.Operators.{named};
 
 use crate::refusals::{refused, refused_name};
-use language_model::{CheckError, Port};
+use language_model::{CheckError, Port, TypeAnswer};
 use spl_tree::{InputPort, Invocation, Op, OpKind, OutputStream, Parameter};
 use spl_value::{Items, Name, NoMemory, Schema};
 use std::alloc::Global;
-use type_rules::TypeAnswer;
 
 /// Whether an operator of the kind may have so many inputs and outputs.
 fn may_have(kind: OpKind, ins: usize, outs: usize) -> bool

@@ -1,13 +1,12 @@
 //! What is answered where an operator is refused.
 ghost use Rattle.std.specs.Prelude.{◌≡◌, Some, None};
 ghost use Rattle.language_model.specs.declared.scope.CheckError.{CheckError};
-ghost use Rattle.type_rules.specs.declared.answer.TypeAnswer.TheVariants.{Refused};
+ghost use Rattle.language_model.specs.declared.answer.TypeAnswer.TheVariants.{Refused};
 ghost use Rattle.clause_rules.specs.Refusals.{IsRefused};
 
-use language_model::{CheckError, CheckRefusal};
+use language_model::{CheckError, CheckRefusal, TypeAnswer};
 use spl_value::Items;
 use std::alloc::Global;
-use type_rules::TypeAnswer;
 
 /// A refusal about no name.
 pub(crate) fn refused(error: CheckError, at: u32) -> TypeAnswer

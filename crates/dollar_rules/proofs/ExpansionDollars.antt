@@ -16,8 +16,8 @@ use Rattle.language_model.specs.declared.scope.Scope.{Scope}
 use Rattle.language_model.specs.Parameters.{Tables, constant_scope, expansion_dollars, parameters_given, table_at}
 use Rattle.language_model.specs.SinkFiles.{arguments_of, composite_of}
 use Rattle.language_model.specs.TypeNames.{Types, composite_types}
-use Rattle.body_rules.specs.declared.types.finding.TypeScope.{TypeScope}
-use Rattle.body_rules.specs.TypeScopes.{types_in}
+use Rattle.written_types.specs.declared.finding.TypeScope.{TypeScope}
+use Rattle.written_types.specs.TypeScopes.{types_in}
 use Rattle.body_sites.specs.Sites.{MeansTypes}
 use Rattle.dollar_rules.specs.Tables.{tables_of}
 use Rattle.dollar_rules.proofs.Places.{copied_at}

@@ -14,7 +14,7 @@ use Rattle.language_model.specs.Parameters.{default_leads, has_meaning, paramete
 use Rattle.language_model.specs.Scopes.{At, at_place, first_from}
 use Rattle.language_model.specs.SinkFiles.{value_named}
 use Rattle.dollar_rules.specs.Heads.{rows_of}
-use Rattle.body_rules.specs.Stepping.{LeadsWithin, steps_from}
+use Rattle.written_types.specs.Stepping.{LeadsWithin, steps_from}
 
 first_within : {A : Type 0} (p : A → Bool) (i : ℕ) (xs : List A) (k : ℕ) → option_map (λ a. a.place) (first_from p i xs) ≡ Some k → k < i + length xs
 first_within p i [] k e = absurd cc

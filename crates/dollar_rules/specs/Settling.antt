@@ -2,7 +2,7 @@
 use Rattle.std.specs.Prelude.{◌≡◌, ℕ}
 use Rattle.language_model.specs.Parameters.{constant_scope}
 use Rattle.dollar_rules.specs.Given.{AreSettled, Given, IsDone, Keeps, settled_table}
-use Rattle.body_rules.specs.TypeScopes.{types_in}
+use Rattle.written_types.specs.TypeScopes.{types_in}
 use Rattle.dollar_rules.specs.declared.heads.Head.{Head}
 use Rattle.dollar_rules.specs.declared.settling.Settled.{Settled}
 

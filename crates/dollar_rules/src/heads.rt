@@ -3,20 +3,20 @@ ghost use Rattle.std.specs.Prelude.{◌≡◌, IfOk, filter_map};
 ghost use Rattle.std.specs.Option.{option_copied};
 ghost use Rattle.language_model.specs.Parameters.{constant_scope, constant_typing, default_leads, has_meaning, parameter_leads, parameter_place, parameter_typing};
 ghost use Rattle.language_model.specs.SinkFiles.{only_value, value_named};
-ghost use Rattle.type_rules.specs.Finds.{Finds, IsUnknown};
+ghost use Rattle.language_model.specs.Finds.{Finds, IsUnknown};
 ghost use Rattle.dollar_rules.specs.Mentioned.{names_seen};
-ghost use Rattle.body_rules.specs.TypeScopes.{types_in};
+ghost use Rattle.written_types.specs.TypeScopes.{types_in};
 ghost use Rattle.dollar_rules.specs.Heads.{rows_of, passes_at, passes_from};
 
 use crate::constants::is_constant;
 use crate::mentions::dollars_in;
 use crate::weights::is_small;
-use body_rules::{TypeScope, leads_back, narrow, type_of_written};
-use language_model::{CheckError, CheckRefusal, Scope, Typed};
+use language_model::{CheckError, CheckRefusal, Scope, TypeAnswer, Typed};
 use spl_tree::{CompositeParameter, Expr, Parameter, Placed};
 use spl_value::{Items, Name, NoMemory, SplType};
 use std::alloc::Global;
-use type_rules::{TypeAnswer, type_of};
+use type_rules::type_of;
+use written_types::{TypeScope, leads_back, narrow, type_of_written};
 
 /// The parameters of a composite, with what is given for them where it is invoked.
 #[derive(Drop)]

@@ -6,13 +6,13 @@ ghost use Rattle.spl_tree.specs.declared.unit.CompositeParameter.{CompositeParam
 ghost use Rattle.language_model.specs.Parameters.{constant_scope, parameter_leads, parameters_given};
 ghost use Rattle.dollar_rules.specs.Given.{IsReady, is_marked, marks_in, means};
 ghost use Rattle.dollar_rules.specs.Settling.{IsSettled, Settles, given_of};
-ghost use Rattle.body_rules.specs.TypeScopes.{types_in};
+ghost use Rattle.written_types.specs.TypeScopes.{types_in};
 
 use crate::heads::Head;
-use body_rules::narrow;
 use language_model::{Dollar, Scope, dollars_law};
 use spl_value::{Items, NoMemory};
 use std::alloc::Global;
+use written_types::narrow;
 
 /// The longest row of parameters each of which the default of the one before mentions.
 const LONGEST_ROW: u32 = 1_000;

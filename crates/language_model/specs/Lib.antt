@@ -1,5 +1,6 @@
 pub mod Scopes
 pub mod Typing
+pub mod Finds
 pub mod Outcomes
 pub mod Operators
 pub mod Evaluation

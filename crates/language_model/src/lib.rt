@@ -2,6 +2,7 @@
 //! what its expressions and bodies do.
 #![tactic(auto)]
 
+mod answer;
 mod checked;
 mod checked_graph;
 mod checks;
@@ -12,6 +13,7 @@ mod laws;
 mod outs;
 mod scope;
 
+pub use answer::TypeAnswer;
 pub use checked::{
     Collected, Collector, Gathers, Given, Handled, Handlers, ParameterValue, Part, Policy,
     PortTypes, Position, StateVariable, WindowRule,

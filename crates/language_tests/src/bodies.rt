@@ -11,7 +11,7 @@ use crate::reading::{body_named, unit_of};
 use crate::scopes::scope_of;
 use crate::unanswered::{Unanswered, finish};
 use crate::values::with_turns;
-use body_rules::{BodyPurpose, BodySetting, TypeScope, TypeTable, body_of, functions_of};
+use body_rules::{BodyPurpose, BodySetting, body_of, functions_of};
 use expr_eval::{Ran, run_body};
 use language_model::{Output, Outs, Port, Scope, bodies_law, dollars_law};
 use spl_tree::{Body, Unit};
@@ -21,6 +21,7 @@ use std::test::Fail;
 use test_texts::rows::{Answers, others};
 use test_texts::text::Text;
 use test_texts::values::add_value;
+use written_types::{TypeScope, TypeTable};
 
 /// What bodies of a handler leave that may call the functions of a unit and has these output ports. A row
 /// has the declarations of the variables of the state, the statements, and the turns that there are, with

@@ -7,7 +7,7 @@ ghost use Rattle.language_tests.specs.Contexts.{Holds};
 
 use crate::reading::body_named;
 use crate::unanswered::Unanswered;
-use body_rules::{TypeScope, TypeTable, functions_of, scope_of_unit, type_of_written};
+use body_rules::{functions_of, scope_of_unit};
 use expr_eval::eval;
 use language_model::{
     Env, Port, Scope, Typed, Variable, bodies_law, dollars_law, evaluation_law, typing_law,
@@ -16,6 +16,7 @@ use spl_tree::{Declaration, Expr, Functions, Marker, Stmt, StmtKind, Unit};
 use spl_value::{Evaluated, Items, Name, NoMemory, SplType, Value};
 use std::alloc::Global;
 use type_rules::type_of;
+use written_types::{TypeScope, TypeTable, type_of_written};
 
 /// A scope, the values of what can be named in it, and the functions that can be called.
 #[derive(Drop)]

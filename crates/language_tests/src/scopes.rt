@@ -2,12 +2,13 @@
 use crate::context::Context;
 use crate::reading::unit_of;
 use crate::unanswered::Unanswered;
-use body_rules::{TypeScope, TypeTable, scope_of_unit, shape_of, type_of_written};
-use language_model::{CheckError, CheckRefusal, Dollar, Scope, Typed};
+use body_rules::scope_of_unit;
+use language_model::{CheckError, CheckRefusal, Dollar, Scope, TypeAnswer, Typed};
 use spl_tree::{CompositeParameter, Definition, Marker, Unit};
 use spl_value::{Items, SplType};
 use std::alloc::Global;
-use type_rules::{TypeAnswer, type_of};
+use type_rules::type_of;
+use written_types::{TypeScope, TypeTable, shape_of, type_of_written};
 
 /// The type of a text.
 pub(crate) fn type_named(alloc: Global, text: &str) -> Result<SplType, Unanswered> {

@@ -1,10 +1,10 @@
 //! Why a text has no answer.
+use language_model::TypeAnswer;
 use spl_value::{FaultKind, NoMemory};
 use std::alloc::AllocError;
 use test_texts::refusals::add_check_refusal;
 use test_texts::text::Text;
 use test_texts::values::fault;
-use type_rules::TypeAnswer;
 
 /// Why there is no answer to a text.
 #[derive(Debug, Drop)]

@@ -19,10 +19,10 @@ use Rattle.language_model.specs.BodyTyping.{Setting, body_typing}
 use Rattle.language_model.specs.LogicTyping.{Surroundings, event_word, handler_of, handler_scope, handler_setting, handler_typing, handlers_typing, logic_typing, state_typing}
 use Rattle.language_model.specs.Scopes.{At, at_place, first_from}
 use Rattle.language_model.specs.Typing.{Found, after, refused}
-use Rattle.type_rules.specs.declared.answer.TypeAnswer.{TypeAnswer}
-use Rattle.type_rules.specs.Finds.{Finds}
-use Rattle.body_rules.specs.declared.types.finding.TypeScope.{TypeScope}
-use Rattle.body_rules.specs.TypeScopes.{types_in}
+use Rattle.language_model.specs.declared.answer.TypeAnswer.{TypeAnswer}
+use Rattle.language_model.specs.Finds.{Finds}
+use Rattle.written_types.specs.declared.finding.TypeScope.{TypeScope}
+use Rattle.written_types.specs.TypeScopes.{types_in}
 use Rattle.logic_rules.specs.Handling.{handled_in, handlers_found, handlers_in, made_of, seen_scope, surroundings}
 use Rattle.logic_rules.proofs.FoundRows.{drop_at}
 use Rattle.logic_rules.proofs.Steps.{finds_by, goes, stops}

@@ -15,8 +15,8 @@ use Rattle.language_model.specs.BodyTyping.{Setting, body_typing}
 use Rattle.language_model.specs.LogicTyping.{Surroundings, event_word, handler_of, handlers_made, handlers_on, handlers_typing}
 use Rattle.language_model.specs.Scopes.{At, first_from}
 use Rattle.language_model.specs.Typing.{Found, after, refused, unknown}
-use Rattle.body_rules.specs.declared.types.finding.TypeScope.{TypeScope}
-use Rattle.body_rules.specs.TypeScopes.{types_in}
+use Rattle.written_types.specs.declared.finding.TypeScope.{TypeScope}
+use Rattle.written_types.specs.TypeScopes.{types_in}
 
 -- where names stand for these types, in a scope with the input ports, before these output ports
 abbrev pub surroundings : TypeScope → Scope → List Port → Surroundings

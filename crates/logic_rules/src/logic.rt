@@ -2,7 +2,7 @@
 ghost use Rattle.std.specs.Prelude.{◌≡◌, [], false, IfOk};
 ghost use Rattle.std.specs.Option.{option_copied};
 ghost use Rattle.language_model.specs.LogicTyping.{logic_typing};
-ghost use Rattle.type_rules.specs.Finds.{Finds};
+ghost use Rattle.language_model.specs.Finds.{Finds};
 ghost use Rattle.logic_rules.specs.Handling.{handlers_found, surroundings};
 
 mod by_ports;
@@ -12,16 +12,16 @@ mod refusals;
 mod state;
 mod state_values;
 
-use body_rules::{BodyPurpose, BodySetting, TypeScope};
+use body_rules::{BodyPurpose, BodySetting};
 use by_ports::by_ports;
 use handling::handlers_of;
-use language_model::{Handlers, Port, Scope, StateVariable};
+use language_model::{Handlers, Port, Scope, StateVariable, TypeAnswer};
 use spl_tree::{Handler, Logic, Placed};
 use spl_value::Items;
 use state::{state_in, variables_of};
 use std::alloc::Global;
 use std::mem::replace;
-use type_rules::TypeAnswer;
+use written_types::TypeScope;
 
 /// The handlers of a Custom with a state. The scope is that of `logic_of`.
 fn with_state(

@@ -10,8 +10,8 @@ use Rattle.spl_tree.specs.declared.unit.OutputAssignments.{OutputAssignments}
 use Rattle.language_model.specs.declared.checked.Gathers.{Gathers}
 use Rattle.language_model.specs.OutputTyping.{Assigned, Assigns, Fills, assignment_typing, assignments_typing, collected, filled_from, is_assigned, places, rows_typing}
 use Rattle.language_model.specs.Typing.{Found, after, unknown}
-use Rattle.type_rules.specs.declared.answer.TypeAnswer.{TypeAnswer}
-use Rattle.type_rules.specs.Finds.{Finds, with_front}
+use Rattle.language_model.specs.declared.answer.TypeAnswer.{TypeAnswer}
+use Rattle.language_model.specs.Finds.{Finds, with_front}
 use Rattle.output_rules.specs.Marking.{Tells}
 use Rattle.output_rules.proofs.OutputMarks.{tells_more}
 use Rattle.output_rules.proofs.OutputSteps.{drop_at, finds_by, front_more, front_on, stops}

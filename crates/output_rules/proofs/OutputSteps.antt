@@ -5,9 +5,9 @@ use Rattle.std.proofs.lemmas.Result.{err_from_is_err_and}
 use Rattle.spl_value.specs.declared.types.SplType.{SplType}
 use Rattle.language_model.specs.Typing.{Found, after, same_types}
 use Rattle.language_model.specs.TypingLaws.{same_types_law}
-use Rattle.type_rules.specs.declared.answer.TypeAnswer.{TypeAnswer}
-use Rattle.type_rules.specs.declared.answer.TypeAnswer.TheVariants.{Refused, Memory}
-use Rattle.type_rules.specs.Finds.{Finds, with_front}
+use Rattle.language_model.specs.declared.answer.TypeAnswer.{TypeAnswer}
+use Rattle.language_model.specs.declared.answer.TypeAnswer.TheVariants.{Refused, Memory}
+use Rattle.language_model.specs.Finds.{Finds, with_front}
 
 both_true : (a b : Bool) (P : Type 0) → (IsTrue a ↔ P) → (IsTrue b ↔ P) → a ≡ b
 both_true true true P f g = refl

@@ -6,9 +6,9 @@ use Rattle.std.proofs.lemmas.Result.{err_from_is_err_and}
 use Rattle.language_model.specs.declared.scope.CheckError.{CheckError}
 use Rattle.language_model.specs.declared.scope.CheckRefusal.{CheckRefusal}
 use Rattle.language_model.specs.Typing.{Found, after, refused}
-use Rattle.type_rules.specs.declared.answer.TypeAnswer.{TypeAnswer}
-use Rattle.type_rules.specs.declared.answer.TypeAnswer.TheVariants.{Refused, Memory}
-use Rattle.type_rules.specs.Finds.{Finds, with_front}
+use Rattle.language_model.specs.declared.answer.TypeAnswer.{TypeAnswer}
+use Rattle.language_model.specs.declared.answer.TypeAnswer.TheVariants.{Refused, Memory}
+use Rattle.language_model.specs.Finds.{Finds, with_front}
 use Rattle.parameter_rules.specs.Refusals.{Refuses}
 use Rattle.parameter_rules.proofs.Lists.{drop_at}
 

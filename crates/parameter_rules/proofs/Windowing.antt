@@ -16,8 +16,8 @@ use Rattle.language_model.specs.Checking.{each_window, has_windows, policy_of, w
 use Rattle.language_model.specs.Policies.{Numbers, Parts, delta_of, has_name, in_front, is_word, measured, only_count, partitioned_last, window_at, window_of, windows_typing}
 use Rattle.language_model.specs.Scopes.{At, at_place, first_from}
 use Rattle.language_model.specs.Typing.{Found, after, refused}
-use Rattle.type_rules.specs.declared.answer.TypeAnswer.{TypeAnswer}
-use Rattle.type_rules.specs.Finds.{Finds, with_front}
+use Rattle.language_model.specs.declared.answer.TypeAnswer.{TypeAnswer}
+use Rattle.language_model.specs.Finds.{Finds, with_front}
 use Rattle.parameter_rules.specs.declared.windows.measures.Measure.{Measure}
 use Rattle.parameter_rules.specs.Windows.{counted, differing}
 use Rattle.parameter_rules.proofs.Answering.{IsRow, after_after, finds_by, stops}

@@ -4,7 +4,7 @@ ghost use Rattle.std.specs.Option.{option_copied};
 ghost use Rattle.std.specs.Str.{is_utf8};
 ghost use Rattle.spl_tree.specs.declared.expression.ExprKind.TheViews.{out-ExprKind};
 ghost use Rattle.language_model.specs.Literals.{file_or_mismatch, file_typing, is_file_name, number_literal, number_of, text_at};
-ghost use Rattle.type_rules.specs.Finds.{Finds};
+ghost use Rattle.language_model.specs.Finds.{Finds};
 ghost use Rattle.parameter_rules.specs.Sites.{behind_at, numbers_at};
 
 pub(crate) mod attributes;
@@ -14,12 +14,12 @@ pub(crate) mod refusals;
 
 pub use composites::CompositeTable;
 pub use follow::Follow;
-use language_model::Scope;
+use language_model::{Scope, TypeAnswer};
 use refusals::mismatch;
 use spl_tree::{Expr, ExprKind, Number};
 use spl_value::{Bytes, Items, SplType};
 use std::alloc::Global;
-use type_rules::{TypeAnswer, type_of};
+use type_rules::type_of;
 
 /// Where the expressions of an operator stand: what they may name, and what is behind their `$`
 /// parameters.

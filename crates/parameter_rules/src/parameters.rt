@@ -4,7 +4,7 @@ ghost use Rattle.std.specs.List.{list_any};
 ghost use Rattle.std.specs.Str.{bytes_eq};
 ghost use Rattle.language_model.specs.Checking.{parameters_checked};
 ghost use Rattle.language_model.specs.ParameterTyping.{parameter_typing, parameters_typing, role_of};
-ghost use Rattle.type_rules.specs.Finds.{Finds};
+ghost use Rattle.language_model.specs.Finds.{Finds};
 ghost use Rattle.parameter_rules.specs.Sites.{site_seen};
 
 mod given;
@@ -15,12 +15,11 @@ mod values;
 use crate::literals::ExpressionSite;
 use crate::literals::refusals::{extra, missing_parameter};
 pub use given::{position_given, strict_given, take_code, take_file, take_places};
-use language_model::Given;
+use language_model::{Given, TypeAnswer};
 use roles::{missing, role_of};
 use spl_tree::{OpKind, Parameter};
 use spl_value::Items;
 use std::alloc::Global;
-use type_rules::TypeAnswer;
 use values::value_of;
 
 /// The parameters of an operator with their values, in the order of the text. `partitioned` says whether

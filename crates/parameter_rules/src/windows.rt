@@ -6,7 +6,7 @@ ghost use Rattle.std.specs.Str.{bytes_eq};
 ghost use Rattle.language_model.specs.Checking.{each_window, has_windows, is_partitioned, policy_of, windows_checked};
 ghost use Rattle.language_model.specs.Policies.{aggregate_policy, join_policy, partitioned_last, partitioned_or_not, window_at, window_of, windows_typing};
 ghost use Rattle.language_model.specs.Scopes.{first_from};
-ghost use Rattle.type_rules.specs.Finds.{Finds, Points};
+ghost use Rattle.language_model.specs.Finds.{Finds, Points};
 ghost use Rattle.parameter_rules.specs.Sites.{numbers_at};
 ghost use Rattle.parameter_rules.specs.Windows.{ArePartitioned};
 
@@ -15,12 +15,11 @@ mod rules;
 
 use crate::literals::ExpressionSite;
 use crate::literals::refusals::{bad_window, extra, narrow, unknown};
-use language_model::{Policy, Port};
+use language_model::{Policy, Port, TypeAnswer};
 use rules::{aggregate_rule, is_word, join_rule};
 use spl_tree::{OpKind, Placed, PortWindow, WindowPart};
 use spl_value::Items;
 use std::alloc::Global;
-use type_rules::TypeAnswer;
 
 /// The windows of an operator's ports, in the order of these, by its window clause, where it has one. An
 /// operator that has no windows has none.

@@ -16,9 +16,9 @@ use Rattle.unit_parser.specs.Parses.{Parses}
 use Rattle.composite_expand.specs.declared.answer.ExpandAnswer.{ExpandAnswer}
 use Rattle.composite_expand.specs.declared.answer.ExpandAnswer.TheVariants as X
 use Rattle.composite_expand.specs.Expands.{Expands}
-use Rattle.type_rules.specs.declared.answer.TypeAnswer.{TypeAnswer}
-use Rattle.type_rules.specs.declared.answer.TypeAnswer.TheVariants as T
-use Rattle.type_rules.specs.Finds.{Finds}
+use Rattle.language_model.specs.declared.answer.TypeAnswer.{TypeAnswer}
+use Rattle.language_model.specs.declared.answer.TypeAnswer.TheVariants as T
+use Rattle.language_model.specs.Finds.{Finds}
 use Rattle.language_model.specs.declared.scope.CheckRefusal.{CheckRefusal}
 use Rattle.language_model.specs.Accepted.{Lexical, Unexpected, TooDeep, Expansion, Check, IsAccepted, no_tokens, too_deep, unexpected, no_graph, checks, refused_check}
 use Rattle.language_model.specs.CheckedGraph.{CheckedGraph}

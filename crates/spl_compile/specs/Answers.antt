@@ -6,8 +6,8 @@ use Rattle.expr_parser.specs.declared.answer.SyntaxAnswer.{SyntaxAnswer}
 use Rattle.expr_parser.specs.declared.answer.SyntaxAnswer.TheVariants as S
 use Rattle.composite_expand.specs.declared.answer.ExpandAnswer.{ExpandAnswer}
 use Rattle.composite_expand.specs.declared.answer.ExpandAnswer.TheVariants as X
-use Rattle.type_rules.specs.declared.answer.TypeAnswer.{TypeAnswer}
-use Rattle.type_rules.specs.declared.answer.TypeAnswer.TheVariants as T
+use Rattle.language_model.specs.declared.answer.TypeAnswer.{TypeAnswer}
+use Rattle.language_model.specs.declared.answer.TypeAnswer.TheVariants as T
 use Rattle.run_report.specs.Refusals.{refusal_of}
 use Rattle.spl_compile.specs.declared.answer.CompileAnswer.{CompileAnswer}
 use Rattle.spl_compile.specs.declared.answer.CompileAnswer.TheVariants as A

@@ -10,9 +10,9 @@ use Rattle.spl_value.specs.declared.types.SplType.TheViews.{out-SplType, roll-Sp
 use Rattle.language_model.specs.declared.scope.CheckRefusal.{CheckRefusal}
 use Rattle.language_model.specs.StreamTypes.{Attributes, level_attributes}
 use Rattle.language_model.specs.Typing.{Found, after, mismatch, unknown}
-use Rattle.type_rules.specs.declared.answer.TypeAnswer.{TypeAnswer}
-use Rattle.type_rules.specs.declared.answer.TypeAnswer.TheVariants.{Refused, Memory}
-use Rattle.type_rules.specs.Finds.{Finds, IsUnknown}
+use Rattle.language_model.specs.declared.answer.TypeAnswer.{TypeAnswer}
+use Rattle.language_model.specs.declared.answer.TypeAnswer.TheVariants.{Refused, Memory}
+use Rattle.language_model.specs.Finds.{Finds, IsUnknown}
 
 -- what is said of an error that `?` hands on
 pub exit : {B : Type 0} (P : Result B TypeAnswer → Type 0) (r : Result B TypeAnswer) (e : TypeAnswer) → IsErrAnd r (λ y. y ≡ e) → P (Err e) → P r

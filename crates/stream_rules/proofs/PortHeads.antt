@@ -10,9 +10,9 @@ use Rattle.language_model.specs.Expansion.{place_of}
 use Rattle.language_model.specs.Invoking.{input_names, stream_names}
 use Rattle.language_model.specs.StreamTypes.{Attributes, Body, head_input, input_heads, invoked_input, outer_output, output_heads, own_or_head, passed, port_stands_for, stands_for}
 use Rattle.language_model.specs.Typing.{after}
-use Rattle.type_rules.specs.declared.answer.TypeAnswer.{TypeAnswer}
-use Rattle.type_rules.specs.declared.answer.TypeAnswer.TheVariants.{Refused, Memory}
-use Rattle.type_rules.specs.Finds.{Finds}
+use Rattle.language_model.specs.declared.answer.TypeAnswer.{TypeAnswer}
+use Rattle.language_model.specs.declared.answer.TypeAnswer.TheVariants.{Refused, Memory}
+use Rattle.language_model.specs.Finds.{Finds}
 use Rattle.body_sites.specs.Bodies.{body_seen}
 use Rattle.stream_rules.specs.Outside.{StandsOutside}
 use Rattle.stream_rules.specs.declared.origins.Origin.{Origin}

@@ -1,8 +1,8 @@
 -- What refusals are answered.
 use Rattle.std.specs.Prelude.{◌≡◌}
 use Rattle.language_model.specs.declared.scope.CheckRefusal.{CheckRefusal}
-use Rattle.type_rules.specs.declared.answer.TypeAnswer.{TypeAnswer}
-use Rattle.type_rules.specs.declared.answer.TypeAnswer.TheVariants.{Refused, Memory}
+use Rattle.language_model.specs.declared.answer.TypeAnswer.{TypeAnswer}
+use Rattle.language_model.specs.declared.answer.TypeAnswer.TheVariants.{Refused, Memory}
 
 -- the same refusal. Of want of memory nothing is said
 abbrev pub Copies : CheckRefusal → TypeAnswer → Type 0

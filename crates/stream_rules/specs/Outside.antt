@@ -7,8 +7,8 @@ use Rattle.spl_tree.specs.declared.unit.OutputStream.{OutputStream}
 use Rattle.language_model.specs.Expansion.{place_of}
 use Rattle.language_model.specs.StreamTypes.{Attributes, Body, Passes, head_output, outer_output, output_heads, output_names, passed, stream_attributes}
 use Rattle.language_model.specs.Typing.{Found, after}
-use Rattle.type_rules.specs.declared.answer.TypeAnswer.{TypeAnswer}
-use Rattle.type_rules.specs.declared.answer.TypeAnswer.TheVariants.{Refused, Memory}
+use Rattle.language_model.specs.declared.answer.TypeAnswer.{TypeAnswer}
+use Rattle.language_model.specs.declared.answer.TypeAnswer.TheVariants.{Refused, Memory}
 use Rattle.body_sites.specs.Bodies.{body_seen}
 use Rattle.stream_rules.specs.declared.origins.Origin.{Origin}
 

@@ -8,4 +8,3 @@ mod streams;
 
 pub use ports::port_types;
 pub use streams::StreamTable;
-pub use type_rules::TypeAnswer;

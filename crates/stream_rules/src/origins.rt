@@ -7,11 +7,11 @@ ghost use Rattle.language_model.specs.StreamTypes.{origin_of, stream_leads};
 ghost use Rattle.language_model.specs.Leading.{leads_back};
 ghost use Rattle.stream_rules.specs.Origins.{EndsAt, EndsHere, IsLed, Steps, TellsBack, flag_at, lead_at, origin_in, origin_seen};
 
-use body_rules::narrow;
 use body_sites::{Body, Sites};
 use spl_tree::{Expansion, Graph, OutputStream, Site};
 use spl_value::NoMemory;
 use std::alloc::Global;
+use written_types::narrow;
 
 /// Where a stream is made: a body, and the output there.
 #[derive(Clone, Copy)]

@@ -1,7 +1,7 @@
 //! The attributes of the ports of operators.
 ghost use Rattle.language_model.specs.Checking.{are_passed, outputs_checked, passes_on, port_types};
 ghost use Rattle.std.specs.Prelude.{◌≡◌};
-ghost use Rattle.type_rules.specs.Finds.{Finds};
+ghost use Rattle.language_model.specs.Finds.{Finds};
 ghost use Rattle.body_sites.specs.Bodies.{body_seen};
 ghost use Rattle.stream_rules.specs.Streams.{IsTableOf};
 
@@ -14,14 +14,13 @@ use crate::refusals::mismatch;
 use crate::streams::StreamTable;
 use body_sites::{Body, Sites};
 use inputs::ports_attributes;
-use language_model::PortTypes;
+use language_model::{PortTypes, TypeAnswer};
 use outputs::outputs_attributes;
 use same::same_attributes;
 use spl_tree::{Graph, Invocation, Op, OpKind, OutputStream};
 use spl_value::{Attribute, Schema};
 use standing::Streams;
 use std::alloc::Global;
-use type_rules::TypeAnswer;
 
 /// Whether an operator passes tuples on, so that its outputs have the type of its input.
 fn passes_on(kind: OpKind) -> bool

@@ -4,7 +4,7 @@ ghost use Rattle.spl_value.specs.declared.types.SplType.TheViews.{out-SplType};
 ghost use Rattle.language_model.specs.StreamTypes.{level_attributes, stream_attributes};
 ghost use Rattle.language_model.specs.TypeNames.{composite_types, shape_meant};
 ghost use Rattle.language_model.specs.Typing.{after};
-ghost use Rattle.type_rules.specs.Finds.{Finds};
+ghost use Rattle.language_model.specs.Finds.{Finds};
 ghost use Rattle.stream_rules.specs.Origins.{IsLed};
 ghost use Rattle.stream_rules.specs.Streams.{IsTableOf};
 ghost use Rattle.stream_rules.specs.FoundStreams.{AreFound};
@@ -13,13 +13,12 @@ mod reading;
 
 use crate::origins::{Leads, origin_of};
 use crate::refusals::{mismatch, unknown};
-use body_rules::{narrow, shape_of};
 use body_sites::{Body, Sites};
-use language_model::CheckRefusal;
+use language_model::{CheckRefusal, TypeAnswer};
 use spl_tree::{Graph, Shape};
 use spl_value::{NoMemory, Schema, SplType};
 use std::alloc::Global;
-use type_rules::TypeAnswer;
+use written_types::{narrow, shape_of};
 
 /// The attributes of each stream of a graph, or its refusal. It is made once for all operators.
 #[derive(Drop)]

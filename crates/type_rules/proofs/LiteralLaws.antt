@@ -17,7 +17,7 @@ use Rattle.language_model.specs.declared.scope.Typed.{Typed}
 use Rattle.language_model.specs.Scopes.{at_place, attribute_of}
 use Rattle.language_model.specs.Typing.{Anything, Another, Found, Part, This, Wants, after, are_distinct, elements_typed, entries_typed, field_typed, fields_typed, gives_each, list_typed, map_typed, mismatch, own_fields, part_typed, tuple_typed, typed, typing}
 use Rattle.language_model.specs.TypingLaws.{entry_parts, field_part, field_parts, parted, parts}
-use Rattle.type_rules.specs.Finds.{with_front}
+use Rattle.language_model.specs.Finds.{with_front}
 use Rattle.type_rules.specs.Kinds.{if_wanted, schema_for}
 use Rattle.type_rules.proofs.Rows.{drop_at}
 use Rattle.type_rules.proofs.Steps.{after_after, after_each}

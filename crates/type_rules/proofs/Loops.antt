@@ -17,8 +17,8 @@ use Rattle.language_model.specs.declared.scope.Scope.{Scope}
 use Rattle.language_model.specs.declared.scope.Typed.{Typed}
 use Rattle.language_model.specs.Typing.{Found, after, typing, typed, level_step, steps_typed, selected, arguments_typed}
 use Rattle.language_model.specs.TypingLaws.{parts, step_part, step_parts}
-use Rattle.type_rules.specs.declared.answer.TypeAnswer.{TypeAnswer}
-use Rattle.type_rules.specs.Finds.{Finds, with_front}
+use Rattle.language_model.specs.declared.answer.TypeAnswer.{TypeAnswer}
+use Rattle.language_model.specs.Finds.{Finds, with_front}
 use Rattle.type_rules.specs.Kinds.{index_for}
 use Rattle.type_rules.specs.Takings.{Taken, behind, index_taken, member_taken}
 use Rattle.type_rules.proofs.Rows.{drop_at}

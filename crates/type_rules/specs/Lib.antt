@@ -1,4 +1,3 @@
-pub mod Finds
 pub mod Names
 pub mod Kinds
 pub mod Members

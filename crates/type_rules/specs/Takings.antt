@@ -11,8 +11,8 @@ use Rattle.spl_tree.specs.declared.code.Taking.TheVariants as K
 use Rattle.language_model.specs.declared.scope.Typed.{Typed}
 use Rattle.language_model.specs.Scopes.{attribute_of}
 use Rattle.language_model.specs.Typing.{Found, after, level_index, member_typed, mismatch}
-use Rattle.type_rules.specs.declared.answer.TypeAnswer.{TypeAnswer}
-use Rattle.type_rules.specs.declared.answer.TypeAnswer.TheVariants.{Refused, Memory}
+use Rattle.language_model.specs.declared.answer.TypeAnswer.{TypeAnswer}
+use Rattle.language_model.specs.declared.answer.TypeAnswer.TheVariants.{Refused, Memory}
 
 -- what is taken, with its type
 abbrev pub Taken : Type 0

@@ -1,37 +1,13 @@
 //! What is answered where an expression has no type.
 ghost use Rattle.std.specs.Prelude.{◌≡◌, Some, None};
 ghost use Rattle.language_model.specs.declared.scope.CheckError.TheVariants as E;
-ghost use Rattle.type_rules.specs.declared.answer.TypeAnswer.TheVariants.{Memory, Refused};
-ghost use Rattle.type_rules.specs.Finds.{IsUnknown, Narrows};
+ghost use Rattle.language_model.specs.declared.answer.TypeAnswer.TheVariants.{Memory, Refused};
+ghost use Rattle.language_model.specs.Finds.{IsUnknown, Narrows};
 
+pub(crate) use language_model::TypeAnswer;
 use language_model::{CheckError, CheckRefusal};
-use spl_value::{Items, NoMemory};
-use std::alloc::{AllocError, Global};
-
-/// Why there is no type.
-#[derive(Debug, Drop)]
-pub enum TypeAnswer {
-    /// The expression is refused, as the first refusal in it says.
-    Refused(CheckRefusal),
-    /// There was no memory.
-    Memory,
-}
-
-impl From<NoMemory> for TypeAnswer {
-    ghost from_gives = { λ _ answer. answer ≡ Memory };
-
-    fn from(_: NoMemory) -> TypeAnswer {
-        TypeAnswer::Memory
-    }
-}
-
-impl From<AllocError> for TypeAnswer {
-    ghost from_gives = { λ _ answer. answer ≡ Memory };
-
-    fn from(_: AllocError) -> TypeAnswer {
-        TypeAnswer::Memory
-    }
-}
+use spl_value::Items;
+use std::alloc::Global;
 
 fn refused(error: CheckError, at: u32) -> TypeAnswer
     ensures { result ≡ Refused (record { error = error; at = at; name = None }) }

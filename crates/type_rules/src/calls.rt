@@ -6,7 +6,7 @@ ghost use Rattle.spl_tree.specs.declared.code.Code.TheVariants as C;
 ghost use Rattle.language_model.specs.Scopes.{at_place, function_of};
 ghost use Rattle.language_model.specs.Typing.{call_of, argument_count, level_first, level_changed, is_mutable, if_mutable, part, value_given};
 ghost use Rattle.language_model.specs.TypingLaws.{parted, parts};
-ghost use Rattle.type_rules.specs.Finds.{Finds, FindsBy};
+ghost use Rattle.language_model.specs.Finds.{Finds, FindsBy};
 ghost use Rattle.type_rules.specs.Calls.{asked, change_asked, first_for, function_found, given, row_for};
 
 use crate::answer::{TypeAnswer, mismatch, narrow, not_mutable, wrong_call};

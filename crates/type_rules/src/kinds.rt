@@ -6,7 +6,7 @@ ghost use Rattle.language_model.specs.Scopes.{attribute_of};
 ghost use Rattle.std.specs.Option.{option_copied};
 ghost use Rattle.spl_value.specs.declared.types.SplType.TheViews.{out-SplType};
 ghost use Rattle.language_model.specs.Typing.{same_types, as_wanted, wants_list, wants_map, wants_tuple, level_element, level_pair, level_schema, level_index, gives_each, are_distinct};
-ghost use Rattle.type_rules.specs.Finds.{Finds, FindsBy};
+ghost use Rattle.language_model.specs.Finds.{Finds, FindsBy};
 ghost use Rattle.type_rules.specs.Kinds.{this_or_other, pair_copied, held_copied, integer_of, held_of, if_wanted, schema_for, index_for};
 ghost use Rattle.language_model.specs.TypingLaws.{field_parts};
 

@@ -14,10 +14,6 @@ mod places;
 mod rules;
 mod statements;
 
-pub use answer::TypeAnswer;
 pub use forms::marker;
-pub use language_model::{
-    CheckError, CheckRefusal, Dollar, Port, Scope, Signature, Typed, Unresolved, Variable,
-};
 pub use rules::type_of;
 pub use statements::{assignment_of, call_of, compound_of};

@@ -6,7 +6,7 @@ ghost use Rattle.spl_value.specs.declared.types.SplType.TheViews.{out-SplType};
 ghost use Rattle.spl_value.specs.declared.value.Value.TheVariants as V;
 ghost use Rattle.language_model.specs.Scopes.{attribute_of};
 ghost use Rattle.language_model.specs.Typing.{typed, number_typed, selected, port_attribute};
-ghost use Rattle.type_rules.specs.Finds.{Finds};
+ghost use Rattle.language_model.specs.Finds.{Finds};
 ghost use Rattle.type_rules.specs.Takings.{Takes, member_taken, index_taken};
 
 use crate::answer::{TypeAnswer, mismatch, narrow, unknown};

@@ -4,7 +4,7 @@ ghost use Rattle.std.specs.Option.{option_copied};
 ghost use Rattle.language_model.specs.Scopes.{variable_of, attribute_of, port_of, function_of, unresolved_of, dollar_of, meant};
 ghost use Rattle.spl_tree.specs.declared.code.Code.TheVariants as C;
 ghost use Rattle.language_model.specs.Typing.{meant_typed, dollar_typed, not_callable, typed};
-ghost use Rattle.type_rules.specs.Finds.{Points, Finds};
+ghost use Rattle.language_model.specs.Finds.{Points, Finds};
 ghost use Rattle.type_rules.specs.Names.{Holds, Means};
 
 use crate::answer::{TypeAnswer, narrow, unknown};

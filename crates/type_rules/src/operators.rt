@@ -4,7 +4,7 @@ ghost use Rattle.std.specs.Option.{option_copied};
 ghost use Rattle.spl_tree.specs.declared.code.Code.TheVariants as C;
 ghost use Rattle.spl_value.specs.declared.types.SplType.TheViews.{out-SplType};
 ghost use Rattle.language_model.specs.Typing.{integer_operator, order_operator, on_integers, ordering_of, or_else, level_operator, level_prefix, level_in, prefixes_at, prefixes_typed, branch_wanted, typed, after};
-ghost use Rattle.type_rules.specs.Finds.{Finds, FindsBy};
+ghost use Rattle.language_model.specs.Finds.{Finds, FindsBy};
 ghost use Rattle.type_rules.specs.Operands.{right_for, operation_given, same_given};
 
 use crate::answer::{TypeAnswer, mismatch};

@@ -3,7 +3,7 @@ ghost use Rattle.std.specs.Prelude.{◌≡◌};
 ghost use Rattle.spl_tree.specs.declared.code.Code.TheViews.{out-Code};
 ghost use Rattle.spl_tree.specs.declared.code.Slot.{Slot};
 ghost use Rattle.language_model.specs.StatementTyping.{level_variable, level_place, place_given, place_typing};
-ghost use Rattle.type_rules.specs.Finds.{Finds};
+ghost use Rattle.language_model.specs.Finds.{Finds};
 ghost use Rattle.type_rules.specs.Places.{with_kind};
 
 use crate::answer::{TypeAnswer, not_mutable};

@@ -6,7 +6,7 @@ ghost use Rattle.spl_value.specs.declared.types.SplType.TheVariants as S;
 ghost use Rattle.spl_tree.specs.declared.code.Code.TheVariants as C;
 ghost use Rattle.language_model.specs.Typing.{typing, typed, part, list_typed, wants_list, map_typed, wants_map, fields_typed, own_fields, select_typed, of_base, binary_or_marker, marker_asked, arguments_typed, call_typed, call_of, after};
 ghost use Rattle.language_model.specs.TypingLaws.{parted, parts, entry_parts, field_parts, step_parts};
-ghost use Rattle.type_rules.specs.Finds.{Finds, with_front};
+ghost use Rattle.language_model.specs.Finds.{Finds, with_front};
 
 use crate::answer::{TypeAnswer, mismatch, narrow};
 use crate::boxing::{boxed, kind_in, kinds_in};

@@ -5,7 +5,7 @@ ghost use Rattle.language_model.specs.Scopes.{function_of};
 ghost use Rattle.language_model.specs.Typing.{argument_count, call_of, changed_typed, level_changed, level_operator, operands_typed, wrong_call};
 ghost use Rattle.language_model.specs.TypingLaws.{parted, parts};
 ghost use Rattle.language_model.specs.StatementTyping.{assignment_typing, compound_typing, call_typing, call_statement, function_statement, change_typing, change_made};
-ghost use Rattle.type_rules.specs.Finds.{Finds};
+ghost use Rattle.language_model.specs.Finds.{Finds};
 ghost use Rattle.type_rules.specs.Places.{only};
 
 use crate::answer::{TypeAnswer, mismatch, narrow, wrong_call};

@@ -5,17 +5,17 @@ ghost use Rattle.spl_value.specs.declared.types.SplType.TheViews.{out-SplType};
 ghost use Rattle.language_model.specs.BodyTyping.{assigned, condition_typing, declaration_typing, first_value, level_over, over_typing, return_typing};
 ghost use Rattle.body_rules.specs.Leads.{Leads, inside_loop, shortened};
 ghost use Rattle.body_rules.specs.Settings.{purpose_meant, setting_meant};
-ghost use Rattle.type_rules.specs.Finds.{Finds};
+ghost use Rattle.language_model.specs.Finds.{Finds};
 
 use super::refusals::{mismatch, wrong_call};
 use super::variables::add_variable;
 use super::{BodyPurpose, BodySetting};
-use crate::types::type_of_written;
-use language_model::{Scope, Typed};
+use language_model::{Scope, TypeAnswer, Typed};
 use spl_tree::{BinaryOperator, Code, Declaration, Expr, Slot, Statement};
 use spl_value::{SplType, default_of, same_type};
 use std::alloc::Global;
-use type_rules::{TypeAnswer, assignment_of, compound_of, type_of};
+use type_rules::{assignment_of, compound_of, type_of};
+use written_types::type_of_written;
 
 fn code_of(typed: Typed) -> Code<Slot>
     ensures { result ≡ typed.code }

@@ -1,13 +1,12 @@
 //! What is answered where a statement has no code.
 ghost use Rattle.std.specs.Prelude.{◌≡◌, None};
 ghost use Rattle.language_model.specs.declared.scope.CheckError.TheVariants as E;
-ghost use Rattle.type_rules.specs.declared.answer.TypeAnswer.TheVariants.{Refused};
-ghost use Rattle.type_rules.specs.Finds.{IsUnknown, Narrows};
+ghost use Rattle.language_model.specs.declared.answer.TypeAnswer.TheVariants.{Refused};
+ghost use Rattle.language_model.specs.Finds.{IsUnknown, Narrows};
 
-use language_model::{CheckError, CheckRefusal};
+use language_model::{CheckError, CheckRefusal, TypeAnswer};
 use spl_value::Items;
 use std::alloc::Global;
-use type_rules::TypeAnswer;
 
 fn refused(error: CheckError, at: u32) -> TypeAnswer
     ensures { result ≡ Refused (record { error = error; at = at; name = None }) }

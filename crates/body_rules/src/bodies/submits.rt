@@ -4,15 +4,15 @@ ghost use Rattle.std.specs.Str.{bytes_eq};
 ghost use Rattle.language_model.specs.BodyTyping.{submit_typing, submitted};
 ghost use Rattle.language_model.specs.Scopes.{first_from};
 ghost use Rattle.body_rules.specs.Settings.{purpose_meant, setting_meant};
-ghost use Rattle.type_rules.specs.Finds.{Finds, Points};
+ghost use Rattle.language_model.specs.Finds.{Finds, Points};
 
 use super::refusals::{narrow, unknown, wrong_call};
 use super::{BodyPurpose, BodySetting};
-use language_model::{Port, Scope};
+use language_model::{Port, Scope, TypeAnswer};
 use spl_tree::{Expr, Marker, Placed, Statement};
 use spl_value::{Name, Schema, SplType, copy_schema};
 use std::alloc::Global;
-use type_rules::{TypeAnswer, marker, type_of};
+use type_rules::{marker, type_of};
 
 /// The first port of the name, with its place.
 fn port_named<'u>(ports: &'u [Port], name: &[u8]) -> Option<(usize, &'u Port)>

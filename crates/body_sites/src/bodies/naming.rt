@@ -6,15 +6,15 @@ ghost use Rattle.language_model.specs.Invoking.{input_names, stream_names};
 ghost use Rattle.language_model.specs.Scopes.{at_place};
 ghost use Rattle.language_model.specs.StreamTypes.{input_stream, is_type, kind_alone, named_stream, output_names, own_stream, stream_in, stream_unless_type};
 ghost use Rattle.language_model.specs.TypeNames.{composite_types};
-ghost use Rattle.body_rules.specs.TypeScopes.{types_in};
+ghost use Rattle.written_types.specs.TypeScopes.{types_in};
 ghost use Rattle.body_sites.specs.Bodies.{body_seen};
 
 use super::Body;
 use crate::names::BodyNames;
 use crate::sites::Sites;
-use body_rules::TypeScope;
 use spl_tree::{Expansion, Shape, ShapeKind, TypeKind};
 use spl_value::Name;
+use written_types::TypeScope;
 
 impl<'a> Body<'a> {
     pub(crate) fn new(number: u32, expansion: &'a Expansion, names: &'a BodyNames<'a>) -> Body<'a>

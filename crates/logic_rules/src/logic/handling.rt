@@ -7,16 +7,15 @@ ghost use Rattle.language_model.specs.LogicTyping.{handler_of, is_event};
 ghost use Rattle.language_model.specs.Scopes.{first_from};
 ghost use Rattle.language_model.specs.Typing.{after};
 ghost use Rattle.body_rules.specs.Settings.{setting_meant};
-ghost use Rattle.type_rules.specs.Finds.{Finds, Points};
+ghost use Rattle.language_model.specs.Finds.{Finds, Points};
 ghost use Rattle.logic_rules.specs.Handling.{handled_in, handlers_in, seen_scope};
 
 use super::refusals::{handled_twice, narrow, unknown};
 use body_rules::{BodySetting, body_of};
-use language_model::{Handled, Port, Scope};
+use language_model::{Handled, Port, Scope, TypeAnswer};
 use spl_tree::{Body, HandledEvent, Handler, Placed, Stmt};
 use spl_value::Items;
 use std::alloc::Global;
-use type_rules::TypeAnswer;
 
 /// The first port of the name, with its place.
 fn port_named<'u>(ports: &'u [Port], name: &[u8]) -> Option<(usize, &'u Port)>

@@ -3,13 +3,12 @@ ghost use Rattle.std.specs.Prelude.{◌≡◌, Some, codes};
 ghost use Rattle.language_model.specs.declared.scope.CheckError.TheVariants as E;
 ghost use Rattle.language_model.specs.LogicTyping.{event_word};
 ghost use Rattle.language_model.specs.Typing.{refused, unknown};
-ghost use Rattle.type_rules.specs.Finds.{Finds, Narrows};
+ghost use Rattle.language_model.specs.Finds.{Finds, Narrows};
 
-use language_model::{CheckError, CheckRefusal};
+use language_model::{CheckError, CheckRefusal, TypeAnswer};
 use spl_tree::HandledEvent;
 use spl_value::Items;
 use std::alloc::Global;
-use type_rules::TypeAnswer;
 
 /// A refusal of a name or a word.
 fn refused<T>(alloc: Global, error: CheckError, at: u32, name: &[u8]) -> Result<T, TypeAnswer>

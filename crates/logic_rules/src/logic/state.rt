@@ -3,18 +3,18 @@ ghost use Rattle.std.specs.Prelude.{◌≡◌, IfOk, map};
 ghost use Rattle.std.specs.Option.{option_copied};
 ghost use Rattle.language_model.specs.LogicTyping.{state_typing, state_value, state_variable};
 ghost use Rattle.language_model.specs.Parameters.{constant_scope};
-ghost use Rattle.body_rules.specs.TypeScopes.{types_in};
-ghost use Rattle.type_rules.specs.Finds.{Finds};
+ghost use Rattle.written_types.specs.TypeScopes.{types_in};
+ghost use Rattle.language_model.specs.Finds.{Finds};
 
 use super::refusals::left_out;
 use super::state_values::is_state_value;
-use body_rules::{TypeScope, type_of_written};
-use language_model::{Dollar, Scope, StateVariable, Typed, Variable};
+use language_model::{Dollar, Scope, StateVariable, TypeAnswer, Typed, Variable};
 use spl_tree::{Code, Declaration, Expr, Slot};
 use spl_value::{Items, NoMemory, SplType, copy_type, default_of};
 use std::alloc::Global;
 use std::mem::replace;
-use type_rules::{TypeAnswer, type_of};
+use type_rules::type_of;
+use written_types::{TypeScope, type_of_written};
 
 /// Where these `$` parameters alone can be named.
 fn constant_scope(alloc: Global, dollars: Items<Dollar>) -> Scope

@@ -2,16 +2,15 @@
 ghost use Rattle.std.specs.Prelude.{◌≡◌, ◌<◌, ℕ, List, [], length, IfOk, slice_set, true};
 ghost use Rattle.language_model.specs.OutputTyping.{assignment_typing, assignments_typing, places, rows_typing, with_others};
 ghost use Rattle.language_model.specs.Typing.{after};
-ghost use Rattle.type_rules.specs.Finds.{Finds, with_front};
+ghost use Rattle.language_model.specs.Finds.{Finds, with_front};
 ghost use Rattle.output_rules.specs.Marking.{Tells};
 
 use super::answers::{bad_output, narrow, unknown};
 use super::index::Index;
-use language_model::Port;
+use language_model::{Port, TypeAnswer};
 use spl_tree::{Expr, Field, OutputAssignments};
 use spl_value::{Attribute, Items, SplType};
 use std::alloc::Global;
-use type_rules::TypeAnswer;
 
 /// Attributes by their places, each with what it gets.
 pub(super) type Assigned<A> = Items<(u32, A)>;
@@ -20,7 +19,7 @@ pub(super) type Assigned<A> = Items<(u32, A)>;
 pub(super) trait Gives {
     ghost use Rattle.std.specs.Option.{option_copied};
     ghost use Rattle.language_model.specs.OutputTyping.{Assigns, Fills};
-    ghost use Rattle.type_rules.specs.Finds.{Finds};
+    ghost use Rattle.language_model.specs.Finds.{Finds};
 
     type Given: Drop;
 

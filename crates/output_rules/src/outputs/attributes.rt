@@ -2,16 +2,15 @@
 ghost use Rattle.std.specs.Prelude.{◌≡◌, ◌≤◌, IfOk, length, map};
 ghost use Rattle.language_model.specs.OutputTyping.{one_attribute, taken_over};
 ghost use Rattle.language_model.specs.Typing.{same_types};
-ghost use Rattle.type_rules.specs.Finds.{Finds};
+ghost use Rattle.language_model.specs.Finds.{Finds};
 ghost use Rattle.output_rules.specs.Indexed.{HoldsIn, attributes_in, same_schemas};
 
 use super::answers::{bad_output, narrow};
 use super::index::Index;
-use language_model::{Port, Scope};
+use language_model::{Port, Scope, TypeAnswer};
 use spl_tree::{Code, Slot};
 use spl_value::{Attribute, NoMemory, SplType, same_type};
 use std::alloc::Global;
-use type_rules::TypeAnswer;
 
 /// The attributes of ports.
 fn indexed<'s>(alloc: Global, ports: &'s [Port]) -> Result<Vec<Index<'s>>, NoMemory>

@@ -4,17 +4,17 @@ ghost use Rattle.std.specs.Option.{option_copied, option_map};
 ghost use Rattle.spl_value.specs.declared.types.SplType.TheViews.{out-SplType};
 ghost use Rattle.spl_tree.specs.declared.expression.ExprKind.TheViews.{out-ExprKind};
 ghost use Rattle.language_model.specs.OutputTyping.{assigned_group, called_typing, collected, collecting_of, groups_typing, last_of, level_gathered, level_gathers};
-ghost use Rattle.type_rules.specs.Finds.{Finds};
+ghost use Rattle.language_model.specs.Finds.{Finds};
 ghost use Rattle.output_rules.specs.Collecting.{collecting_meant, collector_on, counted};
 
 use super::answers::{mismatch, wrong_call};
 use super::assigned::{Assigned, Gives, all_given};
 use super::attributes::{Inputs, is_same};
-use language_model::{Collected, Collector, Gathers, Port, Scope, Typed};
+use language_model::{Collected, Collector, Gathers, Port, Scope, TypeAnswer, Typed};
 use spl_tree::{Expr, ExprKind, OutputAssignments};
 use spl_value::{Attribute, IntKind, Items, NoMemory, SplType, copy_type};
 use std::alloc::Global;
-use type_rules::{TypeAnswer, type_of};
+use type_rules::type_of;
 
 /// A function of the values in a group.
 #[derive(Clone, Copy)]

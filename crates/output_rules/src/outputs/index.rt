@@ -3,7 +3,7 @@ ghost use Rattle.std.specs.Prelude.{◌≡◌, ◌<◌, IfOk, IfSome, length, sl
 ghost use Rattle.std.specs.HashMap.{get};
 ghost use Rattle.std.specs.Option.{option_copied};
 ghost use Rattle.language_model.specs.Scopes.{attribute_of};
-ghost use Rattle.type_rules.specs.Finds.{Points};
+ghost use Rattle.language_model.specs.Finds.{Points};
 ghost use Rattle.output_rules.specs.Indexed.{HasFirst, place_from, same_bytes};
 
 use spl_value::{Attribute, NoMemory};

@@ -1,15 +1,15 @@
 //! Outputs of one tuple.
 ghost use Rattle.std.specs.Option.{option_copied};
 ghost use Rattle.language_model.specs.OutputTyping.{assigned_code, taken_over, tuple_typing};
-ghost use Rattle.type_rules.specs.Finds.{Finds};
+ghost use Rattle.language_model.specs.Finds.{Finds};
 
 use super::assigned::{Gives, all_given};
 use super::attributes::Inputs;
-use language_model::{Port, Scope};
+use language_model::{Port, Scope, TypeAnswer};
 use spl_tree::{Code, Expr, OutputAssignments, Slot};
 use spl_value::{Attribute, SplType};
 use std::alloc::Global;
-use type_rules::{TypeAnswer, type_of};
+use type_rules::type_of;
 
 /// Values in a scope, for an output at an invocation.
 #[derive(Drop)]

@@ -1,15 +1,14 @@
 //! Outputs of several inputs.
 ghost use Rattle.std.specs.Prelude.{Ok};
 ghost use Rattle.language_model.specs.OutputTyping.{inputs_typing, places_typing};
-ghost use Rattle.type_rules.specs.Finds.{Finds};
+ghost use Rattle.language_model.specs.Finds.{Finds};
 
 use super::answers::{bad_output, narrow};
 use super::attributes::is_same;
 use super::index::Index;
-use language_model::Port;
+use language_model::{Port, TypeAnswer};
 use spl_value::{Attribute, Items, Places};
 use std::alloc::Global;
-use type_rules::TypeAnswer;
 
 /// Where the attributes of an input have those of the output, each of its type.
 fn places_by(

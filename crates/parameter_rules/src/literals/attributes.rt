@@ -1,7 +1,7 @@
 //! Attributes that clauses name.
 ghost use Rattle.std.specs.Prelude.{◌≡◌};
 ghost use Rattle.language_model.specs.Scopes.{attribute_of};
-ghost use Rattle.type_rules.specs.Finds.{Points};
+ghost use Rattle.language_model.specs.Finds.{Points};
 
 use spl_value::Attribute;
 

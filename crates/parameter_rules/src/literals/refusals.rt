@@ -1,14 +1,13 @@
 //! What is answered where a clause is refused.
 ghost use Rattle.std.specs.Prelude.{◌≡◌, Some, None};
 ghost use Rattle.language_model.specs.declared.scope.CheckError.TheVariants as E;
-ghost use Rattle.type_rules.specs.declared.answer.TypeAnswer.TheVariants.{Refused};
-ghost use Rattle.type_rules.specs.Finds.{Narrows};
+ghost use Rattle.language_model.specs.declared.answer.TypeAnswer.TheVariants.{Refused};
+ghost use Rattle.language_model.specs.Finds.{Narrows};
 ghost use Rattle.parameter_rules.specs.Refusals.{Refuses};
 
-use language_model::{CheckError, CheckRefusal};
+use language_model::{CheckError, CheckRefusal, TypeAnswer};
 use spl_value::Items;
 use std::alloc::Global;
-use type_rules::TypeAnswer;
 
 fn refused(error: CheckError, at: u32) -> TypeAnswer
     ensures { result ≡ Refused (record { error = error; at = at; name = None }) }

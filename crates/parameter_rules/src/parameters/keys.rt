@@ -3,16 +3,15 @@ ghost use Rattle.std.specs.Prelude.{◌≡◌, ◌==◌, [], reverse};
 ghost use Rattle.std.specs.List.{list_any};
 ghost use Rattle.spl_value.specs.declared.types.SplType.TheViews.{out-SplType};
 ghost use Rattle.language_model.specs.ParameterTyping.{first_schema, key_of, keys_typing, level_key, some_keys, word_of};
-ghost use Rattle.type_rules.specs.Finds.{Finds};
+ghost use Rattle.language_model.specs.Finds.{Finds};
 
 use super::values::word_of;
 use crate::literals::attributes::attribute;
 use crate::literals::refusals::{mismatch, narrow, unknown};
-use language_model::Port;
+use language_model::{Port, TypeAnswer};
 use spl_tree::Expr;
 use spl_value::{Attribute, Items, Places, SplType};
 use std::alloc::Global;
-use type_rules::TypeAnswer;
 
 /// The attributes of the first port.
 pub(super) fn first_schema(ports: &[Port]) -> &[Attribute]

@@ -3,7 +3,7 @@ ghost use Rattle.std.specs.Prelude.{◌≡◌};
 ghost use Rattle.std.specs.Option.{option_copied};
 ghost use Rattle.spl_value.specs.declared.types.SplType.TheViews.{out-SplType};
 ghost use Rattle.language_model.specs.ParameterTyping.{format_of, level_index, one_value, parsing_of, position_of, single_value, value_typing, word_of};
-ghost use Rattle.type_rules.specs.Finds.{Finds};
+ghost use Rattle.language_model.specs.Finds.{Finds};
 ghost use Rattle.parameter_rules.specs.Roles.{role_seen};
 ghost use Rattle.parameter_rules.specs.Sites.{site_seen};
 
@@ -11,11 +11,11 @@ use super::keys::{first_schema, some_keys};
 use super::roles::Role;
 use crate::literals::refusals::mismatch;
 use crate::literals::{ExpressionSite, file_name};
-use language_model::{ParameterValue, Position, Typed};
+use language_model::{ParameterValue, Position, TypeAnswer, Typed};
 use spl_tree::{Code, Expr, ExprKind, Parameter, Slot};
 use spl_value::SplType;
 use std::alloc::Global;
-use type_rules::{TypeAnswer, type_of};
+use type_rules::type_of;
 
 /// The value of a parameter of that role.
 pub(super) fn value_of(

@@ -7,17 +7,17 @@ ghost use Rattle.spl_tree.specs.declared.expression.ExprKind.TheViews.{out-ExprK
 ghost use Rattle.language_model.specs.Policies.{as_count, as_limit, count_of, delta_of, as_integer, has_name, level_attribute, measured, only_count};
 ghost use Rattle.language_model.specs.Scopes.{attribute_of};
 ghost use Rattle.language_model.specs.Typing.{after, same_types};
-ghost use Rattle.type_rules.specs.Finds.{Finds};
+ghost use Rattle.language_model.specs.Finds.{Finds};
 ghost use Rattle.parameter_rules.specs.Sites.{numbers_at};
 ghost use Rattle.parameter_rules.specs.Windows.{counted, differing, with_kind, with_limit};
 
 use crate::literals::attributes::attribute;
 use crate::literals::refusals::{bad_window, narrow, unknown};
 use crate::literals::{ExpressionSite, number_literal};
+use language_model::TypeAnswer;
 use spl_tree::{Expr, ExprKind, Number, WindowPart};
 use spl_value::{Attribute, IntKind, SplType, is_of_kind, same_type};
 use std::alloc::Global;
-use type_rules::TypeAnswer;
 
 /// The most tuples that a window counts.
 const MOST_TUPLES: u64 = 1_000_000;

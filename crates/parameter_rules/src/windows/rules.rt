@@ -1,18 +1,17 @@
 //! When a window fires, and what it holds then, as its parts say.
 ghost use Rattle.std.specs.Prelude.{◌≡◌};
 ghost use Rattle.language_model.specs.Policies.{aggregate_rule, are_no_arguments, bad_window, is_word, join_rule, measured, nothing_behind, punctuated, sliding_alone, sliding_with_trigger, trigger, tumbling};
-ghost use Rattle.type_rules.specs.Finds.{Finds};
+ghost use Rattle.language_model.specs.Finds.{Finds};
 ghost use Rattle.parameter_rules.specs.Sites.{numbers_at};
 ghost use Rattle.parameter_rules.specs.Windows.{counted, differing, slides_by, tumbles_by};
 
 use super::measures::{Measure, is_named, measure_of, only_count};
 use crate::literals::ExpressionSite;
 use crate::literals::refusals::bad_window;
-use language_model::WindowRule;
+use language_model::{TypeAnswer, WindowRule};
 use spl_tree::WindowPart;
 use spl_value::Attribute;
 use std::alloc::Global;
-use type_rules::TypeAnswer;
 
 /// The rule of an Aggregate's window, whose port is named at a place.
 pub(super) fn aggregate_rule(

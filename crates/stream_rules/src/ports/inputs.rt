@@ -3,7 +3,7 @@ ghost use Rattle.std.specs.Prelude.{◌≡◌, ◌<◌, ◌≤◌, length};
 ghost use Rattle.language_model.specs.StreamTypes.{are_alike, name_places, port_attributes, ports_attributes, so_often, taken_by};
 ghost use Rattle.language_model.specs.Expansion.{place_of};
 ghost use Rattle.language_model.specs.Invoking.{stream_names};
-ghost use Rattle.type_rules.specs.Finds.{Finds};
+ghost use Rattle.language_model.specs.Finds.{Finds};
 ghost use Rattle.body_sites.specs.Bodies.{body_seen};
 ghost use Rattle.stream_rules.specs.Among.{Hold, graph_of, unit_of};
 
@@ -14,10 +14,10 @@ use crate::ports::same::same_attributes;
 use crate::refusals::mismatch;
 use body_sites::Body;
 use heads::heads;
+use language_model::TypeAnswer;
 use spl_tree::InputPort;
 use spl_value::{Attribute, Ids, Items, Schema};
 use std::alloc::Global;
-use type_rules::TypeAnswer;
 
 /// How many streams a name stands for.
 fn taken_by(body: &Body, name: &[u8]) -> u32

@@ -1,7 +1,7 @@
 //! Outputs of operators, and what the heads around them say.
 ghost use Rattle.std.specs.Prelude.{◌≡◌, length};
 ghost use Rattle.language_model.specs.StreamTypes.{outer_output, output_heads, outputs_attributes};
-ghost use Rattle.type_rules.specs.Finds.{Finds};
+ghost use Rattle.language_model.specs.Finds.{Finds};
 ghost use Rattle.body_sites.specs.Bodies.{body_seen};
 ghost use Rattle.stream_rules.specs.Outside.{StandsOutside, output_found};
 ghost use Rattle.stream_rules.specs.Among.{Hold, graph_of, unit_of};
@@ -9,10 +9,10 @@ ghost use Rattle.stream_rules.specs.Among.{Hold, graph_of, unit_of};
 use super::standing::{Streams, attributes, port_stands_for, stands_for};
 use crate::origins::{Origin, output_at};
 use body_sites::Body;
+use language_model::TypeAnswer;
 use spl_tree::OutputStream;
 use spl_value::{Attribute, Items, Schema};
 use std::alloc::Global;
-use type_rules::TypeAnswer;
 
 /// What stands outside a stream of a body that is an output of its head: the output of the invocation.
 /// What the head says of it has to be these attributes.

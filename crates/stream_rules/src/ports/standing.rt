@@ -2,7 +2,7 @@
 ghost use Rattle.std.specs.Prelude.{◌≡◌};
 ghost use Rattle.std.specs.Option.{option_copied};
 ghost use Rattle.language_model.specs.StreamTypes.{port_stands_for, shape_attributes, stands_for, stream_attributes};
-ghost use Rattle.type_rules.specs.Finds.{Finds};
+ghost use Rattle.language_model.specs.Finds.{Finds};
 ghost use Rattle.stream_rules.specs.Among.{Hold, graph_of, unit_of};
 ghost use Rattle.body_sites.specs.Bodies.{body_seen};
 
@@ -10,10 +10,10 @@ use crate::ports::same::same_attributes;
 use crate::refusals::{mismatch, unknown};
 use crate::streams::{StreamTable, own_attributes};
 use body_sites::{Body, Sites};
+use language_model::TypeAnswer;
 use spl_tree::{Graph, HeadPort, Shape};
 use spl_value::{Attribute, Schema};
 use std::alloc::Global;
-use type_rules::TypeAnswer;
 
 /// A graph with the table of its streams.
 #[derive(Clone, Copy)]

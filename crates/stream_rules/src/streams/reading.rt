@@ -4,15 +4,15 @@ ghost use Rattle.spl_tree.specs.declared.graph.Graph.{Graph};
 ghost use Rattle.spl_tree.specs.declared.unit.Definition.{Definition};
 ghost use Rattle.language_model.specs.Leading.{leads_back};
 ghost use Rattle.language_model.specs.StreamTypes.{stream_attributes, stream_leads};
-ghost use Rattle.type_rules.specs.Finds.{Finds};
+ghost use Rattle.language_model.specs.Finds.{Finds};
 ghost use Rattle.stream_rules.specs.Streams.{IsTableOf};
 
 use super::StreamTable;
 use crate::origins::flag_at;
 use crate::refusals::{copy_of, mismatch};
+use language_model::TypeAnswer;
 use spl_value::{Schema, copy_schema};
 use std::alloc::Global;
-use type_rules::TypeAnswer;
 
 impl StreamTable {
     /// The attributes of a stream, or its refusal.

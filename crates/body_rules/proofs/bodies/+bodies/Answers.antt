@@ -6,7 +6,7 @@ use Rattle.language_model.specs.BodyTyping.{alone, arms_typing, assigned, condit
 use Rattle.language_model.specs.BodyTypingLaws.{arms_stated, assign_stated, block_stated, call_stated, declare_stated, for_stated, if_stated, kind_stated, other_stated, return_stated, row_stated, submit_stated, while_stated}
 use Rattle.language_model.specs.StatementTyping.{call_typing}
 use Rattle.language_model.specs.Typing.{after}
-use Rattle.type_rules.specs.Finds.{Finds, with_front}
+use Rattle.language_model.specs.Finds.{Finds, with_front}
 use Rattle.body_rules.specs.Leads.{shortened}
 use Rattle.body_rules.specs.Settings.{purpose_meant, setting_meant}
 use Rattle.body_rules.proofs.BodyRows.{branch, branch_row, branches_row, row_on, row_past, row_stops, statements_on, statements_past, statements_stop}

@@ -1,8 +1,8 @@
 use Rattle.std.proofs.Common.{Err, Ok, ap, get_or, length, subst, sym, ◌+◌, ◌<◌, ◌≡◌, ◌∙◌}
 use Rattle.language_model.specs.TypeNames.{types_of, unit_types}
 use Rattle.language_model.specs.Typing.{unknown}
-use Rattle.type_rules.specs.Finds.{Finds}
-use Rattle.body_rules.specs.TypeScopes.{types_in}
+use Rattle.language_model.specs.Finds.{Finds}
+use Rattle.written_types.specs.TypeScopes.{types_in}
 use Rattle.body_rules.proofs.Signing.{in_unit, scope_is, typed_from, typed_on, typed_past, typed_stops}
 use Rattle.body_rules.proofs.Steps.{fails, finds_by, no_front}
 use Rattle.body_rules.proofs.functions.functions_of.Goals.{in-Function+in_ok-next+in_ok-push, in_default}

@@ -1,7 +1,7 @@
 use Rattle.std.proofs.Common.{◌≡◌, drop}
 use Rattle.language_model.specs.Composites.{functions}
 use Rattle.language_model.specs.FunctionTyping.{each_typed, unit_scope}
-use Rattle.type_rules.specs.Finds.{with_front}
+use Rattle.language_model.specs.Finds.{with_front}
 use Rattle.body_rules.proofs.functions.functions_of.Given as goal
 
 abbrev pub invariant-loop-definition : goal.invariant-loop-definition

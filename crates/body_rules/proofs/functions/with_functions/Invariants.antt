@@ -1,6 +1,6 @@
 use Rattle.std.proofs.Common.{◌≡◌, take}
 use Rattle.body_rules.specs.Signatures.{scope_in}
-use Rattle.body_rules.specs.TypeScopes.{types_in}
+use Rattle.written_types.specs.TypeScopes.{types_in}
 use Rattle.body_rules.proofs.functions.with_functions.Given as goal
 
 abbrev pub invariant-loop-definition : goal.invariant-loop-definition

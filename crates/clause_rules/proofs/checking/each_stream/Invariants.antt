@@ -1,7 +1,7 @@
 use Rattle.std.proofs.Common.{◌≡◌, ◌-◌, length}
 use Rattle.language_model.specs.Checking.{each_stream}
 use Rattle.language_model.specs.Numbering.{numbers_from}
-use Rattle.type_rules.specs.Finds.{with_front}
+use Rattle.language_model.specs.Finds.{with_front}
 use Rattle.clause_rules.proofs.checking.each_stream.Given as goal
 
 abbrev pub invariant-loop-stream : goal.invariant-loop-stream

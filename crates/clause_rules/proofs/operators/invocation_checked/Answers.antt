@@ -1,6 +1,6 @@
 use Rattle.std.proofs.Common.{Err, ap, sym, ◌∙◌}
 use Rattle.language_model.specs.Literals.{followed}
-use Rattle.body_rules.specs.TypeScopes.{types_in}
+use Rattle.written_types.specs.TypeScopes.{types_in}
 use Rattle.parameter_rules.specs.Sites.{followed_in}
 use Rattle.body_sites.specs.Bodies.{body_seen}
 use Rattle.clause_rules.specs.Programs.{program_unit}

@@ -1,6 +1,6 @@
 use Rattle.std.proofs.Common.{◌≡◌, ℕ, List, Some, ap, sym, subst, ◌∙◌}
 use Rattle.language_model.specs.Parameters.{parameter_place}
-use Rattle.body_rules.specs.Stepping.{LeadsWithin}
+use Rattle.written_types.specs.Stepping.{LeadsWithin}
 use Rattle.dollar_rules.proofs.Leading.{meaning_of_first, rows_within}
 use Rattle.dollar_rules.proofs.heads.has_meaning.Goals as goal
 

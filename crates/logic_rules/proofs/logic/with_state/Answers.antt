@@ -2,7 +2,7 @@ use Rattle.std.proofs.Common.{List, Err, Ok, [], ap, length, map, subst, sym, â—
 use Rattle.language_model.specs.LogicTyping.{handler_setting}
 use Rattle.language_model.specs.declared.scope.Port.{Port}
 use Rattle.language_model.specs.Typing.{after}
-use Rattle.type_rules.specs.Finds.{Finds}
+use Rattle.language_model.specs.Finds.{Finds}
 use Rattle.logic_rules.specs.Handling.{handlers_in, made_of, surroundings}
 use Rattle.logic_rules.proofs.HandlersFound.{as_made, found_as, inside}
 use Rattle.logic_rules.proofs.Steps.{fails, finds_by, stops}

@@ -1,7 +1,7 @@
 use Rattle.std.specs.Prelude.{map, reverse, drop, ◌+◌, Err}
 use Rattle.std.proofs.Common.{ap, sym, ◌∙◌}
 use Rattle.language_model.specs.ParameterTyping.{parameters_typing}
-use Rattle.type_rules.specs.Finds.{with_front}
+use Rattle.language_model.specs.Finds.{with_front}
 use Rattle.parameter_rules.specs.Sites.{site_seen}
 use Rattle.parameter_rules.proofs.Answering.{fails, finds_by, row_on, row_stops}
 use Rattle.parameter_rules.proofs.Giving.{parameter_behind, parameters_row}

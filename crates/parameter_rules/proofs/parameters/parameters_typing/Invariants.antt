@@ -1,6 +1,6 @@
 use Rattle.std.proofs.Common.{◌≡◌, map, reverse, drop, []}
 use Rattle.language_model.specs.ParameterTyping.{parameters_typing}
-use Rattle.type_rules.specs.Finds.{with_front}
+use Rattle.language_model.specs.Finds.{with_front}
 use Rattle.parameter_rules.specs.Sites.{site_seen}
 use Rattle.parameter_rules.proofs.parameters.parameters_typing.Given as goal
 

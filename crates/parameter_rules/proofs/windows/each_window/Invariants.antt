@@ -1,6 +1,6 @@
 use Rattle.std.proofs.Common.{◌≡◌, drop}
 use Rattle.language_model.specs.Checking.{each_window}
-use Rattle.type_rules.specs.Finds.{with_front}
+use Rattle.language_model.specs.Finds.{with_front}
 use Rattle.parameter_rules.proofs.windows.each_window.Given as goal
 
 abbrev pub invariant-loop-port : goal.invariant-loop-port

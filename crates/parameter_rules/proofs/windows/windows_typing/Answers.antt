@@ -2,7 +2,7 @@ use Rattle.std.specs.Prelude.{map, reverse, drop, ◌+◌, Err}
 use Rattle.std.proofs.Common.{ap, sym, ◌∙◌}
 use Rattle.language_model.specs.Checking.{policy_of}
 use Rattle.language_model.specs.Policies.{windows_typing}
-use Rattle.type_rules.specs.Finds.{with_front}
+use Rattle.language_model.specs.Finds.{with_front}
 use Rattle.parameter_rules.specs.Sites.{numbers_at}
 use Rattle.parameter_rules.proofs.Answering.{fails, finds_by, row_on, row_stops}
 use Rattle.parameter_rules.proofs.Lists.{keys_more}

@@ -1,7 +1,7 @@
 use Rattle.std.proofs.Common.{◌≡◌, map, reverse, drop, []}
 use Rattle.language_model.specs.Checking.{policy_of}
 use Rattle.language_model.specs.Policies.{windows_typing}
-use Rattle.type_rules.specs.Finds.{with_front}
+use Rattle.language_model.specs.Finds.{with_front}
 use Rattle.parameter_rules.specs.Sites.{numbers_at}
 use Rattle.parameter_rules.proofs.windows.windows_typing.Given as goal
 

@@ -2,7 +2,7 @@ use Rattle.std.proofs.Common.{Err, subst, sym, ap, ◌∙◌}
 use Rattle.spl_value.specs.declared.types.SplType.TheViews.{out-SplType}
 use Rattle.language_model.specs.StreamTypes.{level_attributes}
 use Rattle.language_model.specs.TypeNames.{Types, composite_types, shape_meant}
-use Rattle.type_rules.specs.Finds.{Finds}
+use Rattle.language_model.specs.Finds.{Finds}
 use Rattle.stream_rules.proofs.AnswerSteps.{fails, goes, stops}
 use Rattle.stream_rules.proofs.streams.own_attributes.Goals as goal
 

@@ -1,19 +1,19 @@
 //! What the heads around an operator say of its inputs.
 ghost use Rattle.std.specs.Prelude.{◌≡◌, ◌≤◌, OnOk, IsTrue, length};
 ghost use Rattle.language_model.specs.StreamTypes.{each_name, input_heads, invoked_input};
-ghost use Rattle.type_rules.specs.Finds.{Finds};
+ghost use Rattle.language_model.specs.Finds.{Finds};
 ghost use Rattle.body_sites.specs.Bodies.{body_seen};
 ghost use Rattle.stream_rules.specs.Looked.{HavePassed, PassesAlso, has_looked, nothing_looked};
 ghost use Rattle.stream_rules.specs.Among.{Hold, graph_of, unit_of};
 
 use crate::ports::standing::{Streams, port_stands_for};
-use body_rules::narrow;
 use body_sites::Body;
+use language_model::TypeAnswer;
 use spl_tree::{Placed, Site};
 use spl_value::{Attribute, Name, NoMemory};
 use std::alloc::Global;
 use std::collections::HashSet;
-use type_rules::TypeAnswer;
+use written_types::narrow;
 
 /// Heads don't stand in one another deeper: the stack is memory.
 const DEEPEST: u32 = 1_000;

@@ -2,7 +2,7 @@ use Rattle.std.proofs.Common.{◌≡◌, ◌+◌, ◌-◌, ◌++◌, Ok, drop, l
 use Rattle.std.specs.Option.{option_copied}
 use Rattle.language_model.specs.Typing.{after, typed, list_typed, wants_list, map_typed, wants_map, fields_typed, own_fields, steps_typed, select_typed, selected, arguments_typed}
 use Rattle.language_model.specs.TypingLaws.{parts, entry_parts, field_parts, step_parts}
-use Rattle.type_rules.specs.Finds.{with_front}
+use Rattle.language_model.specs.Finds.{with_front}
 use Rattle.type_rules.proofs.LiteralLaws.{list_on, map_on}
 use Rattle.type_rules.proofs.Weights.{expr_weight, weights, entry_weights, field_weights, step_weights}
 use Rattle.type_rules.proofs.rules.+types.Given as goal

@@ -1,6 +1,6 @@
 use Rattle.std.proofs.Common.{Err, ap, sym, subst, ◌∙◌}
 use Rattle.language_model.specs.BodyTyping.{submitted}
-use Rattle.type_rules.specs.Finds.{IsUnknown}
+use Rattle.language_model.specs.Finds.{IsUnknown}
 use Rattle.body_rules.proofs.Steps.{finds_by}
 use Rattle.body_rules.proofs.Submitting.{no_port, port_by, submits_as, this_port, unknown_is}
 use Rattle.body_rules.proofs.bodies.submits.submitted.Goals as goal

@@ -4,7 +4,7 @@ use Rattle.language_model.specs.BodyTyping.{body_typing}
 use Rattle.language_model.specs.Scopes.{at_place, first_from}
 use Rattle.language_model.specs.Typing.{after}
 use Rattle.body_rules.specs.Settings.{setting_meant}
-use Rattle.type_rules.specs.Finds.{Finds}
+use Rattle.language_model.specs.Finds.{Finds}
 use Rattle.logic_rules.specs.Handling.{seen_scope}
 use Rattle.logic_rules.proofs.HandlersFound.{as_handled, handled_first, port_there}
 use Rattle.logic_rules.proofs.Lists.{found_at, get_within}

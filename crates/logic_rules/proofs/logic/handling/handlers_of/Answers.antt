@@ -2,7 +2,7 @@ use Rattle.std.proofs.Common.{Err, ap, subst, sym, ◌∙◌}
 use Rattle.std.specs.Str.{bytes_eq}
 use Rattle.language_model.specs.Scopes.{first_from}
 use Rattle.body_rules.specs.Settings.{setting_meant}
-use Rattle.type_rules.specs.Finds.{Finds}
+use Rattle.language_model.specs.Finds.{Finds}
 use Rattle.logic_rules.specs.Handling.{handled_in}
 use Rattle.logic_rules.proofs.HandlersFound.{comes_on, comes_out}
 use Rattle.logic_rules.proofs.Steps.{fails}

@@ -1,6 +1,6 @@
 use Rattle.std.proofs.Common.{◌∙◌}
 use Rattle.language_model.specs.LogicTyping.{state_typing, state_variable}
-use Rattle.body_rules.specs.TypeScopes.{types_in}
+use Rattle.written_types.specs.TypeScopes.{types_in}
 use Rattle.logic_rules.proofs.FoundRows.{row_on, row_stops}
 use Rattle.logic_rules.proofs.StateTyping.{state_row}
 use Rattle.logic_rules.proofs.Steps.{fails, finds_by}

@@ -1,7 +1,7 @@
 use Rattle.std.proofs.Common.{◌≡◌, drop}
 use Rattle.language_model.specs.LogicTyping.{state_typing}
-use Rattle.body_rules.specs.TypeScopes.{types_in}
-use Rattle.type_rules.specs.Finds.{with_front}
+use Rattle.written_types.specs.TypeScopes.{types_in}
+use Rattle.language_model.specs.Finds.{with_front}
 use Rattle.logic_rules.proofs.logic.state.state_of.Given as goal
 
 abbrev pub invariant-loop-declaration : goal.invariant-loop-declaration

@@ -4,7 +4,7 @@ use Rattle.language_model.specs.declared.scope.Scope.{Scope}
 use Rattle.language_model.specs.LogicTyping.{is_state_value, state_value}
 use Rattle.language_model.specs.Parameters.{constant_scope}
 use Rattle.language_model.specs.Typing.{after, typing}
-use Rattle.type_rules.specs.Finds.{Finds}
+use Rattle.language_model.specs.Finds.{Finds}
 use Rattle.logic_rules.proofs.StateTyping.{value_refused, value_typed}
 use Rattle.logic_rules.proofs.Steps.{fails, finds_by, stops}
 use Rattle.logic_rules.proofs.logic.state.state_value.Goals as goal

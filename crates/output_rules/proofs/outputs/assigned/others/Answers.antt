@@ -1,5 +1,5 @@
 use Rattle.std.proofs.Common.{◌≡◌, ◌∙◌, true, false, sym, ap, arith, ◌+◌, drop}
-use Rattle.type_rules.specs.Finds.{with_front}
+use Rattle.language_model.specs.Finds.{with_front}
 use Rattle.language_model.specs.OutputTyping.{filled_from, is_assigned}
 use Rattle.output_rules.proofs.OutputMarks.{tells_assigned}
 use Rattle.output_rules.proofs.OutputRows.{fill_past, fill_on, fill_stops}

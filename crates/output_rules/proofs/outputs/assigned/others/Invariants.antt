@@ -1,6 +1,6 @@
 use Rattle.std.proofs.Common.{◌≡◌, drop}
 use Rattle.language_model.specs.OutputTyping.{filled_from, with_others}
-use Rattle.type_rules.specs.Finds.{with_front}
+use Rattle.language_model.specs.Finds.{with_front}
 use Rattle.output_rules.proofs.outputs.assigned.others.Given as goal
 
 abbrev pub invariant-loop-place : goal.invariant-loop-place

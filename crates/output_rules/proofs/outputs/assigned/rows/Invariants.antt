@@ -1,6 +1,6 @@
 use Rattle.std.proofs.Common.{◌≡◌, drop, []}
 use Rattle.language_model.specs.OutputTyping.{rows_typing, places}
-use Rattle.type_rules.specs.Finds.{with_front}
+use Rattle.language_model.specs.Finds.{with_front}
 use Rattle.output_rules.specs.Marking.{Tells}
 use Rattle.output_rules.proofs.outputs.assigned.rows.Given as goal
 

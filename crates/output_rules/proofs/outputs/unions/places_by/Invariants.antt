@@ -1,6 +1,6 @@
 use Rattle.std.proofs.Common.{◌≡◌, drop}
 use Rattle.language_model.specs.OutputTyping.{places_typing}
-use Rattle.type_rules.specs.Finds.{with_front}
+use Rattle.language_model.specs.Finds.{with_front}
 use Rattle.output_rules.proofs.outputs.unions.places_by.Given as goal
 
 abbrev pub invariant-loop-wanted : goal.invariant-loop-wanted

@@ -1,6 +1,6 @@
 use Rattle.std.proofs.Common.{◌≡◌, drop}
 use Rattle.language_model.specs.OutputTyping.{inputs_typing}
-use Rattle.type_rules.specs.Finds.{with_front}
+use Rattle.language_model.specs.Finds.{with_front}
 use Rattle.output_rules.proofs.outputs.unions.places_of.Given as goal
 
 abbrev pub invariant-loop-input : goal.invariant-loop-input

@@ -1,6 +1,6 @@
 use Rattle.std.proofs.Common.{◌≡◌, reverse, drop, []}
 use Rattle.language_model.specs.ParameterTyping.{keys_typing}
-use Rattle.type_rules.specs.Finds.{with_front}
+use Rattle.language_model.specs.Finds.{with_front}
 use Rattle.parameter_rules.proofs.parameters.keys.keys_typing.Given as goal
 
 abbrev pub invariant-loop-value : goal.invariant-loop-value

@@ -1,7 +1,7 @@
 use Rattle.std.proofs.Common.{◌≡◌, suc, Err, Option, ap, sym, subst, ◌∙◌, arith}
 use Rattle.spl_tree.specs.declared.unit.HeadPort.{HeadPort}
 use Rattle.language_model.specs.StreamTypes.{port_stands_for}
-use Rattle.type_rules.specs.Finds.{Finds}
+use Rattle.language_model.specs.Finds.{Finds}
 use Rattle.stream_rules.specs.Among.{graph_of, unit_of}
 use Rattle.body_sites.specs.Bodies.{body_seen}
 use Rattle.stream_rules.proofs.AnswerSteps.{fails}

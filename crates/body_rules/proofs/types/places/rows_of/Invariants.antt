@@ -1,8 +1,0 @@
-use Rattle.std.proofs.Common.{◌≡◌, map, take}
-use Rattle.language_model.specs.TypeNames.{shape_names}
-use Rattle.body_rules.specs.Definitions.{places_of}
-use Rattle.body_rules.proofs.types.places.rows_of.Given as goal
-
-abbrev pub invariant-loop-definition : goal.invariant-loop-definition
-invariant-loop-definition l =
-    l.rows.items ≡ map (λ d. places_of l.definitions (shape_names d.now.shape)) (take l.definition-index l.definition-items)

@@ -1,8 +1,0 @@
-use Rattle.std.proofs.Common.{length}
-use Rattle.language_model.specs.Leading.{leads_back}
-use Rattle.body_rules.specs.Circles.{Tells}
-use Rattle.body_rules.specs.Stepping.{steps_from}
-use Rattle.body_rules.proofs.types.table.circles.Given as goal
-
-abbrev pub invariant-loop-place : goal.invariant-loop-place
-invariant-loop-place l = Tells l.place (leads_back (length l.rows) (steps_from l.rows)) l.flags.items

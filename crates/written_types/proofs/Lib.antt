@@ -1,0 +1,8 @@
+mod Gets
+mod Searching
+mod Widening
+mod Rows
+mod DefinedPlaces
+mod Circles
+mod Gathering
+mod Meanings

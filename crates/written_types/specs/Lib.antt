@@ -1,0 +1,5 @@
+pub mod Standing
+pub mod Stepping
+pub mod Definitions
+pub mod Circles
+pub mod TypeScopes

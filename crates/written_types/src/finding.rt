@@ -1,0 +1,213 @@
+//! The types that are meant by types as they are written.
+ghost use Rattle.std.specs.Prelude.{◌≡◌, ◌+◌, IfOk, OnOk};
+ghost use Rattle.language_model.specs.TypeNames.{type_meant, shape_meant, attributes_type, types_of, written_attributes};
+ghost use Rattle.language_model.specs.Typing.{unknown};
+ghost use Rattle.language_model.specs.Finds.{Finds};
+ghost use Rattle.written_types.specs.TypeScopes.{StandsFor, types_in};
+
+use crate::DEEPEST;
+use crate::refusals::{left_out, unknown};
+use crate::table::TypeTable;
+use language_model::TypeAnswer;
+use spl_tree::{Attribute, Shape, ShapeKind, TypeDefinition, TypeExpr, TypeKind};
+use spl_value::{Boxed, Items, Named, NoMemory, Schema, SplType};
+use std::alloc::Global;
+
+/// A type has no more parts: a few definitions that name each other twice stand for more than there is
+/// memory.
+const MOST_PARTS: u32 = 1_000_000;
+
+/// Where types are written: in a composite, whose own definitions come before those of the unit
+/// outside, or in the unit alone.
+#[derive(Clone, Copy)]
+pub struct TypeScope<'t, 'u> {
+    pub own: &'t TypeTable<'u>,
+    pub outside: Option<&'t TypeTable<'u>>,
+}
+
+impl<'t, 'u> TypeScope<'t, 'u> {
+    /// In the unit alone, whose types these are.
+    pub fn of_unit(unit: &'t TypeTable<'u>) -> TypeScope<'t, 'u>
+        ensures { types_in result ≡ types_of unit.now unknown }
+    {
+        TypeScope {
+            own: unit,
+            outside: None,
+        }
+    }
+
+    /// In a composite, whose own types come before those of the unit.
+    pub fn of_composite(own: &'t TypeTable<'u>, unit: &'t TypeTable<'u>) -> TypeScope<'t, 'u>
+        ensures { types_in result ≡ types_of own.now (types_of unit.now unknown) }
+    {
+        TypeScope {
+            own,
+            outside: Some(unit),
+        }
+    }
+}
+
+/// The definition that a name stands for, and where it is written. None where the name has no
+/// definition, or one that leads back to itself.
+fn meaning<'t, 'u>(
+    scope: &TypeScope<'t, 'u>,
+    name: &[u8],
+) -> Option<(TypeScope<'t, 'u>, &'u TypeDefinition)>
+    ensures { StandsFor (types_in scope.now) name.now result }
+{
+    if let Some((definition, circular)) = scope.own.definition(name) {
+        return if circular {
+            None
+        } else {
+            Some((*scope, definition))
+        };
+    }
+    let own = scope.outside?;
+    let (definition, circular) = own.definition(name)?;
+    if circular {
+        return None;
+    }
+    let unit = TypeScope::of_unit(own);
+    Some((unit, definition))
+}
+
+/// One part more, and the levels that are left inside it.
+fn enter(levels: u32, parts: &mut u32) -> Result<u32, NoMemory>
+    ensures level { IfOk result (λ inside. levels ≡ inside + 1) }
+    ensures part { OnOk result (parts.old ≡ parts.new + 1) }
+{
+    let (Some(inside), Some(left)) = (levels.checked_sub(1), parts.checked_sub(1)) else {
+        return Err(NoMemory);
+    };
+    *parts = left;
+    Ok(inside)
+}
+
+/// The type that is written, as a part of one that may have so many levels and parts more.
+#[cycle(types)]
+#[tactic(auto, using(language_model::specs::TypeNameLaws::type_laws))]
+fn type_at(
+    alloc: Global,
+    scope: &TypeScope,
+    written: &TypeExpr,
+    levels: u32,
+    parts: &mut u32,
+) -> Result<SplType, TypeAnswer>
+    ensures { Finds (type_meant (types_in scope.now) written.now) result }
+{
+    let levels = enter(levels, parts)?;
+    match &written.what {
+        TypeKind::Boolean => Ok(SplType::Bool),
+        TypeKind::Rstring => Ok(SplType::Text),
+        TypeKind::Int(kind) => Ok(SplType::Int(*kind)),
+        TypeKind::LeftOut(word) => left_out(alloc, written.at, *word),
+        TypeKind::Name(name) => named(alloc, scope, written.at, name.as_slice(), levels, parts),
+        TypeKind::List(element) => {
+            let element = type_at(alloc, scope, element.get(), levels, parts)?;
+            Ok(SplType::List(Boxed::new(alloc, element)?))
+        }
+        TypeKind::Map(key, value) => {
+            let key = type_at(alloc, scope, key.get(), levels, parts)?;
+            let value = type_at(alloc, scope, value.get(), levels, parts)?;
+            Ok(SplType::Map(Boxed::new(alloc, key)?, Boxed::new(alloc, value)?))
+        }
+        TypeKind::Tuple(attributes) => {
+            let schema = schema_at(alloc, scope, attributes.as_slice(), levels, parts)?;
+            Ok(SplType::Tuple(schema))
+        }
+    }
+}
+
+#[cycle(types)]
+fn schema_at(
+    alloc: Global,
+    scope: &TypeScope,
+    attributes: &[Attribute<TypeExpr>],
+    levels: u32,
+    parts: &mut u32,
+) -> Result<Schema, TypeAnswer>
+    ensures { Finds (attributes_type (types_in scope.now) (written_attributes attributes.now)) result }
+{
+    let mut schema = Items::new(alloc);
+    for attribute in attributes {
+        let kind = type_at(alloc, scope, &attribute.kind, levels, parts)?;
+        let name = Items::from_slice(alloc, attribute.name.what.as_slice())?;
+        schema.push(Named { name, kind })?;
+    }
+    Ok(schema)
+}
+
+#[cycle(types)]
+fn shape_at(
+    alloc: Global,
+    scope: &TypeScope,
+    shape: &Shape,
+    levels: u32,
+    parts: &mut u32,
+) -> Result<SplType, TypeAnswer>
+    ensures { Finds (shape_meant (types_in scope.now) shape.now) result }
+{
+    match &shape.what {
+        ShapeKind::Type(written) => type_at(alloc, scope, written, levels, parts),
+        ShapeKind::Attributes(attributes) => {
+            let schema = schema_at(alloc, scope, attributes.as_slice(), levels, parts)?;
+            Ok(SplType::Tuple(schema))
+        }
+    }
+}
+
+/// The type that a name at a place stands for.
+#[cycle(types)]
+fn named(
+    alloc: Global,
+    scope: &TypeScope,
+    at: u32,
+    name: &[u8],
+    levels: u32,
+    parts: &mut u32,
+) -> Result<SplType, TypeAnswer>
+    ensures { Finds (types_in scope.now at name.now) result }
+{
+    match meaning(scope, name) {
+        None => unknown(alloc, at, name),
+        Some((scope, definition)) => shape_at(alloc, &scope, &definition.shape, levels, parts),
+    }
+}
+
+/// The type that a written type stands for.
+///
+/// `Refused` is the first refusal in the order of the text: of a name that has no definition, or one
+/// that leads back to itself, or of the word of a type that is left out. It comes at the name or the
+/// word, where that stands, also in a definition. `Memory` also stands for a type of more than a
+/// million parts, or in which more than a thousand types and names stand inside one another.
+pub fn type_of_written(
+    alloc: Global,
+    scope: &TypeScope,
+    written: &TypeExpr,
+) -> Result<SplType, TypeAnswer>
+    ensures { Finds (type_meant (types_in scope.now) written.now) result }
+{
+    let mut parts = MOST_PARTS;
+    type_at(alloc, scope, written, DEEPEST, &mut parts)
+}
+
+/// The type that a shape stands for. Refusals are those of `type_of_written`.
+pub fn shape_of(alloc: Global, scope: &TypeScope, shape: &Shape) -> Result<SplType, TypeAnswer>
+    ensures { Finds (shape_meant (types_in scope.now) shape.now) result }
+{
+    let mut parts = MOST_PARTS;
+    shape_at(alloc, scope, shape, DEEPEST, &mut parts)
+}
+
+/// The attributes of a row, as the parameters of a function, each with its type. Refusals are those of
+/// `type_of_written`, in turn.
+pub fn attributes_of(
+    alloc: Global,
+    scope: &TypeScope,
+    attributes: &[Attribute<TypeExpr>],
+) -> Result<Schema, TypeAnswer>
+    ensures { Finds (attributes_type (types_in scope.now) (written_attributes attributes.now)) result }
+{
+    let mut parts = MOST_PARTS;
+    schema_at(alloc, scope, attributes, DEEPEST, &mut parts)
+}

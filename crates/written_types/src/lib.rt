@@ -1,0 +1,18 @@
+//! What the types that a program writes stand for.
+#![tactic(auto)]
+
+mod definitions;
+mod finding;
+mod leading;
+mod place_set;
+mod places;
+mod refusals;
+mod table;
+
+pub use definitions::narrow;
+pub use finding::{TypeScope, attributes_of, shape_of, type_of_written};
+pub use leading::leads_back;
+pub use table::TypeTable;
+
+/// No more types and names that are followed are read inside one another: the stack is memory.
+const DEEPEST: u32 = 1_000;
