@@ -1,7 +1,7 @@
 //! The lines of faults, also of those that no run ends with.
 use language_model::Checked;
 use run_report::{Cause, status_text};
-use spl_compile::compile;
+use spl_driver::compile;
 use spl_value::{Fault, FaultKind, Items};
 use std::alloc::{AllocError, Global};
 use std::test::Fail;

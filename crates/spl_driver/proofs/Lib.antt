@@ -1,3 +1,8 @@
+mod FewTokens
+mod SomeFlat
+mod OneAccepted
+mod SomeAccepted
+mod Stages
 pub mod Requests
 pub mod Telling
 pub mod Fetching

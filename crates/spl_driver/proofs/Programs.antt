@@ -14,9 +14,9 @@ use Rattle.run_report.specs.declared.refusal.Refusal.{Refusal}
 use Rattle.run_report.specs.Refusals.{refusal_of}
 use Rattle.file_laws.specs.Files.{OwnFiles}
 use Rattle.file_laws.specs.Laws.{OwnFilesLaw}
-use Rattle.spl_compile.specs.Laws.{TooLongLaw}
-use Rattle.spl_compile.specs.Compiled.{IsCompiled}
-use Rattle.spl_compile.specs.declared.answer.CompileAnswer.TheVariants as N
+use Rattle.spl_driver.specs.AcceptedLaws.{TooLongLaw}
+use Rattle.spl_driver.specs.Compiled.{IsCompiled}
+use Rattle.spl_driver.specs.declared.compile_answer.CompileAnswer.TheVariants as N
 use Rattle.spl_driver.specs.Steps.{CompiledAt}
 use Rattle.spl_driver.specs.declared.compiled.Compiled.TheVariants as P
 use Rattle.spl_driver.proofs.Fetching.{no_fault, long_fault}

@@ -6,7 +6,7 @@ use Rattle.stream_model.specs.declared.record.ArrivalList.{ArrivalList}
 use Rattle.stream_model.specs.declared.record.Arrivals.{Arrivals}
 use Rattle.command_line.specs.declared.request.Request.{Request}
 use Rattle.command_line.specs.Request.{file_names}
-use Rattle.spl_compile.specs.Laws.{OneAcceptedLaw, SomeAcceptedLaw}
+use Rattle.spl_driver.specs.AcceptedLaws.{OneAcceptedLaw, SomeAcceptedLaw}
 use Rattle.spl_driver.specs.Built.{is_built}
 use Rattle.spl_driver.specs.Files.{program_of, parts_of}
 use Rattle.spl_driver.specs.Outcome.{Outcome, NoRequest, Unreadable, NotBuilt, has_fault, with_program, IsOutcomeBehind, IsOutcomeOf, IsOutcomeWhere, ArePartsBehind, ArePartsOf}

@@ -1,3 +1,6 @@
+pub mod CompileAnswers
+pub mod Compiled
+pub mod AcceptedLaws
 pub mod Files
 pub mod Built
 pub mod Outcome

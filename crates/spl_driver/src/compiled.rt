@@ -7,11 +7,13 @@ ghost use Rattle.feed_pour.specs.Contents.{WhereTold, TellsSame};
 ghost use Rattle.spl_driver.specs.Answer.{ReadsFailed};
 ghost use Rattle.spl_driver.specs.Steps.{CompiledAt, HasOwnFiles, OpensCounted, compile_failed};
 
+use crate::compile_answer::CompileAnswer;
+use crate::compiling::compile;
+use crate::laws::accepted_law;
 use feed_pour::{Fetched, Shelf, fetch};
 use file_laws::own_files_law;
 use language_model::Checked;
 use run_report::{Code, Refusal};
-use spl_compile::{CompileAnswer, accepted_law, compile};
 use spl_tree::{LexicalError, MOST_BYTES};
 use spl_value::{Items, Name};
 use std::alloc::Global;

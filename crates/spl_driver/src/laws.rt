@@ -1,7 +1,23 @@
-//! What requests come to.
+//! What programs and requests come to.
+ghost use Rattle.spl_driver.specs.AcceptedLaws.{KeptLaw, OneAcceptedLaw, SomeAcceptedLaw, TooLongLaw};
 ghost use Rattle.spl_driver.specs.RequestLaws.{OneOutcomeLaw, SomeOutcomeLaw, OnePartsLaw, SomePartsLaw};
 
-use spl_compile::accepted_law;
+use check_laws::keeps_law;
+use language_model::flat_law;
+use unit_parser::units_law;
+
+/// A program comes to a checked graph or to a refusal, and to that alone. One that is too long is
+/// refused, and a checked graph keeps what such a graph has to keep.
+pub fn accepted_law()
+    ensures one { OneAcceptedLaw }
+    ensures some { SomeAcceptedLaw }
+    ensures too_long { TooLongLaw }
+    ensures kept { KeptLaw }
+{
+    units_law();
+    flat_law();
+    keeps_law();
+}
 
 /// Under an arrival record a request comes to one thing, and its program has one list of operators.
 pub fn request_law()

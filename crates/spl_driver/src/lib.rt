@@ -1,9 +1,11 @@
-//! The top call of the program.
+//! Programs, compiled from their bytes, and the top call of the program.
 #![tactic(auto)]
 
 mod answer;
 mod built;
+mod compile_answer;
 mod compiled;
+mod compiling;
 mod ended;
 mod laws;
 mod prepare;
@@ -13,6 +15,8 @@ mod sources;
 mod tell;
 mod top;
 
+pub use compile_answer::CompileAnswer;
+pub use compiling::compile;
 pub use ended::Ended;
-pub use laws::request_law;
+pub use laws::{accepted_law, request_law};
 pub use top::spl;

@@ -20,8 +20,8 @@ use Rattle.language_model.specs.Checking.{checked}
 use Rattle.language_model.specs.Expansion.{Found}
 use Rattle.language_model.specs.Flat.{IsFlat}
 use Rattle.spl_tree.specs.declared.graph.Graph.{Graph}
-use Rattle.spl_compile.specs.Laws.{SomeAcceptedLaw, TooLongLaw}
-use Rattle.spl_compile.proofs.SomeFlat.{some_flat}
+use Rattle.spl_driver.specs.AcceptedLaws.{SomeAcceptedLaw, TooLongLaw}
+use Rattle.spl_driver.proofs.SomeFlat.{some_flat}
 
 -- ---- fronts that start a unit
 

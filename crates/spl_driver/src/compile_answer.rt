@@ -1,8 +1,8 @@
 //! What is answered where a program isn't compiled.
 ghost use Rattle.std.specs.Prelude.{◌≡◌};
 ghost use Rattle.run_report.specs.Refusals.{expansion_refusal, named_refusal, refusal_at};
-ghost use Rattle.spl_compile.specs.declared.answer.CompileAnswer.TheVariants.{Refused};
-ghost use Rattle.spl_compile.specs.Answers.{checking_answer, expanding_answer, lexing_answer, parsing_answer};
+ghost use Rattle.spl_driver.specs.declared.compile_answer.CompileAnswer.TheVariants.{Refused};
+ghost use Rattle.spl_driver.specs.CompileAnswers.{checking_answer, expanding_answer, lexing_answer, parsing_answer};
 
 use clause_rules::CheckAnswer;
 use composite_expand::ExpandAnswer;

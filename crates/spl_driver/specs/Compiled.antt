@@ -3,8 +3,8 @@ use Rattle.std.specs.Prelude.{◌≡◌, ℕ, List, Result, Ok, Err}
 use Rattle.language_model.specs.Accepted.{ProgramRefusal, IsAccepted}
 use Rattle.language_model.specs.CheckedGraph.{CheckedGraph}
 use Rattle.run_report.specs.Refusals.{refusal_of}
-use Rattle.spl_compile.specs.declared.answer.CompileAnswer.{CompileAnswer}
-use Rattle.spl_compile.specs.declared.answer.CompileAnswer.TheVariants as A
+use Rattle.spl_driver.specs.declared.compile_answer.CompileAnswer.{CompileAnswer}
+use Rattle.spl_driver.specs.declared.compile_answer.CompileAnswer.TheVariants as A
 
 -- the checked graph or the refusal that the program comes to; nothing is said where memory was wanting
 abbrev pub IsCompiled : List ℕ → List (List ℕ) → Result CheckedGraph CompileAnswer → Type 0

@@ -24,9 +24,9 @@ use Rattle.language_model.specs.Accepted.{Lexical, Unexpected, TooDeep, Expansio
 use Rattle.language_model.specs.CheckedGraph.{CheckedGraph}
 use Rattle.language_model.specs.Checking.{checked}
 use Rattle.language_model.specs.Flat.{IsFlat}
-use Rattle.spl_compile.specs.declared.answer.CompileAnswer.{CompileAnswer}
-use Rattle.spl_compile.specs.Answers.{lexing_answer, parsing_answer, expanding_answer, checking_answer}
-use Rattle.spl_compile.specs.Compiled.{IsCompiled}
+use Rattle.spl_driver.specs.declared.compile_answer.CompileAnswer.{CompileAnswer}
+use Rattle.spl_driver.specs.CompileAnswers.{lexing_answer, parsing_answer, expanding_answer, checking_answer}
+use Rattle.spl_driver.specs.Compiled.{IsCompiled}
 
 abbrev Answered : Type 0
 Answered = Result CheckedGraph CompileAnswer

@@ -1,6 +1,6 @@
-use Rattle.spl_compile.proofs.OneAccepted.{one_accepted, kept}
-use Rattle.spl_compile.proofs.SomeAccepted.{some_accepted, too_long}
-use Rattle.spl_compile.proofs.laws.accepted_law.Goals as goal
+use Rattle.spl_driver.proofs.OneAccepted.{one_accepted, kept}
+use Rattle.spl_driver.proofs.SomeAccepted.{some_accepted, too_long}
+use Rattle.spl_driver.proofs.laws.accepted_law.Goals as goal
 
 pub returns-clause-one : goal.returns-clause-one
 returns-clause-one c = one_accepted c.units_law.ensures.answer c.flat_law.ensures.one

@@ -9,8 +9,8 @@ use Rattle.composite_expand.specs.declared.answer.ExpandAnswer.TheVariants as X
 use Rattle.language_model.specs.declared.answer.TypeAnswer.{TypeAnswer}
 use Rattle.language_model.specs.declared.answer.TypeAnswer.TheVariants as T
 use Rattle.run_report.specs.Refusals.{refusal_of}
-use Rattle.spl_compile.specs.declared.answer.CompileAnswer.{CompileAnswer}
-use Rattle.spl_compile.specs.declared.answer.CompileAnswer.TheVariants as A
+use Rattle.spl_driver.specs.declared.compile_answer.CompileAnswer.{CompileAnswer}
+use Rattle.spl_driver.specs.declared.compile_answer.CompileAnswer.TheVariants as A
 
 abbrev pub refused : ProgramRefusal → CompileAnswer
 refused p = A.Refused (refusal_of p)

@@ -18,7 +18,7 @@ use Rattle.language_model.specs.Flat.{IsFlat}
 use Rattle.language_model.specs.FlatLaws.{OneFlatLaw}
 use Rattle.language_model.specs.Keeping.{Keeps}
 use Rattle.check_laws.specs.KeepsLaw.{KeepsLaw}
-use Rattle.spl_compile.specs.Laws.{OneAcceptedLaw, KeptLaw}
+use Rattle.spl_driver.specs.AcceptedLaws.{OneAcceptedLaw, KeptLaw}
 
 abbrev Come : Type 0
 Come = Result CheckedGraph ProgramRefusal

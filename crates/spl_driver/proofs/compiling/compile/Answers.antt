@@ -1,6 +1,6 @@
-use Rattle.spl_compile.proofs.FewTokens.{few_tokens}
-use Rattle.spl_compile.proofs.Stages.{lexed, parsed, expanded, refused, accepted}
-use Rattle.spl_compile.proofs.compiling.compile.Goals as goal
+use Rattle.spl_driver.proofs.FewTokens.{few_tokens}
+use Rattle.spl_driver.proofs.Stages.{lexed, parsed, expanded, refused, accepted}
+use Rattle.spl_driver.proofs.compiling.compile.Goals as goal
 
 pub returns-in_err-tokens : goal.returns-in_err-tokens
 returns-in_err-tokens c = lexed c.args.bytes.now c.args.names.now _ c.in_err-tokens.field-0.0 c.in_err-tokens.ensures.err c.from_residual.ensures.1

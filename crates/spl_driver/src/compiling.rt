@@ -1,7 +1,7 @@
 //! From the bytes of a program to its checked graph.
-ghost use Rattle.spl_compile.specs.Compiled.{IsCompiled};
+ghost use Rattle.spl_driver.specs.Compiled.{IsCompiled};
 
-use crate::CompileAnswer;
+use crate::compile_answer::CompileAnswer;
 use clause_rules::check;
 use composite_expand::expand;
 use language_model::Checked;

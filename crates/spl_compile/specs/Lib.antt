@@ -1,3 +1,0 @@
-pub mod Answers
-pub mod Compiled
-pub mod Laws
