@@ -6,6 +6,8 @@ mod answer;
 mod checked;
 mod checked_graph;
 mod checks;
+mod code_lists;
+mod copying;
 mod env;
 mod expansion;
 mod flow;
@@ -20,6 +22,11 @@ pub use checked::{
 };
 pub use checked_graph::Checked;
 pub use checks::{bodies_law, checks_on_literals, types_law, types_on_literals};
+pub use code_lists::{
+    Codes, EntryCodes, FieldCodes, Takings, push_code, push_element, push_entry, push_field,
+    push_key,
+};
+pub use copying::{copy_refusal, copy_typed};
 pub use env::{Env, Tuples};
 pub use expansion::{ExpansionRefusal, Operation, Source};
 pub use flow::Flow;

@@ -6,5 +6,6 @@ mod Loops
 mod Exits
 mod LiteralLaws
 mod CallLaws
+mod CallNames
 mod Weights
 mod PlacesFound

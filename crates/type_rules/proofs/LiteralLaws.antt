@@ -1,5 +1,5 @@
 -- Literals, element by element: what is found of those that stand before has been collected.
-use Rattle.std.specs.Prelude.{◌≡◌, ℕ, suc, ◌+◌, ◌<◌, ◌≤◌, Bool, true, false, List, [], ◌∷◌, ◌++◌, length, drop, Option, Some, None, unwrap_or, Ok, if◌then◌else◌}
+use Rattle.std.specs.Prelude.{◌≡◌, ℕ, suc, ◌+◌, ◌<◌, ◌≤◌, Bool, true, false, List, [], ◌∷◌, ◌++◌, length, drop, Option, Some, None, unwrap_or, Ok, Err, if◌then◌else◌}
 use Rattle.std.specs.Option.{option_map}
 use Rattle.std.proofs.Common.{refl, ap, sym, ◌∙◌, add-one, append_assoc, append-nil, get_or}
 use Rattle.std.proofs.lemmas.List.{drop_all}
@@ -14,13 +14,15 @@ use Rattle.spl_tree.specs.declared.expression.Field.{Field}
 use Rattle.spl_tree.specs.declared.expression.Placed.{Placed}
 use Rattle.language_model.specs.declared.scope.Scope.{Scope}
 use Rattle.language_model.specs.declared.scope.Typed.{Typed}
-use Rattle.language_model.specs.Scopes.{at_place, attribute_of}
+use Rattle.language_model.specs.Scopes.{At, at_place, attribute_of}
 use Rattle.language_model.specs.Typing.{Anything, Another, Found, Part, This, Wants, after, are_distinct, elements_typed, entries_typed, field_typed, fields_typed, gives_each, list_typed, map_typed, mismatch, own_fields, part_typed, tuple_typed, typed, typing}
 use Rattle.language_model.specs.TypingLaws.{entry_parts, field_part, field_parts, parted, parts}
-use Rattle.language_model.specs.Finds.{with_front}
+use Rattle.language_model.specs.declared.answer.TypeAnswer.{TypeAnswer}
+use Rattle.language_model.specs.Finds.{Finds}
 use Rattle.type_rules.specs.Kinds.{if_wanted, schema_for}
+use Rattle.type_rules.specs.LiteralAnswers.{attribute_for, field_for, list_given, map_given, with_own}
 use Rattle.type_rules.proofs.Rows.{drop_at}
-use Rattle.type_rules.proofs.Steps.{after_after, after_each}
+use Rattle.type_rules.proofs.Steps.{after_after, after_each, finds_by, goes, stops}
 
 abbrev Codes : Type 0
 Codes = List (Code Slot)
@@ -60,8 +62,9 @@ module _ (at : ℕ) (scope : Scope) (t : Option SplType) (all : List Expr) (i : 
       ∙ ap (λ l. list_on at scope (Some (unwrap_or t x.kind)) l (parts (drop (i + 1) all))) (sym new)
 
 -- what stands at the end
-pub list_done : (at : ℕ) (scope : Scope) (t : SplType) (codes : Codes) → list_on at scope (Some t) codes [] ≡ Ok (typed (S.List t) (C.List codes))
-list_done at scope t codes = ap (λ l. Ok (typed (S.List t) (C.List l))) (append-nil codes)
+pub list_done : (at : ℕ) (scope : Scope) (t : Option SplType) (codes : Codes) → list_on at scope t codes [] ≡ list_given at t codes
+list_done at scope None codes = refl
+list_done at scope (Some t) codes = ap (λ l. Ok (typed (S.List t) (C.List l))) (append-nil codes)
 
 -- ---- maps
 
@@ -112,8 +115,9 @@ module _ (at : ℕ) (scope : Scope) (p : Option (SplType × SplType)) (all : Lis
       ∙ ap (λ o. after o (λ y. map_on at scope (Some (unwrap_or p (x.kind, y.kind))) (codes ++ (x.code, y.code) ∷ []) rest)) second
       ∙ ap (λ l. map_on at scope (Some (unwrap_or p (x.kind, y.kind))) l rest) (sym new)
 
-pub map_done : (at : ℕ) (scope : Scope) (p : SplType × SplType) (codes : Entries) → map_on at scope (Some p) codes [] ≡ Ok (typed (S.Map p.0 p.1) (C.Map codes))
-map_done at scope p codes = ap (λ l. Ok (typed (S.Map p.0 p.1) (C.Map l))) (append-nil codes)
+pub map_done : (at : ℕ) (scope : Scope) (p : Option (SplType × SplType)) (codes : Entries) → map_on at scope p codes [] ≡ map_given at p codes
+map_done at scope None codes = refl
+map_done at scope (Some p) codes = ap (λ l. Ok (typed (S.Map p.0 p.1) (C.Map l))) (append-nil codes)
 
 -- ---- tuples
 
@@ -131,42 +135,96 @@ tuple_law at scope Another fs = refl
 tuple_law at scope (This schema) fs = chosen (gives_each schema fs) at scope fs (Some schema)
 tuple_law at scope Anything fs = chosen (are_distinct fs) at scope fs None
 
--- fields of a tuple of these attributes
-module _ (scope : Scope) (schema : List (Named SplType)) (fields : List (Field Expr)) (i : ℕ) (codes zs : List (ℕ × Code Slot)) where
-  pub field_next : (f : Field Expr) (p q : ℕ) (a : Named SplType) (x : Typed) → i < length fields → f ≡ get_or fields i f → attribute_of schema f.name.what ≡ Some (at_place p a)
-      → typing scope f.value (Some a.kind) ≡ Ok x → q ≡ p → zs ≡ codes ++ (q, x.code) ∷ []
-      → with_front codes (fields_typed scope schema (field_parts (drop i fields))) ≡ with_front zs (fields_typed scope schema (field_parts (drop (i + 1) fields)))
-  field_next f p q a x h is there found narrow new =
-      let rest = fields_typed scope schema (field_parts (drop (i + 1) fields)) in
-      ap (λ fs. with_front codes (fields_typed scope schema (field_parts fs))) (drop_at fields i f h is)
-      ∙ ap (λ o. with_front codes (after (field_typed scope schema (field_part f) o) (λ y. after rest (λ ys. Ok (y ∷ ys))))) there
-      ∙ ap (λ o. with_front codes (after (after o (λ x. Ok (p, x.code))) (λ y. after rest (λ ys. Ok (y ∷ ys))))) found
-      ∙ after_after rest (λ ys. Ok ((p, x.code) ∷ ys)) (λ ys. Ok (codes ++ ys))
-      ∙ after_each rest _ _ (λ ys. ap Ok (sym (append_assoc codes ((p, x.code) ∷ []) ys)))
-      ∙ ap (λ l. with_front l rest) (sym (new ∙ ap (λ n. codes ++ (n, x.code) ∷ []) narrow))
-
--- fields whose attributes they are, from a place on, behind those of others
+-- fields from a place on, behind others whose codes these are, and whose attributes where none are wanted
 abbrev Fields : Type 0
-Fields = List (Named SplType) × List (ℕ × Code Slot)
+Fields = List (ℕ × Code Slot)
 
-abbrev behind_others : List (Named SplType) → List (ℕ × Code Slot) → Fields → Found Fields
-behind_others schema codes xs = Ok (schema ++ xs.0, codes ++ xs.1)
+abbrev Schema : Type 0
+Schema = List (Named SplType)
 
-abbrev one_more : Named SplType → ℕ × Code Slot → Fields → Found Fields
-one_more a code xs = Ok (a ∷ xs.0, code ∷ xs.1)
+abbrev pub tuple_on : Scope → ℕ → Option Schema → Schema → Fields → List (Field (Placed Part)) → Found Typed
+tuple_on scope i (Some schema) own codes fs = after (fields_typed scope schema fs) (λ xs. Ok (typed (S.Tuple schema) (C.Tuple (codes ++ xs))))
+tuple_on scope i None own codes fs = after (own_fields scope i fs) (λ xs. Ok (typed (S.Tuple (own ++ xs.0)) (C.Tuple (codes ++ xs.1))))
 
-abbrev pub fields_on : Scope → ℕ → List (Named SplType) → List (ℕ × Code Slot) → List (Field Expr) → Found Fields
-fields_on scope place schema codes fs = after (own_fields scope place (field_parts fs)) (behind_others schema codes)
+tuple_begins : (scope : Scope) (s : Option Schema) (fs : List (Field (Placed Part))) → tuple_by scope fs s ≡ tuple_on scope 0 s [] [] fs
+tuple_begins scope None fs = refl
+tuple_begins scope (Some schema) fs = refl
 
-module _ (scope : Scope) (fields : List (Field Expr)) (i : ℕ) (schema s : List (Named SplType)) (codes zs : List (ℕ × Code Slot)) where
-  pub own_next : (f : Field Expr) (q : ℕ) (x : Typed) (name : List ℕ) → i < length fields → f ≡ get_or fields i f → typing scope f.value None ≡ Ok x → q ≡ i → name ≡ f.name.what
-      → s ≡ schema ++ record { name = name; kind = x.kind } ∷ [] → zs ≡ codes ++ (q, x.code) ∷ []
-      → fields_on scope i schema codes (drop i fields) ≡ fields_on scope (i + 1) s zs (drop (i + 1) fields)
-  own_next f q x name h is found narrow named more new =
-      let attribute : Named SplType = record { name = f.name.what; kind = x.kind } in
-      let rest : Found Fields = own_fields scope (suc i) (field_parts (drop (i + 1) fields)) in
-      ap (fields_on scope i schema codes) (drop_at fields i f h is)
-      ∙ ap (λ (o : Found Typed). after (after o (λ (x : Typed). after rest (one_more (record { name = f.name.what; kind = x.kind }) (i, x.code)))) (behind_others schema codes)) found
-      ∙ after_after rest (one_more attribute (i, x.code)) (behind_others schema codes)
-      ∙ after_each rest _ _ (λ xs. (λ j. Ok (sym (append_assoc schema (attribute ∷ []) xs.0) j, sym (append_assoc codes ((i, x.code) ∷ []) xs.1) j)))
-      ∙ (λ j. fields_on scope (sym (add-one i) j) (sym (more ∙ ap (λ n. schema ++ record { name = n; kind = x.kind } ∷ []) named) j) (sym (new ∙ ap (λ n. codes ++ (n, x.code) ∷ []) narrow) j) (drop (i + 1) fields))
+pub tuple_first : (at : ℕ) (scope : Scope) (w : Wants Schema) (fs : List (Field (Placed Part))) (s : Option Schema) (own : Schema) (codes : Fields) → schema_for at w fs ≡ Ok s → own ≡ [] → codes ≡ []
+    → tuple_typed at scope w fs ≡ tuple_on scope 0 s own codes fs
+tuple_first at scope w fs s own codes is no_own no_codes =
+    tuple_law at scope w fs ∙ ap (λ o. after o (tuple_by scope fs)) is ∙ tuple_begins scope s fs ∙ (λ i. tuple_on scope 0 s (sym no_own i) (sym no_codes i) fs)
+
+module _ (scope : Scope) (i : ℕ) (own : Schema) (codes : Fields) (f : Field (Placed Part)) (fs : List (Field (Placed Part))) where
+  abbrev attribute : Typed → Named SplType
+  attribute x = record { name = f.name.what; kind = x.kind }
+
+  -- the others behind the field
+  abbrev tuple_rest : Option Schema → At (Option SplType) → Typed → Found Typed
+  tuple_rest s a x = tuple_on scope (suc i) s (with_own s own (attribute x)) (codes ++ (a.place, x.code) ∷ []) fs
+
+  abbrev with_field : Option Schema → At (Option SplType) → Found Typed
+  with_field s a = after (part_typed f.value scope a.what) (tuple_rest s a)
+
+  module _ (schema : Schema) where
+    abbrev rest : Found Fields
+    rest = fields_typed scope schema fs
+
+    abbrev one_more : ℕ × Code Slot → Found Fields
+    one_more y = after rest (λ ys. Ok (y ∷ ys))
+
+    abbrev made : Fields → Found Typed
+    made xs = Ok (typed (S.Tuple schema) (C.Tuple (codes ++ xs)))
+
+    by_attribute : (o : Option (At (Named SplType)))
+        → after (after (field_typed scope schema f o) one_more) made ≡ after (attribute_for f.value.at o) (with_field (Some schema))
+    by_attribute None = refl
+    by_attribute (Some a) =
+        ap (λ o. after o made) (after_after (part_typed f.value scope (Some a.what.kind)) (λ x. Ok (a.place, x.code)) one_more)
+        ∙ after_after (part_typed f.value scope (Some a.what.kind)) (λ x. one_more (a.place, x.code)) made
+        ∙ after_each (part_typed f.value scope (Some a.what.kind)) _ _ (λ x. after_after rest (λ ys. Ok ((a.place, x.code) ∷ ys)) made
+        ∙ after_each rest _ _ (λ ys. ap (λ l. Ok (typed (S.Tuple schema) (C.Tuple l))) (sym (append_assoc codes ((a.place, x.code) ∷ []) ys))))
+
+  tuple_step : (s : Option Schema) → tuple_on scope i s own codes (f ∷ fs) ≡ after (field_for s i f) (with_field s)
+  tuple_step (Some schema) = by_attribute schema (attribute_of schema f.name.what)
+  tuple_step None =
+      after_after (part_typed f.value scope None) (λ x. after (own_fields scope (suc i) fs) (λ xs. Ok (attribute x ∷ xs.0, (i, x.code) ∷ xs.1)))
+      (λ xs. Ok (typed (S.Tuple (own ++ xs.0)) (C.Tuple (codes ++ xs.1))))
+      ∙ after_each (part_typed f.value scope None) _ _ (λ x. after_after (own_fields scope (suc i) fs) (λ xs. Ok (attribute x ∷ xs.0, (i, x.code) ∷ xs.1))
+      (λ xs. Ok (typed (S.Tuple (own ++ xs.0)) (C.Tuple (codes ++ xs.1))))
+      ∙ after_each (own_fields scope (suc i) fs) _ _ (λ xs. (λ j. Ok (typed (S.Tuple (sym (append_assoc own (attribute x ∷ []) xs.0) j)) (C.Tuple (sym (append_assoc codes ((i, x.code) ∷ []) xs.1) j))))))
+
+module _ (scope : Scope) (s : Option Schema) (fields : List (Field Expr)) (i : ℕ) (own : Schema) (codes : Fields) where
+  pub tuple_past : length fields ≤ i → tuple_on scope i s own codes (field_parts (drop i fields)) ≡ Ok (typed (S.Tuple (unwrap_or s own)) (C.Tuple codes))
+  tuple_past h = ap (λ fs. tuple_on scope i s own codes (field_parts fs)) (drop_all i fields h) ∙ done s
+    where
+      done : (s : Option Schema) → tuple_on scope i s own codes [] ≡ Ok (typed (S.Tuple (unwrap_or s own)) (C.Tuple codes))
+      done None = λ j. Ok (typed (S.Tuple (append-nil own j)) (C.Tuple (append-nil codes j)))
+      done (Some schema) = ap (λ l. Ok (typed (S.Tuple schema) (C.Tuple l))) (append-nil codes)
+
+  module _ (f : Field Expr) (h : i < length fields) (is : f ≡ get_or fields i f) where
+    tuple_is : tuple_on scope i s own codes (field_parts (drop i fields))
+        ≡ after (field_for s i (field_part f)) (with_field scope i own codes (field_part f) (field_parts (drop (i + 1) fields)) s)
+    tuple_is = ap (λ fs. tuple_on scope i s own codes (field_parts fs)) (drop_at fields i f h is) ∙ tuple_step scope i own codes (field_part f) (field_parts (drop (i + 1) fields)) s
+
+    pub field_stops : (a : TypeAnswer) → Finds (field_for s i (field_part f)) (Err a) → Finds (tuple_on scope i s own codes (field_parts (drop i fields))) (Err a)
+    field_stops a found =
+        finds_by _ _ (Err a) tuple_is
+        (stops (field_for s i (field_part f)) (with_field scope i own codes (field_part f) (field_parts (drop (i + 1) fields)) s) a found)
+
+    module _ (n : ℕ) (w : Option SplType) (there : field_for s i (field_part f) ≡ Ok (at_place n w)) where
+      pub value_stops : (a : TypeAnswer) → Finds (typing scope f.value w) (Err a) → Finds (tuple_on scope i s own codes (field_parts (drop i fields))) (Err a)
+      value_stops a found =
+          let rest = field_parts (drop (i + 1) fields) in
+          finds_by _ _ (Err a) tuple_is
+          (goes (field_for s i (field_part f)) (with_field scope i own codes (field_part f) rest s) (at_place n w) (Err a) there
+          (stops (typing scope f.value w) (tuple_rest scope i own codes (field_part f) rest s (at_place n w)) a found))
+
+      pub field_next : (x : Typed) (new : Schema) (zs : Fields) → typing scope f.value w ≡ Ok x → new ≡ with_own s own (record { name = f.name.what; kind = x.kind }) → zs ≡ codes ++ (n, x.code) ∷ []
+          → tuple_on scope i s own codes (field_parts (drop i fields)) ≡ tuple_on scope (i + 1) s new zs (field_parts (drop (i + 1) fields))
+      field_next x new zs found more z =
+          let rest = field_parts (drop (i + 1) fields) in
+          tuple_is
+          ∙ ap (λ (o : Found (At (Option SplType))). after o (with_field scope i own codes (field_part f) rest s)) there
+          ∙ ap (λ (o : Found Typed). after o (tuple_rest scope i own codes (field_part f) rest s (at_place n w))) found
+          ∙ (λ j. tuple_on scope (sym (add-one i) j) s (sym more j) (sym z j) rest)

@@ -1,5 +1,5 @@
 -- What a call answers on wanted types, against the definition.
-use Rattle.std.specs.Prelude.{ℕ, List, Option, Some, None, Ok, if◌then◌else◌}
+use Rattle.std.specs.Prelude.{ℕ, Bool, true, false, List, Option, Some, None, Ok, if◌then◌else◌}
 use Rattle.std.specs.Borrow.{Bor}
 use Rattle.spl_value.specs.declared.types.IntKind.{IntKind}
 use Rattle.spl_value.specs.declared.types.SplType.{SplType}
@@ -24,6 +24,12 @@ pair_copied (Some p) = Some (p.0.now, p.1.now)
 abbrev pub integer_of : SplType-F SplType → Option IntKind
 integer_of (T.Int k) = Some k
 integer_of _ = None
+
+-- its values have an order
+abbrev pub has_order : SplType-F SplType → Bool
+has_order (T.Int k) = true
+has_order T.Text = true
+has_order _ = false
 
 -- what `in` is on a right operand of a type, and the type that the left one has to have
 abbrev pub held_of : SplType-F SplType → Option (BinaryCode × SplType)

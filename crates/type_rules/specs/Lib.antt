@@ -5,3 +5,5 @@ pub mod Places
 pub mod Takings
 pub mod Operands
 pub mod Calls
+pub mod CallNames
+pub mod LiteralAnswers

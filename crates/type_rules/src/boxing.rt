@@ -1,6 +1,7 @@
 //! Types and codes in boxes.
 ghost use Rattle.std.specs.Prelude.{◌≡◌, Ok};
 ghost use Rattle.std.specs.Option.{option_copied, option_map};
+ghost use Rattle.spl_value.specs.declared.types.SplType.TheVariants as S;
 ghost use Rattle.language_model.specs.Typing.{typed};
 ghost use Rattle.language_model.specs.Finds.{Finds};
 
@@ -22,10 +23,24 @@ pub(crate) fn boxed_copy(alloc: Global, kind: &SplType) -> Result<Boxed<SplType>
 pub(crate) fn boxed(alloc: Global, kind: SplType, code: Code<Slot>) -> Result<Typed, TypeAnswer>
     ensures { Finds (Ok (typed kind code)) result }
 {
-    let kind = Boxed::new(alloc, kind)?;
-    let code = Boxed::new(alloc, code)?;
+    let kind = Boxed::new(alloc, kind);
+    let code = Boxed::new(alloc, code);
+    Ok(Typed {
+        kind: kind?,
+        code: code?,
+    })
+}
+
+/// A code that gives a boolean.
+pub(crate) fn truth(alloc: Global, code: Boxed<Code<Slot>>) -> Result<Typed, TypeAnswer>
+    ensures { Finds (Ok (typed S.Bool code)) result }
+{
+    let kind = Boxed::new(alloc, SplType::Bool)?;
     Ok(Typed { kind, code })
 }
+
+/// Lets go of a code.
+pub(crate) fn release(_code: Code<Slot>) {}
 
 /// The type in a box, where there is one.
 pub(crate) fn kind_in(kind: &Option<Boxed<SplType>>) -> Option<&SplType>

@@ -1,27 +1,33 @@
 //! The calls that the language has built in.
-ghost use Rattle.std.specs.Prelude.{◌≡◌, IfOk, Ok, Some, [], ◌∷◌};
+ghost use Rattle.std.specs.Prelude.{◌≡◌, IfOk, None, Ok, Some, [], ◌∷◌, if◌then◌else◌};
 ghost use Rattle.std.specs.Option.{option_copied};
+ghost use Rattle.spl_value.specs.declared.types.SplType.TheVariants as S;
 ghost use Rattle.spl_value.specs.declared.types.SplType.TheViews.{out-SplType};
+ghost use Rattle.spl_tree.specs.declared.code.BuiltIn.TheVariants as Q;
+ghost use Rattle.spl_tree.specs.declared.code.CallName.TheVariants as A;
 ghost use Rattle.spl_tree.specs.declared.code.Code.TheVariants as C;
 ghost use Rattle.language_model.specs.Scopes.{at_place, function_of};
-ghost use Rattle.language_model.specs.Typing.{call_of, argument_count, level_first, level_changed, is_mutable, if_mutable, part, value_given};
+ghost use Rattle.language_model.specs.Typing.{call_of, argument_count, int32, level_first, level_changed, is_mutable, if_mutable, part, value_given};
 ghost use Rattle.language_model.specs.TypingLaws.{parted, parts};
 ghost use Rattle.language_model.specs.Finds.{Finds, FindsBy};
-ghost use Rattle.type_rules.specs.Calls.{asked, change_asked, first_for, function_found, given, row_for};
+ghost use Rattle.type_rules.specs.CallNames.{changing, computing, looking};
+ghost use Rattle.type_rules.specs.Kinds.{has_order};
+ghost use Rattle.type_rules.specs.Calls.{asked, asked_by_change, change_asked, first_for, function_found, given, row_for, value_asked};
 
 use crate::answer::{TypeAnswer, mismatch, narrow, not_mutable, wrong_call};
 use crate::boxing::boxed_copy;
 use crate::forms::root_name;
-use crate::making::{Codes, call_typed};
+use crate::kinds::{has_order, integer_of};
+use crate::making::call_typed;
 use crate::names::{function, not_callable, variable};
-use language_model::{Scope, Signature, Typed};
+use language_model::{Codes, Scope, Signature, Typed};
 use spl_tree::{BuiltIn, CallName, Code, Expr, Slot};
 use spl_value::{Boxed, IntKind, Items, SplType, copy_type};
 use std::alloc::Global;
 
-/// The call that has this name.
-pub(crate) fn call_named(name: &[u8]) -> Option<CallName>
-    ensures { result ≡ call_of name.now }
+/// The call of this name that looks at a value as a whole.
+fn looking_named(name: &[u8]) -> Option<CallName>
+    ensures { result ≡ looking name.now }
 {
     if name == b"length".as_slice() {
         Some(CallName::Length)
@@ -29,13 +35,31 @@ pub(crate) fn call_named(name: &[u8]) -> Option<CallName>
         Some(CallName::Size)
     } else if name == b"has".as_slice() {
         Some(CallName::Has)
-    } else if name == b"appendM".as_slice() {
+    } else {
+        None
+    }
+}
+
+/// The call of this name that changes its first argument.
+fn changing_named(name: &[u8]) -> Option<CallName>
+    ensures { result ≡ changing name.now }
+{
+    if name == b"appendM".as_slice() {
         Some(CallName::AppendM)
     } else if name == b"removeM".as_slice() {
         Some(CallName::RemoveM)
     } else if name == b"clearM".as_slice() {
         Some(CallName::ClearM)
-    } else if name == b"abs".as_slice() {
+    } else {
+        None
+    }
+}
+
+/// The call of this name that computes a value of its own.
+fn computing_named(name: &[u8]) -> Option<CallName>
+    ensures { result ≡ computing name.now }
+{
+    if name == b"abs".as_slice() {
         Some(CallName::Abs)
     } else if name == b"min".as_slice() {
         Some(CallName::Min)
@@ -48,6 +72,20 @@ pub(crate) fn call_named(name: &[u8]) -> Option<CallName>
     } else {
         None
     }
+}
+
+/// The call that has this name.
+#[tactic(auto, using(crate::proofs::CallNames::call_by_name))]
+pub(crate) fn call_named(name: &[u8]) -> Option<CallName>
+    ensures { result ≡ call_of name.now }
+{
+    if let Some(call) = looking_named(name) {
+        return Some(call);
+    }
+    if let Some(call) = changing_named(name) {
+        return Some(call);
+    }
+    computing_named(name)
 }
 
 /// How many arguments a call has.
@@ -74,10 +112,52 @@ fn one_type(alloc: Global, kind: &SplType) -> Result<Items<SplType>, TypeAnswer>
     Ok(kinds)
 }
 
+/// The number of elements of a list or of entries of a map.
+fn size_of(alloc: Global, kind: &SplType) -> Result<OnFirst, TypeAnswer>
+    ensures { Finds (Ok (level_first A.Size kind.now (out-SplType kind.now))) result }
+{
+    match kind {
+        SplType::List(_) | SplType::Map(_, _) => {
+            let kind = Boxed::new(alloc, SplType::Int(IntKind::I32))?;
+            Ok(Some((BuiltIn::Size, kind, Items::new(alloc))))
+        }
+        SplType::Int(_) | SplType::Bool | SplType::Text | SplType::Tuple(_) => Ok(None),
+    }
+}
+
+/// Whether a map has a key.
+fn has_key(alloc: Global, kind: &SplType) -> Result<OnFirst, TypeAnswer>
+    ensures { Finds (Ok (level_first A.Has kind.now (out-SplType kind.now))) result }
+{
+    match kind {
+        SplType::Map(key, _) => {
+            let others = one_type(alloc, key.get())?;
+            let kind = Boxed::new(alloc, SplType::Bool)?;
+            Ok(Some((BuiltIn::Has, kind, others)))
+        }
+        SplType::Int(_) | SplType::Bool | SplType::Text | SplType::List(_) | SplType::Tuple(_) => {
+            Ok(None)
+        }
+    }
+}
+
+/// The absolute value of an integer.
+fn absolute(alloc: Global, kind: Boxed<SplType>) -> Result<OnFirst, TypeAnswer>
+    ensures { Finds (Ok (level_first A.Abs kind (out-SplType kind))) result }
+{
+    match integer_of(kind.get()) {
+        Some(number) => Ok(Some((BuiltIn::Abs(number), kind, Items::new(alloc)))),
+        None => Ok(None),
+    }
+}
+
 /// A smaller or larger one of two values of a type that has an order.
 fn on_ordered(alloc: Global, call: BuiltIn, kind: Boxed<SplType>) -> Result<OnFirst, TypeAnswer>
-    ensures { Finds (Ok (Some (call, kind, kind ∷ []))) result }
+    ensures { Finds (Ok (if has_order (out-SplType kind) then Some (call, kind, kind ∷ []) else None)) result }
 {
+    if !has_order(kind.get()) {
+        return Ok(None);
+    }
     let others = one_type(alloc, kind.get())?;
     Ok(Some((call, kind, others)))
 }
@@ -90,22 +170,18 @@ pub(crate) fn on_first(
 ) -> Result<OnFirst, TypeAnswer>
     ensures { Finds (Ok (level_first call kind (out-SplType kind))) result }
 {
-    match (call, kind.get()) {
-        (CallName::Size, SplType::List(_) | SplType::Map(_, _)) => {
-            let kind = Boxed::new(alloc, SplType::Int(IntKind::I32))?;
-            Ok(Some((BuiltIn::Size, kind, Items::new(alloc))))
-        }
-        (CallName::Has, SplType::Map(key, _)) => {
-            let others = one_type(alloc, key.get())?;
-            let kind = Boxed::new(alloc, SplType::Bool)?;
-            Ok(Some((BuiltIn::Has, kind, others)))
-        }
-        (CallName::Abs, SplType::Int(number)) => {
-            Ok(Some((BuiltIn::Abs(*number), kind, Items::new(alloc))))
-        }
-        (CallName::Min, SplType::Int(_) | SplType::Text) => on_ordered(alloc, BuiltIn::Min, kind),
-        (CallName::Max, SplType::Int(_) | SplType::Text) => on_ordered(alloc, BuiltIn::Max, kind),
-        _ => Ok(None),
+    match call {
+        CallName::Size => size_of(alloc, kind.get()),
+        CallName::Has => has_key(alloc, kind.get()),
+        CallName::Abs => absolute(alloc, kind),
+        CallName::Min => on_ordered(alloc, BuiltIn::Min, kind),
+        CallName::Max => on_ordered(alloc, BuiltIn::Max, kind),
+        CallName::Length
+        | CallName::AppendM
+        | CallName::RemoveM
+        | CallName::ClearM
+        | CallName::Substring
+        | CallName::CurrentPunct => Ok(None),
     }
 }
 
@@ -170,9 +246,59 @@ pub(crate) fn change_asked(
     Ok(kinds)
 }
 
-/// What a call gives, unless it changes its first argument, and the types that the other arguments have
-/// to have.
-pub(crate) type Asked = (Option<(BuiltIn, Boxed<SplType>)>, Items<SplType>);
+/// What a call gives, unless it changes its first argument.
+pub(crate) type Gives = Option<(BuiltIn, Boxed<SplType>)>;
+
+/// What a call gives, and the types that the arguments behind the first have to have.
+pub(crate) type Asked = (Gives, Items<SplType>);
+
+/// A call that changes its first argument, which is of a type.
+fn change_alone(
+    alloc: Global,
+    scope: &Scope,
+    at: u32,
+    call: CallName,
+    first: &Expr,
+    kind: &SplType,
+) -> Result<Asked, TypeAnswer>
+    ensures { Finds (asked_by_change (change_asked at scope.now (parted first.now) (level_changed call (out-SplType kind.now)))) result }
+{
+    let kinds = change_asked(alloc, scope, at, call, first, kind)?;
+    Ok((None, kinds))
+}
+
+/// The length of a text.
+fn length_asked(alloc: Global) -> Result<Asked, TypeAnswer>
+    ensures { Finds (Ok (Some (Q.Length, int32), [])) result }
+{
+    let kind = Boxed::new(alloc, SplType::Int(IntKind::I32))?;
+    Ok((Some((BuiltIn::Length, kind)), Items::new(alloc)))
+}
+
+/// A part of a text.
+fn substring_asked(alloc: Global) -> Result<Asked, TypeAnswer>
+    ensures { Finds (Ok (Some (Q.Substring, S.Text), int32 ∷ int32 ∷ [])) result }
+{
+    let mut others = one_type(alloc, &SplType::Int(IntKind::I32))?;
+    others.push(SplType::Int(IntKind::I32))?;
+    let kind = Boxed::new(alloc, SplType::Text)?;
+    Ok((Some((BuiltIn::Substring, kind)), others))
+}
+
+/// A call on a first argument of a type, which has to be one of its class.
+fn value_asked(
+    alloc: Global,
+    at: u32,
+    call: CallName,
+    kind: Boxed<SplType>,
+) -> Result<Asked, TypeAnswer>
+    ensures { Finds (value_asked at (level_first call kind (out-SplType kind))) result }
+{
+    match on_first(alloc, call, kind)? {
+        Some((built_in, kind, others)) => Ok((Some((built_in, kind)), others)),
+        None => Err(wrong_call(at)),
+    }
+}
 
 /// What a call is on a first argument of a type.
 pub(crate) fn asked_of(
@@ -187,29 +313,35 @@ pub(crate) fn asked_of(
 {
     match call {
         CallName::AppendM | CallName::RemoveM | CallName::ClearM => {
-            let kinds = change_asked(alloc, scope, at, call, first, kind.get())?;
-            Ok((None, kinds))
+            change_alone(alloc, scope, at, call, first, kind.get())
         }
-        CallName::Length => {
-            let kind = Boxed::new(alloc, SplType::Int(IntKind::I32))?;
-            Ok((Some((BuiltIn::Length, kind)), Items::new(alloc)))
-        }
-        CallName::Substring => {
-            let mut others = one_type(alloc, &SplType::Int(IntKind::I32))?;
-            others.push(SplType::Int(IntKind::I32))?;
-            let kind = Boxed::new(alloc, SplType::Text)?;
-            Ok((Some((BuiltIn::Substring, kind)), others))
-        }
+        CallName::Length => length_asked(alloc),
+        CallName::Substring => substring_asked(alloc),
         CallName::Size
         | CallName::Has
         | CallName::Abs
         | CallName::Min
         | CallName::Max
-        | CallName::CurrentPunct => match on_first(alloc, call, kind)? {
-            Some((built_in, kind, others)) => Ok((Some((built_in, kind)), others)),
-            None => Err(wrong_call(at)),
-        },
+        | CallName::CurrentPunct => value_asked(alloc, at, call, kind),
     }
+}
+
+/// What a call is on its first argument, and the code of that in front of the others.
+pub(crate) fn behind_first(
+    alloc: Global,
+    scope: &Scope,
+    at: u32,
+    call: CallName,
+    first: &Expr,
+    typed: Typed,
+) -> Result<(Gives, Items<SplType>, Codes), TypeAnswer>
+    ensures asked { FindsBy (λ p. (p.0, p.1)) (asked at scope.now call (parted first.now) typed.kind) result }
+    ensures front { IfOk result (λ p. p.2 ≡ typed.code ∷ []) }
+{
+    let Typed { kind, code } = typed;
+    let (gives, others) = asked_of(alloc, scope, at, call, first, kind)?;
+    let front = one_code(alloc, code)?;
+    Ok((gives, others, front))
 }
 
 /// The type that a call wants of its first argument, where it wants one.
@@ -253,12 +385,7 @@ pub(crate) fn argument_row(
 
 /// What a call gives on these arguments. One that changes a place gives no value, and is refused for
 /// that once all else about it is right.
-pub(crate) fn given(
-    alloc: Global,
-    at: u32,
-    gives: Option<(BuiltIn, Boxed<SplType>)>,
-    codes: Codes,
-) -> Result<Typed, TypeAnswer>
+pub(crate) fn given(alloc: Global, at: u32, gives: Gives, codes: Codes) -> Result<Typed, TypeAnswer>
     ensures { Finds (given at gives codes) result }
 {
     match gives {

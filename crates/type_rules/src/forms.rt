@@ -1,14 +1,17 @@
 //! What the expressions around an expression see of its form.
-ghost use Rattle.std.specs.Prelude.{◌≡◌};
+ghost use Rattle.std.specs.Prelude.{◌≡◌, Ok};
 ghost use Rattle.std.specs.Option.{option_copied};
 ghost use Rattle.language_model.specs.Typing.{part, marker_of, marker_in, marker_asked};
 ghost use Rattle.language_model.specs.TypingLaws.{step_parts};
+ghost use Rattle.language_model.specs.Finds.{Finds};
 ghost use Rattle.type_rules.specs.Members.{MemberOfPort};
 
+use crate::answer::TypeAnswer;
 use crate::names::{Meaning, meaning_of};
 use language_model::{Port, Scope};
 use spl_tree::{BinaryOperator, Code, Expr, ExprKind, Marker, Placed, Slot, Step};
-use spl_value::Name;
+use spl_value::{Boxed, Name};
+use std::alloc::Global;
 
 /// The name that the expression is, in parentheses or not.
 #[tactic(auto, using(language_model::specs::TypingLaws::form_laws))]
@@ -86,16 +89,21 @@ pub fn marker(expr: &Expr) -> Option<Marker>
 
 /// The code of a comparison with a marker, where the left side asks for the marker that came.
 pub(crate) fn marker_test(
+    alloc: Global,
     asks: bool,
     operator: BinaryOperator,
     marker: Option<Marker>,
-) -> Option<Code<Slot>>
-    ensures { result ≡ marker_asked asks operator marker }
+) -> Result<Option<Boxed<Code<Slot>>>, TypeAnswer>
+    ensures { Finds (Ok (marker_asked asks operator marker)) result }
 {
     match (asks, operator, marker) {
-        (true, BinaryOperator::Equal, Some(marker)) => Some(Code::IsMarker(marker)),
-        (true, BinaryOperator::NotEqual, Some(marker)) => Some(Code::IsNotMarker(marker)),
-        _ => None,
+        (true, BinaryOperator::Equal, Some(marker)) => {
+            Ok(Some(Boxed::new(alloc, Code::IsMarker(marker))?))
+        }
+        (true, BinaryOperator::NotEqual, Some(marker)) => {
+            Ok(Some(Boxed::new(alloc, Code::IsNotMarker(marker))?))
+        }
+        _ => Ok(None),
     }
 }
 

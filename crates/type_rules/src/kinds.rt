@@ -2,15 +2,16 @@
 ghost use Rattle.std.specs.Prelude.{◌≡◌, not, is_some};
 ghost use Rattle.std.specs.List.{list_all};
 ghost use Rattle.std.specs.Str.{bytes_eq};
-ghost use Rattle.language_model.specs.Scopes.{attribute_of};
+ghost use Rattle.language_model.specs.Scopes.{at_place, attribute_of};
 ghost use Rattle.std.specs.Option.{option_copied};
 ghost use Rattle.spl_value.specs.declared.types.SplType.TheViews.{out-SplType};
 ghost use Rattle.language_model.specs.Typing.{same_types, as_wanted, wants_list, wants_map, wants_tuple, level_element, level_pair, level_schema, level_index, gives_each, are_distinct};
 ghost use Rattle.language_model.specs.Finds.{Finds, FindsBy};
-ghost use Rattle.type_rules.specs.Kinds.{this_or_other, pair_copied, held_copied, integer_of, held_of, if_wanted, schema_for, index_for};
-ghost use Rattle.language_model.specs.TypingLaws.{field_parts};
+ghost use Rattle.type_rules.specs.Kinds.{this_or_other, pair_copied, held_copied, integer_of, held_of, has_order, if_wanted, schema_for, index_for};
+ghost use Rattle.type_rules.specs.LiteralAnswers.{field_for};
+ghost use Rattle.language_model.specs.TypingLaws.{field_part, field_parts};
 
-use crate::answer::{TypeAnswer, mismatch};
+use crate::answer::{TypeAnswer, mismatch, narrow};
 use crate::boxing::boxed_copy;
 use crate::names::attribute;
 use language_model::Typed;
@@ -137,6 +138,24 @@ pub(crate) fn schema_wanted<'t>(
     }
 }
 
+/// The place of a field's attribute, and the type that is wanted of it where one is. Without attributes
+/// that are wanted the place is that of the field in its row.
+pub(crate) fn field_wanted<'t>(
+    schema: Option<&'t Schema>,
+    place: usize,
+    field: &Field<Expr>,
+) -> Result<(u32, Option<&'t SplType>), TypeAnswer>
+    ensures { FindsBy (λ p. at_place p.0 (option_copied p.1)) (field_for (option_copied schema.entry) place (field_part field.now)) result }
+{
+    let Some(schema) = schema else {
+        return Ok((narrow(place)?, None));
+    };
+    match attribute(schema.as_slice(), field.name.what.as_slice()) {
+        Some((place, found)) => Ok((narrow(place)?, Some(&found.kind))),
+        None => Err(mismatch(field.value.at)),
+    }
+}
+
 /// The type that is wanted of an index into a value whose expression begins at `base`, where one is.
 pub(crate) fn index_wanted(base: u32, kind: &SplType) -> Result<Option<&SplType>, TypeAnswer>
     ensures { FindsBy option_copied (index_for base (out-SplType kind.now)) result }
@@ -148,8 +167,18 @@ pub(crate) fn index_wanted(base: u32, kind: &SplType) -> Result<Option<&SplType>
     }
 }
 
+/// Whether the values of a type have an order.
+pub(crate) fn has_order(kind: &SplType) -> bool
+    ensures { result ≡ has_order (out-SplType kind.now) }
+{
+    match kind {
+        SplType::Int(_) | SplType::Text => true,
+        SplType::Bool | SplType::List(_) | SplType::Map(_, _) | SplType::Tuple(_) => false,
+    }
+}
+
 /// The integer type that a type is.
-fn integer_of(kind: &SplType) -> Option<IntKind>
+pub(crate) fn integer_of(kind: &SplType) -> Option<IntKind>
     ensures { result ≡ integer_of (out-SplType kind.now) }
 {
     match kind {

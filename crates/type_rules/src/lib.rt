@@ -4,9 +4,9 @@
 mod answer;
 mod boxing;
 mod calls;
-mod copying;
 mod forms;
 mod kinds;
+mod literals;
 mod making;
 mod names;
 mod operators;

@@ -1,34 +1,23 @@
 //! The types and codes of expressions whose parts have theirs.
-ghost use Rattle.std.specs.Prelude.{◌≡◌, ◌++◌, ◌∷◌, [], Ok, OnOk};
+ghost use Rattle.std.specs.Prelude.{◌≡◌, Ok};
 ghost use Rattle.spl_tree.specs.declared.code.Code.TheVariants as C;
+ghost use Rattle.spl_tree.specs.declared.code.Taking.TheVariants as K;
 ghost use Rattle.spl_value.specs.declared.types.SplType.TheVariants as S;
 ghost use Rattle.spl_value.specs.declared.types.SplType.TheViews.{out-SplType};
 ghost use Rattle.spl_value.specs.declared.value.Value.TheVariants as V;
 ghost use Rattle.language_model.specs.Scopes.{attribute_of};
-ghost use Rattle.language_model.specs.Typing.{typed, number_typed, selected, port_attribute};
+ghost use Rattle.language_model.specs.Typing.{after, level_index, typed, number_typed, selected, port_attribute};
 ghost use Rattle.language_model.specs.Finds.{Finds};
 ghost use Rattle.type_rules.specs.Takings.{Takes, member_taken, index_taken};
 
 use crate::answer::{TypeAnswer, mismatch, narrow, unknown};
 use crate::boxing::{boxed, boxed_copy};
-use crate::kinds::{element_of, index_typed, pair_of, schema_of};
-use crate::names::{attribute, slot_typed};
-use language_model::{Port, Typed};
+use crate::kinds::{index_typed, schema_of};
+use crate::names::{attribute, attribute_typed};
+use language_model::{Codes, Port, Takings, Typed, push_element, push_key};
 use spl_tree::{BuiltIn, Code, Number, Placed, Slot, Taking};
-use spl_value::{Boxed, Bytes, Items, Name, Named, Schema, SplType, Value, is_of_kind};
-use std::alloc::{AllocError, Global};
-
-/// Codes of expressions.
-pub(crate) type Codes = Items<Code<Slot>>;
-
-/// Codes of keys and values.
-pub(crate) type EntryCodes = Items<(Code<Slot>, Code<Slot>)>;
-
-/// Places of attributes, and the codes of their values.
-pub(crate) type FieldCodes = Items<(u32, Code<Slot>)>;
-
-/// What is taken in turn.
-pub(crate) type Takings = Items<Taking<Code<Slot>>>;
+use spl_value::{Attribute, Boxed, Bytes, Items, Name, SplType, Value, is_of_kind};
+use std::alloc::Global;
 
 pub(crate) fn literal(alloc: Global, kind: SplType, value: Value) -> Result<Typed, TypeAnswer>
     ensures { Finds (Ok (typed kind (C.Literal value))) result }
@@ -55,54 +44,35 @@ pub(crate) fn text(alloc: Global, bytes: &Bytes) -> Result<Typed, TypeAnswer>
     literal(alloc, SplType::Text, Value::Text(bytes))
 }
 
-pub(crate) fn list_of(
-    alloc: Global,
-    kind: Boxed<SplType>,
-    codes: Codes,
-) -> Result<Typed, TypeAnswer>
-    ensures { Finds (Ok (typed (S.List kind) (C.List codes))) result }
-{
-    boxed(alloc, SplType::List(kind), Code::List(codes))
-}
-
-pub(crate) fn map_of(
-    alloc: Global,
-    key: Boxed<SplType>,
-    value: Boxed<SplType>,
-    codes: EntryCodes,
-) -> Result<Typed, TypeAnswer>
-    ensures { Finds (Ok (typed (S.Map key value) (C.Map codes))) result }
-{
-    boxed(alloc, SplType::Map(key, value), Code::Map(codes))
-}
-
-pub(crate) fn tuple_of(
-    alloc: Global,
-    schema: Schema,
-    codes: FieldCodes,
-) -> Result<Typed, TypeAnswer>
-    ensures { Finds (Ok (typed (S.Tuple schema) (C.Tuple codes))) result }
-{
-    boxed(alloc, SplType::Tuple(schema), Code::Tuple(codes))
-}
-
 /// Takes a member of a value of a type, whose expression begins at `base`: the type of that.
 pub(crate) fn take_member(
     alloc: Global,
     base: u32,
-    kind: &SplType,
+    kind: Boxed<SplType>,
     member: &Placed<Name>,
     takings: &mut Takings,
 ) -> Result<Boxed<SplType>, TypeAnswer>
-    ensures { Takes (member_taken base (out-SplType kind.now) member.now.at member.now.what) takings.old takings.new result }
+    ensures { Takes (member_taken base (out-SplType kind) member.now.at member.now.what) takings.old takings.new result }
 {
-    let Some(schema) = schema_of(kind) else {
+    let Some(schema) = schema_of(kind.get()) else {
         return Err(mismatch(base));
     };
     let name = member.what.as_slice();
-    let Some((place, found)) = attribute(schema.as_slice(), name) else {
-        return Err(unknown(alloc, member.at, name));
-    };
+    match attribute(schema.as_slice(), name) {
+        Some((place, found)) => take_attribute(alloc, place, found, takings),
+        None => Err(unknown(alloc, member.at, name)),
+    }
+}
+
+/// Takes an attribute at its place.
+fn take_attribute(
+    alloc: Global,
+    place: usize,
+    found: &Attribute,
+    takings: &mut Takings,
+) -> Result<Boxed<SplType>, TypeAnswer>
+    ensures { Takes (Ok (K.Member place, found.now.kind)) takings.old takings.new result }
+{
     let given = boxed_copy(alloc, &found.kind)?;
     takings.push(Taking::Member(narrow(place)?))?;
     Ok(given)
@@ -113,38 +83,65 @@ pub(crate) fn take_member(
 pub(crate) fn take_index(
     alloc: Global,
     base: u32,
-    kind: &SplType,
+    kind: Boxed<SplType>,
     at: u32,
     index: Typed,
     takings: &mut Takings,
 ) -> Result<Boxed<SplType>, TypeAnswer>
-    ensures { Takes (index_taken base at index (out-SplType kind.now)) takings.old takings.new result }
+    ensures { Takes (index_taken base at index (out-SplType kind)) takings.old takings.new result }
 {
-    if let Some(element) = element_of(kind) {
-        let code = index_typed(at, index)?;
-        let given = boxed_copy(alloc, element)?;
-        takings.push(Taking::Element(code.into_inner()))?;
-        return Ok(given);
+    match kind.get() {
+        SplType::List(element) => take_element(alloc, at, element.get(), index, takings),
+        SplType::Map(_, value) => take_value(alloc, value.get(), index, takings),
+        SplType::Int(_) | SplType::Bool | SplType::Text | SplType::Tuple(_) => Err(mismatch(base)),
     }
-    let Some((_, value)) = pair_of(kind) else {
-        return Err(mismatch(base));
-    };
-    let given = boxed_copy(alloc, value)?;
-    takings.push(Taking::AtKey(code_of(index)))?;
+}
+
+/// Takes an element of a list. Its index begins at a place.
+fn take_element(
+    alloc: Global,
+    at: u32,
+    element: &SplType,
+    index: Typed,
+    takings: &mut Takings,
+) -> Result<Boxed<SplType>, TypeAnswer>
+    ensures { Takes (after (level_index at index.code (out-SplType index.kind)) (λ code. Ok (K.Element code, element.now))) takings.old takings.new result }
+{
+    let code = index_typed(at, index)?;
+    let given = boxed_copy(alloc, element)?;
+    push_element(takings, code)?;
     Ok(given)
 }
 
+/// Takes the value of a map at a key.
+fn take_value(
+    alloc: Global,
+    value: &SplType,
+    key: Typed,
+    takings: &mut Takings,
+) -> Result<Boxed<SplType>, TypeAnswer>
+    ensures { Takes (Ok (K.AtKey key.code, value.now)) takings.old takings.new result }
+{
+    let Typed { kind: _, code } = key;
+    let given = boxed_copy(alloc, value)?;
+    push_key(takings, code)?;
+    Ok(given)
+}
+
+/// What is taken in turn of a code, with the type that this comes to.
 pub(crate) fn select(
     alloc: Global,
+    kind: Boxed<SplType>,
     base: Boxed<Code<Slot>>,
     takings: Takings,
-) -> Result<Boxed<Code<Slot>>, TypeAnswer>
-    ensures { Finds (Ok (selected base takings)) result }
+) -> Result<Typed, TypeAnswer>
+    ensures { Finds (Ok (typed kind (selected base takings))) result }
 {
     if takings.is_empty() {
-        return Ok(base);
+        return Ok(Typed { kind, code: base });
     }
-    Ok(Boxed::new(alloc, Code::Select(base, takings))?)
+    let code = Boxed::new(alloc, Code::Select(base, takings))?;
+    Ok(Typed { kind, code })
 }
 
 /// The attribute of the member's name, of the port at a place.
@@ -158,12 +155,7 @@ pub(crate) fn of_port(
 {
     let name = member.what.as_slice();
     match attribute(port.schema.as_slice(), name) {
-        Some((attribute, found)) => {
-            let port = narrow(place)?;
-            let attribute = narrow(attribute)?;
-            let kind = boxed_copy(alloc, &found.kind)?;
-            slot_typed(alloc, kind, Slot::Attribute { port, attribute })
-        }
+        Some((attribute, found)) => attribute_typed(alloc, place, attribute, found),
         None => Err(unknown(alloc, member.at, name)),
     }
 }
@@ -178,49 +170,6 @@ pub(crate) fn call_typed(
 {
     let code = Boxed::new(alloc, Code::BuiltIn(call, codes))?;
     Ok(Typed { kind, code })
-}
-
-/// Adds a code to others.
-pub(crate) fn push_code(codes: &mut Codes, code: Boxed<Code<Slot>>) -> Result<(), AllocError>
-    ensures { OnOk result (codes.new ≡ codes.old ++ code ∷ []) }
-{
-    codes.push(code.into_inner())
-}
-
-/// Adds the codes of a key and a value.
-pub(crate) fn push_entry(
-    codes: &mut EntryCodes,
-    key: Boxed<Code<Slot>>,
-    value: Boxed<Code<Slot>>,
-) -> Result<(), AllocError>
-    ensures { OnOk result (codes.new ≡ codes.old ++ (key, value) ∷ []) }
-{
-    codes.push((key.into_inner(), value.into_inner()))
-}
-
-/// Adds the code of a field, with the place of its attribute.
-pub(crate) fn push_field(
-    codes: &mut FieldCodes,
-    place: u32,
-    code: Boxed<Code<Slot>>,
-) -> Result<(), AllocError>
-    ensures { OnOk result (codes.new ≡ codes.old ++ (place, code) ∷ []) }
-{
-    codes.push((place, code.into_inner()))
-}
-
-/// Adds an attribute.
-pub(crate) fn push_attribute(
-    schema: &mut Schema,
-    name: Name,
-    kind: Boxed<SplType>,
-) -> Result<(), AllocError>
-    ensures { OnOk result (schema.new ≡ schema.old ++ record { name = name; kind = kind } ∷ []) }
-{
-    schema.push(Named {
-        name,
-        kind: kind.into_inner(),
-    })
 }
 
 /// The code alone.

@@ -3,14 +3,17 @@ ghost use Rattle.std.specs.Prelude.{◌≡◌, ◌≤◌, length, Ok};
 ghost use Rattle.std.specs.Option.{option_copied};
 ghost use Rattle.language_model.specs.Scopes.{variable_of, attribute_of, port_of, function_of, unresolved_of, dollar_of, meant};
 ghost use Rattle.spl_tree.specs.declared.code.Code.TheVariants as C;
+ghost use Rattle.spl_tree.specs.declared.code.Slot.TheVariants as L;
+ghost use Rattle.spl_value.specs.declared.types.SplType.TheVariants as S;
 ghost use Rattle.language_model.specs.Typing.{meant_typed, dollar_typed, not_callable, typed};
 ghost use Rattle.language_model.specs.Finds.{Points, Finds};
 ghost use Rattle.type_rules.specs.Names.{Holds, Means};
 
 use crate::answer::{TypeAnswer, narrow, unknown};
 use crate::boxing::boxed_copy;
-use crate::copying::{copy_refusal, copy_typed};
-use language_model::{CheckRefusal, Port, Scope, Signature, Typed, Variable};
+use language_model::{
+    CheckRefusal, Port, Scope, Signature, Typed, Variable, copy_refusal, copy_typed,
+};
 use spl_tree::{Code, Slot};
 use spl_value::{Attribute, Boxed, SplType, copy_schema};
 use std::alloc::Global;
@@ -149,6 +152,43 @@ pub(crate) fn slot_typed(
     Ok(Typed { kind, code })
 }
 
+/// A variable at a place.
+fn variable_typed(alloc: Global, place: usize, found: &Variable) -> Result<Typed, TypeAnswer>
+    ensures { Finds (Ok (typed found.now.kind (C.Name (L.Variable place)))) result }
+{
+    let place = narrow(place)?;
+    slot_typed(
+        alloc,
+        boxed_copy(alloc, &found.kind)?,
+        Slot::Variable(place),
+    )
+}
+
+/// An attribute at a place, of the port at another.
+pub(crate) fn attribute_typed(
+    alloc: Global,
+    port: usize,
+    place: usize,
+    found: &Attribute,
+) -> Result<Typed, TypeAnswer>
+    ensures { Finds (Ok (typed found.now.kind (C.Name (L.Attribute port place)))) result }
+{
+    let port = narrow(port)?;
+    let attribute = narrow(place)?;
+    let kind = boxed_copy(alloc, &found.kind)?;
+    slot_typed(alloc, kind, Slot::Attribute { port, attribute })
+}
+
+/// The tuple of the port at a place.
+fn port_typed(alloc: Global, place: usize, found: &Port) -> Result<Typed, TypeAnswer>
+    ensures { Finds (Ok (typed (S.Tuple found.now.schema) (C.Name (L.Port place)))) result }
+{
+    let place = narrow(place)?;
+    let schema = copy_schema(alloc, found.schema.as_slice())?;
+    let kind = Boxed::new(alloc, SplType::Tuple(schema))?;
+    slot_typed(alloc, kind, Slot::Port(place))
+}
+
 /// The type and the code of a name at its place in the program.
 pub(crate) fn name_typed(
     alloc: Global,
@@ -159,23 +199,9 @@ pub(crate) fn name_typed(
     ensures { Finds (meant_typed at name.now (meant scope.now name.now)) result }
 {
     match meaning_of(scope, name) {
-        Meaning::Variable(place, variable) => {
-            let place = narrow(place)?;
-            let kind = boxed_copy(alloc, &variable.kind)?;
-            slot_typed(alloc, kind, Slot::Variable(place))
-        }
-        Meaning::Attribute(port, place, found) => {
-            let port = narrow(port)?;
-            let attribute = narrow(place)?;
-            let kind = boxed_copy(alloc, &found.kind)?;
-            slot_typed(alloc, kind, Slot::Attribute { port, attribute })
-        }
-        Meaning::Port(place, port) => {
-            let place = narrow(place)?;
-            let schema = copy_schema(alloc, port.schema.as_slice())?;
-            let kind = Boxed::new(alloc, SplType::Tuple(schema))?;
-            slot_typed(alloc, kind, Slot::Port(place))
-        }
+        Meaning::Variable(place, found) => variable_typed(alloc, place, found),
+        Meaning::Attribute(port, place, found) => attribute_typed(alloc, port, place, found),
+        Meaning::Port(place, found) => port_typed(alloc, place, found),
         Meaning::Nothing => Err(unknown(alloc, at, name)),
     }
 }

@@ -236,14 +236,13 @@ pub(crate) fn in_typed(
 ) -> Result<Typed, TypeAnswer>
     ensures { Finds (level_in left right.code at (out-SplType right.kind)) result }
 {
-    let Some((code, held)) = held_of(right.kind.get()) else {
-        return Err(mismatch(at));
-    };
-    if !is_same(left.kind.get(), held) {
-        return Err(mismatch(at));
+    match held_of(right.kind.get()) {
+        Some((code, held)) if is_same(left.kind.get(), held) => {
+            let kind = Boxed::new(alloc, SplType::Bool)?;
+            binary(alloc, kind, code, left, right)
+        }
+        _ => Err(mismatch(at)),
     }
-    let kind = Boxed::new(alloc, SplType::Bool)?;
-    binary(alloc, kind, code, left, right)
 }
 
 /// An operator of two operands, with the type that it gives.

@@ -7,10 +7,10 @@ ghost use Rattle.language_model.specs.Finds.{Finds};
 ghost use Rattle.type_rules.specs.Places.{with_kind};
 
 use crate::answer::{TypeAnswer, not_mutable};
+use crate::boxing::release;
 use crate::calls::may_change;
-use crate::making::Takings;
 use crate::rules::type_of;
-use language_model::{Scope, Typed};
+use language_model::{Scope, Takings, Typed};
 use spl_tree::{Code, Expr, Place, Slot};
 use spl_value::{Boxed, Items, SplType};
 use std::alloc::Global;
@@ -19,8 +19,11 @@ use std::alloc::Global;
 fn variable_read(code: Boxed<Code<Slot>>, takings: Takings) -> Option<Place>
     ensures { result ≡ level_variable takings (out-Code Slot code) }
 {
-    match code.into_inner() {
-        Code::Name(Slot::Variable(variable)) => Some(Place { variable, takings }),
+    match code.get() {
+        Code::Name(Slot::Variable(variable)) => Some(Place {
+            variable: *variable,
+            takings,
+        }),
         _ => None,
     }
 }
@@ -35,7 +38,10 @@ fn place_read(alloc: Global, code: Boxed<Code<Slot>>) -> Option<Place>
             takings: Items::new(alloc),
         }),
         Code::Select(base, takings) => variable_read(base, takings),
-        _ => None,
+        other => {
+            release(other);
+            None
+        }
     }
 }
 

@@ -4,26 +4,30 @@ ghost use Rattle.std.specs.Prelude.{None, Ok, ◌&&◌};
 ghost use Rattle.std.specs.Option.{option_copied};
 ghost use Rattle.spl_value.specs.declared.types.SplType.TheVariants as S;
 ghost use Rattle.spl_tree.specs.declared.code.Code.TheVariants as C;
-ghost use Rattle.language_model.specs.Typing.{typing, typed, part, list_typed, wants_list, map_typed, wants_map, fields_typed, own_fields, select_typed, of_base, binary_or_marker, marker_asked, arguments_typed, call_typed, call_of, after};
+ghost use Rattle.language_model.specs.Typing.{typing, typed, part, list_typed, wants_list, map_typed, wants_map, tuple_typed, wants_tuple, select_typed, of_base, binary_or_marker, marker_asked, arguments_typed, built_in_typed, call_typed, call_of};
 ghost use Rattle.language_model.specs.TypingLaws.{parted, parts, entry_parts, field_parts, step_parts};
 ghost use Rattle.language_model.specs.Finds.{Finds, with_front};
 
-use crate::answer::{TypeAnswer, mismatch, narrow};
-use crate::boxing::{boxed, kind_in, kinds_in};
+use crate::answer::TypeAnswer;
+use crate::boxing::{kind_in, kinds_in, truth};
 use crate::calls::{
-    argument_row, asked_of, call_named, called, first_wanted, function_given, given, one_code,
+    argument_row, behind_first, call_named, called, first_wanted, function_given, given,
 };
 use crate::forms::{asks, marker, marker_test, port_member};
-use crate::kinds::{as_wanted, element_wanted, index_wanted, pair_wanted, schema_wanted};
-use crate::making::{
-    Codes, chosen, list_of, literal, map_of, number_typed, of_port, push_attribute, push_code,
-    push_entry, push_field, select, take_index, take_member, text, tuple_of,
+use crate::kinds::{
+    as_wanted, element_wanted, field_wanted, index_wanted, pair_wanted, schema_wanted,
 };
-use crate::names::{attribute, dollar_typed, name_typed};
+use crate::literals::{
+    add_code, add_field, list_given, map_given, tuple_given, with_element, with_entry,
+};
+use crate::making::{
+    chosen, literal, number_typed, of_port, select, take_index, take_member, text,
+};
+use crate::names::{dollar_typed, name_typed};
 use crate::operators::{branch_wanted, operation_of, prefixed, right_wanted};
-use language_model::{Scope, Typed};
-use spl_tree::{BinaryOperator, Expr, ExprKind, Field, Step};
-use spl_value::{Items, Schema, SplType, Value, copy_schema};
+use language_model::{Codes, Scope, Typed};
+use spl_tree::{BinaryOperator, CallName, Expr, ExprKind, Field, Step};
+use spl_value::{Items, SplType, Value};
 use std::alloc::Global;
 
 /// The type and the code of an expression in a scope, under the type that its place wants, if it
@@ -45,7 +49,7 @@ pub fn type_of(
 }
 
 #[cycle(types)]
-#[tactic(auto, using(language_model::specs::TypingLaws::typing_laws, crate::proofs::LiteralLaws::tuple_law))]
+#[tactic(auto, using(language_model::specs::TypingLaws::typing_laws))]
 fn type_at(
     alloc: Global,
     scope: &Scope,
@@ -61,12 +65,7 @@ fn type_at(
             return list(alloc, scope, at, elements.as_slice(), wanted);
         }
         ExprKind::Map(entries) => return map(alloc, scope, at, entries.as_slice(), wanted),
-        ExprKind::Tuple(fields) => {
-            return match schema_wanted(at, wanted, fields.as_slice())? {
-                Some(schema) => tuple(alloc, scope, schema, fields.as_slice()),
-                None => own_tuple(alloc, scope, fields.as_slice()),
-            };
-        }
+        ExprKind::Tuple(fields) => return tuple(alloc, scope, at, fields.as_slice(), wanted),
         ExprKind::Conditional(condition, first, second) => {
             let test = type_at(alloc, scope, condition, Some(&SplType::Bool))?;
             let one = type_at(alloc, scope, first, wanted)?;
@@ -109,13 +108,9 @@ fn list(
     let mut codes = Items::new(alloc);
     for element in all {
         let typed = type_at(alloc, scope, element, kind_in(&kind))?;
-        push_code(&mut codes, typed.code)?;
-        kind = Some(kind.unwrap_or(typed.kind));
+        kind = with_element(kind, &mut codes, typed)?;
     }
-    match kind {
-        Some(kind) => list_of(alloc, kind, codes),
-        None => Err(mismatch(at)),
-    }
+    list_given(alloc, at, kind, codes)
 }
 
 /// A map. Its keys and values have to be of the wanted types, or else of those of the first entry.
@@ -135,52 +130,40 @@ fn map(
         let (key, value) = kinds_in(&kinds);
         let first = type_at(alloc, scope, &entry.0, key)?;
         let second = type_at(alloc, scope, &entry.1, value)?;
-        push_entry(&mut codes, first.code, second.code)?;
-        kinds = Some(kinds.unwrap_or((first.kind, second.kind)));
+        kinds = with_entry(kinds, &mut codes, first, second)?;
     }
-    match kinds {
-        Some((key, value)) => map_of(alloc, key, value, codes),
-        None => Err(mismatch(at)),
-    }
+    map_given(alloc, at, kinds, codes)
 }
 
-/// A tuple of these attributes, each of which is the field of its name.
+/// A tuple. Where attributes are wanted of it each of them is the field of its name, or else its
+/// attributes are its fields.
 #[cycle(types)]
 fn tuple(
     alloc: Global,
     scope: &Scope,
-    schema: &Schema,
+    at: u32,
     fields: &[Field<Expr>],
+    wanted: Option<&SplType>,
 ) -> Result<Typed, TypeAnswer>
-    ensures { Finds (after (fields_typed scope.now schema.now (field_parts fields.now)) (λ xs. Ok (typed (S.Tuple schema.now) (C.Tuple xs)))) result }
+    ensures { Finds (tuple_typed at scope.now (wants_tuple (option_copied wanted.entry)) (field_parts fields.now)) result }
 {
-    let mut codes = Items::new(alloc);
-    for field in fields {
-        let Some((place, found)) = attribute(schema.as_slice(), field.name.what.as_slice()) else {
-            return Err(mismatch(field.value.at));
-        };
-        let typed = type_at(alloc, scope, &field.value, Some(&found.kind))?;
-        let place = narrow(place)?;
-        push_field(&mut codes, place, typed.code)?;
-    }
-    tuple_of(alloc, copy_schema(alloc, schema.as_slice())?, codes)
-}
-
-/// A tuple whose attributes are its fields.
-#[cycle(types)]
-fn own_tuple(alloc: Global, scope: &Scope, fields: &[Field<Expr>]) -> Result<Typed, TypeAnswer>
-    ensures { Finds (after (own_fields scope.now 0 (field_parts fields.now)) (λ xs. Ok (typed (S.Tuple xs.0) (C.Tuple xs.1)))) result }
-{
-    let mut schema = Items::new(alloc);
+    let schema = schema_wanted(at, wanted, fields)?;
+    let mut own = Items::new(alloc);
     let mut codes = Items::new(alloc);
     for (place, field) in fields.iter().enumerate() {
-        let typed = type_at(alloc, scope, &field.value, None)?;
-        let name = Items::from_slice(alloc, field.name.what.as_slice())?;
-        let place = narrow(place)?;
-        push_attribute(&mut schema, name, typed.kind)?;
-        push_field(&mut codes, place, typed.code)?;
+        let (number, kind) = field_wanted(schema, place, field)?;
+        let typed = type_at(alloc, scope, &field.value, kind)?;
+        add_field(
+            alloc,
+            schema,
+            &mut own,
+            &mut codes,
+            &field.name.what,
+            number,
+            typed,
+        )?;
     }
-    tuple_of(alloc, schema, codes)
+    tuple_given(alloc, schema, own, codes)
 }
 
 /// A value whose expression begins at `base`, and what is taken of it in turn.
@@ -199,16 +182,15 @@ fn taken(
     for next in steps {
         match next {
             Step::Member(member) => {
-                kind = take_member(alloc, base, kind.get(), member, &mut takings)?;
+                kind = take_member(alloc, base, kind, member, &mut takings)?;
             }
             Step::Index(index) => {
                 let typed = type_at(alloc, scope, index, index_wanted(base, kind.get())?)?;
-                kind = take_index(alloc, base, kind.get(), index.at, typed, &mut takings)?;
+                kind = take_index(alloc, base, kind, index.at, typed, &mut takings)?;
             }
         }
     }
-    let code = select(alloc, code, takings)?;
-    Ok(Typed { kind, code })
+    select(alloc, kind, code, takings)
 }
 
 /// What is taken of an expression in turn. `Port.attribute` is the attribute.
@@ -242,8 +224,8 @@ fn operation(
     ensures { Finds (binary_or_marker (marker_asked (scope.now.punct && (part left.now.what).form.asks) operator (part right.now.what).form.marker) scope.now operator (parted left.now) (parted right.now)) result }
 {
     let asks = scope.punct && asks(left);
-    if let Some(code) = marker_test(asks, operator, marker(right)) {
-        return boxed(alloc, SplType::Bool, code);
+    if let Some(code) = marker_test(alloc, asks, operator, marker(right))? {
+        return truth(alloc, code);
     }
     let first = type_at(alloc, scope, left, None)?;
     let wanted = right_wanted(operator, left.at, first.kind.get())?;
@@ -266,16 +248,15 @@ pub(crate) fn arguments(
     let mut at = 0;
     'arguments: while at < kinds.len() && at < arguments.len() {
         let typed = type_at(alloc, scope, &arguments[at], Some(&kinds[at]))?;
-        push_code(&mut codes, typed.code)?;
+        add_code(&mut codes, typed)?;
         at += 1;
     }
     Ok(codes)
 }
 
-/// A call of a function, or of one that the language has built in. The first argument of that says
-/// what the others have to be.
+/// A call of a function, or of one that the language has built in.
 #[cycle(types)]
-#[tactic(auto, using(crate::proofs::CallLaws::built_in_law, crate::proofs::CallLaws::function_law))]
+#[tactic(auto, using(crate::proofs::CallLaws::function_law))]
 pub(crate) fn call(
     alloc: Global,
     scope: &Scope,
@@ -285,27 +266,36 @@ pub(crate) fn call(
 ) -> Result<Typed, TypeAnswer>
     ensures { Finds (call_typed at scope.now name.now (parts all.now) (call_of name.now)) result }
 {
-    let Some(call) = call_named(name) else {
-        let (place, found) = called(alloc, scope, at, name, all)?;
-        let codes = arguments(
-            alloc,
-            scope,
-            found.parameters.as_slice(),
-            all,
-            Items::new(alloc),
-        )?;
-        return function_given(alloc, at, place, found.result.as_ref(), codes);
-    };
-    let (first, rest) = argument_row(at, call, all)?;
-    let wanted = first_wanted(alloc, call)?;
-    let Typed { kind, code } = type_at(alloc, scope, first, kind_in(&wanted))?;
-    let (gives, others) = asked_of(alloc, scope, at, call, first, kind)?;
+    if let Some(call) = call_named(name) {
+        return built_in(alloc, scope, at, call, all);
+    }
+    let (place, found) = called(alloc, scope, at, name, all)?;
     let codes = arguments(
         alloc,
         scope,
-        others.as_slice(),
-        rest,
-        one_code(alloc, code)?,
+        found.parameters.as_slice(),
+        all,
+        Items::new(alloc),
     )?;
+    function_given(alloc, at, place, found.result.as_ref(), codes)
+}
+
+/// A call of one that the language has built in. Its first argument says what the others have to be.
+#[cycle(types)]
+#[tactic(auto, using(crate::proofs::CallLaws::built_in_law))]
+fn built_in(
+    alloc: Global,
+    scope: &Scope,
+    at: u32,
+    call: CallName,
+    all: &[Expr],
+) -> Result<Typed, TypeAnswer>
+    ensures { Finds (built_in_typed at scope.now call (parts all.now)) result }
+{
+    let (first, rest) = argument_row(at, call, all)?;
+    let wanted = first_wanted(alloc, call)?;
+    let typed = type_at(alloc, scope, first, kind_in(&wanted))?;
+    let (gives, others, front) = behind_first(alloc, scope, at, call, first, typed)?;
+    let codes = arguments(alloc, scope, others.as_slice(), rest, front)?;
     given(alloc, at, gives, codes)
 }

@@ -11,11 +11,11 @@ ghost use Rattle.type_rules.specs.Places.{only};
 use crate::answer::{TypeAnswer, mismatch, narrow, wrong_call};
 use crate::calls::{argument_count, call_named, called, change_asked};
 use crate::kinds::as_wanted;
-use crate::making::{Codes, code_of};
+use crate::making::code_of;
 use crate::operators::{binary, operator_on};
 use crate::places::{place_given, place_of};
 use crate::rules::{arguments, call, type_of};
-use language_model::{Scope, Typed};
+use language_model::{Codes, Scope, Typed};
 use spl_tree::{BinaryOperator, CallName, Change, Code, Expr, ExprKind, Place, Slot, Statement};
 use spl_value::{Boxed, Items, SplType};
 use std::alloc::Global;
@@ -196,8 +196,7 @@ fn only(codes: Codes) -> Option<Code<Slot>>
     ensures { result ≡ only codes }
 {
     let mut codes = codes;
-    let last = codes.pop()?;
-    if codes.is_empty() { Some(last) } else { None }
+    if codes.len() == 1 { codes.pop() } else { None }
 }
 
 /// The change that a call makes, by the codes of its arguments behind the place.

@@ -1,9 +1,10 @@
-use Rattle.std.proofs.Common.{◌≡◌, Some, ap, arith, sym, ◌+◌, ◌∙◌, drop}
-use Rattle.language_model.specs.Typing.{typing}
-use Rattle.language_model.specs.TypingLaws.{entry_parts, parts}
-use Rattle.language_model.specs.Scopes.{attribute_of}
+use Rattle.std.proofs.Common.{◌≡◌, Err, ap, arith, refl, sym, ◌+◌, ◌∙◌, drop}
+use Rattle.std.specs.Option.{option_copied}
+use Rattle.language_model.specs.Typing.{typing, wants_tuple}
+use Rattle.language_model.specs.TypingLaws.{entry_parts, field_parts, parts}
 use Rattle.type_rules.proofs.Loops.{arguments_past, index_by, kinds_past, member_by, taken_by}
-use Rattle.type_rules.proofs.LiteralLaws.{field_next, list_next, list_on, map_next, map_on, own_next}
+use Rattle.type_rules.proofs.LiteralLaws.{field_next, field_stops, list_done, list_next, list_on, list_past, map_done, map_next, map_on, map_past, tuple_first, tuple_past, value_stops}
+use Rattle.type_rules.proofs.Steps.{fails, finds_by}
 use Rattle.type_rules.proofs.Weights.{weight, expr_weight, weights, entry_weight, entry_weights, field_weight, field_weights, step_weight, step_weights, item_below, list_weight, map_weight, tuple_weight, call_weight, select_weight}
 use Rattle.type_rules.proofs.rules.+types.Goals.{arguments-then-arguments-test+else-at-arguments, arguments-else-arguments-test, taken-in-Member+in_ok-kind-in-Member, taken-in-Index+in_ok-index_wanted-in-Index+in_ok-typed-in-Index+in_ok-kind-in-Index}
 use Rattle.type_rules.proofs.rules.+types.Goals as goal
@@ -11,33 +12,63 @@ use Rattle.type_rules.proofs.rules.+types.Goals as goal
 pub list-loop-element-preserved : goal.list-loop-element-preserved
 list-loop-element-preserved t c =
     c.loop-element.invariant
-    ∙ list_next c.args.at c.args.scope.now c.loop-element.kind c.args.all.now c.loop-element.element-index c.loop-element.codes c.element-item.result c.in_ok-typed.typed c.push_code.new.codes
-    c.loop-element-test.true c.element-item.is (ap (typing c.args.scope.now c.element-item.result) (sym c.kind_in.ensures) ∙ c.in_ok-typed.ensures) c.in_ok-push_code.ensures
-    ∙ ap (λ k. list_on c.args.at c.args.scope.now (Some k) c.push_code.new.codes (parts (drop (c.loop-element.element-index + 1) c.args.all.now))) (sym c.unwrap_or.ensures)
+    ∙ list_next c.args.at c.args.scope.now c.loop-element.kind c.args.all.now c.loop-element.element-index c.loop-element.codes c.element-item.result c.in_ok-typed.typed c.with_element.new.codes
+    c.loop-element-test.true c.element-item.is (ap (typing c.args.scope.now c.element-item.result) (sym c.kind_in.ensures) ∙ c.in_ok-typed.ensures) c.in_ok-kind-2.ensures.code
+    ∙ ap (λ k. list_on c.args.at c.args.scope.now k c.with_element.new.codes (parts (drop (c.loop-element.element-index + 1) c.args.all.now))) (sym c.in_ok-kind-2.ensures.kind)
+
+pub list-returns : goal.list-returns
+list-returns t c =
+    finds_by _ _ _
+    (c.loop-element.invariant
+    ∙ list_past c.args.at c.args.scope.now c.loop-element.kind c.args.all.now c.loop-element.element-index c.loop-element.codes c.loop-element-test.false
+    ∙ list_done c.args.at c.args.scope.now c.loop-element.kind c.loop-element.codes)
+    c.list_given.ensures
 
 pub map-loop-entry-preserved : goal.map-loop-entry-preserved
 map-loop-entry-preserved t c =
     c.loop-entry.invariant
-    ∙ map_next c.args.at c.args.scope.now c.loop-entry.kinds c.args.all.now c.loop-entry.entry-index c.loop-entry.codes c.entry-item.result c.in_ok-first.first c.in_ok-second.second c.push_entry.new.codes
+    ∙ map_next c.args.at c.args.scope.now c.loop-entry.kinds c.args.all.now c.loop-entry.entry-index c.loop-entry.codes c.entry-item.result c.in_ok-first.first c.in_ok-second.second c.with_entry.new.codes
     c.loop-entry-test.true c.entry-item.is
     (ap (typing c.args.scope.now c.entry-item.result.0) (sym c.kinds_in.ensures.first) ∙ c.in_ok-first.ensures)
     (ap (typing c.args.scope.now c.entry-item.result.1) (sym c.kinds_in.ensures.second) ∙ c.in_ok-second.ensures)
-    c.in_ok-push_entry.ensures
-    ∙ ap (λ p. map_on c.args.at c.args.scope.now (Some p) c.push_entry.new.codes (entry_parts (drop (c.loop-entry.entry-index + 1) c.args.all.now))) (sym c.unwrap_or.ensures)
+    c.in_ok-kinds-2.ensures.code
+    ∙ ap (λ p. map_on c.args.at c.args.scope.now p c.with_entry.new.codes (entry_parts (drop (c.loop-entry.entry-index + 1) c.args.all.now))) (sym c.in_ok-kinds-2.ensures.kinds)
 
-pub tuple-loop-field-preserved : goal.tuple-loop-field-preserved
-tuple-loop-field-preserved t c =
-    c.loop-field.invariant
-    ∙ field_next c.args.scope.now c.args.schema.now c.args.fields.now c.loop-field.field-index c.loop-field.codes c.push_field.new.codes c.field-item.result c.in-Some.place c.in_ok-place.place c.in-Some.found.now c.in_ok-typed.typed
-    c.loop-field-test.true c.field-item.is
-    ((λ i. attribute_of (sym c.as_slice.ensures i) (sym c.as_slice-in-loop-field.ensures i)) ∙ c.in-Some.ensures)
-    c.in_ok-typed.ensures c.in_ok-place.ensures c.in_ok-push_field.ensures
+pub map-returns : goal.map-returns
+map-returns t c =
+    finds_by _ _ _
+    (c.loop-entry.invariant
+    ∙ map_past c.args.at c.args.scope.now c.loop-entry.kinds c.args.all.now c.loop-entry.entry-index c.loop-entry.codes c.loop-entry-test.false
+    ∙ map_done c.args.at c.args.scope.now c.loop-entry.kinds c.loop-entry.codes)
+    c.map_given.ensures
 
-pub own_tuple-loop-place-preserved : goal.own_tuple-loop-place-preserved
-own_tuple-loop-place-preserved t c =
+pub tuple-loop-place-init : goal.tuple-loop-place-init
+tuple-loop-place-init t c =
+    tuple_first c.args.at c.args.scope.now (wants_tuple (option_copied c.args.wanted)) (field_parts c.args.fields.now) (option_copied c.in_ok-schema.schema) c.new-own.result c.new-codes.result c.in_ok-schema.ensures c.new-own.ensures c.new-codes.ensures
+
+pub tuple-returns-in_err-number : goal.tuple-returns-in_err-number
+tuple-returns-in_err-number t c =
+    fails _ _ c.in_err-number.field-0.0 c.from_residual-in_err-number.ensures.1
+    (finds_by _ _ (Err c.in_err-number.field-0.0) c.loop-place.invariant
+    (field_stops c.args.scope.now (option_copied c.in_ok-schema.schema) c.args.fields.now c.loop-place.place c.loop-place.own c.loop-place.codes c.index-fields-place.result c.loop-place-test.true c.index-fields-place.is _ c.in_err-number.ensures))
+
+pub tuple-returns-in_err-typed : goal.tuple-returns-in_err-typed
+tuple-returns-in_err-typed t c =
+    fails _ _ c.in_err-typed.field-0.0 c.from_residual-in_err-typed.ensures.1
+    (finds_by _ _ (Err c.in_err-typed.field-0.0) c.loop-place.invariant
+    (value_stops c.args.scope.now (option_copied c.in_ok-schema.schema) c.args.fields.now c.loop-place.place c.loop-place.own c.loop-place.codes c.index-fields-place.result c.loop-place-test.true c.index-fields-place.is _ _ c.in_ok-number.ensures _ c.in_err-typed.ensures))
+
+pub tuple-loop-place-preserved : goal.tuple-loop-place-preserved
+tuple-loop-place-preserved t c =
     c.loop-place.invariant
-    ∙ own_next c.args.scope.now c.args.fields.now c.loop-place.place c.loop-place.schema c.push_attribute.new.schema c.loop-place.codes c.push_field.new.codes c.index-fields-place.result c.in_ok-place.place c.in_ok-typed.typed c.in_ok-name.name
-    c.loop-place-test.true c.index-fields-place.is c.in_ok-typed.ensures c.in_ok-place.ensures (c.in_ok-name.ensures ∙ c.as_slice.ensures) c.in_ok-push_attribute.ensures c.in_ok-push_field.ensures
+    ∙ field_next c.args.scope.now (option_copied c.in_ok-schema.schema) c.args.fields.now c.loop-place.place c.loop-place.own c.loop-place.codes c.index-fields-place.result c.loop-place-test.true c.index-fields-place.is _ _ c.in_ok-number.ensures
+    c.in_ok-typed.typed c.add_field.new.own c.add_field.new.codes c.in_ok-typed.ensures c.in_ok-add_field.ensures.own c.in_ok-add_field.ensures.code
+
+pub tuple-returns : goal.tuple-returns
+tuple-returns t c =
+    finds_by _ _ _
+    (c.loop-place.invariant ∙ tuple_past c.args.scope.now (option_copied c.in_ok-schema.schema) c.args.fields.now c.loop-place.place c.loop-place.own c.loop-place.codes c.loop-place-test.false)
+    c.tuple_given.ensures
 
 pub taken-loop-next-preserved : goal.taken-loop-next-preserved
 taken-loop-next-preserved t c =
@@ -45,10 +76,10 @@ taken-loop-next-preserved t c =
     ∙ taken_by c.args.scope.now c.args.base _ c.loop-next.kind c.args.steps.now c.loop-next.next-index c.loop-next.takings c.next-item.result c.loop-next-test.true c.next-item.is c.match-next.kind c.match-next.takings
     (elim c.match-next.branch [
       | taken-in-Member+in_ok-kind-in-Member w ↦ member_by c.args.base c.args.scope.now _ c.loop-next.kind c.next-item.result _ c.loop-next.takings w.take_member.new.takings c.match-next.takings _ c.match-next.kind
-          w.in-Member.is w.get.ensures w.in_ok-kind-in-Member.ensures
+          w.in-Member.is refl w.in_ok-kind-in-Member.ensures
           (let q : c.match-next.takings ≡ w.take_member.new.takings = cc in q) (let q : c.match-next.kind ≡ w.in_ok-kind-in-Member.kind = cc in q)
       | taken-in-Index+in_ok-index_wanted-in-Index+in_ok-typed-in-Index+in_ok-kind-in-Index w ↦ index_by c.args.base c.args.scope.now _ _ c.loop-next.kind c.next-item.result _ _ _ c.loop-next.takings w.take_index.new.takings c.match-next.takings _ c.match-next.kind
-          w.in-Index.is w.get-in-Index.ensures w.get-in-Index-2.ensures w.in_ok-index_wanted-in-Index.ensures w.in_ok-typed-in-Index.ensures w.in_ok-kind-in-Index.ensures
+          w.in-Index.is w.get.ensures refl w.in_ok-index_wanted-in-Index.ensures w.in_ok-typed-in-Index.ensures w.in_ok-kind-in-Index.ensures
           (let q : c.match-next.takings ≡ w.take_index.new.takings = cc in q) (let q : c.match-next.kind ≡ w.in_ok-kind-in-Index.kind = cc in q)
     ])
 
@@ -70,10 +101,6 @@ map-type_at-requires-in-loop-entry t c =
 
 pub tuple-type_at-requires : goal.tuple-type_at-requires
 tuple-type_at-requires t c =
-    (let q = item_below field_weight c.args.fields.now c.loop-field.field-index c.field-item.result c.loop-field-test.true c.field-item.is in omega arith, tt)
-
-pub own_tuple-type_at-requires : goal.own_tuple-type_at-requires
-own_tuple-type_at-requires t c =
     (let q = item_below field_weight c.args.fields.now c.loop-place.place c.index-fields-place.result c.loop-place-test.true c.index-fields-place.is in omega arith, tt)
 
 pub taken-type_at-requires : goal.taken-type_at-requires
@@ -97,11 +124,7 @@ type_at-map-requires t c =
 
 pub type_at-tuple-requires : goal.type_at-tuple-requires
 type_at-tuple-requires t c =
-    (let w = ap weight (sym c.get.ensures ∙ c.in-Tuple.is) ∙ tuple_weight c.in-Tuple.fields in let e = ap field_weights c.as_slice-in-Some.ensures in omega arith, tt)
-
-pub type_at-own_tuple-requires : goal.type_at-own_tuple-requires
-type_at-own_tuple-requires t c =
-    (let w = ap weight (sym c.get.ensures ∙ c.in-Tuple.is) ∙ tuple_weight c.in-Tuple.fields in let e = ap field_weights c.as_slice-in-None.ensures in omega arith, tt)
+    (let w = ap weight (sym c.get.ensures ∙ c.in-Tuple.is) ∙ tuple_weight c.in-Tuple.fields in let e = ap field_weights c.as_slice-in-Tuple.ensures in omega arith, tt)
 
 pub type_at-call-found-requires : goal.type_at-call-found-requires
 type_at-call-found-requires t c =
@@ -114,10 +137,10 @@ type_at-selection-found-requires t c = (
   tt,
 )
 
-pub call-type_at-requires : goal.call-type_at-requires
-call-type_at-requires t c =
+pub built_in-type_at-requires : goal.built_in-type_at-requires
+built_in-type_at-requires t c =
     (let q = ap weights c.in_ok-first.ensures.row in omega arith, tt)
 
-pub call-arguments-requires-2 : goal.call-arguments-requires-2
-call-arguments-requires-2 t c =
+pub built_in-arguments-requires : goal.built_in-arguments-requires
+built_in-arguments-requires t c =
     (let q = ap weights c.in_ok-first.ensures.row in omega arith, tt)

@@ -1,9 +1,9 @@
 use Rattle.std.proofs.Common.{◌≡◌, ◌+◌, ◌-◌, ◌++◌, Ok, drop, length}
 use Rattle.std.specs.Option.{option_copied}
-use Rattle.language_model.specs.Typing.{after, typed, list_typed, wants_list, map_typed, wants_map, fields_typed, own_fields, steps_typed, select_typed, selected, arguments_typed}
+use Rattle.language_model.specs.Typing.{after, typed, list_typed, wants_list, map_typed, wants_map, tuple_typed, wants_tuple, steps_typed, select_typed, selected, arguments_typed}
 use Rattle.language_model.specs.TypingLaws.{parts, entry_parts, field_parts, step_parts}
 use Rattle.language_model.specs.Finds.{with_front}
-use Rattle.type_rules.proofs.LiteralLaws.{list_on, map_on}
+use Rattle.type_rules.proofs.LiteralLaws.{list_on, map_on, tuple_on}
 use Rattle.type_rules.proofs.Weights.{expr_weight, weights, entry_weights, field_weights, step_weights}
 use Rattle.type_rules.proofs.rules.+types.Given as goal
 
@@ -17,15 +17,10 @@ invariant-map-loop-entry l =
     map_typed l.at l.scope (wants_map (option_copied l.wanted)) (entry_parts l.all)
     ≡ map_on l.at l.scope l.kinds l.codes (entry_parts (drop l.entry-index l.all))
 
-abbrev pub invariant-tuple-loop-field : goal.invariant-tuple-loop-field
-invariant-tuple-loop-field l =
-    fields_typed l.scope l.schema (field_parts l.fields)
-    ≡ with_front l.codes (fields_typed l.scope l.schema (field_parts (drop l.field-index l.fields)))
-
-abbrev pub invariant-own_tuple-loop-place : goal.invariant-own_tuple-loop-place
-invariant-own_tuple-loop-place l =
-    own_fields l.scope 0 (field_parts l.fields)
-    ≡ after (own_fields l.scope l.place (field_parts (drop l.place l.fields))) (λ xs. Ok (l.schema ++ xs.0, l.codes ++ xs.1))
+abbrev pub invariant-tuple-loop-place : goal.invariant-tuple-loop-place
+invariant-tuple-loop-place l =
+    tuple_typed l.at l.scope (wants_tuple (option_copied l.wanted)) (field_parts l.fields)
+    ≡ tuple_on l.scope l.place (option_copied l.schema) l.own l.codes (field_parts (drop l.place l.fields))
 
 abbrev pub invariant-taken-loop-next : goal.invariant-taken-loop-next
 invariant-taken-loop-next l =
@@ -52,9 +47,6 @@ decreases-map l = entry_weights l.all.now + 1
 abbrev pub decreases-tuple : goal.decreases-tuple
 decreases-tuple l = field_weights l.fields.now + 1
 
-abbrev pub decreases-own_tuple : goal.decreases-own_tuple
-decreases-own_tuple l = field_weights l.fields.now + 1
-
 abbrev pub decreases-taken : goal.decreases-taken
 decreases-taken l = step_weights l.steps.now + 1
 
@@ -68,4 +60,7 @@ abbrev pub decreases-arguments : goal.decreases-arguments
 decreases-arguments l = weights l.arguments.now + 1
 
 abbrev pub decreases-call : goal.decreases-call
-decreases-call l = weights l.all.now + 2
+decreases-call l = weights l.all.now + 3
+
+abbrev pub decreases-built_in : goal.decreases-built_in
+decreases-built_in l = weights l.all.now + 2

@@ -1,5 +1,5 @@
 use Rattle.std.proofs.Common.{◌≡◌, take}
-use Rattle.type_rules.proofs.copying.+copy.Given as goal
+use Rattle.language_model.proofs.copying.+copy.Given as goal
 
 abbrev pub invariant-copy_codes-loop-code : goal.invariant-copy_codes-loop-code
 invariant-copy_codes-loop-code l = l.copied ≡ take l.code-index l.codes

@@ -1,0 +1,155 @@
+//! Copies of typed codes and of refusals.
+ghost use Rattle.std.specs.Prelude.{◌≡◌, IfOk};
+
+use crate::code_lists::{
+    Codes, EntryCodes, FieldCodes, Takings, push_code, push_element, push_entry, push_field,
+    push_key,
+};
+use crate::scope::{CheckRefusal, Typed};
+use spl_tree::{Code, Slot, Taking};
+use spl_value::{Boxed, Items, NoMemory, copy_type, copy_value};
+use std::alloc::Global;
+
+/// A code in a box.
+fn in_box(alloc: Global, code: Code<Slot>) -> Result<Boxed<Code<Slot>>, NoMemory>
+    ensures { IfOk result (λ boxed. boxed ≡ code) }
+{
+    Ok(Boxed::new(alloc, code)?)
+}
+
+/// A copy of a code.
+#[cycle(copy)]
+fn copy_code(alloc: Global, code: &Code<Slot>) -> Result<Boxed<Code<Slot>>, NoMemory>
+    ensures { IfOk result (λ copy. copy ≡ code.now) }
+{
+    match code {
+        Code::Literal(value) => in_box(alloc, Code::Literal(copy_value(alloc, value)?)),
+        Code::Name(slot) => in_box(alloc, Code::Name(*slot)),
+        Code::List(elements) => {
+            let elements = copy_codes(alloc, elements.as_slice())?;
+            in_box(alloc, Code::List(elements))
+        }
+        Code::Map(entries) => {
+            let entries = copy_entries(alloc, entries.as_slice())?;
+            in_box(alloc, Code::Map(entries))
+        }
+        Code::Tuple(fields) => {
+            let fields = copy_fields(alloc, fields.as_slice())?;
+            in_box(alloc, Code::Tuple(fields))
+        }
+        Code::Select(base, takings) => {
+            let base = copy_code(alloc, base.get())?;
+            let takings = copy_takings(alloc, takings.as_slice())?;
+            in_box(alloc, Code::Select(base, takings))
+        }
+        Code::Unary(operators, operand) => {
+            let operand = copy_code(alloc, operand.get())?;
+            let operators = Items::from_slice(alloc, operators.as_slice())?;
+            in_box(alloc, Code::Unary(operators, operand))
+        }
+        Code::Binary(operator, left, right) => {
+            let left = copy_code(alloc, left.get())?;
+            let right = copy_code(alloc, right.get())?;
+            in_box(alloc, Code::Binary(*operator, left, right))
+        }
+        Code::Conditional(condition, first, second) => {
+            let condition = copy_code(alloc, condition.get())?;
+            let first = copy_code(alloc, first.get())?;
+            let second = copy_code(alloc, second.get())?;
+            in_box(alloc, Code::Conditional(condition, first, second))
+        }
+        Code::BuiltIn(call, arguments) => {
+            let arguments = copy_codes(alloc, arguments.as_slice())?;
+            in_box(alloc, Code::BuiltIn(*call, arguments))
+        }
+        Code::Call(place, arguments) => {
+            let arguments = copy_codes(alloc, arguments.as_slice())?;
+            in_box(alloc, Code::Call(*place, arguments))
+        }
+        Code::IsMarker(marker) => in_box(alloc, Code::IsMarker(*marker)),
+        Code::IsNotMarker(marker) => in_box(alloc, Code::IsNotMarker(*marker)),
+    }
+}
+
+#[cycle(copy)]
+fn copy_codes(alloc: Global, codes: &[Code<Slot>]) -> Result<Codes, NoMemory>
+    ensures { IfOk result (λ copy. copy ≡ codes.now) }
+{
+    let mut copied = Items::new(alloc);
+    for code in codes {
+        let copy = copy_code(alloc, code)?;
+        push_code(&mut copied, copy)?;
+    }
+    Ok(copied)
+}
+
+#[cycle(copy)]
+fn copy_entries(alloc: Global, entries: &[(Code<Slot>, Code<Slot>)]) -> Result<EntryCodes, NoMemory>
+    ensures { IfOk result (λ copy. copy ≡ entries.now) }
+{
+    let mut copied = Items::new(alloc);
+    for entry in entries {
+        let key = copy_code(alloc, &entry.0)?;
+        let value = copy_code(alloc, &entry.1)?;
+        push_entry(&mut copied, key, value)?;
+    }
+    Ok(copied)
+}
+
+#[cycle(copy)]
+fn copy_fields(alloc: Global, fields: &[(u32, Code<Slot>)]) -> Result<FieldCodes, NoMemory>
+    ensures { IfOk result (λ copy. copy ≡ fields.now) }
+{
+    let mut copied = Items::new(alloc);
+    for field in fields {
+        let value = copy_code(alloc, &field.1)?;
+        push_field(&mut copied, field.0, value)?;
+    }
+    Ok(copied)
+}
+
+#[cycle(copy)]
+fn copy_takings(alloc: Global, takings: &[Taking<Code<Slot>>]) -> Result<Takings, NoMemory>
+    ensures { IfOk result (λ copy. copy ≡ takings.now) }
+{
+    let mut copied = Items::new(alloc);
+    for taking in takings {
+        match taking {
+            Taking::Member(place) => copied.push(Taking::Member(*place))?,
+            Taking::Element(index) => {
+                let index = copy_code(alloc, index)?;
+                push_element(&mut copied, index)?;
+            }
+            Taking::AtKey(key) => {
+                let key = copy_code(alloc, key)?;
+                push_key(&mut copied, key)?;
+            }
+        }
+    }
+    Ok(copied)
+}
+
+/// A copy of a type and a code.
+pub fn copy_typed(alloc: Global, typed: &Typed) -> Result<Typed, NoMemory>
+    ensures { IfOk result (λ copy. copy ≡ typed.now) }
+{
+    let kind = copy_type(alloc, typed.kind.get())?;
+    let kind = Boxed::new(alloc, kind)?;
+    let code = copy_code(alloc, typed.code.get())?;
+    Ok(Typed { kind, code })
+}
+
+/// A copy of a refusal.
+pub fn copy_refusal(alloc: Global, refusal: &CheckRefusal) -> Result<CheckRefusal, NoMemory>
+    ensures { IfOk result (λ copy. copy ≡ refusal.now) }
+{
+    let name = match &refusal.name {
+        Some(name) => Some(Items::from_slice(alloc, name.as_slice())?),
+        None => None,
+    };
+    Ok(CheckRefusal {
+        error: refusal.error,
+        at: refusal.at,
+        name,
+    })
+}
