@@ -1,5 +1,5 @@
 //! The types that are meant by types as they are written.
-ghost use Rattle.std.specs.Prelude.{◌≡◌, ◌+◌, IfOk, OnOk};
+ghost use Rattle.std.specs.Prelude.{◌≡◌, ◌+◌, ◌++◌, ◌∷◌, [], IfOk, Ok, OnOk};
 ghost use Rattle.language_model.specs.TypeNames.{type_meant, shape_meant, attributes_type, types_of, written_attributes};
 ghost use Rattle.language_model.specs.Typing.{unknown};
 ghost use Rattle.language_model.specs.Finds.{Finds};
@@ -10,8 +10,8 @@ use crate::refusals::{left_out, unknown};
 use crate::table::TypeTable;
 use language_model::TypeAnswer;
 use spl_tree::{Attribute, Shape, ShapeKind, TypeDefinition, TypeExpr, TypeKind};
-use spl_value::{Boxed, Items, Named, NoMemory, Schema, SplType};
-use std::alloc::Global;
+use spl_value::{Boxed, Items, Name, Named, NoMemory, Schema, SplType};
+use std::alloc::{AllocError, Global};
 
 /// A type has no more parts: a few definitions that name each other twice stand for more than there is
 /// memory.
@@ -83,6 +83,22 @@ fn enter(levels: u32, parts: &mut u32) -> Result<u32, NoMemory>
     Ok(inside)
 }
 
+fn in_box(alloc: Global, kind: SplType) -> Result<Boxed<SplType>, TypeAnswer>
+    ensures { Finds (Ok kind) result }
+{
+    Ok(Boxed::new(alloc, kind)?)
+}
+
+/// Adds an attribute.
+fn push_attribute(schema: &mut Schema, name: Name, kind: Boxed<SplType>) -> Result<(), AllocError>
+    ensures ok { OnOk result (schema.new ≡ schema.old ++ record { name = name; kind = kind } ∷ []) }
+{
+    schema.push(Named {
+        name,
+        kind: kind.into_inner(),
+    })
+}
+
 /// The type that is written, as a part of one that may have so many levels and parts more.
 #[cycle(types)]
 #[tactic(auto, using(language_model::specs::TypeNameLaws::type_laws))]
@@ -92,28 +108,28 @@ fn type_at(
     written: &TypeExpr,
     levels: u32,
     parts: &mut u32,
-) -> Result<SplType, TypeAnswer>
+) -> Result<Boxed<SplType>, TypeAnswer>
     ensures { Finds (type_meant (types_in scope.now) written.now) result }
 {
     let levels = enter(levels, parts)?;
     match &written.what {
-        TypeKind::Boolean => Ok(SplType::Bool),
-        TypeKind::Rstring => Ok(SplType::Text),
-        TypeKind::Int(kind) => Ok(SplType::Int(*kind)),
+        TypeKind::Boolean => in_box(alloc, SplType::Bool),
+        TypeKind::Rstring => in_box(alloc, SplType::Text),
+        TypeKind::Int(kind) => in_box(alloc, SplType::Int(*kind)),
         TypeKind::LeftOut(word) => left_out(alloc, written.at, *word),
         TypeKind::Name(name) => named(alloc, scope, written.at, name.as_slice(), levels, parts),
         TypeKind::List(element) => {
             let element = type_at(alloc, scope, element.get(), levels, parts)?;
-            Ok(SplType::List(Boxed::new(alloc, element)?))
+            in_box(alloc, SplType::List(element))
         }
         TypeKind::Map(key, value) => {
             let key = type_at(alloc, scope, key.get(), levels, parts)?;
             let value = type_at(alloc, scope, value.get(), levels, parts)?;
-            Ok(SplType::Map(Boxed::new(alloc, key)?, Boxed::new(alloc, value)?))
+            in_box(alloc, SplType::Map(key, value))
         }
         TypeKind::Tuple(attributes) => {
             let schema = schema_at(alloc, scope, attributes.as_slice(), levels, parts)?;
-            Ok(SplType::Tuple(schema))
+            in_box(alloc, SplType::Tuple(schema))
         }
     }
 }
@@ -132,7 +148,7 @@ fn schema_at(
     for attribute in attributes {
         let kind = type_at(alloc, scope, &attribute.kind, levels, parts)?;
         let name = Items::from_slice(alloc, attribute.name.what.as_slice())?;
-        schema.push(Named { name, kind })?;
+        push_attribute(&mut schema, name, kind)?;
     }
     Ok(schema)
 }
@@ -144,14 +160,14 @@ fn shape_at(
     shape: &Shape,
     levels: u32,
     parts: &mut u32,
-) -> Result<SplType, TypeAnswer>
+) -> Result<Boxed<SplType>, TypeAnswer>
     ensures { Finds (shape_meant (types_in scope.now) shape.now) result }
 {
     match &shape.what {
         ShapeKind::Type(written) => type_at(alloc, scope, written, levels, parts),
         ShapeKind::Attributes(attributes) => {
             let schema = schema_at(alloc, scope, attributes.as_slice(), levels, parts)?;
-            Ok(SplType::Tuple(schema))
+            in_box(alloc, SplType::Tuple(schema))
         }
     }
 }
@@ -165,13 +181,25 @@ fn named(
     name: &[u8],
     levels: u32,
     parts: &mut u32,
-) -> Result<SplType, TypeAnswer>
+) -> Result<Boxed<SplType>, TypeAnswer>
     ensures { Finds (types_in scope.now at name.now) result }
 {
     match meaning(scope, name) {
         None => unknown(alloc, at, name),
         Some((scope, definition)) => shape_at(alloc, &scope, &definition.shape, levels, parts),
     }
+}
+
+/// The type that a written type stands for, in a box. Refusals are those of `type_of_written`.
+pub fn type_boxed(
+    alloc: Global,
+    scope: &TypeScope,
+    written: &TypeExpr,
+) -> Result<Boxed<SplType>, TypeAnswer>
+    ensures { Finds (type_meant (types_in scope.now) written.now) result }
+{
+    let mut parts = MOST_PARTS;
+    type_at(alloc, scope, written, DEEPEST, &mut parts)
 }
 
 /// The type that a written type stands for.
@@ -187,8 +215,8 @@ pub fn type_of_written(
 ) -> Result<SplType, TypeAnswer>
     ensures { Finds (type_meant (types_in scope.now) written.now) result }
 {
-    let mut parts = MOST_PARTS;
-    type_at(alloc, scope, written, DEEPEST, &mut parts)
+    let kind = type_boxed(alloc, scope, written)?;
+    Ok(kind.into_inner())
 }
 
 /// The type that a shape stands for. Refusals are those of `type_of_written`.
@@ -196,7 +224,8 @@ pub fn shape_of(alloc: Global, scope: &TypeScope, shape: &Shape) -> Result<SplTy
     ensures { Finds (shape_meant (types_in scope.now) shape.now) result }
 {
     let mut parts = MOST_PARTS;
-    shape_at(alloc, scope, shape, DEEPEST, &mut parts)
+    let kind = shape_at(alloc, scope, shape, DEEPEST, &mut parts)?;
+    Ok(kind.into_inner())
 }
 
 /// The attributes of a row, as the parameters of a function, each with its type. Refusals are those of

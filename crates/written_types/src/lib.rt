@@ -10,7 +10,7 @@ mod refusals;
 mod table;
 
 pub use definitions::narrow;
-pub use finding::{TypeScope, attributes_of, shape_of, type_of_written};
+pub use finding::{TypeScope, attributes_of, shape_of, type_boxed, type_of_written};
 pub use leading::leads_back;
 pub use table::TypeTable;
 
