@@ -16,7 +16,8 @@ use Rattle.language_model.specs.TypeNames.{Types, unit_types}
 use Rattle.language_model.specs.Typing.{Found, after}
 use Rattle.language_model.specs.declared.answer.TypeAnswer.{TypeAnswer}
 use Rattle.language_model.specs.Finds.{Finds, with_front}
-use Rattle.body_rules.specs.Signatures.{function_in, scope_in, with_definition, with_function}
+use Rattle.body_rules.specs.declared.functions.FunctionTypes.{FunctionTypes}
+use Rattle.body_rules.specs.Signatures.{as_types, function_in, scope_in, with_definition, with_function}
 use Rattle.body_rules.proofs.BodyRows.{drop_at}
 use Rattle.body_rules.proofs.Steps.{after_after, finds_by, stops}
 
@@ -70,6 +71,15 @@ module _ (types : Types) where
   no_function scope (D.Function f) h = absurd (h f refl)
   no_function scope (D.Type t) h = refl
   no_function scope (D.Composite c) h = refl
+
+-- the types of a function, as the code has them
+pub types_are : (found : Found Typing) (t : FunctionTypes) → as_types found ≡ Ok t → found ≡ Ok (record { result = t.result; parameters = t.parameters })
+types_are (Ok s) t h = ap (λ o. ok_or o s) h
+  where
+    ok_or : Found FunctionTypes → Typing → Found Typing
+    ok_or (Ok x) y = Ok (record { result = x.result; parameters = x.parameters })
+    ok_or (Err r) y = Ok y
+types_are (Err r) t h = absurd cc
 
 -- ---- bodies
 

@@ -1,5 +1,5 @@
 -- What is answered on a statement, by what is answered on its form.
-use Rattle.std.specs.Prelude.{◌≡◌, ℕ, Bool, true, false, List, [], ◌∷◌, Result, Ok, Err, IfOk, IsErrAnd}
+use Rattle.std.specs.Prelude.{◌≡◌, ℕ, Bool, true, false, List, [], ◌∷◌, Result, Ok, Err, IfOk}
 use Rattle.std.proofs.Common.{refl, ap, sym, subst, ◌∙◌}
 use Rattle.spl_tree.specs.declared.body.Statement.{Statement}
 use Rattle.spl_tree.specs.declared.statement.StmtKind.{StmtKind}
@@ -12,7 +12,6 @@ use Rattle.language_model.specs.declared.answer.TypeAnswer.{TypeAnswer}
 use Rattle.language_model.specs.declared.answer.TypeAnswer.TheVariants.{Refused, Memory}
 use Rattle.language_model.specs.Finds.{Finds}
 use Rattle.body_rules.specs.Leads.{Leads, inside_loop}
-use Rattle.body_rules.proofs.Steps.{exit}
 
 pub leads_by : (o p : Found (Statement × Scope)) (r : Result Statement TypeAnswer) (scope : Scope) → o ≡ p → Leads p r scope → Leads o r scope
 leads_by o p r scope e h = subst (λ o. Leads o r scope) (sym e) h
@@ -30,9 +29,6 @@ module _ (s : Stmt) (k : StmtKind) (setting : Setting) (inside : Bool) (scope ne
 
   pub leads_on : (r : Result Statement TypeAnswer) → Finds found r → IfOk r (λ x. next ≡ scope) → Leads (part_stated (stated s) setting inside scope) r next
   leads_on r h same = leads_by _ _ r next stands (stays scope next found r h same)
-
-  pub leads_out : (r : Result Statement TypeAnswer) (e : TypeAnswer) → IsErrAnd r (λ y. y ≡ e) → Finds found (Err e) → Leads (part_stated (stated s) setting inside scope) r next
-  leads_out r e h f = exit (λ r. Leads (part_stated (stated s) setting inside scope) r next) r e h (leads_on (Err e) f tt)
 
 -- what is so anyway is so where the answer is Ok
 pub anyway : {A E : Type 0} (r : Result A E) (P : Type 0) → P → IfOk r (λ x. P)

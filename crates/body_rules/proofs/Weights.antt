@@ -23,9 +23,9 @@ item_below f (y ∷ ys) zero x h e = let q : f x ≡ f y = ap f e in omega arith
 item_below f (y ∷ ys) (suc i) x h e = let q : f x ≤ total f ys = item_below f ys i x (omega arith) e in omega arith
 
 abbrev level_weight : StmtKind-F ℕ → ℕ
-level_weight (Z.Block ss) = 2 + total (λ s. s.what) ss
-level_weight (Z.If arms other) = 3 + (total (λ a. a.1.what) arms + option_map_or (λ s. s.what) other 0)
-level_weight (Z.While c s) = 2 + s.what
+level_weight (Z.Block ss) = 3 + total (λ s. s.what) ss
+level_weight (Z.If arms other) = 4 + (total (λ a. a.1.what) arms + option_map_or (λ s. s.what) other 0)
+level_weight (Z.While c s) = 3 + s.what
 level_weight (Z.For a e s) = 3 + s.what
 level_weight _ = 1
 
@@ -50,22 +50,22 @@ other_weight s = option_map_or statement_weight s 0
 weight_at : (k : StmtKind) (x : StmtKind-F StmtKind) → out-StmtKind k ≡ x → weight k ≡ level_weight (map-StmtKind StmtKind ℕ weight x)
 weight_at k x e = fold_out-StmtKind ℕ level_weight k ∙ ap (λ y. level_weight (map-StmtKind StmtKind ℕ weight y)) e
 
-pub block_weight : (ss : List Stmt) → weight (V.Block ss) ≡ 2 + statement_weights ss
+pub block_weight : (ss : List Stmt) → weight (V.Block ss) ≡ 3 + statement_weights ss
 block_weight ss = weight_at (V.Block ss) (Z.Block ss) (V.outs-Block ss) ∙ along ss
   where
-    along : (ss : List Stmt) → level_weight (map-StmtKind StmtKind ℕ weight (Z.Block ss)) ≡ 2 + statement_weights ss
+    along : (ss : List Stmt) → level_weight (map-StmtKind StmtKind ℕ weight (Z.Block ss)) ≡ 3 + statement_weights ss
     along [] = refl
     along (s ∷ ss) = let h = along ss in omega arith
 
-pub if_weight : (arms : List (Expr × Stmt)) (other : Option Stmt) → weight (V.If arms other) ≡ 3 + (arm_weights arms + other_weight other)
+pub if_weight : (arms : List (Expr × Stmt)) (other : Option Stmt) → weight (V.If arms other) ≡ 4 + (arm_weights arms + other_weight other)
 if_weight arms other = weight_at (V.If arms other) (Z.If arms other) (V.outs-If arms other) ∙ along arms other
   where
-    along : (arms : List (Expr × Stmt)) (other : Option Stmt) → level_weight (map-StmtKind StmtKind ℕ weight (Z.If arms other)) ≡ 3 + (arm_weights arms + other_weight other)
+    along : (arms : List (Expr × Stmt)) (other : Option Stmt) → level_weight (map-StmtKind StmtKind ℕ weight (Z.If arms other)) ≡ 4 + (arm_weights arms + other_weight other)
     along [] None = refl
     along [] (Some s) = refl
     along (a ∷ arms) other = let h = along arms other in omega arith
 
-pub while_weight : (c : Expr) (s : Stmt) → weight (V.While c s) ≡ 2 + statement_weight s
+pub while_weight : (c : Expr) (s : Stmt) → weight (V.While c s) ≡ 3 + statement_weight s
 while_weight c s = weight_at (V.While c s) (Z.While c s) (V.outs-While c s)
 
 pub for_weight : (a : Attribute TypeExpr) (e : Expr) (s : Stmt) → weight (V.For a e s) ≡ 3 + statement_weight s

@@ -1,3 +1,4 @@
 pub mod Settings
 pub mod Leads
 pub mod Signatures
+pub mod Choices

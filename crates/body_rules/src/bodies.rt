@@ -1,6 +1,7 @@
 //! The code of bodies.
-ghost use Rattle.std.specs.Prelude.{◌≡◌, IfOk, length};
+ghost use Rattle.std.specs.Prelude.{◌≡◌, ◌++◌, ◌∷◌, [], IfOk, OnOk, length};
 ghost use Rattle.language_model.specs.BodyTyping.{alone, arms_typing, body_typing, for_typing, other_typing, part_stated, row_typing, stated};
+ghost use Rattle.body_rules.specs.Choices.{block_typing, if_typing, while_typing};
 ghost use Rattle.language_model.specs.BodyTypingLaws.{arms_stated, other_stated, row_stated};
 ghost use Rattle.body_rules.specs.Leads.{Leads, shortened};
 ghost use Rattle.body_rules.specs.Settings.{setting_meant};
@@ -17,11 +18,11 @@ use parts::{assigned, condition, declared, leave_loop, over, returned};
 pub use results::ends_with_result;
 use spl_tree::{Attribute, Body, Code, Expr, Slot, Statement, Stmt, StmtKind, TypeExpr};
 use spl_value::{Boxed, Items, SplType};
-use std::alloc::Global;
+use std::alloc::{AllocError, Global};
 use submits::submitted;
 use type_rules::call_of;
 pub(crate) use variables::{add_variable, drop_variables};
-use written_types::{TypeScope, type_of_written};
+use written_types::{TypeScope, type_boxed};
 
 /// What a body is that of.
 #[derive(Clone, Copy)]
@@ -114,9 +115,20 @@ fn branches(
     for arm in arms {
         let code = condition(alloc, scope, &arm.0)?;
         let body = alone(alloc, setting, inside, scope, &arm.1)?;
-        branches.push((code, body))?;
+        push_branch(&mut branches, code, body)?;
     }
     Ok(branches)
+}
+
+/// Adds a branch with its condition.
+fn push_branch(
+    branches: &mut Items<(Code<Slot>, Body)>,
+    code: Boxed<Code<Slot>>,
+    body: Body,
+) -> Result<(), AllocError>
+    ensures ok { OnOk result (branches.new ≡ branches.old ++ (code, body) ∷ []) }
+{
+    branches.push((code.into_inner(), body))
 }
 
 /// What stands behind the last `else`.
@@ -150,13 +162,64 @@ fn for_each(
     ensures code { Finds (for_typing (setting_meant setting.now) scope.old variable.now values.now (stated body.now)) result }
     ensures same_scope { IfOk result (λ _. scope.new ≡ scope.old) }
 {
-    let kind = type_of_written(alloc, &setting.types, &variable.kind)?;
-    let code = over(alloc, scope, &kind, values)?;
+    let kind = type_boxed(alloc, &setting.types, &variable.kind)?;
+    let code = over(alloc, scope, kind.get(), values)?;
     let before = scope.vars.len();
     add_variable(alloc, scope, false, &variable.name.what, kind)?;
     let row = alone(alloc, setting, true, scope, body)?;
     drop_variables(scope, before);
-    Ok(Statement::For(code, row))
+    Ok(Statement::For(code.into_inner(), row))
+}
+
+/// Statements between braces.
+#[cycle(bodies)]
+fn block(
+    alloc: Global,
+    setting: &BodySetting,
+    inside: bool,
+    scope: &mut Scope,
+    statements: &[Stmt],
+) -> Result<Statement, TypeAnswer>
+    ensures code { Finds (block_typing (setting_meant setting.now) inside scope.old (row_stated statements.now)) result }
+    ensures same_scope { IfOk result (λ _. scope.new ≡ scope.old) }
+{
+    let row = row(alloc, setting, inside, scope, statements)?;
+    Ok(Statement::Block(row))
+}
+
+/// An `if`, with what stands behind its last `else`.
+#[cycle(bodies)]
+fn choice(
+    alloc: Global,
+    setting: &BodySetting,
+    inside: bool,
+    scope: &mut Scope,
+    arms: &[(Expr, Stmt)],
+    other: &Option<Boxed<Stmt>>,
+) -> Result<Statement, TypeAnswer>
+    ensures code { Finds (if_typing (setting_meant setting.now) inside scope.old (arms_stated arms.now) (other_stated other.now)) result }
+    ensures same_scope { IfOk result (λ _. scope.new ≡ scope.old) }
+{
+    let branches = branches(alloc, setting, inside, scope, arms)?;
+    let other = otherwise(alloc, setting, inside, scope, other)?;
+    Ok(Statement::If(branches, other))
+}
+
+/// A `while`.
+#[cycle(bodies)]
+fn repeated(
+    alloc: Global,
+    setting: &BodySetting,
+    scope: &mut Scope,
+    test: &Expr,
+    statement: &Stmt,
+) -> Result<Statement, TypeAnswer>
+    ensures code { Finds (while_typing (setting_meant setting.now) scope.old test.now (stated statement.now)) result }
+    ensures same_scope { IfOk result (λ _. scope.new ≡ scope.old) }
+{
+    let code = condition(alloc, scope, test)?;
+    let row = alone(alloc, setting, true, scope, statement)?;
+    Ok(Statement::While(code.into_inner(), row))
 }
 
 /// A statement. A declaration adds its variable to the scope.
@@ -174,8 +237,7 @@ fn statement_of(
     let at = statement.at;
     match &statement.what {
         StmtKind::Block(statements) => {
-            let row = row(alloc, setting, inside, scope, statements.as_slice())?;
-            Ok(Statement::Block(row))
+            block(alloc, setting, inside, scope, statements.as_slice())
         }
         StmtKind::Declare(declaration) => declared(alloc, setting, scope, declaration),
         StmtKind::Assign(place, operator, value) => {
@@ -183,15 +245,9 @@ fn statement_of(
         }
         StmtKind::Call(call) => call_of(alloc, scope, call),
         StmtKind::If(arms, other) => {
-            let branches = branches(alloc, setting, inside, scope, arms.as_slice())?;
-            let other = otherwise(alloc, setting, inside, scope, other)?;
-            Ok(Statement::If(branches, other))
+            choice(alloc, setting, inside, scope, arms.as_slice(), other)
         }
-        StmtKind::While(test, body) => {
-            let code = condition(alloc, scope, test)?;
-            let row = alone(alloc, setting, true, scope, body.get())?;
-            Ok(Statement::While(code, row))
-        }
+        StmtKind::While(test, body) => repeated(alloc, setting, scope, test, body.get()),
         StmtKind::For(variable, values, body) => {
             for_each(alloc, setting, scope, variable, values, body.get())
         }

@@ -1,7 +1,10 @@
 //! The functions of a program.
-ghost use Rattle.std.specs.Prelude.{◌≡◌, Ok, Some, IfOk};
+ghost use Rattle.std.specs.Prelude.{◌≡◌, [], Ok, Some, IfOk};
 ghost use Rattle.std.specs.Option.{option_copied};
-ghost use Rattle.language_model.specs.FunctionTyping.{function_types, functions_typing, kinds, result_type, unit_scope};
+ghost use Rattle.language_model.specs.BodyFits.{OfFunction};
+ghost use Rattle.language_model.specs.BodyTyping.{body_typing};
+ghost use Rattle.language_model.specs.FunctionTyping.{function_types, functions_typing, if_returning, kinds, result_type, unit_scope};
+ghost use Rattle.language_model.specs.TypeNames.{unit_types};
 ghost use Rattle.spl_tree.specs.declared.unit.Definition.TheVariants as D;
 ghost use Rattle.body_rules.specs.Signatures.{MayEnd, as_types, function_in, scope_in, with_definition, with_parameters};
 ghost use Rattle.written_types.specs.TypeScopes.{types_in};
@@ -11,8 +14,10 @@ use crate::bodies::{
     BodyPurpose, BodySetting, add_variable, body_of, drop_variables, ends_with_result,
 };
 use language_model::{CheckError, CheckRefusal, Scope, Signature, TypeAnswer, Unresolved};
-use spl_tree::{Definition, Function, FunctionDefinition, Functions, Placed, TypeExpr, Unit};
-use spl_value::{Attribute, Items, Name, NoMemory, Schema, SplType, copy_type};
+use spl_tree::{
+    Body, Definition, Function, FunctionDefinition, Functions, Placed, Stmt, TypeExpr, Unit,
+};
+use spl_value::{Attribute, Boxed, Items, Name, NoMemory, Schema, SplType, copy_type};
 use std::alloc::Global;
 use written_types::{TypeScope, TypeTable, attributes_of, type_of_written};
 
@@ -125,7 +130,7 @@ fn add_parameters(
     ensures { IfOk result (λ _. scope.new ≡ with_parameters scope.old parameters.now) }
 {
     for parameter in parameters {
-        let kind = copy_type(alloc, &parameter.kind)?;
+        let kind = Boxed::new(alloc, copy_type(alloc, &parameter.kind)?)?;
         add_variable(alloc, scope, false, &parameter.name, kind)?;
     }
     Ok(())
@@ -145,26 +150,40 @@ fn no_return(alloc: Global, name: &Placed<Name>) -> TypeAnswer
     }
 }
 
-/// A function with the code of its body, in a scope.
-fn function_of(
+/// The code of the body of a function of these types, in a scope.
+fn body_in(
     alloc: Global,
     types: &TypeScope,
     scope: &mut Scope,
-    function: &FunctionDefinition,
-) -> Result<Function, TypeAnswer>
-    ensures code { Finds (function_in (types_in types.now) scope.old function.now) result }
+    found: &FunctionTypes,
+    statements: &[Stmt],
+) -> Result<Body, TypeAnswer>
+    ensures code { Finds (body_typing (record { types = types_in types.now; purpose = OfFunction found.now.result; outputs = [] })
+        (with_parameters scope.old found.now.parameters) statements.now) result }
     ensures same_scope { IfOk result (λ _. scope.new ≡ scope.old) }
 {
-    let FunctionTypes { result, parameters } = types_of(alloc, types, function)?;
     let before = scope.vars.len();
-    add_parameters(alloc, scope, parameters.as_slice())?;
-    let purpose = BodyPurpose::Function(result.as_ref());
+    add_parameters(alloc, scope, found.parameters.as_slice())?;
+    let purpose = BodyPurpose::Function(found.result.as_ref());
     let setting = BodySetting {
         types: *types,
         purpose,
     };
-    let body = body_of(alloc, &setting, scope, function.body.as_slice())?;
+    let body = body_of(alloc, &setting, scope, statements)?;
     drop_variables(scope, before);
+    Ok(body)
+}
+
+/// A function of these types with the code of its body, which ends with a result where it has one.
+fn returning(
+    alloc: Global,
+    function: &FunctionDefinition,
+    found: FunctionTypes,
+    body: Body,
+) -> Result<Function, TypeAnswer>
+    ensures { Finds (if_returning function.now (record { result = found.result; parameters = found.parameters }) body) result }
+{
+    let FunctionTypes { result, parameters } = found;
     if result.is_some() && !ends_with_result(function.body.as_slice()) {
         return Err(no_return(alloc, &function.name));
     }
@@ -174,6 +193,43 @@ fn function_of(
         result,
         body,
     })
+}
+
+/// A function with the code of its body, in a scope.
+#[tactic(auto, using(crate::proofs::Signing::types_are))]
+fn function_of(
+    alloc: Global,
+    types: &TypeScope,
+    scope: &mut Scope,
+    function: &FunctionDefinition,
+) -> Result<Function, TypeAnswer>
+    ensures code { Finds (function_in (types_in types.now) scope.old function.now) result }
+    ensures same_scope { IfOk result (λ _. scope.new ≡ scope.old) }
+{
+    let found = types_of(alloc, types, function)?;
+    let body = body_in(alloc, types, scope, &found, function.body.as_slice())?;
+    returning(alloc, function, found, body)
+}
+
+/// The functions of a unit, in the scope of its functions.
+fn each_function(
+    alloc: Global,
+    types: &TypeScope,
+    scope: &mut Scope,
+    unit: &[Definition],
+) -> Result<Functions, TypeAnswer>
+    requires types { types_in types.now ≡ unit_types unit.now }
+    requires scope { scope.old ≡ unit_scope unit.now }
+    ensures { Finds (functions_typing unit.now) result }
+{
+    let mut functions = Items::new(alloc);
+    for definition in unit {
+        if let Definition::Function(function) = definition {
+            let next = function_of(alloc, types, scope, function)?;
+            functions.push(next)?;
+        }
+    }
+    Ok(functions)
 }
 
 /// The functions of a program, in the order of the text.
@@ -187,12 +243,5 @@ pub fn functions_of(alloc: Global, unit: &Unit) -> Result<Functions, TypeAnswer>
     let table = TypeTable::of_unit(alloc, unit)?;
     let types = TypeScope::of_unit(&table);
     let mut scope = with_functions(alloc, &types, unit.as_slice())?;
-    let mut functions = Items::new(alloc);
-    for definition in unit.as_slice() {
-        if let Definition::Function(function) = definition {
-            let next = function_of(alloc, &types, &mut scope, function)?;
-            functions.push(next)?;
-        }
-    }
-    Ok(functions)
+    each_function(alloc, &types, &mut scope, unit.as_slice())
 }

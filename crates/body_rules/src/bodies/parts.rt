@@ -1,8 +1,9 @@
 //! Statements without statements in them, and what stands in others.
-ghost use Rattle.std.specs.Prelude.{◌≡◌, IfOk, length};
+ghost use Rattle.std.specs.Prelude.{◌≡◌, IfOk, Ok, Some, length};
 ghost use Rattle.std.specs.Option.{option_copied};
 ghost use Rattle.spl_value.specs.declared.types.SplType.TheViews.{out-SplType};
 ghost use Rattle.language_model.specs.BodyTyping.{assigned, condition_typing, declaration_typing, first_value, level_over, over_typing, return_typing};
+ghost use Rattle.language_model.specs.Typing.{after, typing};
 ghost use Rattle.body_rules.specs.Leads.{Leads, inside_loop, shortened};
 ghost use Rattle.body_rules.specs.Settings.{purpose_meant, setting_meant};
 ghost use Rattle.language_model.specs.Finds.{Finds};
@@ -12,16 +13,22 @@ use super::variables::add_variable;
 use super::{BodyPurpose, BodySetting};
 use language_model::{Scope, TypeAnswer, Typed};
 use spl_tree::{BinaryOperator, Code, Declaration, Expr, Slot, Statement};
-use spl_value::{SplType, default_of, same_type};
+use spl_value::{Boxed, SplType, default_of, same_type};
 use std::alloc::Global;
 use type_rules::{assignment_of, compound_of, type_of};
-use written_types::type_of_written;
+use written_types::type_boxed;
 
-fn code_of(typed: Typed) -> Code<Slot>
-    ensures { result ≡ typed.code }
+/// The code of an expression that has to be of a type.
+fn code_typed(
+    alloc: Global,
+    scope: &Scope,
+    value: &Expr,
+    kind: &SplType,
+) -> Result<Boxed<Code<Slot>>, TypeAnswer>
+    ensures { Finds (after (typing scope.now value.now (Some kind.now)) (λ x. Ok x.code)) result }
 {
-    let Typed { kind: _, code } = typed;
-    code.into_inner()
+    let Typed { kind: _, code } = type_of(alloc, scope, value, Some(kind))?;
+    Ok(code)
 }
 
 /// The first value of a variable of a type: its type's default where it is given none.
@@ -30,12 +37,12 @@ fn first_value(
     scope: &Scope,
     kind: &SplType,
     value: Option<&Expr>,
-) -> Result<Code<Slot>, TypeAnswer>
+) -> Result<Boxed<Code<Slot>>, TypeAnswer>
     ensures { Finds (first_value scope.now kind.now (option_copied value.entry)) result }
 {
     match value {
-        None => Ok(Code::Literal(default_of(alloc, kind)?)),
-        Some(value) => Ok(code_of(type_of(alloc, scope, value, Some(kind))?)),
+        None => Ok(Boxed::new(alloc, Code::Literal(default_of(alloc, kind)?))?),
+        Some(value) => code_typed(alloc, scope, value, kind),
     }
 }
 
@@ -49,8 +56,8 @@ pub(super) fn declared(
     ensures code { Leads (declaration_typing (setting_meant setting.now) scope.old declaration.now) result scope.new }
     ensures longer { IfOk result (λ _. shortened (length scope.old.vars) scope.new ≡ scope.old) }
 {
-    let kind = type_of_written(alloc, &setting.types, &declaration.kind)?;
-    let code = first_value(alloc, scope, &kind, declaration.value.as_ref())?;
+    let kind = type_boxed(alloc, &setting.types, &declaration.kind)?;
+    let code = first_value(alloc, scope, kind.get(), declaration.value.as_ref())?;
     add_variable(
         alloc,
         scope,
@@ -58,7 +65,7 @@ pub(super) fn declared(
         &declaration.name.what,
         kind,
     )?;
-    Ok(Statement::Declare(code))
+    Ok(Statement::Declare(code.into_inner()))
 }
 
 /// An assignment, plain or with an operator.
@@ -77,10 +84,14 @@ pub(super) fn assigned(
     }
 }
 
-pub(super) fn condition(alloc: Global, scope: &Scope, test: &Expr) -> Result<Code<Slot>, TypeAnswer>
+pub(super) fn condition(
+    alloc: Global,
+    scope: &Scope,
+    test: &Expr,
+) -> Result<Boxed<Code<Slot>>, TypeAnswer>
     ensures { Finds (condition_typing scope.now test.now) result }
 {
-    Ok(code_of(type_of(alloc, scope, test, Some(&SplType::Bool))?))
+    code_typed(alloc, scope, test, &SplType::Bool)
 }
 
 /// What a `for` goes over, whose elements or keys have to be of a type.
@@ -89,12 +100,12 @@ pub(super) fn over(
     scope: &Scope,
     kind: &SplType,
     values: &Expr,
-) -> Result<Code<Slot>, TypeAnswer>
+) -> Result<Boxed<Code<Slot>>, TypeAnswer>
     ensures { Finds (over_typing scope.now kind.now values.now) result }
 {
     let typed = type_of(alloc, scope, values, None)?;
     if goes_over(typed.kind.get(), kind) {
-        Ok(code_of(typed))
+        Ok(typed.code)
     } else {
         Err(mismatch(values.at))
     }
@@ -134,8 +145,8 @@ pub(super) fn returned(
     };
     match (wanted, value) {
         (Some(kind), Some(value)) => {
-            let typed = type_of(alloc, scope, value, Some(kind))?;
-            Ok(Statement::Return(Some(code_of(typed))))
+            let code = code_typed(alloc, scope, value, kind)?;
+            Ok(Statement::Return(Some(code.into_inner())))
         }
         (None, None) => Ok(Statement::Return(None)),
         (Some(_), None) | (None, Some(_)) => Err(wrong_call(at)),

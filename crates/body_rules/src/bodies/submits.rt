@@ -10,7 +10,7 @@ use super::refusals::{narrow, unknown, wrong_call};
 use super::{BodyPurpose, BodySetting};
 use language_model::{Port, Scope, TypeAnswer};
 use spl_tree::{Expr, Marker, Placed, Statement};
-use spl_value::{Name, Schema, SplType, copy_schema};
+use spl_value::{Boxed, Name, Schema, SplType, copy_schema};
 use std::alloc::Global;
 use type_rules::{marker, type_of};
 
@@ -61,7 +61,10 @@ fn submitted_on(
     if let Some(Marker::Window) = marker(value) {
         return Ok(Statement::SubmitWindow(port));
     }
-    let kind = SplType::Tuple(copy_schema(alloc, schema.as_slice())?);
-    let typed = type_of(alloc, scope, value, Some(&kind))?;
+    let kind = Boxed::new(
+        alloc,
+        SplType::Tuple(copy_schema(alloc, schema.as_slice())?),
+    )?;
+    let typed = type_of(alloc, scope, value, Some(kind.get()))?;
     Ok(Statement::Submit(port, typed.code.into_inner()))
 }

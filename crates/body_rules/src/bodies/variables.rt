@@ -5,7 +5,7 @@ ghost use Rattle.language_model.specs.BodyTyping.{variable};
 ghost use Rattle.body_rules.specs.Leads.{shortened};
 
 use language_model::{Scope, Variable};
-use spl_value::{Items, Name, NoMemory, SplType};
+use spl_value::{Boxed, Items, Name, NoMemory, SplType};
 use std::alloc::Global;
 
 /// Adds a variable behind those that there are.
@@ -14,14 +14,14 @@ pub(crate) fn add_variable(
     scope: &mut Scope,
     mutable: bool,
     name: &Name,
-    kind: SplType,
+    kind: Boxed<SplType>,
 ) -> Result<(), NoMemory>
     ensures { IfOk result (λ _. scope.new ≡ with_variable scope.old (variable mutable name.now kind)) }
 {
     let name = Items::from_slice(alloc, name.as_slice())?;
     scope.vars.push(Variable {
         name,
-        kind,
+        kind: kind.into_inner(),
         mutable,
     })?;
     Ok(())

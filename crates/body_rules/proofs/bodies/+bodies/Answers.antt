@@ -2,15 +2,16 @@ use Rattle.std.proofs.Common.{◌≡◌, ◌∙◌, ◌+◌, ◌∷◌, ◌++◌
 use Rattle.spl_tree.specs.declared.body.Statement.TheVariants as T
 use Rattle.spl_tree.specs.declared.statement.StmtKind.TheVariants as V
 use Rattle.language_model.specs.BodyFits.{with_variable}
-use Rattle.language_model.specs.BodyTyping.{alone, arms_typing, assigned, condition_typing, for_typing, other_typing, return_typing, row_typing, stated, submit_typing, variable}
+use Rattle.language_model.specs.BodyTyping.{alone, assigned, for_typing, other_typing, over_typing, return_typing, stated, submit_typing, variable}
 use Rattle.language_model.specs.BodyTypingLaws.{arms_stated, assign_stated, block_stated, call_stated, declare_stated, for_stated, if_stated, kind_stated, other_stated, return_stated, row_stated, submit_stated, while_stated}
 use Rattle.language_model.specs.StatementTyping.{call_typing}
 use Rattle.language_model.specs.Typing.{after}
 use Rattle.language_model.specs.Finds.{Finds, with_front}
+use Rattle.body_rules.specs.Choices.{block_typing, if_typing, while_typing}
 use Rattle.body_rules.specs.Leads.{shortened}
 use Rattle.body_rules.specs.Settings.{purpose_meant, setting_meant}
 use Rattle.body_rules.proofs.BodyRows.{branch, branch_row, branches_row, row_on, row_past, row_stops, statements_on, statements_past, statements_stop}
-use Rattle.body_rules.proofs.StatementLeads.{alone_stops, anyway, leads_by, leads_on, leads_out}
+use Rattle.body_rules.proofs.StatementLeads.{alone_stops, anyway, leads_by, leads_on}
 use Rattle.body_rules.proofs.Lengths.{keeps, one_more, reaches, whole}
 use Rattle.body_rules.proofs.Stopping.{branch_stops, other_stops, over_stops, repeated_stops, while_stops}
 use Rattle.body_rules.proofs.Steps.{fails, finds_by, goes, no_front, stops}
@@ -93,11 +94,11 @@ pub branches-loop-arm-preserved : goal.branches-loop-arm-preserved
 branches-loop-arm-preserved t c =
     record {
       same = c.loop-arm.invariant.same
-          ∙ row_on (branch (setting_meant c.args.setting.now) c.args.inside c.loop-arm.scope) (branch_row (setting_meant c.args.setting.now) c.args.inside c.loop-arm.scope) (branches_row (setting_meant c.args.setting.now) c.args.inside c.loop-arm.scope) c.args.arms.now c.loop-arm.arm-index c.loop-arm.branches c.arm-item.result c.loop-arm-test.true c.arm-item.is (c.in_ok-code.code, c.in_ok-body.body) c.push.new.self
+          ∙ row_on (branch (setting_meant c.args.setting.now) c.args.inside c.loop-arm.scope) (branch_row (setting_meant c.args.setting.now) c.args.inside c.loop-arm.scope) (branches_row (setting_meant c.args.setting.now) c.args.inside c.loop-arm.scope) c.args.arms.now c.loop-arm.arm-index c.loop-arm.branches c.arm-item.result c.loop-arm-test.true c.arm-item.is (c.in_ok-code.code, c.in_ok-body.body) c.push_branch.new.branches
           (ap (λ o. after o (λ code. after (alone (setting_meant c.args.setting.now) c.args.inside c.loop-arm.scope (stated c.arm-item.result.1)) (λ row. Ok (code, row)))) c.in_ok-code.ensures
           ∙ ap (λ o. after o (λ row. Ok (c.in_ok-code.code, row))) c.in_ok-body.ensures.code)
-          c.in_ok-push.ensures.ok
-          ∙ ap (λ s. with_front c.push.new.self (branch_row (setting_meant c.args.setting.now) c.args.inside s (drop (c.loop-arm.arm-index + 1) c.args.arms.now))) (sym c.in_ok-body.ensures.same_scope);
+          c.in_ok-push_branch.ensures.ok
+          ∙ ap (λ s. with_front c.push_branch.new.branches (branch_row (setting_meant c.args.setting.now) c.args.inside s (drop (c.loop-arm.arm-index + 1) c.args.arms.now))) (sym c.in_ok-body.ensures.same_scope);
       kept = c.in_ok-body.ensures.same_scope ∙ c.loop-arm.invariant.kept;
     }
 
@@ -112,22 +113,24 @@ for_each-returns-in_err-kind-clause-code t c =
 pub for_each-returns-in_err-code-clause-code : goal.for_each-returns-in_err-code-clause-code
 for_each-returns-in_err-code-clause-code t c =
     fails _ _ _ c.from_residual-in_err-code.ensures.1
-    (over_stops (setting_meant c.args.setting.now) c.args.scope.now c.args.variable.now c.args.values.now (stated c.args.body.now) c.in_ok-kind.kind c.in_err-code.field-0.0 c.in_ok-kind.ensures c.in_err-code.ensures)
+    (over_stops (setting_meant c.args.setting.now) c.args.scope.now c.args.variable.now c.args.values.now (stated c.args.body.now) c.in_ok-kind.kind c.in_err-code.field-0.0 c.in_ok-kind.ensures
+    (subst (λ t. Finds (over_typing c.args.scope.now t c.args.values.now) (Err c.in_err-code.field-0.0)) c.get.ensures c.in_err-code.ensures))
 
 pub for_each-returns-in_err-row-clause-code : goal.for_each-returns-in_err-row-clause-code
 for_each-returns-in_err-row-clause-code t c =
     fails _ _ _ c.from_residual-in_err-row.ensures.1
     (repeated_stops (setting_meant c.args.setting.now) c.args.scope.now c.args.variable.now c.args.values.now (stated c.args.body.now) c.in_ok-kind.kind c.in_ok-code.code c.in_err-row.field-0.0
-    c.in_ok-kind.ensures c.in_ok-code.ensures
+    c.in_ok-kind.ensures (ap (λ t. over_typing c.args.scope.now t c.args.values.now) (sym c.get.ensures) ∙ c.in_ok-code.ensures)
     (subst (λ s. Finds (alone (setting_meant c.args.setting.now) true s (stated c.args.body.now)) (Err c.in_err-row.field-0.0)) c.in_ok-add_variable.ensures c.in_err-row.ensures.code))
 
 pub for_each-returns-clause-code : goal.for_each-returns-clause-code
 for_each-returns-clause-code t c =
     let v = variable false c.args.variable.now.name.what c.in_ok-kind.kind in
     let whole_row = ap (λ s. alone (setting_meant c.args.setting.now) true s (stated c.args.body.now)) (sym c.in_ok-add_variable.ensures) ∙ c.in_ok-row.ensures.code in
-    goes _ _ _ (Ok (T.For c.in_ok-code.code c.in_ok-row.row)) c.in_ok-kind.ensures
-    (goes _ _ _ (Ok (T.For c.in_ok-code.code c.in_ok-row.row)) c.in_ok-code.ensures
-    (goes (alone (setting_meant c.args.setting.now) true (with_variable c.args.scope.now v) (stated c.args.body.now)) (λ row. Ok (T.For c.in_ok-code.code row)) c.in_ok-row.row (Ok (T.For c.in_ok-code.code c.in_ok-row.row)) whole_row refl))
+    goes _ _ _ (Ok (T.For c.into_inner.result c.in_ok-row.row)) c.in_ok-kind.ensures
+    (goes _ _ _ (Ok (T.For c.into_inner.result c.in_ok-row.row)) (ap (λ t. over_typing c.args.scope.now t c.args.values.now) (sym c.get.ensures) ∙ c.in_ok-code.ensures)
+    (goes (alone (setting_meant c.args.setting.now) true (with_variable c.args.scope.now v) (stated c.args.body.now)) (λ row. Ok (T.For c.in_ok-code.code row)) c.in_ok-row.row (Ok (T.For c.into_inner.result c.in_ok-row.row)) whole_row
+    (ap (λ code. Ok (T.For code c.in_ok-row.row)) (sym c.into_inner.ensures))))
 
 pub for_each-returns-clause-same_scope : goal.for_each-returns-clause-same_scope
 for_each-returns-clause-same_scope t c =
@@ -137,40 +140,56 @@ for_each-returns-clause-same_scope t c =
     ∙ ap (λ n. shortened n (with_variable c.args.scope.now v)) c.len-before.ensures
     ∙ one_more c.args.scope.now v
 
-pub statement_of-row-requires : goal.statement_of-row-requires
-statement_of-row-requires t c =
+pub choice-returns-in_err-branches-clause-code : goal.choice-returns-in_err-branches-clause-code
+choice-returns-in_err-branches-clause-code t c =
+    fails _ _ _ c.from_residual.ensures.1 (stops _ _ _ c.in_err-branches.ensures.code)
+
+pub choice-returns-in_err-other-clause-code : goal.choice-returns-in_err-other-clause-code
+choice-returns-in_err-other-clause-code t c =
+    fails _ _ _ c.from_residual-in_err-other.ensures.1
+    (other_stops (setting_meant c.args.setting.now) c.args.inside c.args.scope.now c.args.arms.now c.args.other.now c.in_ok-branches.branches c.in_err-other.field-0.0 c.in_ok-branches.ensures.code
+    (subst (λ s. Finds (other_typing (setting_meant c.args.setting.now) c.args.inside s (other_stated c.args.other.now)) (Err c.in_err-other.field-0.0)) c.in_ok-branches.ensures.same_scope c.in_err-other.ensures.code))
+
+pub choice-returns-clause-code : goal.choice-returns-clause-code
+choice-returns-clause-code t c =
+    goes _ _ _ (Ok (T.If c.in_ok-branches.branches c.in_ok-other.other)) c.in_ok-branches.ensures.code
+    (goes _ (λ row. Ok (T.If c.in_ok-branches.branches row)) _ (Ok (T.If c.in_ok-branches.branches c.in_ok-other.other)) (ap (λ s. other_typing (setting_meant c.args.setting.now) c.args.inside s (other_stated c.args.other.now)) (sym c.in_ok-branches.ensures.same_scope) ∙ c.in_ok-other.ensures.code) refl)
+
+pub repeated-returns-in_err-code-clause-code : goal.repeated-returns-in_err-code-clause-code
+repeated-returns-in_err-code-clause-code t c =
+    fails _ _ _ c.from_residual.ensures.1 (stops _ _ _ c.in_err-code.ensures)
+
+pub repeated-returns-in_err-row-clause-code : goal.repeated-returns-in_err-row-clause-code
+repeated-returns-in_err-row-clause-code t c =
+    fails _ _ _ c.from_residual-in_err-row.ensures.1
+    (while_stops (setting_meant c.args.setting.now) c.args.scope.now c.args.test.now c.args.statement.now c.in_ok-code.code c.in_err-row.field-0.0 c.in_ok-code.ensures c.in_err-row.ensures.code)
+
+pub repeated-returns-clause-code : goal.repeated-returns-clause-code
+repeated-returns-clause-code t c =
+    goes _ _ _ (Ok (T.While c.into_inner.result c.in_ok-row.row)) c.in_ok-code.ensures
+    (goes _ (λ row. Ok (T.While c.in_ok-code.code row)) _ (Ok (T.While c.into_inner.result c.in_ok-row.row)) c.in_ok-row.ensures.code
+    (ap (λ code. Ok (T.While code c.in_ok-row.row)) (sym c.into_inner.ensures)))
+
+pub statement_of-block-requires : goal.statement_of-block-requires
+statement_of-block-requires t c =
     (let w = ap weight c.in-Block.is ∙ block_weight c.in-Block.statements in let e = ap statement_weights c.as_slice.ensures in omega arith, tt)
 
-pub statement_of-branches-requires : goal.statement_of-branches-requires
-statement_of-branches-requires t c =
+pub statement_of-choice-requires : goal.statement_of-choice-requires
+statement_of-choice-requires t c =
     (let w = ap weight c.in-If.is ∙ if_weight c.in-If.arms c.in-If.other in let e = ap arm_weights c.as_slice-in-If.ensures in omega arith, tt)
 
-pub statement_of-otherwise-requires : goal.statement_of-otherwise-requires
-statement_of-otherwise-requires t c =
-    (let w = ap weight c.in-If.is ∙ if_weight c.in-If.arms c.in-If.other in omega arith, tt)
-
-pub statement_of-alone-requires : goal.statement_of-alone-requires
-statement_of-alone-requires t c =
+pub statement_of-repeated-requires : goal.statement_of-repeated-requires
+statement_of-repeated-requires t c =
     (let w = ap weight c.in-While.is ∙ while_weight c.in-While.test c.in-While.body in let e = ap statement_weight c.get.ensures in omega arith, tt)
 
 pub statement_of-for_each-requires : goal.statement_of-for_each-requires
 statement_of-for_each-requires t c =
     (let w = ap weight c.in-For.is ∙ for_weight c.in-For.variable c.in-For.values c.in-For.body in let e = ap statement_weight c.get-in-For.ensures in omega arith, tt)
 
-pub statement_of-returns-in_err-row-in-Block-clause-code : goal.statement_of-returns-in_err-row-in-Block-clause-code
-statement_of-returns-in_err-row-in-Block-clause-code t c =
-    leads_out c.args.statement.now (V.Block c.in-Block.statements) (setting_meant c.args.setting.now) c.args.inside c.args.scope.now c.row.new.scope (after (row_typing (setting_meant c.args.setting.now) c.args.inside c.args.scope.now (row_stated c.in-Block.statements)) (λ row. Ok (T.Block row))) c.in-Block.is (block_stated c.in-Block.statements c.args.statement.now.at (setting_meant c.args.setting.now) c.args.inside c.args.scope.now) _ c.in_err-row-in-Block.field-0.0 c.from_residual.ensures.1
-    (stops (row_typing (setting_meant c.args.setting.now) c.args.inside c.args.scope.now (row_stated c.in-Block.statements)) (λ row. Ok (T.Block row)) c.in_err-row-in-Block.field-0.0
-    (subst (λ ss. Finds (row_typing (setting_meant c.args.setting.now) c.args.inside c.args.scope.now (row_stated ss)) (Err c.in_err-row-in-Block.field-0.0)) c.as_slice.ensures c.in_err-row-in-Block.ensures.code))
-
-pub statement_of-returns-in_ok-row-in-Block-clause-code : goal.statement_of-returns-in_ok-row-in-Block-clause-code
-statement_of-returns-in_ok-row-in-Block-clause-code t c =
-    leads_on c.args.statement.now (V.Block c.in-Block.statements) (setting_meant c.args.setting.now) c.args.inside c.args.scope.now c.row.new.scope (after (row_typing (setting_meant c.args.setting.now) c.args.inside c.args.scope.now (row_stated c.in-Block.statements)) (λ row. Ok (T.Block row))) c.in-Block.is (block_stated c.in-Block.statements c.args.statement.now.at (setting_meant c.args.setting.now) c.args.inside c.args.scope.now) (Ok (T.Block c.in_ok-row-in-Block.row))
-    (ap (λ o. after o (λ row. Ok (T.Block row))) (ap (λ ss. row_typing (setting_meant c.args.setting.now) c.args.inside c.args.scope.now (row_stated ss)) (sym c.as_slice.ensures) ∙ c.in_ok-row-in-Block.ensures.code)) c.in_ok-row-in-Block.ensures.same_scope
-
-pub statement_of-returns-in_ok-row-in-Block-clause-longer : goal.statement_of-returns-in_ok-row-in-Block-clause-longer
-statement_of-returns-in_ok-row-in-Block-clause-longer t c =
-    ap (shortened (length c.args.scope.now.vars)) c.in_ok-row-in-Block.ensures.same_scope ∙ whole c.args.scope.now
+pub statement_of-returns-in-Block-clause-code : goal.statement_of-returns-in-Block-clause-code
+statement_of-returns-in-Block-clause-code t c =
+    leads_on c.args.statement.now (V.Block c.in-Block.statements) (setting_meant c.args.setting.now) c.args.inside c.args.scope.now c.block.new.scope (block_typing (setting_meant c.args.setting.now) c.args.inside c.args.scope.now (row_stated c.in-Block.statements)) c.in-Block.is (block_stated c.in-Block.statements c.args.statement.now.at (setting_meant c.args.setting.now) c.args.inside c.args.scope.now) _
+    (finds_by _ _ _ (ap (λ ss. block_typing (setting_meant c.args.setting.now) c.args.inside c.args.scope.now (row_stated ss)) (sym c.as_slice.ensures)) c.block.ensures.code) c.block.ensures.same_scope
 
 pub statement_of-returns-in-Declare-clause-code : goal.statement_of-returns-in-Declare-clause-code
 statement_of-returns-in-Declare-clause-code t c =
@@ -188,41 +207,15 @@ pub statement_of-returns-in-Call-clause-code : goal.statement_of-returns-in-Call
 statement_of-returns-in-Call-clause-code t c =
     leads_on c.args.statement.now (V.Call c.in-Call.call) (setting_meant c.args.setting.now) c.args.inside c.args.scope.now c.args.scope.now (call_typing c.args.scope.now c.in-Call.call) c.in-Call.is (call_stated c.in-Call.call c.args.statement.now.at (setting_meant c.args.setting.now) c.args.inside c.args.scope.now) _ c.call_of.ensures (anyway _ _ refl)
 
-pub statement_of-returns-in_err-branches-in-If-clause-code : goal.statement_of-returns-in_err-branches-in-If-clause-code
-statement_of-returns-in_err-branches-in-If-clause-code t c =
-    leads_out c.args.statement.now (V.If c.in-If.arms c.in-If.other) (setting_meant c.args.setting.now) c.args.inside c.args.scope.now c.branches.new.scope (after (arms_typing (setting_meant c.args.setting.now) c.args.inside c.args.scope.now (arms_stated c.in-If.arms)) (λ xs. after (other_typing (setting_meant c.args.setting.now) c.args.inside c.args.scope.now (other_stated c.in-If.other)) (λ row. Ok (T.If xs row)))) c.in-If.is (if_stated c.in-If.arms c.in-If.other c.args.statement.now.at (setting_meant c.args.setting.now) c.args.inside c.args.scope.now) _ c.in_err-branches-in-If.field-0.0 c.from_residual-in_err-branches-in-If.ensures.1
-    (stops (arms_typing (setting_meant c.args.setting.now) c.args.inside c.args.scope.now (arms_stated c.in-If.arms)) (λ xs. after (other_typing (setting_meant c.args.setting.now) c.args.inside c.args.scope.now (other_stated c.in-If.other)) (λ row. Ok (T.If xs row))) c.in_err-branches-in-If.field-0.0
-    (subst (λ arms. Finds (arms_typing (setting_meant c.args.setting.now) c.args.inside c.args.scope.now (arms_stated arms)) (Err c.in_err-branches-in-If.field-0.0)) c.as_slice-in-If.ensures c.in_err-branches-in-If.ensures.code))
+pub statement_of-returns-in-If-clause-code : goal.statement_of-returns-in-If-clause-code
+statement_of-returns-in-If-clause-code t c =
+    leads_on c.args.statement.now (V.If c.in-If.arms c.in-If.other) (setting_meant c.args.setting.now) c.args.inside c.args.scope.now c.choice.new.scope (if_typing (setting_meant c.args.setting.now) c.args.inside c.args.scope.now (arms_stated c.in-If.arms) (other_stated c.in-If.other)) c.in-If.is (if_stated c.in-If.arms c.in-If.other c.args.statement.now.at (setting_meant c.args.setting.now) c.args.inside c.args.scope.now) _
+    (finds_by _ _ _ (ap (λ arms. if_typing (setting_meant c.args.setting.now) c.args.inside c.args.scope.now (arms_stated arms) (other_stated c.in-If.other)) (sym c.as_slice-in-If.ensures)) c.choice.ensures.code) c.choice.ensures.same_scope
 
-pub statement_of-returns-in_err-other-in-If-clause-code : goal.statement_of-returns-in_err-other-in-If-clause-code
-statement_of-returns-in_err-other-in-If-clause-code t c =
-    leads_out c.args.statement.now (V.If c.in-If.arms c.in-If.other) (setting_meant c.args.setting.now) c.args.inside c.args.scope.now c.otherwise.new.scope (after (arms_typing (setting_meant c.args.setting.now) c.args.inside c.args.scope.now (arms_stated c.in-If.arms)) (λ xs. after (other_typing (setting_meant c.args.setting.now) c.args.inside c.args.scope.now (other_stated c.in-If.other)) (λ row. Ok (T.If xs row)))) c.in-If.is (if_stated c.in-If.arms c.in-If.other c.args.statement.now.at (setting_meant c.args.setting.now) c.args.inside c.args.scope.now) _ c.in_err-other-in-If.field-0.0 c.from_residual-in_err-other-in-If.ensures.1
-    (other_stops (setting_meant c.args.setting.now) c.args.inside c.args.scope.now c.in-If.arms c.in-If.other c.in_ok-branches-in-If.branches c.in_err-other-in-If.field-0.0 (ap (λ arms. arms_typing (setting_meant c.args.setting.now) c.args.inside c.args.scope.now (arms_stated arms)) (sym c.as_slice-in-If.ensures) ∙ c.in_ok-branches-in-If.ensures.code)
-    (subst (λ s. Finds (other_typing (setting_meant c.args.setting.now) c.args.inside s (other_stated c.in-If.other)) (Err c.in_err-other-in-If.field-0.0)) c.in_ok-branches-in-If.ensures.same_scope c.in_err-other-in-If.ensures.code))
-
-pub statement_of-returns-in_ok-other-in-If-clause-code : goal.statement_of-returns-in_ok-other-in-If-clause-code
-statement_of-returns-in_ok-other-in-If-clause-code t c =
-    leads_on c.args.statement.now (V.If c.in-If.arms c.in-If.other) (setting_meant c.args.setting.now) c.args.inside c.args.scope.now c.otherwise.new.scope (after (arms_typing (setting_meant c.args.setting.now) c.args.inside c.args.scope.now (arms_stated c.in-If.arms)) (λ xs. after (other_typing (setting_meant c.args.setting.now) c.args.inside c.args.scope.now (other_stated c.in-If.other)) (λ row. Ok (T.If xs row)))) c.in-If.is (if_stated c.in-If.arms c.in-If.other c.args.statement.now.at (setting_meant c.args.setting.now) c.args.inside c.args.scope.now) (Ok (T.If c.in_ok-branches-in-If.branches c.in_ok-other-in-If.other))
-    (goes _ _ _ (Ok (T.If c.in_ok-branches-in-If.branches c.in_ok-other-in-If.other)) (ap (λ arms. arms_typing (setting_meant c.args.setting.now) c.args.inside c.args.scope.now (arms_stated arms)) (sym c.as_slice-in-If.ensures) ∙ c.in_ok-branches-in-If.ensures.code)
-    (goes _ (λ row. Ok (T.If c.in_ok-branches-in-If.branches row)) _ (Ok (T.If c.in_ok-branches-in-If.branches c.in_ok-other-in-If.other)) (ap (λ s. other_typing (setting_meant c.args.setting.now) c.args.inside s (other_stated c.in-If.other)) (sym c.in_ok-branches-in-If.ensures.same_scope) ∙ c.in_ok-other-in-If.ensures.code) refl))
-    (c.in_ok-other-in-If.ensures.same_scope ∙ c.in_ok-branches-in-If.ensures.same_scope)
-
-pub statement_of-returns-in_err-code-in-While-clause-code : goal.statement_of-returns-in_err-code-in-While-clause-code
-statement_of-returns-in_err-code-in-While-clause-code t c =
-    leads_out c.args.statement.now (V.While c.in-While.test c.in-While.body) (setting_meant c.args.setting.now) c.args.inside c.args.scope.now c.args.scope.now (after (condition_typing c.args.scope.now c.in-While.test) (λ code. after (alone (setting_meant c.args.setting.now) true c.args.scope.now (stated c.in-While.body)) (λ row. Ok (T.While code row)))) c.in-While.is (while_stated c.in-While.test c.in-While.body c.args.statement.now.at (setting_meant c.args.setting.now) c.args.inside c.args.scope.now) _ _ c.from_residual-in_err-code-in-While.ensures.1 (stops _ _ _ c.in_err-code-in-While.ensures)
-
-pub statement_of-returns-in_err-row-in-While-clause-code : goal.statement_of-returns-in_err-row-in-While-clause-code
-statement_of-returns-in_err-row-in-While-clause-code t c =
-    leads_out c.args.statement.now (V.While c.in-While.test c.in-While.body) (setting_meant c.args.setting.now) c.args.inside c.args.scope.now c.alone.new.scope (after (condition_typing c.args.scope.now c.in-While.test) (λ code. after (alone (setting_meant c.args.setting.now) true c.args.scope.now (stated c.in-While.body)) (λ row. Ok (T.While code row)))) c.in-While.is (while_stated c.in-While.test c.in-While.body c.args.statement.now.at (setting_meant c.args.setting.now) c.args.inside c.args.scope.now) _ c.in_err-row-in-While.field-0.0 c.from_residual-in_err-row-in-While.ensures.1
-    (while_stops (setting_meant c.args.setting.now) c.args.scope.now c.in-While.test c.in-While.body c.in_ok-code-in-While.code c.in_err-row-in-While.field-0.0 c.in_ok-code-in-While.ensures
-    (subst (λ s. Finds (alone (setting_meant c.args.setting.now) true c.args.scope.now (stated s)) (Err c.in_err-row-in-While.field-0.0)) c.get.ensures c.in_err-row-in-While.ensures.code))
-
-pub statement_of-returns-in_ok-row-in-While-clause-code : goal.statement_of-returns-in_ok-row-in-While-clause-code
-statement_of-returns-in_ok-row-in-While-clause-code t c =
-    leads_on c.args.statement.now (V.While c.in-While.test c.in-While.body) (setting_meant c.args.setting.now) c.args.inside c.args.scope.now c.alone.new.scope (after (condition_typing c.args.scope.now c.in-While.test) (λ code. after (alone (setting_meant c.args.setting.now) true c.args.scope.now (stated c.in-While.body)) (λ row. Ok (T.While code row)))) c.in-While.is (while_stated c.in-While.test c.in-While.body c.args.statement.now.at (setting_meant c.args.setting.now) c.args.inside c.args.scope.now) (Ok (T.While c.in_ok-code-in-While.code c.in_ok-row-in-While.row))
-    (goes _ _ _ (Ok (T.While c.in_ok-code-in-While.code c.in_ok-row-in-While.row)) c.in_ok-code-in-While.ensures
-    (goes _ (λ row. Ok (T.While c.in_ok-code-in-While.code row)) _ (Ok (T.While c.in_ok-code-in-While.code c.in_ok-row-in-While.row)) (ap (λ s. alone (setting_meant c.args.setting.now) true c.args.scope.now (stated s)) (sym c.get.ensures) ∙ c.in_ok-row-in-While.ensures.code) refl))
-    c.in_ok-row-in-While.ensures.same_scope
+pub statement_of-returns-in-While-clause-code : goal.statement_of-returns-in-While-clause-code
+statement_of-returns-in-While-clause-code t c =
+    leads_on c.args.statement.now (V.While c.in-While.test c.in-While.body) (setting_meant c.args.setting.now) c.args.inside c.args.scope.now c.repeated.new.scope (while_typing (setting_meant c.args.setting.now) c.args.scope.now c.in-While.test (stated c.in-While.body)) c.in-While.is (while_stated c.in-While.test c.in-While.body c.args.statement.now.at (setting_meant c.args.setting.now) c.args.inside c.args.scope.now) _
+    (finds_by _ _ _ (ap (λ s. while_typing (setting_meant c.args.setting.now) c.args.scope.now c.in-While.test (stated s)) (sym c.get.ensures)) c.repeated.ensures.code) c.repeated.ensures.same_scope
 
 pub statement_of-returns-in-For-clause-code : goal.statement_of-returns-in-For-clause-code
 statement_of-returns-in-For-clause-code t c =

@@ -39,3 +39,12 @@ decreases-otherwise l = other_weight l.other.now + 2
 
 abbrev pub decreases-for_each : goal.decreases-for_each
 decreases-for_each l = statement_weight l.body.now + 2
+
+abbrev pub decreases-block : goal.decreases-block
+decreases-block l = statement_weights l.statements.now + 2
+
+abbrev pub decreases-choice : goal.decreases-choice
+decreases-choice l = arm_weights l.arms.now + other_weight l.other.now + 3
+
+abbrev pub decreases-repeated : goal.decreases-repeated
+decreases-repeated l = statement_weight l.statement.now + 2

@@ -2,7 +2,7 @@ use Rattle.std.proofs.Common.{◌≡◌, drop}
 use Rattle.language_model.specs.Composites.{functions}
 use Rattle.language_model.specs.FunctionTyping.{each_typed, unit_scope}
 use Rattle.language_model.specs.Finds.{with_front}
-use Rattle.body_rules.proofs.functions.functions_of.Given as goal
+use Rattle.body_rules.proofs.functions.each_function.Given as goal
 
 abbrev pub invariant-loop-definition : goal.invariant-loop-definition
 invariant-loop-definition l = record {
