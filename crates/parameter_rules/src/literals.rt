@@ -1,9 +1,10 @@
 //! The literals of clauses, and what stands for them.
-ghost use Rattle.std.specs.Prelude.{◌≡◌};
+ghost use Rattle.std.specs.Prelude.{◌≡◌, None, Ok};
 ghost use Rattle.std.specs.Option.{option_copied};
 ghost use Rattle.std.specs.Str.{is_utf8};
 ghost use Rattle.spl_tree.specs.declared.expression.ExprKind.TheViews.{out-ExprKind};
 ghost use Rattle.language_model.specs.Literals.{file_or_mismatch, file_typing, is_file_name, number_literal, number_of, text_at};
+ghost use Rattle.language_model.specs.Typing.{after, typing};
 ghost use Rattle.language_model.specs.Finds.{Finds};
 ghost use Rattle.parameter_rules.specs.Sites.{behind_at, numbers_at};
 
@@ -29,6 +30,14 @@ pub struct ExpressionSite<'u> {
     pub follow: Follow<'u>,
 }
 
+/// An expression has to have a type by itself.
+fn has_type(alloc: Global, scope: &Scope, expr: &Expr) -> Result<(), TypeAnswer>
+    ensures { Finds (after (typing scope.now expr.now None) (λ x. Ok tt)) result }
+{
+    type_of(alloc, scope, expr, None)?;
+    Ok(())
+}
+
 /// The number literal that an expression stands for: it is one, or a `$` parameter behind which there
 /// is one. Either has a type, so a literal is held to the range of its own.
 pub(crate) fn number_literal(
@@ -40,11 +49,11 @@ pub(crate) fn number_literal(
 {
     match expr.what.get() {
         ExprKind::Number(number) => {
-            type_of(alloc, site.scope, expr, None)?;
+            has_type(alloc, site.scope, expr)?;
             Ok(Some(*number))
         }
         ExprKind::Dollar(_) => {
-            type_of(alloc, site.scope, expr, None)?;
+            has_type(alloc, site.scope, expr)?;
             match site.follow.behind(expr) {
                 Some(literal) => Ok(number_of(literal)),
                 None => Ok(None),

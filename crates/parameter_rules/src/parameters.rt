@@ -83,8 +83,8 @@ fn parameter_typing(
     if has_name(given, name) {
         return Err(extra(alloc, parameter.name.at, name));
     }
-    let value = value_of(alloc, site, role, parameter)?;
     let name = Items::from_slice(alloc, name)?;
+    let value = value_of(alloc, site, role, parameter)?;
     Ok(Given { name, value })
 }
 

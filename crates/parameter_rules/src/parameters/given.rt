@@ -44,6 +44,9 @@ fn take_value(given: &mut Items<Given>, name: &[u8]) -> Option<ParameterValue>
     Some(given.remove(at).value)
 }
 
+/// Lets go of a value.
+fn release(_value: Option<ParameterValue>) {}
+
 /// The code of a condition or an index, by its name. What is given by other names stays.
 pub fn take_code(given: &mut Items<Given>, name: &[u8]) -> Option<Code<Slot>>
     ensures code { result ≡ code_given given.old name.now }
@@ -62,7 +65,10 @@ pub fn take_file(alloc: Global, given: &mut Items<Given>) -> Bytes
 {
     match take_value(given, b"file") {
         Some(ParameterValue::File(bytes)) => bytes,
-        _ => Items::new(alloc),
+        other => {
+            release(other);
+            Items::new(alloc)
+        }
     }
 }
 
@@ -74,7 +80,10 @@ pub fn take_places(alloc: Global, given: &mut Items<Given>, name: &[u8]) -> Plac
 {
     match take_value(given, name) {
         Some(ParameterValue::Places(places)) => places,
-        _ => Items::new(alloc),
+        other => {
+            release(other);
+            Items::new(alloc)
+        }
     }
 }
 

@@ -13,7 +13,7 @@ use crate::literals::refusals::mismatch;
 use crate::literals::{ExpressionSite, file_name};
 use language_model::{ParameterValue, Position, TypeAnswer, Typed};
 use spl_tree::{Code, Expr, ExprKind, Parameter, Slot};
-use spl_value::SplType;
+use spl_value::{Boxed, SplType};
 use std::alloc::Global;
 use type_rules::type_of;
 
@@ -77,7 +77,7 @@ fn single_value(
         Role::Position => position_of(value),
         Role::Index => {
             let Typed { kind, code } = type_of(alloc, site.scope, value, None)?;
-            index(value.at, kind.get(), code.into_inner())
+            index(value.at, kind.get(), code)
         }
         Role::Attributes => Err(mismatch(value.at)),
     }
@@ -125,11 +125,11 @@ fn position_of(value: &Expr) -> Result<ParameterValue, TypeAnswer>
 }
 
 /// An index is an integer of any type.
-fn index(at: u32, kind: &SplType, code: Code<Slot>) -> Result<ParameterValue, TypeAnswer>
+fn index(at: u32, kind: &SplType, code: Boxed<Code<Slot>>) -> Result<ParameterValue, TypeAnswer>
     ensures { Finds (level_index at code (out-SplType kind.now)) result }
 {
     match kind {
-        SplType::Int(_) => Ok(ParameterValue::Code(code)),
+        SplType::Int(_) => Ok(ParameterValue::Code(code.into_inner())),
         _ => Err(mismatch(at)),
     }
 }

@@ -32,7 +32,7 @@ returns-in_err-value c =
     let before = reverse (map (λ g. g.name) c.args.given.now) in
     let is = ap (role_of c.args.kind c.args.partitioned) (sym c.as_slice-name.ensures) ∙ sym c.in-Some.ensures in
     let had = sym c.has_name.ensures ∙ c.if-has_name.false in
-    fails _ _ _ c.in_err-value.field-0.0 c.from_residual.ensures.1
+    fails _ _ _ c.in_err-value.field-0.0 c.from_residual-in_err-value.ensures.1
     (parameter_once site before p _ role is (ap (λ name. list_any (λ n. bytes_eq n name) before) (sym c.as_slice-name.ensures) ∙ had))
     (stops (value_typing site p role) (λ value. Ok (record { name = p.name.what; value = value })) c.in_err-value.field-0.0 c.in_err-value.ensures)
 
