@@ -22,7 +22,7 @@ use std::alloc::Global;
 use written_types::{TypeScope, TypeTable, attributes_of, type_of_written};
 
 /// The types of a function: of its result, where it has one, and of its parameters.
-#[derive(Debug, Drop)]
+#[derive(Drop)]
 struct FunctionTypes {
     result: Option<SplType>,
     parameters: Schema,

@@ -1,4 +1,4 @@
-use Rattle.std.proofs.Common.{◌≡◌, ◌∙◌, ◌+◌, ◌∷◌, ◌++◌, [], Ok, Err, true, false, ap, arith, drop, length, refl, subst, sym}
+use Rattle.std.proofs.Common.{◌∙◌, ◌+◌, ◌∷◌, ◌++◌, [], Ok, Err, true, false, ap, arith, drop, refl, subst, sym}
 use Rattle.spl_tree.specs.declared.body.Statement.TheVariants as T
 use Rattle.spl_tree.specs.declared.statement.StmtKind.TheVariants as V
 use Rattle.language_model.specs.BodyFits.{with_variable}

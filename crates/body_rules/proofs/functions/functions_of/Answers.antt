@@ -1,4 +1,4 @@
-use Rattle.std.proofs.Common.{◌≡◌, ◌∙◌, ap, subst, sym}
+use Rattle.std.proofs.Common.{◌≡◌, ◌∙◌, ap, sym}
 use Rattle.language_model.specs.FunctionTyping.{unit_scope}
 use Rattle.language_model.specs.TypeNames.{types_of, unit_types}
 use Rattle.language_model.specs.Typing.{unknown}
