@@ -138,14 +138,14 @@ fn otherwise(
     setting: &BodySetting,
     inside: bool,
     scope: &mut Scope,
-    other: &Option<Boxed<Stmt>>,
+    other: &Option<Stmt>,
 ) -> Result<Body, TypeAnswer>
     ensures code { Finds (other_typing (setting_meant setting.now) inside scope.old (other_stated other.now)) result }
     ensures same_scope { IfOk result (λ _. scope.new ≡ scope.old) }
 {
     match other {
         None => Ok(Items::new(alloc)),
-        Some(statement) => alone(alloc, setting, inside, scope, statement.get()),
+        Some(statement) => alone(alloc, setting, inside, scope, statement),
     }
 }
 
@@ -195,7 +195,7 @@ fn choice(
     inside: bool,
     scope: &mut Scope,
     arms: &[(Expr, Stmt)],
-    other: &Option<Boxed<Stmt>>,
+    other: &Option<Stmt>,
 ) -> Result<Statement, TypeAnswer>
     ensures code { Finds (if_typing (setting_meant setting.now) inside scope.old (arms_stated arms.now) (other_stated other.now)) result }
     ensures same_scope { IfOk result (λ _. scope.new ≡ scope.old) }
@@ -235,7 +235,7 @@ fn statement_of(
     ensures longer { IfOk result (λ _. shortened (length scope.old.vars) scope.new ≡ scope.old) }
 {
     let at = statement.at;
-    match &statement.what {
+    match statement.what.get() {
         StmtKind::Block(statements) => {
             block(alloc, setting, inside, scope, statements.as_slice())
         }
@@ -247,9 +247,9 @@ fn statement_of(
         StmtKind::If(arms, other) => {
             choice(alloc, setting, inside, scope, arms.as_slice(), other)
         }
-        StmtKind::While(test, body) => repeated(alloc, setting, scope, test, body.get()),
+        StmtKind::While(test, body) => repeated(alloc, setting, scope, test, body),
         StmtKind::For(variable, values, body) => {
-            for_each(alloc, setting, scope, variable, values, body.get())
+            for_each(alloc, setting, scope, variable, values, body)
         }
         StmtKind::Break => {
             leave_loop(at, inside)?;

@@ -9,7 +9,7 @@ use spl_tree::{
     Clauses, Declaration, Expr, ExprKind, Field, Handler, Logic, OutputAssignments, Parameter,
     Placed, PortWindow, Step, Stmt, StmtKind, WindowPart,
 };
-use spl_value::{Boxed, Items, Name, NoMemory};
+use spl_value::{Items, Name, NoMemory};
 use std::alloc::Global;
 
 /// What is called, or the name of a `$` parameter without the `$`.
@@ -128,7 +128,7 @@ fn of_both<'u>(first: &'u Expr, second: &'u Expr, out: &mut Mentions<'u>) -> Res
 fn of_statement<'u>(statement: &'u Stmt, out: &mut Mentions<'u>) -> Result<(), NoMemory>
     ensures { Adds out.old.items out.new.items (statement_mentions statement.now.what) result }
 {
-    match &statement.what {
+    match statement.what.get() {
         StmtKind::Block(block) => of_statements(block.as_slice(), out),
         StmtKind::Declare(declaration) => of_optional(&declaration.value, out),
         StmtKind::Assign(place, _, value) => of_both(place, value, out),
@@ -136,7 +136,7 @@ fn of_statement<'u>(statement: &'u Stmt, out: &mut Mentions<'u>) -> Result<(), N
         StmtKind::If(arms, other) => of_if(arms.as_slice(), other, out),
         StmtKind::While(expr, body) | StmtKind::For(_, expr, body) => {
             of_expr(expr, out)?;
-            of_statement(body.get(), out)
+            of_statement(body, out)
         }
         StmtKind::Break | StmtKind::Continue => Ok(()),
         StmtKind::Return(value) => of_optional(value, out),
@@ -167,14 +167,14 @@ fn of_arms<'u>(arms: &'u [(Expr, Stmt)], out: &mut Mentions<'u>) -> Result<(), N
 #[cycle(bodies)]
 fn of_if<'u>(
     arms: &'u [(Expr, Stmt)],
-    other: &'u Option<Boxed<Stmt>>,
+    other: &'u Option<Stmt>,
     out: &mut Mentions<'u>,
 ) -> Result<(), NoMemory>
     ensures { Adds out.old.items out.new.items (flat_map arm_mentions arms.now ++ other_mentions other.now) result }
 {
     of_arms(arms, out)?;
     match other {
-        Some(statement) => of_statement(statement.get(), out),
+        Some(statement) => of_statement(statement, out),
         None => Ok(()),
     }
 }

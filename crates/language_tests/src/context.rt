@@ -151,7 +151,7 @@ impl Context {
                 name,
                 value: Some(value),
             },
-        ) = &declared.what
+        ) = declared.what.get()
         else {
             return Err(Unanswered::Unread("no declaration"));
         };

@@ -1,8 +1,8 @@
 use crate::{LeftOut, Placed};
 use spl_value::{Boxed, IntKind, Items, Name};
 
-/// A type as it is written, at its first token.
-pub type TypeExpr = Placed<TypeKind>;
+/// A type as it is written, at its first token. What it is stands in a box, as with `Expr`.
+pub type TypeExpr = Placed<Boxed<TypeKind>>;
 
 /// What a written type is.
 #[derive(Drop)]
@@ -16,9 +16,9 @@ pub enum TypeKind {
     /// A name that stands for a type.
     Name(Name),
     /// `list<element>`
-    List(Boxed<TypeExpr>),
+    List(TypeExpr),
     /// `map<key, value>`
-    Map(Boxed<TypeExpr>, Boxed<TypeExpr>),
+    Map(TypeExpr, TypeExpr),
     /// `tuple<type name, ..>`, with one attribute or more
     Tuple(Items<Attribute<TypeExpr>>),
 }

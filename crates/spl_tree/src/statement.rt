@@ -1,8 +1,8 @@
 use crate::{Attribute, BinaryOperator, Expr, Placed, TypeExpr};
 use spl_value::{Boxed, Items, Name};
 
-/// A statement as it is written, at its first token.
-pub type Stmt = Placed<StmtKind>;
+/// A statement as it is written, at its first token. What it is stands in a box, as with `Expr`.
+pub type Stmt = Placed<Boxed<StmtKind>>;
 
 /// Statements between braces.
 pub type Block = Items<Stmt>;
@@ -19,10 +19,10 @@ pub enum StmtKind {
     Call(Expr),
     /// The condition and the statement of `if` and of each `else if` behind it, one or more; and the
     /// statement behind an `else` without `if`, where there is one.
-    If(Items<(Expr, Stmt)>, Option<Boxed<Stmt>>),
-    While(Expr, Boxed<Stmt>),
+    If(Items<(Expr, Stmt)>, Option<Stmt>),
+    While(Expr, Stmt),
     /// `for (type name in value) statement`
-    For(Attribute<TypeExpr>, Expr, Boxed<Stmt>),
+    For(Attribute<TypeExpr>, Expr, Stmt),
     Break,
     Continue,
     Return(Option<Expr>),

@@ -99,6 +99,11 @@ pub rule_fails : {A : Type 0} (q r : R A) (ts mid : List Token) (res : Answered 
     → ((o : Answer A) → RunsTo rule r mid o → RunsTo rule q ts o) → Comes r mid (Err e) → Comes q ts res
 rule_fails {A} q r ts mid res e h on c = exit (Comes q ts) res e h (says_on {P = RunsTo rule r mid} {Q = RunsTo rule q ts} on (Err e) c)
 
+-- a rule that comes to the rule r at mid comes to what is answered of it
+pub rule_on : {A : Type 0} (q r : R A) (ts mid : List Token) (res : Answered A) → ((o : Answer A) → RunsTo rule r mid o → RunsTo rule q ts o) → Comes r mid res
+    → Comes q ts res
+rule_on q r ts mid res on c = says_on {P = RunsTo rule r mid} {Q = RunsTo rule q ts} on res c
+
 -- ---- where a rule stops
 
 -- a test that fails and no other way

@@ -8,7 +8,7 @@ use Rattle.spl_tree.specs.Grammar.{Expr, placed}
 use Rattle.expr_parser.specs.declared.stop.Stop.{Stop}
 use Rattle.expr_parser.specs.declared.stop.Stop.TheVariants as S
 use Rattle.expr_parser.specs.Rules.{done, stop, look, call, Answer, Took, Refused, Spent, and_then, run, read, RunsTo, Reads}
-use Rattle.expr_parser.specs.RuleLaws.{run_more, begins_with, runs_done, runs_take, runs_skip}
+use Rattle.expr_parser.specs.RuleLaws.{run_more, begins_with, runs_take, runs_skip}
 use Rattle.expr_parser.specs.Locality.{rest_of, shrinks}
 use Rattle.expr_parser.specs.Taken.{Taken}
 use Rattle.unit_parser.specs.Gives.{Comes}
@@ -176,9 +176,10 @@ statement_shrinks {ts = ts} h = subst (λ o. Less o (length ts)) h.is (line_less
 
 module _ (at : ℕ) (arms : List (Expr × Stmt)) {ts : List Token} where
   -- no `else`
-  pub arms_none : (closed : Bool) → (closed ≡ true → begins_with (is_word K.Else) ts ≡ false) → RunsTo rule (lines.arms_end at arms closed) ts (Took (placed at (Z.If arms None), false) ts)
-  arms_none true h = runs_skip ts (h refl) runs_done
-  arms_none false h = runs_done
+  pub arms_none : (closed : Bool) {o : Answer (Stmt × Bool)} → (closed ≡ true → begins_with (is_word K.Else) ts ≡ false) → RunsTo rule (done (placed at (Z.If arms None), false)) ts o
+      → RunsTo rule (lines.arms_end at arms closed) ts o
+  arms_none true h r = runs_skip ts (h refl) r
+  arms_none false h r = r
 
   -- an `else`
   pub arms_else : (closed : Bool) {rest : List Token} {o : Answer (Stmt × Bool)} → (closed ≡ true) × ((t : Token) × Taken (is_word K.Else) ts t rest)

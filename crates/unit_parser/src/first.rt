@@ -93,8 +93,8 @@ pub(crate) fn type_first<'t>(
         },
         _ => return Ok(None),
     };
-    let at = token.start;
-    Ok(Some((Placed { at, what }, rest)))
+    let kind = Placed::boxed(alloc, token.start, what)?;
+    Ok(Some((kind, rest)))
 }
 
 fn assignment_symbol(symbol: Symbol) -> Option<Option<BinaryOperator>>

@@ -2,6 +2,7 @@
 ghost use Rattle.std.specs.Prelude.{[]};
 ghost use Rattle.expr_parser.specs.Gives.{Answers};
 ghost use Rattle.expr_parser.specs.Lines as expressions;
+ghost use Rattle.expr_parser.specs.Rules.{done};
 ghost use Rattle.spl_tree.specs.declared.expression.ExprKind.TheVariants as X;
 ghost use Rattle.spl_tree.specs.declared.statement.StmtKind.TheVariants as Z;
 ghost use Rattle.spl_tree.specs.Grammar.{placed};
@@ -56,15 +57,29 @@ pub(crate) fn for_head<'t>(alloc: Global, ts: &'t [Token]) -> Taken<'t, (Attribu
     Ok(((Attribute { kind, name }, over), behind))
 }
 
+/// The statement of that kind at a place, with whether it is closed.
+pub(crate) fn statement_at<'t>(
+    alloc: Global,
+    at: u32,
+    what: StmtKind,
+    closed: bool,
+    ts: &'t [Token],
+) -> Taken<'t, (Stmt, bool)>
+    ensures { Comes (done (placed at what, closed)) ts.now result }
+{
+    let statement = Placed::boxed(alloc, at, what)?;
+    Ok(((statement, closed), ts))
+}
+
 /// A statement with no statement in it.
 pub(crate) fn simple_statement<'t>(alloc: Global, ts: &'t [Token]) -> Taken<'t, (Stmt, bool)>
     ensures { Comes lines.simple_rule ts.now result }
 {
     if let Some((word, behind)) = word_first(ts, Keyword::Break) {
-        return broken(word.start, behind);
+        return broken(alloc, word.start, behind);
     }
     if let Some((word, behind)) = word_first(ts, Keyword::Continue) {
-        return continued(word.start, behind);
+        return continued(alloc, word.start, behind);
     }
     if let Some((word, behind)) = word_first(ts, Keyword::Return) {
         return returned(alloc, word.start, behind);
@@ -86,21 +101,19 @@ pub(crate) fn simple_statement<'t>(alloc: Global, ts: &'t [Token]) -> Taken<'t, 
 }
 
 /// A `break`, behind its word.
-fn broken<'t>(at: u32, ts: &'t [Token]) -> Taken<'t, (Stmt, bool)>
+fn broken<'t>(alloc: Global, at: u32, ts: &'t [Token]) -> Taken<'t, (Stmt, bool)>
     ensures { Comes (lines.ended_rule at Z.Break) ts.now result }
 {
     let behind = pass(ts, Symbol::Semicolon)?;
-    let what = StmtKind::Break;
-    Ok(((Placed { at, what }, true), behind))
+    statement_at(alloc, at, StmtKind::Break, true, behind)
 }
 
 /// A `continue`, behind its word.
-fn continued<'t>(at: u32, ts: &'t [Token]) -> Taken<'t, (Stmt, bool)>
+fn continued<'t>(alloc: Global, at: u32, ts: &'t [Token]) -> Taken<'t, (Stmt, bool)>
     ensures { Comes (lines.ended_rule at Z.Continue) ts.now result }
 {
     let behind = pass(ts, Symbol::Semicolon)?;
-    let what = StmtKind::Continue;
-    Ok(((Placed { at, what }, true), behind))
+    statement_at(alloc, at, StmtKind::Continue, true, behind)
 }
 
 /// A `return`, behind its word.
@@ -108,13 +121,11 @@ fn returned<'t>(alloc: Global, at: u32, ts: &'t [Token]) -> Taken<'t, (Stmt, boo
     ensures { Comes (lines.returned_rule at) ts.now result }
 {
     if let Some((_, behind)) = after(ts, Symbol::Semicolon) {
-        let what = StmtKind::Return(None);
-        return Ok(((Placed { at, what }, true), behind));
+        return statement_at(alloc, at, StmtKind::Return(None), true, behind);
     }
     let (value, behind) = read_expression(alloc, ts)?;
     let behind = pass(behind, Symbol::Semicolon)?;
-    let what = StmtKind::Return(Some(value));
-    Ok(((Placed { at, what }, true), behind))
+    statement_at(alloc, at, StmtKind::Return(Some(value)), true, behind)
 }
 
 /// A `submit`, behind its word.
@@ -127,8 +138,7 @@ fn submitted<'t>(alloc: Global, at: u32, ts: &'t [Token]) -> Taken<'t, (Stmt, bo
     let (stream, behind) = pass_name(alloc, behind)?;
     let behind = pass(behind, Symbol::RightParen)?;
     let behind = pass(behind, Symbol::Semicolon)?;
-    let what = StmtKind::Submit(value, stream);
-    Ok(((Placed { at, what }, true), behind))
+    statement_at(alloc, at, StmtKind::Submit(value, stream), true, behind)
 }
 
 /// A declaration as a statement, behind its `mutable`.
@@ -137,8 +147,7 @@ fn mutable_variable<'t>(alloc: Global, at: u32, ts: &'t [Token]) -> Taken<'t, (S
 {
     let (kind, behind) = read_type(alloc, ts)?;
     let (declaration, behind) = declared(alloc, true, kind, behind)?;
-    let what = StmtKind::Declare(declaration);
-    Ok(((Placed { at, what }, true), behind))
+    statement_at(alloc, at, StmtKind::Declare(declaration), true, behind)
 }
 
 /// A declaration as a statement, without `mutable`.
@@ -148,8 +157,7 @@ fn variable<'t>(alloc: Global, ts: &'t [Token]) -> Taken<'t, (Stmt, bool)>
     let (kind, behind) = read_type(alloc, ts)?;
     let at = kind.at;
     let (declaration, behind) = declared(alloc, false, kind, behind)?;
-    let what = StmtKind::Declare(declaration);
-    Ok(((Placed { at, what }, true), behind))
+    statement_at(alloc, at, StmtKind::Declare(declaration), true, behind)
 }
 
 /// A statement behind the name with which it begins: a declaration, a call or an assignment.
@@ -158,11 +166,10 @@ fn begun<'t>(alloc: Global, at: u32, name: Name, ts: &'t [Token]) -> Taken<'t, S
 {
     if name_first(ts).is_some() {
         let (variable, behind) = pass_name(alloc, ts)?;
-        let what = TypeKind::Name(name);
-        let kind = Placed { at, what };
+        let kind = Placed::boxed(alloc, at, TypeKind::Name(name))?;
         let (declaration, behind) = valued(alloc, false, kind, variable, behind)?;
-        let what = StmtKind::Declare(declaration);
-        return Ok((Placed { at, what }, behind));
+        let statement = Placed::boxed(alloc, at, StmtKind::Declare(declaration))?;
+        return Ok((statement, behind));
     }
     match after(ts, Symbol::LeftParen) {
         Some((_, behind)) => called(alloc, at, name, behind),
@@ -177,8 +184,8 @@ fn called<'t>(alloc: Global, at: u32, name: Name, ts: &'t [Token]) -> Taken<'t, 
     let (arguments, behind) = read_elements(alloc, Symbol::RightParen, ts)?;
     let behind = pass(behind, Symbol::Semicolon)?;
     let call = Placed::boxed(alloc, at, ExprKind::Call(name, arguments))?;
-    let what = StmtKind::Call(call);
-    Ok((Placed { at, what }, behind))
+    let statement = Placed::boxed(alloc, at, StmtKind::Call(call))?;
+    Ok((statement, behind))
 }
 
 /// A place, behind the name with which it begins.
@@ -199,6 +206,6 @@ fn assigned<'t>(alloc: Global, at: u32, name: Name, ts: &'t [Token]) -> Taken<'t
     };
     let (value, behind) = read_expression(alloc, behind)?;
     let behind = pass(behind, Symbol::Semicolon)?;
-    let what = StmtKind::Assign(place, operator, value);
-    Ok((Placed { at, what }, behind))
+    let statement = Placed::boxed(alloc, at, StmtKind::Assign(place, operator, value))?;
+    Ok((statement, behind))
 }

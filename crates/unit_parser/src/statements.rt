@@ -5,10 +5,10 @@ ghost use Rattle.unit_parser.specs.Gives.{Gives, Comes};
 ghost use Rattle.unit_parser.specs.Lines as lines;
 
 use crate::first::word_first;
-use crate::simple::{condition, else_first, for_head, simple_statement};
+use crate::simple::{condition, else_first, for_head, simple_statement, statement_at};
 use expr_parser::{Stop, Taken, after, pass};
-use spl_tree::{Block, Expr, Keyword, Placed, Stmt, StmtKind, Symbol, Token};
-use spl_value::{Boxed, Items};
+use spl_tree::{Block, Expr, Keyword, Stmt, StmtKind, Symbol, Token};
+use spl_value::Items;
 use std::alloc::Global;
 
 /// How deep statements may nest in one another: deeper than the weights of tokens allow blocks to.
@@ -88,8 +88,7 @@ fn braces<'t>(alloc: Global, depth: u32, at: u32, ts: &'t [Token]) -> Taken<'t, 
         return Err(Stop::Memory);
     };
     let (inside, behind) = statements(alloc, depth, ts)?;
-    let what = StmtKind::Block(inside);
-    Ok(((Placed { at, what }, true), behind))
+    statement_at(alloc, at, StmtKind::Block(inside), true, behind)
 }
 
 /// A `while`, behind its word.
@@ -99,8 +98,7 @@ fn while_loop<'t>(alloc: Global, depth: u32, at: u32, ts: &'t [Token]) -> Taken<
 {
     let (condition, behind) = condition(alloc, ts)?;
     let ((body, closed), behind) = nested(alloc, depth, behind)?;
-    let what = StmtKind::While(condition, Boxed::new(alloc, body)?);
-    Ok(((Placed { at, what }, closed), behind))
+    statement_at(alloc, at, StmtKind::While(condition, body), closed, behind)
 }
 
 /// A `for`, behind its word.
@@ -110,8 +108,13 @@ fn for_loop<'t>(alloc: Global, depth: u32, at: u32, ts: &'t [Token]) -> Taken<'t
 {
     let ((variable, over), behind) = for_head(alloc, ts)?;
     let ((body, closed), behind) = nested(alloc, depth, behind)?;
-    let what = StmtKind::For(variable, over, Boxed::new(alloc, body)?);
-    Ok(((Placed { at, what }, closed), behind))
+    statement_at(
+        alloc,
+        at,
+        StmtKind::For(variable, over, body),
+        closed,
+        behind,
+    )
 }
 
 /// The conditions of an `if` and of each `else if` behind it, with their statements, and the statement
@@ -127,8 +130,7 @@ fn arms<'t>(alloc: Global, depth: u32, at: u32, ts: &'t [Token]) -> Taken<'t, (S
         let ((body, closed), behind) = nested(alloc, depth, behind)?;
         all.push((condition, body))?;
         let Some(behind) = else_first(closed, behind) else {
-            let what = StmtKind::If(all, None);
-            return Ok(((Placed { at, what }, false), behind));
+            return statement_at(alloc, at, StmtKind::If(all, None), false, behind);
         };
         let Some((_, behind)) = word_first(behind, Keyword::If) else {
             return last_branch(alloc, depth, at, all, behind);
@@ -152,6 +154,5 @@ fn last_branch<'t>(
         return Err(Stop::Memory);
     };
     let ((body, closed), behind) = other(alloc, depth, ts)?;
-    let what = StmtKind::If(arms, Some(Boxed::new(alloc, body)?));
-    Ok(((Placed { at, what }, closed), behind))
+    statement_at(alloc, at, StmtKind::If(arms, Some(body)), closed, behind)
 }

@@ -8,7 +8,7 @@ use expr_parser::{Stop, Taken, after, name_first, pass, pass_name};
 use spl_tree::{
     Attribute, Attributes, Keyword, Placed, Shape, ShapeKind, Symbol, Token, TypeExpr, TypeKind,
 };
-use spl_value::{Boxed, Items};
+use spl_value::Items;
 use std::alloc::Global;
 
 /// How deep types may nest in one another: deeper than the weights of tokens allow. The stack is
@@ -52,8 +52,8 @@ fn list_type<'t>(alloc: Global, depth: u32, at: u32, ts: &'t [Token]) -> Taken<'
     let behind = pass(ts, Symbol::Less)?;
     let (element, behind) = type_at(alloc, depth, behind)?;
     let behind = pass(behind, Symbol::Greater)?;
-    let what = TypeKind::List(Boxed::new(alloc, element)?);
-    Ok((Placed { at, what }, behind))
+    let kind = Placed::boxed(alloc, at, TypeKind::List(element))?;
+    Ok((kind, behind))
 }
 
 /// A type of maps, behind `map`.
@@ -66,8 +66,8 @@ fn map_type<'t>(alloc: Global, depth: u32, at: u32, ts: &'t [Token]) -> Taken<'t
     let behind = pass(behind, Symbol::Comma)?;
     let (value, behind) = type_at(alloc, depth, behind)?;
     let behind = pass(behind, Symbol::Greater)?;
-    let what = TypeKind::Map(Boxed::new(alloc, key)?, Boxed::new(alloc, value)?);
-    Ok((Placed { at, what }, behind))
+    let kind = Placed::boxed(alloc, at, TypeKind::Map(key, value))?;
+    Ok((kind, behind))
 }
 
 /// A type of tuples, behind `tuple`.
@@ -77,8 +77,8 @@ fn tuple_type<'t>(alloc: Global, depth: u32, at: u32, ts: &'t [Token]) -> Taken<
 {
     let behind = pass(ts, Symbol::Less)?;
     let (attributes, behind) = attributes(alloc, depth, Symbol::Greater, behind)?;
-    let what = TypeKind::Tuple(attributes);
-    Ok((Placed { at, what }, behind))
+    let kind = Placed::boxed(alloc, at, TypeKind::Tuple(attributes))?;
+    Ok((kind, behind))
 }
 
 /// One type with a name or more, with commas between them, and the symbol that closes them.

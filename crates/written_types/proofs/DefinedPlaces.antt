@@ -19,15 +19,14 @@ pub places_of-append : (definitions : List TypeDefinition) (xs ys : Names) → p
 places_of-append definitions xs ys = filter_map-append (λ name. option_map (λ d. d.place) (definition_of definitions name)) xs ys
 
 -- the places of a map's key and of its value
-pub map_places : (definitions : List TypeDefinition) (written k v key value : TypeExpr) (before now new : List ℕ) → written.what ≡ V.Map k v → key ≡ k → value ≡ v
-    → now ≡ before ++ places_of definitions (type_names key) → new ≡ now ++ places_of definitions (type_names value)
+pub map_places : (definitions : List TypeDefinition) (written k v : TypeExpr) (before now new : List ℕ) → written.what ≡ V.Map k v
+    → now ≡ before ++ places_of definitions (type_names k) → new ≡ now ++ places_of definitions (type_names v)
     → new ≡ before ++ places_of definitions (type_names written)
-map_places definitions written k v key value before now new is key_is value_is first second =
+map_places definitions written k v before now new is first second =
     let keys = places_of definitions (type_names k) in
     let values = places_of definitions (type_names v) in
     second
-    ∙ (λ i. first i ++ places_of definitions (type_names (value_is i)))
-    ∙ ap (λ t. (before ++ places_of definitions (type_names t)) ++ values) key_is
+    ∙ ap (λ ps. ps ++ values) first
     ∙ append_assoc before keys values
     ∙ ap (λ ps. before ++ ps) (sym (places_of-append definitions (type_names k) (type_names v)) ∙ ap (places_of definitions) (sym (ap kind_names_in is ∙ map_names k v)))
 

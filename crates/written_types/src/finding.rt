@@ -112,19 +112,19 @@ fn type_at(
     ensures { Finds (type_meant (types_in scope.now) written.now) result }
 {
     let levels = enter(levels, parts)?;
-    match &written.what {
+    match written.what.get() {
         TypeKind::Boolean => in_box(alloc, SplType::Bool),
         TypeKind::Rstring => in_box(alloc, SplType::Text),
         TypeKind::Int(kind) => in_box(alloc, SplType::Int(*kind)),
         TypeKind::LeftOut(word) => left_out(alloc, written.at, *word),
         TypeKind::Name(name) => named(alloc, scope, written.at, name.as_slice(), levels, parts),
         TypeKind::List(element) => {
-            let element = type_at(alloc, scope, element.get(), levels, parts)?;
+            let element = type_at(alloc, scope, element, levels, parts)?;
             in_box(alloc, SplType::List(element))
         }
         TypeKind::Map(key, value) => {
-            let key = type_at(alloc, scope, key.get(), levels, parts)?;
-            let value = type_at(alloc, scope, value.get(), levels, parts)?;
+            let key = type_at(alloc, scope, key, levels, parts)?;
+            let value = type_at(alloc, scope, value, levels, parts)?;
             in_box(alloc, SplType::Map(key, value))
         }
         TypeKind::Tuple(attributes) => {

@@ -23,17 +23,17 @@ fn add_of_type(
     let Some(levels) = levels.checked_sub(1) else {
         return Err(NoMemory);
     };
-    match &written.what {
+    match written.what.get() {
         TypeKind::Name(name) => {
             if let Some(place) = definitions.place(name.as_slice()) {
                 places.push(place)?;
             }
             Ok(())
         }
-        TypeKind::List(element) => add_of_type(definitions, element.get(), levels, places),
+        TypeKind::List(element) => add_of_type(definitions, element, levels, places),
         TypeKind::Map(key, value) => {
-            add_of_type(definitions, key.get(), levels, places)?;
-            add_of_type(definitions, value.get(), levels, places)?;
+            add_of_type(definitions, key, levels, places)?;
+            add_of_type(definitions, value, levels, places)?;
             Ok(())
         }
         TypeKind::Tuple(attributes) => {

@@ -22,11 +22,11 @@ pub fn ends_with_result(statements: &[Stmt]) -> bool
 fn is_result(statement: &Stmt) -> bool
     ensures { result ≡ kind_returns statement.now.what }
 {
-    match &statement.what {
+    match statement.what.get() {
         StmtKind::Return(_) => true,
         StmtKind::Block(statements) => ends_with_result(statements.as_slice()),
         StmtKind::If(arms, other) => match other {
-            Some(other) => are_results(arms.as_slice()) && is_result(other.get()),
+            Some(other) => are_results(arms.as_slice()) && is_result(other),
             None => false,
         },
         _ => false,

@@ -115,7 +115,7 @@ fn alone(shape: &Shape) -> Option<&Name>
     ensures { option_copied result ≡ kind_alone shape.now.what }
 {
     match &shape.what {
-        ShapeKind::Type(written) => match &written.what {
+        ShapeKind::Type(written) => match written.what.get() {
             TypeKind::Name(name) => Some(name),
             TypeKind::Boolean
             | TypeKind::Rstring

@@ -16,7 +16,7 @@ impl Declares for Stmt {
     ghost own = { λ statement. own_variable statement.what };
 
     fn own_name(&self) -> Option<&Placed<Name>> {
-        match &self.what {
+        match self.what.get() {
             StmtKind::Declare(declaration) => Some(&declaration.name),
             StmtKind::Block(_)
             | StmtKind::Assign(_, _, _)
@@ -42,20 +42,20 @@ fn earliest_in_statement<'u>(
 ) -> Repeated<'u>
     ensures { IfOk result (λ found. option_copied found ≡ earliest_in (option_copied best.entry) (statement_scoped statement.now.what).sets) }
 {
-    match &statement.what {
+    match statement.what.get() {
         StmtKind::Block(statements) => earliest_in_block(alloc, best, statements.as_slice()),
         StmtKind::Declare(declaration) => earliest_in_type(alloc, best, &declaration.kind),
         StmtKind::If(arms, other) => {
             let found = earliest_in_arms(alloc, best, arms.as_slice())?;
             match other {
                 None => Ok(found),
-                Some(other) => earliest_in_statement(alloc, found, other.get()),
+                Some(other) => earliest_in_statement(alloc, found, other),
             }
         }
-        StmtKind::While(_, body) => earliest_in_statement(alloc, best, body.get()),
+        StmtKind::While(_, body) => earliest_in_statement(alloc, best, body),
         StmtKind::For(variable, _, body) => {
             let found = earliest_in_type(alloc, best, &variable.kind)?;
-            earliest_in_statement(alloc, found, body.get())
+            earliest_in_statement(alloc, found, body)
         }
         StmtKind::Assign(_, _, _)
         | StmtKind::Call(_)

@@ -19,11 +19,11 @@ pub(super) fn earliest_in_type<'u>(
 ) -> Repeated<'u>
     ensures { IfOk result (λ found. option_copied found ≡ earliest_in (option_copied best.entry) (type_sets written.now)) }
 {
-    match &written.what {
-        TypeKind::List(element) => earliest_in_type(alloc, best, element.get()),
+    match written.what.get() {
+        TypeKind::List(element) => earliest_in_type(alloc, best, element),
         TypeKind::Map(key, value) => {
-            let found = earliest_in_type(alloc, best, key.get())?;
-            earliest_in_type(alloc, found, value.get())
+            let found = earliest_in_type(alloc, best, key)?;
+            earliest_in_type(alloc, found, value)
         }
         TypeKind::Tuple(attributes) => {
             earliest_in_attributes(alloc, best, attributes.as_slice())

@@ -42,13 +42,13 @@ fn statement_within(text: &mut Text, room: u32, statement: &Stmt) {
         return text.add("..");
     };
     text.add_at(statement.at);
-    match &statement.what {
+    match statement.what.get() {
         StmtKind::Block(inside) => block_within(text, room, inside.as_slice()),
         StmtKind::If(arms, other) => {
             arms_within(text, room, arms.as_slice());
             if let Some(other) = other {
                 text.add(" else [");
-                statement_within(text, room, other.get());
+                statement_within(text, room, other);
                 text.add("]");
             }
         }
@@ -56,7 +56,7 @@ fn statement_within(text: &mut Text, room: u32, statement: &Stmt) {
             text.add("while (");
             add_expression(text, condition);
             text.add(") [");
-            statement_within(text, room, body.get());
+            statement_within(text, room, body);
             text.add("]");
         }
         StmtKind::For(variable, over, body) => {
@@ -67,7 +67,7 @@ fn statement_within(text: &mut Text, room: u32, statement: &Stmt) {
             text.add(" in ");
             add_expression(text, over);
             text.add(") [");
-            statement_within(text, room, body.get());
+            statement_within(text, room, body);
             text.add("]");
         }
         what => {

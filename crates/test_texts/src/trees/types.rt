@@ -21,7 +21,7 @@ fn type_within(text: &mut Text, room: u32, kind: &TypeExpr) {
         return text.add("..");
     };
     text.add_at(kind.at);
-    match &kind.what {
+    match kind.what.get() {
         TypeKind::Boolean => text.add("boolean"),
         TypeKind::Rstring => text.add("rstring"),
         TypeKind::Int(kind) => text.add(integer_word(*kind)),
@@ -32,14 +32,14 @@ fn type_within(text: &mut Text, room: u32, kind: &TypeExpr) {
         TypeKind::Name(name) => text.add_bytes(name.as_slice()),
         TypeKind::List(element) => {
             text.add("list<");
-            type_within(text, room, element.get());
+            type_within(text, room, element);
             text.add(">");
         }
         TypeKind::Map(key, value) => {
             text.add("map<");
-            type_within(text, room, key.get());
+            type_within(text, room, key);
             text.add(", ");
-            type_within(text, room, value.get());
+            type_within(text, room, value);
             text.add(">");
         }
         TypeKind::Tuple(attributes) => {

@@ -172,32 +172,32 @@ repeated-returns-clause-code t c =
 
 pub statement_of-block-requires : goal.statement_of-block-requires
 statement_of-block-requires t c =
-    (let w = ap weight c.in-Block.is ∙ block_weight c.in-Block.statements in let e = ap statement_weights c.as_slice.ensures in omega arith, tt)
+    (let w = ap weight (sym c.get.ensures ∙ c.in-Block.is) ∙ block_weight c.in-Block.statements in let e = ap statement_weights c.as_slice.ensures in omega arith, tt)
 
 pub statement_of-choice-requires : goal.statement_of-choice-requires
 statement_of-choice-requires t c =
-    (let w = ap weight c.in-If.is ∙ if_weight c.in-If.arms c.in-If.other in let e = ap arm_weights c.as_slice-in-If.ensures in omega arith, tt)
+    (let w = ap weight (sym c.get.ensures ∙ c.in-If.is) ∙ if_weight c.in-If.arms c.in-If.other in let e = ap arm_weights c.as_slice-in-If.ensures in omega arith, tt)
 
 pub statement_of-repeated-requires : goal.statement_of-repeated-requires
 statement_of-repeated-requires t c =
-    (let w = ap weight c.in-While.is ∙ while_weight c.in-While.test c.in-While.body in let e = ap statement_weight c.get.ensures in omega arith, tt)
+    (let w = ap weight (sym c.get.ensures ∙ c.in-While.is) ∙ while_weight c.in-While.test c.in-While.body in omega arith, tt)
 
 pub statement_of-for_each-requires : goal.statement_of-for_each-requires
 statement_of-for_each-requires t c =
-    (let w = ap weight c.in-For.is ∙ for_weight c.in-For.variable c.in-For.values c.in-For.body in let e = ap statement_weight c.get-in-For.ensures in omega arith, tt)
+    (let w = ap weight (sym c.get.ensures ∙ c.in-For.is) ∙ for_weight c.in-For.variable c.in-For.values c.in-For.body in omega arith, tt)
 
 pub statement_of-returns-in-Block-clause-code : goal.statement_of-returns-in-Block-clause-code
 statement_of-returns-in-Block-clause-code t c =
-    leads_on c.args.statement.now (V.Block c.in-Block.statements) (setting_meant c.args.setting.now) c.args.inside c.args.scope.now c.block.new.scope (block_typing (setting_meant c.args.setting.now) c.args.inside c.args.scope.now (row_stated c.in-Block.statements)) c.in-Block.is (block_stated c.in-Block.statements c.args.statement.now.at (setting_meant c.args.setting.now) c.args.inside c.args.scope.now) _
+    leads_on c.args.statement.now (V.Block c.in-Block.statements) (setting_meant c.args.setting.now) c.args.inside c.args.scope.now c.block.new.scope (block_typing (setting_meant c.args.setting.now) c.args.inside c.args.scope.now (row_stated c.in-Block.statements)) (sym c.get.ensures ∙ c.in-Block.is) (block_stated c.in-Block.statements c.args.statement.now.at (setting_meant c.args.setting.now) c.args.inside c.args.scope.now) _
     (finds_by _ _ _ (ap (λ ss. block_typing (setting_meant c.args.setting.now) c.args.inside c.args.scope.now (row_stated ss)) (sym c.as_slice.ensures)) c.block.ensures.code) c.block.ensures.same_scope
 
 pub statement_of-returns-in-Declare-clause-code : goal.statement_of-returns-in-Declare-clause-code
 statement_of-returns-in-Declare-clause-code t c =
-    leads_by _ _ _ _ (ap (λ k. kind_stated k c.args.statement.now.at (setting_meant c.args.setting.now) c.args.inside c.args.scope.now) c.in-Declare.is ∙ declare_stated c.in-Declare.declaration c.args.statement.now.at (setting_meant c.args.setting.now) c.args.inside c.args.scope.now) c.declared.ensures.code
+    leads_by _ _ _ _ (ap (λ k. kind_stated k c.args.statement.now.at (setting_meant c.args.setting.now) c.args.inside c.args.scope.now) (sym c.get.ensures ∙ c.in-Declare.is) ∙ declare_stated c.in-Declare.declaration c.args.statement.now.at (setting_meant c.args.setting.now) c.args.inside c.args.scope.now) c.declared.ensures.code
 
 pub statement_of-returns-in-Assign-clause-code : goal.statement_of-returns-in-Assign-clause-code
 statement_of-returns-in-Assign-clause-code t c =
-    leads_on c.args.statement.now (V.Assign c.in-Assign.place c.in-Assign.operator c.in-Assign.value) (setting_meant c.args.setting.now) c.args.inside c.args.scope.now c.args.scope.now (assigned c.args.scope.now c.in-Assign.place c.in-Assign.operator c.in-Assign.value) c.in-Assign.is (assign_stated c.in-Assign.place c.in-Assign.operator c.in-Assign.value c.args.statement.now.at (setting_meant c.args.setting.now) c.args.inside c.args.scope.now) _ c.assigned.ensures (anyway _ _ refl)
+    leads_on c.args.statement.now (V.Assign c.in-Assign.place c.in-Assign.operator c.in-Assign.value) (setting_meant c.args.setting.now) c.args.inside c.args.scope.now c.args.scope.now (assigned c.args.scope.now c.in-Assign.place c.in-Assign.operator c.in-Assign.value) (sym c.get.ensures ∙ c.in-Assign.is) (assign_stated c.in-Assign.place c.in-Assign.operator c.in-Assign.value c.args.statement.now.at (setting_meant c.args.setting.now) c.args.inside c.args.scope.now) _ c.assigned.ensures (anyway _ _ refl)
 
 pub statement_of-returns-in-Assign-clause-longer : goal.statement_of-returns-in-Assign-clause-longer
 statement_of-returns-in-Assign-clause-longer t c =
@@ -205,28 +205,27 @@ statement_of-returns-in-Assign-clause-longer t c =
 
 pub statement_of-returns-in-Call-clause-code : goal.statement_of-returns-in-Call-clause-code
 statement_of-returns-in-Call-clause-code t c =
-    leads_on c.args.statement.now (V.Call c.in-Call.call) (setting_meant c.args.setting.now) c.args.inside c.args.scope.now c.args.scope.now (call_typing c.args.scope.now c.in-Call.call) c.in-Call.is (call_stated c.in-Call.call c.args.statement.now.at (setting_meant c.args.setting.now) c.args.inside c.args.scope.now) _ c.call_of.ensures (anyway _ _ refl)
+    leads_on c.args.statement.now (V.Call c.in-Call.call) (setting_meant c.args.setting.now) c.args.inside c.args.scope.now c.args.scope.now (call_typing c.args.scope.now c.in-Call.call) (sym c.get.ensures ∙ c.in-Call.is) (call_stated c.in-Call.call c.args.statement.now.at (setting_meant c.args.setting.now) c.args.inside c.args.scope.now) _ c.call_of.ensures (anyway _ _ refl)
 
 pub statement_of-returns-in-If-clause-code : goal.statement_of-returns-in-If-clause-code
 statement_of-returns-in-If-clause-code t c =
-    leads_on c.args.statement.now (V.If c.in-If.arms c.in-If.other) (setting_meant c.args.setting.now) c.args.inside c.args.scope.now c.choice.new.scope (if_typing (setting_meant c.args.setting.now) c.args.inside c.args.scope.now (arms_stated c.in-If.arms) (other_stated c.in-If.other)) c.in-If.is (if_stated c.in-If.arms c.in-If.other c.args.statement.now.at (setting_meant c.args.setting.now) c.args.inside c.args.scope.now) _
+    leads_on c.args.statement.now (V.If c.in-If.arms c.in-If.other) (setting_meant c.args.setting.now) c.args.inside c.args.scope.now c.choice.new.scope (if_typing (setting_meant c.args.setting.now) c.args.inside c.args.scope.now (arms_stated c.in-If.arms) (other_stated c.in-If.other)) (sym c.get.ensures ∙ c.in-If.is) (if_stated c.in-If.arms c.in-If.other c.args.statement.now.at (setting_meant c.args.setting.now) c.args.inside c.args.scope.now) _
     (finds_by _ _ _ (ap (λ arms. if_typing (setting_meant c.args.setting.now) c.args.inside c.args.scope.now (arms_stated arms) (other_stated c.in-If.other)) (sym c.as_slice-in-If.ensures)) c.choice.ensures.code) c.choice.ensures.same_scope
 
 pub statement_of-returns-in-While-clause-code : goal.statement_of-returns-in-While-clause-code
 statement_of-returns-in-While-clause-code t c =
-    leads_on c.args.statement.now (V.While c.in-While.test c.in-While.body) (setting_meant c.args.setting.now) c.args.inside c.args.scope.now c.repeated.new.scope (while_typing (setting_meant c.args.setting.now) c.args.scope.now c.in-While.test (stated c.in-While.body)) c.in-While.is (while_stated c.in-While.test c.in-While.body c.args.statement.now.at (setting_meant c.args.setting.now) c.args.inside c.args.scope.now) _
-    (finds_by _ _ _ (ap (λ s. while_typing (setting_meant c.args.setting.now) c.args.scope.now c.in-While.test (stated s)) (sym c.get.ensures)) c.repeated.ensures.code) c.repeated.ensures.same_scope
+    leads_on c.args.statement.now (V.While c.in-While.test c.in-While.body) (setting_meant c.args.setting.now) c.args.inside c.args.scope.now c.repeated.new.scope (while_typing (setting_meant c.args.setting.now) c.args.scope.now c.in-While.test (stated c.in-While.body)) (sym c.get.ensures ∙ c.in-While.is) (while_stated c.in-While.test c.in-While.body c.args.statement.now.at (setting_meant c.args.setting.now) c.args.inside c.args.scope.now) _
+    c.repeated.ensures.code c.repeated.ensures.same_scope
 
 pub statement_of-returns-in-For-clause-code : goal.statement_of-returns-in-For-clause-code
 statement_of-returns-in-For-clause-code t c =
-    leads_on c.args.statement.now (V.For c.in-For.variable c.in-For.values c.in-For.body) (setting_meant c.args.setting.now) c.args.inside c.args.scope.now c.for_each.new.scope (for_typing (setting_meant c.args.setting.now) c.args.scope.now c.in-For.variable c.in-For.values (stated c.in-For.body)) c.in-For.is (for_stated c.in-For.variable c.in-For.values c.in-For.body c.args.statement.now.at (setting_meant c.args.setting.now) c.args.inside c.args.scope.now) _
-    (finds_by _ _ _ (ap (λ s. for_typing (setting_meant c.args.setting.now) c.args.scope.now c.in-For.variable c.in-For.values (stated s)) (sym c.get-in-For.ensures)) c.for_each.ensures.code) c.for_each.ensures.same_scope
+    leads_on c.args.statement.now (V.For c.in-For.variable c.in-For.values c.in-For.body) (setting_meant c.args.setting.now) c.args.inside c.args.scope.now c.for_each.new.scope (for_typing (setting_meant c.args.setting.now) c.args.scope.now c.in-For.variable c.in-For.values (stated c.in-For.body)) (sym c.get.ensures ∙ c.in-For.is) (for_stated c.in-For.variable c.in-For.values c.in-For.body c.args.statement.now.at (setting_meant c.args.setting.now) c.args.inside c.args.scope.now) _ c.for_each.ensures.code c.for_each.ensures.same_scope
 
 pub statement_of-returns-in-Return-clause-code : goal.statement_of-returns-in-Return-clause-code
 statement_of-returns-in-Return-clause-code t c =
-    leads_on c.args.statement.now (V.Return c.in-Return.value) (setting_meant c.args.setting.now) c.args.inside c.args.scope.now c.args.scope.now (return_typing c.args.statement.now.at (purpose_meant c.args.setting.now.purpose) c.args.scope.now c.in-Return.value) c.in-Return.is (return_stated c.in-Return.value c.args.statement.now.at (setting_meant c.args.setting.now) c.args.inside c.args.scope.now) _
+    leads_on c.args.statement.now (V.Return c.in-Return.value) (setting_meant c.args.setting.now) c.args.inside c.args.scope.now c.args.scope.now (return_typing c.args.statement.now.at (purpose_meant c.args.setting.now.purpose) c.args.scope.now c.in-Return.value) (sym c.get.ensures ∙ c.in-Return.is) (return_stated c.in-Return.value c.args.statement.now.at (setting_meant c.args.setting.now) c.args.inside c.args.scope.now) _
     (finds_by _ _ _ (ap (return_typing c.args.statement.now.at (purpose_meant c.args.setting.now.purpose) c.args.scope.now) (sym c.as_ref.ensures.value)) c.returned.ensures) (anyway _ _ refl)
 
 pub statement_of-returns-in-Submit-clause-code : goal.statement_of-returns-in-Submit-clause-code
 statement_of-returns-in-Submit-clause-code t c =
-    leads_on c.args.statement.now (V.Submit c.in-Submit.value c.in-Submit.stream) (setting_meant c.args.setting.now) c.args.inside c.args.scope.now c.args.scope.now (submit_typing c.args.statement.now.at (setting_meant c.args.setting.now) (purpose_meant c.args.setting.now.purpose) c.args.scope.now c.in-Submit.value c.in-Submit.stream) c.in-Submit.is (submit_stated c.in-Submit.value c.in-Submit.stream c.args.statement.now.at (setting_meant c.args.setting.now) c.args.inside c.args.scope.now) _ c.submitted.ensures (anyway _ _ refl)
+    leads_on c.args.statement.now (V.Submit c.in-Submit.value c.in-Submit.stream) (setting_meant c.args.setting.now) c.args.inside c.args.scope.now c.args.scope.now (submit_typing c.args.statement.now.at (setting_meant c.args.setting.now) (purpose_meant c.args.setting.now.purpose) c.args.scope.now c.in-Submit.value c.in-Submit.stream) (sym c.get.ensures ∙ c.in-Submit.is) (submit_stated c.in-Submit.value c.in-Submit.stream c.args.statement.now.at (setting_meant c.args.setting.now) c.args.inside c.args.scope.now) _ c.submitted.ensures (anyway _ _ refl)

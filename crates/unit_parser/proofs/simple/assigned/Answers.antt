@@ -1,4 +1,4 @@
-use Rattle.std.specs.Prelude.{ℕ, [], Option}
+use Rattle.std.proofs.Common.{ℕ, [], Option, Ok, sym, subst}
 use Rattle.expr_parser.specs.Lines as expressions
 use Rattle.expr_parser.specs.Rules.{done, stop, look}
 use Rattle.expr_parser.specs.RuleLaws.{runs_stop}
@@ -8,6 +8,7 @@ use Rattle.spl_tree.specs.declared.statement.StmtKind.TheVariants as Z
 use Rattle.spl_tree.specs.declared.symbol.Symbol.TheVariants as S
 use Rattle.spl_tree.specs.Grammar.{Expr, placed}
 use Rattle.spl_tree.specs.StatementGrammar.{Stmt}
+use Rattle.unit_parser.specs.Gives.{Comes}
 use Rattle.unit_parser.specs.GivesStatements as statements
 use Rattle.unit_parser.specs.Lines.{R, expect, expression, is_assignment, assignment_at}
 use Rattle.unit_parser.proofs.Readings.{finished, skipped, passed, taken_as, expression_read, rule_fails, pass_fails, expression_fails}
@@ -43,5 +44,6 @@ returns-in_err-behind c =
 
 pub returns : goal.returns
 returns c =
-    expression_read c.in_ok-place.ensures (taken_as is_assignment assignment_at (valued c.args.at c.in_ok-place.place) c.in-Some.ensures
-    (expression_read c.in_ok-value.ensures.rule (passed S.Semicolon c.in_ok-behind.ensures finished)))
+    subst (λ s. Comes (statements.assigned_rule c.args.at c.args.name) c.args.ts.now (Ok (s, c.in_ok-behind.behind))) (sym c.in_ok-statement.ensures)
+    (expression_read c.in_ok-place.ensures (taken_as is_assignment assignment_at (valued c.args.at c.in_ok-place.place) c.in-Some.ensures
+    (expression_read c.in_ok-value.ensures.rule (passed S.Semicolon c.in_ok-behind.ensures finished))))

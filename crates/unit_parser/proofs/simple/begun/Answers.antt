@@ -1,10 +1,12 @@
-use Rattle.std.specs.Prelude.{◌≡◌, ℕ, List, false, Option, Some, None, is_some, MatchOption}
+use Rattle.std.proofs.Common.{◌≡◌, ℕ, List, false, Option, Some, None, Err, sym, subst}
+use Rattle.std.specs.Prelude.{is_some, MatchOption}
 use Rattle.expr_parser.specs.Lines.{is_name}
-use Rattle.expr_parser.specs.Rules.{done, call, RunsTo, Reads}
+use Rattle.expr_parser.specs.Rules.{done, call, Took, RunsTo, Reads}
 use Rattle.spl_tree.specs.declared.shape.TypeKind.TheVariants as Y
 use Rattle.spl_tree.specs.declared.statement.StmtKind.TheVariants as Z
 use Rattle.spl_tree.specs.Grammar.{placed}
 use Rattle.spl_tree.specs.StatementGrammar.{Stmt}
+use Rattle.unit_parser.specs.Gives.{Gives}
 use Rattle.unit_parser.specs.GivesStatements as statements
 use Rattle.unit_parser.specs.Lines as lines
 use Rattle.unit_parser.specs.Lines.{Name, R, Valued, rule, name_at}
@@ -24,12 +26,16 @@ unfolding lines.rule
 returns-in_err-declaration c =
     fails (lines.Begun c.args.at c.args.name) c.args.ts.now c.in_ok-variable.behind.now _ _ c.in_err-declaration.field-0.0 c.from_residual-in_err-declaration.ensures.1
     (λ o q. reads (taken_as is_name name_at (valued c.args.at c.args.name) c.in_ok-variable.ensures q))
-    (line_fails _ (Valued false (placed c.args.at (Y.Name c.args.name)) c.in_ok-variable.variable) (λ d. done (placed c.args.at (Z.Declare d))) _ c.in_err-declaration.ensures)
+    (line_fails _ (Valued false (placed c.args.at (Y.Name c.args.name)) c.in_ok-variable.variable) (λ d. done (placed c.args.at (Z.Declare d))) _
+    (subst (λ k. Gives (Valued false k c.in_ok-variable.variable) c.in_ok-variable.behind.now (Err c.in_err-declaration.field-0.0)) c.in_ok-kind.ensures c.in_err-declaration.ensures))
 
 pub returns-then-is_some : goal.returns-then-is_some
 unfolding lines.rule
 returns-then-is_some c =
-    reads (taken_as is_name name_at (valued c.args.at c.args.name) c.in_ok-variable.ensures (line_read c.in_ok-declaration.ensures finished))
+    subst (λ s. Reads rule (lines.Begun c.args.at c.args.name) c.args.ts.now (Took s c.in_ok-declaration.behind.now)) (sym c.in_ok-statement.ensures)
+    (reads (taken_as is_name name_at (valued c.args.at c.args.name) c.in_ok-variable.ensures (line_read
+    (subst (λ k. Reads rule (Valued false k c.in_ok-variable.variable) c.in_ok-variable.behind.now (Took c.in_ok-declaration.declaration c.in_ok-declaration.behind.now)) c.in_ok-kind.ensures c.in_ok-declaration.ensures)
+    finished)))
 
 pub returns-in-Some : goal.returns-in-Some
 unfolding lines.rule

@@ -25,5 +25,6 @@ returns-in_err-behind c =
 
 pub returns : goal.returns
 returns c =
-    subst (λ e. Comes (statements.called_rule c.args.at c.args.name) c.args.ts.now (Ok (placed c.args.at (Z.Call e), c.in_ok-behind.behind))) (sym c.in_ok-call.ensures)
-    (expression_read c.in_ok-arguments.ensures (passed S.Semicolon c.in_ok-behind.ensures finished))
+    subst (λ s. Comes (statements.called_rule c.args.at c.args.name) c.args.ts.now (Ok (s, c.in_ok-behind.behind))) (sym c.in_ok-statement.ensures)
+    (subst (λ e. Comes (statements.called_rule c.args.at c.args.name) c.args.ts.now (Ok (placed c.args.at (Z.Call e), c.in_ok-behind.behind))) (sym c.in_ok-call.ensures)
+    (expression_read c.in_ok-arguments.ensures (passed S.Semicolon c.in_ok-behind.ensures finished)))

@@ -4,7 +4,7 @@ use Rattle.spl_tree.specs.declared.statement.StmtKind.TheVariants as Z
 use Rattle.spl_tree.specs.Grammar.{placed}
 use Rattle.unit_parser.specs.Lines as lines
 use Rattle.unit_parser.specs.Lines.{R, TypeExpression, Declared}
-use Rattle.unit_parser.proofs.Readings.{finished, line_read, rule_fails, line_fails}
+use Rattle.unit_parser.proofs.Readings.{line_read, rule_on, rule_fails, line_fails}
 use Rattle.unit_parser.proofs.simple.mutable_variable.Goals as goal
 
 pub returns-in_err-kind : goal.returns-in_err-kind
@@ -19,4 +19,6 @@ returns-in_err-declaration c =
     (line_fails _ (Declared true c.in_ok-kind.kind) (λ d. done (placed c.args.at (Z.Declare d), true)) _ c.in_err-declaration.ensures)
 
 pub returns : goal.returns
-returns c = line_read c.in_ok-kind.ensures (line_read c.in_ok-declaration.ensures finished)
+returns c =
+    rule_on (lines.mutable_rule c.args.at) (done (placed c.args.at (Z.Declare c.in_ok-declaration.declaration), true)) c.args.ts.now c.in_ok-declaration.behind.now c.statement_at.result
+    (λ o q. line_read c.in_ok-kind.ensures (line_read c.in_ok-declaration.ensures q)) c.statement_at.ensures

@@ -1,4 +1,4 @@
-use Rattle.std.specs.Prelude.{ℕ, Bool, true, Some}
+use Rattle.std.specs.Prelude.{ℕ, Bool, true, Some, None}
 use Rattle.expr_parser.specs.Lines as expressions
 use Rattle.expr_parser.specs.Rules.{done}
 use Rattle.spl_tree.specs.declared.statement.StmtKind.TheVariants as Z
@@ -7,14 +7,16 @@ use Rattle.spl_tree.specs.Grammar.{Expr, placed}
 use Rattle.spl_tree.specs.StatementGrammar.{Stmt}
 use Rattle.unit_parser.specs.Lines as lines
 use Rattle.unit_parser.specs.Lines.{R, expect}
-use Rattle.unit_parser.proofs.Readings.{finished, taken, skipped, passed, expression_read, rule_fails, pass_fails, expression_fails}
+use Rattle.unit_parser.proofs.Readings.{taken, skipped, passed, expression_read, rule_on, rule_fails, pass_fails, expression_fails}
 use Rattle.unit_parser.proofs.simple.returned.Goals as goal
 
 abbrev ended : ℕ → Expr → R (Stmt × Bool)
 ended at e = expect S.Semicolon (done (placed at (Z.Return (Some e)), true))
 
 pub returns-in-Some : goal.returns-in-Some
-returns-in-Some c = taken c.in-Some.ensures finished
+returns-in-Some c =
+    rule_on (lines.returned_rule c.args.at) (done (placed c.args.at (Z.Return None), true)) c.args.ts.now c.in-Some.behind.now c.statement_at.result
+    (λ o q. taken c.in-Some.ensures q) c.statement_at.ensures
 
 pub returns-in_err-value : goal.returns-in_err-value
 returns-in_err-value c =
@@ -28,4 +30,6 @@ returns-in_err-behind c =
     (pass_fails _ S.Semicolon (done (placed c.args.at (Z.Return (Some c.in_ok-value.value)), true)) _ c.in_err-behind.ensures)
 
 pub returns : goal.returns
-returns c = skipped c.in_default.ensures (expression_read c.in_ok-value.ensures.rule (passed S.Semicolon c.in_ok-behind.ensures finished))
+returns c =
+    rule_on (lines.returned_rule c.args.at) (done (placed c.args.at (Z.Return (Some c.in_ok-value.value)), true)) c.args.ts.now c.in_ok-behind.behind.now c.statement_at-2.result
+    (λ o q. skipped c.in_default.ensures (expression_read c.in_ok-value.ensures.rule (passed S.Semicolon c.in_ok-behind.ensures q))) c.statement_at-2.ensures

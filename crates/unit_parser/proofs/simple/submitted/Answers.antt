@@ -7,7 +7,7 @@ use Rattle.spl_tree.specs.Grammar.{Expr, placed}
 use Rattle.spl_tree.specs.StatementGrammar.{Stmt}
 use Rattle.unit_parser.specs.Lines as lines
 use Rattle.unit_parser.specs.Lines.{Name, R, expect, expect_name}
-use Rattle.unit_parser.proofs.Readings.{finished, passed, name_passed, expression_read, rule_fails, pass_fails, name_fails, expression_fails}
+use Rattle.unit_parser.proofs.Readings.{passed, name_passed, expression_read, rule_on, rule_fails, pass_fails, name_fails, expression_fails}
 use Rattle.unit_parser.proofs.simple.submitted.Goals as goal
 
 -- the rule behind the value, behind the name, and behind the parenthesis
@@ -54,5 +54,7 @@ returns-in_err-behind-4 c =
 
 pub returns : goal.returns
 returns c =
-    passed S.LeftParen c.in_ok-behind.ensures (expression_read c.in_ok-value.ensures.rule (passed S.Comma c.in_ok-behind-2.ensures
-    (name_passed (closed c.args.at c.in_ok-value.value) c.in_ok-stream.ensures (passed S.RightParen c.in_ok-behind-3.ensures (passed S.Semicolon c.in_ok-behind-4.ensures finished)))))
+    rule_on (lines.submitted_rule c.args.at) (done (placed c.args.at (Z.Submit c.in_ok-value.value c.in_ok-stream.stream), true)) c.args.ts.now c.in_ok-behind-4.behind.now c.statement_at.result
+    (λ o q. passed S.LeftParen c.in_ok-behind.ensures (expression_read c.in_ok-value.ensures.rule (passed S.Comma c.in_ok-behind-2.ensures
+    (name_passed (closed c.args.at c.in_ok-value.value) c.in_ok-stream.ensures (passed S.RightParen c.in_ok-behind-3.ensures (passed S.Semicolon c.in_ok-behind-4.ensures q))))))
+    c.statement_at.ensures

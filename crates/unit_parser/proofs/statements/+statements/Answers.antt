@@ -1,4 +1,4 @@
-use Rattle.std.proofs.Common.{ℕ, Bool, false, List, [], ◌∷◌, ◌++◌, None, sym, subst, arith}
+use Rattle.std.proofs.Common.{ℕ, Bool, true, false, List, [], ◌∷◌, ◌++◌, Some, None, subst, arith}
 use Rattle.expr_parser.specs.Rules.{done, call, Answer, Took, RunsTo, Reads}
 use Rattle.spl_tree.specs.declared.shape.Attribute.{Attribute}
 use Rattle.spl_tree.specs.declared.statement.StmtKind.TheVariants as Z
@@ -9,7 +9,7 @@ use Rattle.spl_tree.specs.TypeGrammar.{TypeExpr}
 use Rattle.unit_parser.specs.GivesStatements as parts
 use Rattle.unit_parser.specs.Lines as lines
 use Rattle.unit_parser.specs.Lines.{R, Statement, Statements, Other, Begun, Arms, rule}
-use Rattle.unit_parser.proofs.Readings.{finished, reads, taken, skipped, line_read, last, says_on, fails, rule_fails, line_fails}
+use Rattle.unit_parser.proofs.Readings.{finished, reads, taken, skipped, line_read, last, says_on, rule_on, fails, rule_fails, line_fails}
 use Rattle.unit_parser.proofs.StatementReadings.{part_read, part_fails, statement_shrinks, reads_shrinks, runs_shrinks, taken_shrinks, arms_none, arms_else}
 use Rattle.unit_parser.proofs.statements.+statements.Goals as goal
 
@@ -52,6 +52,11 @@ statement-returns-in-None t c =
 
 -- ---- statements behind their first token
 
+pub braces-returns : goal.braces-returns
+braces-returns t c =
+    rule_on (lines.braces_rule c.args.at) (done (placed c.args.at (Z.Block c.in_ok-inside.inside), true)) c.args.ts.now c.in_ok-inside.behind.now c.statement_at.result
+    (λ o q. line_read c.in_ok-inside.ensures q) c.statement_at.ensures
+
 -- behind the head of a `while` and of a `for`
 abbrev whiled : ℕ → Expr → R (Stmt × Bool)
 whiled at e = call Statement (λ s. done (placed at (Z.While e s.0), s.1))
@@ -67,8 +72,8 @@ while_loop-returns-in_err-body t c =
 
 pub while_loop-returns : goal.while_loop-returns
 while_loop-returns t c =
-    subst (λ s. RunsTo rule (lines.while_rule c.args.at) c.args.ts.now (Took (placed c.args.at (Z.While c.in_ok-condition.condition s), c.in_ok-body.closed) c.in_ok-body.behind.now)) (sym c.in_ok-new.ensures)
-    (part_read parts.condition (whiled c.args.at) c.in_ok-condition.ensures (line_read c.in_ok-body.ensures finished))
+    rule_on (lines.while_rule c.args.at) (done (placed c.args.at (Z.While c.in_ok-condition.condition c.in_ok-body.body), c.in_ok-body.closed)) c.args.ts.now c.in_ok-body.behind.now
+    c.statement_at.result (λ o q. part_read parts.condition (whiled c.args.at) c.in_ok-condition.ensures (line_read c.in_ok-body.ensures q)) c.statement_at.ensures
 
 pub for_loop-returns-in_err-body : goal.for_loop-returns-in_err-body
 for_loop-returns-in_err-body t c =
@@ -78,9 +83,9 @@ for_loop-returns-in_err-body t c =
 
 pub for_loop-returns : goal.for_loop-returns
 for_loop-returns t c =
-    subst (λ s. RunsTo rule (lines.for_rule c.args.at) c.args.ts.now
-    (Took (placed c.args.at (Z.For c.in_ok-variable.variable c.in_ok-variable.over s), c.in_ok-body.closed) c.in_ok-body.behind.now)) (sym c.in_ok-new.ensures)
-    (part_read parts.for_head (λ h. gone c.args.at h.0 h.1) c.in_ok-variable.ensures (line_read c.in_ok-body.ensures finished))
+    rule_on (lines.for_rule c.args.at) (done (placed c.args.at (Z.For c.in_ok-variable.variable c.in_ok-variable.over c.in_ok-body.body), c.in_ok-body.closed)) c.args.ts.now
+    c.in_ok-body.behind.now c.statement_at.result (λ o q. part_read parts.for_head (λ h. gone c.args.at h.0 h.1) c.in_ok-variable.ensures (line_read c.in_ok-body.ensures q))
+    c.statement_at.ensures
 
 -- ---- a statement that is no `if`
 
@@ -135,10 +140,11 @@ arms-returns-in_err-body t c =
 pub arms-returns-in_default : goal.arms-returns-in_default
 arms-returns-in_default t c =
     let all = c.arms.all ++ (c.in_ok-condition.condition, c.in_ok-body.body) ∷ [] in
-    subst (λ xs. Reads rule (Arms c.args.at []) c.args.ts.now (Took (placed c.args.at (Z.If xs None), false) c.in_ok-body.behind.now)) (sym c.in_ok-push.ensures.ok)
-    (c.arms.invariant (Took (placed c.args.at (Z.If all None), false) c.in_ok-body.behind.now)
-    (arms_read (part_read parts.condition (armed c.args.at c.arms.all) c.in_ok-condition.ensures (line_read c.in_ok-body.ensures
-    (arms_none c.args.at all c.in_ok-body.closed c.in_default.ensures)))))
+    says_on {P = RunsTo rule (done (placed c.args.at (Z.If c.push.new.self None), false)) c.in_ok-body.behind.now} {Q = Reads rule (Arms c.args.at []) c.args.ts.now}
+    (λ o q. c.arms.invariant o (arms_read (part_read parts.condition (armed c.args.at c.arms.all) c.in_ok-condition.ensures (line_read c.in_ok-body.ensures
+    (arms_none c.args.at all c.in_ok-body.closed c.in_default.ensures
+    (subst (λ xs. RunsTo rule (done (placed c.args.at (Z.If xs None), false)) c.in_ok-body.behind.now o) c.in_ok-push.ensures.ok q))))))
+    c.statement_at.result c.statement_at.ensures
 
 pub arms-returns-in_default-word_first : goal.arms-returns-in_default-word_first
 arms-returns-in_default-word_first t c =
@@ -148,6 +154,11 @@ arms-returns-in_default-word_first t c =
     (arms_else c.args.at all c.in_ok-body.closed c.in-Some.ensures (skipped c.in_default-word_first.ensures
     (subst (λ xs. RunsTo rule (lines.last_branch_rule c.args.at xs) c.in-Some.behind.now o) c.in_ok-push.ensures.ok q)))))))
     c.last_branch.result c.last_branch.ensures
+
+pub last_branch-returns : goal.last_branch-returns
+last_branch-returns t c =
+    rule_on (lines.last_branch_rule c.args.at c.args.arms) (done (placed c.args.at (Z.If c.args.arms (Some c.in_ok-body.body)), c.in_ok-body.closed)) c.args.ts.now c.in_ok-body.behind.now
+    c.statement_at.result (λ o q. line_read c.in_ok-body.ensures q) c.statement_at.ensures
 
 pub arms-arms-preserved : goal.arms-arms-preserved
 arms-arms-preserved t c = λ o r.

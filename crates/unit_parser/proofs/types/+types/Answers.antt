@@ -1,7 +1,5 @@
 use Rattle.std.proofs.Common.{Ok, ◌∙◌, [], ◌∷◌, ◌++◌, sym, ap, subst, arith}
-use Rattle.spl_tree.specs.declared.shape.TypeKind.TheVariants as Y
 use Rattle.spl_tree.specs.declared.symbol.Symbol.TheVariants as S
-use Rattle.spl_tree.specs.Grammar.{placed}
 use Rattle.expr_parser.specs.Rules.{done, call, Took, Reads}
 use Rattle.expr_parser.specs.RuleLaws.{runs_stop}
 use Rattle.unit_parser.proofs.Readings.{finished, reads, taken, taken_as, skipped, passed, line_read, says_on, fails, pass_fails, name_fails, line_fails}
@@ -53,7 +51,7 @@ list_type-returns-in_err-behind-2 t c =
 pub list_type-returns : goal.list_type-returns
 unfolding rule
 list_type-returns t c =
-    subst (λ e. Reads rule (ListType c.args.at) c.args.ts.now (Took (placed c.args.at (Y.List e)) c.in_ok-behind-2.behind.now)) (sym c.in_ok-new.ensures)
+    subst (λ k. Reads rule (ListType c.args.at) c.args.ts.now (Took k c.in_ok-behind-2.behind.now)) (sym c.in_ok-kind.ensures)
     (reads (passed S.Less c.in_ok-behind.ensures (line_read c.in_ok-element.ensures (passed S.Greater c.in_ok-behind-2.ensures finished))))
 
 pub map_type-returns-in_err-behind : goal.map_type-returns-in_err-behind
@@ -93,10 +91,9 @@ map_type-returns-in_err-behind-3 t c =
 pub map_type-returns : goal.map_type-returns
 unfolding rule
 map_type-returns t c =
-    subst (λ k. Reads rule (MapType c.args.at) c.args.ts.now (Took (placed c.args.at (Y.Map k c.in_ok-new-2.field-0)) c.in_ok-behind-3.behind.now)) (sym c.in_ok-new.ensures)
-    (subst (λ v. Reads rule (MapType c.args.at) c.args.ts.now (Took (placed c.args.at (Y.Map c.in_ok-key.key v)) c.in_ok-behind-3.behind.now)) (sym c.in_ok-new-2.ensures)
+    subst (λ k. Reads rule (MapType c.args.at) c.args.ts.now (Took k c.in_ok-behind-3.behind.now)) (sym c.in_ok-kind.ensures)
     (reads (passed S.Less c.in_ok-behind.ensures (line_read c.in_ok-key.ensures (passed S.Comma c.in_ok-behind-2.ensures (line_read c.in_ok-value.ensures
-    (passed S.Greater c.in_ok-behind-3.ensures finished)))))))
+    (passed S.Greater c.in_ok-behind-3.ensures finished))))))
 
 pub more_attributes-returns-in_err-behind : goal.more_attributes-returns-in_err-behind
 unfolding rule
@@ -152,7 +149,8 @@ tuple_type-returns-in_err-attributes t c =
 pub tuple_type-returns : goal.tuple_type-returns
 unfolding rule
 tuple_type-returns t c =
-    reads (passed S.Less c.in_ok-behind.ensures (line_read c.in_ok-attributes.ensures finished))
+    subst (λ k. Reads rule (TupleType c.args.at) c.args.ts.now (Took k c.in_ok-attributes.behind.now)) (sym c.in_ok-kind.ensures)
+    (reads (passed S.Less c.in_ok-behind.ensures (line_read c.in_ok-attributes.ensures finished)))
 
 pub type_at-returns-in-Some : goal.type_at-returns-in-Some
 unfolding rule

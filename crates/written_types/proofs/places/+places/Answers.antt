@@ -20,5 +20,5 @@ add_of_attributes-loop-attribute-preserved t c =
 
 pub add_of_type-returns-in_ok-add_of_type-in-Map-2 : goal.add_of_type-returns-in_ok-add_of_type-in-Map-2
 add_of_type-returns-in_ok-add_of_type-in-Map-2 t c =
-    map_places c.args.definitions.now c.args.written.now c.in-Map.key c.in-Map.value c.get-in-Map.result.now c.get-in-Map-2.result.now c.args.places.now
-    c.add_of_type-in-Map.new.places c.add_of_type-in-Map-2.new.places c.in-Map.is c.get-in-Map.ensures c.get-in-Map-2.ensures c.in_ok-add_of_type-in-Map.ensures c.in_ok-add_of_type-in-Map-2.ensures
+    map_places c.args.definitions.now c.args.written.now c.in-Map.key c.in-Map.value c.args.places.now
+    c.add_of_type-in-Map.new.places c.add_of_type-in-Map-2.new.places (sym c.get.ensures ∙ c.in-Map.is) c.in_ok-add_of_type-in-Map.ensures c.in_ok-add_of_type-in-Map-2.ensures

@@ -19,18 +19,17 @@ ends_with_result-returns-in-Some t c =
 
 pub is_result-ends_with_result-requires : goal.is_result-ends_with_result-requires
 is_result-ends_with_result-requires t c =
-    (let w = ap weight c.in-Block.is ∙ block_weight c.in-Block.statements in let e = ap statement_weights c.as_slice.ensures in omega arith, tt)
+    (let w = ap weight (sym c.get.ensures ∙ c.in-Block.is) ∙ block_weight c.in-Block.statements in let e = ap statement_weights c.as_slice.ensures in omega arith, tt)
 
 pub is_result-are_results-requires : goal.is_result-are_results-requires
 is_result-are_results-requires t c =
-    (let w = ap weight c.in-If.is ∙ if_weight c.in-If.arms c.in-If.other in let e = ap arm_weights c.as_slice-in-Some.ensures in omega arith, tt)
+    (let w = ap weight (sym c.get.ensures ∙ c.in-If.is) ∙ if_weight c.in-If.arms c.in-If.other in let e = ap arm_weights c.as_slice-in-Some.ensures in omega arith, tt)
 
 pub is_result-returns-then-are_results : goal.is_result-returns-then-are_results
 is_result-returns-then-are_results t c =
     let all : all_return c.in-If.arms ≡ true = ap all_return (sym c.as_slice-in-Some.ensures) ∙ sym c.are_results.ensures ∙ c.if-are_results.true in
     c.is_result.ensures
-    ∙ ap (λ s. kind_returns s.what) c.get.ensures
     ∙ ap (λ b. b && kind_returns c.in-Some.other.what) (sym all)
     ∙ ap (arms_return c.in-If.arms) (sym c.in-Some.is)
     ∙ sym (if_returns c.in-If.arms c.in-If.other)
-    ∙ ap kind_returns (sym c.in-If.is)
+    ∙ ap kind_returns (sym c.in-If.is ∙ c.get.ensures)

@@ -39,11 +39,11 @@ earliest_in_arms-earliest_in_statement-requires t c =
 
 pub earliest_in_statement-earliest_in_block-requires : goal.earliest_in_statement-earliest_in_block-requires
 earliest_in_statement-earliest_in_block-requires t c =
-    (let w = ap statement_kind_weight c.in-Block.is ∙ block_weight c.in-Block.statements in let e = ap statement_weights c.as_slice.ensures in omega arith, tt)
+    (let w = ap statement_kind_weight (sym c.get.ensures ∙ c.in-Block.is) ∙ block_weight c.in-Block.statements in let e = ap statement_weights c.as_slice.ensures in omega arith, tt)
 
 pub earliest_in_statement-earliest_in_arms-requires : goal.earliest_in_statement-earliest_in_arms-requires
 earliest_in_statement-earliest_in_arms-requires t c =
-    (let w = ap statement_kind_weight c.in-If.is ∙ if_weight c.in-If.arms c.in-If.other in let e = ap arm_weights c.as_slice-in-If.ensures in omega arith, tt)
+    (let w = ap statement_kind_weight (sym c.get.ensures ∙ c.in-If.is) ∙ if_weight c.in-If.arms c.in-If.other in let e = ap arm_weights c.as_slice-in-If.ensures in omega arith, tt)
 
 pub earliest_in_statement-returns-in-None : goal.earliest_in_statement-returns-in-None
 earliest_in_statement-returns-in-None t c =
@@ -53,7 +53,7 @@ earliest_in_statement-returns-in-None t c =
     ∙ ap (λ row. earliest_in best (flat_map (λ a. inner a.1.what) row)) c.as_slice-in-If.ensures
     ∙ sym (earliest_in-append best arms [])
     ∙ ap (λ o. earliest_in best (arms ++ option_map_or (λ s. inner s.what) o [])) (sym c.in-None.is)
-    ∙ sym (ap (λ s. earliest_in best (inner s)) c.in-If.is ∙ ap (earliest_in best) (if_inner c.in-If.arms c.in-If.other))
+    ∙ sym (ap (λ s. earliest_in best (inner s)) (sym c.get.ensures ∙ c.in-If.is) ∙ ap (earliest_in best) (if_inner c.in-If.arms c.in-If.other))
 
 pub earliest_in_statement-returns-in-Some : goal.earliest_in_statement-returns-in-Some
 earliest_in_statement-returns-in-Some t c =
@@ -61,9 +61,8 @@ earliest_in_statement-returns-in-Some t c =
     let arms = flat_map (λ a. inner a.1.what) c.in-If.arms in
     IfOk-weaker c.earliest_in_statement.result _ _
     (λ found e.
-    e ∙ ap (λ s. earliest_in (option_copied c.in_ok-found-in-If.found) (inner s.what)) c.get.ensures
-    ∙ ap (λ o. earliest_in o (inner c.in-Some.other.what)) (c.in_ok-found-in-If.ensures ∙ ap (λ row. earliest_in best (flat_map (λ a. inner a.1.what) row)) c.as_slice-in-If.ensures)
+    e ∙ ap (λ o. earliest_in o (inner c.in-Some.other.what)) (c.in_ok-found-in-If.ensures ∙ ap (λ row. earliest_in best (flat_map (λ a. inner a.1.what) row)) c.as_slice-in-If.ensures)
     ∙ sym (earliest_in-append best arms (inner c.in-Some.other.what))
     ∙ ap (λ o. earliest_in best (arms ++ option_map_or (λ s. inner s.what) o [])) (sym c.in-Some.is)
-    ∙ sym (ap (λ s. earliest_in best (inner s)) c.in-If.is ∙ ap (earliest_in best) (if_inner c.in-If.arms c.in-If.other)))
+    ∙ sym (ap (λ s. earliest_in best (inner s)) (sym c.get.ensures ∙ c.in-If.is) ∙ ap (earliest_in best) (if_inner c.in-If.arms c.in-If.other)))
     c.earliest_in_statement.ensures

@@ -1,4 +1,4 @@
-use Rattle.std.proofs.Common.{ap, arith, ◌∙◌}
+use Rattle.std.proofs.Common.{ap, arith, sym, ◌∙◌}
 use Rattle.std.specs.Option.{option_copied}
 use Rattle.language_model.specs.Declarations.{type_sets}
 use Rattle.duplicate_rules.proofs.Rows.{row_on}
@@ -16,4 +16,4 @@ earliest_in_attributes-earliest_in_type-requires t c =
 
 pub earliest_in_type-earliest_in_attributes-requires : goal.earliest_in_type-earliest_in_attributes-requires
 earliest_in_type-earliest_in_attributes-requires t c =
-    (let w = ap kind_weight c.in-Tuple.is ∙ tuple_weight c.in-Tuple.attributes in let e = ap attribute_weights c.as_slice.ensures in omega arith, tt)
+    (let w = ap kind_weight (sym c.get.ensures ∙ c.in-Tuple.is) ∙ tuple_weight c.in-Tuple.attributes in let e = ap attribute_weights c.as_slice.ensures in omega arith, tt)
