@@ -4,10 +4,9 @@ use Rattle.spl_tree.specs.declared.keyword.Keyword.TheVariants as K
 use Rattle.spl_tree.specs.declared.symbol.Symbol.TheVariants as S
 use Rattle.spl_tree.specs.declared.token.Token.{Token}
 use Rattle.spl_tree.specs.declared.unit.Composite.{Composite}
-use Rattle.spl_tree.specs.declared.unit.CompositeParameter.{CompositeParameter}
 use Rattle.spl_tree.specs.declared.unit.HeadPort.{HeadPort}
 use Rattle.spl_tree.specs.declared.unit.TypeDefinition.{TypeDefinition}
-use Rattle.spl_tree.specs.TypeGrammar.{TypeExpr, Shape}
+use Rattle.spl_tree.specs.TypeGrammar.{Shape}
 use Rattle.expr_parser.specs.declared.stop.Stop.{Stop}
 use Rattle.expr_parser.specs.declared.stop.Stop.TheVariants as E
 use Rattle.expr_parser.specs.Lines.{is_name}
@@ -17,7 +16,7 @@ use Rattle.expr_parser.specs.Rules.{done, stop, look, call, Answer, Took, Refuse
 use Rattle.expr_parser.specs.Taken.{Taken, TakenAs}
 use Rattle.unit_parser.proofs.Readings.{last}
 use Rattle.unit_parser.specs.Gives.{Comes, Gives}
-use Rattle.unit_parser.specs.Lines.{Line, Value, Name, rule, R, expect, expect_name, name_at, HeadPorts, CompositeParameterClause, TypeClause, GraphClause, ParameterClause, CompositeParameters, Default, TypeOf, Types, Shaped}
+use Rattle.unit_parser.specs.Lines.{Line, Value, Name, rule, R, expect, expect_name, name_at, HeadPorts, CompositeParameterClause, TypeClause, GraphClause, ParameterClause, TypeOf, Types, Shaped}
 
 -- ---- lengths
 
@@ -141,9 +140,6 @@ composite_named n =
     call HeadPorts (λ h. expect S.LeftBrace (call CompositeParameterClause (λ ps. call TypeClause (λ ts. call GraphClause (λ xs.
     call (ParameterClause K.Config) (λ gs. expect S.RightBrace
     (done (record { name = n; outputs = h.0; inputs = h.1; parameters = ps; types = ts; graph = xs; config = gs }))))))))
-
-abbrev pub parameter_named : List CompositeParameter → TypeExpr → Name → R (List CompositeParameter)
-parameter_named ps k n = call (Default k n) (λ p. call (CompositeParameters (ps ++ p ∷ [])) done)
 
 abbrev pub type_named : Name → R TypeDefinition
 type_named n = expect S.Assign (call (Shaped S.Semicolon) (λ h. done (record { name = n; shape = h })))

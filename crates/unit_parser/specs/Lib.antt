@@ -3,6 +3,7 @@ pub mod Gives
 pub mod GivesClauses
 pub mod GivesStatements
 pub mod GivesComposites
+pub mod GivesParts
 pub mod Parses
 pub mod SoundTests
 pub mod SoundPhrases

@@ -1,7 +1,8 @@
 //! The clauses of an invocation.
 ghost use Rattle.std.specs.Prelude.{[]};
-ghost use Rattle.unit_parser.specs.Gives.{Gives};
+ghost use Rattle.unit_parser.specs.Gives.{Comes, Gives};
 ghost use Rattle.unit_parser.specs.GivesClauses.{EventFirst};
+ghost use Rattle.unit_parser.specs.GivesParts.{logic_and_window, param_to_config, output_and_config};
 ghost use Rattle.unit_parser.specs.Lines as lines;
 
 use crate::declarations::{declaration, declarations};
@@ -16,6 +17,9 @@ use spl_tree::{
 };
 use spl_value::Items;
 use std::alloc::Global;
+
+/// `output` with its assignments, or nothing.
+type OutputClause = Option<Placed<Items<OutputAssignments>>>;
 
 /// What ends an invocation: `;`, or its clauses between braces.
 pub(crate) fn end<'t>(alloc: Global, ts: &'t [Token]) -> Taken<'t, Clauses>
@@ -32,12 +36,8 @@ pub(crate) fn end<'t>(alloc: Global, ts: &'t [Token]) -> Taken<'t, Clauses>
         return Ok((clauses, behind));
     }
     let behind = pass(ts, Symbol::LeftBrace)?;
-    let (logic, behind) = logic(alloc, behind)?;
-    let (window, behind) = window(alloc, behind)?;
-    let (parameters, behind) = parameter_clause(alloc, Keyword::Param, behind)?;
-    let (output, behind) = output(alloc, behind)?;
-    let (config, behind) = parameter_clause(alloc, Keyword::Config, behind)?;
-    let behind = pass(behind, Symbol::RightBrace)?;
+    let ((logic, window), behind) = logic_and_window(alloc, behind)?;
+    let ((parameters, output, config), behind) = param_to_config(alloc, behind)?;
     let clauses = Clauses {
         logic,
         window,
@@ -46,6 +46,43 @@ pub(crate) fn end<'t>(alloc: Global, ts: &'t [Token]) -> Taken<'t, Clauses>
         config,
     };
     Ok((clauses, behind))
+}
+
+/// The clauses `logic` and `window`.
+fn logic_and_window<'t>(
+    alloc: Global,
+    ts: &'t [Token],
+) -> Taken<'t, (Option<Placed<Logic>>, Option<Placed<Items<PortWindow>>>)>
+    ensures { Comes logic_and_window ts.now result }
+{
+    let (logic, behind) = logic(alloc, ts)?;
+    let (window, behind) = window(alloc, behind)?;
+    Ok(((logic, window), behind))
+}
+
+/// The clauses `param`, `output` and `config`, and the closing brace.
+fn param_to_config<'t>(
+    alloc: Global,
+    ts: &'t [Token],
+) -> Taken<'t, (Items<Parameter>, OutputClause, Items<Parameter>)>
+    ensures { Comes param_to_config ts.now result }
+{
+    let (parameters, behind) = parameter_clause(alloc, Keyword::Param, ts)?;
+    let ((output, config), behind) = output_and_config(alloc, behind)?;
+    Ok(((parameters, output, config), behind))
+}
+
+/// The clauses `output` and `config`, and the closing brace.
+fn output_and_config<'t>(
+    alloc: Global,
+    ts: &'t [Token],
+) -> Taken<'t, (OutputClause, Items<Parameter>)>
+    ensures { Comes output_and_config ts.now result }
+{
+    let (output, behind) = output(alloc, ts)?;
+    let (config, behind) = parameter_clause(alloc, Keyword::Config, behind)?;
+    let behind = pass(behind, Symbol::RightBrace)?;
+    Ok(((output, config), behind))
 }
 
 /// `logic` and what follows, or nothing.
@@ -214,7 +251,7 @@ fn parameters<'t>(alloc: Global, ts: &'t [Token]) -> Taken<'t, Items<Parameter>>
 }
 
 /// `output` and what follows, or nothing.
-fn output<'t>(alloc: Global, ts: &'t [Token]) -> Taken<'t, Option<Placed<Items<OutputAssignments>>>>
+fn output<'t>(alloc: Global, ts: &'t [Token]) -> Taken<'t, OutputClause>
     ensures { Gives lines.OutputClause ts.now result }
 {
     let Some((word, behind)) = word_first(ts, Keyword::Output) else {

@@ -2,6 +2,7 @@
 ghost use Rattle.std.specs.Prelude.{[]};
 ghost use Rattle.unit_parser.specs.Gives.{Comes, Gives};
 ghost use Rattle.unit_parser.specs.GivesComposites.{other_ports_rule};
+ghost use Rattle.unit_parser.specs.GivesParts.{composite_clauses, parameters_and_types, graph_and_config, composite_parameter};
 ghost use Rattle.unit_parser.specs.Lines as lines;
 
 use crate::clauses::parameter_clause;
@@ -10,7 +11,7 @@ use crate::invocations::graph;
 use crate::types::{read_type, shape};
 use expr_parser::{Taken, after, name_first, pass, pass_name, read_expression};
 use spl_tree::{
-    Composite, CompositeParameter, HeadPort, Invocation, Keyword, Placed, Symbol, Token,
+    Composite, CompositeParameter, HeadPort, Invocation, Keyword, Parameter, Placed, Symbol, Token,
     TypeDefinition, TypeExpr,
 };
 use spl_value::{Items, Name};
@@ -19,18 +20,21 @@ use std::alloc::Global;
 /// The outputs and the inputs of a head.
 type Ports = (Items<HeadPort>, Items<HeadPort>);
 
+/// The clauses `param`, `type`, `graph` and `config` of a composite.
+type CompositeClauses = (
+    Items<CompositeParameter>,
+    Items<TypeDefinition>,
+    Items<Invocation>,
+    Items<Parameter>,
+);
+
 /// A composite, behind its first word.
 pub(crate) fn composite<'t>(alloc: Global, ts: &'t [Token]) -> Taken<'t, Composite>
     ensures { Gives lines.CompositeOf ts.now result }
 {
     let (name, behind) = pass_name(alloc, ts)?;
     let ((outputs, inputs), behind) = head_ports(alloc, behind)?;
-    let behind = pass(behind, Symbol::LeftBrace)?;
-    let (parameters, behind) = composite_parameter_clause(alloc, behind)?;
-    let (types, behind) = type_clause(alloc, behind)?;
-    let (graph, behind) = graph_clause(alloc, behind)?;
-    let (config, behind) = parameter_clause(alloc, Keyword::Config, behind)?;
-    let behind = pass(behind, Symbol::RightBrace)?;
+    let ((parameters, types, graph, config), behind) = composite_clauses(alloc, behind)?;
     let composite = Composite {
         name,
         outputs,
@@ -41,6 +45,41 @@ pub(crate) fn composite<'t>(alloc: Global, ts: &'t [Token]) -> Taken<'t, Composi
         config,
     };
     Ok((composite, behind))
+}
+
+/// The clauses of a composite, in braces.
+fn composite_clauses<'t>(alloc: Global, ts: &'t [Token]) -> Taken<'t, CompositeClauses>
+    ensures { Comes composite_clauses ts.now result }
+{
+    let ((parameters, types), behind) = parameters_and_types(alloc, ts)?;
+    let ((graph, config), behind) = graph_and_config(alloc, behind)?;
+    Ok(((parameters, types, graph, config), behind))
+}
+
+/// The opening brace and the clauses up to `type`.
+fn parameters_and_types<'t>(
+    alloc: Global,
+    ts: &'t [Token],
+) -> Taken<'t, (Items<CompositeParameter>, Items<TypeDefinition>)>
+    ensures { Comes parameters_and_types ts.now result }
+{
+    let behind = pass(ts, Symbol::LeftBrace)?;
+    let (parameters, behind) = composite_parameter_clause(alloc, behind)?;
+    let (types, behind) = type_clause(alloc, behind)?;
+    Ok(((parameters, types), behind))
+}
+
+/// The clauses from `graph` on and the closing brace.
+fn graph_and_config<'t>(
+    alloc: Global,
+    ts: &'t [Token],
+) -> Taken<'t, (Items<Invocation>, Items<Parameter>)>
+    ensures { Comes graph_and_config ts.now result }
+{
+    let (graph, behind) = graph_clause(alloc, ts)?;
+    let (config, behind) = parameter_clause(alloc, Keyword::Config, behind)?;
+    let behind = pass(behind, Symbol::RightBrace)?;
+    Ok(((graph, config), behind))
 }
 
 /// The ports of a head in parentheses, or none.
@@ -133,14 +172,21 @@ fn composite_parameters<'t>(alloc: Global, ts: &'t [Token]) -> Taken<'t, Items<C
         let Some((_, behind)) = word_first(at, Keyword::Expression) else {
             return Ok((all, at));
         };
-        let behind = pass(behind, Symbol::Less)?;
-        let (kind, behind) = read_type(alloc, behind)?;
-        let behind = pass(behind, Symbol::Greater)?;
-        let (name, behind) = pass_dollar(alloc, behind)?;
-        let (one, behind) = defaulted(alloc, kind, name, behind)?;
+        let (one, behind) = composite_parameter(alloc, behind)?;
         all.push(one)?;
         at = behind;
     }
+}
+
+/// A parameter, behind its first word.
+fn composite_parameter<'t>(alloc: Global, ts: &'t [Token]) -> Taken<'t, CompositeParameter>
+    ensures { Comes composite_parameter ts.now result }
+{
+    let behind = pass(ts, Symbol::Less)?;
+    let (kind, behind) = read_type(alloc, behind)?;
+    let behind = pass(behind, Symbol::Greater)?;
+    let (name, behind) = pass_dollar(alloc, behind)?;
+    defaulted(alloc, kind, name, behind)
 }
 
 /// A parameter, behind its name.

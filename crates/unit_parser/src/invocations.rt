@@ -1,7 +1,8 @@
 //! Invocations of operators and composites.
 ghost use Rattle.std.specs.Prelude.{[]};
-ghost use Rattle.unit_parser.specs.Gives.{Gives};
+ghost use Rattle.unit_parser.specs.Gives.{Comes, Gives};
 ghost use Rattle.unit_parser.specs.GivesClauses.{InvocationsOn};
+ghost use Rattle.unit_parser.specs.GivesParts.{operator_and_inputs};
 ghost use Rattle.unit_parser.specs.Lines as lines;
 
 use crate::clauses::end;
@@ -117,10 +118,7 @@ fn invoked<'t>(alloc: Global, at: u32, head: Head, ts: &'t [Token]) -> Taken<'t,
     ensures { Gives (lines.Invoked at head.0 head.1) ts.now result }
 {
     let (outputs, alias) = head;
-    let behind = pass(ts, Symbol::Assign)?;
-    let (operator, behind) = pass_name(alloc, behind)?;
-    let behind = pass(behind, Symbol::LeftParen)?;
-    let (inputs, behind) = inputs(alloc, behind)?;
+    let ((operator, inputs), behind) = operator_and_inputs(alloc, ts)?;
     let (clauses, behind) = end(alloc, behind)?;
     let one = Invocation {
         at,
@@ -131,6 +129,20 @@ fn invoked<'t>(alloc: Global, at: u32, head: Head, ts: &'t [Token]) -> Taken<'t,
         clauses,
     };
     Ok((one, behind))
+}
+
+/// What is invoked, behind a head, and its inputs.
+fn operator_and_inputs<'t>(
+    alloc: Global,
+    ts: &'t [Token],
+) -> Taken<'t, (Placed<Name>, Items<InputPort>)>
+    ensures { Comes operator_and_inputs ts.now result }
+{
+    let behind = pass(ts, Symbol::Assign)?;
+    let (operator, behind) = pass_name(alloc, behind)?;
+    let behind = pass(behind, Symbol::LeftParen)?;
+    let (inputs, behind) = inputs(alloc, behind)?;
+    Ok(((operator, inputs), behind))
 }
 
 /// Input ports up to the closing parenthesis, or none.

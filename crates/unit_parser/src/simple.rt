@@ -7,6 +7,7 @@ ghost use Rattle.spl_tree.specs.declared.expression.ExprKind.TheVariants as X;
 ghost use Rattle.spl_tree.specs.declared.statement.StmtKind.TheVariants as Z;
 ghost use Rattle.spl_tree.specs.Grammar.{placed};
 ghost use Rattle.unit_parser.specs.Gives.{Gives, Comes};
+ghost use Rattle.unit_parser.specs.GivesParts as parts;
 ghost use Rattle.unit_parser.specs.GivesStatements as statements;
 ghost use Rattle.unit_parser.specs.Lines as lines;
 
@@ -49,12 +50,28 @@ pub(crate) fn for_head<'t>(alloc: Global, ts: &'t [Token]) -> Taken<'t, (Attribu
     ensures { Comes statements.for_head ts.now result }
 {
     let behind = pass(ts, Symbol::LeftParen)?;
-    let (kind, behind) = read_type(alloc, behind)?;
+    let (variable, behind) = for_variable(alloc, behind)?;
+    let (over, behind) = gone_over(alloc, behind)?;
+    Ok(((variable, over), behind))
+}
+
+/// The variable of a `for`: a type with a name.
+fn for_variable<'t>(alloc: Global, ts: &'t [Token]) -> Taken<'t, Attribute<TypeExpr>>
+    ensures { Comes parts.for_variable ts.now result }
+{
+    let (kind, behind) = read_type(alloc, ts)?;
     let (name, behind) = pass_name(alloc, behind)?;
-    let behind = pass_word(behind, Keyword::In)?;
+    Ok((Attribute { kind, name }, behind))
+}
+
+/// What a `for` goes over, behind its variable, and the closing parenthesis.
+fn gone_over<'t>(alloc: Global, ts: &'t [Token]) -> Taken<'t, Expr>
+    ensures { Comes parts.gone_over ts.now result }
+{
+    let behind = pass_word(ts, Keyword::In)?;
     let (over, behind) = read_expression(alloc, behind)?;
     let behind = pass(behind, Symbol::RightParen)?;
-    Ok(((Attribute { kind, name }, over), behind))
+    Ok((over, behind))
 }
 
 /// The statement of that kind at a place, with whether it is closed.

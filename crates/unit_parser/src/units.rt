@@ -1,8 +1,9 @@
 //! Units, and what they define.
 ghost use Rattle.std.specs.Prelude.{◌≡◌, []};
 ghost use Rattle.expr_parser.specs.RuleLaws.{begins_with};
-ghost use Rattle.unit_parser.specs.Gives.{Gives};
+ghost use Rattle.unit_parser.specs.Gives.{Comes, Gives};
 ghost use Rattle.unit_parser.specs.GivesComposites.{PassesNames, DefinesOn, begins_type, is_type_front, word_begins_type};
+ghost use Rattle.unit_parser.specs.GivesParts.{signature};
 ghost use Rattle.unit_parser.specs.Lines as lines;
 
 use crate::composites::{composite, type_definition};
@@ -10,8 +11,11 @@ use crate::first::{pass_word, word_first};
 use crate::statements::block;
 use crate::types::{function_parameters, read_type};
 use expr_parser::{Stop, Taken, after, pass, pass_name};
-use spl_tree::{Definition, FunctionDefinition, Keyword, Symbol, Token, TokenKind, TypeExpr, Unit};
-use spl_value::Items;
+use spl_tree::{
+    Attributes, Definition, FunctionDefinition, Keyword, Placed, Symbol, Token, TokenKind,
+    TypeExpr, Unit,
+};
+use spl_value::{Items, Name};
 use std::alloc::Global;
 
 /// A unit.
@@ -129,9 +133,7 @@ fn function<'t>(
 ) -> Taken<'t, FunctionDefinition>
     ensures { Gives (lines.FunctionOf kind) ts.now result }
 {
-    let (name, behind) = pass_name(alloc, ts)?;
-    let behind = pass(behind, Symbol::LeftParen)?;
-    let (parameters, behind) = function_parameters(alloc, behind)?;
+    let ((name, parameters), behind) = signature(alloc, ts)?;
     let (body, behind) = block(alloc, behind)?;
     let function = FunctionDefinition {
         result: kind,
@@ -140,4 +142,14 @@ fn function<'t>(
         body,
     };
     Ok((function, behind))
+}
+
+/// The name of a function and its parameters.
+fn signature<'t>(alloc: Global, ts: &'t [Token]) -> Taken<'t, (Placed<Name>, Attributes)>
+    ensures { Comes signature ts.now result }
+{
+    let (name, behind) = pass_name(alloc, ts)?;
+    let behind = pass(behind, Symbol::LeftParen)?;
+    let (parameters, behind) = function_parameters(alloc, behind)?;
+    Ok(((name, parameters), behind))
 }

@@ -1,14 +1,27 @@
-use Rattle.std.proofs.Common.{List, refl}
+use Rattle.std.proofs.Common.{List, Option, refl}
+use Rattle.spl_tree.specs.declared.expression.Placed.{Placed}
 use Rattle.spl_tree.specs.declared.token.Token.{Token}
 use Rattle.spl_tree.specs.declared.unit.Clauses.{Clauses}
-use Rattle.expr_parser.specs.Rules.{Answer, RunsTo, Reads}
-use Rattle.spl_tree.specs.declared.keyword.Keyword.TheVariants as K
+use Rattle.spl_tree.specs.declared.unit.Logic.{Logic}
+use Rattle.spl_tree.specs.declared.unit.OutputAssignments.{OutputAssignments}
+use Rattle.spl_tree.specs.declared.unit.Parameter.{Parameter}
+use Rattle.spl_tree.specs.declared.unit.PortWindow.{PortWindow}
+use Rattle.expr_parser.specs.Rules.{done, Answer, RunsTo, Reads}
 use Rattle.spl_tree.specs.declared.symbol.Symbol.TheVariants as S
+use Rattle.unit_parser.specs.GivesParts.{logic_and_window, param_to_config}
 use Rattle.unit_parser.specs.Lines as lines
-use Rattle.unit_parser.specs.Lines.{rule}
-use Rattle.unit_parser.proofs.Readings.{finished, reads, taken, skipped, passed, line_read, fails, pass_fails, line_fails}
+use Rattle.unit_parser.specs.Lines.{R, rule}
+use Rattle.unit_parser.proofs.Readings.{finished, reads, taken, skipped, passed, fails, pass_fails}
 use Rattle.unit_parser.proofs.Rows.{made}
+use Rattle.unit_parser.proofs.StatementReadings.{behind, part_read, part_fails}
 use Rattle.unit_parser.proofs.clauses.end.Goals as goal
+
+-- the rule behind the closing brace, and behind the windows
+abbrev closed : Option (Placed Logic) × Option (Placed (List PortWindow)) → List Parameter × Option (Placed (List OutputAssignments)) × List Parameter → R Clauses
+closed a b = done (record { logic = a.0; window = a.1; parameters = b.0; output = b.1; config = b.2 })
+
+abbrev windowed : Option (Placed Logic) × Option (Placed (List PortWindow)) → R Clauses
+windowed a = behind param_to_config (closed a)
 
 -- what its rule comes to
 end_read : {ts : List Token} {o : Answer Clauses} → RunsTo rule lines.end_rule ts o → Reads rule lines.End ts o
@@ -31,42 +44,15 @@ pub returns-in_err-logic : goal.returns-in_err-logic
 returns-in_err-logic c =
     fails lines.End c.args.ts.now c.in_ok-behind.behind.now _ c.from_residual-in_err-logic.result c.in_err-logic.field-0.0 c.from_residual-in_err-logic.ensures.1
     (λ o q. end_read (skipped c.in_default.ensures (passed S.LeftBrace c.in_ok-behind.ensures q)))
-    (line_fails _ lines.LogicClause _ _ c.in_err-logic.ensures)
-
-pub returns-in_err-window : goal.returns-in_err-window
-returns-in_err-window c =
-    fails lines.End c.args.ts.now c.in_ok-logic.behind.now _ c.from_residual-in_err-window.result c.in_err-window.field-0.0 c.from_residual-in_err-window.ensures.1
-    (λ o q. end_read (skipped c.in_default.ensures (passed S.LeftBrace c.in_ok-behind.ensures (line_read c.in_ok-logic.ensures q))))
-    (line_fails _ lines.WindowClause _ _ c.in_err-window.ensures)
+    (part_fails logic_and_window windowed _ _ c.in_err-logic.ensures)
 
 pub returns-in_err-parameters : goal.returns-in_err-parameters
 returns-in_err-parameters c =
-    fails lines.End c.args.ts.now c.in_ok-window.behind.now _ c.from_residual-in_err-parameters.result c.in_err-parameters.field-0.0 c.from_residual-in_err-parameters.ensures.1
-    (λ o q. end_read (skipped c.in_default.ensures (passed S.LeftBrace c.in_ok-behind.ensures (line_read c.in_ok-logic.ensures (line_read c.in_ok-window.ensures q)))))
-    (line_fails _ (lines.ParameterClause K.Param) _ _ c.in_err-parameters.ensures)
-
-pub returns-in_err-output : goal.returns-in_err-output
-returns-in_err-output c =
-    fails lines.End c.args.ts.now c.in_ok-parameters.behind.now _ c.from_residual-in_err-output.result c.in_err-output.field-0.0 c.from_residual-in_err-output.ensures.1
-    (λ o q. end_read (skipped c.in_default.ensures (passed S.LeftBrace c.in_ok-behind.ensures (line_read c.in_ok-logic.ensures (line_read c.in_ok-window.ensures
-    (line_read c.in_ok-parameters.ensures q))))))
-    (line_fails _ lines.OutputClause _ _ c.in_err-output.ensures)
-
-pub returns-in_err-config : goal.returns-in_err-config
-returns-in_err-config c =
-    fails lines.End c.args.ts.now c.in_ok-output.behind.now _ c.from_residual-in_err-config.result c.in_err-config.field-0.0 c.from_residual-in_err-config.ensures.1
-    (λ o q. end_read (skipped c.in_default.ensures (passed S.LeftBrace c.in_ok-behind.ensures (line_read c.in_ok-logic.ensures (line_read c.in_ok-window.ensures
-    (line_read c.in_ok-parameters.ensures (line_read c.in_ok-output.ensures q)))))))
-    (line_fails _ (lines.ParameterClause K.Config) _ _ c.in_err-config.ensures)
-
-pub returns-in_err-behind-2 : goal.returns-in_err-behind-2
-returns-in_err-behind-2 c =
-    fails lines.End c.args.ts.now c.in_ok-config.behind.now _ c.from_residual-in_err-behind-2.result c.in_err-behind-2.field-0.0 c.from_residual-in_err-behind-2.ensures.1
-    (λ o q. end_read (skipped c.in_default.ensures (passed S.LeftBrace c.in_ok-behind.ensures (line_read c.in_ok-logic.ensures (line_read c.in_ok-window.ensures
-    (line_read c.in_ok-parameters.ensures (line_read c.in_ok-output.ensures (line_read c.in_ok-config.ensures q))))))))
-    (pass_fails _ S.RightBrace _ _ c.in_err-behind-2.ensures)
+    fails lines.End c.args.ts.now c.in_ok-logic.behind.now _ c.from_residual-in_err-parameters.result c.in_err-parameters.field-0.0 c.from_residual-in_err-parameters.ensures.1
+    (λ o q. end_read (skipped c.in_default.ensures (passed S.LeftBrace c.in_ok-behind.ensures (part_read logic_and_window windowed c.in_ok-logic.ensures q))))
+    (part_fails param_to_config (closed (c.in_ok-logic.logic, c.in_ok-logic.window)) _ _ c.in_err-parameters.ensures)
 
 pub returns : goal.returns
 returns c =
-    end_read (skipped c.in_default.ensures (passed S.LeftBrace c.in_ok-behind.ensures (line_read c.in_ok-logic.ensures (line_read c.in_ok-window.ensures
-    (line_read c.in_ok-parameters.ensures (line_read c.in_ok-output.ensures (line_read c.in_ok-config.ensures (passed S.RightBrace c.in_ok-behind-2.ensures finished))))))))
+    end_read (skipped c.in_default.ensures (passed S.LeftBrace c.in_ok-behind.ensures (part_read logic_and_window windowed c.in_ok-logic.ensures
+    (part_read param_to_config (closed (c.in_ok-logic.logic, c.in_ok-logic.window)) c.in_ok-parameters.ensures finished))))
