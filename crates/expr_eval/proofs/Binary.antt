@@ -67,8 +67,5 @@ module _ {N : Type 0} (op : BinaryCode) (m n : Meaning N) (w : World N) (turns :
       go op f g = refl
 
   module _ (u : Value) (after : ℕ) (first : m w turns ≡ Done u after) where
-    on_left : binary op m n w turns ≡ followed (n w after) (λ v turns. settled (binary_of op u v) turns)
+    pub on_left : binary op m n w turns ≡ followed (n w after) (λ v turns. settled (binary_of op u v) turns)
     on_left = both_evaluated ∙ ap (λ o. followed o (λ u turns. followed (n w turns) (λ v turns. settled (binary_of op u v) turns))) first
-
-    pub operands_are : (v : Value) (left : ℕ) → n w after ≡ Done v left → binary op m n w turns ≡ settled (binary_of op u v) left
-    operands_are v left second = on_left ∙ ap (λ o. followed o (λ v turns. settled (binary_of op u v) turns)) second

@@ -16,8 +16,8 @@ use Rattle.language_model.specs.SubmitsLaws.{SubmitsLaw, in_front}
 use Rattle.language_model.specs.ValueLaws.{BodyLeavesLaw}
 use Rattle.language_model.specs.WorldFits.{Leaves}
 use Rattle.expr_eval.specs.Running.{BodyIsFit, Leads, LeavesBehind, RanAs, ran_as, state}
-use Rattle.expr_eval.specs.declared.stop.Stop.{Stop}
-use Rattle.expr_eval.specs.declared.stop.Stop.TheVariants as S
+use Rattle.value_operations.specs.declared.stop.Stop.{Stop}
+use Rattle.value_operations.specs.declared.stop.Stop.TheVariants as S
 
 abbrev Went : Type 0
 Went = Flow × State

@@ -1,6 +1,6 @@
 -- What a built-in call comes to, by what its arguments came to.
-use Rattle.std.specs.Prelude.{◌≡◌, ◌≤◌, ◌<◌, ℕ, suc, List, [], ◌∷◌, length, Result, IsErrAnd}
-use Rattle.std.proofs.Common.{refl, sym, ap, ◌∙◌, arith, get_or}
+use Rattle.std.specs.Prelude.{◌≡◌, ◌≤◌, ◌<◌, ℕ, suc, List, [], ◌∷◌, length, Result, Err, IsErrAnd}
+use Rattle.std.proofs.Common.{refl, sym, ap, ◌∙◌, arith, get_or, subst}
 use Rattle.spl_value.specs.declared.types.SplType.{SplType}
 use Rattle.spl_value.specs.declared.value.Value.{Value}
 use Rattle.spl_tree.specs.declared.code.BuiltIn.{BuiltIn}
@@ -15,12 +15,12 @@ use Rattle.language_model.specs.CodeFits.{ArgumentsFit, BuiltInGives}
 use Rattle.language_model.specs.Evaluation.{World, Calls, code_value}
 use Rattle.language_model.specs.EvaluationLaws.{values_of}
 use Rattle.language_model.specs.Operators.{built_in_of}
-use Rattle.language_model.specs.Outcomes.{Done, followed, settled}
-use Rattle.expr_eval.specs.Answers.{StopsAs, Answers, Settles}
+use Rattle.language_model.specs.Outcomes.{Outcome, Done, followed, settled}
+use Rattle.value_operations.specs.Answers.{StopsAs, Answers}
 use Rattle.expr_eval.specs.Fitting.{IsFit}
-use Rattle.expr_eval.specs.declared.stop.Stop.{Stop}
+use Rattle.value_operations.specs.declared.stop.Stop.{Stop}
 use Rattle.expr_eval.proofs.CodeParts.{built_in_parts}
-use Rattle.expr_eval.proofs.Following.{followed_stops, stops, stops_by, answers_by, settled_answers}
+use Rattle.value_operations.proofs.Following.{followed_followed, followed_stops, stops, stops_by}
 
 -- ---- how many arguments there are
 
@@ -96,9 +96,6 @@ module _ (calls : Calls) (w : World Slot) where
   module _ (xs : List (Code Slot)) (turns : ℕ) where
     -- a call with one argument
     module _ (x : Code Slot) (e : xs ≡ x ∷ []) where
-      pub one_stops : (s : Stop) → StopsAs (code_value calls x w turns) s → StopsAs (values_of calls xs w turns) s
-      one_stops s h = stops_by _ _ s (ap (λ xs. values_of calls xs w turns) e) (stops_first x [] turns s h)
-
       pub one_value : (v : Value) (left : ℕ) → code_value calls x w turns ≡ Done v left → values_of calls xs w turns ≡ Done (v ∷ []) left
       one_value v left d = ap (λ xs. values_of calls xs w turns) e ∙ values_behind x [] turns v left d [] left refl
 
@@ -108,9 +105,6 @@ module _ (calls : Calls) (w : World Slot) where
       first_of_two_stops s h = stops_by _ _ s (ap (λ xs. values_of calls xs w turns) e) (stops_first x (y ∷ []) turns s h)
 
       module _ (v : Value) (after : ℕ) (d : code_value calls x w turns ≡ Done v after) where
-        pub second_of_two_stops : (s : Stop) → StopsAs (code_value calls y w after) s → StopsAs (values_of calls xs w turns) s
-        second_of_two_stops s h = stops_by _ _ s (ap (λ xs. values_of calls xs w turns) e) (stops_behind x (y ∷ []) turns v after d s (stops_first y [] after s h))
-
         pub two_values : (u : Value) (left : ℕ) → code_value calls y w after ≡ Done u left → values_of calls xs w turns ≡ Done (v ∷ u ∷ []) left
         two_values u left f =
             ap (λ xs. values_of calls xs w turns) e
@@ -127,26 +121,49 @@ module _ (calls : Calls) (w : World Slot) where
             stops_by _ _ s (ap (λ xs. values_of calls xs w turns) e) (stops_behind x (y ∷ z ∷ []) turns v after d s (stops_first y (z ∷ []) after s h))
 
         module _ (u : Value) (later : ℕ) (f : code_value calls y w after ≡ Done u later) where
-          pub third_of_three_stops : (s : Stop) → StopsAs (code_value calls z w later) s → StopsAs (values_of calls xs w turns) s
-          third_of_three_stops s h =
-              stops_by _ _ s (ap (λ xs. values_of calls xs w turns) e)
-              (stops_behind x (y ∷ z ∷ []) turns v after d s (stops_behind y (z ∷ []) after u later f s (stops_first z [] later s h)))
-
           pub three_values : (t : Value) (left : ℕ) → code_value calls z w later ≡ Done t left → values_of calls xs w turns ≡ Done (v ∷ u ∷ t ∷ []) left
           three_values t left g =
               ap (λ xs. values_of calls xs w turns) e
               ∙ values_behind x (y ∷ z ∷ []) turns v after d (u ∷ t ∷ []) left
               (values_behind y (z ∷ []) after u later f (t ∷ []) left (values_behind z [] later t left g [] left refl))
 
-  module _ (call : BuiltIn) (xs : List (Code Slot)) (turns : ℕ) where
-    pub called_stops : (r : Result Value Stop) (left : ℕ) (s : Stop) → IsErrAnd r (λ y. y ≡ s) → StopsAs (values_of calls xs w turns) s
-        → Answers (followed (values_of calls xs w turns) (λ vs left. settled (built_in_of call vs) left)) r left
-    called_stops r left s h f = stops _ r left s h (followed_stops (values_of calls xs w turns) (λ vs left. settled (built_in_of call vs) left) s f)
+  -- what is done with the values
+  module _ {A : Type 0} (f : List Value → ℕ → Outcome A) where
+    follows_last : (x : Code Slot) (turns : ℕ) → followed (values_of calls (x ∷ []) w turns) f ≡ followed (code_value calls x w turns) (λ v left. f (v ∷ []) left)
+    follows_last x turns = followed_followed (code_value calls x w turns) (λ v turns. Done (v ∷ []) turns) f
 
-    -- the arguments are read as us
-    pub called_answers : (vs us : List Value) (left : ℕ) (r : Result Value Stop) → values_of calls xs w turns ≡ Done vs left → us ≡ vs → Settles (built_in_of call us) r
-        → Answers (followed (values_of calls xs w turns) (λ vs left. settled (built_in_of call vs) left)) r left
-    called_answers vs us left r e same h =
-        answers_by _ (settled (built_in_of call us) left) r left
-        (ap (λ o. followed o (λ vs left. settled (built_in_of call vs) left)) e ∙ ap (λ vs. settled (built_in_of call vs) left) (sym same))
-        (settled_answers (built_in_of call us) r left h)
+    follows_first : (x : Code Slot) (rest : List (Code Slot)) (turns : ℕ) (v : Value) (after : ℕ) → code_value calls x w turns ≡ Done v after
+        → followed (values_of calls (x ∷ rest) w turns) f ≡ followed (values_of calls rest w after) (λ vs left. f (v ∷ vs) left)
+    follows_first x rest turns v after d = ap (λ o. followed o f) (behind x rest turns v after d) ∙ followed_followed (values_of calls rest w after) (λ vs turns. Done (v ∷ vs) turns) f
+
+  module _ (call : BuiltIn) (xs : List (Code Slot)) (turns : ℕ) where
+    abbrev called : Outcome Value
+    called = followed (values_of calls xs w turns) (λ vs left. settled (built_in_of call vs) left)
+
+    pub called_stops : (r : Result Value Stop) (left : ℕ) (s : Stop) → IsErrAnd r (λ y. y ≡ s) → StopsAs (values_of calls xs w turns) s → Answers called r left
+    called_stops r left s h f = stops called r left s h (followed_stops (values_of calls xs w turns) (λ vs left. settled (built_in_of call vs) left) s f)
+
+    pub called_stopped : (r : Result Value Stop) (left : ℕ) (s : Stop) → r ≡ Err s → StopsAs (values_of calls xs w turns) s → Answers called r left
+    called_stopped r left s h f =
+        subst (λ r. Answers called r left) (sym h) (followed_stops (values_of calls xs w turns) (λ vs left. settled (built_in_of call vs) left) s f)
+
+    with_values : (ys : List (Code Slot)) → xs ≡ ys → called ≡ followed (values_of calls ys w turns) (λ vs left. settled (built_in_of call vs) left)
+    with_values ys e = ap (λ xs. followed (values_of calls xs w turns) (λ vs left. settled (built_in_of call vs) left)) e
+
+    -- by what its last argument comes to
+    pub with_one : (x : Code Slot) → xs ≡ x ∷ [] → called ≡ followed (code_value calls x w turns) (λ v left. settled (built_in_of call (v ∷ [])) left)
+    with_one x e = with_values (x ∷ []) e ∙ follows_last (λ vs left. settled (built_in_of call vs) left) x turns
+
+    pub with_two : (x y : Code Slot) → xs ≡ x ∷ y ∷ [] → (v : Value) (after : ℕ) → code_value calls x w turns ≡ Done v after
+        → called ≡ followed (code_value calls y w after) (λ u left. settled (built_in_of call (v ∷ u ∷ [])) left)
+    with_two x y e v after d =
+        with_values (x ∷ y ∷ []) e ∙ follows_first (λ vs left. settled (built_in_of call vs) left) x (y ∷ []) turns v after d
+        ∙ follows_last (λ vs left. settled (built_in_of call (v ∷ vs)) left) y after
+
+    pub with_three : (x y z : Code Slot) → xs ≡ x ∷ y ∷ z ∷ [] → (v : Value) (after : ℕ) → code_value calls x w turns ≡ Done v after
+        → (u : Value) (later : ℕ) → code_value calls y w after ≡ Done u later
+        → called ≡ followed (code_value calls z w later) (λ t left. settled (built_in_of call (v ∷ u ∷ t ∷ [])) left)
+    with_three x y z e v after d u later g =
+        with_values (x ∷ y ∷ z ∷ []) e ∙ follows_first (λ vs left. settled (built_in_of call vs) left) x (y ∷ z ∷ []) turns v after d
+        ∙ follows_first (λ vs left. settled (built_in_of call (v ∷ vs)) left) y (z ∷ []) after u later g
+        ∙ follows_last (λ vs left. settled (built_in_of call (v ∷ u ∷ vs)) left) z later

@@ -20,11 +20,11 @@ use Rattle.language_model.specs.Outcomes.{Outcome, Done, followed, need, enter}
 use Rattle.language_model.specs.Statements.{State, Left, scoped, row_acts, returned_by, left_by, body_leaves}
 use Rattle.language_model.specs.ValueLaws.{BodyLeavesLaw}
 use Rattle.language_model.specs.WorldFits.{VariablesFit, FunctionFits, ResultFits, Leaves, body_scope}
-use Rattle.expr_eval.specs.Answers.{StopsAs}
-use Rattle.expr_eval.specs.declared.stop.Stop.{Stop}
+use Rattle.value_operations.specs.Answers.{StopsAs}
+use Rattle.value_operations.specs.declared.stop.Stop.{Stop}
 use Rattle.expr_eval.specs.Fitting.{FitCall}
 use Rattle.expr_eval.specs.Running.{RowIsFit, FunctionIsFit, state}
-use Rattle.expr_eval.proofs.Following.{enter_followed, followed_stops, stops_by}
+use Rattle.value_operations.proofs.Following.{enter_followed, followed_stops, stops_by}
 use Rattle.expr_eval.proofs.ValueTypes.{done_followed}
 
 abbrev kinds : List Variable → List SplType

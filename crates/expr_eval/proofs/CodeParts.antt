@@ -24,7 +24,8 @@ use Rattle.language_model.specs.declared.scope.Signature.{Signature}
 use Rattle.language_model.specs.CodeFits as F
 use Rattle.language_model.specs.CodeFits.{CodeFits, SlotFits, ElementsFit, PairsFit, FieldsFit, ArgumentsFit, StepsLead, UnariesGive, BinaryGives, BuiltInGives, OneEach}
 use Rattle.language_model.specs.WorldFits.{Fits}
-use Rattle.expr_eval.specs.Fitting.{IsFit, AreFit, PairsAreFit, FieldsAreFit, FitTakings, HasSlot, HasMarker}
+use Rattle.value_operations.specs.Fitting.{HasSlot, HasMarker}
+use Rattle.expr_eval.specs.Fitting.{IsFit, AreFit, PairsAreFit, FieldsAreFit, FitTakings}
 
 -- what the parts of an open code fit where the code fits at the type
 abbrev Parts : Scope → Code-F Slot (Code Slot) → SplType → Type 0

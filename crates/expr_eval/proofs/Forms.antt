@@ -15,10 +15,10 @@ use Rattle.language_model.specs.Evaluation.{World, Calls, map_of, tuple_of, unar
 use Rattle.language_model.specs.EvaluationLaws.{values_of, pair_values, field_values, takings_value, truth_value, literal_is, name_is, list_is, map_is, tuple_is, select_is, unary_is, binary_is, conditional_is, built_in_is, call_is, is_marker_is, is_not_marker_is}
 use Rattle.language_model.specs.Operators.{built_in_of}
 use Rattle.language_model.specs.Outcomes.{Outcome, Done, followed, need, settled, enter}
-use Rattle.expr_eval.specs.Answers.{StopsAs, AnswersHeld, ReadsHeld}
-use Rattle.expr_eval.specs.declared.held.Held.{Held}
-use Rattle.expr_eval.specs.declared.stop.Stop.{Stop}
-use Rattle.expr_eval.proofs.Following.{followed_followed, followed_stops, stops_by, stops_held, answers_held_by, read_answers}
+use Rattle.value_operations.specs.Answers.{StopsAs, AnswersHeld, ReadsHeld}
+use Rattle.value_operations.specs.declared.held.Held.{Held}
+use Rattle.value_operations.specs.declared.stop.Stop.{Stop}
+use Rattle.value_operations.proofs.Following.{followed_followed, followed_stops, stops_by, stops_held, answers_held_by, read_answers}
 
 module _ (calls : Calls) (w : World Slot) (code : Code Slot) (turns : ℕ) where
   abbrev comes : Outcome Value
@@ -89,11 +89,8 @@ module _ (calls : Calls) (w : World Slot) (code : Code Slot) (turns : ℕ) where
     list_form : comes ≡ followed (values_of calls xs w turns) (λ vs turns. Done (V.List vs) turns)
     list_form = form (C.List xs) _ is (list_is calls xs w turns)
 
-    pub list_stops : (r : Result Held Stop) (left : ℕ) (s : Stop) → IsErrAnd r (λ y. y ≡ s) → StopsAs (values_of calls xs w turns) s → AnswersHeld comes r left
-    list_stops r left s h f = handed _ r left s list_form h (followed_stops (values_of calls xs w turns) (λ vs turns. Done (V.List vs) turns) s f)
-
-    pub list_done : (vs : List Value) (left : ℕ) → values_of calls xs w turns ≡ Done vs left → comes ≡ Done (V.List vs) left
-    list_done vs left d = list_form ∙ ap (λ o. followed o (λ vs turns. Done (V.List vs) turns)) d
+    pub list_answers : (r : Result Held Stop) (left : ℕ) → AnswersHeld (followed (values_of calls xs w turns) (λ vs turns. Done (V.List vs) turns)) r left → AnswersHeld comes r left
+    list_answers r left h = answers_held_by comes _ r left list_form h
 
   module _ (ps : List (Code Slot × Code Slot)) (is : code ≡ C.Map ps) where
     map_form : comes ≡ followed (pair_values calls ps w turns) (λ qs turns. Done (V.Map (map_of qs)) turns)
@@ -103,13 +100,9 @@ module _ (calls : Calls) (w : World Slot) (code : Code Slot) (turns : ℕ) where
     made : comes ≡ followed (followed (pair_values calls ps w turns) (λ qs turns. Done (map_of qs) turns)) (λ m turns. Done (V.Map m) turns)
     made = map_form ∙ sym (followed_followed (pair_values calls ps w turns) (λ qs turns. Done (map_of qs) turns) (λ m turns. Done (V.Map m) turns))
 
-    pub map_stops : (r : Result Held Stop) (left : ℕ) (s : Stop) → IsErrAnd r (λ y. y ≡ s)
-        → StopsAs (followed (pair_values calls ps w turns) (λ qs turns. Done (map_of qs) turns)) s → AnswersHeld comes r left
-    map_stops r left s h f =
-        handed _ r left s made h (followed_stops (followed (pair_values calls ps w turns) (λ qs turns. Done (map_of qs) turns)) (λ m turns. Done (V.Map m) turns) s f)
-
-    pub map_done : (m : List (Value × Value)) (left : ℕ) → followed (pair_values calls ps w turns) (λ qs turns. Done (map_of qs) turns) ≡ Done m left → comes ≡ Done (V.Map m) left
-    map_done m left d = made ∙ ap (λ o. followed o (λ m turns. Done (V.Map m) turns)) d
+    pub map_answers : (r : Result Held Stop) (left : ℕ)
+        → AnswersHeld (followed (followed (pair_values calls ps w turns) (λ qs turns. Done (map_of qs) turns)) (λ m turns. Done (V.Map m) turns)) r left → AnswersHeld comes r left
+    map_answers r left h = answers_held_by comes _ r left made h
 
   module _ (fs : List (ℕ × Code Slot)) (is : code ≡ C.Tuple fs) where
     tuple_form : comes ≡ followed (field_values calls fs w turns) (λ gs turns. need (tuple_of gs) (λ vs. Done (V.Tuple vs) turns))
@@ -127,12 +120,8 @@ module _ (calls : Calls) (w : World Slot) (code : Code Slot) (turns : ℕ) where
     built_in_form : comes ≡ followed (values_of calls xs w turns) (λ vs turns. settled (built_in_of call vs) turns)
     built_in_form = form (C.BuiltIn call xs) _ is (built_in_is calls call xs w turns)
 
-    pub built_in_stops : (r : Result Held Stop) (left : ℕ) (s : Stop) → IsErrAnd r (λ y. y ≡ s)
-        → StopsAs (followed (values_of calls xs w turns) (λ vs turns. settled (built_in_of call vs) turns)) s → AnswersHeld comes r left
-    built_in_stops r left s h f = handed _ r left s built_in_form h f
-
-    pub built_in_done : (v : Value) (left : ℕ) → followed (values_of calls xs w turns) (λ vs turns. settled (built_in_of call vs) turns) ≡ Done v left → comes ≡ Done v left
-    built_in_done v left d = built_in_form ∙ d
+    pub built_in_answers : (r : Result Held Stop) (left : ℕ) → AnswersHeld (followed (values_of calls xs w turns) (λ vs turns. settled (built_in_of call vs) turns)) r left → AnswersHeld comes r left
+    built_in_answers r left h = answers_held_by comes _ r left built_in_form h
 
   module _ (i : ℕ) (xs : List (Code Slot)) (is : code ≡ C.Call i xs) where
     call_form : comes ≡ followed (values_of calls xs w turns) (λ vs turns. enter turns (λ turns. calls i vs turns))
@@ -145,11 +134,8 @@ module _ (calls : Calls) (w : World Slot) (code : Code Slot) (turns : ℕ) where
       called : comes ≡ enter after (λ turns. calls i vs turns)
       called = call_form ∙ ap (λ o. followed o (λ vs turns. enter turns (λ turns. calls i vs turns))) d
 
-      pub call_stops : (r : Result Held Stop) (left : ℕ) (s : Stop) → IsErrAnd r (λ y. y ≡ s) → StopsAs (enter after (λ turns. calls i vs turns)) s → AnswersHeld comes r left
-      call_stops r left s h f = handed _ r left s called h f
-
-      pub call_done : (v : Value) (left : ℕ) → enter after (λ turns. calls i vs turns) ≡ Done v left → comes ≡ Done v left
-      call_done v left e = called ∙ e
+      pub call_answers : (r : Result Held Stop) (left : ℕ) → AnswersHeld (enter after (λ turns. calls i vs turns)) r left → AnswersHeld comes r left
+      call_answers r left h = answers_held_by comes _ r left called h
 
   module _ (n : Marker) (came : w.marker ≡ Some n) where
     pub marker_done : (m : Marker) → code ≡ C.IsMarker m → (b : Bool) → b ≡ same_marker m n → comes ≡ Done (V.Bool b) turns

@@ -14,11 +14,11 @@ use Rattle.language_model.specs.Functions.{bodies_of}
 use Rattle.language_model.specs.Outcomes.{Outcome, Done, Faulted, followed, enter}
 use Rattle.language_model.specs.Statements.{State, Acts, Bodies, truth_in, statement_acts, row_acts, scoped, declared, then_rest, then_again, turns_while, turns_over}
 use Rattle.language_model.specs.StatementLaws.{arms_act}
-use Rattle.expr_eval.specs.Answers.{StopsAs}
+use Rattle.value_operations.specs.Answers.{StopsAs}
 use Rattle.expr_eval.specs.Running.{EndsRow, EndsLoop}
-use Rattle.expr_eval.specs.declared.stop.Stop.{Stop}
-use Rattle.expr_eval.specs.declared.stop.Stop.TheVariants as P
-use Rattle.expr_eval.proofs.Following.{enter_followed, followed_stops, stops_by}
+use Rattle.value_operations.specs.declared.stop.Stop.{Stop}
+use Rattle.value_operations.specs.declared.stop.Stop.TheVariants as P
+use Rattle.value_operations.proofs.Following.{enter_followed, followed_stops, stops_by}
 use Rattle.expr_eval.proofs.Rows.{drop_at}
 
 -- ---- rows

@@ -29,12 +29,12 @@ use Rattle.language_model.specs.Functions.{bodies_of}
 use Rattle.language_model.specs.Outcomes.{Outcome, Done, followed, need, settled}
 use Rattle.language_model.specs.Statements.{State, Bodies, value_in, step_value, step_values, steps_taken, change_value, change_values, changed_at, change_acts}
 use Rattle.language_model.specs.ValueLaws.{NeverStuckLaw}
-use Rattle.expr_eval.specs.Answers.{StopsAs}
-use Rattle.expr_eval.specs.Changing as C
-use Rattle.expr_eval.specs.Changing.{StepsLeadTo, ArgumentFits, CanChangeAt}
-use Rattle.expr_eval.specs.declared.stop.Stop.{Stop}
+use Rattle.value_operations.specs.Answers.{StopsAs}
+use Rattle.value_operations.specs.Changing as C
+use Rattle.value_operations.specs.Changing.{StepsLeadTo, ArgumentFits, CanChangeAt}
+use Rattle.value_operations.specs.declared.stop.Stop.{Stop}
 use Rattle.expr_eval.specs.Running.{IsIn, PlaceIsFit, ChangeIsFit, LeadsNext, state}
-use Rattle.expr_eval.proofs.Following.{followed_stops, stops_by, exit}
+use Rattle.value_operations.proofs.Following.{followed_stops, stops_by, exit}
 use Rattle.expr_eval.proofs.StepValues.{StepsFrom, taken_from, taken_start}
 use Rattle.expr_eval.proofs.ValueTypes.{done_followed, of_type}
 

@@ -11,9 +11,9 @@ use Rattle.spl_tree.specs.declared.code.Taking.{Taking}
 use Rattle.language_model.specs.Outcomes.{Outcome, Done, followed}
 use Rattle.language_model.specs.Evaluation.{World, Calls, code_value, taken, map_of}
 use Rattle.language_model.specs.EvaluationLaws.{values_of, pair_values, field_values, taking_meaning, takings_value}
-use Rattle.expr_eval.specs.Answers.{StopsAs}
-use Rattle.expr_eval.specs.declared.stop.Stop.{Stop}
-use Rattle.expr_eval.proofs.Following.{followed_followed, followed_done, followed_stops, stops_by}
+use Rattle.value_operations.specs.Answers.{StopsAs}
+use Rattle.value_operations.specs.declared.stop.Stop.{Stop}
+use Rattle.value_operations.proofs.Following.{followed_followed, followed_done, followed_stops, stops_by}
 
 pub drop_at : {A : Type 0} (xs : List A) (i : ℕ) (x : A) → i < length xs → x ≡ get_or xs i x → drop i xs ≡ x ∷ drop (i + 1) xs
 drop_at xs i x h e = rw add-one (drop-cons xs i x h ∙ ap (λ y. y ∷ drop (suc i) xs) (sym e))

@@ -23,7 +23,7 @@ use Rattle.language_model.specs.Outcomes.{Done}
 use Rattle.language_model.specs.ValueLaws.{NeverStuckLaw}
 use Rattle.language_model.specs.WorldFits.{Fits}
 use Rattle.expr_eval.specs.Fitting.{IsFit, FitTakings}
-use Rattle.expr_eval.specs.Taking.{HasMember, HasElements, HasKeys}
+use Rattle.value_operations.specs.Taking.{HasMember, HasElements, HasKeys}
 use Rattle.expr_eval.proofs.ValueTypes.{of_type, taken_of_type}
 use Rattle.expr_eval.proofs.Rows.{drop_at}
 

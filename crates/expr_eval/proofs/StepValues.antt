@@ -21,13 +21,13 @@ use Rattle.language_model.specs.Functions.{bodies_of, calls_of}
 use Rattle.language_model.specs.Outcomes.{Outcome, Done, followed, settled}
 use Rattle.language_model.specs.Statements.{State, Bodies, calls_by, value_in, step_value, step_values, steps_taken}
 use Rattle.language_model.specs.ValueLaws.{NeverStuckLaw}
-use Rattle.expr_eval.specs.Answers.{StopsAs, SettlesHeld}
-use Rattle.expr_eval.specs.declared.stop.Stop.{Stop}
-use Rattle.expr_eval.specs.declared.stop.Stop.TheVariants as P
+use Rattle.value_operations.specs.Answers.{StopsAs, SettlesHeld}
+use Rattle.value_operations.specs.declared.stop.Stop.{Stop}
+use Rattle.value_operations.specs.declared.stop.Stop.TheVariants as P
 use Rattle.expr_eval.specs.Fitting.{FitTakings}
 use Rattle.expr_eval.specs.Running.{IsIn, StepsAreFit, state}
-use Rattle.expr_eval.specs.Taking.{StepFits}
-use Rattle.expr_eval.proofs.Following.{followed_followed, followed_done, followed_stops, stops_by}
+use Rattle.value_operations.specs.Taking.{StepFits}
+use Rattle.value_operations.proofs.Following.{followed_followed, followed_done, followed_stops, stops_by}
 use Rattle.expr_eval.proofs.Rows.{IsRow, appends, past, on, stop, drop_at}
 use Rattle.expr_eval.proofs.StepParts.{steps, one_step, has_member, has_elements, has_keys}
 use Rattle.expr_eval.proofs.ValueTypes.{done_followed, taken_of_type}

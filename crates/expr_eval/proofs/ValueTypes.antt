@@ -33,7 +33,8 @@ use Rattle.language_model.specs.EvaluationLaws.{values_of, field_values, taking_
 use Rattle.language_model.specs.Outcomes.{Outcome, Done, Faulted, Stuck, followed, need}
 use Rattle.language_model.specs.ValueLaws.{NeverStuckLaw}
 use Rattle.language_model.specs.WorldFits.{EnvFits, FunctionsFit, Fits, ComesTo}
-use Rattle.expr_eval.specs.Fitting.{IsFit, FitBinary, FitsUnaries, FitBuiltIn, FitCall, FitTakings, HaveEachPlace}
+use Rattle.value_operations.specs.Fitting.{FitBinary, FitsUnaries, FitBuiltIn, HaveEachPlace}
+use Rattle.expr_eval.specs.Fitting.{IsFit, FitCall, FitTakings}
 use Rattle.expr_eval.proofs.CodeParts.{select_parts, unary_parts, binary_parts, tuple_parts, built_in_parts, call_parts}
 
 -- what led to an answer

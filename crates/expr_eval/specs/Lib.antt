@@ -1,5 +1,2 @@
-pub mod Answers
-pub mod Changing
 pub mod Fitting
 pub mod Running
-pub mod Taking

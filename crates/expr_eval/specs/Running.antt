@@ -5,7 +5,6 @@ use Rattle.std.specs.List.{list_all}
 use Rattle.spl_value.specs.declared.types.SplType.{SplType}
 use Rattle.spl_value.specs.declared.types.SplType.TheVariants as T
 use Rattle.spl_value.specs.declared.value.Value.{Value}
-use Rattle.spl_value.specs.Calls.{CallOutcome, Gives, Faults}
 use Rattle.spl_value.specs.Values.{fits}
 use Rattle.spl_tree.specs.declared.body.Change.{Change}
 use Rattle.spl_tree.specs.declared.body.Function.{Function}
@@ -26,11 +25,11 @@ use Rattle.language_model.specs.CodeFits.{CodeFits, StepsLead}
 use Rattle.language_model.specs.Outcomes.{Outcome, Done, Faulted}
 use Rattle.language_model.specs.Statements.{State, Left, Acts, then_rest, then_again}
 use Rattle.language_model.specs.WorldFits.{VariablesFit, FunctionsFit, BodyFits}
-use Rattle.expr_eval.specs.Answers.{StopsAs}
+use Rattle.value_operations.specs.Answers.{StopsAs}
 use Rattle.expr_eval.specs.declared.run.Ran.{Ran}
 use Rattle.expr_eval.specs.declared.run.Ran.TheVariants as R
-use Rattle.expr_eval.specs.declared.stop.Stop.{Stop}
-use Rattle.expr_eval.specs.declared.stop.Stop.TheVariants as S
+use Rattle.value_operations.specs.declared.stop.Stop.{Stop}
+use Rattle.value_operations.specs.declared.stop.Stop.TheVariants as S
 
 -- ---- what fits
 
@@ -88,12 +87,6 @@ Leads outcome (Err stop) s turns = StopsAs outcome stop
 abbrev pub LeadsNext : Outcome (Flow × State) → Result (Unit {0}) Stop → State → ℕ → Type 0
 LeadsNext outcome (Ok u) s turns = outcome ≡ Done (F.Next, s) turns
 LeadsNext outcome (Err stop) s turns = StopsAs outcome stop
-
--- the value is changed as the call says
-abbrev pub Changes : CallOutcome → Result (Unit {0}) Stop → Value → Type 0
-Changes outcome (Ok u) new = outcome ≡ Gives new
-Changes outcome (Err (S.Fault kind)) new = outcome ≡ Faults kind
-Changes outcome (Err S.Memory) new = Unit {0}
 
 -- a row ends with a statement, or goes on
 abbrev pub EndsRow : Flow → Option Flow → Type 0

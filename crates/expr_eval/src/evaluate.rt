@@ -8,21 +8,20 @@ ghost use Rattle.language_model.specs.Evaluation.{code_value, world_of, binary, 
 ghost use Rattle.language_model.specs.Functions.{calls_of, value};
 ghost use Rattle.language_model.specs.EvaluationLaws.{values_of, pair_values, field_values, taking_meaning, takings_value, truth_value};
 ghost use Rattle.language_model.specs.WorldFits.{Fits};
-ghost use Rattle.expr_eval.specs.Answers.{Answers, AnswersHeld, Evaluates, held};
+ghost use Rattle.value_operations.specs.Answers.{Answers, AnswersHeld, Evaluates, held};
 ghost use Rattle.expr_eval.specs.Fitting.{IsFit, AreFit, PairsAreFit, FieldsAreFit, FitTakings, FitCall};
 
-use crate::calls::{one_argument, three_arguments, two_arguments};
 use crate::context::Context;
-use crate::held::Held;
-use crate::operators::{binary_of, unaries_of};
 use crate::run::run_function;
-use crate::slots::{is_marker, slot_value, truth_of, tuple_of};
-use crate::stop::Stop;
-use crate::taking::{at_key, element, member};
 use language_model::{Env, evaluation_law};
 use spl_tree::{BinaryCode, BuiltIn, Code, Functions, Slot, Taking};
 use spl_value::{Evaluated, Items, Pairs, Value, Values};
 use std::alloc::Global;
+use value_operations::{
+    Held, Stop, call_with_one, call_with_three, call_with_two, element_at, evaluated, is_marker,
+    list_value, map_value, member, operator_with, owned, slot_value, stopped, truth_of, tuple_of,
+    unaries_of, value_at,
+};
 
 /// How many codes and statements may stand inside one another, those of called functions too, since
 /// the stack is memory. So many codes, or half as many calls, take less than 3 MiB of it. The code of
@@ -49,14 +48,7 @@ pub fn eval(
         env,
         depth: *turns,
     };
-    match eval_at(&context, DEEPEST, code, turns) {
-        Ok(held) => match held.into_value(alloc) {
-            Ok(value) => Evaluated::Value(value),
-            Err(_) => Evaluated::Memory,
-        },
-        Err(Stop::Fault(kind)) => Evaluated::Bad(kind),
-        Err(Stop::Memory) => Evaluated::Memory,
-    }
+    evaluated(alloc, eval_at(&context, DEEPEST, code, turns))
 }
 
 /// The value of a code, where codes may nest `room` deep.
@@ -95,27 +87,19 @@ pub(crate) fn eval_at<'e>(
                 eval_at(context, room, second.get(), turns)
             }
         }
-        Code::List(codes) => {
-            let values = eval_all(context, room, codes.as_slice(), turns)?;
-            Ok(Held::Own(Value::List(values)))
-        }
-        Code::Map(pairs) => {
-            let map = eval_pairs(context, room, pairs.as_slice(), turns)?;
-            Ok(Held::Own(Value::Map(map)))
-        }
+        Code::List(codes) => { list_value(eval_all(context, room, codes.as_slice(), turns)) }
+        Code::Map(pairs) => { map_value(eval_pairs(context, room, pairs.as_slice(), turns)) }
         Code::Tuple(fields) => {
             let fields = eval_fields(context, room, fields.as_slice(), turns)?;
             let values = tuple_of(context.alloc, fields)?;
             Ok(Held::Own(Value::Tuple(values)))
         }
         Code::BuiltIn(call, codes) => {
-            let value = built_in(context, room, *call, codes.as_slice(), turns)?;
-            Ok(Held::Own(value))
+            owned(built_in(context, room, *call, codes.as_slice(), turns))
         }
         Code::Call(place, codes) => {
             let values = eval_all(context, room, codes.as_slice(), turns)?;
-            let value = call(context, room, *place, values, turns)?;
-            Ok(Held::Own(value))
+            owned(call(context, room, *place, values, turns))
         }
         Code::IsMarker(marker) => Ok(Held::Own(Value::Bool(is_marker(context.env, *marker)))),
         Code::IsNotMarker(marker) => Ok(Held::Own(Value::Bool(!is_marker(context.env, *marker)))),
@@ -231,12 +215,12 @@ fn taken<'e>(
     match taking {
         Taking::Member(place) => Ok(member(value, *place)),
         Taking::Element(index) => {
-            let index = eval_at(context, room, index, turns)?;
-            element(value, index.value())
+            let index = eval_at(context, room, index, turns);
+            element_at(value, index)
         }
         Taking::AtKey(key) => {
-            let key = eval_at(context, room, key, turns)?;
-            at_key(value, key.value())
+            let key = eval_at(context, room, key, turns);
+            value_at(value, key)
         }
     }
 }
@@ -286,8 +270,8 @@ fn binary<'e>(
         }
         _ => {
             let left = eval_at(context, room, left, turns)?;
-            let right = eval_at(context, room, right, turns)?;
-            Ok(Held::Own(binary_of(context.alloc, operator, left.value(), right.value())?))
+            let right = eval_at(context, room, right, turns);
+            operator_with(context.alloc, operator, left, right)
         }
     }
 }
@@ -307,25 +291,23 @@ fn built_in<'e>(
     evaluation_law();
     match codes {
         [first] => {
-            let first = eval_at(context, room, first, turns)?;
-            one_argument(call, first.value())
+            let first = eval_at(context, room, first, turns);
+            call_with_one(call, first)
         }
         [first, second] => {
             let first = eval_at(context, room, first, turns)?;
-            let second = eval_at(context, room, second, turns)?;
-            two_arguments(context.alloc, call, first.value(), second.value())
+            let second = eval_at(context, room, second, turns);
+            call_with_two(context.alloc, call, first, second)
         }
         [first, second, third] => {
             let first = eval_at(context, room, first, turns)?;
-            let second = eval_at(context, room, second, turns)?;
-            let third = eval_at(context, room, third, turns)?;
-            three_arguments(
-                context.alloc,
-                call,
-                first.value(),
-                second.value(),
-                third.value(),
-            )
+            match eval_at(context, room, second, turns) {
+                Ok(second) => {
+                    let third = eval_at(context, room, third, turns);
+                    call_with_three(context.alloc, call, first, second, third)
+                }
+                Err(stop) => stopped(first, stop),
+            }
         }
         _ => unreachable!(),
     }

@@ -5,22 +5,22 @@ ghost use Rattle.language_model.specs.Functions.{bodies_of, runs};
 ghost use Rattle.language_model.specs.Outcomes.{enter};
 ghost use Rattle.language_model.specs.Statements.{statement_acts, row_acts, scoped, declared, turns_while, turns_over, change_acts, change_values, step_value, step_values, steps_taken};
 ghost use Rattle.language_model.specs.StatementLaws.{arms_act};
-ghost use Rattle.expr_eval.specs.Answers.{Answers};
+ghost use Rattle.value_operations.specs.Answers.{Answers};
 ghost use Rattle.expr_eval.specs.Running.{StatementIsFit, RowIsFit, ArmsAreFit, LoopIsFit, OverIsFit, PlaceIsFit, ChangeIsFit, StepsAreFit, FunctionIsFit, BodyIsFit, RanAs, ran_as, state, Leads, LeadsNext};
 
-use crate::changes::change_variable;
 use crate::context::{Context, Program};
-use crate::elements::{elements, tuple_values};
 use crate::evaluate::{DEEPEST, eval_all, eval_at, is_true, own_value};
 use crate::flow::{after_statement, after_turn, returned_by};
-use crate::held::Held;
-use crate::slots::{enter, truncate};
-use crate::stop::Stop;
-use crate::taking::step_of;
-use language_model::{Env, Flow, Output, Outs, evaluation_law, statements_law};
+use crate::statements::{
+    declare, next_follows, next_follows_call, next_follows_value, return_value, submit,
+    submit_window,
+};
+use crate::variables::change_variable;
+use language_model::{Env, Flow, Outs, evaluation_law, statements_law};
 use spl_tree::{Body, Change, Code, Functions, Place, Slot, Statement, Taking};
-use spl_value::{FaultKind, Item, Items, Value, Values};
+use spl_value::{FaultKind, Items, Value, Values};
 use std::alloc::Global;
+use value_operations::{Held, Stop, elements, enter, take_step, truncate};
 
 /// How the run of a body ended.
 #[derive(Clone, Copy, Debug, PartialEq, Eq)]
@@ -103,23 +103,19 @@ fn run_statement<'p>(
     match statement {
         Statement::Block(row) => run_scoped(program, room, row.as_slice(), env, turns, submits),
         Statement::Declare(code) => {
-            let value = own_value(&in_env!(program, env), room, code, turns)?;
-            env.vars.push(value)?;
-            Ok(Flow::Next)
+            let value = own_value(&in_env!(program, env), room, code, turns);
+            declare(env, value)
         }
         Statement::Change(place, change) => {
-            run_change(program, room, place, change, env, turns)?;
-            Ok(Flow::Next)
+            next_follows(run_change(program, room, place, change, env, turns))
         }
         Statement::Evaluate(code) => {
-            eval_at(&in_env!(program, env), room, code, turns)?;
-            Ok(Flow::Next)
+            next_follows_value(eval_at(&in_env!(program, env), room, code, turns))
         }
         Statement::Call(place, codes) => {
             let context = in_env!(program, env);
             let values = eval_all(&context, room, codes.as_slice(), turns)?;
-            run_function(&context, room, *place, values, turns)?;
-            Ok(Flow::Next)
+            next_follows_call(run_function(&context, room, *place, values, turns))
         }
         Statement::If(arms, other) => run_if(
             program,
@@ -142,25 +138,13 @@ fn run_statement<'p>(
         Statement::Continue => Ok(Flow::Continued),
         Statement::Return(result) => match result {
             None => Ok(Flow::Returned(None)),
-            Some(code) => {
-                let value = own_value(&in_env!(program, env), room, code, turns)?;
-                Ok(Flow::Returned(Some(value)))
-            }
+            Some(code) => { return_value(own_value(&in_env!(program, env), room, code, turns)) }
         },
         Statement::Submit(port, code) => {
-            let value = own_value(&in_env!(program, env), room, code, turns)?;
-            let item = Item::Tuple(tuple_values(value));
-            submits.push(Output { port: *port, item })?;
-            Ok(Flow::Next)
+            let tuple = own_value(&in_env!(program, env), room, code, turns);
+            submit(*port, tuple, submits)
         }
-        Statement::SubmitWindow(port) => {
-            let window = Item::Window;
-            submits.push(Output {
-                port: *port,
-                item: window,
-            })?;
-            Ok(Flow::Next)
-        }
+        Statement::SubmitWindow(port) => submit_window(*port, submits),
     }
 }
 
@@ -392,8 +376,7 @@ fn steps_taken<'e>(
     let mut value = Held::Lent(&context.env.vars.as_slice()[place.variable as usize]);
     for taking in place.takings.as_slice() {
         let step = step_value(context, room, taking, turns)?;
-        value = step_of(value, &step)?;
-        steps.push(step)?;
+        value = take_step(value, step, &mut steps)?;
     }
     Ok(steps)
 }

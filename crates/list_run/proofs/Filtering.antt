@@ -16,7 +16,7 @@ use Rattle.language_model.specs.Operators.{truth_of}
 use Rattle.language_model.specs.Outcomes.{Outcome, Done, Faulted, Stuck, followed, need}
 use Rattle.stream_model.specs.PathLaws.{pass, fault_by}
 use Rattle.stream_model.specs.React.{most_turns, at_tuple, holds}
-use Rattle.expr_eval.specs.Answers.{Evaluates}
+use Rattle.value_operations.specs.Answers.{Evaluates}
 use Rattle.expr_eval.specs.Fitting.{IsFit}
 use Rattle.list_run.specs.Filter.{no_tuple, is_true, decided, judged, Judges}
 use Rattle.list_run.specs.declared.filter.Judged.{Judged}

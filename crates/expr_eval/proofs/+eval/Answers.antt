@@ -1,36 +1,36 @@
-use Rattle.expr_eval.proofs.Binary.{and_left, left_is_fit, operands_are, or_left, right_is_fit}
-use Rattle.expr_eval.proofs.BuiltIns.{are_three, are_two, called_answers, called_stops, first_of_three_stops, first_of_two_stops, is_one, one_stops, one_to_three, one_value, second_of_three_stops, second_of_two_stops, third_of_three_stops, three_values, two_values}
+use Rattle.expr_eval.proofs.Binary.{and_left, left_is_fit, on_left, or_left, right_is_fit}
+use Rattle.expr_eval.proofs.BuiltIns.{are_three, are_two, called_stopped, called_stops, first_of_three_stops, first_of_two_stops, is_one, one_to_three, one_value, second_of_three_stops, three_values, two_values, with_one, with_three, with_two}
 use Rattle.expr_eval.proofs.CodeParts.{built_in_is_fit, call_is_fit, conditional_parts, has_marker, has_other_marker, has_slot, list_is_fit, map_is_fit, select_parts, tuple_is_fit, unary_parts}
-use Rattle.expr_eval.proofs.Following.{leads_by, memory_held, settled_stops, stops, stops_by, stops_held, stops_leading}
-use Rattle.expr_eval.proofs.Forms.{arguments_stop, binary_answers, built_in_done, built_in_stops, call_done, call_stops, conditional_stops, first_answers, list_done, list_stops, literal_done, map_done, map_stops, marker_done, name_answers, other_marker_done, second_answers, select_answers, select_stops, tuple_done, tuple_stops, unary_answers, unary_stops}
+use Rattle.value_operations.proofs.Following.{answers_by, answers_held_by, memory_held, stops, stops_by, stops_held}
+use Rattle.expr_eval.proofs.Leading.{leads_by, stops_leading}
+use Rattle.expr_eval.proofs.Forms.{arguments_stop, binary_answers, built_in_answers, call_answers, conditional_stops, first_answers, list_answers, literal_done, map_answers, marker_done, name_answers, other_marker_done, second_answers, select_answers, select_stops, tuple_done, tuple_stops, unary_answers, unary_stops}
 use Rattle.expr_eval.proofs.LoopParts.{arm_passed, arm_taken, arms_stop, over_on, row_ends, row_on, row_stops, while_ends, while_no_turns, while_on, while_stops, while_stops_in_turn}
 use Rattle.expr_eval.proofs.RowParts.{condition_of_arm, loop_after_turn, other_arms, other_turns, rest_of_row, row_of_arm, row_of_turn, statement_is_fit, turn_is_fit}
 use Rattle.expr_eval.proofs.Rows.{fields_on, fields_past, fields_start, fields_stop, pairs_on, pairs_past, pairs_start, pairs_stop_at_key, pairs_stop_at_value, takings_on, takings_past, takings_stop, values_on, values_past, values_start, values_stop}
 use Rattle.expr_eval.proofs.StepParts.{first_is_fit, has_elements, has_keys, has_member, index_is_fit, key_is_fit, others_are_fit}
 use Rattle.expr_eval.proofs.ValueTypes.{binary_of_operands, built_in_of_arguments, call_of_arguments, of_type, places_of_fields, takings_of_base, unaries_of_operand}
-use Rattle.expr_eval.specs.Answers.{held}
-use Rattle.expr_eval.specs.Fitting.{FitBinary, FitBuiltIn, IsFit}
+use Rattle.value_operations.specs.Answers.{Answers, AnswersHeld, held}
+use Rattle.expr_eval.specs.Fitting.{IsFit}
 use Rattle.expr_eval.specs.Running.{OverIsFit, RowIsFit, state}
-use Rattle.expr_eval.specs.Taking.{HasElements, HasKeys}
 use Rattle.spl_value.specs.Pairs.{are_pairs}
 use Rattle.spl_value.specs.Values.{fits}
-use Rattle.std.proofs.Common.{[], ap, arith, length, refl, subst, sym, ◌≡◌, ◌<◌, ◌∙◌, ◌∷◌}
+use Rattle.std.proofs.Common.{[], ap, arith, length, refl, subst, sym, ◌≡◌, ◌<◌, ◌∙◌}
 use Rattle.std.proofs.lemmas.Option.{slice_get_read}
 use Rattle.std.specs.Prelude.{IsTrue}
-use Rattle.language_model.specs.Evaluation.{code_value, world_of}
+use Rattle.language_model.specs.Evaluation.{code_value, taken, world_of}
+use Rattle.language_model.specs.EvaluationLaws.{taking_meaning}
 use Rattle.language_model.specs.Functions.{bodies_of, calls_of}
-use Rattle.language_model.specs.Operators.{binary_of}
-use Rattle.language_model.specs.Outcomes.{enter, settled}
+use Rattle.language_model.specs.Outcomes.{enter}
 use Rattle.language_model.specs.Statements.{row_acts, scoped, turns_over}
 use Rattle.spl_tree.specs.declared.code.Code.TheVariants as C
 use Rattle.spl_tree.specs.declared.body.Statement.TheVariants as S
-use Rattle.expr_eval.proofs.StatementForms.{change_stops, change_done, arguments_stopped, function_stops, function_done, if_leads, while_leads}
+use Rattle.expr_eval.proofs.StatementForms.{arguments_stopped, change_leads, declare_leads, evaluate_leads, function_leads, if_leads, return_leads, submit_leads, submit_window_leads, while_leads}
 use Rattle.expr_eval.proofs.StatementParts.{arguments_are_fit, function_is_fit, has_loop_values, over_is_fit, result_is_fit, has_tuple}
 use Rattle.spl_value.specs.declared.types.SplType.TheVariants as T
 use Rattle.expr_eval.proofs.Calling.{body_done, body_is_fit, body_stops, called_is_fit, result_there, returned_there, value_done, value_stops}
 use Rattle.expr_eval.proofs.PlaceChanges.{can_change, leads_next_by, leads_next_stops, place_change_done, place_change_stops, steps_begin, taken_begins}
 use Rattle.expr_eval.proofs.StepValues.{first_step_is_fit, later_steps_are_fit, next_step_is_fit, others_fit, step_fits, steps_on, steps_past, steps_start, steps_stop, taken_on, taken_past, taken_stop_at_step, taken_stop_at_value}
-use Rattle.expr_eval.specs.Changing.{CanChangeAt}
+use Rattle.value_operations.specs.Changing.{CanChangeAt}
 use Rattle.language_model.specs.Statements.{changed_at}
 use Rattle.expr_eval.proofs.+eval.Goals as goal
 
@@ -114,25 +114,9 @@ pub evaluate::eval_at-eval_all-requires : goal.evaluate::eval_at-eval_all-requir
 evaluate::eval_at-eval_all-requires t c =
     (omega (arith, c.in-Some.ensures.0, c.in-Some.ensures.1), list_is_fit c.args.context.now.functions.now c.args.context.now.env.now c.args.code.now c.requires c.as_slice-in-List.result.now (c.in-List.is ∙ (λ i. C.List (sym c.as_slice-in-List.ensures i))))
 
-pub evaluate::eval_at-returns-in_err-values-in-List : goal.evaluate::eval_at-returns-in_err-values-in-List
-evaluate::eval_at-returns-in_err-values-in-List t c =
-    list_stops (calls_of c.args.context.now.functions.now c.args.context.now.depth) (world_of c.args.context.now.env.now) c.args.code.now c.args.turns.now c.as_slice-in-List.result.now (c.in-List.is ∙ (λ i. C.List (sym c.as_slice-in-List.ensures i))) _ _ _ c.from_residual-in_err-values-in-List.ensures.1 c.in_err-values-in-List.ensures
-
-pub evaluate::eval_at-returns-in_ok-values-in-List : goal.evaluate::eval_at-returns-in_ok-values-in-List
-evaluate::eval_at-returns-in_ok-values-in-List t c =
-    list_done (calls_of c.args.context.now.functions.now c.args.context.now.depth) (world_of c.args.context.now.env.now) c.args.code.now c.args.turns.now c.as_slice-in-List.result.now (c.in-List.is ∙ (λ i. C.List (sym c.as_slice-in-List.ensures i))) _ _ c.in_ok-values-in-List.ensures
-
 pub evaluate::eval_at-eval_pairs-requires : goal.evaluate::eval_at-eval_pairs-requires
 evaluate::eval_at-eval_pairs-requires t c =
     (omega (arith, c.in-Some.ensures.0, c.in-Some.ensures.1), map_is_fit c.args.context.now.functions.now c.args.context.now.env.now c.args.code.now c.requires c.as_slice-in-Map.result.now (c.in-Map.is ∙ (λ i. C.Map (sym c.as_slice-in-Map.ensures i))))
-
-pub evaluate::eval_at-returns-in_err-map-in-Map : goal.evaluate::eval_at-returns-in_err-map-in-Map
-evaluate::eval_at-returns-in_err-map-in-Map t c =
-    map_stops (calls_of c.args.context.now.functions.now c.args.context.now.depth) (world_of c.args.context.now.env.now) c.args.code.now c.args.turns.now c.as_slice-in-Map.result.now (c.in-Map.is ∙ (λ i. C.Map (sym c.as_slice-in-Map.ensures i))) _ _ _ c.from_residual-in_err-map-in-Map.ensures.1 c.in_err-map-in-Map.ensures
-
-pub evaluate::eval_at-returns-in_ok-map-in-Map : goal.evaluate::eval_at-returns-in_ok-map-in-Map
-evaluate::eval_at-returns-in_ok-map-in-Map t c =
-    map_done (calls_of c.args.context.now.functions.now c.args.context.now.depth) (world_of c.args.context.now.env.now) c.args.code.now c.args.turns.now c.as_slice-in-Map.result.now (c.in-Map.is ∙ (λ i. C.Map (sym c.as_slice-in-Map.ensures i))) _ _ c.in_ok-map-in-Map.ensures
 
 pub evaluate::eval_at-eval_fields-requires : goal.evaluate::eval_at-eval_fields-requires
 evaluate::eval_at-eval_fields-requires t c =
@@ -158,14 +142,6 @@ pub evaluate::eval_at-built_in-requires : goal.evaluate::eval_at-built_in-requir
 evaluate::eval_at-built_in-requires t c =
     (omega (arith, c.in-Some.ensures.0, c.in-Some.ensures.1), subst (λ x. IsFit c.args.context.now.functions.now x c.args.context.now.env.now) (c.in-BuiltIn.is ∙ (λ i. C.BuiltIn c.in-BuiltIn.call (sym c.as_slice-in-BuiltIn.ensures i))) c.requires)
 
-pub evaluate::eval_at-returns-in_err-value-in-BuiltIn : goal.evaluate::eval_at-returns-in_err-value-in-BuiltIn
-evaluate::eval_at-returns-in_err-value-in-BuiltIn t c =
-    built_in_stops (calls_of c.args.context.now.functions.now c.args.context.now.depth) (world_of c.args.context.now.env.now) c.args.code.now c.args.turns.now c.in-BuiltIn.call c.as_slice-in-BuiltIn.result.now (c.in-BuiltIn.is ∙ (λ i. C.BuiltIn c.in-BuiltIn.call (sym c.as_slice-in-BuiltIn.ensures i))) _ _ _ c.from_residual-in_err-value-in-BuiltIn.ensures.1 c.in_err-value-in-BuiltIn.ensures
-
-pub evaluate::eval_at-returns-in_ok-value-in-BuiltIn : goal.evaluate::eval_at-returns-in_ok-value-in-BuiltIn
-evaluate::eval_at-returns-in_ok-value-in-BuiltIn t c =
-    built_in_done (calls_of c.args.context.now.functions.now c.args.context.now.depth) (world_of c.args.context.now.env.now) c.args.code.now c.args.turns.now c.in-BuiltIn.call c.as_slice-in-BuiltIn.result.now (c.in-BuiltIn.is ∙ (λ i. C.BuiltIn c.in-BuiltIn.call (sym c.as_slice-in-BuiltIn.ensures i))) _ _ c.in_ok-value-in-BuiltIn.ensures
-
 pub evaluate::eval_at-eval_all-requires-in-Call : goal.evaluate::eval_at-eval_all-requires-in-Call
 evaluate::eval_at-eval_all-requires-in-Call t c =
     (omega (arith, c.in-Some.ensures.0, c.in-Some.ensures.1), call_is_fit c.args.context.now.functions.now c.args.context.now.env.now c.args.code.now c.requires c.in-Call.place c.as_slice-in-Call.result.now (c.in-Call.is ∙ (λ i. C.Call c.in-Call.place (sym c.as_slice-in-Call.ensures i))))
@@ -178,13 +154,21 @@ pub evaluate::eval_at-call-requires : goal.evaluate::eval_at-call-requires
 evaluate::eval_at-call-requires t c =
     (omega (arith, c.in-Some.ensures.0, c.in-Some.ensures.1), call_of_arguments c.evaluation_law.ensures.never_stuck c.args.context.now.functions.now c.args.context.now.env.now c.args.context.now.depth c.args.code.now c.requires c.in-Call.place c.as_slice-in-Call.result.now (c.in-Call.is ∙ (λ i. C.Call c.in-Call.place (sym c.as_slice-in-Call.ensures i))) c.args.turns.now _ _ c.in_ok-values-in-Call.ensures)
 
-pub evaluate::eval_at-returns-in_err-value-in-Call : goal.evaluate::eval_at-returns-in_err-value-in-Call
-evaluate::eval_at-returns-in_err-value-in-Call t c =
-    call_stops (calls_of c.args.context.now.functions.now c.args.context.now.depth) (world_of c.args.context.now.env.now) c.args.code.now c.args.turns.now c.in-Call.place c.as_slice-in-Call.result.now (c.in-Call.is ∙ (λ i. C.Call c.in-Call.place (sym c.as_slice-in-Call.ensures i))) _ _ c.in_ok-values-in-Call.ensures _ _ _ c.from_residual-in_err-value-in-Call.ensures.1 c.in_err-value-in-Call.ensures
+pub evaluate::eval_at-returns-in-List : goal.evaluate::eval_at-returns-in-List
+evaluate::eval_at-returns-in-List t c =
+    list_answers (calls_of c.args.context.now.functions.now c.args.context.now.depth) (world_of c.args.context.now.env.now) c.args.code.now c.args.turns.now c.as_slice-in-List.result.now (c.in-List.is ∙ (λ i. C.List (sym c.as_slice-in-List.ensures i))) _ _ (c.list_value.ensures _ _ c.eval_all.ensures)
 
-pub evaluate::eval_at-returns-in_ok-value-in-Call : goal.evaluate::eval_at-returns-in_ok-value-in-Call
-evaluate::eval_at-returns-in_ok-value-in-Call t c =
-    call_done (calls_of c.args.context.now.functions.now c.args.context.now.depth) (world_of c.args.context.now.env.now) c.args.code.now c.args.turns.now c.in-Call.place c.as_slice-in-Call.result.now (c.in-Call.is ∙ (λ i. C.Call c.in-Call.place (sym c.as_slice-in-Call.ensures i))) _ _ c.in_ok-values-in-Call.ensures _ _ c.in_ok-value-in-Call.ensures
+pub evaluate::eval_at-returns-in-Map : goal.evaluate::eval_at-returns-in-Map
+evaluate::eval_at-returns-in-Map t c =
+    map_answers (calls_of c.args.context.now.functions.now c.args.context.now.depth) (world_of c.args.context.now.env.now) c.args.code.now c.args.turns.now c.as_slice-in-Map.result.now (c.in-Map.is ∙ (λ i. C.Map (sym c.as_slice-in-Map.ensures i))) _ _ (c.map_value.ensures _ _ c.eval_pairs.ensures)
+
+pub evaluate::eval_at-returns-in-BuiltIn : goal.evaluate::eval_at-returns-in-BuiltIn
+evaluate::eval_at-returns-in-BuiltIn t c =
+    built_in_answers (calls_of c.args.context.now.functions.now c.args.context.now.depth) (world_of c.args.context.now.env.now) c.args.code.now c.args.turns.now c.in-BuiltIn.call c.as_slice-in-BuiltIn.result.now (c.in-BuiltIn.is ∙ (λ i. C.BuiltIn c.in-BuiltIn.call (sym c.as_slice-in-BuiltIn.ensures i))) _ _ (c.owned.ensures.answered _ _ c.built_in.ensures)
+
+pub evaluate::eval_at-returns-in_ok-values-in-Call : goal.evaluate::eval_at-returns-in_ok-values-in-Call
+evaluate::eval_at-returns-in_ok-values-in-Call t c =
+    call_answers (calls_of c.args.context.now.functions.now c.args.context.now.depth) (world_of c.args.context.now.env.now) c.args.code.now c.args.turns.now c.in-Call.place c.as_slice-in-Call.result.now (c.in-Call.is ∙ (λ i. C.Call c.in-Call.place (sym c.as_slice-in-Call.ensures i))) _ _ c.in_ok-values-in-Call.ensures _ _ (c.owned-in-Call.ensures.answered _ _ c.call.ensures)
 
 pub evaluate::eval_at-is_marker-requires : goal.evaluate::eval_at-is_marker-requires
 evaluate::eval_at-is_marker-requires t c =
@@ -335,25 +319,33 @@ evaluate::taken_all-returns-in_err-value t c =
 pub evaluate::taken-member-requires : goal.evaluate::taken-member-requires
 evaluate::taken-member-requires t c = has_member c.args.context.now.functions.now c.args.context.now.env.now c.args.taking.now (held c.args.value) c.requires c.in-Member.place c.in-Member.is
 
-pub evaluate::taken-eval_at-requires : goal.evaluate::taken-eval_at-requires
-evaluate::taken-eval_at-requires t c =
+pub evaluate::taken-eval_at-index-requires : goal.evaluate::taken-eval_at-index-requires
+evaluate::taken-eval_at-index-requires t c =
     (omega arith, index_is_fit c.args.context.now.functions.now c.args.context.now.env.now c.args.taking.now (held c.args.value) c.requires c.in-Element.index c.in-Element.is)
 
-pub evaluate::taken-eval_at-requires-in-AtKey : goal.evaluate::taken-eval_at-requires-in-AtKey
-evaluate::taken-eval_at-requires-in-AtKey t c =
+pub evaluate::taken-eval_at-key-requires : goal.evaluate::taken-eval_at-key-requires
+evaluate::taken-eval_at-key-requires t c =
     (omega arith, key_is_fit c.args.context.now.functions.now c.args.context.now.env.now c.args.taking.now (held c.args.value) c.requires c.in-AtKey.key c.in-AtKey.is)
 
-pub evaluate::taken-element-requires : goal.evaluate::taken-element-requires
-evaluate::taken-element-requires t c =
-    subst (HasElements (held c.args.value)) (sym c.value.ensures)
-    (has_elements c.args.context.now.functions.now c.args.context.now.env.now c.args.taking.now (held c.args.value) c.requires c.evaluation_law.ensures.never_stuck c.args.context.now.depth c.args.turns.now _
-    c.in-Element.index _ c.in_ok-index-in-Element.ensures c.in-Element.is)
+pub evaluate::taken-element_at-requires : goal.evaluate::taken-element_at-requires
+evaluate::taken-element_at-requires t c = λ h is.
+    has_elements c.args.context.now.functions.now c.args.context.now.env.now c.args.taking.now (held c.args.value) c.requires c.evaluation_law.ensures.never_stuck c.args.context.now.depth c.args.turns.now _
+    c.in-Element.index _ (subst (λ r. AnswersHeld (code_value (calls_of c.args.context.now.functions.now c.args.context.now.depth) c.in-Element.index (world_of c.args.context.now.env.now) c.args.turns.now) r c.eval_at-index.new.turns) is c.eval_at-index.ensures) c.in-Element.is
 
-pub evaluate::taken-at_key-requires : goal.evaluate::taken-at_key-requires
-evaluate::taken-at_key-requires t c =
-    subst (HasKeys (held c.args.value)) (sym c.value-in-AtKey.ensures)
-    (has_keys c.args.context.now.functions.now c.args.context.now.env.now c.args.taking.now (held c.args.value) c.requires c.evaluation_law.ensures.never_stuck c.args.context.now.depth c.args.turns.now _
-    c.in-AtKey.key _ c.in_ok-key-in-AtKey.ensures c.in-AtKey.is)
+pub evaluate::taken-value_at-requires : goal.evaluate::taken-value_at-requires
+evaluate::taken-value_at-requires t c = λ h is.
+    has_keys c.args.context.now.functions.now c.args.context.now.env.now c.args.taking.now (held c.args.value) c.requires c.evaluation_law.ensures.never_stuck c.args.context.now.depth c.args.turns.now _
+    c.in-AtKey.key _ (subst (λ r. AnswersHeld (code_value (calls_of c.args.context.now.functions.now c.args.context.now.depth) c.in-AtKey.key (world_of c.args.context.now.env.now) c.args.turns.now) r c.eval_at-key.new.turns) is c.eval_at-key.ensures) c.in-AtKey.is
+
+pub evaluate::taken-returns-in-Element : goal.evaluate::taken-returns-in-Element
+evaluate::taken-returns-in-Element t c =
+    subst (λ t. AnswersHeld (taken (taking_meaning (calls_of c.args.context.now.functions.now c.args.context.now.depth) t) (held c.args.value) (world_of c.args.context.now.env.now) c.args.turns.now) c.element_at.result c.eval_at-index.new.turns) (sym c.in-Element.is)
+    (c.element_at.ensures _ _ c.eval_at-index.ensures)
+
+pub evaluate::taken-returns-in-AtKey : goal.evaluate::taken-returns-in-AtKey
+evaluate::taken-returns-in-AtKey t c =
+    subst (λ t. AnswersHeld (taken (taking_meaning (calls_of c.args.context.now.functions.now c.args.context.now.depth) t) (held c.args.value) (world_of c.args.context.now.env.now) c.args.turns.now) c.value_at.result c.eval_at-key.new.turns) (sym c.in-AtKey.is)
+    (c.value_at.ensures _ _ c.eval_at-key.ensures)
 
 pub evaluate::is_true-truth_of-requires : goal.evaluate::is_true-truth_of-requires
 evaluate::is_true-truth_of-requires t c =
@@ -380,68 +372,52 @@ pub evaluate::binary-eval_at-requires-in_default : goal.evaluate::binary-eval_at
 evaluate::binary-eval_at-requires-in_default t c =
     (omega arith, left_is_fit c.args.context.now.functions.now c.args.context.now.env.now c.args.operator c.args.left.now c.args.right.now c.requires)
 
-pub evaluate::binary-eval_at-requires-in_default-2 : goal.evaluate::binary-eval_at-requires-in_default-2
-evaluate::binary-eval_at-requires-in_default-2 t c =
+pub evaluate::binary-eval_at-right-requires : goal.evaluate::binary-eval_at-right-requires
+evaluate::binary-eval_at-right-requires t c =
     (omega arith, right_is_fit c.args.context.now.functions.now c.args.context.now.env.now c.args.operator c.args.left.now c.args.right.now c.requires)
 
-pub evaluate::binary-binary_of-requires : goal.evaluate::binary-binary_of-requires
-evaluate::binary-binary_of-requires t c =
-    subst (λ v. FitBinary c.args.operator v c.value-in_default.result.now) (sym c.value.ensures)
-    (subst (FitBinary c.args.operator _) (sym c.value-in_default.ensures)
-    (binary_of_operands c.evaluation_law.ensures.never_stuck c.args.context.now.functions.now c.args.context.now.env.now c.args.context.now.depth (C.Binary c.args.operator c.args.left.now c.args.right.now) c.requires
-    c.args.operator c.args.left.now c.args.right.now refl c.args.turns.now _ _ _ _ c.in_ok-left-in_default.ensures c.in_ok-right-in_default.ensures c.in_default.not-And c.in_default.not-Or))
+pub evaluate::binary-operator_with-requires : goal.evaluate::binary-operator_with-requires
+evaluate::binary-operator_with-requires t c = λ h is.
+    binary_of_operands c.evaluation_law.ensures.never_stuck c.args.context.now.functions.now c.args.context.now.env.now c.args.context.now.depth (C.Binary c.args.operator c.args.left.now c.args.right.now) c.requires
+    c.args.operator c.args.left.now c.args.right.now refl c.args.turns.now _ _ _ _ c.in_ok-left-in_default.ensures
+    (subst (λ r. AnswersHeld (code_value (calls_of c.args.context.now.functions.now c.args.context.now.depth) c.args.right.now (world_of c.args.context.now.env.now) c.eval_at-in_default.new.turns) r c.eval_at-right.new.turns) is c.eval_at-right.ensures) c.in_default.not-And c.in_default.not-Or
 
-pub evaluate::binary-returns-in_err-binary_of-in_default : goal.evaluate::binary-returns-in_err-binary_of-in_default
-evaluate::binary-returns-in_err-binary_of-in_default t c =
-    stops_held _ _ _ _ c.from_residual-in_err-binary_of-in_default.ensures.1
-    (stops_by _ _ _
-    (operands_are c.args.operator (code_value (calls_of c.args.context.now.functions.now c.args.context.now.depth) c.args.left.now) (code_value (calls_of c.args.context.now.functions.now c.args.context.now.depth) c.args.right.now)
-    (world_of c.args.context.now.env.now) c.args.turns.now c.in_default.not-And c.in_default.not-Or _ _ c.in_ok-left-in_default.ensures _ _ c.in_ok-right-in_default.ensures
-    ∙ (λ i. settled (binary_of c.args.operator (sym c.value.ensures i) (sym c.value-in_default.ensures i)) c.eval_at-in_default-2.new.turns))
-    (settled_stops _ _ c.eval_at-in_default-2.new.turns c.in_err-binary_of-in_default.ensures))
+pub evaluate::binary-returns-in_ok-left-in_default : goal.evaluate::binary-returns-in_ok-left-in_default
+evaluate::binary-returns-in_ok-left-in_default t c =
+    answers_held_by _ _ _ _
+    (on_left c.args.operator (code_value (calls_of c.args.context.now.functions.now c.args.context.now.depth) c.args.left.now) (code_value (calls_of c.args.context.now.functions.now c.args.context.now.depth) c.args.right.now)
+    (world_of c.args.context.now.env.now) c.args.turns.now c.in_default.not-And c.in_default.not-Or _ _ c.in_ok-left-in_default.ensures)
+    (c.operator_with.ensures _ _ c.eval_at-right.ensures)
 
-pub evaluate::binary-returns-in_ok-binary_of-in_default : goal.evaluate::binary-returns-in_ok-binary_of-in_default
-evaluate::binary-returns-in_ok-binary_of-in_default t c =
-    operands_are c.args.operator (code_value (calls_of c.args.context.now.functions.now c.args.context.now.depth) c.args.left.now) (code_value (calls_of c.args.context.now.functions.now c.args.context.now.depth) c.args.right.now)
-    (world_of c.args.context.now.env.now) c.args.turns.now c.in_default.not-And c.in_default.not-Or _ _ c.in_ok-left-in_default.ensures _ _ c.in_ok-right-in_default.ensures
-    ∙ (λ i. settled (binary_of c.args.operator (sym c.value.ensures i) (sym c.value-in_default.ensures i)) c.eval_at-in_default-2.new.turns)
-    ∙ ap (λ o. settled o c.eval_at-in_default-2.new.turns) c.in_ok-binary_of-in_default.ensures
-
-pub evaluate::built_in-eval_at-requires : goal.evaluate::built_in-eval_at-requires
-evaluate::built_in-eval_at-requires t c = (
+pub evaluate::built_in-eval_at-first-requires : goal.evaluate::built_in-eval_at-first-requires
+evaluate::built_in-eval_at-first-requires t c = (
   omega arith,
   let within : 0 < length c.args.codes.now = omega arith in
       built_in_is_fit c.args.context.now.functions.now c.args.context.now.env.now (C.BuiltIn c.args.call c.args.codes.now) c.requires c.args.call c.args.codes.now refl 0 c.first-item.result
       (slice_get_read c.args.codes.now (length c.args.codes.now) 0 c.first-item.result refl within c.first-item.is),
 )
 
-pub evaluate::built_in-returns-in_err-first-in-len1 : goal.evaluate::built_in-returns-in_err-first-in-len1
-evaluate::built_in-returns-in_err-first-in-len1 t c =
-    called_stops (calls_of c.args.context.now.functions.now c.args.context.now.depth) (world_of c.args.context.now.env.now) c.args.call c.args.codes.now c.args.turns.now _ _ _ c.from_residual.ensures.1
-    (one_stops (calls_of c.args.context.now.functions.now c.args.context.now.depth) (world_of c.args.context.now.env.now) c.args.codes.now c.args.turns.now c.first-item.result (is_one c.args.codes.now c.first-item.result c.in-len1.len_at_least c.in-len1.len_below c.first-item.is) _ c.in_err-first-in-len1.ensures)
+pub evaluate::built_in-call_with_one-requires : goal.evaluate::built_in-call_with_one-requires
+evaluate::built_in-call_with_one-requires t c = λ h is.
+    built_in_of_arguments c.evaluation_law.ensures.never_stuck c.args.context.now.functions.now c.args.context.now.env.now c.args.context.now.depth (C.BuiltIn c.args.call c.args.codes.now) c.requires c.args.call c.args.codes.now refl c.args.turns.now _ _
+    (one_value (calls_of c.args.context.now.functions.now c.args.context.now.depth) (world_of c.args.context.now.env.now) c.args.codes.now c.args.turns.now c.first-item.result (is_one c.args.codes.now c.first-item.result c.in-len1.len_at_least c.in-len1.len_below c.first-item.is) _ _ (subst (λ r. AnswersHeld (code_value (calls_of c.args.context.now.functions.now c.args.context.now.depth) c.first-item.result (world_of c.args.context.now.env.now) c.args.turns.now) r c.eval_at-first.new.turns) is c.eval_at-first.ensures))
 
-pub evaluate::built_in-one_argument-requires : goal.evaluate::built_in-one_argument-requires
-evaluate::built_in-one_argument-requires t c =
-    subst (FitBuiltIn c.args.call) (sym (λ i. c.value.ensures i ∷ []))
-    (built_in_of_arguments c.evaluation_law.ensures.never_stuck c.args.context.now.functions.now c.args.context.now.env.now c.args.context.now.depth (C.BuiltIn c.args.call c.args.codes.now) c.requires c.args.call c.args.codes.now refl c.args.turns.now _ _
-    (one_value (calls_of c.args.context.now.functions.now c.args.context.now.depth) (world_of c.args.context.now.env.now) c.args.codes.now c.args.turns.now c.first-item.result (is_one c.args.codes.now c.first-item.result c.in-len1.len_at_least c.in-len1.len_below c.first-item.is) _ _ c.in_ok-first-in-len1.ensures))
+pub evaluate::built_in-returns-in-len1 : goal.evaluate::built_in-returns-in-len1
+evaluate::built_in-returns-in-len1 t c =
+    answers_by _ _ _ _
+    (with_one (calls_of c.args.context.now.functions.now c.args.context.now.depth) (world_of c.args.context.now.env.now) c.args.call c.args.codes.now c.args.turns.now c.first-item.result (is_one c.args.codes.now c.first-item.result c.in-len1.len_at_least c.in-len1.len_below c.first-item.is))
+    (c.call_with_one.ensures _ _ c.eval_at-first.ensures)
 
-pub evaluate::built_in-returns-in_ok-first-in-len1 : goal.evaluate::built_in-returns-in_ok-first-in-len1
-evaluate::built_in-returns-in_ok-first-in-len1 t c =
-    called_answers (calls_of c.args.context.now.functions.now c.args.context.now.depth) (world_of c.args.context.now.env.now) c.args.call c.args.codes.now c.args.turns.now _ _ _ _
-    (one_value (calls_of c.args.context.now.functions.now c.args.context.now.depth) (world_of c.args.context.now.env.now) c.args.codes.now c.args.turns.now c.first-item.result (is_one c.args.codes.now c.first-item.result c.in-len1.len_at_least c.in-len1.len_below c.first-item.is) _ _ c.in_ok-first-in-len1.ensures)
-    (λ i. c.value.ensures i ∷ []) c.one_argument.ensures
-
-pub evaluate::built_in-eval_at-requires-in-len2 : goal.evaluate::built_in-eval_at-requires-in-len2
-evaluate::built_in-eval_at-requires-in-len2 t c = (
+pub evaluate::built_in-eval_at-requires : goal.evaluate::built_in-eval_at-requires
+evaluate::built_in-eval_at-requires t c = (
   omega arith,
   let within : 0 < length c.args.codes.now = omega arith in
       built_in_is_fit c.args.context.now.functions.now c.args.context.now.env.now (C.BuiltIn c.args.call c.args.codes.now) c.requires c.args.call c.args.codes.now refl 0 c.first-item-then-codes-lt3.result
       (slice_get_read c.args.codes.now (length c.args.codes.now) 0 c.first-item-then-codes-lt3.result refl within c.first-item-then-codes-lt3.is),
 )
 
-pub evaluate::built_in-eval_at-requires-in-len2-2 : goal.evaluate::built_in-eval_at-requires-in-len2-2
-evaluate::built_in-eval_at-requires-in-len2-2 t c = (
+pub evaluate::built_in-eval_at-second-requires : goal.evaluate::built_in-eval_at-second-requires
+evaluate::built_in-eval_at-second-requires t c = (
   omega arith,
   let within : 1 < length c.args.codes.now = omega arith in
       built_in_is_fit c.args.context.now.functions.now c.args.context.now.env.now (C.BuiltIn c.args.call c.args.codes.now) c.requires c.args.call c.args.codes.now refl 1 c.second-item.result
@@ -450,25 +426,19 @@ evaluate::built_in-eval_at-requires-in-len2-2 t c = (
 
 pub evaluate::built_in-returns-in_err-first-in-len2 : goal.evaluate::built_in-returns-in_err-first-in-len2
 evaluate::built_in-returns-in_err-first-in-len2 t c =
-    called_stops (calls_of c.args.context.now.functions.now c.args.context.now.depth) (world_of c.args.context.now.env.now) c.args.call c.args.codes.now c.args.turns.now _ _ _ c.from_residual-in_err-first-in-len2.ensures.1
+    called_stops (calls_of c.args.context.now.functions.now c.args.context.now.depth) (world_of c.args.context.now.env.now) c.args.call c.args.codes.now c.args.turns.now _ _ _ c.from_residual.ensures.1
     (first_of_two_stops (calls_of c.args.context.now.functions.now c.args.context.now.depth) (world_of c.args.context.now.env.now) c.args.codes.now c.args.turns.now c.first-item-then-codes-lt3.result c.second-item.result (are_two c.args.codes.now c.first-item-then-codes-lt3.result c.second-item.result c.in-len2.len_at_least c.in-len2.len_below c.first-item-then-codes-lt3.is c.second-item.is) _ c.in_err-first-in-len2.ensures)
 
-pub evaluate::built_in-returns-in_err-second-in-len2 : goal.evaluate::built_in-returns-in_err-second-in-len2
-evaluate::built_in-returns-in_err-second-in-len2 t c =
-    called_stops (calls_of c.args.context.now.functions.now c.args.context.now.depth) (world_of c.args.context.now.env.now) c.args.call c.args.codes.now c.args.turns.now _ _ _ c.from_residual-in_err-second-in-len2.ensures.1
-    (second_of_two_stops (calls_of c.args.context.now.functions.now c.args.context.now.depth) (world_of c.args.context.now.env.now) c.args.codes.now c.args.turns.now c.first-item-then-codes-lt3.result c.second-item.result (are_two c.args.codes.now c.first-item-then-codes-lt3.result c.second-item.result c.in-len2.len_at_least c.in-len2.len_below c.first-item-then-codes-lt3.is c.second-item.is) _ _ c.in_ok-first-in-len2.ensures _ c.in_err-second-in-len2.ensures)
+pub evaluate::built_in-call_with_two-requires : goal.evaluate::built_in-call_with_two-requires
+evaluate::built_in-call_with_two-requires t c = λ h is.
+    built_in_of_arguments c.evaluation_law.ensures.never_stuck c.args.context.now.functions.now c.args.context.now.env.now c.args.context.now.depth (C.BuiltIn c.args.call c.args.codes.now) c.requires c.args.call c.args.codes.now refl c.args.turns.now _ _
+    (two_values (calls_of c.args.context.now.functions.now c.args.context.now.depth) (world_of c.args.context.now.env.now) c.args.codes.now c.args.turns.now c.first-item-then-codes-lt3.result c.second-item.result (are_two c.args.codes.now c.first-item-then-codes-lt3.result c.second-item.result c.in-len2.len_at_least c.in-len2.len_below c.first-item-then-codes-lt3.is c.second-item.is) _ _ c.in_ok-first-in-len2.ensures _ _ (subst (λ r. AnswersHeld (code_value (calls_of c.args.context.now.functions.now c.args.context.now.depth) c.second-item.result (world_of c.args.context.now.env.now) c.eval_at.new.turns) r c.eval_at-second.new.turns) is c.eval_at-second.ensures))
 
-pub evaluate::built_in-two_arguments-requires : goal.evaluate::built_in-two_arguments-requires
-evaluate::built_in-two_arguments-requires t c =
-    subst (FitBuiltIn c.args.call) (sym (λ i. c.value-in-len2.ensures i ∷ c.value-in-len2-2.ensures i ∷ []))
-    (built_in_of_arguments c.evaluation_law.ensures.never_stuck c.args.context.now.functions.now c.args.context.now.env.now c.args.context.now.depth (C.BuiltIn c.args.call c.args.codes.now) c.requires c.args.call c.args.codes.now refl c.args.turns.now _ _
-    (two_values (calls_of c.args.context.now.functions.now c.args.context.now.depth) (world_of c.args.context.now.env.now) c.args.codes.now c.args.turns.now c.first-item-then-codes-lt3.result c.second-item.result (are_two c.args.codes.now c.first-item-then-codes-lt3.result c.second-item.result c.in-len2.len_at_least c.in-len2.len_below c.first-item-then-codes-lt3.is c.second-item.is) _ _ c.in_ok-first-in-len2.ensures _ _ c.in_ok-second-in-len2.ensures))
-
-pub evaluate::built_in-returns-in_ok-second-in-len2 : goal.evaluate::built_in-returns-in_ok-second-in-len2
-evaluate::built_in-returns-in_ok-second-in-len2 t c =
-    called_answers (calls_of c.args.context.now.functions.now c.args.context.now.depth) (world_of c.args.context.now.env.now) c.args.call c.args.codes.now c.args.turns.now _ _ _ _
-    (two_values (calls_of c.args.context.now.functions.now c.args.context.now.depth) (world_of c.args.context.now.env.now) c.args.codes.now c.args.turns.now c.first-item-then-codes-lt3.result c.second-item.result (are_two c.args.codes.now c.first-item-then-codes-lt3.result c.second-item.result c.in-len2.len_at_least c.in-len2.len_below c.first-item-then-codes-lt3.is c.second-item.is) _ _ c.in_ok-first-in-len2.ensures _ _ c.in_ok-second-in-len2.ensures)
-    (λ i. c.value-in-len2.ensures i ∷ c.value-in-len2-2.ensures i ∷ []) c.two_arguments.ensures
+pub evaluate::built_in-returns-in_ok-first-in-len2 : goal.evaluate::built_in-returns-in_ok-first-in-len2
+evaluate::built_in-returns-in_ok-first-in-len2 t c =
+    answers_by _ _ _ _
+    (with_two (calls_of c.args.context.now.functions.now c.args.context.now.depth) (world_of c.args.context.now.env.now) c.args.call c.args.codes.now c.args.turns.now c.first-item-then-codes-lt3.result c.second-item.result (are_two c.args.codes.now c.first-item-then-codes-lt3.result c.second-item.result c.in-len2.len_at_least c.in-len2.len_below c.first-item-then-codes-lt3.is c.second-item.is) _ _ c.in_ok-first-in-len2.ensures)
+    (c.call_with_two.ensures _ _ c.eval_at-second.ensures)
 
 pub evaluate::built_in-eval_at-requires-in-len3 : goal.evaluate::built_in-eval_at-requires-in-len3
 evaluate::built_in-eval_at-requires-in-len3 t c = (
@@ -486,8 +456,8 @@ evaluate::built_in-eval_at-requires-in-len3-2 t c = (
       (slice_get_read c.args.codes.now (length c.args.codes.now) 1 c.second-item-then-codes-lt4.result refl within c.second-item-then-codes-lt4.is),
 )
 
-pub evaluate::built_in-eval_at-requires-in-len3-3 : goal.evaluate::built_in-eval_at-requires-in-len3-3
-evaluate::built_in-eval_at-requires-in-len3-3 t c = (
+pub evaluate::built_in-eval_at-third-requires : goal.evaluate::built_in-eval_at-third-requires
+evaluate::built_in-eval_at-third-requires t c = (
   omega arith,
   let within : 2 < length c.args.codes.now = omega arith in
       built_in_is_fit c.args.context.now.functions.now c.args.context.now.env.now (C.BuiltIn c.args.call c.args.codes.now) c.requires c.args.call c.args.codes.now refl 2 c.third-item.result
@@ -499,27 +469,21 @@ evaluate::built_in-returns-in_err-first-in-len3 t c =
     called_stops (calls_of c.args.context.now.functions.now c.args.context.now.depth) (world_of c.args.context.now.env.now) c.args.call c.args.codes.now c.args.turns.now _ _ _ c.from_residual-in_err-first-in-len3.ensures.1
     (first_of_three_stops (calls_of c.args.context.now.functions.now c.args.context.now.depth) (world_of c.args.context.now.env.now) c.args.codes.now c.args.turns.now c.first-item-then-codes-lt4.result c.second-item-then-codes-lt4.result c.third-item.result (are_three c.args.codes.now c.first-item-then-codes-lt4.result c.second-item-then-codes-lt4.result c.third-item.result c.in-len3.len_at_least c.in-len3.len_below c.first-item-then-codes-lt4.is c.second-item-then-codes-lt4.is c.third-item.is) _ c.in_err-first-in-len3.ensures)
 
-pub evaluate::built_in-returns-in_err-second-in-len3 : goal.evaluate::built_in-returns-in_err-second-in-len3
-evaluate::built_in-returns-in_err-second-in-len3 t c =
-    called_stops (calls_of c.args.context.now.functions.now c.args.context.now.depth) (world_of c.args.context.now.env.now) c.args.call c.args.codes.now c.args.turns.now _ _ _ c.from_residual-in_err-second-in-len3.ensures.1
-    (second_of_three_stops (calls_of c.args.context.now.functions.now c.args.context.now.depth) (world_of c.args.context.now.env.now) c.args.codes.now c.args.turns.now c.first-item-then-codes-lt4.result c.second-item-then-codes-lt4.result c.third-item.result (are_three c.args.codes.now c.first-item-then-codes-lt4.result c.second-item-then-codes-lt4.result c.third-item.result c.in-len3.len_at_least c.in-len3.len_below c.first-item-then-codes-lt4.is c.second-item-then-codes-lt4.is c.third-item.is) _ _ c.in_ok-first-in-len3.ensures _ c.in_err-second-in-len3.ensures)
+pub evaluate::built_in-call_with_three-requires : goal.evaluate::built_in-call_with_three-requires
+evaluate::built_in-call_with_three-requires t c = λ h is.
+    built_in_of_arguments c.evaluation_law.ensures.never_stuck c.args.context.now.functions.now c.args.context.now.env.now c.args.context.now.depth (C.BuiltIn c.args.call c.args.codes.now) c.requires c.args.call c.args.codes.now refl c.args.turns.now _ _
+    (three_values (calls_of c.args.context.now.functions.now c.args.context.now.depth) (world_of c.args.context.now.env.now) c.args.codes.now c.args.turns.now c.first-item-then-codes-lt4.result c.second-item-then-codes-lt4.result c.third-item.result (are_three c.args.codes.now c.first-item-then-codes-lt4.result c.second-item-then-codes-lt4.result c.third-item.result c.in-len3.len_at_least c.in-len3.len_below c.first-item-then-codes-lt4.is c.second-item-then-codes-lt4.is c.third-item.is) _ _ c.in_ok-first-in-len3.ensures _ _ c.in-Ok.ensures _ _ (subst (λ r. AnswersHeld (code_value (calls_of c.args.context.now.functions.now c.args.context.now.depth) c.third-item.result (world_of c.args.context.now.env.now) c.eval_at-in-len3-2.new.turns) r c.eval_at-third.new.turns) is c.eval_at-third.ensures))
 
-pub evaluate::built_in-returns-in_err-third-in-len3 : goal.evaluate::built_in-returns-in_err-third-in-len3
-evaluate::built_in-returns-in_err-third-in-len3 t c =
-    called_stops (calls_of c.args.context.now.functions.now c.args.context.now.depth) (world_of c.args.context.now.env.now) c.args.call c.args.codes.now c.args.turns.now _ _ _ c.from_residual-in_err-third-in-len3.ensures.1
-    (third_of_three_stops (calls_of c.args.context.now.functions.now c.args.context.now.depth) (world_of c.args.context.now.env.now) c.args.codes.now c.args.turns.now c.first-item-then-codes-lt4.result c.second-item-then-codes-lt4.result c.third-item.result (are_three c.args.codes.now c.first-item-then-codes-lt4.result c.second-item-then-codes-lt4.result c.third-item.result c.in-len3.len_at_least c.in-len3.len_below c.first-item-then-codes-lt4.is c.second-item-then-codes-lt4.is c.third-item.is) _ _ c.in_ok-first-in-len3.ensures _ _ c.in_ok-second-in-len3.ensures _ c.in_err-third-in-len3.ensures)
+pub evaluate::built_in-returns-in-Ok : goal.evaluate::built_in-returns-in-Ok
+evaluate::built_in-returns-in-Ok t c =
+    answers_by _ _ _ _
+    (with_three (calls_of c.args.context.now.functions.now c.args.context.now.depth) (world_of c.args.context.now.env.now) c.args.call c.args.codes.now c.args.turns.now c.first-item-then-codes-lt4.result c.second-item-then-codes-lt4.result c.third-item.result (are_three c.args.codes.now c.first-item-then-codes-lt4.result c.second-item-then-codes-lt4.result c.third-item.result c.in-len3.len_at_least c.in-len3.len_below c.first-item-then-codes-lt4.is c.second-item-then-codes-lt4.is c.third-item.is) _ _ c.in_ok-first-in-len3.ensures _ _ c.in-Ok.ensures)
+    (c.call_with_three.ensures _ _ c.eval_at-third.ensures)
 
-pub evaluate::built_in-three_arguments-requires : goal.evaluate::built_in-three_arguments-requires
-evaluate::built_in-three_arguments-requires t c =
-    subst (FitBuiltIn c.args.call) (sym (λ i. c.value-in-len3.ensures i ∷ c.value-in-len3-2.ensures i ∷ c.value-in-len3-3.ensures i ∷ []))
-    (built_in_of_arguments c.evaluation_law.ensures.never_stuck c.args.context.now.functions.now c.args.context.now.env.now c.args.context.now.depth (C.BuiltIn c.args.call c.args.codes.now) c.requires c.args.call c.args.codes.now refl c.args.turns.now _ _
-    (three_values (calls_of c.args.context.now.functions.now c.args.context.now.depth) (world_of c.args.context.now.env.now) c.args.codes.now c.args.turns.now c.first-item-then-codes-lt4.result c.second-item-then-codes-lt4.result c.third-item.result (are_three c.args.codes.now c.first-item-then-codes-lt4.result c.second-item-then-codes-lt4.result c.third-item.result c.in-len3.len_at_least c.in-len3.len_below c.first-item-then-codes-lt4.is c.second-item-then-codes-lt4.is c.third-item.is) _ _ c.in_ok-first-in-len3.ensures _ _ c.in_ok-second-in-len3.ensures _ _ c.in_ok-third-in-len3.ensures))
-
-pub evaluate::built_in-returns-in_ok-third-in-len3 : goal.evaluate::built_in-returns-in_ok-third-in-len3
-evaluate::built_in-returns-in_ok-third-in-len3 t c =
-    called_answers (calls_of c.args.context.now.functions.now c.args.context.now.depth) (world_of c.args.context.now.env.now) c.args.call c.args.codes.now c.args.turns.now _ _ _ _
-    (three_values (calls_of c.args.context.now.functions.now c.args.context.now.depth) (world_of c.args.context.now.env.now) c.args.codes.now c.args.turns.now c.first-item-then-codes-lt4.result c.second-item-then-codes-lt4.result c.third-item.result (are_three c.args.codes.now c.first-item-then-codes-lt4.result c.second-item-then-codes-lt4.result c.third-item.result c.in-len3.len_at_least c.in-len3.len_below c.first-item-then-codes-lt4.is c.second-item-then-codes-lt4.is c.third-item.is) _ _ c.in_ok-first-in-len3.ensures _ _ c.in_ok-second-in-len3.ensures _ _ c.in_ok-third-in-len3.ensures)
-    (λ i. c.value-in-len3.ensures i ∷ c.value-in-len3-2.ensures i ∷ c.value-in-len3-3.ensures i ∷ []) c.three_arguments.ensures
+pub evaluate::built_in-returns-in-Err : goal.evaluate::built_in-returns-in-Err
+evaluate::built_in-returns-in-Err t c =
+    called_stopped (calls_of c.args.context.now.functions.now c.args.context.now.depth) (world_of c.args.context.now.env.now) c.args.call c.args.codes.now c.args.turns.now _ _ c.in-Err.stop c.stopped.ensures
+    (second_of_three_stops (calls_of c.args.context.now.functions.now c.args.context.now.depth) (world_of c.args.context.now.env.now) c.args.codes.now c.args.turns.now c.first-item-then-codes-lt4.result c.second-item-then-codes-lt4.result c.third-item.result (are_three c.args.codes.now c.first-item-then-codes-lt4.result c.second-item-then-codes-lt4.result c.third-item.result c.in-len3.len_at_least c.in-len3.len_below c.first-item-then-codes-lt4.is c.second-item-then-codes-lt4.is c.third-item.is) _ _ c.in_ok-first-in-len3.ensures _ c.in-Err.ensures)
 
 pub evaluate::built_in-unreachable-requires : goal.evaluate::built_in-unreachable-requires
 evaluate::built_in-unreachable-requires t c =
@@ -569,8 +533,8 @@ run::steps_taken-returns-in_err-step t c = λ v at.
     stops _ _ _ _ c.from_residual.ensures.1
     (stops_by _ _ _ (c.loop-taking.invariant.comes v at) (taken_stop_at_value (bodies_of c.args.context.now.functions.now c.args.context.now.depth) (state c.args.context.now.env.now []) c.as_slice-taking-items.result.now c.loop-taking.taking-index (held c.loop-taking.value) c.loop-taking.steps c.loop-taking.turns c.taking-item.result c.loop-taking-test.true c.taking-item.is _ c.in_err-step.ensures))
 
-pub run::steps_taken-step_of-requires : goal.run::steps_taken-step_of-requires
-run::steps_taken-step_of-requires t c =
+pub run::steps_taken-take_step-requires : goal.run::steps_taken-take_step-requires
+run::steps_taken-take_step-requires t c =
     step_fits c.args.context.now.functions.now c.args.context.now.env.now c.as_slice-taking-items.result.now c.loop-taking.taking-index (held c.loop-taking.value) c.loop-taking.invariant.others c.taking-item.result c.loop-taking-test.true c.taking-item.is c.evaluation_law.ensures.never_stuck c.args.context.now.depth c.loop-taking.turns _ _ c.in_ok-step.ensures
 
 pub run::steps_taken-returns-in_err-value : goal.run::steps_taken-returns-in_err-value
@@ -582,9 +546,9 @@ run::steps_taken-returns-in_err-value t c = λ v at.
 pub run::steps_taken-loop-taking-preserved : goal.run::steps_taken-loop-taking-preserved
 run::steps_taken-loop-taking-preserved t c = record {
   comes = λ v at. c.loop-taking.invariant.comes v at
-      ∙ taken_on (bodies_of c.args.context.now.functions.now c.args.context.now.depth) (state c.args.context.now.env.now []) c.as_slice-taking-items.result.now c.loop-taking.taking-index (held c.loop-taking.value) c.loop-taking.steps c.loop-taking.turns c.taking-item.result c.loop-taking-test.true c.taking-item.is _ _ c.in_ok-step.ensures _ _ c.in_ok-value.ensures c.in_ok-push.ensures.ok;
+      ∙ taken_on (bodies_of c.args.context.now.functions.now c.args.context.now.depth) (state c.args.context.now.env.now []) c.as_slice-taking-items.result.now c.loop-taking.taking-index (held c.loop-taking.value) c.loop-taking.steps c.loop-taking.turns c.taking-item.result c.loop-taking-test.true c.taking-item.is _ _ c.in_ok-step.ensures _ _ c.in_ok-value.ensures.0 c.in_ok-value.ensures.1;
   others = others_fit c.args.context.now.functions.now c.args.context.now.env.now c.as_slice-taking-items.result.now c.loop-taking.taking-index (held c.loop-taking.value) c.loop-taking.invariant.others c.taking-item.result c.loop-taking-test.true c.taking-item.is c.evaluation_law.ensures.never_stuck c.args.context.now.depth c.loop-taking.turns _ _ c.in_ok-step.ensures
-      _ c.in_ok-value.ensures;
+      _ c.in_ok-value.ensures.0;
 }
 
 pub run::steps_taken-returns : goal.run::steps_taken-returns
@@ -642,25 +606,17 @@ pub evaluate::call-returns : goal.evaluate::call-returns
 evaluate::call-returns t c =
     value_done c.args.context.now.functions.now c.args.place c.args.values c.args.context.now.depth c.args.turns.now _ _ _ c.in_ok-value.ensures c.in-Some.is
 
-pub run::run_statement-returns-in_err-run_change-in-Change : goal.run::run_statement-returns-in_err-run_change-in-Change
-run::run_statement-returns-in_err-run_change-in-Change t c =
-    change_stops (bodies_of c.args.program.now.functions.now c.args.program.now.depth) c.args.statement.now (state c.args.env.now c.args.submits.now) c.args.turns.now c.in-Change.place c.in-Change.change c.in-Change.is _ _ _ _ c.from_residual-in_err-run_change-in-Change.ensures.1 (c.in_err-run_change-in-Change.ensures c.args.submits.now)
-
 pub run::run_statement-eval_all-requires : goal.run::run_statement-eval_all-requires
 run::run_statement-eval_all-requires t c =
     (omega (arith, c.in-Some.ensures.0, c.in-Some.ensures.1), arguments_are_fit c.args.program.now.functions.now c.args.statement.now c.args.env.now c.requires c.in-Call.place c.as_slice-in-Call.result.now (c.in-Call.is ∙ (λ i. S.Call c.in-Call.place (sym c.as_slice-in-Call.ensures i))))
 
 pub run::run_statement-returns-in_err-values-in-Call : goal.run::run_statement-returns-in_err-values-in-Call
 run::run_statement-returns-in_err-values-in-Call t c =
-    arguments_stopped (bodies_of c.args.program.now.functions.now c.args.program.now.depth) c.args.statement.now (state c.args.env.now c.args.submits.now) c.args.turns.now c.in-Call.place c.as_slice-in-Call.result.now (c.in-Call.is ∙ (λ i. S.Call c.in-Call.place (sym c.as_slice-in-Call.ensures i))) _ _ _ _ c.from_residual-in_err-values-in-Call.ensures.1 c.in_err-values-in-Call.ensures
+    arguments_stopped (bodies_of c.args.program.now.functions.now c.args.program.now.depth) c.args.statement.now (state c.args.env.now c.args.submits.now) c.args.turns.now c.in-Call.place c.as_slice-in-Call.result.now (c.in-Call.is ∙ (λ i. S.Call c.in-Call.place (sym c.as_slice-in-Call.ensures i))) _ _ _ _ c.from_residual.ensures.1 c.in_err-values-in-Call.ensures
 
 pub run::run_statement-run_function-requires : goal.run::run_statement-run_function-requires
 run::run_statement-run_function-requires t c =
     (omega (arith, c.in-Some.ensures.0, c.in-Some.ensures.1), function_is_fit c.args.program.now.functions.now c.args.statement.now c.args.env.now c.requires c.in-Call.place c.as_slice-in-Call.result.now (c.in-Call.is ∙ (λ i. S.Call c.in-Call.place (sym c.as_slice-in-Call.ensures i))) c.evaluation_law.ensures.never_stuck c.args.program.now.depth c.args.turns.now _ _ c.in_ok-values-in-Call.ensures)
-
-pub run::run_statement-returns-in_err-run_function-in-Call : goal.run::run_statement-returns-in_err-run_function-in-Call
-run::run_statement-returns-in_err-run_function-in-Call t c =
-    function_stops (bodies_of c.args.program.now.functions.now c.args.program.now.depth) c.args.statement.now (state c.args.env.now c.args.submits.now) c.args.turns.now c.in-Call.place c.as_slice-in-Call.result.now (c.in-Call.is ∙ (λ i. S.Call c.in-Call.place (sym c.as_slice-in-Call.ensures i))) _ _ c.in_ok-values-in-Call.ensures _ _ _ _ c.from_residual-in_err-run_function-in-Call.ensures.1 c.in_err-run_function-in-Call.ensures
 
 pub run::run_statement-elements-requires : goal.run::run_statement-elements-requires
 run::run_statement-elements-requires t c =
@@ -670,18 +626,6 @@ pub run::run_statement-run_over-requires : goal.run::run_statement-run_over-requ
 run::run_statement-run_over-requires t c =
     (omega (arith, c.in-Some.ensures.0, c.in-Some.ensures.1), over_is_fit c.args.program.now.functions.now c.args.statement.now c.args.env.now c.requires c.in-For.code c.as_slice-in-For.result.now (c.in-For.is ∙ (λ i. S.For c.in-For.code (sym c.as_slice-in-For.ensures i))) c.evaluation_law.ensures.never_stuck c.args.program.now.depth c.args.turns.now _ _ c.in_ok-held-in-For.ensures _ c.in_ok-values-in-For.ensures)
 
-pub run::run_statement-tuple_values-requires : goal.run::run_statement-tuple_values-requires
-run::run_statement-tuple_values-requires t c =
-    has_tuple c.args.program.now.functions.now c.args.statement.now c.args.env.now c.requires c.in-Submit.port c.in-Submit.code c.in-Submit.is c.evaluation_law.ensures.never_stuck c.args.program.now.depth c.args.turns.now _ _ c.in_ok-value-in-Submit.ensures
-
-pub run::run_statement-returns-in_ok-run_change-in-Change : goal.run::run_statement-returns-in_ok-run_change-in-Change
-run::run_statement-returns-in_ok-run_change-in-Change t c =
-    change_done (bodies_of c.args.program.now.functions.now c.args.program.now.depth) c.args.statement.now (state c.args.env.now c.args.submits.now) c.args.turns.now c.in-Change.place c.in-Change.change c.in-Change.is _ _ (c.in_ok-run_change-in-Change.ensures c.args.submits.now)
-
-pub run::run_statement-returns-in_ok-run_function-in-Call : goal.run::run_statement-returns-in_ok-run_function-in-Call
-run::run_statement-returns-in_ok-run_function-in-Call t c =
-    function_done (bodies_of c.args.program.now.functions.now c.args.program.now.depth) c.args.statement.now (state c.args.env.now c.args.submits.now) c.args.turns.now c.in-Call.place c.as_slice-in-Call.result.now (c.in-Call.is ∙ (λ i. S.Call c.in-Call.place (sym c.as_slice-in-Call.ensures i))) _ _ c.in_ok-values-in-Call.ensures _ _ c.in_ok-run_function-in-Call.ensures
-
 pub run::run_statement-returns-in-If : goal.run::run_statement-returns-in-If
 run::run_statement-returns-in-If t c =
     if_leads (bodies_of c.args.program.now.functions.now c.args.program.now.depth) c.args.statement.now (state c.args.env.now c.args.submits.now) c.args.turns.now c.as_slice-in-If.result.now c.as_slice-in-If-2.result.now (c.in-If.is ∙ (λ i. S.If (sym c.as_slice-in-If.ensures i) (sym c.as_slice-in-If-2.ensures i))) _ _ _ c.run_if.ensures
@@ -690,9 +634,42 @@ pub run::run_statement-returns-in-While : goal.run::run_statement-returns-in-Whi
 run::run_statement-returns-in-While t c =
     while_leads (bodies_of c.args.program.now.functions.now c.args.program.now.depth) c.args.statement.now (state c.args.env.now c.args.submits.now) c.args.turns.now c.in-While.code c.as_slice-in-While.result.now (c.in-While.is ∙ (λ i. S.While c.in-While.code (sym c.as_slice-in-While.ensures i))) _ _ _ c.run_while.ensures
 
-pub run::run_statement-own_value-requires-in-Some-result : goal.run::run_statement-own_value-requires-in-Some-result
-run::run_statement-own_value-requires-in-Some-result t c =
+pub run::run_statement-own_value-requires : goal.run::run_statement-own_value-requires
+run::run_statement-own_value-requires t c =
     (omega (arith, c.in-Some.ensures.0, c.in-Some.ensures.1), result_is_fit c.args.program.now.functions.now c.args.statement.now c.args.env.now c.requires c.in-Some-result.code (c.in-Return.is ∙ (λ i. S.Return (c.in-Some-result.is i))))
+
+pub run::run_statement-returns-in-Declare : goal.run::run_statement-returns-in-Declare
+run::run_statement-returns-in-Declare t c =
+    declare_leads (bodies_of c.args.program.now.functions.now c.args.program.now.depth) c.args.statement.now (state c.args.env.now c.args.submits.now) c.args.turns.now c.in-Declare.code c.in-Declare.is _ _ _ (c.declare.ensures _ c.args.submits.now _ c.own_value-value.ensures)
+
+pub run::run_statement-returns-in-Change : goal.run::run_statement-returns-in-Change
+run::run_statement-returns-in-Change t c =
+    change_leads (bodies_of c.args.program.now.functions.now c.args.program.now.depth) c.args.statement.now (state c.args.env.now c.args.submits.now) c.args.turns.now c.in-Change.place c.in-Change.change c.in-Change.is _ _ _ (c.next_follows.ensures _ _ _ (c.run_change.ensures c.args.submits.now))
+
+pub run::run_statement-returns-in-Evaluate : goal.run::run_statement-returns-in-Evaluate
+run::run_statement-returns-in-Evaluate t c =
+    evaluate_leads (bodies_of c.args.program.now.functions.now c.args.program.now.depth) c.args.statement.now (state c.args.env.now c.args.submits.now) c.args.turns.now c.in-Evaluate.code c.in-Evaluate.is _ _ _ (c.next_follows_value.ensures _ (state c.args.env.now c.args.submits.now) _ c.eval_at.ensures)
+
+pub run::run_statement-returns-in_ok-values-in-Call : goal.run::run_statement-returns-in_ok-values-in-Call
+run::run_statement-returns-in_ok-values-in-Call t c =
+    function_leads (bodies_of c.args.program.now.functions.now c.args.program.now.depth) c.args.statement.now (state c.args.env.now c.args.submits.now) c.args.turns.now c.in-Call.place c.as_slice-in-Call.result.now (c.in-Call.is ∙ (λ i. S.Call c.in-Call.place (sym c.as_slice-in-Call.ensures i))) _ _ c.in_ok-values-in-Call.ensures _ _ _ (c.next_follows_call.ensures _ (state c.args.env.now c.args.submits.now) _ c.run_function.ensures)
+
+pub run::run_statement-returns-in-Some-result : goal.run::run_statement-returns-in-Some-result
+run::run_statement-returns-in-Some-result t c =
+    return_leads (bodies_of c.args.program.now.functions.now c.args.program.now.depth) c.args.statement.now (state c.args.env.now c.args.submits.now) c.args.turns.now c.in-Some-result.code (c.in-Return.is ∙ (λ i. S.Return (c.in-Some-result.is i))) _ _ _ (c.return_value.ensures _ (state c.args.env.now c.args.submits.now) _ c.own_value.ensures)
+
+pub run::run_statement-submit-requires : goal.run::run_statement-submit-requires
+run::run_statement-submit-requires t c = λ v is.
+    has_tuple c.args.program.now.functions.now c.args.statement.now c.args.env.now c.requires c.in-Submit.port c.in-Submit.code c.in-Submit.is c.evaluation_law.ensures.never_stuck c.args.program.now.depth c.args.turns.now _ v
+    (subst (λ r. Answers (code_value (calls_of c.args.program.now.functions.now c.args.program.now.depth) c.in-Submit.code (world_of c.args.env.now) c.args.turns.now) r c.own_value-tuple.new.turns) is c.own_value-tuple.ensures)
+
+pub run::run_statement-returns-in-Submit : goal.run::run_statement-returns-in-Submit
+run::run_statement-returns-in-Submit t c =
+    submit_leads (bodies_of c.args.program.now.functions.now c.args.program.now.depth) c.args.statement.now (state c.args.env.now c.args.submits.now) c.args.turns.now c.in-Submit.port c.in-Submit.code c.in-Submit.is _ _ _ (c.submit.ensures _ c.args.env.now _ c.own_value-tuple.ensures)
+
+pub run::run_statement-returns-in-SubmitWindow : goal.run::run_statement-returns-in-SubmitWindow
+run::run_statement-returns-in-SubmitWindow t c =
+    submit_window_leads (bodies_of c.args.program.now.functions.now c.args.program.now.depth) c.args.statement.now (state c.args.env.now c.args.submits.now) c.args.turns.now c.in-SubmitWindow.port c.in-SubmitWindow.is _ _ _ (c.submit_window.ensures c.args.env.now c.args.turns.now)
 
 -- ---- rows and loops
 

@@ -1,5 +1,5 @@
 use Rattle.expr_eval.proofs.Rows.{fields_from, pairs_from, takings_from, values_from}
-use Rattle.expr_eval.specs.Answers.{held}
+use Rattle.value_operations.specs.Answers.{held}
 use Rattle.expr_eval.specs.Fitting.{FitTakings}
 use Rattle.spl_value.specs.Pairs.{are_pairs}
 use Rattle.std.proofs.Common.{drop, ◌*◌, ◌+◌, ◌≡◌}

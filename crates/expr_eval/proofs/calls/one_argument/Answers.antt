@@ -1,5 +1,0 @@
-use Rattle.expr_eval.proofs.Arguments.{collection_argument}
-use Rattle.expr_eval.proofs.calls.one_argument.Goals as goal
-
-pub size-requires : goal.size-requires
-size-requires c = collection_argument c.args.call c.args.first.now c.in-Size.is c.requires

@@ -1,9 +1,0 @@
-use Rattle.std.proofs.Common.{◌+◌, ◌*◌}
-use Rattle.expr_eval.proofs.changes.+change.Given as goal
-
--- each step takes one of the room
-abbrev pub decreases-change_at : goal.decreases-change_at
-decreases-change_at l = 2 * l.room
-
-abbrev pub decreases-change_at_key : goal.decreases-change_at_key
-decreases-change_at_key l = 2 * l.room + 1

@@ -1,6 +1,0 @@
-use Rattle.std.proofs.Common.{◌≡◌, map, take}
-use Rattle.spl_value.specs.declared.value.Value.{Value}
-use Rattle.expr_eval.proofs.elements.copied_keys.Given as goal
-
-abbrev pub invariant-loop-pair : goal.invariant-loop-pair
-invariant-loop-pair l = l.keys ≡ map (λ (p : Value × Value). p.0) (take l.pair-index l.pairs)

@@ -1,6 +1,0 @@
-use Rattle.std.proofs.Common.{◌≡◌, ◌++◌, map}
-use Rattle.spl_value.specs.declared.value.Value.{Value}
-use Rattle.expr_eval.proofs.elements.keys.Given as goal
-
-abbrev pub invariant-pairs : goal.invariant-pairs
-invariant-pairs l = l.keys ++ map (λ (p : Value × Value). p.0) l.key-iterator.rest.items ≡ map (λ (p : Value × Value). p.0) l.fn.pairs

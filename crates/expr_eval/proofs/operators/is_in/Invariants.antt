@@ -1,7 +1,0 @@
-use Rattle.std.proofs.Common.{◌≡◌, false, take}
-use Rattle.std.specs.List.{list_any}
-use Rattle.language_model.specs.Operators.{is_equal}
-use Rattle.expr_eval.proofs.operators.is_in.Given as goal
-
-abbrev pub invariant-elements : goal.invariant-elements
-invariant-elements l = list_any (is_equal l.value) (take l.element-index l.element-items) ≡ false

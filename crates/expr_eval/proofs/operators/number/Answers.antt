@@ -1,5 +1,0 @@
-use Rattle.expr_eval.proofs.Operands.{not_integer}
-use Rattle.expr_eval.proofs.operators.number.Goals as goal
-
-pub unreachable-requires : goal.unreachable-requires
-unreachable-requires c = not_integer c.args.value.now c.requires c.in_default.not-Int

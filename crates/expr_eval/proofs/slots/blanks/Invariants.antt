@@ -1,5 +1,0 @@
-use Rattle.std.proofs.Common.{◌≡◌, length}
-use Rattle.expr_eval.proofs.slots.blanks.Given as goal
-
-abbrev pub invariant-values : goal.invariant-values
-invariant-values l = length l.values ≡ l.counter

@@ -1,0 +1,15 @@
+mod Arguments
+mod Bits
+mod Changed
+mod Exact
+pub mod Following
+mod Indexes
+mod Operands
+mod Operating
+mod Parts
+mod PlaceSteps
+mod Placing
+mod Sizes
+mod Standing
+mod Unaries
+mod Wrapping

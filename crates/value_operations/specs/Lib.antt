@@ -1,0 +1,4 @@
+pub mod Answers
+pub mod Changing
+pub mod Fitting
+pub mod Taking

@@ -1,0 +1,22 @@
+//! Operations on the values that evaluations hold: operators, what is taken of values, changes within
+//! them, and the calls that the language has built in.
+#![tactic(auto)]
+
+mod calls;
+mod changes;
+mod collections;
+mod held;
+mod integers;
+mod operators;
+mod slots;
+mod stop;
+mod taking;
+
+pub use calls::{call_with_one, call_with_three, call_with_two};
+pub use changes::change_at;
+pub use collections::{elements, tuple_values};
+pub use held::{Held, evaluated, list_value, map_value, owned, stopped};
+pub use operators::{operator_with, unaries_of};
+pub use slots::{enter, is_marker, slot_value, truncate, truth_of, tuple_of};
+pub use stop::Stop;
+pub use taking::{element_at, member, take_step, value_at};

@@ -1,0 +1,100 @@
+//! What names, markers and fields stand for.
+ghost use Rattle.std.specs.Prelude.{◌≡◌, IsTrue, IfOk, Some, length, take};
+ghost use Rattle.spl_value.specs.declared.types.SplType.TheVariants as T;
+ghost use Rattle.spl_value.specs.Values.{fits};
+ghost use Rattle.language_model.specs.Evaluation.{slot_value, same_marker, tuple_of};
+ghost use Rattle.language_model.specs.Operators.{truth_of};
+ghost use Rattle.value_operations.specs.Answers.{Entered, ReadsHeld, Makes};
+ghost use Rattle.value_operations.specs.Fitting.{HasSlot, HasMarker, HaveEachPlace};
+
+use crate::held::Held;
+use crate::stop::Stop;
+use language_model::Env;
+use spl_tree::{Marker, Slot};
+use spl_value::{FaultKind, Items, Value, Values, copy_values};
+use std::alloc::{AllocError, Global};
+
+/// The value that a name stands for. The tuple of a port is a copy.
+pub fn slot_value(alloc: Global, env: &Env, slot: Slot) -> Result<Held<'_>, Stop>
+    requires { HasSlot env.now slot }
+    ensures { ReadsHeld (slot_value env.now slot) result }
+{
+    match slot {
+        Slot::Variable(place) => Ok(Held::Lent(&env.vars.as_slice()[place as usize])),
+        Slot::Attribute { port, attribute } => {
+            let tuple = &env.inputs.as_slice()[port as usize];
+            Ok(Held::Lent(&tuple.as_slice()[attribute as usize]))
+        }
+        Slot::Port(port) => {
+            let tuple = &env.inputs.as_slice()[port as usize];
+            Ok(Held::Own(Value::Tuple(copy_values(alloc, tuple.as_slice())?)))
+        }
+    }
+}
+
+/// Whether the marker that came is this one.
+pub fn is_marker(env: &Env, marker: Marker) -> bool
+    requires { HasMarker env.now }
+    ensures { (m : Marker) → env.now.punct ≡ Some m → result ≡ same_marker marker m }
+{
+    match env.punct {
+        Some(came) => came == marker,
+        None => unreachable!(),
+    }
+}
+
+/// The truth of a boolean.
+pub fn truth_of(value: &Value) -> bool
+    requires { IsTrue (fits T.Bool value.now) }
+    ensures { truth_of value.now ≡ Some result }
+{
+    match value {
+        Value::Bool(truth) => *truth,
+        _ => unreachable!(),
+    }
+}
+
+/// Takes a turn.
+pub fn enter(turns: &mut u32) -> Result<(), Stop>
+    ensures { Entered turns.old result turns.new }
+{
+    match turns.checked_sub(1) {
+        Some(left) => {
+            *turns = left;
+            Ok(())
+        }
+        None => Err(Stop::Fault(FaultKind::Turns)),
+    }
+}
+
+/// The tuple of fields, each with its place.
+pub fn tuple_of(alloc: Global, fields: Items<(u32, Value)>) -> Result<Values, Stop>
+    requires { HaveEachPlace fields }
+    ensures { Makes (tuple_of fields) result }
+{
+    let mut values = blanks(alloc, fields.len())?;
+    'fields: for (place, value) in fields.into_vec() {
+        values.set(place as usize, value);
+    }
+    Ok(values)
+}
+
+/// So many values, each of which is to be replaced.
+fn blanks(alloc: Global, count: usize) -> Result<Values, AllocError>
+    ensures { IfOk result (λ values. length values ≡ count) }
+{
+    let mut values = Items::with_capacity(alloc, count)?;
+    'values: for _ in 0..count {
+        values.push(Value::Bool(false))?;
+    }
+    Ok(values)
+}
+
+/// Takes out all behind the first `count` values.
+pub fn truncate(values: &mut Values, count: usize)
+    ensures { values.new ≡ take count values.old }
+{
+    'values: while values.len() > count {
+        values.pop();
+    }
+}
