@@ -1,13 +1,15 @@
 //! What is answered to texts of programs.
+ghost use Rattle.std.specs.Prelude.{◌≤◌, length};
+
 use crate::shells::SHELLS;
 use clause_rules::{CheckAnswer, check};
 use composite_expand::expand;
+use graph_texts::checked::{parts_text, schemas_text};
 use language_model::Checked;
 use spl_lexer::lex;
-use spl_tree::Unit;
+use spl_tree::{Tokens, Unit};
 use spl_value::Items;
 use std::alloc::{AllocError, Global};
-use test_texts::checked::{parts_text, schemas_text};
 use test_texts::refusals::check_refusal;
 use test_texts::rows::Answers;
 use test_texts::shells::program;
@@ -46,34 +48,44 @@ impl Answers for Bytes {
     }
 }
 
-// What is asked of a checked graph, or the refusal.
-fn shown(
-    alloc: Global,
-    found: Result<Checked, CheckAnswer>,
-    asked: Asked,
-) -> Result<String, AllocError> {
-    let checked = match found {
-        Ok(checked) => checked,
-        Err(CheckAnswer::Refused(refusal)) => return check_refusal(alloc, &refusal),
-        Err(CheckAnswer::Memory) => return "memory".to_string(alloc),
-    };
+fn shown(alloc: Global, checked: &Checked, asked: Asked) -> Result<String, AllocError> {
     match asked {
         Asked::Counts => format!(in alloc;
             "ok {} operators {} streams",
             checked.graph.ops.len(),
             checked.graph.streams.len()
         ),
-        Asked::Parts => parts_text(alloc, &checked),
-        Asked::Types => schemas_text(alloc, &checked),
+        Asked::Parts => parts_text(alloc, checked),
+        Asked::Types => schemas_text(alloc, checked),
     }
 }
 
-// The checked graph of a unit, where it has a graph.
-fn checked_of(alloc: Global, unit: &Unit) -> Option<Result<Checked, CheckAnswer>> {
+fn told(
+    alloc: Global,
+    found: Result<Checked, CheckAnswer>,
+    asked: Asked,
+) -> Result<String, AllocError> {
+    match found {
+        Ok(checked) => shown(alloc, &checked, asked),
+        Err(CheckAnswer::Refused(refusal)) => check_refusal(alloc, &refusal),
+        Err(CheckAnswer::Memory) => "memory".to_string(alloc),
+    }
+}
+
+fn expanded(alloc: Global, unit: &Unit, asked: Asked) -> Result<String, AllocError> {
     let names = Items::new(alloc);
     match expand(alloc, unit, &names) {
-        Ok(graph) => Some(check(alloc, unit, graph)),
-        Err(_) => None,
+        Ok(graph) => told(alloc, check(alloc, unit, graph), asked),
+        Err(_) => "no graph".to_string(alloc),
+    }
+}
+
+fn parsed(alloc: Global, tokens: &Tokens, asked: Asked) -> Result<String, AllocError>
+    requires { length tokens.now.list ≤ 1048576 }
+{
+    match parse_unit(alloc, tokens) {
+        Ok(unit) => expanded(alloc, &unit, asked),
+        Err(_) => "no tree".to_string(alloc),
     }
 }
 
@@ -84,11 +96,5 @@ fn answered(alloc: Global, program: &[u8], asked: Asked) -> Result<String, Alloc
     if tokens.list.len() > 1_048_576 {
         return "too many tokens".to_string(alloc);
     }
-    let Ok(unit) = parse_unit(alloc, &tokens) else {
-        return "no tree".to_string(alloc);
-    };
-    match checked_of(alloc, &unit) {
-        Some(found) => shown(alloc, found, asked),
-        None => "no graph".to_string(alloc),
-    }
+    parsed(alloc, &tokens, asked)
 }

@@ -5,30 +5,6 @@
 #[cfg(test)]
 mod answer;
 #[cfg(test)]
-mod bodies;
-#[cfg(test)]
-mod bytes;
-#[cfg(test)]
-mod dollars;
-#[cfg(test)]
-mod logic;
-#[cfg(test)]
-mod operators;
-#[cfg(test)]
-mod orders;
-#[cfg(test)]
-mod outputs;
-#[cfg(test)]
-mod parameters;
-#[cfg(test)]
-mod parts;
-#[cfg(test)]
 mod shells;
 #[cfg(test)]
-mod types;
-#[cfg(test)]
-mod values;
-#[cfg(test)]
-mod windows;
-#[cfg(test)]
-mod worked;
+mod tables;

@@ -3,15 +3,18 @@ use command_line::{Request, RunOptions, file_names, read_request};
 use spl_value::Name;
 use std::alloc::{AllocError, Global};
 use std::test::Fail;
-use test_texts::rows::{Answers, others};
+use test_texts::rows::{Answers, expect};
 use test_texts::signs::words;
 use test_texts::text::Text;
 
-// The request of a line: the command, the file name, and each option with its value.
-struct Requests;
-
-// The names that no sink may have.
-struct SinkNames;
+// What is asked of a command line.
+#[derive(Clone, Copy)]
+enum Asked {
+    // The request: the command, the file name, and each option with its value.
+    Request,
+    // The names that no sink may have.
+    SinkNames,
+}
 
 fn add_name(text: &mut Text, option: &str, name: &Name) {
     text.add(option);
@@ -70,20 +73,8 @@ fn add_request(text: &mut Text, request: &Request) {
     }
 }
 
-impl Answers for Requests {
-    fn answer(&self, alloc: Global, text: &str) -> Result<String, AllocError> {
-        let words = words(alloc, text)?;
-        let mut shown = Text::new(alloc);
-        match read_request(alloc, words.as_slice()) {
-            Ok(Some(request)) => add_request(&mut shown, &request),
-            Ok(None) => shown.add("none"),
-            Err(_) => shown.add("no memory"),
-        }
-        shown.finish()
-    }
-}
-
 fn add_names(alloc: Global, text: &mut Text, request: &Request) {
+    text.add("no sink:");
     match file_names(alloc, request) {
         Ok(names) => {
             for name in names.as_slice() {
@@ -94,28 +85,34 @@ fn add_names(alloc: Global, text: &mut Text, request: &Request) {
     }
 }
 
-impl Answers for SinkNames {
+fn add_asked(alloc: Global, text: &mut Text, asked: Asked, request: &Request) {
+    match asked {
+        Asked::Request => add_request(text, request),
+        Asked::SinkNames => add_names(alloc, text, request),
+    }
+}
+
+fn answered(alloc: Global, words: &[String], asked: Asked) -> Result<String, AllocError> {
+    let mut shown = Text::new(alloc);
+    match read_request(alloc, words) {
+        Ok(Some(request)) => add_asked(alloc, &mut shown, asked, &request),
+        Ok(None) => shown.add("none"),
+        Err(_) => shown.add("no memory"),
+    }
+    shown.finish()
+}
+
+impl Answers for Asked {
     fn answer(&self, alloc: Global, text: &str) -> Result<String, AllocError> {
         let words = words(alloc, text)?;
-        let mut shown = Text::new(alloc);
-        match read_request(alloc, words.as_slice()) {
-            Ok(Some(request)) => {
-                shown.add("no sink:");
-                add_names(alloc, &mut shown, &request);
-            }
-            Ok(None) => shown.add("none"),
-            Err(_) => shown.add("no memory"),
-        }
-        shown.finish()
+        answered(alloc, words.as_slice(), *self)
     }
 }
 
 #[test]
 fn command_lines_are_these_requests(rt: HostRuntime) -> Result<(), Fail> {
-    let alloc = rt.alloc();
-    let mut all = others(alloc, &Requests, REQUESTS)?;
-    all.push_str(others(alloc, &SinkNames, SINK_NAMES)?.as_str())?;
-    assert_eq!(rt; all.as_str(), "");
+    expect(rt.alloc(), &Asked::Request, &[REQUESTS])?;
+    expect(rt.alloc(), &Asked::SinkNames, &[SINK_NAMES])?;
     Ok(())
 }
 

@@ -1,5 +1,5 @@
 //! Expressions, and what of them other parts of a program have.
-use crate::asked::{MOST_TOKENS, refused};
+use crate::programs::{MOST_TOKENS, refused};
 use expr_parser::{
     ParsedExpr, Stop, Taken, after, name_first, parse_expr, pass, pass_name, read_elements,
     read_expression, read_items, read_steps, too_deep,
@@ -9,10 +9,9 @@ use spl_tree::{Expr, ExprKind, Exprs, Placed, Symbol, Token, TokenKind};
 use spl_value::Items;
 use std::alloc::{AllocError, Global};
 use std::test::Fail;
-use test_texts::rows::{Answers, others};
-use test_texts::spelled::spread;
+use test_texts::rows::{Answers, expect, expect_spread};
 use test_texts::text::Text;
-use test_texts::trees::expressions::add_expression;
+use tree_texts::expressions::add_expression;
 
 // The tree, and a number behind it.
 fn tree(alloc: Global, expr: &Expr, number: usize) -> Result<String, AllocError> {
@@ -248,13 +247,6 @@ a [ ] => unexpected 4
 a + @ 2 => unexpected 3
 "#;
 
-#[test]
-fn expressions_have_their_trees_or_first_refusals(rt: HostRuntime) -> Result<(), Fail> {
-    let others = others(rt.alloc(), &Expressions, ROWS)?;
-    assert_eq!(rt; others.as_str(), "");
-    Ok(())
-}
-
 const DEEP: &str = r#"
 # Parentheses nest up to their limit
 ( a )  => <a> 3
@@ -279,16 +271,6 @@ a ; «0 201 ( »a @ 203 => too deep 406
 # A hundred thousand tokens
 [ «0 49999 a , »a ] => [«0 49999 a, »a] 100001
 "#;
-
-#[test]
-fn long_and_deep_expressions_have_their_trees_or_first_refusals(
-    rt: HostRuntime,
-) -> Result<(), Fail> {
-    let rows = spread(rt.alloc(), DEEP)?;
-    let others = others(rt.alloc(), &Expressions, rows.as_str())?;
-    assert_eq!(rt; others.as_str(), "");
-    Ok(())
-}
 
 fn stopped(alloc: Global, stop: Stop<'_>) -> Result<String, AllocError> {
     match stop {
@@ -457,9 +439,10 @@ too deep: «0 300 ( » => 200
 "#;
 
 #[test]
-fn parts_with_expressions_are_read(rt: HostRuntime) -> Result<(), Fail> {
-    let rows = spread(rt.alloc(), PARTS)?;
-    let others = others(rt.alloc(), &Parts, rows.as_str())?;
-    assert_eq!(rt; others.as_str(), "");
+fn expressions_have_their_trees_or_first_refusals(rt: HostRuntime) -> Result<(), Fail> {
+    let alloc = rt.alloc();
+    expect(alloc, &Expressions, &[ROWS])?;
+    expect_spread(alloc, &Expressions, DEEP)?;
+    expect_spread(alloc, &Parts, PARTS)?;
     Ok(())
 }

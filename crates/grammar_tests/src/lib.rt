@@ -3,18 +3,8 @@
 #![tactic(auto)]
 
 #[cfg(test)]
-mod asked;
-#[cfg(test)]
-mod deep;
-#[cfg(test)]
-mod definitions;
-#[cfg(test)]
 mod expressions;
 #[cfg(test)]
-mod invocations;
-#[cfg(test)]
-mod places;
-#[cfg(test)]
-mod statements;
+mod programs;
 #[cfg(test)]
 mod tokens;

@@ -1,12 +1,12 @@
 //! Tokens.
 use spl_lexer::{LexAnswer, lex};
-use spl_tree::{LexicalError, Token, TokenKind};
+use spl_tree::{Token, TokenKind};
 use std::alloc::{AllocError, Global};
 use std::test::Fail;
-use test_texts::rows::{Answers, others};
-use test_texts::signs::without_signs;
+use test_texts::rows::{Answers, expect};
+use test_texts::signs::{without_signs, words};
 use test_texts::text::Text;
-use test_texts::tokens::add_token;
+use tree_texts::tokens::add_token;
 
 fn refused(alloc: Global, answer: LexAnswer) -> Result<String, AllocError> {
     match answer {
@@ -168,51 +168,69 @@ a b 1_ => BadNumber 4
 000000000000000000000000018446744073709551616ul => BadNumber 0
 "#;
 
+// How many tokens there are, or the refusal with its byte.
+fn counted(alloc: Global, program: &[u8]) -> Result<String, AllocError> {
+    match lex(alloc, program) {
+        Ok(tokens) => format!(in alloc; "{}", tokens.list.len()),
+        Err(answer) => refused(alloc, answer),
+    }
+}
+
+// A program of a mebibyte.
+fn program_of(alloc: Global, front: &str, fill: u8, back: &str) -> Result<Vec<u8>, AllocError> {
+    let mut program = front.as_bytes().to_vec(alloc)?;
+    program.resize(1_048_576usize.saturating_sub(back.len()), fill)?;
+    program.extend_from_slice(back.as_bytes())?;
+    Ok(program)
+}
+
+// How many tokens there are in a program, and in it with a byte more.
+fn counted_twice(alloc: Global, program: Vec<u8>) -> Result<String, AllocError> {
+    let mut program = program;
+    let mut text = counted(alloc, program.as_slice())?;
+    program.push(b'#')?;
+    text.push_str("; ")?;
+    text.push_str(counted(alloc, program.as_slice())?.as_str())?;
+    Ok(text)
+}
+
+// Programs of a mebibyte: what stands in front, what fills them up, and what stands at their ends.
+struct Filled;
+
+impl Answers for Filled {
+    fn answer(&self, alloc: Global, text: &str) -> Result<String, AllocError> {
+        let words = words(alloc, text)?;
+        let [front, fill, back] = words.as_slice() else {
+            return "no three words".to_string(alloc);
+        };
+        let [fill] = fill.as_str().as_bytes() else {
+            return "no byte".to_string(alloc);
+        };
+        counted_twice(
+            alloc,
+            program_of(alloc, front.as_str(), *fill, back.as_str())?,
+        )
+    }
+}
+
+const MEBIBYTE: &str = r#"
+∅ ␣ ∅ => 0; TooLong 1048576
+/* * */ => 0; TooLong 1048576
+// / / => 0; TooLong 1048576
+' x ' => 1; TooLong 1048576
+∅ 0 l => 1; TooLong 1048576
+∅ a ∅ => 1; TooLong 1048576
+∅ ( ∅ => 1048576; TooLong 1048576
+∅ 9 ∅ => BadNumber 0; TooLong 1048576
+∅ ␣ # => BadByte 1048575; TooLong 1048576
+"#;
+
 #[test]
 fn programs_have_their_tokens_or_first_refusals(rt: HostRuntime) -> Result<(), Fail> {
-    let others = others(rt.alloc(), &Lexed, ROWS)?;
-    assert_eq!(rt; others.as_str(), "");
-    Ok(())
-}
-
-// How many tokens there are, or the refusal.
-fn count(alloc: Global, bytes: &[u8]) -> Result<usize, LexAnswer> {
-    Ok(lex(alloc, bytes)?.list.len())
-}
-
-#[test]
-fn a_program_has_at_most_a_mebibyte(rt: HostRuntime) -> Result<(), Fail> {
     let alloc = rt.alloc();
-    for (front, b, back, want) in [
-        ("", b' ', "", Ok(0)),
-        ("/*", b'*', "*/", Ok(0)),
-        ("//", b'/', "/", Ok(0)),
-        ("'", b'x', "'", Ok(1)),
-        ("", b'0', "l", Ok(1)),
-        ("", b'a', "", Ok(1)),
-        ("", b'(', "", Ok(1_048_576)),
-        (
-            "",
-            b'9',
-            "",
-            Err(LexAnswer::Refused(LexicalError::BadNumber, 0)),
-        ),
-        (
-            "",
-            b' ',
-            "#",
-            Err(LexAnswer::Refused(LexicalError::BadByte, 1_048_575)),
-        ),
-    ] {
-        let mut program = front.as_bytes().to_vec(alloc)?;
-        let inside = 1_048_576 - front.len() - back.len();
-        program.append(&mut vec![in alloc; b; inside]?)?;
-        program.extend_from_slice(back.as_bytes())?;
-        assert_eq!(rt; count(alloc, program.as_slice()), want, "{front}");
-        program.push(b'#')?;
-        let long = Err(LexAnswer::Refused(LexicalError::TooLong, 1_048_576));
-        assert_eq!(rt; count(alloc, program.as_slice()), long, "{front}");
-    }
+    expect(alloc, &Lexed, &[ROWS])?;
+    expect(alloc, &Filled, &[MEBIBYTE])?;
+    assert_eq!(rt; counted(alloc, TRADES.as_bytes())?.as_str(), "303");
     Ok(())
 }
 
@@ -243,11 +261,6 @@ composite Main {
     () as BigOut = FileSink(C2) { param file: "big.csv"; format: csv; }
 }
 "#;
-
-#[test]
-fn a_program_has_its_tokens(rt: HostRuntime) {
-    assert_eq!(rt; count(rt.alloc(), TRADES.as_bytes()), Ok(303));
-}
 
 #[test]
 fn a_text_has_its_bytes(rt: HostRuntime) {

@@ -1,24 +1,28 @@
 //! What is answered to texts of programs.
+ghost use Rattle.std.specs.Prelude.{◌≤◌, length};
+
 use crate::shells::SHELLS;
+use crate::{graphs, large, refusals};
 use composite_expand::{ExpandAnswer, expand};
+use graph_texts::graphs::graph_text;
 use spl_lexer::lex;
-use spl_tree::Graph;
+use spl_tree::{Graph, Tokens, Unit};
 use spl_value::{Items, Name};
 use std::alloc::{AllocError, Global};
-use test_texts::graphs::graph_text;
+use std::test::Fail;
 use test_texts::refusals::expansion_refusal;
-use test_texts::rows::Answers;
+use test_texts::rows::{Answers, expect};
 use test_texts::shells::program;
 use unit_parser::parse_unit;
 
-/// What is asked of a program that isn't refused.
+// What is asked of a program that isn't refused.
 #[derive(Clone, Copy)]
-pub(crate) enum Asked {
-    /// Its graph.
+enum Asked {
+    // Its graph.
     Graph,
-    /// Its graph where the command line has the files `o` and `p`.
+    // Its graph where the command line has the files `o` and `p`.
     GraphBesideFiles,
-    /// How many operators, streams and bodies there are: `2 operators 1 streams 3 bodies`.
+    // How many operators, streams and bodies there are: `2 operators 1 streams 3 bodies`.
     Counts,
 }
 
@@ -45,23 +49,64 @@ fn shown(alloc: Global, graph: &Graph, asked: Asked) -> Result<String, AllocErro
     }
 }
 
+fn expanded(alloc: Global, unit: &Unit, asked: Asked) -> Result<String, AllocError> {
+    let files = files(alloc, asked)?;
+    match expand(alloc, unit, &files) {
+        Ok(graph) => shown(alloc, &graph, asked),
+        Err(ExpandAnswer::Refused(refusal)) => expansion_refusal(alloc, &refusal),
+        Err(ExpandAnswer::Memory) => "memory".to_string(alloc),
+    }
+}
+
+fn parsed(alloc: Global, tokens: &Tokens, asked: Asked) -> Result<String, AllocError>
+    requires { length tokens.now.list ≤ 1048576 }
+{
+    match parse_unit(alloc, tokens) {
+        Ok(unit) => expanded(alloc, &unit, asked),
+        Err(_) => "no tree".to_string(alloc),
+    }
+}
+
+fn answered(alloc: Global, program: &str, asked: Asked) -> Result<String, AllocError> {
+    let Ok(tokens) = lex(alloc, program.as_bytes()) else {
+        return "no tokens".to_string(alloc);
+    };
+    if tokens.list.len() > 1_048_576 {
+        return "too many tokens".to_string(alloc);
+    }
+    parsed(alloc, &tokens, asked)
+}
+
 impl Answers for Asked {
     fn answer(&self, alloc: Global, text: &str) -> Result<String, AllocError> {
         let program = program(alloc, SHELLS, text)?;
-        let files = files(alloc, *self)?;
-        let Ok(tokens) = lex(alloc, program.as_str().as_bytes()) else {
-            return "no tokens".to_string(alloc);
-        };
-        if tokens.list.len() > 1_048_576 {
-            return "too many tokens".to_string(alloc);
-        }
-        let Ok(unit) = parse_unit(alloc, &tokens) else {
-            return "no tree".to_string(alloc);
-        };
-        match expand(alloc, &unit, &files) {
-            Ok(graph) => shown(alloc, &graph, *self),
-            Err(ExpandAnswer::Refused(refusal)) => expansion_refusal(alloc, &refusal),
-            Err(ExpandAnswer::Memory) => "memory".to_string(alloc),
-        }
+        answered(alloc, program.as_str(), *self)
     }
+}
+
+#[test]
+fn programs_have_their_graphs_or_first_refusals(rt: HostRuntime) -> Result<(), Fail> {
+    let alloc = rt.alloc();
+    expect(alloc, &Asked::Graph, &[graphs::ROWS, refusals::ROWS])?;
+    expect(alloc, &Asked::GraphBesideFiles, &[refusals::BESIDE])?;
+    expect(alloc, &Asked::Counts, &[large::ROWS])?;
+    Ok(())
+}
+
+#[test]
+fn composites_may_nest_deep(rt: HostRuntime) -> Result<(), Fail> {
+    expect(rt.alloc(), &Asked::Counts, &[large::NESTED])?;
+    Ok(())
+}
+
+#[test]
+fn composites_far_from_one_another_may_too(rt: HostRuntime) -> Result<(), Fail> {
+    expect(rt.alloc(), &Asked::Counts, &[large::SCATTERED])?;
+    Ok(())
+}
+
+#[test]
+fn long_circles_are_refused(rt: HostRuntime) -> Result<(), Fail> {
+    expect(rt.alloc(), &Asked::Counts, &[large::CIRCLES])?;
+    Ok(())
 }

@@ -1,9 +1,6 @@
 //! Programs that have a graph.
-use crate::answer::Asked;
-use std::test::Fail;
-use test_texts::rows::others;
 
-const ROWS: &str = r#"
+pub(crate) const ROWS: &str = r#"
 # Operators stand in the order of the text.
 composite A {} =>  |  | 0:
 composite A {} composite Main {graph stream<T> B = FileSource();} => FileSource B() 0 | 0 | 1: 0
@@ -34,10 +31,3 @@ composite M {graph stream<T> A = Union(B, C); stream<T> B = Filter(D); stream<T>
 # the search begins anew at the first
 composite M {graph stream<T> A = Filter(B); stream<T> B = FileSource(); stream<T> C = FileSource();} => Filter A(1) 0; FileSource B() 1; FileSource C() 2 | 1 0 2 | 0: 0 1 2
 "#;
-
-#[test]
-fn programs_have_their_graphs(rt: HostRuntime) -> Result<(), Fail> {
-    let others = others(rt.alloc(), &Asked::Graph, ROWS)?;
-    assert_eq!(rt; others.as_str(), "");
-    Ok(())
-}

@@ -1,9 +1,6 @@
 //! Long programs, programs that nest deep, and programs that grow fast.
-use crate::answer::Asked;
-use std::test::Fail;
-use test_texts::rows::others;
 
-const ROWS: &str = r#"
+pub(crate) const ROWS: &str = r#"
 # As many operators as there may be, and one more.
 composite Main {graph «1000 256 stream<T> S{n} as A{n+1} = FileSource(); »} => 256 operators 256 streams 1 bodies
 composite Main {graph «1000 257 stream<T> S{n} as A{n+1} = FileSource(); »} => E6 at 10518
@@ -26,46 +23,18 @@ composite Main {graph «1000 255 stream<T> S{n} = Filter(S{n+1}); »stream<T> S1
 composite C(input I«1 255 , I{n}») {graph () as X = FileSink(I); «1 253 () as X{n} = FileSink(I{n}); »} composite D(input I) {graph () as X = C(I«1 255 ; I»);} composite Main {graph stream<T> S = FileSource(); (stream<T> A«1 999 ; stream<T> A{n}») = Split(S) {param index: 0;} () as B = D(A«1 999 , A{n}»);} => 256 operators 1001 streams 3 bodies
 "#;
 
-#[test]
-fn large_programs_are_answered(rt: HostRuntime) -> Result<(), Fail> {
-    let others = others(rt.alloc(), &Asked::Counts, ROWS)?;
-    assert_eq!(rt; others.as_str(), "");
-    Ok(())
-}
-
-const NESTED: &str = r#"
+pub(crate) const NESTED: &str = r#"
 # One body in another, many times.
 «10000 20000 composite C{n} {graph () as X = C{n+1}();} »composite C30000 {graph () as X = FileSink(S); stream<T> S = FileSource();} composite Main {graph () as A = C10000();} => 2 operators 1 streams 20002 bodies
 "#;
 
-#[test]
-fn composites_may_nest_deep(rt: HostRuntime) -> Result<(), Fail> {
-    let others = others(rt.alloc(), &Asked::Counts, NESTED)?;
-    assert_eq!(rt; others.as_str(), "");
-    Ok(())
-}
-
-const SCATTERED: &str = r#"
+pub(crate) const SCATTERED: &str = r#"
 # The same where they stand far from one another in the text.
 «1000 2000 composite C{n}0 {graph () as X = C{n}1();} »«1000 2000 composite C{n}1 {graph () as X = C{n}2();} »«1000 2000 composite C{n}2 {graph () as X = C{n}3();} »«1000 2000 composite C{n}3 {graph () as X = C{n}4();} »«1000 2000 composite C{n}4 {graph () as X = C{n}5();} »«1000 2000 composite C{n}5 {graph () as X = C{n}6();} »«1000 2000 composite C{n}6 {graph () as X = C{n}7();} »«1000 2000 composite C{n}7 {graph () as X = C{n}8();} »«1000 2000 composite C{n}8 {graph () as X = C{n}9();} »«1000 2000 composite C{n}9 {graph () as X = C{n+1}0();} »composite C30000 {graph stream<T> S = FileSource();} composite Main {graph () as A = C10000();} => 1 operators 1 streams 20002 bodies
 "#;
 
-#[test]
-fn composites_far_from_one_another_may_too(rt: HostRuntime) -> Result<(), Fail> {
-    let others = others(rt.alloc(), &Asked::Counts, SCATTERED)?;
-    assert_eq!(rt; others.as_str(), "");
-    Ok(())
-}
-
-const CIRCLES: &str = r#"
+pub(crate) const CIRCLES: &str = r#"
 # The last composite reaches the first one, and itself.
 composite Main {} «10000 20000 composite C{n} {graph () as X = C{n+1}();} »composite C30000 {graph () as X = C10000();} => E2 at 42 C10000
 composite Main {} «10000 2000 composite C{n} {graph () as X = C{n+1}();} »composite C12000 {graph () as X = C12000();} => E2 at 90042 C12000
 "#;
-
-#[test]
-fn long_circles_are_refused(rt: HostRuntime) -> Result<(), Fail> {
-    let others = others(rt.alloc(), &Asked::Counts, CIRCLES)?;
-    assert_eq!(rt; others.as_str(), "");
-    Ok(())
-}

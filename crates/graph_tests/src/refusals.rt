@@ -1,9 +1,6 @@
 //! Programs that are refused.
-use crate::answer::Asked;
-use std::test::Fail;
-use test_texts::rows::others;
 
-const ROWS: &str = r#"
+pub(crate) const ROWS: &str = r#"
 # A program has a main composite.
  => E1 at 0
 type T = int8; => E1 at 0
@@ -164,24 +161,10 @@ composite M {graph stream<T> A = Filter(A); () as X = FileSink(S);} => E7 at 63 
 composite M {graph stream<T> A = Filter(A); () as X = FileSink(S) {param file: "a";} stream<T> S = FileSource() {param file: "a";}} => E4 at 19 A
 "#;
 
-#[test]
-fn the_first_refusal_counts(rt: HostRuntime) -> Result<(), Fail> {
-    let others = others(rt.alloc(), &Asked::Graph, ROWS)?;
-    assert_eq!(rt; others.as_str(), "");
-    Ok(())
-}
-
-const BESIDE: &str = r#"
+pub(crate) const BESIDE: &str = r#"
 # No sink has a file of the command line.
 composite M {graph stream<T> S = FileSource() {param file: "o";} () as X = FileSink(S) {param file: "p";}} => E5 at 65 p
 composite M {graph stream<T> S = FileSource() {param file: "o";} () as X = FileSink(S) {param file: "q";}} => FileSource S() 0; FileSink X(0) | 0 1 | 0: 0
 files: () as X = FileSink(I) {param file: 'o';} => E5 at 140 o
 files: stream<T> X = FileSource() {param file: 'o';} => FileSource S() 0; FileSource A.X() 1 | 0 1 | 1: 0; 0@0.1: 1 (1 from 0)
 "#;
-
-#[test]
-fn no_sink_has_a_file_of_the_command_line(rt: HostRuntime) -> Result<(), Fail> {
-    let others = others(rt.alloc(), &Asked::GraphBesideFiles, BESIDE)?;
-    assert_eq!(rt; others.as_str(), "");
-    Ok(())
-}

@@ -1,22 +1,8 @@
-//! Texts of expressions and bodies against what they are and come to by the rules of the language, worked
-//! out by hand.
+//! Texts of expressions and statements against what they are by the rules of the language, worked out by
+//! hand.
 #![tactic(auto)]
 
-#[cfg(test)]
-mod bodies;
-#[cfg(test)]
-mod chains;
-#[cfg(test)]
-mod context;
-#[cfg(test)]
-mod reading;
-#[cfg(test)]
-mod scopes;
 #[cfg(test)]
 mod statements;
 #[cfg(test)]
 mod types;
-#[cfg(test)]
-mod unanswered;
-#[cfg(test)]
-mod values;

@@ -3,19 +3,18 @@ ghost use Rattle.std.specs.Prelude.{◌≤◌, length};
 
 mod tables;
 
-use crate::reading::{expr_from, tokens_of};
-use crate::scopes::{scope_in, scope_of};
 use crate::types::scoped;
-use crate::unanswered::{Unanswered, finish};
 use expr_parser::parse_expr;
+use graph_texts::statements::add_statement;
 use language_model::Scope;
 use spl_tree::{BinaryOperator, Body, Expr, Marker, Statement, Symbol, Token, TokenKind, Tokens};
 use spl_value::Items;
 use std::alloc::{AllocError, Global};
-use std::process::Abort;
 use std::test::Fail;
-use test_texts::rows::{Answers, others};
-use test_texts::statements::add_statement;
+use test_scopes::reading::{expr_from, tokens_of};
+use test_scopes::scopes::{scope_in, scope_of};
+use test_scopes::unanswered::{Unanswered, finish};
+use test_texts::rows::{Answers, Untrue, expect};
 use test_texts::text::Text;
 use type_rules::{assignment_of, call_of, compound_of};
 
@@ -111,29 +110,23 @@ impl Answers for Statements {
     }
 }
 
-fn expect(rt: &impl Abort, alloc: Global, scope: Scope, table: &str) -> Result<(), AllocError> {
-    assert_eq!(*rt; others(alloc, &Statements { scope }, table)?.as_str(), "");
-    Ok(())
+// Whether each row of a table has its answer in a scope.
+fn expect_in(alloc: Global, scope: Scope, table: &str) -> Result<(), Untrue> {
+    expect(alloc, &Statements { scope }, &[table])
 }
 
 #[test]
 fn statements_are_what_they_say(rt: HostRuntime) -> Result<(), Fail> {
     let alloc = rt.alloc();
-    expect(
-        &rt,
-        alloc,
-        scope_of(alloc, scoped::UNIT, None)?,
-        tables::ROWS,
-    )?;
-    expect(
-        &rt,
+    expect_in(alloc, scope_of(alloc, scoped::UNIT, None)?, tables::ROWS)?;
+    expect_in(
         alloc,
         scope_of(alloc, scoped::HIDING, None)?,
         tables::HIDDEN,
     )?;
     let composite = scope_in(alloc, scoped::UNIT, scoped::COMPOSITE)?;
-    expect(&rt, alloc, composite, tables::IN_COMPOSITE)?;
+    expect_in(alloc, composite, tables::IN_COMPOSITE)?;
     let marked = scope_of(alloc, scoped::UNIT, Some(Marker::Window))?;
-    expect(&rt, alloc, marked, tables::MARKED)?;
+    expect_in(alloc, marked, tables::MARKED)?;
     Ok(())
 }

@@ -2,15 +2,16 @@
 ghost use Rattle.std.specs.Prelude.{map, IfOk};
 ghost use Rattle.file_adapters.specs.Sinks.{AreDistinct};
 
-use crate::shown::{add_faults, add_held, bytes, cut, number, numbers};
+use crate::shown::{add_faults, add_held, numbers};
 use feed_pour::MemoryShelf;
 use file_adapters::{Sink, Sunk, number_stream, write_sinks};
-use spl_value::{Item, Items, Name, Value};
+use spl_value::{Item, Items, Name, Value, Values};
 use std::alloc::{AllocError, Global};
 use std::test::Fail;
-use test_texts::rows::{Answers, others};
+use test_texts::rows::{Answers, expect};
 use test_texts::signs::{with_signs, without_signs, words};
 use test_texts::text::Text;
+use test_texts::words::{bytes, cut, number};
 
 // The bytes of a source.
 struct Sources;
@@ -68,28 +69,31 @@ fn value_of(alloc: Global, word: &str) -> Result<Value, AllocError> {
     }
 }
 
-// The stream of one tuple.
-fn stream_of(alloc: Global, row: &str) -> Result<Items<Item>, AllocError> {
+fn tuple_of(alloc: Global, row: &str) -> Result<Values, AllocError> {
     let mut values = Items::new(alloc);
     for word in words(alloc, row)?.as_slice() {
         values.push(value_of(alloc, word.as_str())?)?;
     }
-    let mut items = Items::new(alloc);
-    items.push(Item::Tuple(values))?;
-    Ok(items)
+    Ok(values)
 }
 
-// A stream with a tuple of each text.
-fn texts(alloc: Global, texts: &[&str]) -> Result<Items<Item>, AllocError> {
+// A stream with a tuple of each row, and with markers behind them.
+fn stream_of(alloc: Global, rows: &str) -> Result<Items<Item>, AllocError> {
     let mut items = Items::new(alloc);
-    for text in texts {
-        let mut values = Items::new(alloc);
-        values.push(Value::Text(bytes(alloc, text)?))?;
-        items.push(Item::Tuple(values))?;
+    for row in rows.split(" | ") {
+        items.push(Item::Tuple(tuple_of(alloc, row)?))?;
     }
     items.push(Item::Window)?;
     items.push(Item::Final)?;
     Ok(items)
+}
+
+fn streams_of(alloc: Global, texts: &[&str]) -> Result<Items<Items<Item>>, AllocError> {
+    let mut streams = Items::new(alloc);
+    for rows in texts {
+        streams.push(stream_of(alloc, rows)?)?;
+    }
+    Ok(streams)
 }
 
 fn no_sinks(alloc: Global) -> Items<Sink>
@@ -116,20 +120,18 @@ fn two_sinks(alloc: Global, first: u32, second: u32) -> Result<Items<Sink>, Allo
     Ok(sinks)
 }
 
-// The stream 0 of one tuple.
-fn one_stream(alloc: Global, row: &str) -> Result<Items<Items<Item>>, AllocError> {
-    let mut streams = Items::new(alloc);
-    streams.push(stream_of(alloc, row)?)?;
-    Ok(streams)
-}
-
-// What comes of the sinks of the streams 0 and 1.
-fn both_sunk(
+// What comes of sinks of these streams.
+fn sunk_of(
     alloc: Global,
     shelf: &mut MemoryShelf,
+    sinks: &str,
     streams: &Items<Items<Item>>,
 ) -> Result<Sunk, AllocError> {
-    let sinks = two_sinks(alloc, 0, 1)?;
+    if sinks == "none" {
+        return Ok(write_sinks(alloc, shelf, &no_sinks(alloc), streams));
+    }
+    let (first, second) = cut(sinks);
+    let sinks = two_sinks(alloc, number(first), number(second))?;
     Ok(write_sinks(alloc, shelf, &sinks, streams))
 }
 
@@ -139,16 +141,23 @@ fn shown_row(alloc: Global, shelf: &MemoryShelf, sunk: &Sunk) -> Result<String, 
     add_sunk(&mut shown, sunk);
     shown.add("; ");
     add_held(&mut shown, shelf.file(&name));
-    shown.finish()
+    with_signs(alloc, shown.finish()?.as_str())
+}
+
+// What comes of a stream of the file `a`.
+fn row_sunk(
+    alloc: Global,
+    shelf: &mut MemoryShelf,
+    streams: &Items<Items<Item>>,
+) -> Result<String, AllocError> {
+    let sunk = sunk_of(alloc, shelf, "0 1", streams)?;
+    shown_row(alloc, shelf, &sunk)
 }
 
 impl Answers for Rows {
     fn answer(&self, alloc: Global, text: &str) -> Result<String, AllocError> {
-        let streams = one_stream(alloc, text)?;
-        let mut shelf = MemoryShelf::new(alloc);
-        let sunk = both_sunk(alloc, &mut shelf, &streams)?;
-        let shown = shown_row(alloc, &shelf, &sunk)?;
-        with_signs(alloc, shown.as_str())
+        let streams = streams_of(alloc, &[text])?;
+        row_sunk(alloc, &mut MemoryShelf::new(alloc), &streams)
     }
 }
 
@@ -183,11 +192,13 @@ fn fail(alloc: Global, shelf: &mut MemoryShelf, failing: &str) -> Result<(), All
     done.map_err(|_| AllocError)
 }
 
-// Puts two files on the shelf, and lets calls fail.
-fn prepare(alloc: Global, shelf: &mut MemoryShelf, failing: &str) -> Result<(), AllocError> {
-    put(alloc, shelf, "b", "was here")?;
-    put(alloc, shelf, "c", "stays")?;
-    fail(alloc, shelf, failing)
+// A shelf with two files, some of whose calls fail.
+fn shelf_of(alloc: Global, failing: &str) -> Result<MemoryShelf, AllocError> {
+    let mut shelf = MemoryShelf::new(alloc);
+    put(alloc, &mut shelf, "b", "was here")?;
+    put(alloc, &mut shelf, "c", "stays")?;
+    fail(alloc, &mut shelf, failing)?;
+    Ok(shelf)
 }
 
 fn add_file(text: &mut Text, shelf: &MemoryShelf, name: &Name) {
@@ -199,56 +210,41 @@ fn add_file(text: &mut Text, shelf: &MemoryShelf, name: &Name) {
     add_faults(text, shelf.tallies(name));
 }
 
-fn two_streams(alloc: Global) -> Result<Items<Items<Item>>, AllocError> {
-    let mut streams = Items::new(alloc);
-    streams.push(texts(alloc, &["1", "2", "3"])?)?;
-    streams.push(texts(alloc, &["x,y", "z"])?)?;
-    Ok(streams)
-}
-
-// What comes of sinks of two streams.
-fn sunk_of(alloc: Global, shelf: &mut MemoryShelf, sinks: &str) -> Result<Sunk, AllocError> {
-    let streams = two_streams(alloc)?;
-    if sinks == "none" {
-        return Ok(write_sinks(alloc, shelf, &no_sinks(alloc), &streams));
-    }
-    let (first, second) = cut(sinks);
-    let sinks = two_sinks(alloc, number(first), number(second))?;
-    Ok(write_sinks(alloc, shelf, &sinks, &streams))
-}
-
 fn shown_files(alloc: Global, shelf: &MemoryShelf, sunk: &Sunk) -> Result<String, AllocError> {
     let mut shown = Text::new(alloc);
     add_sunk(&mut shown, sunk);
-    for name in ["a", "b", "c"] {
+    for name in "a b c".split(' ') {
         add_file(&mut shown, shelf, &bytes(alloc, name)?);
     }
-    shown.finish()
+    with_signs(alloc, shown.finish()?.as_str())
+}
+
+// What comes of sinks of two streams.
+fn files_sunk(
+    alloc: Global,
+    shelf: &mut MemoryShelf,
+    sinks: &str,
+    streams: &Items<Items<Item>>,
+) -> Result<String, AllocError> {
+    let sunk = sunk_of(alloc, shelf, sinks, streams)?;
+    shown_files(alloc, shelf, &sunk)
 }
 
 impl Answers for Sinks {
     fn answer(&self, alloc: Global, text: &str) -> Result<String, AllocError> {
         let (sinks, failing) = text.split_once(" | ").unwrap_or((text, ""));
-        let mut shelf = MemoryShelf::new(alloc);
-        prepare(alloc, &mut shelf, failing)?;
-        let sunk = sunk_of(alloc, &mut shelf, sinks)?;
-        let shown = shown_files(alloc, &shelf, &sunk)?;
-        with_signs(alloc, shown.as_str())
+        let streams = streams_of(alloc, &["1 | 2 | 3", "x,y | z"])?;
+        let mut shelf = shelf_of(alloc, failing)?;
+        files_sunk(alloc, &mut shelf, sinks, &streams)
     }
 }
 
 #[test]
-fn sources_are_these_streams(rt: HostRuntime) -> Result<(), Fail> {
-    assert_eq!(rt; others(rt.alloc(), &Sources, SOURCES)?.as_str(), "");
-    Ok(())
-}
-
-#[test]
-fn streams_are_written_to_sinks(rt: HostRuntime) -> Result<(), Fail> {
+fn sources_and_sinks_have_these_streams(rt: HostRuntime) -> Result<(), Fail> {
     let alloc = rt.alloc();
-    let mut all = others(alloc, &Rows, ROWS)?;
-    all.push_str(others(alloc, &Sinks, SINKS)?.as_str())?;
-    assert_eq!(rt; all.as_str(), "");
+    expect(alloc, &Sources, &[SOURCES])?;
+    expect(alloc, &Rows, &[ROWS])?;
+    expect(alloc, &Sinks, &[SINKS])?;
     Ok(())
 }
 

@@ -1,5 +1,5 @@
 //! Feeds and pours alone, and who starts.
-use crate::shown::{bytes, cut, fives, number, numbers};
+use crate::shown::{fives, numbers};
 use feed_pour::{
     AllStart, Failed, Feed, Gate, MemoryFeed, MemoryPour, NotThese, OpenGate, PlainFeed, PlainPour,
     Pour, PourAnswer, ReadAll, Starter, StdoutPour, read_all, write_all,
@@ -9,9 +9,10 @@ use std::alloc::{AllocError, Global};
 use std::io;
 use std::io::Write;
 use std::test::Fail;
-use test_texts::rows::{Answers, others};
+use test_texts::rows::{Answers, expect};
 use test_texts::signs::{with_signs, without_signs};
 use test_texts::text::Text;
+use test_texts::words::{bytes, cut, number};
 
 // A feed of so many bytes, of whose reads one of this number fails and the 90th: how many bytes reads of
 // 8,192 give, and whether one fails.
@@ -31,17 +32,19 @@ fn drained(feed: &mut MemoryFeed) -> (usize, bool) {
     (size, false)
 }
 
+fn feed_of(alloc: Global, text: &str) -> Result<MemoryFeed, AllocError> {
+    let (size, failing) = cut(text);
+    let mut failing = numbers(alloc, failing)?;
+    failing.push(90)?;
+    Ok(MemoryFeed::new(fives(alloc, number(size))?, failing))
+}
+
 impl Answers for FeedReads {
     fn answer(&self, alloc: Global, text: &str) -> Result<String, AllocError> {
-        let (size, failing) = cut(text);
-        let mut failing = numbers(alloc, failing)?;
-        failing.push(90)?;
-        let mut feed = MemoryFeed::new(fives(alloc, number(size))?, failing);
+        let mut feed = feed_of(alloc, text)?;
         let (given, has_failed) = drained(&mut feed);
-        let mut shown = Text::new(alloc);
-        shown.add_number(given as i128);
-        shown.add(if has_failed { " and failed" } else { " in all" });
-        shown.finish()
+        let end = if has_failed { "and failed" } else { "in all" };
+        format!(in alloc; "{given} {end}")
     }
 }
 
@@ -132,20 +135,6 @@ const PLAIN_REST: &str = r#"
 alone => 2; one; one
 "#;
 
-// Those rows that have other answers.
-fn others_of_all(alloc: Global) -> Result<String, AllocError> {
-    let mut all = others(alloc, &FeedReads, READS)?;
-    all.push_str(others(alloc, &PourWrites, POUR_WRITES)?.as_str())?;
-    all.push_str(others(alloc, &PlainRest, PLAIN_REST)?.as_str())?;
-    Ok(all)
-}
-
-#[test]
-fn feeds_and_pours_in_memory_answer_as_their_rows_say(rt: HostRuntime) -> Result<(), Fail> {
-    assert_eq!(rt; others_of_all(rt.alloc())?.as_str(), "");
-    Ok(())
-}
-
 #[derive(Drop)]
 struct Full;
 
@@ -169,12 +158,14 @@ fn poured(alloc: Global) -> Result<String, AllocError> {
     text.finish()
 }
 
-#[test]
-fn a_pour_over_a_writer_counts_its_faults(rt: HostRuntime) -> Result<(), Fail> {
-    assert_eq!(rt; poured(rt.alloc())?.as_str(), "row\n");
+// What a pour answers on a writer that takes nothing.
+fn refused(alloc: Global) -> Result<String, AllocError> {
     let mut full = StdoutPour::new(Full);
-    assert!(rt; full.write(b"row\n") == Err(PourAnswer::Failed));
-    Ok(())
+    match full.write(b"row\n") {
+        Ok(_) => "taken".to_string(alloc),
+        Err(PourAnswer::Failed) => "failed".to_string(alloc),
+        Err(PourAnswer::Memory) => "no memory".to_string(alloc),
+    }
 }
 
 // Who starts of the groups 0 to 3.
@@ -186,12 +177,39 @@ fn started<S: Starter>(alloc: Global, starter: &mut S) -> Result<String, AllocEr
     text.finish()
 }
 
-#[test]
-fn starters_answer_by_group(rt: HostRuntime) -> Result<(), Fail> {
-    let alloc = rt.alloc();
+fn all_but_two(alloc: Global) -> Result<NotThese, AllocError> {
     let groups = Items::from_slice(alloc, &[1u32, 3])?;
-    assert_eq!(rt; started(alloc, &mut NotThese { groups })?.as_str(), "+-+-");
-    assert_eq!(rt; started(alloc, &mut AllStart)?.as_str(), "++++");
-    OpenGate.before_put(0, 0);
+    Ok(NotThese { groups })
+}
+
+// Pours over writers, and who starts.
+struct Calls;
+
+impl Answers for Calls {
+    fn answer(&self, alloc: Global, text: &str) -> Result<String, AllocError> {
+        OpenGate.before_put(0, 0);
+        match text {
+            "poured" => with_signs(alloc, poured(alloc)?.as_str()),
+            "refused" => refused(alloc),
+            "all but 1 and 3" => started(alloc, &mut all_but_two(alloc)?),
+            _ => started(alloc, &mut AllStart),
+        }
+    }
+}
+
+const CALLS: &str = r#"
+poured => row␊
+refused => failed
+all but 1 and 3 => +-+-
+all => ++++
+"#;
+
+#[test]
+fn feeds_pours_and_starters_answer_as_their_rows_say(rt: HostRuntime) -> Result<(), Fail> {
+    let alloc = rt.alloc();
+    expect(alloc, &FeedReads, &[READS])?;
+    expect(alloc, &PourWrites, &[POUR_WRITES])?;
+    expect(alloc, &PlainRest, &[PLAIN_REST])?;
+    expect(alloc, &Calls, &[CALLS])?;
     Ok(())
 }

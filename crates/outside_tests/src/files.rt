@@ -1,12 +1,14 @@
 //! The system's files.
-use crate::shown::{add_faults, bytes};
+use crate::shown::add_faults;
 use feed_pour::{Fetched, FileShelf, Opened, Shelf, fetch, write_all};
 use spl_value::{Bytes, Items};
 use std::alloc::{AllocError, Global};
 use std::fs;
 use std::rt::Files;
 use std::test::Fail;
+use test_texts::rows::{compare, no_others};
 use test_texts::text::Text;
+use test_texts::words::bytes;
 
 // 200,000 bytes, in rows of ten.
 fn rows(alloc: Global) -> Result<Vec<u8>, AllocError> {
@@ -86,20 +88,6 @@ where
     text.finish()
 }
 
-#[test]
-fn files_are_written_and_read(rt: HostRuntime) -> Result<(), Fail> {
-    let alloc = rt.alloc();
-    let path = "outside_tests_files_are_written_and_read.rows";
-    let mut shelf = FileShelf::new(rt.clone()?, alloc);
-    let seen = written_and_read(alloc, &mut shelf, path)?;
-    fs::remove_file(&rt, path)?;
-    assert_eq!(rt;
-        seen.as_str(),
-        "not opened; 1 0 0 0; written and read; 1 0 0 0"
-    );
-    Ok(())
-}
-
 // What is answered to a name that isn't UTF-8.
 fn no_text<R: Files + Drop>(alloc: Global, shelf: &mut FileShelf<R>) -> Result<String, AllocError>
 where
@@ -134,16 +122,34 @@ where
     text.finish()
 }
 
+// What is answered otherwise than it is to be, where this is the path of no file.
+fn others<R: Files + Drop>(
+    alloc: Global,
+    shelf: &mut FileShelf<R>,
+    path: &str,
+) -> Result<String, AllocError>
+where
+    R::File: Send,
+{
+    let mut others = String::new(alloc);
+    let seen = written_and_read(alloc, shelf, path)?;
+    let wanted = "not opened; 1 0 0 0; written and read; 1 0 0 0";
+    compare(&mut others, path, seen.as_str(), wanted)?;
+    let seen = no_text(alloc, shelf)?;
+    let wanted = "not opened; not created; 1 1 0 0";
+    compare(&mut others, "no text", seen.as_str(), wanted)?;
+    let seen = full_device(alloc, shelf)?;
+    let wanted = "; not written; 0 0 0 1; not written; 0 0 0 2";
+    compare(&mut others, "a full device", seen.as_str(), wanted)?;
+    Ok(others)
+}
+
 #[test]
-fn names_that_are_no_text_and_full_devices_fail(rt: HostRuntime) -> Result<(), Fail> {
-    let alloc = rt.alloc();
-    let mut shelf = FileShelf::new(rt.clone()?, alloc);
-    let seen = no_text(alloc, &mut shelf)?;
-    assert_eq!(rt; seen.as_str(), "not opened; not created; 1 1 0 0");
-    let seen = full_device(alloc, &mut shelf)?;
-    assert_eq!(rt;
-        seen.as_str(),
-        "; not written; 0 0 0 1; not written; 0 0 0 2"
-    );
+fn files_are_written_and_read_or_fail(rt: HostRuntime) -> Result<(), Fail> {
+    let path = "outside_tests_files_are_written_and_read.rows";
+    let mut shelf = FileShelf::new(rt.clone()?, rt.alloc());
+    let others = others(rt.alloc(), &mut shelf, path)?;
+    fs::remove_file(&rt, path)?;
+    no_others(others)?;
     Ok(())
 }

@@ -1,79 +1,64 @@
 //! The lines that tell why the program ended.
-use crate::shown::{add_held, cut, number};
-use language_model::CheckError;
-use run_report::{Cause, Code, ExpansionError, Refusal, status_text};
-use spl_tree::LexicalError;
+use crate::shown::add_held;
+use language_model::CheckError as Check;
+use run_report::{Cause, Code, ExpansionError as Expansion, Refusal, status_text};
+use spl_tree::LexicalError as Lexical;
 use spl_value::Items;
 use std::alloc::{AllocError, Global};
 use std::test::Fail;
-use test_texts::rows::{Answers, others};
+use test_texts::rows::{Answers, expect};
 use test_texts::signs::with_signs;
 use test_texts::text::Text;
+use test_texts::words::{cut, number};
 
 // Causes other than faults, each by its name; a refusal with its place and its name.
 struct Lines;
 
-fn lexical_code(name: &str) -> Option<Code> {
-    let error = match name {
-        "BadByte" => LexicalError::BadByte,
-        "OpenText" => LexicalError::OpenText,
-        "OpenComment" => LexicalError::OpenComment,
-        "BadNumber" => LexicalError::BadNumber,
-        "TooLong" => LexicalError::TooLong,
-        _ => return None,
-    };
-    Some(Code::Lexical(error))
-}
+const CODES: &[(&str, Code)] = &[
+    ("lexical BadByte", Code::Lexical(Lexical::BadByte)),
+    ("lexical OpenText", Code::Lexical(Lexical::OpenText)),
+    ("lexical OpenComment", Code::Lexical(Lexical::OpenComment)),
+    ("lexical BadNumber", Code::Lexical(Lexical::BadNumber)),
+    ("lexical TooLong", Code::Lexical(Lexical::TooLong)),
+    ("syntax Unexpected", Code::Unexpected),
+    ("syntax TooDeep", Code::TooDeep),
+    ("expansion NoMain", Code::Expansion(Expansion::NoMain)),
+    ("expansion Recursive", Code::Expansion(Expansion::Recursive)),
+    ("expansion Twice", Code::Expansion(Expansion::Twice)),
+    ("expansion Loop", Code::Expansion(Expansion::Loop)),
+    ("expansion SameFile", Code::Expansion(Expansion::SameFile)),
+    ("expansion TooMany", Code::Expansion(Expansion::TooMany)),
+    ("expansion Unknown", Code::Expansion(Expansion::Unknown)),
+    ("expansion Ports", Code::Expansion(Expansion::Ports)),
+    ("check Unknown", Code::Check(Check::Unknown)),
+    ("check Mismatch", Code::Check(Check::Mismatch)),
+    ("check NotMutable", Code::Check(Check::NotMutable)),
+    ("check WrongCall", Code::Check(Check::WrongCall)),
+    ("check LeftOut", Code::Check(Check::LeftOut)),
+    ("check NoReturn", Code::Check(Check::NoReturn)),
+    (
+        "check MissingParameter",
+        Code::Check(Check::MissingParameter),
+    ),
+    ("check ExtraParameter", Code::Check(Check::ExtraParameter)),
+    ("check BadWindow", Code::Check(Check::BadWindow)),
+    ("check BadOutput", Code::Check(Check::BadOutput)),
+    ("check PortCount", Code::Check(Check::PortCount)),
+    ("check NoTextForm", Code::Check(Check::NoTextForm)),
+];
 
-fn expansion_code(name: &str) -> Option<Code> {
-    let error = match name {
-        "NoMain" => ExpansionError::NoMain,
-        "Recursive" => ExpansionError::Recursive,
-        "Twice" => ExpansionError::Twice,
-        "Loop" => ExpansionError::Loop,
-        "SameFile" => ExpansionError::SameFile,
-        "TooMany" => ExpansionError::TooMany,
-        "Unknown" => ExpansionError::Unknown,
-        "Ports" => ExpansionError::Ports,
-        _ => return None,
-    };
-    Some(Code::Expansion(error))
-}
-
-fn check_code(name: &str) -> Option<Code> {
-    let error = match name {
-        "Unknown" => CheckError::Unknown,
-        "Mismatch" => CheckError::Mismatch,
-        "NotMutable" => CheckError::NotMutable,
-        "WrongCall" => CheckError::WrongCall,
-        "LeftOut" => CheckError::LeftOut,
-        "NoReturn" => CheckError::NoReturn,
-        "MissingParameter" => CheckError::MissingParameter,
-        "ExtraParameter" => CheckError::ExtraParameter,
-        "BadWindow" => CheckError::BadWindow,
-        "BadOutput" => CheckError::BadOutput,
-        "PortCount" => CheckError::PortCount,
-        "NoTextForm" => CheckError::NoTextForm,
-        _ => return None,
-    };
-    Some(Code::Check(error))
-}
-
-fn code(kind: &str, name: &str) -> Option<Code> {
-    match kind {
-        "lexical" => lexical_code(name),
-        "syntax" => Some(if name == "Unexpected" {
-            Code::Unexpected
-        } else {
-            Code::TooDeep
-        }),
-        "expansion" => expansion_code(name),
-        "check" => check_code(name),
-        _ => None,
+// The code with which a text begins, and what stands behind it.
+fn code(text: &str) -> Option<(Code, &str)> {
+    for (name, code) in CODES {
+        if let Some(parts) = text.strip_prefix(*name) {
+            return Some((*code, parts));
+        }
     }
+    None
 }
 
 fn refused(alloc: Global, code: Code, parts: &str) -> Result<Cause, AllocError> {
+    let (_, parts) = cut(parts);
     let (at, name) = cut(parts);
     let name = if name.is_empty() {
         None
@@ -87,37 +72,37 @@ fn refused(alloc: Global, code: Code, parts: &str) -> Result<Cause, AllocError> 
     }))
 }
 
-// The cause with these parts.
+// The cause of a text.
 fn cause(alloc: Global, text: &str) -> Result<Cause, AllocError> {
-    let (kind, parts) = cut(text);
-    match kind {
+    match text {
         "Done" => Ok(Cause::Done),
         "BadWords" => Ok(Cause::BadWords),
         "NotBuilt" => Ok(Cause::NotBuilt),
         "Device" => Ok(Cause::Device),
-        _ => {
-            let (name, parts) = cut(parts);
-            match code(kind, name) {
-                Some(code) => refused(alloc, code, parts),
-                None => Ok(Cause::NoMemory),
-            }
-        }
+        _ => match code(text) {
+            Some((code, parts)) => refused(alloc, code, parts),
+            None => Ok(Cause::NoMemory),
+        },
     }
+}
+
+// The line that is told of a cause.
+fn told(alloc: Global, cause: &Cause) -> Result<String, AllocError> {
+    let line = status_text(alloc, None, cause).map_err(|_| AllocError)?;
+    let mut shown = Text::new(alloc);
+    add_held(&mut shown, Some(line.as_slice()));
+    with_signs(alloc, shown.finish()?.as_str())
 }
 
 impl Answers for Lines {
     fn answer(&self, alloc: Global, text: &str) -> Result<String, AllocError> {
-        let cause = cause(alloc, text)?;
-        let line = status_text(alloc, None, &cause).map_err(|_| AllocError)?;
-        let mut shown = Text::new(alloc);
-        add_held(&mut shown, Some(line.as_slice()));
-        with_signs(alloc, shown.finish()?.as_str())
+        told(alloc, &cause(alloc, text)?)
     }
 }
 
 #[test]
 fn each_cause_has_its_line(rt: HostRuntime) -> Result<(), Fail> {
-    assert_eq!(rt; others(rt.alloc(), &Lines, LINES)?.as_str(), "");
+    expect(rt.alloc(), &Lines, &[LINES])?;
     Ok(())
 }
 

@@ -8,14 +8,15 @@
 //! | `write a␊ b␊` | what each write answers, and what finishes the file |
 //! | `holds` | what the file holds |
 //! | `faults` | those of opening, creating, reading and writing |
-use crate::shown::{add_faults, add_held, bytes, cut, fives, number, numbers};
+use crate::shown::{add_faults, add_held, fives, numbers};
 use feed_pour::{Fetched, MemoryShelf, Opened, PlainShelf, Pour, Shelf, fetch, write_all};
 use spl_value::{Bytes, Name};
 use std::alloc::{AllocError, Global};
 use std::test::Fail;
-use test_texts::rows::{Answers, others};
+use test_texts::rows::{Answers, expect};
 use test_texts::signs::{with_signs, without_signs};
 use test_texts::text::Text;
+use test_texts::words::{bytes, cut, number};
 
 // Steps on a shelf some of whose calls fail.
 struct Memory;
@@ -207,9 +208,7 @@ fetch 9 | holds | put @fives 9000 | fetch 9000 | fetch 8999 | write a␊ | holds
 
 #[test]
 fn a_shelf_in_memory_answers_as_it_is_told(rt: HostRuntime) -> Result<(), Fail> {
-    let alloc = rt.alloc();
-    let mut all = others(alloc, &Memory, MEMORY)?;
-    all.push_str(others(alloc, &Plain, PLAIN)?.as_str())?;
-    assert_eq!(rt; all.as_str(), "");
+    expect(rt.alloc(), &Memory, &[MEMORY])?;
+    expect(rt.alloc(), &Plain, &[PLAIN])?;
     Ok(())
 }

@@ -3,27 +3,13 @@ use feed_pour::Tallies;
 use spl_value::{Bytes, Items};
 use std::alloc::{AllocError, Global};
 use test_texts::text::Text;
-
-/// The bytes of a text.
-pub(crate) fn bytes(alloc: Global, text: &str) -> Result<Bytes, AllocError> {
-    Items::from_slice(alloc, text.as_bytes())
-}
+use test_texts::words::number;
 
 /// So many bytes.
 pub(crate) fn fives(alloc: Global, size: u32) -> Result<Bytes, AllocError> {
     let mut fives = Vec::new(alloc);
     fives.resize(size as usize, 5u8)?;
     Ok(Items::from_vec(fives))
-}
-
-/// The number that a text is, or 0.
-pub(crate) fn number(text: &str) -> u32 {
-    text.parse::<u32>().unwrap_or(0)
-}
-
-/// The pieces of a text that stand in front of the first blank and behind it.
-pub(crate) fn cut(text: &str) -> (&str, &str) {
-    text.split_once(' ').unwrap_or((text, ""))
 }
 
 /// The numbers of a text, with a blank between two.

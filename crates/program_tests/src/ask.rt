@@ -10,7 +10,7 @@ use crate::shelf::{File, files_of, out_of, shelf_of};
 use crate::shown::shown;
 use feed_pour::{AllStart, MemoryShelf, OpenGate};
 use spl_driver::{Ended, spl};
-use spl_value::Bytes;
+use spl_value::{Boxed, Bytes};
 use std::alloc::{AllocError, Global};
 use std::sync::Wait;
 use std::thread::Threads;
@@ -26,33 +26,47 @@ pub(crate) struct Seen {
     pub files: Vec<File>,
 }
 
+// What is answered to words beside these files, where the calls fail that are told beside them.
+fn answered<W: Threads + Wait + Sync>(
+    rt: &W,
+    alloc: Global,
+    beside: &str,
+    files: Vec<File>,
+    words: &[String],
+) -> Result<Boxed<Seen>, AllocError> {
+    let mut shelf = shelf_of(alloc, files.as_slice(), beside)?;
+    let mut out = out_of(alloc, beside)?;
+    let ended = spl(
+        rt,
+        alloc,
+        words,
+        &mut shelf,
+        &mut AllStart,
+        &OpenGate,
+        &mut out,
+    );
+    Boxed::new(
+        alloc,
+        Seen {
+            ended,
+            told: out.into_bytes(),
+            shelf,
+            files,
+        },
+    )
+}
+
 /// What is answered to words where these files and devices stand beside the program.
 pub(crate) fn ask<W: Threads + Wait + Sync>(
     rt: &W,
     alloc: Global,
     row: &str,
     line: &str,
-) -> Result<Seen, AllocError> {
+) -> Result<Boxed<Seen>, AllocError> {
     let (program, beside) = row.split_once(" | ").unwrap_or((row, ""));
     let words = words(alloc, line)?;
     let files = files_of(alloc, program, beside)?;
-    let mut shelf = shelf_of(alloc, files.as_slice(), beside)?;
-    let mut out = out_of(alloc, beside)?;
-    let ended = spl(
-        rt,
-        alloc,
-        words.as_slice(),
-        &mut shelf,
-        &mut AllStart,
-        &OpenGate,
-        &mut out,
-    );
-    Ok(Seen {
-        ended,
-        told: out.into_bytes(),
-        shelf,
-        files,
-    })
+    answered(rt, alloc, beside, files, words.as_slice())
 }
 
 /// What is answered to these words, unless the row has its own.
@@ -64,5 +78,5 @@ pub(crate) fn asked<W: Threads + Wait + Sync>(
 ) -> Result<String, AllocError> {
     let (row, words) = text.split_once(" | $ ").unwrap_or((text, words));
     let seen = ask(rt, alloc, row, words)?;
-    shown(alloc, &seen)
+    shown(alloc, seen.get())
 }

@@ -1,10 +1,10 @@
 //! What is answered where a call of the shelf, of a file or of what is told fails.
 use crate::ask::{Seen, ask};
-use crate::shelf::bytes;
 use crate::shown::shown;
 use std::alloc::{AllocError, Global};
 use std::sync::Wait;
 use std::thread::Threads;
+use test_texts::words::bytes;
 
 // Whether a file isn't there, or holds a front of this text.
 fn has_front(alloc: Global, seen: &Seen, name: &str, text: &str) -> Result<bool, AllocError> {
@@ -48,7 +48,7 @@ pub(crate) fn failing<W: Threads + Wait + Sync>(
 ) -> Result<String, AllocError> {
     let row = format!(in alloc; "@pair | a.csv: 1␊2␊ | b.csv: 3␊ | fail {text}")?;
     let seen = ask(rt, alloc, row.as_str(), "run p.spl")?;
-    shown_in_short(alloc, &seen)
+    shown_in_short(alloc, seen.get())
 }
 
 /// What is answered to `run`, unless a row says otherwise.

@@ -1,6 +1,8 @@
 //! Programs and sources that are too long for a row.
 use std::alloc::{AllocError, Global};
 use test_texts::signs::without_signs;
+use test_texts::spelled::spread;
+use test_texts::words::{cut, number};
 
 /// The text with its first such piece replaced.
 pub(crate) fn edited(
@@ -15,49 +17,24 @@ pub(crate) fn edited(
     }
 }
 
-/// So many opening parentheses.
-pub(crate) fn parentheses(alloc: Global, depth: u32) -> Result<String, AllocError> {
-    "(".repeat(alloc, depth as usize)
-}
+/// Opening parentheses.
+pub(crate) const PARENTHESES: &str = "«0 COUNT (»";
 
-/// A condition with `price` in so many pairs of parentheses.
-pub(crate) fn nested(alloc: Global, depth: u32) -> Result<String, AllocError> {
-    let opened = parentheses(alloc, depth)?;
-    let closed = ")".repeat(alloc, depth as usize)?;
-    format!(in alloc; "{opened}price{closed} > 10l")
-}
+/// A condition with `price` in pairs of parentheses.
+pub(crate) const NESTED: &str = "«0 COUNT (»price«0 COUNT )» > 10l";
 
-/// A program of so many sources, each of 60 bytes.
-pub(crate) fn sources(alloc: Global, count: u32) -> Result<String, AllocError> {
-    let mut text = "composite Main {graph ".to_string(alloc)?;
-    for number in 1000..count.saturating_add(1000) {
-        write!(
-            text,
-            "stream<int64 n> S{number} = FileSource() {{param file: \"t.csv\";}} "
-        )?;
-    }
-    text.push_str("}")?;
-    Ok(text)
-}
+/// A program of sources, each of 60 bytes.
+pub(crate) const SOURCES: &str =
+    r#"composite Main {graph «1000 COUNT stream<int64 n> S{n} = FileSource() {param file: "t.csv";} »}"#;
 
-/// A program in which so many Filters stand one behind the other. Each drops its own number.
-pub(crate) fn chain(alloc: Global, count: u32) -> Result<String, AllocError> {
-    let mut text =
-        "composite Main {graph stream<int64 n> F0 = FileSource() {param file: \"t.csv\";} ".to_string(
-            alloc,
-        )?;
-    for number in 0..count {
-        let next = number.saturating_add(1);
-        write!(
-            text,
-            "stream<int64 n> F{next} = Filter(F{number}) {{param filter: n != {next}l;}} "
-        )?;
-    }
-    write!(
-        text,
-        "() as Out = FileSink(F{count}) {{param file: \"o.csv\";}}}}"
-    )?;
-    Ok(text)
+/// A program in which Filters stand one behind the other. Each drops its own number.
+pub(crate) const CHAIN: &str =
+    r#"composite Main {graph stream<int64 n> F0 = FileSource() {param file: "t.csv";} «0 COUNT stream<int64 n> F{n+1} = Filter(F{n}) {param filter: n != {n+1}l;} »() as Out = FileSink(FCOUNT) {param file: "o.csv";}}"#;
+
+/// What such a text is for a count.
+pub(crate) fn counted(alloc: Global, text: &str, count: &str) -> Result<String, AllocError> {
+    let text = text.replace(alloc, "COUNT", count)?;
+    spread(alloc, text.as_str())
 }
 
 /// A program with blanks behind it, so that it has so many bytes.
@@ -78,6 +55,6 @@ pub(crate) fn held_of(alloc: Global, held: &str) -> Result<String, AllocError> {
     let Some(asked) = held.strip_prefix("@lines ") else {
         return without_signs(alloc, held);
     };
-    let (count, more) = asked.split_once(' ').unwrap_or((asked, ""));
-    lines(alloc, count.parse::<u32>().unwrap_or(0) as usize, more)
+    let (count, more) = cut(asked);
+    lines(alloc, number(count) as usize, more)
 }

@@ -11,9 +11,10 @@
 //! | `@text TEXT` | the text, where it begins with `#` or `@` |
 //! | another text | the text |
 use crate::examples::{LOGS, TELEMETRY, TRADES, WRONG};
-use crate::generated::{chain, edited, nested, padded, parentheses, sources};
+use crate::generated::{CHAIN, NESTED, PARENTHESES, SOURCES, counted, edited, padded};
 use std::alloc::{AllocError, Global};
 use test_texts::signs::without_signs;
+use test_texts::words::{cut, number};
 
 // What stands in front of the text of a composite behind its source, and in front of a condition and
 // behind it.
@@ -93,17 +94,17 @@ fn named_of(alloc: Global, name: &str, text: &str) -> Result<String, AllocError>
     }
 }
 
-// The number at the front of a text, or 0.
-fn number_of(text: &str) -> u32 {
-    let (number, _) = text.split_once(' ').unwrap_or((text, ""));
-    number.parse::<u32>().unwrap_or(0)
-}
-
 // The text behind the number, padded to so many bytes.
 fn padded_of(alloc: Global, text: &str) -> Result<String, AllocError> {
-    let (_, program) = text.split_once(' ').unwrap_or(("", text));
+    let (size, program) = cut(text);
     let program = if program == "@first" { FIRST } else { program };
-    padded(alloc, program, number_of(text))
+    padded(alloc, program, number(size))
+}
+
+// The first program with its attribute in pairs of parentheses.
+fn nested_of(alloc: Global, count: &str) -> Result<String, AllocError> {
+    let condition = counted(alloc, NESTED, count)?;
+    edited(alloc, FIRST, "price > 10l", condition.as_str())
 }
 
 // A program by its name and what stands behind the name.
@@ -112,13 +113,10 @@ fn program_by_name(alloc: Global, name: &str, text: &str) -> Result<String, Allo
         "text" => text.to_string(alloc),
         "source" => format!(in alloc; "{SOURCE}{text}}}"),
         "filter" => format!(in alloc; "{SOURCE}{FILTER}{text}{SINK}"),
-        "nested" => {
-            let condition = nested(alloc, number_of(text))?;
-            edited(alloc, FIRST, "price > 10l", condition.as_str())
-        }
-        "parentheses" => parentheses(alloc, number_of(text)),
-        "sources" => sources(alloc, number_of(text)),
-        "chain" => chain(alloc, number_of(text)),
+        "nested" => nested_of(alloc, text),
+        "parentheses" => counted(alloc, PARENTHESES, text),
+        "sources" => counted(alloc, SOURCES, text),
+        "chain" => counted(alloc, CHAIN, text),
         "padded" => padded_of(alloc, text),
         name => named_of(alloc, name, text),
     }
@@ -130,7 +128,7 @@ pub(crate) fn program_of(alloc: Global, text: &str) -> Result<String, AllocError
     match text.as_str().strip_prefix("@") {
         None => text.as_str().to_string(alloc),
         Some(asked) => {
-            let (name, text) = asked.split_once(' ').unwrap_or((asked, ""));
+            let (name, text) = cut(asked);
             program_by_name(alloc, name, text)
         }
     }

@@ -2,19 +2,15 @@
 use crate::generated::held_of;
 use crate::programs::program_of;
 use feed_pour::{MemoryPour, MemoryShelf};
-use spl_value::{Bytes, Items};
+use spl_value::{Bytes, Items, NoMemory};
 use std::alloc::{AllocError, Global};
+use test_texts::words::{bytes, cut};
 
 /// A file's name, and what it holds.
 #[derive(Drop)]
 pub(crate) struct File {
     pub name: Bytes,
     pub held: Bytes,
-}
-
-/// The bytes of a text.
-pub(crate) fn bytes(alloc: Global, text: &str) -> Result<Bytes, AllocError> {
-    Items::from_slice(alloc, text.as_bytes())
 }
 
 fn make_file(alloc: Global, name: &str, held: &str) -> Result<File, AllocError> {
@@ -64,24 +60,32 @@ fn one(alloc: Global, number: u64) -> Result<Items<u64>, AllocError> {
     Ok(numbers)
 }
 
-// Lets a call fail: `read 1 a.csv`, `write 2 o.csv`, or `call 3` of the shelf's own calls, which open,
-// create and finish.
-fn fail(alloc: Global, shelf: &mut MemoryShelf, call: &str) -> Result<(), AllocError> {
-    let (kind, which) = call.split_once(' ').unwrap_or((call, ""));
-    let (number, name) = which.split_once(' ').unwrap_or((which, ""));
-    let numbers = one(alloc, number.parse::<u64>().unwrap_or(0))?;
-    let name = bytes(alloc, name)?;
-    let done = match kind {
-        "read" => shelf.fail_reads(&name, numbers),
-        "write" => shelf.fail_writes(&name, numbers),
+fn fail_calls(
+    shelf: &mut MemoryShelf,
+    kind: &str,
+    name: &Bytes,
+    numbers: Items<u64>,
+) -> Result<(), NoMemory> {
+    match kind {
+        "read" => shelf.fail_reads(name, numbers),
+        "write" => shelf.fail_writes(name, numbers),
         "call" => {
             shelf.fail_calls(numbers);
             Ok(())
         }
         "line" => Ok(()),
-        _ => return Err(AllocError),
-    };
-    done.map_err(|_| AllocError)
+        _ => Err(NoMemory),
+    }
+}
+
+// Lets a call fail: `read 1 a.csv`, `write 2 o.csv`, or `call 3` of the shelf's own calls, which open,
+// create and finish.
+fn fail(alloc: Global, shelf: &mut MemoryShelf, call: &str) -> Result<(), AllocError> {
+    let (kind, which) = cut(call);
+    let (number, name) = cut(which);
+    let name = bytes(alloc, name)?;
+    let numbers = one(alloc, number.parse::<u64>().unwrap_or(0))?;
+    fail_calls(shelf, kind, &name, numbers).map_err(|_| AllocError)
 }
 
 fn put_files(alloc: Global, shelf: &mut MemoryShelf, files: &[File]) -> Result<(), AllocError> {

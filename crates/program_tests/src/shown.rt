@@ -10,30 +10,18 @@
 //! | `; counts 2:1 3:0` | of a run with status 0 or 3, each sink's number and the rows that it wrote |
 //! | `; a record` | an arrival record, or counts of channels |
 use crate::ask::Seen;
-use crate::shelf::{File, bytes};
+use crate::shelf::File;
 use feed_pour::MemoryShelf;
 use spl_driver::Ended;
 use std::alloc::{AllocError, Global};
 use test_texts::signs::with_signs;
 use test_texts::text::Text;
+use test_texts::words::bytes;
 
 // The files that a row's request may make.
-const MADE: [&str; 14] = [
-    "o.csv",
-    "x.csv",
-    "y.csv",
-    "z.csv",
-    "m.csv",
-    "a.txt",
-    "r.txt",
-    "warm.csv",
-    "hot.csv",
-    "failures.csv",
-    "small.csv",
-    "large.csv",
-    "slow.csv",
-    "failed.csv",
-];
+const MADE: &str =
+    "o.csv x.csv y.csv z.csv m.csv a.txt r.txt warm.csv hot.csv failures.csv small.csv \
+    large.csv slow.csv failed.csv";
 
 fn add_told(text: &mut Text, seen: &Seen) {
     text.add_number(i128::from(seen.ended.status));
@@ -59,7 +47,7 @@ fn add_made(text: &mut Text, name: &str, held: &[u8]) {
 }
 
 fn add_all_made(alloc: Global, text: &mut Text, shelf: &MemoryShelf) -> Result<(), AllocError> {
-    for name in MADE {
+    for name in MADE.split(' ') {
         if let Some(held) = shelf.file(&bytes(alloc, name)?) {
             add_made(text, name, held);
         }

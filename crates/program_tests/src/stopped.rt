@@ -2,13 +2,14 @@
 use language_model::Checked;
 use run_report::{Cause, status_text};
 use spl_driver::compile;
-use spl_value::{Fault, FaultKind, Items};
+use spl_value::{Fault, Items};
 use std::alloc::{AllocError, Global};
 use std::test::Fail;
-use test_texts::rows::{Answers, others};
+use test_texts::rows::{Answers, expect};
 use test_texts::signs::with_signs;
 use test_texts::text::Text;
-use test_texts::values::fault;
+use test_texts::values::fault_named;
+use test_texts::words::cut;
 
 // A fault of one of the operators, its kind and its line.
 struct Faults;
@@ -16,26 +17,6 @@ struct Faults;
 // The operators T, C.T, F and Out.
 const OPERATORS: &str =
     r#"composite Read(output T) {graph stream<int64 n> T = FileSource() {param file: "c.csv";}} composite Main {graph stream<int64 n> T = FileSource() {param file: "t.csv";} stream<int64 n> C = Read(); stream<int64 n> F = Filter(T); () as Out = FileSink(F) {param file: "o.csv";}}"#;
-
-const KINDS: [FaultKind; 8] = [
-    FaultKind::DivZero,
-    FaultKind::Index,
-    FaultKind::NoKey,
-    FaultKind::Turns,
-    FaultKind::BadRow,
-    FaultKind::LongRow,
-    FaultKind::LongFile,
-    FaultKind::ReadFailed,
-];
-
-fn kind_of(name: &str) -> FaultKind {
-    for kind in KINDS {
-        if fault(kind) == name {
-            return kind;
-        }
-    }
-    FaultKind::Turns
-}
 
 // The number of the operator with that name.
 fn number_of(checked: &Checked, name: &str) -> u32 {
@@ -49,37 +30,36 @@ fn number_of(checked: &Checked, name: &str) -> u32 {
     number
 }
 
-// The pieces of a text that stand in front of the first blank and behind it.
-fn cut(text: &str) -> (&str, &str) {
-    text.split_once(' ').unwrap_or((text, ""))
-}
-
 fn fault_of(checked: &Checked, parts: &str) -> Fault {
     let (op, parts) = cut(parts);
     let (kind, line) = cut(parts);
     Fault {
         op: number_of(checked, op),
-        kind: kind_of(kind),
+        kind: fault_named(kind),
         line: line.parse::<u64>().unwrap_or(0),
     }
 }
 
+// The line that is told of a cause.
+fn told(alloc: Global, checked: &Checked, cause: &Cause) -> Result<String, AllocError> {
+    let line = status_text(alloc, Some(checked), cause).map_err(|_| AllocError)?;
+    let mut shown = Text::new(alloc);
+    shown.add_bytes(line.as_slice());
+    with_signs(alloc, shown.finish()?.as_str())
+}
+
 impl Answers for Faults {
     fn answer(&self, alloc: Global, text: &str) -> Result<String, AllocError> {
-        let Ok(checked) = compile(alloc, OPERATORS.as_bytes(), &Items::new(alloc)) else {
-            return "refused".to_string(alloc);
-        };
-        let cause = Cause::Stopped(fault_of(&checked, text));
-        let line = status_text(alloc, Some(&checked), &cause).map_err(|_| AllocError)?;
-        let mut shown = Text::new(alloc);
-        shown.add_bytes(line.as_slice());
-        with_signs(alloc, shown.finish()?.as_str())
+        match compile(alloc, OPERATORS.as_bytes(), &Items::new(alloc)) {
+            Ok(checked) => told(alloc, &checked, &Cause::Stopped(fault_of(&checked, text))),
+            Err(_) => "refused".to_string(alloc),
+        }
     }
 }
 
 #[test]
 fn a_fault_is_told_with_its_operator(rt: HostRuntime) -> Result<(), Fail> {
-    assert_eq!(rt; others(rt.alloc(), &Faults, STOPPED)?.as_str(), "");
+    expect(rt.alloc(), &Faults, &[STOPPED])?;
     Ok(())
 }
 

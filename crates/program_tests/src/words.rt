@@ -1,32 +1,34 @@
 //! What is answered to the words of a command line.
 use crate::ask::{Seen, ask, asked};
-use crate::shelf::bytes;
 use crate::shown::shown;
 use std::alloc::{AllocError, Global};
 use std::sync::Wait;
 use std::thread::Threads;
+use test_texts::words::bytes;
 
-// Whether the program was never asked for.
-fn is_untouched(alloc: Global, seen: &Seen) -> Result<bool, AllocError> {
+// What is told where the program was asked for.
+fn opened(alloc: Global, seen: &Seen) -> Result<&'static str, AllocError> {
     let tallies = seen.shelf.tallies(&bytes(alloc, "p.spl")?);
-    Ok(
-        tallies.opening == 0
-            && tallies.creating == 0
-            && tallies.reading == 0
-            && tallies.writing == 0,
-    )
+    let is_untouched = tallies.opening == 0
+        && tallies.creating == 0
+        && tallies.reading == 0
+        && tallies.writing == 0;
+    Ok(if is_untouched {
+        ""
+    } else {
+        "; the program is opened"
+    })
 }
 
 // The answer, and what is other where no file is there.
-fn shown_beside(alloc: Global, empty: &Seen, full: String) -> Result<String, AllocError> {
+fn shown_beside(alloc: Global, empty: &Seen, full: &str) -> Result<String, AllocError> {
+    let opened = opened(alloc, empty)?;
     let other = shown(alloc, empty)?;
-    if full.as_str() != other.as_str() {
-        return format!(in alloc; "{full}; without files {other}");
+    if full == other.as_str() {
+        format!(in alloc; "{full}{opened}")
+    } else {
+        format!(in alloc; "{full}{opened}; without files {other}")
     }
-    if !is_untouched(alloc, empty)? {
-        return format!(in alloc; "{full}; the program is opened");
-    }
-    Ok(full)
 }
 
 /// What is answered to words beside the first program and its source. Where no file is there, they have
@@ -38,7 +40,7 @@ pub(crate) fn unopened<W: Threads + Wait + Sync>(
 ) -> Result<String, AllocError> {
     let full = asked(rt, alloc, text, "@first | t.csv: 5␊10␊11␊")?;
     let empty = ask(rt, alloc, "@none", text)?;
-    shown_beside(alloc, &empty, full)
+    shown_beside(alloc, empty.get(), full.as_str())
 }
 
 /// Words with their own answers.

@@ -2,12 +2,37 @@
 //!
 //! A table is one literal. Each of its lines is a row, `text => answer`, or a title that begins with
 //! `# `, or empty.
+use crate::spelled::spread;
 use std::alloc::{AllocError, Global};
+use std::fmt;
 
 /// What rows are asked of.
 pub trait Answers {
     /// The answer to the text of a row.
     fn answer(&self, alloc: Global, text: &str) -> Result<String, AllocError>;
+}
+
+/// Why tables aren't as they say.
+#[derive(Drop)]
+pub enum Untrue {
+    /// These rows have other answers.
+    Others(String),
+    Memory,
+}
+
+impl From<AllocError> for Untrue {
+    fn from(_: AllocError) -> Untrue {
+        Untrue::Memory
+    }
+}
+
+impl fmt::Debug for Untrue {
+    fn fmt<W: fmt::Write>(&self, f: &mut fmt::Formatter<W>) -> fmt::Result {
+        match self {
+            Untrue::Others(others) => write!(f, "{}", others.as_str()),
+            Untrue::Memory => write!(f, "no memory"),
+        }
+    }
 }
 
 /// The text of a row and the answer that is wanted, or nothing where the line is no row. The text may begin
@@ -33,20 +58,47 @@ pub fn compare(
     write!(others, "\n{text} => {seen}, not {wanted}")
 }
 
-/// Those rows of the table that have other answers, each with its answer. A table without rows is
-/// told as well, so the text is empty exactly where each row of some has its answer.
-pub fn others<A: Answers>(alloc: Global, answers: &A, table: &str) -> Result<String, AllocError> {
-    let mut others = String::new(alloc);
+// Adds those rows of the table that have other answers, each with its answer. A table without rows is
+// told as well.
+fn add_others<A: Answers>(
+    alloc: Global,
+    others: &mut String,
+    answers: &A,
+    table: &str,
+) -> Result<(), AllocError> {
     let mut is_empty = true;
     for line in table.lines() {
         if let Some((text, wanted)) = row_of(line) {
             is_empty = false;
             let seen = answers.answer(alloc, text)?;
-            compare(&mut others, text, seen.as_str(), wanted)?;
+            compare(others, text, seen.as_str(), wanted)?;
         }
     }
     if is_empty {
         others.push_str("no rows")?;
     }
-    Ok(others)
+    Ok(())
+}
+
+/// Whether there are no others: these are told as the error.
+pub fn no_others(others: String) -> Result<(), Untrue> {
+    if others.is_empty() {
+        return Ok(());
+    }
+    Err(Untrue::Others(others))
+}
+
+/// Whether each of the tables has rows, and each row has its answer.
+pub fn expect<A: Answers>(alloc: Global, answers: &A, tables: &[&str]) -> Result<(), Untrue> {
+    let mut others = String::new(alloc);
+    for table in tables {
+        add_others(alloc, &mut others, answers, table)?;
+    }
+    no_others(others)
+}
+
+/// The same of a table with pieces that stand there many times.
+pub fn expect_spread<A: Answers>(alloc: Global, answers: &A, table: &str) -> Result<(), Untrue> {
+    let table = spread(alloc, table)?;
+    expect(alloc, answers, &[table.as_str()])
 }

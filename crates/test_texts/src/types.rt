@@ -16,6 +16,27 @@ pub fn integer_word(kind: IntKind) -> &'static str {
     }
 }
 
+const KINDS: [IntKind; 8] = [
+    IntKind::I8,
+    IntKind::I16,
+    IntKind::I32,
+    IntKind::I64,
+    IntKind::U8,
+    IntKind::U16,
+    IntKind::U32,
+    IntKind::U64,
+];
+
+/// The integer type that has this word.
+pub fn integer_kind(word: &str) -> Option<IntKind> {
+    for kind in &KINDS {
+        if integer_word(*kind) == word {
+            return Some(*kind);
+        }
+    }
+    None
+}
+
 /// Adds a type.
 #[cycle(types)]
 pub fn add_type(text: &mut Text, kind: &SplType) {

@@ -71,3 +71,24 @@ pub fn fault(kind: FaultKind) -> &'static str {
         FaultKind::ReadFailed => "ReadFailed",
     }
 }
+
+const KINDS: [FaultKind; 8] = [
+    FaultKind::DivZero,
+    FaultKind::Index,
+    FaultKind::NoKey,
+    FaultKind::Turns,
+    FaultKind::BadRow,
+    FaultKind::LongRow,
+    FaultKind::LongFile,
+    FaultKind::ReadFailed,
+];
+
+/// The fault that has this name; what names none stands for that of turns.
+pub fn fault_named(name: &str) -> FaultKind {
+    for kind in KINDS {
+        if fault(kind) == name {
+            return kind;
+        }
+    }
+    FaultKind::Turns
+}

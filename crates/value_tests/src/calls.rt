@@ -3,14 +3,16 @@ ghost use Rattle.std.specs.Prelude.{IsTrue, IfOk};
 ghost use Rattle.spl_value.specs.Values.{fits};
 ghost use Rattle.spl_value.specs.Calls.{FitsCollection, FitMapAndKey, FitListAndElement, FitOrdered};
 
-use crate::words::{kind_of, number};
+use crate::words::number;
 use builtin_calls::{abs, append_m, clear_m, has, length, max, min, remove_m, size, substring};
 use spl_value::{Evaluated, IntKind, Items, NoMemory, Pairs, SplType, Value, Values, wrap};
 use std::alloc::{AllocError, Global};
 use std::test::Fail;
-use test_texts::rows::{Answers, others};
+use test_texts::rows::{Answers, expect};
 use test_texts::text::Text;
+use test_texts::types::integer_kind;
 use test_texts::values::{add_value, fault};
+use test_texts::words::cut;
 
 // A value of each type that the calls take.
 
@@ -64,16 +66,14 @@ fn keyed(alloc: Global, words: &str) -> Result<Pairs, NoMemory>
     Ok(pairs)
 }
 
-fn list(alloc: Global, words: &str) -> Result<Value, NoMemory>
+// A list or a map.
+fn collection(alloc: Global, kind: &str, words: &str) -> Result<Value, NoMemory>
     ensures { IfOk result (λ v. FitsCollection v) }
 {
-    Ok(Value::List(numbers(alloc, words)?))
-}
-
-fn map(alloc: Global, words: &str) -> Result<Value, NoMemory>
-    ensures { IfOk result (λ v. FitsCollection v) }
-{
-    Ok(Value::Map(keyed(alloc, words)?))
+    match kind {
+        "list" => Ok(Value::List(numbers(alloc, words)?)),
+        _ => Ok(Value::Map(keyed(alloc, words)?)),
+    }
 }
 
 fn list_and_element(alloc: Global, words: &str, element: &str) -> Result<(Value, Value), NoMemory>
@@ -100,62 +100,79 @@ fn shown(alloc: Global, evaluated: &Evaluated) -> Result<String, AllocError> {
     text.finish()
 }
 
-// `min` or `max` of two integers.
-fn of_integers(alloc: Global, call: &str, a: &str, b: &str) -> Evaluated {
-    let (a, b) = ordered_integers(number(a), number(b));
+fn least_or_greatest(alloc: Global, call: &str, a: &Value, b: &Value) -> Evaluated
+    requires { FitOrdered a.now b.now }
+{
     match call {
-        "min" => min(alloc, &a, &b),
-        _ => max(alloc, &a, &b),
+        "min" => min(alloc, a, b),
+        _ => max(alloc, a, b),
     }
 }
 
-// `min` or `max` of two texts.
-fn of_texts(alloc: Global, call: &str, a: &str, b: &str) -> Result<Evaluated, NoMemory> {
-    let (a, b) = ordered_texts(alloc, a, b)?;
-    match call {
-        "min" => Ok(min(alloc, &a, &b)),
-        _ => Ok(max(alloc, &a, &b)),
+// `min` or `max` of two integers or of two texts.
+fn of_ordered(alloc: Global, call: &str, kind: &str, words: &str) -> Result<Evaluated, NoMemory> {
+    let (a, b) = sides(words, ",");
+    if kind == "integers" {
+        let pair = ordered_integers(number(a), number(b));
+        return Ok(least_or_greatest(alloc, call, &pair.0, &pair.1));
     }
+    let pair = ordered_texts(alloc, a, b)?;
+    Ok(least_or_greatest(alloc, call, &pair.0, &pair.1))
 }
 
-fn part(alloc: Global, bytes: &str, from: &str, count: &str) -> Result<Evaluated, NoMemory> {
-    let whole = text(alloc, bytes)?;
+fn part(alloc: Global, whole: &Value, from: &str, count: &str) -> Evaluated
+    requires { IsTrue (fits SplType.Text whole.now) }
+{
     let from = integer(IntKind::I32, number(from));
     let count = integer(IntKind::I32, number(count));
-    Ok(substring(alloc, &whole, &from, &count))
+    substring(alloc, whole, &from, &count)
 }
 
-// A call on a text, or on a key or an element in a map or a list.
-fn of_two(alloc: Global, call: &str, first: &str, words: &str) -> Result<Evaluated, NoMemory> {
-    match call {
-        "has" => {
-            let (map, key) = map_and_key(alloc, words, first)?;
-            Ok(has(&map, &key))
-        }
-        "append" => {
-            let (list, element) = list_and_element(alloc, words, first)?;
-            Ok(append_m(list, element))
-        }
-        "remove" => {
-            let (map, key) = map_and_key(alloc, words, first)?;
-            Ok(remove_m(map, &key))
-        }
-        _ => Ok(Evaluated::Memory),
+// A call on a text, and on a place and a count in it.
+fn of_text(alloc: Global, call: &str, words: &str) -> Result<Evaluated, NoMemory> {
+    let (bytes, rest) = if call == "length" {
+        (words, "")
+    } else {
+        sides(words, ",")
+    };
+    let (from, count) = sides(rest, ",");
+    let whole = text(alloc, bytes)?;
+    if call == "length" {
+        return Ok(length(&whole));
     }
+    Ok(part(alloc, &whole, from, count))
 }
 
-// A call on a list, a map, or a number of a kind.
-fn of_one(alloc: Global, call: &str, kind: &str, words: &str) -> Result<Evaluated, NoMemory> {
-    match (call, kind) {
-        ("size", "list") => Ok(size(&list(alloc, words)?)),
-        ("size", "map") => Ok(size(&map(alloc, words)?)),
-        ("clear", "list") => Ok(clear_m(list(alloc, words)?)),
-        ("clear", "map") => Ok(clear_m(map(alloc, words)?)),
-        ("abs", kind) => match kind_of(kind) {
-            Some(kind) => Ok(abs(&integer(kind, number(words)), kind)),
-            None => Ok(Evaluated::Memory),
-        },
-        _ => Ok(Evaluated::Memory),
+fn of_map(alloc: Global, call: &str, key: &str, words: &str) -> Result<Evaluated, NoMemory> {
+    let (map, key) = map_and_key(alloc, words, key)?;
+    if call == "has" {
+        return Ok(has(&map, &key));
+    }
+    Ok(remove_m(map, &key))
+}
+
+fn of_list(alloc: Global, element: &str, words: &str) -> Result<Evaluated, NoMemory> {
+    let (list, element) = list_and_element(alloc, words, element)?;
+    Ok(append_m(list, element))
+}
+
+fn of_collection(
+    alloc: Global,
+    call: &str,
+    kind: &str,
+    words: &str,
+) -> Result<Evaluated, NoMemory> {
+    let collection = collection(alloc, kind, words)?;
+    if call == "size" {
+        return Ok(size(&collection));
+    }
+    Ok(clear_m(collection))
+}
+
+fn absolute(kind: &str, words: &str) -> Evaluated {
+    match integer_kind(kind) {
+        Some(kind) => abs(&integer(kind, number(words)), kind),
+        None => Evaluated::Memory,
     }
 }
 
@@ -165,33 +182,16 @@ fn sides<'t>(text: &'t str, piece: &str) -> (&'t str, &'t str) {
 }
 
 fn called(alloc: Global, text: &str) -> Result<Evaluated, NoMemory> {
-    let (call, rest) = sides(text, " ");
+    let (call, rest) = cut(text);
+    let (kind, words) = cut(rest);
+    let (first, others) = sides(rest, " in ");
     match call {
-        "length" => {
-            let bytes = self::text(alloc, rest)?;
-            Ok(length(&bytes))
-        }
-        "substring" => {
-            let (bytes, rest) = sides(rest, ",");
-            let (from, count) = sides(rest, ",");
-            part(alloc, bytes, from, count)
-        }
-        "min" | "max" => {
-            let (kind, rest) = sides(rest, " ");
-            let (a, b) = sides(rest, ",");
-            match kind {
-                "integers" => Ok(of_integers(alloc, call, a, b)),
-                _ => of_texts(alloc, call, a, b),
-            }
-        }
-        "has" | "append" | "remove" => {
-            let (first, words) = sides(rest, " in ");
-            of_two(alloc, call, first, words)
-        }
-        _ => {
-            let (kind, words) = sides(rest, " ");
-            of_one(alloc, call, kind, words)
-        }
+        "length" | "substring" => of_text(alloc, call, rest),
+        "min" | "max" => of_ordered(alloc, call, kind, words),
+        "has" | "remove" => of_map(alloc, call, first, others),
+        "append" => of_list(alloc, first, others),
+        "size" | "clear" => of_collection(alloc, call, kind, words),
+        _ => Ok(absolute(kind, words)),
     }
 }
 
@@ -346,7 +346,6 @@ substring ,1,0 => Index
 
 #[test]
 fn calls_have_their_values_or_faults(rt: HostRuntime) -> Result<(), Fail> {
-    let others = others(rt.alloc(), &Calls, ROWS)?;
-    assert_eq!(rt; others.as_str(), "");
+    expect(rt.alloc(), &Calls, &[ROWS])?;
     Ok(())
 }

@@ -1,9 +1,11 @@
 //! Integers and their texts.
-use crate::words::{kind_of, number};
+use crate::words::number;
 use spl_value::{IntKind, NoMemory, add_integer, is_of_kind, read_integer, read_natural, wrap};
 use std::alloc::{AllocError, Global};
 use std::test::Fail;
-use test_texts::rows::{Answers, others};
+use test_texts::rows::{Answers, expect};
+use test_texts::types::integer_kind;
+use test_texts::words::cut;
 
 fn optional(alloc: Global, number: Option<i128>) -> Result<String, AllocError> {
     match number {
@@ -44,19 +46,17 @@ struct Integers;
 
 impl Answers for Integers {
     fn answer(&self, alloc: Global, text: &str) -> Result<String, AllocError> {
-        let Some((call, rest)) = text.split_once(' ') else {
-            return "no call".to_string(alloc);
-        };
+        let (call, rest) = cut(text);
         match call {
             "natural" => natural(alloc, rest.as_bytes()),
             "add" => added(alloc, number(rest)).or_else(|_| "memory".to_string(alloc)),
-            call => match rest.split_once(' ') {
-                Some((kind, text)) => match kind_of(kind) {
+            call => {
+                let (kind, text) = cut(rest);
+                match integer_kind(kind) {
                     Some(kind) => of_kind(alloc, call, kind, text),
                     None => "no kind".to_string(alloc),
-                },
-                None => "no number".to_string(alloc),
-            },
+                }
+            }
         }
     }
 }
@@ -192,7 +192,6 @@ add 18446744073709551615 => n=18446744073709551615
 
 #[test]
 fn integers_wrap_and_are_read_and_written(rt: HostRuntime) -> Result<(), Fail> {
-    let others = others(rt.alloc(), &Integers, ROWS)?;
-    assert_eq!(rt; others.as_str(), "");
+    expect(rt.alloc(), &Integers, &[ROWS])?;
     Ok(())
 }

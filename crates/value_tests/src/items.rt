@@ -1,85 +1,141 @@
 //! Copies, lists and boxes.
-use spl_value::{Boxed, Fault, FaultKind, Item, Items, Value, copy_item, copy_value};
+use crate::words::value_of;
+use spl_value::{Boxed, Fault, FaultKind, Item, Items, NoMemory, Values, copy_item, copy_values};
 use std::alloc::{AllocError, Global};
 use std::test::Fail;
+use test_texts::rows::{Answers, expect};
+use test_texts::text::Text;
+use test_texts::words::{cut, number};
 
-// The tuple of a list, `[-7, true, "abc"]`, and a map, `{1: false}`.
-fn nested(alloc: Global) -> Result<Value, AllocError> {
-    let text = Value::Text(Items::from_slice(alloc, b"abc")?);
-    let list = vec![in alloc; Value::Int(-7), Value::Bool(true), text]?;
-    let map = vec![in alloc; (Value::Int(1), Value::Bool(false))]?;
-    let both = vec![in alloc;
-        Value::List(Items::from_vec(list)),
-        Value::Map(Items::from_vec(map)),
-    ]?;
-    Ok(Value::Tuple(Items::from_vec(both)))
+// A value of each kind.
+const VALUES: &str = "integer -7; boolean true; text 97; list 1 2; map 1:0; tuple 3";
+
+fn values(alloc: Global) -> Result<Values, AllocError> {
+    let mut values = Items::new(alloc);
+    for words in VALUES.split("; ") {
+        values.push(value_of(alloc, words)?)?;
+    }
+    Ok(values)
 }
 
-#[test]
-fn a_copied_value_equals_the_value(rt: HostRuntime) -> Result<(), Fail> {
-    let value = nested(rt.alloc())?;
-    assert_eq!(rt; copy_value(rt.alloc(), &value)?, value);
-    Ok(())
-}
-
-#[test]
-fn a_copied_item_equals_the_item(rt: HostRuntime) -> Result<(), Fail> {
-    let value = nested(rt.alloc())?;
-    let values = vec![in rt.alloc(); value, Value::Int(0)]?;
-    let fault = Fault {
+fn items(alloc: Global, values: Values) -> Result<Items<Item>, AllocError> {
+    let mut items = Items::new(alloc);
+    items.push(Item::Tuple(values))?;
+    items.push(Item::Window)?;
+    items.push(Item::Final)?;
+    items.push(Item::Bad(Fault {
         op: 3,
         kind: FaultKind::BadRow,
         line: 12,
-    };
-    for item in [
-        Item::Tuple(Items::from_vec(values)),
-        Item::Window,
-        Item::Final,
-        Item::Bad(fault),
-    ] {
-        assert_eq!(rt; copy_item(rt.alloc(), &item)?, item);
-    }
-    Ok(())
+    }))?;
+    Ok(items)
 }
 
-#[test]
-fn items_keep_their_order(rt: HostRuntime) -> Result<(), Fail> {
-    let mut items = Items::with_capacity(rt.alloc(), 2)?;
+fn copied_items(alloc: Global, items: &Items<Item>) -> Result<Items<Item>, NoMemory> {
+    let mut copied = Items::new(alloc);
+    for item in items.as_slice() {
+        copied.push(copy_item(alloc, item)?)?;
+    }
+    Ok(copied)
+}
+
+// Whether copies of values and of items equal them.
+fn are_copied(alloc: Global) -> Result<bool, NoMemory> {
+    let values = values(alloc)?;
+    let copied = copy_values(alloc, values.as_slice())?;
+    let are_copied = copied.as_slice() == values.as_slice();
+    let items = items(alloc, values)?;
+    let copied = copied_items(alloc, &items)?;
+    Ok(are_copied && copied.as_slice() == items.as_slice())
+}
+
+// A list of 11, 21 and 30.
+fn made(alloc: Global) -> Result<Items<u32>, AllocError> {
+    let mut items = Items::with_capacity(alloc, 2)?;
     items.push(10u32)?;
     items.push(30)?;
     items.insert(1, 20)?;
     items.set(0, 11);
     *items.item_mut(1) += 1;
-    assert_eq!(rt; items.get(1), Some(&21));
-    assert_eq!(rt; items.get(3), None);
-    assert_eq!(rt; items.remove(1), 21);
-    items.append(Items::from_slice(rt.alloc(), &[40, 50])?)?;
-    assert_eq!(rt; items.pop(), Some(50));
-    assert_eq!(rt; items.into_vec().as_slice(), [11, 30, 40].as_slice());
-    Ok(())
+    Ok(items)
 }
 
-#[test]
-fn a_cleared_list_is_empty(rt: HostRuntime) -> Result<(), Fail> {
-    for items in [[].as_slice(), &[1u32], &[1, 2]] {
-        let mut items = Items::from_slice(rt.alloc(), items)?;
-        items.clear();
-        assert!(rt; items.is_empty());
+fn add_item(text: &mut Text, item: Option<&u32>) {
+    match item {
+        Some(item) => text.add_place(" ", *item),
+        None => text.add(" none"),
     }
-    Ok(())
 }
 
-#[test]
-fn an_empty_list_has_its_room(rt: HostRuntime) -> Result<(), Fail> {
-    let items: Items<u32> = Items::with_capacity(rt.alloc(), 5)?;
-    assert!(rt; items.into_vec().capacity() >= 5);
-    Ok(())
+// What a list of three has at the places 1 and 3, what is removed at 1, the last one of it and two more,
+// and the others.
+fn changed(alloc: Global, items: Items<u32>) -> Result<String, AllocError> {
+    let mut items = items;
+    let mut text = Text::new(alloc);
+    text.add("has");
+    add_item(&mut text, items.get(1));
+    add_item(&mut text, items.get(3));
+    if items.len() == 3 {
+        text.add_place(" ", items.remove(1));
+    }
+    items.append(Items::from_slice(alloc, &[40, 50])?)?;
+    add_item(&mut text, items.pop().as_ref());
+    text.add(" of");
+    for item in items.into_vec().as_slice() {
+        text.add_place(" ", *item);
+    }
+    text.finish()
 }
 
+// Whether a list of so many items is empty once it is cleared.
+fn is_cleared(alloc: Global, count: u32) -> Result<bool, AllocError> {
+    let mut items = Items::new(alloc);
+    for item in 0..count {
+        items.push(item)?;
+    }
+    items.clear();
+    Ok(items.is_empty())
+}
+
+fn has_room(alloc: Global, room: u32) -> Result<bool, AllocError> {
+    let items: Items<u32> = Items::with_capacity(alloc, room as usize)?;
+    Ok(items.into_vec().capacity() >= room as usize)
+}
+
+fn boxed(alloc: Global, value: u32) -> Result<String, AllocError> {
+    let boxed = Boxed::new(alloc, value)?;
+    let seen = *boxed.get();
+    format!(in alloc; "{seen} {}", boxed.into_inner())
+}
+
+// Calls on lists and boxes.
+struct Calls;
+
+impl Answers for Calls {
+    fn answer(&self, alloc: Global, text: &str) -> Result<String, AllocError> {
+        let (call, rest) = cut(text);
+        match call {
+            "changed" => changed(alloc, made(alloc)?),
+            "boxed" => boxed(alloc, number(rest)),
+            "cleared" => format!(in alloc; "{}", is_cleared(alloc, number(rest))?),
+            "room" => format!(in alloc; "{}", has_room(alloc, number(rest))?),
+            _ => format!(in alloc; "{}", are_copied(alloc).map_err(|_| AllocError)?),
+        }
+    }
+}
+
+const ROWS: &str = r#"
+copied => true
+changed => has 21 none 21 50 of 11 30 40
+cleared 0 => true
+cleared 1 => true
+cleared 2 => true
+room 5 => true
+boxed 7 => 7 7
+"#;
+
 #[test]
-fn a_box_holds_its_value(rt: HostRuntime) -> Result<(), Fail> {
-    let boxed = Boxed::new(rt.alloc(), 7u32)?;
-    assert_eq!(rt; *boxed.get(), 7);
-    assert_eq!(rt; boxed.into_inner(), 7);
+fn lists_and_boxes_answer_as_their_rows_say(rt: HostRuntime) -> Result<(), Fail> {
+    expect(rt.alloc(), &Calls, &[ROWS])?;
     Ok(())
 }

@@ -1,12 +1,13 @@
 //! Hashes of bytes and of keys.
 ghost use Rattle.std.specs.Prelude.{IsTrue};
-ghost use Rattle.spl_value.specs.Key.{is_key_value};
+ghost use Rattle.spl_value.specs.Key.{is_key_value, are_key_places};
 
-use crate::words::number;
-use spl_value::{Items, Value, fnv, hash_key};
+use crate::words::{bytes_of, number};
+use spl_value::{Items, Value, Values, fnv, hash_key};
 use std::alloc::{AllocError, Global};
 use std::test::Fail;
-use test_texts::rows::{Answers, others};
+use test_texts::rows::{Answers, expect};
+use test_texts::words::cut;
 
 // The hash of a key with this value alone.
 fn hash_of_one(alloc: Global, value: Value) -> Result<u64, AllocError>
@@ -37,37 +38,24 @@ fn is_hashed_as(alloc: Global, value: &str, bytes: &[u8]) -> Result<String, Allo
     format!(in alloc; "{}", hash == fnv(bytes))
 }
 
-// The bytes whose numbers these words are.
-fn bytes_of(alloc: Global, words: &str) -> Result<Vec<u8>, AllocError> {
-    let mut bytes = Vec::new(alloc);
-    for word in words.split_whitespace() {
-        bytes.push(word.parse::<u8>().unwrap_or(0))?;
-    }
-    Ok(bytes)
-}
-
 // The hash of bytes, the channel of so many that a text goes to, and whether a value is hashed as
 // bytes.
 struct Hashes;
 
 impl Answers for Hashes {
     fn answer(&self, alloc: Global, text: &str) -> Result<String, AllocError> {
-        let Some((call, rest)) = text.split_once(' ') else {
-            return "no call".to_string(alloc);
-        };
+        let (call, rest) = cut(text);
         match call {
             "fnv" => format!(in alloc; "{:016x}", fnv(rest.as_bytes())),
-            "channel" => match rest.split_once(' ') {
-                Some((width, text)) => channel(alloc, width.parse::<u64>().unwrap_or(0), text),
-                None => "no text".to_string(alloc),
-            },
-            _ => match rest.split_once(" as ") {
-                Some((value, bytes)) => {
-                    let bytes = bytes_of(alloc, bytes)?;
-                    is_hashed_as(alloc, value, bytes.as_slice())
-                }
-                None => "no bytes".to_string(alloc),
-            },
+            "channel" => {
+                let (width, text) = cut(rest);
+                channel(alloc, width.parse::<u64>().unwrap_or(0), text)
+            }
+            _ => {
+                let (value, bytes) = rest.split_once(" as ").unwrap_or((rest, ""));
+                let bytes = bytes_of(alloc, bytes)?;
+                is_hashed_as(alloc, value, bytes.as_slice())
+            }
         }
     }
 }
@@ -98,9 +86,21 @@ same true as 1 => true
 
 #[test]
 fn bytes_and_keys_have_their_hashes(rt: HostRuntime) -> Result<(), Fail> {
-    let others = others(rt.alloc(), &Hashes, ROWS)?;
-    assert_eq!(rt; others.as_str(), "");
+    expect(rt.alloc(), &Hashes, &[ROWS])?;
     Ok(())
+}
+
+// Whether a tuple of a text and an integer has at these places a key that is hashed as these bytes.
+fn is_key_hashed_as(
+    alloc: Global,
+    tuple: &Values,
+    places: &[u32],
+    bytes: &[u8],
+) -> Result<bool, AllocError>
+    requires { IsTrue (are_key_places tuple.now places.now) }
+{
+    let key = Items::from_slice(alloc, places)?;
+    Ok(hash_key(tuple, &key) == fnv(bytes))
 }
 
 #[test]
@@ -118,8 +118,7 @@ fn a_key_is_hashed_in_the_order_of_its_places(rt: HostRuntime) -> Result<(), Fai
         ),
         (&[], &[]),
     ] {
-        let key = Items::from_slice(rt.alloc(), places)?;
-        assert_eq!(rt; hash_key(&tuple, &key), fnv(bytes));
+        assert!(rt; is_key_hashed_as(rt.alloc(), &tuple, places, bytes)?);
     }
     Ok(())
 }

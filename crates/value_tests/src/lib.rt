@@ -15,8 +15,4 @@ mod order;
 #[cfg(test)]
 mod pairs;
 #[cfg(test)]
-mod samples;
-#[cfg(test)]
-mod types;
-#[cfg(test)]
 mod words;

@@ -1,66 +1,111 @@
 //! The order of values, and the laws.
-use crate::samples::{list, map, nested, text, tuple};
+use crate::words::value_of;
 use builtin_calls::{calls_law, values_law};
 use spl_value::{
-    NoMemory, Value, copy_value, default_law, key_law, key_on_literals, order, order_law,
-    pairs_law, same, wrap_law,
+    Items, NoMemory, Value, Values, copy_value, default_law, key_law, key_on_literals, order,
+    order_law, pairs_law, same, wrap_law,
 };
-use std::alloc::Global;
+use std::alloc::{AllocError, Global};
 use std::cmp::Ordering;
 use std::test::Fail;
+use test_texts::rows::no_others;
 
 // Each is below all that follow it.
-fn ascending(alloc: Global) -> Result<Vec<Value>, NoMemory> {
-    let mut values = Vec::new(alloc);
-    for n in [i128::from(i64::MIN), -1, 0, i128::from(u64::MAX)] {
-        values.push(Value::Int(n))?;
-    }
-    values.push(Value::Bool(false))?;
-    values.push(Value::Bool(true))?;
-    for bytes in [b"".as_slice(), b"a", b"a\0", b"ab", b"b", b"\x7F", b"\x80"] {
-        values.push(text(alloc, bytes)?)?;
-    }
-    for numbers in [[].as_slice(), &[1], &[1, 9], &[2]] {
-        values.push(list(alloc, numbers)?)?;
-    }
-    for numbers in [
-        [].as_slice(),
-        &[(1, 5)],
-        &[(1, 6)],
-        &[(1, 6), (2, 0)],
-        &[(2, 0)],
-    ] {
-        values.push(map(alloc, numbers)?)?;
-    }
-    for numbers in [[].as_slice(), &[0, 3], &[1, 2]] {
-        values.push(tuple(alloc, numbers)?)?;
+const ASCENDING: &str = r#"
+integer -9223372036854775808
+integer -1
+integer 0
+integer 18446744073709551615
+boolean false
+boolean true
+text
+text 97
+text 97 0
+text 97 98
+text 98
+text 127
+text 128
+list
+list 1
+list 1 9
+list 2
+map
+map 1:5
+map 1:6
+map 1:6 2:0
+map 2:0
+tuple
+tuple 0 3
+tuple 1 2
+"#;
+
+fn ascending(alloc: Global) -> Result<Values, AllocError> {
+    let mut values = Items::new(alloc);
+    for line in ASCENDING.lines() {
+        if !line.is_empty() {
+            values.push(value_of(alloc, line)?)?;
+        }
     }
     Ok(values)
+}
+
+fn list_of(alloc: Global, value: Value) -> Result<Value, AllocError> {
+    let mut list = Items::new(alloc);
+    list.push(value)?;
+    Ok(Value::List(list))
+}
+
+// A list of one list of one list .., with the number in the innermost.
+fn nested(alloc: Global, n: i128) -> Result<Value, AllocError> {
+    let mut value = Value::Int(n);
+    for _ in 0..150u32 {
+        value = list_of(alloc, value)?;
+    }
+    Ok(value)
+}
+
+// Two deep values, the lower first.
+fn deep(alloc: Global) -> Result<Values, AllocError> {
+    let mut values = Items::new(alloc);
+    for n in [7, 8] {
+        values.push(nested(alloc, n)?)?;
+    }
+    Ok(values)
+}
+
+// Whether a value and a copy of another one are in this order, and the same where they tie.
+fn are_ordered(alloc: Global, a: &Value, b: &Value, wanted: Ordering) -> Result<bool, NoMemory> {
+    let copied = copy_value(alloc, b)?;
+    Ok(order(a, &copied) == wanted && same(a, &copied) == wanted.is_eq())
+}
+
+// The pairs of places whose values aren't ordered as the places.
+fn disorder(alloc: Global, values: &Values) -> Result<String, NoMemory> {
+    let mut text = String::new(alloc);
+    if values.is_empty() {
+        text.push_str("no values")?;
+    }
+    for (i, a) in values.as_slice().iter().enumerate() {
+        for (j, b) in values.as_slice().iter().enumerate() {
+            if !are_ordered(alloc, a, b, i.cmp(&j))? {
+                write!(text, "{i} and {j}; ")?;
+            }
+        }
+    }
+    Ok(text)
 }
 
 #[test]
 fn values_have_an_order_and_are_the_same_where_they_tie(rt: HostRuntime) -> Result<(), Fail> {
     let values = ascending(rt.alloc())?;
-    for (i, a) in values.iter().enumerate() {
-        for (j, b) in values.iter().enumerate() {
-            let copied = copy_value(rt.alloc(), b)?;
-            assert_eq!(rt; order(a, &copied), i.cmp(&j), "{a:?} and {b:?}");
-            assert_eq!(rt; same(a, &copied), i == j, "{a:?} and {b:?}");
-        }
-    }
+    no_others(disorder(rt.alloc(), &values)?)?;
     Ok(())
 }
 
 #[test]
 fn deep_values_are_copied_and_compared(rt: HostRuntime) -> Result<(), Fail> {
-    let value = nested(rt.alloc(), 150, 7)?;
-    let greater = nested(rt.alloc(), 150, 8)?;
-    let copied = copy_value(rt.alloc(), &value)?;
-    assert!(rt; same(&value, &copied));
-    assert!(rt; !same(&value, &greater));
-    assert_eq!(rt; order(&value, &copied), Ordering::Equal);
-    assert_eq!(rt; order(&value, &greater), Ordering::Less);
-    assert_eq!(rt; order(&greater, &value), Ordering::Greater);
+    let values = deep(rt.alloc())?;
+    no_others(disorder(rt.alloc(), &values)?)?;
     Ok(())
 }
 

@@ -6,9 +6,10 @@ use crate::words::number;
 use spl_value::{Items, NoMemory, Pairs, Value};
 use std::alloc::{AllocError, Global};
 use std::test::Fail;
-use test_texts::rows::{Answers, others};
+use test_texts::rows::{Answers, expect};
 use test_texts::text::Text;
 use test_texts::values::add_value;
+use test_texts::words::cut;
 
 // The pairs of words as `5:50`, put in this order.
 fn pairs_of(alloc: Global, words: &str) -> Result<Pairs, NoMemory>
@@ -94,16 +95,9 @@ struct Calls;
 
 impl Answers for Calls {
     fn answer(&self, alloc: Global, text: &str) -> Result<String, AllocError> {
-        let Some((front, pairs)) = text.split_once(" in ") else {
-            return "no pairs".to_string(alloc);
-        };
-        let Some((call, key)) = front.split_once(' ') else {
-            return "no key".to_string(alloc);
-        };
-        match called(alloc, call, Value::Int(number(key)), pairs) {
-            Ok(answer) => Ok(answer),
-            Err(NoMemory) => "memory".to_string(alloc),
-        }
+        let (front, pairs) = text.split_once(" in ").unwrap_or((text, ""));
+        let (call, key) = cut(front);
+        called(alloc, call, Value::Int(number(key)), pairs).or_else(|_| "memory".to_string(alloc))
     }
 }
 
@@ -155,8 +149,7 @@ remove 1 in  => none of {}
 
 #[test]
 fn pairs_are_found_and_changed_at_their_keys(rt: HostRuntime) -> Result<(), Fail> {
-    let others = others(rt.alloc(), &Calls, ROWS)?;
-    assert_eq!(rt; others.as_str(), "");
+    expect(rt.alloc(), &Calls, &[ROWS])?;
     Ok(())
 }
 

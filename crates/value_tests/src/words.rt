@@ -1,29 +1,51 @@
-//! Words of rows.
-use spl_value::IntKind;
-use test_texts::types::integer_word;
-
-const KINDS: [IntKind; 8] = [
-    IntKind::I8,
-    IntKind::I16,
-    IntKind::I32,
-    IntKind::I64,
-    IntKind::U8,
-    IntKind::U16,
-    IntKind::U32,
-    IntKind::U64,
-];
-
-/// The kind of integers that has this word.
-pub(crate) fn kind_of(word: &str) -> Option<IntKind> {
-    for kind in &KINDS {
-        if integer_word(*kind) == word {
-            return Some(*kind);
-        }
-    }
-    None
-}
+//! Words of rows, and the values that they stand for.
+use spl_value::{Items, Value, Values};
+use std::alloc::{AllocError, Global};
+use test_texts::words::cut;
 
 /// The number that a word spells; what spells none stands for 0.
 pub(crate) fn number(word: &str) -> i128 {
     word.parse::<i128>().unwrap_or(0)
+}
+
+/// The bytes whose numbers these words are.
+pub(crate) fn bytes_of(alloc: Global, words: &str) -> Result<Vec<u8>, AllocError> {
+    let mut bytes = Vec::new(alloc);
+    for word in words.split_whitespace() {
+        bytes.push(word.parse::<u8>().unwrap_or(0))?;
+    }
+    Ok(bytes)
+}
+
+fn integers(alloc: Global, words: &str) -> Result<Values, AllocError> {
+    let mut values = Items::new(alloc);
+    for word in words.split_whitespace() {
+        values.push(Value::Int(number(word)))?;
+    }
+    Ok(values)
+}
+
+// A map with the keys and values of words as `1:5`, by ascending key.
+fn map(alloc: Global, words: &str) -> Result<Value, AllocError> {
+    let mut pairs = Items::new(alloc);
+    for word in words.split_whitespace() {
+        if let Some((key, value)) = word.split_once(':') {
+            pairs.push((Value::Int(number(key)), Value::Int(number(value))))?;
+        }
+    }
+    Ok(Value::Map(pairs))
+}
+
+/// The value of words: `integer 5`, `boolean true`, `text 97 0` by the numbers of its bytes, `list 1 2`,
+/// `map 1:5 2:0`, or `tuple 1 2`.
+pub(crate) fn value_of(alloc: Global, words: &str) -> Result<Value, AllocError> {
+    let (kind, words) = cut(words);
+    match kind {
+        "boolean" => Ok(Value::Bool(words == "true")),
+        "text" => Ok(Value::Text(Items::from_vec(bytes_of(alloc, words)?))),
+        "list" => Ok(Value::List(integers(alloc, words)?)),
+        "tuple" => Ok(Value::Tuple(integers(alloc, words)?)),
+        "map" => map(alloc, words),
+        _ => Ok(Value::Int(number(words))),
+    }
 }

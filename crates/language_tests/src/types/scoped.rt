@@ -298,3 +298,15 @@ tuple<rstring b, boolean c> => tuple<rstring b, boolean c>
 tuple<int64 a, tuple<rstring b, boolean c> d> => tuple<int64 a, tuple<rstring b, boolean c> d>
 list<tuple<rstring b, boolean c>> => list<tuple<rstring b, boolean c>>
 "#;
+
+pub(crate) const DEFAULTS: &str = r#"
+int8 => 0
+uint64 => 0
+boolean => false
+rstring => ''
+list<boolean> => []
+map<rstring, boolean> => {}
+map<rstring, rstring> => {}
+tuple<int32 a, list<map<rstring, boolean>> b> => <0, []>
+tuple<tuple<int32 a, list<map<rstring, boolean>> b> c, rstring d, boolean e> => <<0, []>, '', false>
+"#;

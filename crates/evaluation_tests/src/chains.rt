@@ -1,0 +1,52 @@
+//! Calls inside calls.
+use crate::values::Values;
+use expr_eval::DEEPEST;
+use std::alloc::{AllocError, Global};
+use std::test::Fail;
+use test_texts::rows::expect;
+
+/// How many functions a chain has: 750, one more than may call each other. A call takes two of how deep
+/// codes and statements may nest, itself and the `return` of its function, and the number at the end one.
+const COUNT: u32 = DEEPEST / 2;
+
+// Functions behind the chain.
+const BEHIND: &str = r#"
+int32 less() { return -f747(); }
+int32 least() { return -(-f747()); }
+int32 more() { return -(-f746()); }
+"#;
+
+// A unit whose first function gives 1, and in which each other one of a chain calls the one before it.
+fn chain(alloc: Global) -> Result<String, AllocError> {
+    let mut unit = "int32 f0() { return 1; }".to_string(alloc)?;
+    for number in 1..COUNT {
+        let before = number - 1;
+        write!(unit, " int32 f{number}() {{ return f{before}(); }}")?;
+    }
+    unit.push_str(BEHIND)?;
+    Ok(unit)
+}
+
+const ROWS: &str = r#"
+f499() @ 500 => 1 | 0
+f499() @ 499 => Turns
+# No more than 1,500 codes and statements may nest, those of called functions too.
+f748() @ 749 => 1 | 0
+f749() @ 750 => no memory
+-f748() @ 749 => -1 | 0
+--f748() @ 749 => 1 | 0
+-(-f748()) @ 749 => no memory
+less() @ 749 => -1 | 0
+least() @ 749 => no memory
+-less() @ 749 => no memory
+-more() @ 748 => -1 | 0
+-(-more()) @ 748 => no memory
+"#;
+
+#[test]
+fn calls_nest_at_most_so_deep(rt: HostRuntime) -> Result<(), Fail> {
+    let unit = chain(rt.alloc())?;
+    let values = Values::new(rt.alloc(), unit.as_str(), None)?;
+    expect(rt.alloc(), &values, &[ROWS])?;
+    Ok(())
+}

@@ -1,7 +1,0 @@
-use Rattle.std.proofs.Common.{refl}
-use Rattle.language_tests.proofs.Steps.{body_fits}
-use Rattle.language_tests.proofs.bodies.body_code.Goals as goal
-
-pub returns-clause-fits : goal.returns-clause-fits
-returns-clause-fits c =
-    body_fits c.bodies_law.ensures.fits c.dollars_law.ensures.none _ _ c.args.scope.now _ c.in_ok-body.body refl c.requires c.in_ok-body.ensures.code

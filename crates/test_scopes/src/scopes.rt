@@ -1,0 +1,103 @@
+//! The scopes that texts are typed in.
+use crate::context::Context;
+use crate::reading::unit_of;
+use crate::unanswered::Unanswered;
+use body_rules::scope_of_unit;
+use language_model::{CheckError, CheckRefusal, Dollar, Scope, TypeAnswer, Typed};
+use spl_tree::{CompositeParameter, Definition, Marker, Unit};
+use spl_value::{Items, SplType};
+use std::alloc::Global;
+use type_rules::type_of;
+use written_types::{TypeScope, TypeTable, shape_of, type_of_written};
+
+// The type that a unit begins with.
+fn first_type(alloc: Global, unit: &Unit) -> Result<SplType, Unanswered> {
+    let Some(Definition::Type(definition)) = unit.get(0) else {
+        return Err(Unanswered::Unread("no type"));
+    };
+    let table = TypeTable::of_unit(alloc, unit)?;
+    Ok(shape_of(alloc, &TypeScope::of_unit(&table), &definition.shape)?)
+}
+
+/// The type of a text.
+pub fn type_named(alloc: Global, text: &str) -> Result<SplType, Unanswered> {
+    let text = format!(in alloc; "type Wanted = {text};")?;
+    let unit = unit_of(alloc, text.as_str())?;
+    first_type(alloc, &unit)
+}
+
+/// The scope of a unit with its variables, and its ports unless a marker came.
+pub fn scope_of(alloc: Global, text: &str, came: Option<Marker>) -> Result<Scope, Unanswered> {
+    let unit = unit_of(alloc, text)?;
+    let context = Context::new(alloc, &unit, &unit, came)?;
+    Ok(context.scope)
+}
+
+// What stands for a parameter: its default, where it has one.
+fn found(
+    alloc: Global,
+    types: &TypeScope,
+    scope: &Scope,
+    parameter: &CompositeParameter,
+) -> Result<Result<Typed, CheckRefusal>, Unanswered> {
+    let kind = type_of_written(alloc, types, &parameter.kind)?;
+    let Some(default) = &parameter.default else {
+        return Ok(Err(CheckRefusal {
+            error: CheckError::MissingParameter,
+            at: parameter.name.at,
+            name: None,
+        }));
+    };
+    match type_of(alloc, scope, default, Some(&kind)) {
+        Ok(typed) => Ok(Ok(typed)),
+        Err(TypeAnswer::Refused(refusal)) => Ok(Err(refusal)),
+        Err(TypeAnswer::Memory) => Err(Unanswered::Memory),
+    }
+}
+
+fn dollar(
+    alloc: Global,
+    types: &TypeScope,
+    scope: &Scope,
+    parameter: &CompositeParameter,
+) -> Result<Dollar, Unanswered> {
+    let name = Items::from_slice(alloc, parameter.name.what.as_slice())?;
+    let found = found(alloc, types, scope, parameter)?;
+    Ok(Dollar { name, found })
+}
+
+fn dollars(
+    alloc: Global,
+    unit: &Unit,
+    scope: &Scope,
+    parameters: &[CompositeParameter],
+) -> Result<Items<Dollar>, Unanswered> {
+    let table = TypeTable::of_unit(alloc, unit)?;
+    let types = TypeScope::of_unit(&table);
+    let mut made = Items::new(alloc);
+    for parameter in parameters {
+        made.push(dollar(alloc, &types, scope, parameter)?)?;
+    }
+    Ok(made)
+}
+
+// Adds the parameters of the composite with which a unit begins, and the unit's functions whose types aren't
+// any.
+fn add_parameters(alloc: Global, scope: &mut Scope, unit: &Unit) -> Result<(), Unanswered> {
+    let Some(Definition::Composite(composite)) = unit.get(0) else {
+        return Err(Unanswered::Unread("no composite"));
+    };
+    let own = scope_of_unit(alloc, unit)?;
+    scope.dollars = dollars(alloc, unit, &own, composite.parameters.as_slice())?;
+    scope.unresolved = own.unresolved;
+    Ok(())
+}
+
+/// The scope of a unit where a tuple came, with the `$` parameters of the composite with which another
+/// unit begins, and with the functions of that unit whose types aren't any.
+pub fn scope_in(alloc: Global, text: &str, composite: &str) -> Result<Scope, Unanswered> {
+    let unit = unit_of(alloc, composite)?;
+    let mut scope = scope_of(alloc, text, None)?;
+    add_parameters(alloc, &mut scope, &unit)?;
+    Ok(scope)
+}

@@ -1,0 +1,18 @@
+//! Words of rows.
+use spl_value::{Bytes, Items};
+use std::alloc::{AllocError, Global};
+
+/// The pieces of a text that stand in front of the first blank and behind it.
+pub fn cut(text: &str) -> (&str, &str) {
+    text.split_once(' ').unwrap_or((text, ""))
+}
+
+/// The number that a text is, or 0.
+pub fn number(text: &str) -> u32 {
+    text.parse::<u32>().unwrap_or(0)
+}
+
+/// The bytes of a text.
+pub fn bytes(alloc: Global, text: &str) -> Result<Bytes, AllocError> {
+    Items::from_slice(alloc, text.as_bytes())
+}
