@@ -1,8 +1,9 @@
 //! From the graph of a program to a checked one.
 ghost use Rattle.std.specs.Prelude.{◌≡◌, ℕ, List, Ok, length};
-ghost use Rattle.language_model.specs.Checking.{checked, each_stream};
+ghost use Rattle.language_model.specs.Checking.{checked, each_stream, operators_checked};
 ghost use Rattle.language_model.specs.Flat.{IsFlat};
 ghost use Rattle.language_model.specs.Numbering.{numbers_from};
+ghost use Rattle.language_model.specs.Parameters.{dollar_tables};
 ghost use Rattle.stream_rules.specs.Streams.{IsTableOf};
 ghost use Rattle.language_model.specs.Finds.{Finds, Narrows};
 ghost use Rattle.clause_rules.specs.Programs.{AreInvoked, found_in};
@@ -58,6 +59,31 @@ fn each_stream(
     Ok(schemas)
 }
 
+/// The parts of the operators, where this is what is known of bodies and streams.
+fn parts_of<'a>(
+    alloc: Global,
+    graph: &'a Graph,
+    sites: &Sites<'a>,
+    streams: &StreamTable,
+) -> Result<Items<Part>, TypeAnswer>
+    requires table { IsTableOf sites.now.unit.now graph.now streams.now }
+    requires expansions { sites.now.expansions.now ≡ graph.now.expansions }
+    requires invoked { AreInvoked sites.now.unit.now graph.now }
+    ensures { Finds (operators_checked sites.now.unit.now graph.now (dollar_tables sites.now.unit.now graph.now.expansions) graph.now.ops) result }
+{
+    let composites = CompositeTable::new(alloc, sites.unit)?;
+    let mut scope = scope_of_unit(alloc, sites.unit)?;
+    let tables = dollar_tables(alloc, sites.unit, graph.expansions.as_slice())?;
+    let mut tables = tables.into_vec();
+    let program = Program {
+        graph,
+        sites,
+        streams,
+        composites: &composites,
+    };
+    operators_checked(alloc, &program, &mut scope, tables.as_mut_slice())
+}
+
 /// What is found of the operators and of the streams.
 fn found_of<'a>(alloc: Global, unit: &'a Unit, graph: &'a Graph) -> Result<Found, TypeAnswer>
     requires { AreInvoked unit.now graph.now }
@@ -66,18 +92,7 @@ fn found_of<'a>(alloc: Global, unit: &'a Unit, graph: &'a Graph) -> Result<Found
     let expansions = graph.expansions.as_slice();
     let sites = Sites::new(alloc, unit, expansions)?;
     let streams = StreamTable::new(alloc, &sites, graph)?;
-    let composites = CompositeTable::new(alloc, unit)?;
-    let mut scope = scope_of_unit(alloc, unit)?;
-    let tables = dollar_tables(alloc, unit, expansions)?;
-    let mut tables = tables.into_vec();
-    let program = Program {
-        graph,
-        sites: &sites,
-        streams: &streams,
-        composites: &composites,
-    };
-    let slice = tables.as_mut_slice();
-    let parts = operators_checked(alloc, &program, &mut scope, slice)?;
+    let parts = parts_of(alloc, graph, &sites, &streams)?;
     let schemas = each_stream(alloc, &sites, graph, &streams)?;
     Ok(Found { parts, schemas })
 }

@@ -1,12 +1,14 @@
 //! The clauses of an operator with their codes.
-ghost use Rattle.std.specs.Prelude.{◌≡◌, [], false, map, codes, IfOk};
+ghost use Rattle.std.specs.Prelude.{◌≡◌, [], false, map, codes, IfOk, Ok};
 ghost use Rattle.std.specs.List.{list_all};
 ghost use Rattle.std.specs.Option.{option_copied};
 ghost use Rattle.spl_value.specs.declared.types.SplType.TheViews.{out-SplType};
 ghost use Rattle.language_model.specs.declared.checked.Part.TheVariants as A;
 ghost use Rattle.language_model.specs.Checking.{code_given, file_sink, file_source, aggregated, functor, has_output, has_text_form, joined, level_text_form, no_logic, output_rows, part_of, places_given, plain, position_given, punctor, split, there, union};
+ghost use Rattle.language_model.specs.LogicTyping.{logic_typing};
+ghost use Rattle.language_model.specs.Typing.{after};
 ghost use Rattle.language_model.specs.Finds.{Finds};
-ghost use Rattle.clause_rules.specs.Operators.{checks_seen, groups_at, rows_of_schemas, rows_seen, tuple_at};
+ghost use Rattle.clause_rules.specs.Operators.{around_seen, checks_seen, groups_at, rows_of_schemas, rows_seen, tuple_at};
 
 use crate::refusals::{refused, refused_name};
 use language_model::{
@@ -67,12 +69,19 @@ fn no_logic(alloc: Global, logic: Option<&Placed<Logic>>) -> Result<(), TypeAnsw
     }
 }
 
+/// What is found of an operator without logic.
+fn without_logic<T: Drop>(alloc: Global, clauses: &Clauses, found: T) -> Result<T, TypeAnswer>
+    ensures { Finds (after (no_logic clauses.now.logic) (λ _. Ok found)) result }
+{
+    no_logic(alloc, clauses.logic.as_ref())?;
+    Ok(found)
+}
+
 /// A part of an operator without logic.
 fn plain(alloc: Global, clauses: &Clauses, part: Part) -> Result<Part, TypeAnswer>
     ensures { Finds (plain clauses.now part) result }
 {
-    no_logic(alloc, clauses.logic.as_ref())?;
-    Ok(part)
+    without_logic(alloc, clauses, part)
 }
 
 fn has_field(kind: &SplType) -> bool
@@ -350,6 +359,23 @@ fn join(
     )
 }
 
+fn custom(
+    alloc: Global,
+    around: &Around,
+    scope: &mut Scope,
+    _: Checks,
+    clauses: &Clauses,
+) -> Result<Part, TypeAnswer>
+    requires no_variables { scope.old.vars ≡ [] }
+    requires no_marker { scope.old.punct ≡ false }
+    ensures part { Finds (after (logic_typing (around_seen around.now scope.old) clauses.now.logic) (λ handlers. Ok (A.Custom handlers))) result }
+    ensures same_scope { IfOk result (λ _. scope.new ≡ scope.old) }
+{
+    let logic = clauses.logic.as_ref();
+    let handlers = logic_of(alloc, &around.types, scope, around.outputs, logic)?;
+    Ok(Part::Custom { handlers })
+}
+
 /// The clauses of an operator of a kind. The scope is changed on the way, and is as before where the
 /// operator isn't refused.
 pub(crate) fn part_of(
@@ -374,11 +400,7 @@ pub(crate) fn part_of(
         OpKind::Punctor => punctor(alloc, around, scope, checks, clauses),
         OpKind::Split => split(alloc, around, scope, checks, clauses),
         OpKind::Union => union(alloc, around, scope, checks, clauses),
-        OpKind::Custom => {
-            let logic = clauses.logic.as_ref();
-            let handlers = logic_of(alloc, &around.types, scope, around.outputs, logic)?;
-            Ok(Part::Custom { handlers })
-        }
+        OpKind::Custom => custom(alloc, around, scope, checks, clauses),
         OpKind::Aggregate => aggregate(alloc, around, scope, checks, clauses, rows),
         OpKind::Join => join(alloc, around, scope, checks, clauses, rows),
     }

@@ -17,6 +17,7 @@ pub(crate) enum Command {
 }
 
 ghost use Rattle.command_line.specs.Commands.{command_of, options_of, is_of};
+ghost use Rattle.command_line.specs.declared.commands.Command.TheVariants.{Run, Simulate};
 
 /// The command of this name.
 pub(crate) fn command_of(word: &str) -> Option<Command>
@@ -33,24 +34,32 @@ pub(crate) fn command_of(word: &str) -> Option<Command>
     }
 }
 
+// Whether `run` has this option with a value.
+fn is_of_run(name: &[u8]) -> bool
+    ensures { result ≡ list_any (λ option. bytes_eq name.now option) (options_of Run) }
+{
+    name == b"width".as_slice()
+        || name == b"workers".as_slice()
+        || name == b"capacity".as_slice()
+        || name == b"arrivals".as_slice()
+}
+
+// Whether `simulate` has this option with a value.
+fn is_of_simulate(name: &[u8]) -> bool
+    ensures { result ≡ list_any (λ option. bytes_eq name.now option) (options_of Simulate) }
+{
+    name == b"width".as_slice() || name == b"schedule".as_slice() || name == b"steps".as_slice()
+}
+
 // Whether a command has this option with a value.
 fn has_option(command: Command, name: &[u8]) -> bool
     ensures { result ≡ list_any (λ option. bytes_eq name.now option) (options_of command) }
 {
     match command {
         Command::Check | Command::Plan => false,
-        Command::Run => {
-            name == b"width".as_slice()
-                || name == b"workers".as_slice()
-                || name == b"capacity".as_slice()
-                || name == b"arrivals".as_slice()
-        }
+        Command::Run => is_of_run(name),
         Command::Replay => name == b"arrivals".as_slice(),
-        Command::Simulate => {
-            name == b"width".as_slice()
-                || name == b"schedule".as_slice()
-                || name == b"steps".as_slice()
-        }
+        Command::Simulate => is_of_simulate(name),
         Command::Make => name == b"rows".as_slice() || name == b"start".as_slice(),
     }
 }

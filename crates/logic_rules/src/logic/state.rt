@@ -67,9 +67,9 @@ fn state_variable(
     requires { scope.now ≡ constant_scope scope.now.dollars }
     ensures { Finds (state_variable (types_in types.now) scope.now.dollars declaration.now) result }
 {
+    let name = Items::from_slice(alloc, declaration.name.what.as_slice())?;
     let kind = type_of_written(alloc, types, &declaration.kind)?;
     let first = state_value(alloc, scope, &kind, declaration.value.as_ref())?;
-    let name = Items::from_slice(alloc, declaration.name.what.as_slice())?;
     let variable = Variable {
         name,
         kind,

@@ -136,8 +136,9 @@ fn others<T: Gives>(
     let mut given = front;
     for (place, attribute) in schema.schema.iter().enumerate() {
         if !marks[place] {
+            let number = narrow(place)?;
             let value = gives.filled(alloc, attribute)?;
-            given.push((narrow(place)?, value))?;
+            given.push((number, value))?;
         }
     }
     Ok(given)

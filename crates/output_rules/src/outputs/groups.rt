@@ -1,9 +1,9 @@
 //! Outputs of a group of tuples.
-ghost use Rattle.std.specs.Prelude.{◌≡◌, IfOk};
+ghost use Rattle.std.specs.Prelude.{◌≡◌, IfOk, Some};
 ghost use Rattle.std.specs.Option.{option_copied, option_map};
 ghost use Rattle.spl_value.specs.declared.types.SplType.TheViews.{out-SplType};
 ghost use Rattle.spl_tree.specs.declared.expression.ExprKind.TheViews.{out-ExprKind};
-ghost use Rattle.language_model.specs.OutputTyping.{assigned_group, called_typing, collected, collecting_of, groups_typing, last_of, level_gathered, level_gathers};
+ghost use Rattle.language_model.specs.OutputTyping.{assigned_group, called_typing, collected, collecting_of, groups_typing, last_of, level_gathered, level_gathers, of_wanted};
 ghost use Rattle.language_model.specs.Finds.{Finds};
 ghost use Rattle.output_rules.specs.Collecting.{collecting_meant, collector_on, counted};
 
@@ -130,6 +130,17 @@ fn gathered(alloc: Global, scope: &Scope, value: &Expr) -> Result<Gathers, TypeA
     }
 }
 
+/// What is collected, where it is of the type that is wanted.
+fn of_type(at: u32, kind: &SplType, found: Gathers) -> Result<Gathers, TypeAnswer>
+    ensures { Finds (of_wanted at (Some kind.now) found) result }
+{
+    if is_same(&found.kind, kind) {
+        Ok(found)
+    } else {
+        Err(mismatch(at))
+    }
+}
+
 /// Values collected in a scope, for an output at an invocation.
 #[derive(Drop)]
 struct Collections<'s> {
@@ -153,22 +164,17 @@ impl<'s> Gives for Collections<'s> {
         let found = gathered(alloc, self.inputs.scope, value)?;
         match wanted {
             None => Ok(found),
-            Some(kind) => {
-                if is_same(&found.kind, kind) {
-                    Ok(found)
-                } else {
-                    Err(mismatch(value.at))
-                }
-            }
+            Some(kind) => of_type(value.at, kind, found),
         }
     }
 
     fn filled(&self, alloc: Global, attribute: &Attribute) -> Result<Gathers, TypeAnswer> {
+        let kind = copy_type(alloc, &attribute.kind)?;
         let code = self.inputs.taken_over(self.at, attribute)?;
         Ok(Gathers {
             collector: Collector::Last,
             argument: Some(code),
-            kind: copy_type(alloc, &attribute.kind)?,
+            kind,
         })
     }
 }
