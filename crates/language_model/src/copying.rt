@@ -1,13 +1,14 @@
 //! Copies of typed codes and of refusals.
 ghost use Rattle.std.specs.Prelude.{◌≡◌, IfOk};
+ghost use Rattle.spl_tree.specs.declared.code.Code.TheVariants as C;
 
 use crate::code_lists::{
     Codes, EntryCodes, FieldCodes, Takings, push_code, push_element, push_entry, push_field,
     push_key,
 };
 use crate::scope::{CheckRefusal, Typed};
-use spl_tree::{Code, Slot, Taking};
-use spl_value::{Boxed, Items, NoMemory, copy_type, copy_value};
+use spl_tree::{BinaryCode, BuiltIn, Code, Slot, Taking, UnaryCode};
+use spl_value::{Boxed, Items, NoMemory, Value, copy_type, copy_value};
 use std::alloc::Global;
 
 /// A code in a box.
@@ -17,54 +18,119 @@ fn in_box(alloc: Global, code: Code<Slot>) -> Result<Boxed<Code<Slot>>, NoMemory
     Ok(Boxed::new(alloc, code)?)
 }
 
+fn list(alloc: Global, elements: Codes) -> Result<Boxed<Code<Slot>>, NoMemory>
+    ensures { IfOk result (λ code. code ≡ C.List elements) }
+{
+    in_box(alloc, Code::List(elements))
+}
+
+fn map(alloc: Global, entries: EntryCodes) -> Result<Boxed<Code<Slot>>, NoMemory>
+    ensures { IfOk result (λ code. code ≡ C.Map entries) }
+{
+    in_box(alloc, Code::Map(entries))
+}
+
+fn tuple(alloc: Global, fields: FieldCodes) -> Result<Boxed<Code<Slot>>, NoMemory>
+    ensures { IfOk result (λ code. code ≡ C.Tuple fields) }
+{
+    in_box(alloc, Code::Tuple(fields))
+}
+
+fn built_in(alloc: Global, call: BuiltIn, arguments: Codes) -> Result<Boxed<Code<Slot>>, NoMemory>
+    ensures { IfOk result (λ code. code ≡ C.BuiltIn call arguments) }
+{
+    in_box(alloc, Code::BuiltIn(call, arguments))
+}
+
+fn call(alloc: Global, place: u32, arguments: Codes) -> Result<Boxed<Code<Slot>>, NoMemory>
+    ensures { IfOk result (λ code. code ≡ C.Call place arguments) }
+{
+    in_box(alloc, Code::Call(place, arguments))
+}
+
+fn select(
+    alloc: Global,
+    base: Boxed<Code<Slot>>,
+    takings: Takings,
+) -> Result<Boxed<Code<Slot>>, NoMemory>
+    ensures { IfOk result (λ code. code ≡ C.Select base takings) }
+{
+    in_box(alloc, Code::Select(base, takings))
+}
+
+fn unary(
+    alloc: Global,
+    operators: &[UnaryCode],
+    operand: Boxed<Code<Slot>>,
+) -> Result<Boxed<Code<Slot>>, NoMemory>
+    ensures { IfOk result (λ code. code ≡ C.Unary operators.now operand) }
+{
+    let operators = Items::from_slice(alloc, operators)?;
+    in_box(alloc, Code::Unary(operators, operand))
+}
+
+fn binary(
+    alloc: Global,
+    operator: BinaryCode,
+    left: Boxed<Code<Slot>>,
+    right: Boxed<Code<Slot>>,
+) -> Result<Boxed<Code<Slot>>, NoMemory>
+    ensures { IfOk result (λ code. code ≡ C.Binary operator left right) }
+{
+    in_box(alloc, Code::Binary(operator, left, right))
+}
+
+fn conditional(
+    alloc: Global,
+    condition: Boxed<Code<Slot>>,
+    first: Boxed<Code<Slot>>,
+    second: Boxed<Code<Slot>>,
+) -> Result<Boxed<Code<Slot>>, NoMemory>
+    ensures { IfOk result (λ code. code ≡ C.Conditional condition first second) }
+{
+    in_box(alloc, Code::Conditional(condition, first, second))
+}
+
+fn literal(alloc: Global, value: &Value) -> Result<Boxed<Code<Slot>>, NoMemory>
+    ensures { IfOk result (λ code. code ≡ C.Literal value.now) }
+{
+    let value = copy_value(alloc, value)?;
+    in_box(alloc, Code::Literal(value))
+}
+
 /// A copy of a code.
 #[cycle(copy)]
 fn copy_code(alloc: Global, code: &Code<Slot>) -> Result<Boxed<Code<Slot>>, NoMemory>
     ensures { IfOk result (λ copy. copy ≡ code.now) }
 {
     match code {
-        Code::Literal(value) => in_box(alloc, Code::Literal(copy_value(alloc, value)?)),
+        Code::Literal(value) => literal(alloc, value),
         Code::Name(slot) => in_box(alloc, Code::Name(*slot)),
-        Code::List(elements) => {
-            let elements = copy_codes(alloc, elements.as_slice())?;
-            in_box(alloc, Code::List(elements))
-        }
-        Code::Map(entries) => {
-            let entries = copy_entries(alloc, entries.as_slice())?;
-            in_box(alloc, Code::Map(entries))
-        }
-        Code::Tuple(fields) => {
-            let fields = copy_fields(alloc, fields.as_slice())?;
-            in_box(alloc, Code::Tuple(fields))
-        }
+        Code::List(elements) => list(alloc, copy_codes(alloc, elements.as_slice())?),
+        Code::Map(entries) => map(alloc, copy_entries(alloc, entries.as_slice())?),
+        Code::Tuple(fields) => tuple(alloc, copy_fields(alloc, fields.as_slice())?),
         Code::Select(base, takings) => {
             let base = copy_code(alloc, base.get())?;
-            let takings = copy_takings(alloc, takings.as_slice())?;
-            in_box(alloc, Code::Select(base, takings))
+            select(alloc, base, copy_takings(alloc, takings.as_slice())?)
         }
         Code::Unary(operators, operand) => {
             let operand = copy_code(alloc, operand.get())?;
-            let operators = Items::from_slice(alloc, operators.as_slice())?;
-            in_box(alloc, Code::Unary(operators, operand))
+            unary(alloc, operators.as_slice(), operand)
         }
         Code::Binary(operator, left, right) => {
             let left = copy_code(alloc, left.get())?;
-            let right = copy_code(alloc, right.get())?;
-            in_box(alloc, Code::Binary(*operator, left, right))
+            binary(alloc, *operator, left, copy_code(alloc, right.get())?)
         }
         Code::Conditional(condition, first, second) => {
             let condition = copy_code(alloc, condition.get())?;
             let first = copy_code(alloc, first.get())?;
-            let second = copy_code(alloc, second.get())?;
-            in_box(alloc, Code::Conditional(condition, first, second))
+            conditional(alloc, condition, first, copy_code(alloc, second.get())?)
         }
-        Code::BuiltIn(call, arguments) => {
-            let arguments = copy_codes(alloc, arguments.as_slice())?;
-            in_box(alloc, Code::BuiltIn(*call, arguments))
+        Code::BuiltIn(name, arguments) => {
+            built_in(alloc, *name, copy_codes(alloc, arguments.as_slice())?)
         }
         Code::Call(place, arguments) => {
-            let arguments = copy_codes(alloc, arguments.as_slice())?;
-            in_box(alloc, Code::Call(*place, arguments))
+            call(alloc, *place, copy_codes(alloc, arguments.as_slice())?)
         }
         Code::IsMarker(marker) => in_box(alloc, Code::IsMarker(*marker)),
         Code::IsNotMarker(marker) => in_box(alloc, Code::IsNotMarker(*marker)),
