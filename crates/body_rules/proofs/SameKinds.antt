@@ -3,7 +3,7 @@ use Rattle.std.specs.Prelude.{◌≡◌, ◌↔◌, IsTrue, Bool, true, false}
 use Rattle.std.proofs.Common.{refl, sym}
 use Rattle.spl_value.specs.declared.types.SplType.{SplType}
 use Rattle.language_model.specs.Typing.{same_types}
-use Rattle.language_model.specs.TypingLaws.{same_types_law}
+use Rattle.language_model.proofs.TypingLaws.{same_types_law}
 
 both_true : (a b : Bool) (P : Type 0) → (IsTrue a ↔ P) → (IsTrue b ↔ P) → a ≡ b
 both_true true true P f g = refl

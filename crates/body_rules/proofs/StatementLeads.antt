@@ -6,7 +6,7 @@ use Rattle.spl_tree.specs.declared.statement.StmtKind.{StmtKind}
 use Rattle.spl_tree.specs.StatementGrammar.{Stmt}
 use Rattle.language_model.specs.declared.scope.Scope.{Scope}
 use Rattle.language_model.specs.BodyTyping.{Setting, alone, part_stated, stated, staying, way_out}
-use Rattle.language_model.specs.BodyTypingLaws.{kind_stated}
+use Rattle.language_model.proofs.BodyTypingLaws.{kind_stated}
 use Rattle.language_model.specs.Typing.{Found, after}
 use Rattle.language_model.specs.declared.answer.TypeAnswer.{TypeAnswer}
 use Rattle.language_model.specs.declared.answer.TypeAnswer.TheVariants.{Refused, Memory}

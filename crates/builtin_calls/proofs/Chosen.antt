@@ -3,7 +3,7 @@ use Rattle.std.proofs.Common.{◌≡◌, ◌∙◌, Bool, true, false, ap, subst
 use Rattle.spl_value.specs.declared.item.Evaluated.{Evaluated}
 use Rattle.spl_value.specs.declared.value.Value.{Value}
 use Rattle.spl_value.specs.Calls.{Answers, Gives, FitOrdered, lesser, greater, min_of, max_of}
-use Rattle.spl_value.specs.CallsLaws.{min_of_alike, max_of_alike}
+use Rattle.spl_value.proofs.CallsLaws.{min_of_alike, max_of_alike}
 
 pub when_true : (b : Bool) (v u w : Value) → b ≡ true → v ≡ u → v ≡ (if b then u else w)
 when_true b v u w t e = e ∙ sym (ap (λ c. if c then u else w) t)

@@ -9,7 +9,7 @@ use Rattle.spl_value.specs.declared.types.IntKind.TheVariants.{I8, I16, I32, I64
 use Rattle.spl_value.specs.declared.types.SplType.TheVariants as S
 use Rattle.spl_value.specs.declared.value.Value.{Value}
 use Rattle.spl_value.specs.declared.value.Value.TheVariants as V
-use Rattle.spl_value.specs.FitsLaws.{fits_int}
+use Rattle.spl_value.proofs.FitsLaws.{fits_int}
 use Rattle.spl_value.specs.Values.{fits, kind_holds, modulus, top}
 
 widths : (k : IntKind) → (top k ≤ 2 ^ 64) × (modulus k - top k ≤ 2 ^ 64)

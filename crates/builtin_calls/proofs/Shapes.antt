@@ -6,7 +6,7 @@ use Rattle.spl_value.specs.declared.types.SplType.TheVariants as S
 use Rattle.spl_value.specs.declared.value.Value.{Value}
 use Rattle.spl_value.specs.declared.value.Value.TheVariants as V
 use Rattle.spl_value.specs.Calls.{FitsCollection}
-use Rattle.spl_value.specs.FitsLaws.{pair_fits, fits_map, list_from_fits, map_from_fits}
+use Rattle.spl_value.proofs.FitsLaws.{pair_fits, fits_map, list_from_fits, map_from_fits}
 use Rattle.spl_value.specs.Pairs.{are_pairs}
 use Rattle.spl_value.specs.Values.{fits}
 

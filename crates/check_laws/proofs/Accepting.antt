@@ -15,7 +15,7 @@ use Rattle.language_model.specs.BodyLaws.{BodyFitLaw}
 use Rattle.language_model.specs.CodeFits.{CodeFits}
 use Rattle.language_model.specs.FitLaws.{ConstantLaw, DollarsFit, FitLaw, WantedLaw}
 use Rattle.language_model.specs.Typing.{Found, after, same_types, typing}
-use Rattle.language_model.specs.TypingLaws.{same_types_law}
+use Rattle.language_model.proofs.TypingLaws.{same_types_law}
 
 -- what typing is known to give
 pub record TypingGives : Type 0 where

@@ -12,7 +12,7 @@ use Rattle.spl_tree.specs.declared.unit.OutputAssignments.{OutputAssignments}
 use Rattle.spl_tree.specs.Grammar.{Expr}
 use Rattle.language_model.specs.OutputTyping.{Assigned, Assigns, Fills, as_attribute, assignment_typing, assignments_typing, bad_output, filled_from, is_assigned, places, rows_typing, wanted_of, with_others}
 use Rattle.language_model.specs.Scopes.{At, attribute_of}
-use Rattle.language_model.specs.Standing.{Bears, attribute_there}
+use Rattle.language_model.proofs.Standing.{Bears, attribute_there}
 use Rattle.language_model.specs.StreamTypes.{Attributes}
 use Rattle.language_model.specs.Typing.{after, unknown}
 use Rattle.check_laws.proofs.Accepting.{Gives, gives_after, gives_if, gives_on, gives_then}

@@ -6,7 +6,7 @@ use Rattle.std.specs.Cmp.{first_so, second_so}
 use Rattle.std.proofs.Common.{refl, sym, ap, subst, ◌∙◌, arith}
 use Rattle.std.proofs.lemmas.Bool.{eqb-true}
 use Rattle.spl_value.specs.declared.types.SplType.{SplType}
-use Rattle.spl_value.specs.FitsLaws.{default_fits}
+use Rattle.spl_value.proofs.FitsLaws.{default_fits}
 use Rattle.spl_value.specs.Values.{default_value}
 use Rattle.spl_tree.specs.declared.body.Statement.{Statement}
 use Rattle.spl_tree.specs.declared.code.Code.{Code}
@@ -32,7 +32,7 @@ use Rattle.language_model.specs.Keeping.{HandlersFit, tuple_scope}
 use Rattle.language_model.specs.LogicTyping.{Surroundings, event_word, handler_of, handler_scope, handler_setting, handler_typing, handlers_made, handlers_on, handlers_typing, is_event, is_plain, is_state_value, logic_typing, state_typing, state_value, state_variable}
 use Rattle.language_model.specs.Parameters.{constant_scope}
 use Rattle.language_model.specs.Scopes.{At, first_from}
-use Rattle.language_model.specs.Standing.{Stands, first_stands}
+use Rattle.language_model.proofs.Standing.{Stands, first_stands}
 use Rattle.language_model.specs.TypeNames.{Types, type_meant}
 use Rattle.language_model.specs.Typing.{after, refused, typing}
 use Rattle.check_laws.proofs.Accepting.{Gives, TypingGives, gives_after, gives_from, gives_if, gives_then, none_at, wanted_fits}

@@ -35,10 +35,10 @@ use Rattle.language_model.specs.Keeping as F
 use Rattle.language_model.specs.Keeping.{CollectorFits, GroupsFit, PlacesFit}
 use Rattle.language_model.specs.OutputTyping.{Assigned, Collecting, Summing, Extreme, Choosing, Counting, assigned_code, assigned_group, bad_output, called_typing, collected, collecting_of, gathered_by, gathers, groups_typing, inputs_typing, last_of, level_gathered, level_gathers, of_wanted, one_attribute, place_in, places_typing, rows_typing, taken_over, tuple_typing, with_others}
 use Rattle.language_model.specs.Scopes.{At, OfAttribute, PortAttribute, attribute_of, attributes_of, last_from, meant, port_of, variable_meant, variable_of}
-use Rattle.language_model.specs.Standing.{Bears, attribute_there}
+use Rattle.language_model.proofs.Standing.{Bears, attribute_there}
 use Rattle.language_model.specs.StreamTypes.{Attributes}
 use Rattle.language_model.specs.Typing.{Found, after, as_wanted, meant_typed, mismatch, same_types, typed, typing}
-use Rattle.language_model.specs.TypingLaws as L
+use Rattle.language_model.proofs.TypingLaws as L
 use Rattle.check_laws.proofs.Accepting.{Gives, TypingGives, gives_after, gives_if, gives_then, none_at, rolled, same_equal, typed_fits, wanted_fits}
 use Rattle.check_laws.proofs.AssignedOnce.{AssignsFit, EachOnce, FillsFit, ForAttribute, counts_times, each_once, times}
 

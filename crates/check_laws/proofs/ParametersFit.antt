@@ -33,7 +33,7 @@ use Rattle.language_model.specs.Keeping.{ConditionFits, KeysFit, Once}
 use Rattle.language_model.specs.Literals.{file_or_mismatch, file_typing, is_file_name, level_file, level_text, text_at}
 use Rattle.language_model.specs.ParameterTyping.{Role, AsFile, AsFormat, AsParsing, AsCondition, AsPosition, AsIndex, AsAttributes, Site, extra, first_schema, format_of, key_at, key_of, keys_typing, level_index, level_key, missing, needed, one_value, parameter_typing, parameters_typing, parsing_of, position_of, role_of, single_value, some_keys, value_given, value_typing, word_of}
 use Rattle.language_model.specs.Scopes.{At, attribute_of}
-use Rattle.language_model.specs.Standing.{Bears, attribute_there}
+use Rattle.language_model.proofs.Standing.{Bears, attribute_there}
 use Rattle.language_model.specs.Typing.{after, mismatch, typing}
 use Rattle.check_laws.proofs.Accepting.{Gives, TypingGives, gives_after, gives_if, gives_then, none_at, rolled, typed_fits, wanted_fits}
 

@@ -33,7 +33,7 @@ use Rattle.spl_tree.specs.declared.expression.PrefixOperator.{PrefixOperator}
 use Rattle.spl_tree.specs.declared.expression.PrefixOperator.TheVariants as P
 use Rattle.spl_tree.specs.declared.statement.Declaration.{Declaration}
 use Rattle.spl_tree.specs.Grammar.{Expr}
-use Rattle.spl_tree.specs.Induction.{OfExpr, OfEntry, OfField, ExprSteps, expr_ind}
+use Rattle.spl_tree.proofs.Induction.{OfExpr, OfEntry, OfField, ExprSteps, expr_ind}
 use Rattle.language_model.specs.declared.checked.StateVariable.{StateVariable}
 use Rattle.language_model.specs.declared.scope.CheckError.TheVariants as R
 use Rattle.language_model.specs.declared.scope.Dollar.{Dollar}
@@ -45,7 +45,7 @@ use Rattle.language_model.specs.Parameters.{constant_scope}
 use Rattle.language_model.specs.Scopes.{At, attribute_of, dollar_of}
 use Rattle.language_model.specs.TypeNames.{Types, type_meant}
 use Rattle.language_model.specs.Typing.{Wanted, Found, Part, Wants, Anything, This, Another, after, are_distinct, as_wanted, dollar_typed, elements_typed, entries_typed, field_typed, fields_typed, gives_each, level_prefix, list_typed, map_typed, mismatch, number_typed, own_fields, part, part_typed, prefix_typed, prefixes_at, prefixes_typed, refused, same_types, tuple_typed, typed, typing, unary_typed, wants_list, wants_map, wants_tuple}
-use Rattle.language_model.specs.TypingLaws as Y
+use Rattle.language_model.proofs.TypingLaws as Y
 use Rattle.language_model.specs.TypingLaws.{parted, parts, entry_parts, field_parts}
 use Rattle.check_laws.proofs.Accepting.{Gives, gives_after, gives_from, gives_if, gives_then, none_at}
 

@@ -18,7 +18,7 @@ use Rattle.language_model.specs.Expansion.{Inlined, Made, connections_of, input_
 use Rattle.language_model.specs.Invoking.{input_names, stream_names}
 use Rattle.language_model.specs.Numbering.{expansion_of, input_streams, numbers_from, stream_of, streams_of}
 use Rattle.language_model.specs.Scopes.{At, first_from}
-use Rattle.language_model.specs.Standing.{Stands, first_stands}
+use Rattle.language_model.proofs.Standing.{Stands, first_stands}
 use Rattle.language_model.specs.StreamTypes.{Body, name_places, so_often, taken_by}
 
 -- ---- lists

@@ -14,7 +14,7 @@ use Rattle.spl_value.specs.declared.types.SplType.TheVariants as S
 use Rattle.spl_value.specs.declared.types.SplType.TheViews.{out-SplType}
 use Rattle.spl_value.specs.declared.value.Value.TheVariants as V
 use Rattle.spl_value.specs.Values.{fits, kind_holds}
-use Rattle.spl_value.specs.FitsLaws.{fits_int}
+use Rattle.spl_value.proofs.FitsLaws.{fits_int}
 use Rattle.spl_tree.specs.declared.expression.ExprKind.{ExprKind}
 use Rattle.spl_tree.specs.declared.expression.ExprKind.TheOpen as X
 use Rattle.spl_tree.specs.declared.expression.ExprKind.TheOpen.{ExprKind-F}
@@ -35,7 +35,7 @@ use Rattle.language_model.specs.Keeping as F
 use Rattle.language_model.specs.Keeping.{AggregateWindow, DeltaFits, IsCount, JoinWindow}
 use Rattle.language_model.specs.Policies.{Delta, IntegerAttribute, Numbers, Sliding, aggregate_policy, aggregate_rule, are_no_arguments, as_count, as_integer, as_limit, bad_window, count_of, delta_of, has_name, is_word, join_rule, level_attribute, level_integer, limited, measured, most_tuples, nothing_behind, only_count, partitioned_or_not, punctuated, sliding_alone, sliding_rule, sliding_with_trigger, trigger, tumbling, window_at, window_of, windows_typing}
 use Rattle.language_model.specs.Scopes.{At, attribute_of, first_from}
-use Rattle.language_model.specs.Standing.{Bears, attribute_there, Stands, first_stands}
+use Rattle.language_model.proofs.Standing.{Bears, attribute_there, Stands, first_stands}
 use Rattle.language_model.specs.StreamTypes.{Attributes}
 use Rattle.language_model.specs.Typing.{Found, after, refused, same_types}
 use Rattle.check_laws.proofs.Accepting.{Gives, gives_after, gives_if, gives_on, gives_then, rolled}

@@ -8,7 +8,7 @@ use Rattle.spl_tree.specs.declared.unit.Definition.{Definition}
 use Rattle.language_model.specs.Composites.{composites, composite_named}
 use Rattle.language_model.specs.Expansion.{place_of}
 use Rattle.language_model.specs.Scopes.{At, at_place, first_from}
-use Rattle.language_model.specs.Standing.{Stands, first_stands}
+use Rattle.language_model.proofs.Standing.{Stands, first_stands}
 use Rattle.composite_tables.specs.Names.{composite_names}
 
 abbrev place : {A : Type 0} → Option (At A) → Option ℕ

@@ -10,7 +10,7 @@ use Rattle.spl_value.specs.declared.types.SplType.TheVariants as S
 use Rattle.spl_value.specs.declared.value.Value.{Value}
 use Rattle.spl_value.specs.declared.value.Value.TheVariants as V
 use Rattle.spl_value.specs.declared.value.Value.TheViews.{out-Value}
-use Rattle.spl_value.specs.FitsLaws.{list_from_fits, map_from_fits, tuple_from_fits, pair_fits}
+use Rattle.spl_value.proofs.FitsLaws.{list_from_fits, map_from_fits, tuple_from_fits, pair_fits}
 use Rattle.spl_value.specs.Values.{fits}
 use Rattle.spl_tree.specs.declared.body.Function.{Function}
 use Rattle.spl_tree.specs.declared.body.Statement.{Statement}

@@ -1,3 +1,11 @@
+pub mod Sound
+pub mod Complete
+pub mod Locality
+pub mod TestLaws
+pub mod Soundness
+pub mod Exactness
+pub mod PhraseLaws
+pub mod Expressions
 pub mod Derive
 pub mod Front
 pub mod LineSteps

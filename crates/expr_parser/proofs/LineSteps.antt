@@ -16,7 +16,7 @@ use Rattle.expr_parser.specs.declared.stop.Stop.{Stop}
 use Rattle.expr_parser.specs.declared.stop.Stop.TheVariants as S
 use Rattle.expr_parser.specs.Rules.{done, stop, look, call, Answer, Took, Refused, RunsTo, Reads}
 use Rattle.expr_parser.specs.RuleLaws.{begins_with, line, runs_done, runs_stop, runs_take, runs_skip, runs_call, runs_fail}
-use Rattle.expr_parser.specs.Locality.{rest_of, shrinks}
+use Rattle.expr_parser.proofs.Locality.{rest_of, shrinks}
 use Rattle.expr_parser.specs.Lines.{Line, Value, Whole, Rest, Climb, Chain, Prefixed, Primary, Group, Named, Elements, Items, Brace, Entries, Fields, Steps, rule, is, is_name, name_of, is_literal, literal_of, is_operator, operator_of, binary, conditional, prefixed, selected, field, expect, choice_rule, operand_rule, list_rule, field_rule}
 use Rattle.expr_parser.specs.Taken.{Taken, TakenAs}
 use Rattle.expr_parser.specs.Gives.{Answered, Comes, Gives, Passes, PassesName, Makes, Fronts, StepFound, StepsOn}

@@ -3,8 +3,8 @@ use Rattle.std.proofs.Common.{◌≡◌, ◌∙◌, inl, inr, ℕ, ◌-◌, ◌�
 use Rattle.spl_tree.specs.declared.token.Token.{Token}
 use Rattle.spl_tree.specs.Grammar.{Spells}
 use Rattle.expr_parser.specs.declared.answer.SyntaxAnswer.TheVariants as A
-use Rattle.expr_parser.specs.Expressions.{one_tree}
-use Rattle.expr_parser.specs.PhraseLaws.{phrase_one, not_both, unexpected_one}
+use Rattle.expr_parser.proofs.Expressions.{one_tree}
+use Rattle.expr_parser.proofs.PhraseLaws.{phrase_one, not_both, unexpected_one}
 use Rattle.spl_tree.specs.Units.{place_of}
 use Rattle.expr_parser.specs.Parses.{OneAnswerLaw}
 

@@ -9,7 +9,7 @@ use Rattle.spl_tree.specs.Weights.{too_deep_from}
 use Rattle.expr_parser.specs.Rules.{Took, Refused, Reads}
 use Rattle.expr_parser.specs.Lines.{Whole, rule}
 use Rattle.spl_tree.specs.Fronts.{IsPhrase, IsUnexpected}
-use Rattle.expr_parser.specs.Expressions.{exact_took, exact_refused}
+use Rattle.expr_parser.proofs.Expressions.{exact_took, exact_refused}
 use Rattle.expr_parser.specs.declared.stop.Stop.{Stop}
 use Rattle.expr_parser.specs.declared.stop.Stop.TheVariants as S
 use Rattle.expr_parser.specs.Gives.{Gives, Begun}

@@ -1,15 +1,7 @@
 pub mod Rules
 pub mod RuleLaws
-pub mod Locality
-pub mod Soundness
-pub mod Exactness
 pub mod Lines
-pub mod TestLaws
-pub mod Complete
-pub mod Sound
-pub mod Expressions
 pub mod Taken
 pub mod Gives
 pub mod Weighed
 pub mod Parses
-pub mod PhraseLaws

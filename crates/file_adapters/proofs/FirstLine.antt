@@ -6,7 +6,7 @@ use Rattle.std.proofs.lemmas.List.{take_all, drop_all}
 use Rattle.std.specs.List.{prefix_len}
 use Rattle.stream_model.specs.Rows.{pieces, onto_first}
 use Rattle.stream_model.specs.Laws.{but_empty_last, lines}
-use Rattle.stream_model.specs.RowsLaws.{some_pieces}
+use Rattle.stream_model.proofs.RowsLaws.{some_pieces}
 
 abbrev is_feed : ℕ → Bool
 is_feed b = b == 10

@@ -4,7 +4,7 @@ use Rattle.std.proofs.Common.{◌≡◌, ◌==◌, ◌^◌, ◌∷◌, ◌∙◌
 use Rattle.std.specs.List.{list_all}
 use Rattle.std.proofs.lemmas.Bool.{cases_Bool, and_parts}
 use Rattle.spl_value.specs.Decimal.{number, in_kind, integer_of}
-use Rattle.spl_value.specs.FitsLaws.{fits_int, fits_tuple}
+use Rattle.spl_value.proofs.FitsLaws.{fits_int, fits_tuple}
 use Rattle.spl_value.specs.Values.{fits, kind_holds}
 use Rattle.spl_value.specs.declared.types.IntKind.{IntKind}
 use Rattle.spl_value.specs.declared.types.Named.{Named}
@@ -18,7 +18,7 @@ use Rattle.spl_value.specs.declared.item.Item.{Item}
 use Rattle.spl_value.specs.declared.memory.NoMemory.{NoMemory}
 use Rattle.spl_value.specs.declared.types.IntKind.TheVariants.{I64}
 use Rattle.stream_model.specs.Rows.{Setting, pieces, onto_first, items_from, rows, closing}
-use Rattle.stream_model.specs.RowsLaws.{some_pieces}
+use Rattle.stream_model.proofs.RowsLaws.{some_pieces}
 use Rattle.stream_model.specs.Laws.{but_empty_last, lines}
 use Rattle.stream_model.specs.Stream.{TuplesFit}
 use Rattle.file_adapters.specs.Lines.{line_number, number_row, row_in_front, number_rows}

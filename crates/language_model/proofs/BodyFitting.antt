@@ -9,7 +9,7 @@ use Rattle.spl_value.specs.declared.types.SplType.TheVariants as S
 use Rattle.spl_value.specs.declared.types.SplType.TheOpen as O
 use Rattle.spl_value.specs.declared.types.SplType.TheOpen.{SplType-F}
 use Rattle.spl_value.specs.declared.types.SplType.TheViews.{out-SplType}
-use Rattle.spl_value.specs.FitsLaws.{default_fits}
+use Rattle.spl_value.proofs.FitsLaws.{default_fits}
 use Rattle.spl_value.specs.Values.{default_value}
 use Rattle.spl_tree.specs.declared.body.Statement.{Statement}
 use Rattle.spl_tree.specs.declared.body.Statement.TheVariants as T
@@ -28,7 +28,8 @@ use Rattle.language_model.specs.BodyFits as G
 use Rattle.language_model.specs.BodyFits.{Purpose, OfFunction, OfHandler, outputs_of, result_of, with_variable, GoesOver, StatementFits, RowFits, ArmsFit}
 use Rattle.language_model.specs.BodyLaws.{BodyFitLaw}
 use Rattle.language_model.specs.BodyTyping.{Setting, alone, arms_typing, assigned, body_typing, condition_typing, declaration_typing, first_value, for_typing, is_window, level_over, other_typing, over_typing, part_stated, return_typing, row_typing, stated, staying, submit_typing, submitted, submitted_on, submitted_to, variable, way_out}
-use Rattle.language_model.specs.BodyTypingLaws.{kind_stated, row_stated, arms_stated, other_stated, block_stated, declare_stated, assign_stated, call_stated, if_stated, while_stated, for_stated, break_stated, continue_stated, return_stated, submit_stated}
+use Rattle.language_model.specs.BodyTypingLaws.{row_stated, arms_stated, other_stated}
+use Rattle.language_model.proofs.BodyTypingLaws.{kind_stated, block_stated, declare_stated, assign_stated, call_stated, if_stated, while_stated, for_stated, break_stated, continue_stated, return_stated, submit_stated}
 use Rattle.language_model.specs.CodeFits as F
 use Rattle.language_model.specs.CodeFits.{CodeFits}
 use Rattle.language_model.specs.FitLaws.{DollarsFit}

@@ -12,8 +12,8 @@ use Rattle.spl_value.specs.declared.value.Value.{Value}
 use Rattle.spl_value.specs.declared.value.Value.TheVariants as V
 use Rattle.spl_value.specs.declared.value.Value.TheViews.{out-Value}
 use Rattle.spl_value.specs.Calls.{CallOutcome, Gives, Faults, Unfit, append_of, remove_of, clear_of}
-use Rattle.spl_value.specs.CallsLaws.{append_law, remove_law, clear_law}
-use Rattle.spl_value.specs.FitsLaws.{fits_list, fits_tuple, map_from_fits, get_fits, put_fits}
+use Rattle.spl_value.proofs.CallsLaws.{append_law, remove_law, clear_law}
+use Rattle.spl_value.proofs.FitsLaws.{fits_list, fits_tuple, map_from_fits, get_fits, put_fits}
 use Rattle.spl_value.specs.Pairs.{pairs_get}
 use Rattle.spl_value.specs.Values.{fits, tuple_fits}
 use Rattle.spl_tree.specs.declared.body.Change.{Change}

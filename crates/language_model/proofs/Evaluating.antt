@@ -12,7 +12,7 @@ use Rattle.spl_value.specs.declared.types.SplType.TheVariants as S
 use Rattle.spl_value.specs.declared.value.Value.{Value}
 use Rattle.spl_value.specs.declared.value.Value.TheVariants as V
 use Rattle.spl_value.specs.declared.value.Value.TheViews.{out-Value}
-use Rattle.spl_value.specs.FitsLaws.{fits_bool, fits_list, fits_map, fits_tuple, pair_fits, put_fits}
+use Rattle.spl_value.proofs.FitsLaws.{fits_bool, fits_list, fits_map, fits_tuple, pair_fits, put_fits}
 use Rattle.spl_value.specs.Pairs.{pairs_put}
 use Rattle.spl_value.specs.Values.{fits, tuple_fits}
 use Rattle.spl_tree.specs.declared.code.Code.{Code}

@@ -15,7 +15,7 @@ use Rattle.spl_value.specs.declared.types.SplType.TheOpen.{SplType-F}
 use Rattle.spl_value.specs.declared.types.SplType.TheViews.{out-SplType}
 use Rattle.spl_value.specs.declared.value.Value.TheVariants as V
 use Rattle.spl_value.specs.Values.{top}
-use Rattle.spl_value.specs.FitsLaws.{fits_int, fits_bool, fits_text}
+use Rattle.spl_value.proofs.FitsLaws.{fits_int, fits_bool, fits_text}
 use Rattle.spl_tree.specs.declared.expression.Placed.{Placed}
 use Rattle.spl_tree.specs.declared.expression.Field.{Field}
 use Rattle.spl_tree.specs.declared.expression.Step.{Step}
@@ -32,7 +32,7 @@ use Rattle.spl_tree.specs.declared.expression.ExprKind.TheOpen as X
 use Rattle.spl_tree.specs.declared.expression.ExprKind.TheOpen.{ExprKind-F}
 use Rattle.spl_tree.specs.declared.expression.ExprKind.TheFolds.{map-ExprKind}
 use Rattle.spl_tree.specs.Grammar.{Expr}
-use Rattle.spl_tree.specs.Induction.{OfExpr, OfEntry, OfField, OfStep, ExprSteps, expr_ind}
+use Rattle.spl_tree.proofs.Induction.{OfExpr, OfEntry, OfField, OfStep, ExprSteps, expr_ind}
 use Rattle.spl_tree.specs.declared.code.Code.{Code}
 use Rattle.spl_tree.specs.declared.code.Code.TheVariants as C
 use Rattle.spl_tree.specs.declared.code.Slot.{Slot}
@@ -59,7 +59,7 @@ use Rattle.language_model.specs.CodeFits as F
 use Rattle.language_model.specs.CodeFits.{CodeFits, SlotFits, ElementsFit, PairsFit, FieldsFit, ArgumentsFit, StepsLead, UnaryGives, UnariesGive, BinaryGives, BuiltInGives, OneEach}
 use Rattle.language_model.specs.FitLaws.{DollarsFit, FitLaw}
 use Rattle.language_model.proofs.Closed.{closed_law}
-use Rattle.language_model.specs.Standing.{Stands, first_stands, Bears, variable_there, attribute_there, port_there, function_there, InPorts, FirstOf, attributes_there}
+use Rattle.language_model.proofs.Standing.{Stands, first_stands, Bears, variable_there, attribute_there, port_there, function_there, InPorts, FirstOf, attributes_there}
 use Rattle.language_model.proofs.Places.{AtNames, names_one_each, InRow, row_one_each}
 use Rattle.language_model.proofs.SameTypes.{equal_from_same}
 use Rattle.language_model.proofs.Wanting.{Gives, gives_after, gives_on, gives_both, gives_if, gives_from, gives_no_call, Some_thing, gives_some, Meets, MeetsIn, rolled, Keeps, keeps, part_of, part_at}

@@ -19,7 +19,8 @@ use Rattle.language_model.specs.declared.scope.CheckError.TheVariants as N
 use Rattle.language_model.specs.declared.scope.Variable.{Variable}
 use Rattle.language_model.specs.Scopes.{At, OfVariable, meant, variable_meant, variable_of, attributes_of, port_of}
 use Rattle.language_model.specs.Typing.{Found, after, as_wanted, refused, Part, meant_typed, steps_typed, selected, select_typed, of_port, of_base, is_mutable, if_mutable, part, typed, typing}
-use Rattle.language_model.specs.TypingLaws as W
+use Rattle.language_model.proofs.TypingLaws as W
+use Rattle.language_model.specs.TypingLaws.{step_parts}
 use Rattle.language_model.specs.StatementTyping.{TypedPlace, as_part, level_variable, level_place, place_given, place_typing}
 use Rattle.language_model.specs.PlaceLaws as P
 use Rattle.language_model.specs.PlaceLaws.{read_code, IsPlace, NamePlaceLaw, PlaceGivenLaw, PlaceRefusedLaw}
@@ -54,19 +55,19 @@ module _ (scope : Scope) (name : List ℕ) (v : At Variable) (is : variable_of s
 
   -- what is taken of the name, as it is typed
   taken_is : (at base : ℕ) (steps : List (Step Expr)) → typing scope (placed at (E.Select (placed base (E.Name name)) steps)) None
-      ≡ after (select_typed base scope (typed v.what.kind (C.Name (L.Variable v.place))) (W.step_parts steps)) (as_wanted at None)
+      ≡ after (select_typed base scope (typed v.what.kind (C.Name (L.Variable v.place))) (step_parts steps)) (as_wanted at None)
   taken_is at base steps =
       let whole = placed base (E.Name name) in
       W.select_typed whole steps at scope None
-      ∙ ap (λ o. after (of_base o (part_of whole) scope (W.step_parts steps)) (as_wanted at None)) (ap (λ f. f.name) (W.name_form name))
-      ∙ ap (λ m. after (of_port m (part_of whole) scope (W.step_parts steps)) (as_wanted at None)) variable_is
-      ∙ ap (λ r. after (after r (λ x. select_typed base scope x (W.step_parts steps))) (as_wanted at None)) (name_is base)
+      ∙ ap (λ o. after (of_base o (part_of whole) scope (step_parts steps)) (as_wanted at None)) (ap (λ f. f.name) (W.name_form name))
+      ∙ ap (λ m. after (of_port m (part_of whole) scope (step_parts steps)) (as_wanted at None)) variable_is
+      ∙ ap (λ r. after (after r (λ x. select_typed base scope x (step_parts steps))) (as_wanted at None)) (name_is base)
 
   has_place : (e : Expr) → IsPlace name e → Gives HasPlace (typing scope e None)
   has_place _ (P.whole at) = subst (Gives HasPlace) (sym (name_is at)) (selected_has v.place [])
   has_place _ (P.taken at base steps) =
       subst (Gives HasPlace) (sym (taken_is at base steps))
-      (gives_after HasPlace HasPlace (select_typed base scope (typed v.what.kind (C.Name (L.Variable v.place))) (W.step_parts steps)) _ (select_has base (W.step_parts steps)) (λ t h. h))
+      (gives_after HasPlace HasPlace (select_typed base scope (typed v.what.kind (C.Name (L.Variable v.place))) (step_parts steps)) _ (select_has base (step_parts steps)) (λ t h. h))
 
 root_is : (name : List ℕ) (e : Expr) → IsPlace name e → (part e.what).form.root ≡ Some name
 root_is name _ (P.whole at) = ap (λ f. f.root) (W.name_form name)

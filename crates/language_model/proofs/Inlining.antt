@@ -23,8 +23,8 @@ use Rattle.language_model.specs.Invoking.{Target, Operator, Body, Nothing, targe
 use Rattle.language_model.specs.Numbering.{op_of, ops_from, expansion_of, expansions_from}
 use Rattle.language_model.specs.Scopes.{At}
 use Rattle.language_model.proofs.Flattening.{after_gives, same_Ok, topo_of, made_of, mapped, in_front, behind, numbers_length, op_at}
-use Rattle.language_model.specs.Standing as F
-use Rattle.language_model.specs.Standing.{first_stands}
+use Rattle.language_model.proofs.Standing as F
+use Rattle.language_model.proofs.Standing.{first_stands}
 
 -- ---- what stands in what was made
 

@@ -1,3 +1,9 @@
+pub mod DefinedTypes
+pub mod Standing
+pub mod TypeInduction
+pub mod TypingLaws
+pub mod BodyTypingLaws
+pub mod TypeNameLaws
 pub mod SameTypes
 pub mod Wanting
 pub mod Mentioning

@@ -17,13 +17,13 @@ use Rattle.spl_value.specs.declared.value.Value.TheVariants as V
 use Rattle.spl_value.specs.declared.value.Value.TheOpen as O
 use Rattle.spl_value.specs.declared.value.Value.TheViews.{out-Value}
 use Rattle.spl_value.specs.Calls.{CallOutcome, Gives, Faults, Unfit, are_alike, length_of, size_of, has_key, abs_of, min_of, max_of, substring_of, IsOrdered, GivesOf, GivesOrIndex}
-use Rattle.spl_value.specs.CallsLaws.{length_law, size_law, has_law, abs_law, min_law, max_law, substring_law}
-use Rattle.spl_value.specs.FitsLaws.{fits_int, fits_bool, fits_text, pair_fits, int_from_fits, bool_from_fits, text_from_fits, list_from_fits, map_from_fits, tuple_from_fits, all_at, get_fits}
+use Rattle.spl_value.proofs.CallsLaws.{length_law, size_law, has_law, abs_law, min_law, max_law, substring_law}
+use Rattle.spl_value.proofs.FitsLaws.{fits_int, fits_bool, fits_text, pair_fits, int_from_fits, bool_from_fits, text_from_fits, list_from_fits, map_from_fits, tuple_from_fits, all_at, get_fits}
 use Rattle.spl_value.specs.Order.{value_cmp}
 use Rattle.spl_value.specs.Pairs.{pairs_get, pairs_contain}
 use Rattle.spl_value.specs.Values.{fits, tuple_fits}
 use Rattle.spl_value.specs.Wrap.{wrapped}
-use Rattle.spl_value.specs.WrapLaws.{wrapped_belongs}
+use Rattle.spl_value.proofs.WrapLaws.{wrapped_belongs}
 use Rattle.spl_tree.specs.declared.code.UnaryCode.{UnaryCode}
 use Rattle.spl_tree.specs.declared.code.UnaryCode.TheVariants as U
 use Rattle.spl_tree.specs.declared.code.BinaryCode.TheVariants as D

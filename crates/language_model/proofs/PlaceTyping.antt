@@ -6,7 +6,7 @@ use Rattle.spl_value.specs.declared.types.Named.{Named}
 use Rattle.spl_value.specs.declared.types.SplType.{SplType}
 use Rattle.spl_value.specs.declared.types.SplType.TheVariants as S
 use Rattle.spl_tree.specs.Grammar.{Expr}
-use Rattle.spl_tree.specs.Induction.{ExprSteps, expr_ind}
+use Rattle.spl_tree.proofs.Induction.{ExprSteps, expr_ind}
 use Rattle.spl_tree.specs.declared.body.Place.{Place}
 use Rattle.spl_tree.specs.declared.code.Code.{Code}
 use Rattle.spl_tree.specs.declared.code.Code.TheVariants as C
@@ -37,7 +37,7 @@ use Rattle.language_model.specs.Typing.{Wanted, Found, after, mismatch, as_wante
 use Rattle.language_model.specs.StatementTyping.{TypedPlace, level_variable, level_place, place_given, place_typing}
 use Rattle.language_model.specs.FitLaws.{DollarsFit}
 use Rattle.language_model.specs.PlaceLaws.{PlaceTypeLaw, read_code, PlaceReadsLaw}
-use Rattle.language_model.specs.Standing.{Bears, variable_there}
+use Rattle.language_model.proofs.Standing.{Bears, variable_there}
 use Rattle.language_model.proofs.Wanting.{Gives, gives_after, gives_on, gives_both, gives_if, gives_from, Some_thing, gives_some, part_of, part_at}
 use Rattle.language_model.proofs.Fitting.{Fits, good, good_any}
 

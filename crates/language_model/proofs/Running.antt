@@ -11,7 +11,7 @@ use Rattle.spl_value.specs.declared.types.SplType.TheVariants as S
 use Rattle.spl_value.specs.declared.value.Value.{Value}
 use Rattle.spl_value.specs.declared.value.Value.TheVariants as V
 use Rattle.spl_value.specs.declared.value.Value.TheViews.{out-Value}
-use Rattle.spl_value.specs.FitsLaws.{pair_fits, list_from_fits, map_from_fits, tuple_from_fits}
+use Rattle.spl_value.proofs.FitsLaws.{pair_fits, list_from_fits, map_from_fits, tuple_from_fits}
 use Rattle.spl_value.specs.Values.{fits}
 use Rattle.spl_tree.specs.declared.body.Change.{Change}
 use Rattle.spl_tree.specs.declared.body.Change.TheVariants as H

@@ -13,10 +13,10 @@ use Rattle.spl_value.specs.declared.types.SplType.TheOpen as T
 use Rattle.spl_value.specs.declared.types.SplType.TheOpen.{SplType-F}
 use Rattle.spl_value.specs.declared.types.SplType.TheViews.{out-SplType, roll-SplType, roll-out-SplType}
 use Rattle.spl_value.specs.declared.types.SplType.TheFolds.{fold_out-SplType, map-SplType}
-use Rattle.spl_value.specs.Induction.{type_ind}
+use Rattle.spl_value.proofs.Induction.{type_ind}
 use Rattle.spl_tree.specs.declared.keyword.Keyword.TheVariants as W
 use Rattle.spl_tree.specs.Words.{keyword_word, keyword_of}
-use Rattle.spl_tree.specs.WordLaws.{keywords_law}
+use Rattle.spl_tree.proofs.WordLaws.{keywords_law}
 use Rattle.language_model.specs.Typing.{level_same, same_types}
 
 pointwise-map : {A B C : Type 0} (R : B → C → Bool) (f : A → B) (xs : List A) (ys : List C) → pointwise R (map f xs) ys ≡ pointwise (λ x y. R (f x) y) xs ys

@@ -6,7 +6,7 @@ use Rattle.std.proofs.Common.{sym, ap, ap₂, subst, ◌∙◌}
 use Rattle.spl_value.specs.declared.types.IntKind.TheVariants.{I32}
 use Rattle.spl_value.specs.declared.types.SplType.TheVariants as S
 use Rattle.spl_value.specs.declared.value.Value.TheVariants as V
-use Rattle.spl_value.specs.FitsLaws.{fits_int}
+use Rattle.spl_value.proofs.FitsLaws.{fits_int}
 use Rattle.spl_tree.specs.Grammar.{placed}
 use Rattle.spl_tree.specs.declared.code.Code.TheVariants as C
 use Rattle.spl_tree.specs.declared.code.BinaryCode.TheVariants as D
@@ -23,9 +23,9 @@ use Rattle.language_model.specs.CodeFits as F
 use Rattle.language_model.specs.CodeFits.{CodeFits}
 use Rattle.language_model.specs.FitLaws.{no_names, DollarsFit}
 use Rattle.language_model.specs.Scopes.{at_place}
-use Rattle.language_model.specs.SomeParameters.{five, parameter, with_parameters, one_more}
+use Rattle.language_model.specs.examples.SomeParameters.{five, parameter, with_parameters, one_more}
 use Rattle.language_model.specs.Typing.{Found, after, as_wanted, mismatch, typed, same_types, level_same, level_operator, operands_typed, Part, level_part, typing}
-use Rattle.language_model.specs.TypingLaws as W
+use Rattle.language_model.proofs.TypingLaws as W
 use Rattle.language_model.proofs.SameTypes.{same_is}
 use Rattle.language_model.proofs.Wanting.{part_at}
 

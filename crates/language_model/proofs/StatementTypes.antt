@@ -39,7 +39,7 @@ use Rattle.language_model.specs.Typing.{Found, after, as_wanted, same_types, mis
 use Rattle.language_model.specs.StatementTyping.{as_part, level_place, place_given, place_typing, assignment_typing, compound_typing, change_made, change_typing, built_in_statement, function_statement, call_statement, level_call, call_typing}
 use Rattle.language_model.specs.PlaceLaws.{FitsAnywhere, AssignmentTypeLaw, CompoundTypeLaw, CallTypeLaw}
 use Rattle.language_model.proofs.SameTypes.{equal_from_same}
-use Rattle.language_model.specs.Standing.{Bears, function_there}
+use Rattle.language_model.proofs.Standing.{Bears, function_there}
 use Rattle.language_model.proofs.Wanting.{Gives, gives_after, gives_on, gives_both, gives_if, gives_from, gives_no_call, Some_thing, gives_some, rolled, part_of}
 use Rattle.language_model.proofs.Fitting.{Fits, FitsAt, Good, good, all_good, good_any, good_at, operator_fits, operands_fit, arguments_fit, built_in_fits}
 use Rattle.language_model.proofs.PlaceTyping.{MayChange, gives_if_mutable, Rests, part_rests, FitsPlace, given_fits, place_fits}

@@ -17,7 +17,7 @@ use Rattle.spl_tree.specs.declared.code.Slot.{Slot}
 use Rattle.spl_tree.specs.declared.code.Slot.TheVariants as L
 use Rattle.language_model.specs.declared.scope.Scope.{Scope}
 use Rattle.language_model.specs.declared.scope.Typed.{Typed}
-use Rattle.language_model.specs.TwoPorts.{two_ports, comparison}
+use Rattle.language_model.specs.examples.TwoPorts.{two_ports, comparison}
 use Rattle.language_model.specs.Typing.{Found, after, as_wanted, mismatch, typed, same_types, level_same, level_operator, operands_typed, Part, level_part, part, typing}
 use Rattle.language_model.specs.Written.{Of, written, renamed}
 use Rattle.language_model.proofs.Renaming.{renamed_at}

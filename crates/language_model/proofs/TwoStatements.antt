@@ -9,7 +9,7 @@ use Rattle.spl_tree.specs.declared.code.Slot.{Slot}
 use Rattle.spl_tree.specs.declared.code.Slot.TheVariants as L
 use Rattle.spl_tree.specs.declared.code.Taking.TheVariants as K
 use Rattle.language_model.specs.Slots.{names_of, statement_slots, row_slots}
-use Rattle.language_model.specs.TwoStatements.{appends, two_statements}
+use Rattle.language_model.specs.examples.TwoStatements.{appends, two_statements}
 use Rattle.language_model.proofs.NamedSlots.{declare_slots, changed_slots, if_slots, submit_window_slots}
 use Rattle.language_model.proofs.NamesInCodes.{name_names}
 

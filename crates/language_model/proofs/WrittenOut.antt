@@ -17,7 +17,7 @@ use Rattle.spl_tree.specs.declared.expression.ExprKind.TheFolds.{fold_out-ExprKi
 use Rattle.language_model.specs.declared.scope.Scope.{Scope}
 use Rattle.language_model.specs.declared.scope.Typed.{Typed}
 use Rattle.language_model.specs.Typing.{Found, after, as_wanted, Part, level_operator, operands_typed, binary_typed, marker_asked, binary_or_marker, level_form, level_part, part, typing}
-use Rattle.language_model.specs.TypingLaws as W
+use Rattle.language_model.proofs.TypingLaws as W
 use Rattle.language_model.specs.StatementTyping.{TypedPlace, place_typing}
 use Rattle.language_model.specs.PlaceLaws.{written_out, CompoundLaw}
 use Rattle.language_model.proofs.Wanting.{Gives, part_of}

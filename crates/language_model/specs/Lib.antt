@@ -20,8 +20,6 @@ pub mod TypingLaws
 pub mod WorldFits
 pub mod Written
 pub mod ValueLaws
-pub mod TwoPorts
-pub mod TwoStatements
 pub mod StatementTyping
 pub mod PlaceLaws
 pub mod Mentions
@@ -34,17 +32,11 @@ pub mod Numbering
 pub mod Taking
 pub mod SinkFiles
 pub mod Flat
-pub mod FlatExamples
 pub mod FlatLaws
 pub mod DollarLaws
-pub mod SomeParameters
 pub mod Leading
 pub mod TypeNames
 pub mod TypeNameLaws
-pub mod TypeInduction
-pub mod Standing
-pub mod DefinedTypes
-pub mod TypeExamples
 pub mod BodyTyping
 pub mod BodyTypingLaws
 pub mod BodyLaws
@@ -60,3 +52,4 @@ pub mod CheckedGraph
 pub mod Checking
 pub mod Keeping
 pub mod Accepted
+pub mod examples

@@ -7,13 +7,13 @@ ghost use Rattle.language_model.specs.BodyLaws.{BodyFitLaw, BodyReturnsLaw};
 ghost use Rattle.language_model.specs.Checking.{checked};
 ghost use Rattle.language_model.specs.TypeNameLaws.{NamesLaw};
 ghost use Rattle.language_model.specs.Typing.{refused, unknown};
-ghost use Rattle.language_model.specs.TypeExamples.{seven_types};
+ghost use Rattle.language_model.specs.examples.TypeNames.{seven_types};
 ghost use Rattle.language_model.specs.TypeNames.{types_of};
 
 /// What some names stand for among definitions of types, and the first refusals of others: a name
 /// without a definition, the word of a type that is left out, and names whose definitions lead back to
 /// themselves.
-#[tactic(auto, using(crate::specs::TypeNameLaws::type_laws, crate::specs::TypeNameLaws::name_laws))]
+#[tactic(auto, using(crate::proofs::TypeNameLaws::type_laws, crate::proofs::TypeNameLaws::name_laws))]
 pub fn types_on_literals()
     ensures row { types_of seven_types unknown 100 (codes "Row")
         ≡ Ok (T.Tuple (record { name = codes "id"; kind = T.Int N.I32 } ∷ record { name = codes "texts"; kind = T.List T.Text } ∷ [])) }

@@ -7,7 +7,7 @@ use Rattle.spl_value.specs.declared.types.IntKind.TheVariants.{I32}
 use Rattle.spl_value.specs.declared.types.SplType.TheVariants as T
 use Rattle.spl_value.specs.declared.value.Value.TheVariants as V
 use Rattle.std.specs.Str.{is_utf8}
-use Rattle.spl_value.specs.FitsLaws.{fits_int, fits_tuple}
+use Rattle.spl_value.proofs.FitsLaws.{fits_int, fits_tuple}
 use Rattle.spl_value.specs.Values.{fits}
 use Rattle.spl_tree.specs.declared.code.BinaryCode.TheVariants as D
 use Rattle.spl_tree.specs.declared.code.Code.TheVariants as C

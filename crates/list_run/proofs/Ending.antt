@@ -22,7 +22,8 @@ use Rattle.language_model.specs.Keeping.{Keeps}
 use Rattle.stream_model.specs.Laws.{GraphLaw}
 use Rattle.stream_model.specs.Meaning.{Graph, Lists, Entries, Meaning, meaning}
 use Rattle.language_model.specs.Outcomes.{Outcome, Done, Faulted, Stuck}
-use Rattle.stream_model.specs.PathLaws.{pass, passed, fault_by, sink_fault}
+use Rattle.stream_model.specs.PathLaws.{pass, passed, fault_by}
+use Rattle.stream_model.proofs.PathLaws.{sink_fault}
 use Rattle.stream_model.specs.React.{Operator, Kind, Source, FileSource, Filter, FileSink, passes}
 use Rattle.list_run.specs.Runs.{CanRun}
 use Rattle.list_run.specs.SinkLaws.{FaultsName, SourcesName, FaultNamesLaw}

@@ -18,7 +18,8 @@ use Rattle.language_model.specs.FlatLaws.{IsMadeAs}
 use Rattle.language_model.specs.Keeping.{Keeps}
 use Rattle.stream_model.specs.Laws.{GraphLaw, makes_stream, reads_stream, is_made}
 use Rattle.stream_model.specs.Meaning.{Graph, Lists, Entries, meaning, makes, made_by, events_at, connections, in_topo}
-use Rattle.stream_model.specs.PathLaws.{passed, filter_out}
+use Rattle.stream_model.specs.PathLaws.{passed}
+use Rattle.stream_model.proofs.PathLaws.{filter_out}
 use Rattle.stream_model.specs.React.{Kind, Operator, Source, FileSource, Filter, FileSink}
 use Rattle.stream_model.specs.Stages.{out}
 use Rattle.stream_model.specs.Stream.{Event, came}

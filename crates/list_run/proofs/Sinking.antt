@@ -12,7 +12,8 @@ use Rattle.language_model.specs.CheckedGraph.{CheckedGraph}
 use Rattle.stream_model.specs.CheckedMeaning.{kind_of}
 use Rattle.language_model.specs.Keeping.{Keeps}
 use Rattle.stream_model.specs.Meaning.{Graph, Lists, Entries, meaning, events_of, events_at, text}
-use Rattle.stream_model.specs.PathLaws.{written, sink_out}
+use Rattle.stream_model.specs.PathLaws.{written}
+use Rattle.stream_model.proofs.PathLaws.{sink_out}
 use Rattle.stream_model.specs.React.{Operator, Kind, FileSource, Filter, FileSink}
 use Rattle.stream_model.specs.Rows.{item_text, text_of}
 use Rattle.stream_model.specs.Stages.{out}

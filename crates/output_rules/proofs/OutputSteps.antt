@@ -4,7 +4,7 @@ use Rattle.std.proofs.Common.{refl, ap, sym, subst, ◌∙◌, append_assoc, get
 use Rattle.std.proofs.lemmas.Result.{err_from_is_err_and}
 use Rattle.spl_value.specs.declared.types.SplType.{SplType}
 use Rattle.language_model.specs.Typing.{Found, after, same_types}
-use Rattle.language_model.specs.TypingLaws.{same_types_law}
+use Rattle.language_model.proofs.TypingLaws.{same_types_law}
 use Rattle.language_model.specs.declared.answer.TypeAnswer.{TypeAnswer}
 use Rattle.language_model.specs.declared.answer.TypeAnswer.TheVariants.{Refused, Memory}
 use Rattle.language_model.specs.Finds.{Finds, with_front}

@@ -15,7 +15,7 @@ use Rattle.language_model.specs.declared.checked.Part.{Part}
 use Rattle.language_model.specs.declared.checked.Part.TheVariants as A
 use Rattle.stream_model.specs.Meaning.{setting_of, rows_of}
 use Rattle.stream_model.specs.Rows.{Setting, rows}
-use Rattle.stream_model.specs.RowsLaws.{rows_close}
+use Rattle.stream_model.proofs.RowsLaws.{rows_close}
 use Rattle.stream_model.specs.Stream.{is_closed, TuplesFit}
 use Rattle.language_model.specs.StreamTypes.{Attributes}
 use Rattle.file_adapters.specs.Source.{is_number_file, is_number_schema}

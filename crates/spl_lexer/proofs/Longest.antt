@@ -2,7 +2,7 @@
 use Rattle.std.proofs.Common.{ℕ, zero, suc, ◌≡◌, ◌<◌, ◌≤◌, ◌==◌, ◌&&◌, true, false, List, ◌∷◌, length, take, refl, arith}
 use Rattle.spl_tree.specs.Bytes.{is_blank, begins}
 use Rattle.spl_tree.specs.Tokens.{is_formed, longest_front, token_front, front}
-use Rattle.spl_tree.specs.FrontLaws.{longest_front-is}
+use Rattle.spl_tree.proofs.FrontLaws.{longest_front-is}
 
 -- of at most k bytes no front has the form of a token
 none_of : (k : ℕ) (bs : List ℕ) → ((m : ℕ) → 0 < m → m ≤ k → is_formed (take m bs) ≡ false) → longest_front k bs ≡ 0

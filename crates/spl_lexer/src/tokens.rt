@@ -11,7 +11,7 @@ use std::alloc::Global;
 
 /// The tokens of a program, or its first refusal, at the byte where it comes. That the program is
 /// too long is looked at first.
-#[tactic(auto, using(spl_tree::specs::TokenLaws::refuse_step), unfolding(spl_tree::specs::Tokens::tokens))]
+#[tactic(auto, using(spl_tree::proofs::TokenLaws::refuse_step), unfolding(spl_tree::specs::Tokens::tokens))]
 pub fn lex(alloc: Global, bytes: &[u8]) -> Result<Tokens, LexAnswer>
     ensures ok { IfOk result (λ found. tokens bytes.now ≡ Ok found) }
     ensures err { IfErr result (λ answer. Refuses answer (tokens bytes.now)) }

@@ -1,1 +1,9 @@
+pub mod RangeLaws
+pub mod FrontLaws
+pub mod CutLaws
+pub mod GapLaws
+pub mod Induction
+pub mod WeightLaws
+pub mod WordLaws
+pub mod TokenLaws
 pub mod UnitSpellings

@@ -16,7 +16,7 @@ use Rattle.spl_tree.specs.Phrases as R
 use Rattle.spl_tree.specs.TypeGrammar as Y
 use Rattle.spl_tree.specs.StatementGrammar as Q
 use Rattle.spl_tree.specs.UnitGrammar as U
-use Rattle.spl_tree.specs.UnitExamples.{type_of_two, inner_if, nearest_else, alias_alone}
+use Rattle.spl_tree.specs.examples.Units.{type_of_two, inner_if, nearest_else, alias_alone}
 
 abbrev pub token : TokenKind → ℕ → ℕ → Token
 token k s e = record { kind = k; start = s; end = e }

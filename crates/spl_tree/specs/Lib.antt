@@ -10,14 +10,7 @@ pub mod StatementGrammar
 pub mod UnitGrammar
 pub mod Fronts
 pub mod Units
-pub mod UnitExamples
-pub mod Induction
 pub mod Ranges
 pub mod Laws
 pub mod TokenLaws
-pub mod WordLaws
-pub mod WeightLaws
-pub mod GapLaws
-pub mod FrontLaws
-pub mod CutLaws
-pub mod RangeLaws
+pub mod examples

@@ -7,7 +7,7 @@ ghost use Rattle.spl_tree.specs.declared.token.LexicalError.TheVariants as E;
 ghost use Rattle.spl_tree.specs.declared.token.TokenKind.TheVariants as T;
 ghost use Rattle.spl_tree.specs.Laws.{CutLaw, OneCutLaw, RiseLaw, OwnBytesLaw, SymbolsLaw, KeywordsLaw, WeightsLaw, ShallowLaw, RangesLaw};
 ghost use Rattle.spl_tree.specs.Tokens.{tokens};
-ghost use Rattle.spl_tree.specs.UnitExamples.{type_of_two, nearest_else, alias_alone};
+ghost use Rattle.spl_tree.specs.examples.Units.{type_of_two, nearest_else, alias_alone};
 ghost use Rattle.spl_tree.specs.UnitGrammar.{SpellsUnit};
 ghost use Rattle.spl_tree.specs.Weights.{weights};
 

@@ -8,7 +8,7 @@ use Rattle.std.proofs.lemmas.List.Sums.{fold-append}
 use Rattle.std.proofs.lemmas.Grind.{flat_map-append}
 use Rattle.std.proofs.lemmas.Option.{slice_get_read, slice_get_within, slice_get-get_or}
 use Rattle.spl_value.specs.declared.value.Value.{Value}
-use Rattle.spl_value.specs.FitsLaws.{all_at}
+use Rattle.spl_value.proofs.FitsLaws.{all_at}
 use Rattle.spl_value.specs.Key.{fnv_step, fnv, is_key_value, is_key_option, are_key_places, key_of, enc_value, enc_values, enc}
 
 is_there : (tuple : List Value) (p : ℕ) (o : Option Value) → slice_get tuple p ≡ o → is_key_option o ≡ true → p < length tuple

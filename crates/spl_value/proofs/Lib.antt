@@ -1,2 +1,10 @@
+pub mod FitsLaws
+pub mod OrderLaws
+pub mod PairsLaws
+pub mod TypesLaws
+pub mod Induction
+pub mod CallsLaws
+pub mod KeyLaws
+pub mod WrapLaws
 pub mod Powers
 pub mod HashSteps

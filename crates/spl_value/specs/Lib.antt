@@ -1,12 +1,7 @@
 pub mod formers
 pub mod Values
-pub mod FitsLaws
-pub mod TypesLaws
-pub mod Induction
 pub mod Order
-pub mod OrderLaws
 pub mod Pairs
-pub mod PairsLaws
 pub mod PairsLends
 pub mod Lends
 pub mod Decimal

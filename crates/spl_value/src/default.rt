@@ -8,7 +8,7 @@ use std::alloc::Global;
 /// The default of a type: 0, false, the empty text, list or map, and a tuple of its attributes'
 /// defaults.
 #[cycle(default)]
-#[tactic(auto, using(crate::specs::FitsLaws::default_laws))]
+#[tactic(auto, using(crate::proofs::FitsLaws::default_laws))]
 pub fn default_of(alloc: Global, t: &SplType) -> Result<Value, NoMemory>
     ensures { IfOk result (λ v. v ≡ default_value t.now) }
 {

@@ -18,7 +18,7 @@ impl Items<(Value, Value)> {
     }
 
     /// The value at a key.
-    #[tactic(auto, using(crate::specs::PairsLaws::pairs_laws))]
+    #[tactic(auto, using(crate::proofs::PairsLaws::pairs_laws))]
     pub fn find(&self, key: &Value) -> Option<&Value>
         requires { IsTrue (are_pairs self.now) }
         ensures { option_copied result ≡ pairs_get self.now key.now }
@@ -30,7 +30,7 @@ impl Items<(Value, Value)> {
     }
 
     /// The value at a key, to be changed there.
-    #[tactic(auto, using(crate::specs::PairsLaws::pairs_laws))]
+    #[tactic(auto, using(crate::proofs::PairsLaws::pairs_laws))]
     pub fn find_mut(&mut self, key: &Value) -> Option<&mut Value>
         requires { IsTrue (are_pairs self.old) }
         ensures* writes_back { sem 𝓛 (LendsValue self.entry key.now result) }
@@ -54,7 +54,7 @@ impl Items<(Value, Value)> {
     }
 
     /// Puts a value at a key: in place of the value that the key has, or else in a new pair.
-    #[tactic(auto, using(crate::specs::PairsLaws::pairs_laws))]
+    #[tactic(auto, using(crate::proofs::PairsLaws::pairs_laws))]
     pub fn put(&mut self, key: Value, value: Value) -> Result<(), NoMemory>
         requires { IsTrue (are_pairs self.old) }
         ensures ok { OnOk result (self.new ≡ pairs_put self.old key value) }
@@ -69,7 +69,7 @@ impl Items<(Value, Value)> {
     }
 
     /// Takes the pair with the key out, and gives its value, where there is one.
-    #[tactic(auto, using(crate::specs::PairsLaws::pairs_laws))]
+    #[tactic(auto, using(crate::proofs::PairsLaws::pairs_laws))]
     pub fn remove_key(&mut self, key: &Value) -> Option<Value>
         requires { IsTrue (are_pairs self.old) }
         ensures value { result ≡ pairs_get self.old key.now }

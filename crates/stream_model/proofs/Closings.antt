@@ -13,7 +13,7 @@ use Rattle.language_model.specs.Outcomes.{Outcome, Done, Faulted, Stuck}
 use Rattle.stream_model.specs.Stream.{Event, came, is_fault, closes, any_closes, is_closed, is_empty}
 use Rattle.stream_model.specs.React.{Operator, Kind, FileSource, Filter, FileSink, Answer, Gives, Faults, body, body_of, filter_body, sink_body, passes, filter_answer, react, ended, ended_by, answered, on_each, output, is_waiting, is_last, fault_of}
 use Rattle.stream_model.specs.Stages.{Stage, gives_all, after, on_port}
-use Rattle.stream_model.specs.StageLaws.{stage_at, one_in, one_in-parts, on_port-append, gives_all-over, after-over}
+use Rattle.stream_model.proofs.StageLaws.{stage_at, one_in, one_in-parts, on_port-append, gives_all-over, after-over}
 use Rattle.stream_model.specs.Laws.{has_ended, BodyLaw, BodyPorts, EndItemLaw, EndGivesLaw, OutCloses, ClosedEnds, ClosedGivesClosed}
 
 -- the items of an answer

@@ -3,7 +3,7 @@ use Rattle.std.proofs.Common.{[], ◌∷◌, sym, ap, ◌∙◌, map}
 use Rattle.std.proofs.lemmas.List.{map-append}
 use Rattle.stream_model.specs.Stream.{came}
 use Rattle.stream_model.specs.Stages.{start, gives_all, after, on_port, out}
-use Rattle.stream_model.specs.StageLaws.{gives_all-append, on_port-append}
+use Rattle.stream_model.proofs.StageLaws.{gives_all-append, on_port-append}
 use Rattle.stream_model.specs.Laws.{OutGrows, ChainGrows}
 
 pub out_grows : OutGrows

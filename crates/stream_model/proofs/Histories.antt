@@ -5,7 +5,7 @@ use Rattle.std.proofs.lemmas.List.{reverse-append}
 use Rattle.stream_model.specs.Stream.{Event}
 use Rattle.stream_model.specs.React.{Operator, react, ended}
 use Rattle.stream_model.specs.Stages.{Stage, start, gives, next, gives_all, after, on_port, out}
-use Rattle.stream_model.specs.StageLaws.{stage_at, gives_all-append, after-append, on_port-append, after-over}
+use Rattle.stream_model.proofs.StageLaws.{stage_at, gives_all-append, after-append, on_port-append, after-over}
 use Rattle.stream_model.specs.Laws.{StartLaw, HistoryLaw, EndLaw}
 
 pub start_law : StartLaw

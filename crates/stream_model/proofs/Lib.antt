@@ -1,3 +1,8 @@
+pub mod PlainLines
+pub mod RowsLaws
+pub mod StageLaws
+pub mod OrderLaws
+pub mod PathLaws
 pub mod Histories
 pub mod Closings
 pub mod Waiting

@@ -3,13 +3,9 @@ pub mod React
 pub mod Stages
 pub mod Meaning
 pub mod Ends
-pub mod TwoSinks
 pub mod Fields
 pub mod Rows
-pub mod RowsLaws
-pub mod PlainLines
 pub mod Laws
-pub mod StageLaws
-pub mod OrderLaws
 pub mod PathLaws
 pub mod CheckedMeaning
+pub mod examples

@@ -11,7 +11,7 @@ ghost use Rattle.stream_model.specs.React.{Source, FileSource, Filter, FileSink}
 ghost use Rattle.spl_tree.specs.declared.code.Code.{Code};
 ghost use Rattle.spl_tree.specs.declared.code.Slot.{Slot};
 ghost use Rattle.stream_model.specs.PathLaws.{path_graph, FilterLaw, SinkLaw, SinkFaultLaw};
-ghost use Rattle.stream_model.specs.TwoSinks.{two_sinks, unread_source, bad_row, fault_of_run};
+ghost use Rattle.stream_model.specs.examples.TwoSinks.{two_sinks, unread_source, bad_row, fault_of_run};
 ghost use Rattle.stream_model.specs.Rows.{Setting, rows, too_long, text_of};
 ghost use Rattle.spl_tree.specs.declared.graph.OpKind.TheVariants as O;
 ghost use Rattle.language_model.specs.declared.checked.Part.TheVariants as A;

@@ -8,7 +8,7 @@ use Rattle.spl_tree.specs.declared.unit.InputPort.{InputPort}
 use Rattle.spl_value.specs.declared.types.SplType.TheVariants as S
 use Rattle.language_model.specs.StreamTypes.{Attributes, Body, Passes, are_alike, behind, each_name, input_heads, name_places, passed, port_attributes, same_attributes, so_often, stream_attributes}
 use Rattle.language_model.specs.Typing.{Found, after, mismatch}
-use Rattle.language_model.specs.TypingLaws.{same_types_law}
+use Rattle.language_model.proofs.TypingLaws.{same_types_law}
 use Rattle.language_model.specs.declared.answer.TypeAnswer.{TypeAnswer}
 use Rattle.language_model.specs.Finds.{Finds}
 use Rattle.stream_rules.proofs.AnswerSteps.{finds_by, stops}

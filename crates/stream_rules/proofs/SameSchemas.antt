@@ -7,7 +7,7 @@ use Rattle.spl_value.specs.declared.types.SplType.TheOpen as O
 use Rattle.spl_value.specs.declared.types.SplType.TheVariants as S
 use Rattle.spl_value.specs.declared.types.SplType.TheViews.{out-SplType}
 use Rattle.language_model.specs.StreamTypes.{Attributes, same_attributes}
-use Rattle.language_model.specs.TypingLaws.{same_types_law}
+use Rattle.language_model.proofs.TypingLaws.{same_types_law}
 
 rows_equal : (xs ys : Attributes) → S.Tuple xs ≡ S.Tuple ys → xs ≡ ys
 rows_equal xs ys e = let open_equal : O.Tuple xs ≡ O.Tuple ys = sym (S.outs-Tuple xs) ∙ ap out-SplType e ∙ S.outs-Tuple ys in cc

@@ -14,7 +14,7 @@ use spl_value::{Boxed, Name};
 use std::alloc::Global;
 
 /// The name that the expression is, in parentheses or not.
-#[tactic(auto, using(language_model::specs::TypingLaws::form_laws))]
+#[tactic(auto, using(language_model::proofs::TypingLaws::form_laws))]
 pub(crate) fn own_name(expr: &Expr) -> Option<&Name>
     ensures { option_copied result ≡ (part expr.now.what).form.name }
 {
@@ -26,7 +26,7 @@ pub(crate) fn own_name(expr: &Expr) -> Option<&Name>
 }
 
 /// The name that the expression is, or of which it takes members and elements, in no parentheses.
-#[tactic(auto, using(language_model::specs::TypingLaws::form_laws))]
+#[tactic(auto, using(language_model::proofs::TypingLaws::form_laws))]
 pub(crate) fn root_name(expr: &Expr) -> Option<&Name>
     ensures { option_copied result ≡ (part expr.now.what).form.root }
 {
@@ -38,7 +38,7 @@ pub(crate) fn root_name(expr: &Expr) -> Option<&Name>
 }
 
 /// Whether the expression is `currentPunct()`.
-#[tactic(auto, using(language_model::specs::TypingLaws::form_laws))]
+#[tactic(auto, using(language_model::proofs::TypingLaws::form_laws))]
 pub(crate) fn asks(expr: &Expr) -> bool
     ensures { result ≡ (part expr.now.what).form.asks }
 {
@@ -76,7 +76,7 @@ fn member_marker(base: Option<&Name>, steps: &[Step<Expr>]) -> Option<Marker>
 }
 
 /// The marker that the expression is: `Sys.WindowMarker` or `Sys.FinalMarker`.
-#[tactic(auto, using(language_model::specs::TypingLaws::form_laws))]
+#[tactic(auto, using(language_model::proofs::TypingLaws::form_laws))]
 pub fn marker(expr: &Expr) -> Option<Marker>
     ensures { result ≡ (part expr.now.what).form.marker }
 {

@@ -49,7 +49,7 @@ pub fn type_of(
 }
 
 #[cycle(types)]
-#[tactic(auto, using(language_model::specs::TypingLaws::typing_laws))]
+#[tactic(auto, using(language_model::proofs::TypingLaws::typing_laws))]
 fn type_at(
     alloc: Global,
     scope: &Scope,

@@ -10,7 +10,7 @@ use Rattle.spl_tree.specs.TypeGrammar.{Shape}
 use Rattle.expr_parser.specs.declared.stop.Stop.{Stop}
 use Rattle.expr_parser.specs.declared.stop.Stop.TheVariants as E
 use Rattle.expr_parser.specs.Lines.{is_name}
-use Rattle.expr_parser.specs.Locality.{rest_of, shrinks}
+use Rattle.expr_parser.proofs.Locality.{rest_of, shrinks}
 use Rattle.expr_parser.specs.RuleLaws.{begins_with, line, run_more, Settled}
 use Rattle.expr_parser.specs.Rules.{done, stop, look, call, Answer, Took, Refused, Spent, Reader, and_then, run, read, RunsTo, Reads}
 use Rattle.expr_parser.specs.Taken.{Taken, TakenAs}

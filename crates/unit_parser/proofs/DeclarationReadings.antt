@@ -5,9 +5,9 @@ use Rattle.spl_tree.specs.declared.statement.Declaration.{Declaration}
 use Rattle.spl_tree.specs.declared.token.Token.{Token}
 use Rattle.spl_tree.specs.StatementGrammar.{SpellsDeclaration, declaration}
 use Rattle.expr_parser.specs.Rules.{Took, Reads}
-use Rattle.expr_parser.specs.Soundness.{Sound}
+use Rattle.expr_parser.proofs.Soundness.{Sound}
 use Rattle.unit_parser.specs.Lines.{Declare, rule}
-use Rattle.unit_parser.specs.Sound.{sound_line}
+use Rattle.unit_parser.proofs.Sound.{sound_line}
 
 some_tokens : {d : Declaration} {a : List Token} → SpellsDeclaration d a → 0 < length a
 some_tokens (declaration m k t s n v a b d first kinds names second ends) =

@@ -3,10 +3,10 @@ use Rattle.std.proofs.Common.{◌≡◌, ◌∙◌, inl, inr, ℕ, ◌-◌, ◌�
 use Rattle.spl_tree.specs.declared.token.Token.{Token}
 use Rattle.spl_tree.specs.UnitGrammar.{SpellsUnit}
 use Rattle.expr_parser.specs.declared.answer.SyntaxAnswer.TheVariants as A
-use Rattle.expr_parser.specs.PhraseLaws.{longest_one}
+use Rattle.expr_parser.proofs.PhraseLaws.{longest_one}
 use Rattle.spl_tree.specs.Units.{place_of}
 use Rattle.unit_parser.specs.Parses.{OneAnswerLaw}
-use Rattle.unit_parser.specs.Units.{one_unit}
+use Rattle.unit_parser.proofs.WholeUnits.{one_unit}
 
 -- the rest of a list begins at one place
 one_place : (ts : List Token) (m n : ℕ) → m ≤ length ts → n ≤ length ts → drop m ts ≡ drop n ts → m ≡ n

@@ -13,7 +13,7 @@ use Rattle.spl_tree.specs.Units.{place_of}
 use Rattle.spl_tree.specs.Fronts.{Longest, IsPhrase, IsUnexpected}
 use Rattle.unit_parser.specs.Lines.{Whole, rule}
 use Rattle.spl_tree.specs.Units.{IsUnit, IsUnexpectedAt}
-use Rattle.unit_parser.specs.Units.{exact_took, exact_refused}
+use Rattle.unit_parser.proofs.WholeUnits.{exact_took, exact_refused}
 
 -- with a token left behind the longest front, the tokens spell no unit
 none_left : (ts front rest : List Token) → Longest SpellsUnit ts front rest → (t : Token) (others : List Token) → rest ≡ t ∷ others

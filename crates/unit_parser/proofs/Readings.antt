@@ -15,7 +15,7 @@ use Rattle.expr_parser.specs.Lines.{is, is_name}
 use Rattle.expr_parser.specs.Rules.{done, stop, look, call, Answer, Took, Refused, Spent, RunsTo, Reads, read}
 use Rattle.expr_parser.specs.RuleLaws.{begins_with, line, runs_done, runs_stop, runs_take, runs_skip, runs_call, runs_fail}
 use Rattle.expr_parser.specs.Taken.{Taken, TakenAs}
-use Rattle.unit_parser.specs.CompleteParts.{embedded}
+use Rattle.unit_parser.proofs.CompleteParts.{embedded}
 use Rattle.unit_parser.specs.Gives.{Answered, Says, Comes, Gives, PassesWord, PassesDollar}
 use Rattle.unit_parser.specs.Lines.{Line, Value, Expression, Name, rule, R, expect, expect_word, expect_name, is_word, is_dollar, dollar_at, name_at}
 

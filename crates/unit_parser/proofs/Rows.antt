@@ -4,7 +4,7 @@ use Rattle.std.specs.Prelude.{Option, Some, None, is_some, not, MatchOption, IsE
 use Rattle.std.proofs.lemmas.Result.{err_from_is_err_and}
 use Rattle.spl_tree.specs.declared.token.Token.{Token}
 use Rattle.expr_parser.specs.declared.stop.Stop.{Stop}
-use Rattle.expr_parser.specs.Locality.{rest_of, shrinks}
+use Rattle.expr_parser.proofs.Locality.{rest_of, shrinks}
 use Rattle.expr_parser.specs.Rules.{Rule, done, call, Answer, Took, RunsTo, Reads}
 use Rattle.expr_parser.specs.Taken.{Taken, TakenAs}
 use Rattle.unit_parser.specs.Gives.{Answered, Comes, Gives}

@@ -9,7 +9,7 @@ use Rattle.expr_parser.specs.declared.stop.Stop.{Stop}
 use Rattle.expr_parser.specs.declared.stop.Stop.TheVariants as S
 use Rattle.expr_parser.specs.Rules.{done, stop, look, call, Answer, Took, Refused, Spent, and_then, run, read, RunsTo, Reads}
 use Rattle.expr_parser.specs.RuleLaws.{run_more, begins_with, runs_take, runs_skip}
-use Rattle.expr_parser.specs.Locality.{rest_of, shrinks}
+use Rattle.expr_parser.proofs.Locality.{rest_of, shrinks}
 use Rattle.expr_parser.specs.Taken.{Taken}
 use Rattle.unit_parser.specs.Gives.{Comes}
 use Rattle.unit_parser.specs.Lines as lines

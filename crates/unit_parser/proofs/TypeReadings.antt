@@ -6,7 +6,7 @@ use Rattle.spl_tree.specs.declared.symbol.Symbol.TheVariants as S
 use Rattle.spl_tree.specs.declared.token.Token.{Token}
 use Rattle.spl_tree.specs.TypeGrammar.{TypeExpr}
 use Rattle.expr_parser.specs.Lines.{is, is_name}
-use Rattle.expr_parser.specs.Locality.{rest_of, shrinks}
+use Rattle.expr_parser.proofs.Locality.{rest_of, shrinks}
 use Rattle.expr_parser.specs.Rules.{done, call, Answer, Took, RunsTo, Reads}
 use Rattle.expr_parser.specs.Taken.{Taken, TakenAs}
 use Rattle.unit_parser.proofs.Readings.{reads, taken, line_read, name_passed, last, says_on}

@@ -8,7 +8,7 @@ use Rattle.spl_value.specs.declared.types.IntKind.{IntKind}
 use Rattle.spl_value.specs.declared.types.IntKind.TheVariants.{I8, I16, I32, I64, U8, U16, U32, U64}
 use Rattle.spl_value.specs.Values.{modulus}
 use Rattle.spl_value.specs.Wrap.{IsCongruent, wrapped}
-use Rattle.spl_value.specs.WrapLaws.{rem_congruent, rem_is}
+use Rattle.spl_value.proofs.WrapLaws.{rem_congruent, rem_is}
 use Rattle.language_model.specs.Operators.{bits_of}
 use Rattle.value_operations.proofs.Wrapping.{congruent_sym, congruent_trans, of_kind, wrapped_alike, signed_congruent, unsigned_congruent}
 

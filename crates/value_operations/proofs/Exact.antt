@@ -10,7 +10,7 @@ use Rattle.spl_value.specs.declared.value.Value.TheVariants as V
 use Rattle.spl_value.specs.Calls.{Gives}
 use Rattle.spl_value.specs.Values.{kind_holds}
 use Rattle.spl_value.specs.Wrap.{wrapped}
-use Rattle.spl_value.specs.WrapLaws.{wrapped_belongs}
+use Rattle.spl_value.proofs.WrapLaws.{wrapped_belongs}
 use Rattle.spl_tree.specs.declared.code.IntegerOperator.{IntegerOperator}
 use Rattle.spl_tree.specs.declared.code.IntegerOperator.TheVariants as I
 use Rattle.language_model.specs.Operators.{integer, divided, bits_of, on_integers}

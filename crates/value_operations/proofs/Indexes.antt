@@ -10,7 +10,7 @@ use Rattle.spl_value.specs.declared.value.Value.{Value}
 use Rattle.spl_value.specs.declared.value.Value.TheVariants as V
 use Rattle.spl_value.specs.declared.value.Value.TheOpen as O
 use Rattle.spl_value.specs.declared.value.Value.TheViews.{out-Value}
-use Rattle.spl_value.specs.FitsLaws.{fits_int, int_from_fits}
+use Rattle.spl_value.proofs.FitsLaws.{fits_int, int_from_fits}
 use Rattle.spl_value.specs.Values.{fits, kind_holds}
 use Rattle.language_model.specs.Changes.{level_index}
 use Rattle.language_model.specs.Operators.{found, element_at, level_element}

@@ -11,12 +11,12 @@ use Rattle.spl_value.specs.declared.value.Value.TheVariants as V
 use Rattle.spl_value.specs.declared.value.Value.TheOpen as O
 use Rattle.spl_value.specs.declared.value.Value.TheViews.{out-Value}
 use Rattle.spl_value.specs.Calls.{CallOutcome, Gives, are_alike}
-use Rattle.spl_value.specs.CallsLaws.{alike_ints, alike_texts}
-use Rattle.spl_value.specs.FitsLaws.{fits_int, fits_bool, fits_text, int_from_fits, bool_from_fits, text_from_fits, list_from_fits, map_from_fits}
+use Rattle.spl_value.proofs.CallsLaws.{alike_ints, alike_texts}
+use Rattle.spl_value.proofs.FitsLaws.{fits_int, fits_bool, fits_text, int_from_fits, bool_from_fits, text_from_fits, list_from_fits, map_from_fits}
 use Rattle.spl_value.specs.Pairs.{are_pairs}
 use Rattle.spl_value.specs.Values.{fits, kind_holds}
 use Rattle.spl_value.specs.Wrap.{wrapped}
-use Rattle.spl_value.specs.WrapLaws.{wrapped_belongs}
+use Rattle.spl_value.proofs.WrapLaws.{wrapped_belongs}
 use Rattle.spl_tree.specs.declared.code.BinaryCode.{BinaryCode}
 use Rattle.spl_tree.specs.declared.code.BinaryCode.TheVariants as D
 use Rattle.spl_tree.specs.declared.code.IntegerOperator.{IntegerOperator}

@@ -16,9 +16,9 @@ use Rattle.spl_value.specs.declared.value.Value.TheOpen as O
 use Rattle.spl_value.specs.declared.value.Value.TheViews.{out-Value}
 use Rattle.spl_value.specs.Calls.{Gives, Unfit}
 use Rattle.spl_value.specs.Order.{value_cmp}
-use Rattle.spl_value.specs.OrderLaws.{value_cmp-Equal}
+use Rattle.spl_value.proofs.OrderLaws.{value_cmp-Equal}
 use Rattle.spl_value.specs.Wrap.{wrapped}
-use Rattle.spl_value.specs.WrapLaws.{wrapped_belongs}
+use Rattle.spl_value.proofs.WrapLaws.{wrapped_belongs}
 use Rattle.spl_tree.specs.declared.code.BinaryCode.{BinaryCode}
 use Rattle.spl_tree.specs.declared.code.BinaryCode.TheVariants as D
 use Rattle.spl_tree.specs.declared.code.OrderOperator.{OrderOperator}

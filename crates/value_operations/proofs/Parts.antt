@@ -14,7 +14,7 @@ use Rattle.spl_value.specs.declared.value.Value.{Value}
 use Rattle.spl_value.specs.declared.value.Value.TheVariants as V
 use Rattle.spl_value.specs.declared.value.Value.TheViews.{out-Value}
 use Rattle.spl_value.specs.Calls.{Gives, Faults}
-use Rattle.spl_value.specs.FitsLaws.{pair_fits, fits_int, fits_map, fits_tuple, int_from_fits, list_from_fits, map_from_fits, tuple_from_fits}
+use Rattle.spl_value.proofs.FitsLaws.{pair_fits, fits_int, fits_map, fits_tuple, int_from_fits, list_from_fits, map_from_fits, tuple_from_fits}
 use Rattle.spl_value.specs.Pairs.{are_pairs}
 use Rattle.spl_value.specs.Values.{fits, tuple_fits, kind_holds}
 use Rattle.language_model.specs.Operators.{found, given, level_member, element_at, level_element}

@@ -10,7 +10,7 @@ use Rattle.spl_value.specs.declared.types.SplType.TheVariants as S
 use Rattle.spl_value.specs.declared.value.Value.{Value}
 use Rattle.spl_value.specs.declared.value.Value.TheVariants as V
 use Rattle.spl_value.specs.Calls.{FitsCollection}
-use Rattle.spl_value.specs.FitsLaws.{pair_fits, fits_list, fits_map, fits_tuple, all_at, get_fits, list_from_fits, map_from_fits, part_fits}
+use Rattle.spl_value.proofs.FitsLaws.{pair_fits, fits_list, fits_map, fits_tuple, all_at, get_fits, list_from_fits, map_from_fits, part_fits}
 use Rattle.spl_value.specs.Pairs.{are_pairs, pairs_get}
 use Rattle.spl_value.specs.Values.{fits, tuple_fits}
 use Rattle.std.specs.Cmp.{second_so}

@@ -6,7 +6,7 @@ use Rattle.std.proofs.lemmas.Option.{slice_get_read, slice_get_within}
 use Rattle.spl_value.specs.declared.types.SplType.{SplType}
 use Rattle.spl_value.specs.declared.value.Value.{Value}
 use Rattle.spl_value.specs.declared.value.Value.TheVariants as V
-use Rattle.spl_value.specs.FitsLaws.{fits_tuple}
+use Rattle.spl_value.proofs.FitsLaws.{fits_tuple}
 use Rattle.spl_tree.specs.declared.code.Slot.{Slot}
 use Rattle.spl_tree.specs.declared.code.Slot.TheVariants as L
 use Rattle.language_model.specs.declared.env.Env.{Env}

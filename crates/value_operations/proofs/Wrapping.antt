@@ -9,7 +9,7 @@ use Rattle.spl_value.specs.declared.types.IntKind.{IntKind}
 use Rattle.spl_value.specs.declared.types.IntKind.TheVariants.{I8, I16, I32, I64, U8, U16, U32, U64}
 use Rattle.spl_value.specs.Values.{modulus}
 use Rattle.spl_value.specs.Wrap.{IsCongruent, wrapped}
-use Rattle.spl_value.specs.WrapLaws.{wrapped_belongs, wrapped_congruent, one_wrapped, rem_congruent, rem_below}
+use Rattle.spl_value.proofs.WrapLaws.{wrapped_belongs, wrapped_congruent, one_wrapped, rem_congruent, rem_below}
 
 -- ---- products
 

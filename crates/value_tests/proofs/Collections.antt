@@ -5,8 +5,8 @@ use Rattle.spl_value.specs.declared.types.SplType.TheVariants as S
 use Rattle.spl_value.specs.declared.value.Value.{Value}
 use Rattle.spl_value.specs.declared.value.Value.TheVariants as V
 use Rattle.spl_value.specs.Calls.{GivesOf}
-use Rattle.spl_value.specs.CallsLaws.{append_of_list, append_law}
-use Rattle.spl_value.specs.FitsLaws.{fits_list, fits_map, put_fits}
+use Rattle.spl_value.proofs.CallsLaws.{append_of_list, append_law}
+use Rattle.spl_value.proofs.FitsLaws.{fits_list, fits_map, put_fits}
 use Rattle.spl_value.specs.Pairs.{pairs_put}
 use Rattle.spl_value.specs.Values.{fits}
 

@@ -16,14 +16,14 @@ use test_texts::words::cut;
 
 // A value of each type that the calls take.
 
-#[tactic(auto, using(spl_value::specs::FitsLaws::fits_laws))]
+#[tactic(auto, using(spl_value::proofs::FitsLaws::fits_laws))]
 fn text(alloc: Global, text: &str) -> Result<Value, NoMemory>
     ensures { IfOk result (λ v. IsTrue (fits SplType.Text v)) }
 {
     Ok(Value::Text(Items::from_slice(alloc, text.as_bytes())?))
 }
 
-#[tactic(auto, using(spl_value::specs::FitsLaws::number_laws))]
+#[tactic(auto, using(spl_value::proofs::FitsLaws::number_laws))]
 fn integer(kind: IntKind, n: i128) -> Value
     ensures { IsTrue (fits (SplType.Int kind) result) }
 {

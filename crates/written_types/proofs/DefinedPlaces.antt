@@ -9,8 +9,8 @@ use Rattle.spl_tree.specs.declared.unit.TypeDefinition.{TypeDefinition}
 use Rattle.spl_tree.specs.TypeGrammar.{TypeExpr}
 use Rattle.language_model.specs.Scopes.{At, at_place}
 use Rattle.language_model.specs.TypeNames.{Names, definition_of, type_names}
-use Rattle.language_model.specs.TypeNameLaws.{kind_names_in, map_names}
-use Rattle.language_model.specs.DefinedTypes.{there}
+use Rattle.language_model.proofs.TypeNameLaws.{kind_names_in, map_names}
+use Rattle.language_model.proofs.DefinedTypes.{there}
 use Rattle.written_types.specs.Definitions.{places_of}
 
 -- ---- the places of names

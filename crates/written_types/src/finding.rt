@@ -101,7 +101,7 @@ fn push_attribute(schema: &mut Schema, name: Name, kind: Boxed<SplType>) -> Resu
 
 /// The type that is written, as a part of one that may have so many levels and parts more.
 #[cycle(types)]
-#[tactic(auto, using(language_model::specs::TypeNameLaws::type_laws))]
+#[tactic(auto, using(language_model::proofs::TypeNameLaws::type_laws))]
 fn type_at(
     alloc: Global,
     scope: &TypeScope,

@@ -11,7 +11,7 @@ use std::alloc::Global;
 
 /// Adds the places of the definitions of the names in a type.
 #[cycle(places)]
-#[tactic(auto, using(language_model::specs::TypeNameLaws::name_laws, crate::proofs::DefinedPlaces::place_laws))]
+#[tactic(auto, using(language_model::proofs::TypeNameLaws::name_laws, crate::proofs::DefinedPlaces::place_laws))]
 fn add_of_type(
     definitions: &Definitions,
     written: &TypeExpr,

@@ -18,7 +18,7 @@ pub fn ends_with_result(statements: &[Stmt]) -> bool
 }
 
 #[cycle(results)]
-#[tactic(auto, using(language_model::specs::BodyTypingLaws::returns_laws))]
+#[tactic(auto, using(language_model::proofs::BodyTypingLaws::returns_laws))]
 fn is_result(statement: &Stmt) -> bool
     ensures { result ≡ kind_returns statement.now.what }
 {

@@ -1,4 +1,4 @@
-use Rattle.spl_value.specs.FitsLaws.{list_from_fits}
+use Rattle.spl_value.proofs.FitsLaws.{list_from_fits}
 use Rattle.builtin_calls.proofs.collections.append_m.Goals as goal
 
 pub unreachable-requires : goal.unreachable-requires

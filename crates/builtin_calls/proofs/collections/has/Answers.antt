@@ -1,4 +1,4 @@
-use Rattle.spl_value.specs.FitsLaws.{map_from_fits}
+use Rattle.spl_value.proofs.FitsLaws.{map_from_fits}
 use Rattle.builtin_calls.proofs.Shapes.{are_pairs_of}
 use Rattle.builtin_calls.proofs.collections.has.Goals as goal
 

@@ -1,4 +1,4 @@
-use Rattle.spl_value.specs.FitsLaws.{int_from_fits}
+use Rattle.spl_value.proofs.FitsLaws.{int_from_fits}
 use Rattle.builtin_calls.proofs.Opposites.{opposite_fits}
 use Rattle.builtin_calls.proofs.integers.abs.Goals as goal
 

@@ -1,4 +1,4 @@
-use Rattle.spl_value.specs.CallsLaws.{length_law, size_law, has_law, append_law, remove_law, clear_law, abs_law, min_law, max_law, substring_law}
+use Rattle.spl_value.proofs.CallsLaws.{length_law, size_law, has_law, append_law, remove_law, clear_law, abs_law, min_law, max_law, substring_law}
 use Rattle.builtin_calls.proofs.laws.calls_law.Goals as goal
 
 pub returns-clause-length : goal.returns-clause-length

@@ -1,4 +1,4 @@
-use Rattle.spl_value.specs.CallsLaws.{count_law, distance_law, least_number_law, least_law, greatest_law, part_law, index_law}
+use Rattle.spl_value.proofs.CallsLaws.{count_law, distance_law, least_number_law, least_law, greatest_law, part_law, index_law}
 use Rattle.builtin_calls.proofs.laws.values_law.Goals as goal
 
 pub returns-clause-count : goal.returns-clause-count

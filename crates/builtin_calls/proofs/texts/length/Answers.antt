@@ -1,4 +1,4 @@
-use Rattle.spl_value.specs.FitsLaws.{text_from_fits}
+use Rattle.spl_value.proofs.FitsLaws.{text_from_fits}
 use Rattle.builtin_calls.proofs.texts.length.Goals as goal
 
 pub unreachable-requires : goal.unreachable-requires

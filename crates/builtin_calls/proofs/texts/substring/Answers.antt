@@ -1,5 +1,5 @@
 use Rattle.spl_value.specs.declared.types.IntKind.TheVariants.{I32}
-use Rattle.spl_value.specs.FitsLaws.{int_from_fits, text_from_fits}
+use Rattle.spl_value.proofs.FitsLaws.{int_from_fits, text_from_fits}
 use Rattle.builtin_calls.proofs.texts.substring.Goals as goal
 
 pub unreachable-requires : goal.unreachable-requires

@@ -1,4 +1,4 @@
-use Rattle.expr_parser.specs.Expressions.{one_tree}
+use Rattle.expr_parser.proofs.Expressions.{one_tree}
 use Rattle.expr_parser.proofs.OneAnswer.{one_answer}
 use Rattle.expr_parser.proofs.laws.expressions_law.Goals as goal
 

@@ -1,4 +1,4 @@
-use Rattle.expr_parser.specs.Expressions.{exact_took}
+use Rattle.expr_parser.proofs.Expressions.{exact_took}
 use Rattle.expr_parser.proofs.Parsed.{begun_stop}
 use Rattle.expr_parser.proofs.parts.read_expression.Goals as goal
 

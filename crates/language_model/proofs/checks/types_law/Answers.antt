@@ -1,4 +1,4 @@
-use Rattle.language_model.specs.DefinedTypes.{names_law}
+use Rattle.language_model.proofs.DefinedTypes.{names_law}
 use Rattle.language_model.proofs.checks.types_law.Goals as goal
 
 pub returns : goal.returns

@@ -1,4 +1,4 @@
-use Rattle.spl_tree.specs.RangeLaws.{ranges_law}
+use Rattle.spl_tree.proofs.RangeLaws.{ranges_law}
 use Rattle.spl_tree.proofs.laws.ranges_law.Goals as goal
 
 pub returns : goal.returns

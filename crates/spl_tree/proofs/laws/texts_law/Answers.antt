@@ -1,4 +1,4 @@
-use Rattle.spl_tree.specs.WordLaws.{symbols_law, keywords_law}
+use Rattle.spl_tree.proofs.WordLaws.{symbols_law, keywords_law}
 use Rattle.spl_tree.proofs.laws.texts_law.Goals as goal
 
 pub returns-clause-symbols : goal.returns-clause-symbols

@@ -1,4 +1,4 @@
-use Rattle.spl_tree.specs.CutLaws.{cut_law, one_cut_law, rise_law, own_bytes_law}
+use Rattle.spl_tree.proofs.CutLaws.{cut_law, one_cut_law, rise_law, own_bytes_law}
 use Rattle.spl_tree.proofs.laws.tokens_law.Goals as goal
 
 pub returns-clause-cut : goal.returns-clause-cut

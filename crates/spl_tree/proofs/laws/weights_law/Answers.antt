@@ -1,4 +1,4 @@
-use Rattle.spl_tree.specs.WeightLaws.{weights_law, shallow_law}
+use Rattle.spl_tree.proofs.WeightLaws.{weights_law, shallow_law}
 use Rattle.spl_tree.proofs.laws.weights_law.Goals as goal
 
 pub returns-clause-each : goal.returns-clause-each

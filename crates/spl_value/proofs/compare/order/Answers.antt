@@ -1,5 +1,5 @@
 use Rattle.std.proofs.Common.{◌∙◌}
-use Rattle.spl_value.specs.OrderLaws.{derived_cmp}
+use Rattle.spl_value.proofs.OrderLaws.{derived_cmp}
 use Rattle.spl_value.proofs.compare.order.Goals as goal
 
 pub returns : goal.returns

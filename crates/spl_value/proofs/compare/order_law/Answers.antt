@@ -1,4 +1,4 @@
-use Rattle.spl_value.specs.OrderLaws.{value_cmp_total, value_cmp-itself, value_cmp-Equal}
+use Rattle.spl_value.proofs.OrderLaws.{value_cmp_total, value_cmp-itself, value_cmp-Equal}
 use Rattle.spl_value.proofs.compare.order_law.Goals as goal
 
 pub returns-clause-reflexive : goal.returns-clause-reflexive

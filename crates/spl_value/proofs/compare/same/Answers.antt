@@ -1,5 +1,5 @@
 use Rattle.std.proofs.Common.{IsTrue, subst, sym}
-use Rattle.spl_value.specs.OrderLaws.{derived_eq}
+use Rattle.spl_value.proofs.OrderLaws.{derived_eq}
 use Rattle.spl_value.proofs.compare.same.Goals as goal
 
 pub returns : goal.returns

@@ -1,4 +1,4 @@
-use Rattle.spl_value.specs.FitsLaws.{default_fits}
+use Rattle.spl_value.proofs.FitsLaws.{default_fits}
 use Rattle.spl_value.proofs.default.default_law.Goals as goal
 
 pub returns : goal.returns

@@ -1,4 +1,4 @@
-use Rattle.spl_value.specs.KeyLaws.{key_places, key_types, same_bytes, one_key}
+use Rattle.spl_value.proofs.KeyLaws.{key_places, key_types, same_bytes, one_key}
 use Rattle.spl_value.proofs.key.key_law.Goals as goal
 
 pub returns-clause-places : goal.returns-clause-places

@@ -2,7 +2,7 @@ use Rattle.std.proofs.Common.{pos, negsuc, true, false, [], codes}
 use Rattle.spl_value.specs.declared.types.IntKind.TheVariants as N
 use Rattle.spl_value.specs.declared.types.SplType.TheVariants as S
 use Rattle.spl_value.specs.declared.value.Value.TheVariants as V
-use Rattle.spl_value.specs.FitsLaws.{fits_int, fits_bool, fits_text}
+use Rattle.spl_value.proofs.FitsLaws.{fits_int, fits_bool, fits_text}
 use Rattle.spl_value.proofs.key.key_on_literals.Goals as goal
 
 pub returns-clause-minus_one : goal.returns-clause-minus_one

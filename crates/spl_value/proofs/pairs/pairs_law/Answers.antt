@@ -1,4 +1,4 @@
-use Rattle.spl_value.specs.PairsLaws.{keys_rise, pairs_from_rise, get_from_Contains, Contains_from_get, same_pairs, get-put, get-put_other, put_are_pairs, get-without, get-without_other, without_are_pairs}
+use Rattle.spl_value.proofs.PairsLaws.{keys_rise, pairs_from_rise, get_from_Contains, Contains_from_get, same_pairs, get-put, get-put_other, put_are_pairs, get-without, get-without_other, without_are_pairs}
 use Rattle.spl_value.proofs.pairs.pairs_law.Goals as goal
 
 pub returns-clause-rise : goal.returns-clause-rise

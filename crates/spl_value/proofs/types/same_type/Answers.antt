@@ -1,5 +1,5 @@
 use Rattle.std.proofs.Common.{IsTrue, subst, sym}
-use Rattle.spl_value.specs.TypesLaws.{type_eq}
+use Rattle.spl_value.proofs.TypesLaws.{type_eq}
 use Rattle.spl_value.proofs.types.same_type.Goals as goal
 
 pub returns : goal.returns

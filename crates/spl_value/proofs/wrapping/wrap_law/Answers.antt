@@ -1,4 +1,4 @@
-use Rattle.spl_value.specs.WrapLaws.{wrapped_belongs, wrapped_congruent, one_wrapped, wrapped_kept}
+use Rattle.spl_value.proofs.WrapLaws.{wrapped_belongs, wrapped_congruent, one_wrapped, wrapped_kept}
 use Rattle.spl_value.proofs.wrapping.wrap_law.Goals as goal
 
 pub returns-clause-belongs : goal.returns-clause-belongs

@@ -1,4 +1,4 @@
-use Rattle.stream_model.specs.PathLaws.{path_is_ordered, path_is_numbered}
+use Rattle.stream_model.proofs.PathLaws.{path_is_ordered, path_is_numbered}
 use Rattle.stream_model.proofs.laws.chain_is_ordered.Goals as goal
 
 pub returns-clause-ordered : goal.returns-clause-ordered

@@ -1,4 +1,4 @@
-use Rattle.stream_model.specs.PathLaws.{filter_out, sink_out, sink_fault}
+use Rattle.stream_model.proofs.PathLaws.{filter_out, sink_out, sink_fault}
 use Rattle.stream_model.proofs.laws.path_law.Goals as goal
 
 pub returns-clause-filters : goal.returns-clause-filters

@@ -1,4 +1,4 @@
-use Rattle.stream_model.specs.RowsLaws.{rows_close}
+use Rattle.stream_model.proofs.RowsLaws.{rows_close}
 use Rattle.stream_model.proofs.FileRows.{pieces_law, file_rows_law, failed_rows_law}
 use Rattle.stream_model.proofs.laws.rows_law.Goals as goal
 

@@ -1,5 +1,6 @@
 use Rattle.std.proofs.Common.{arith}
-use Rattle.language_model.specs.TypingLaws.{parted, call_form}
+use Rattle.language_model.specs.TypingLaws.{parted}
+use Rattle.language_model.proofs.TypingLaws.{call_form}
 use Rattle.type_rules.proofs.Rows.{nil_as}
 use Rattle.type_rules.proofs.forms.+asks.Goals as goal
 

@@ -1,4 +1,4 @@
-use Rattle.unit_parser.specs.Units.{one_unit}
+use Rattle.unit_parser.proofs.WholeUnits.{one_unit}
 use Rattle.unit_parser.proofs.OneAnswer.{one_answer}
 use Rattle.unit_parser.proofs.laws.units_law.Goals as goal
 

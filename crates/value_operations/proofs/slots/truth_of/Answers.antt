@@ -1,4 +1,4 @@
-use Rattle.spl_value.specs.FitsLaws.{bool_from_fits}
+use Rattle.spl_value.proofs.FitsLaws.{bool_from_fits}
 use Rattle.value_operations.proofs.slots.truth_of.Goals as goal
 
 pub unreachable-requires : goal.unreachable-requires

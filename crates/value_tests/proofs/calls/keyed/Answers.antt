@@ -2,7 +2,7 @@ use Rattle.std.proofs.Common.{refl, true}
 use Rattle.spl_value.specs.declared.types.IntKind.TheVariants.{I32}
 use Rattle.spl_value.specs.declared.types.SplType.TheVariants as S
 use Rattle.spl_value.specs.declared.value.Value.TheVariants as V
-use Rattle.spl_value.specs.FitsLaws.{fits_bool}
+use Rattle.spl_value.proofs.FitsLaws.{fits_bool}
 use Rattle.value_tests.proofs.Collections.{empty_map, put_map}
 use Rattle.builtin_calls.proofs.Shapes.{are_pairs_of}
 use Rattle.value_tests.proofs.calls.keyed.Goals as goal

@@ -1,4 +1,4 @@
-use Rattle.spl_value.specs.PairsLaws.{none_at_gap}
+use Rattle.spl_value.proofs.PairsLaws.{none_at_gap}
 use Rattle.spl_value.proofs.pairs.Items+tuple2+Value+Value.find.Goals as goal
 
 pub returns-in-Err : goal.returns-in-Err

@@ -1,5 +1,5 @@
 use Rattle.std.proofs.Common.{◌≡◌, ◌⊎◌, refl, inl}
-use Rattle.spl_value.specs.PairsLaws.{write_at, value_at, none_at_gap}
+use Rattle.spl_value.proofs.PairsLaws.{write_at, value_at, none_at_gap}
 use Rattle.spl_value.proofs.pairs.Items+tuple2+Value+Value.find_mut.Goals as goal
 
 -- a loan under the same name that ends alike

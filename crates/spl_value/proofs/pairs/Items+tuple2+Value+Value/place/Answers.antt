@@ -1,7 +1,7 @@
 use Rattle.std.proofs.Common.{rules}
 use Rattle.std.proofs.lemmas.Fn.{always_returns_same}
 use Rattle.spl_value.specs.Order.{value_cmp}
-use Rattle.spl_value.specs.PairsLaws.{place_of_key}
+use Rattle.spl_value.proofs.PairsLaws.{place_of_key}
 use Rattle.spl_value.proofs.pairs.Items+tuple2+Value+Value.place.Goals as goal
 
 pub returns : goal.returns

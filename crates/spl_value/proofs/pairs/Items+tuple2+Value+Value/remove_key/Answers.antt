@@ -1,6 +1,6 @@
 use Rattle.std.proofs.Common.{ap, ◌∙◌}
 use Rattle.spl_value.specs.Pairs.{are_pairs}
-use Rattle.spl_value.specs.PairsLaws.{remove_at, none_at_gap, same_at_gap, without_are_pairs}
+use Rattle.spl_value.proofs.PairsLaws.{remove_at, none_at_gap, same_at_gap, without_are_pairs}
 use Rattle.spl_value.proofs.pairs.Items+tuple2+Value+Value.remove_key.Goals as goal
 
 pub returns-in-Ok-clause-others : goal.returns-in-Ok-clause-others
