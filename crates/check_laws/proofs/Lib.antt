@@ -16,3 +16,9 @@ mod AssignedOnce
 mod OutputsFit
 mod LogicFits
 mod PartsFit
+mod FollowedTexts
+mod FileParameters
+mod FileParts
+mod FreeFiles
+mod OwnFiles
+mod SomeFiles

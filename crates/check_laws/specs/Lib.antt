@@ -1,2 +1,5 @@
 pub mod PartsLaw
 pub mod KeepsLaw
+pub mod Files
+pub mod OwnFilesLaw
+pub mod examples

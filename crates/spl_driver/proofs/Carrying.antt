@@ -17,7 +17,7 @@ use Rattle.run_report.specs.Texts.{check_text}
 use Rattle.command_line.specs.declared.request.Request.{Request}
 use Rattle.command_line.specs.declared.request.Request.TheVariants as R
 use Rattle.command_line.specs.declared.request.RunOptions.{RunOptions}
-use Rattle.file_laws.specs.Files.{source_files, sink_files, is_named}
+use Rattle.check_laws.specs.Files.{source_files, sink_files, is_named}
 use Rattle.spl_driver.specs.Built.{is_built, is_built_graph, is_built_now, is_plain, is_given}
 use Rattle.spl_driver.specs.Files.{opens, creates, if_given, built_parts}
 use Rattle.spl_driver.specs.Outcome.{Outcome, NotBuilt, Checks, Runs, meant, with_sources, with_graph}

@@ -10,7 +10,7 @@ use Rattle.feed_pour.specs.Contents.{Told, WhereTold, TellsSame}
 use Rattle.feed_pour.specs.Named.{FetchedOf, FetchCounted, open_failed, read_failed}
 use Rattle.feed_pour.specs.declared.named.Fetched.{Fetched}
 use Rattle.feed_pour.specs.declared.named.Fetched.TheVariants as F
-use Rattle.file_laws.specs.Files.{is_named}
+use Rattle.check_laws.specs.Files.{is_named}
 use Rattle.spl_driver.specs.Outcome.{is_failed, has_fault}
 use Rattle.spl_driver.specs.Answer.{NoCountChanged, ReadsFailed, OpenFailed}
 use Rattle.spl_driver.specs.Steps.{OnlyOpened, OpensCounted}

@@ -19,7 +19,7 @@ use Rattle.stream_model.proofs.RowsLaws.{rows_close}
 use Rattle.stream_model.specs.Stream.{is_closed, TuplesFit}
 use Rattle.language_model.specs.StreamTypes.{Attributes}
 use Rattle.file_adapters.specs.Source.{is_number_file, is_number_schema}
-use Rattle.file_laws.specs.Files.{source_files}
+use Rattle.check_laws.specs.Files.{source_files}
 use Rattle.spl_driver.specs.Answer.{NoCountChanged}
 use Rattle.spl_driver.specs.Steps.{AreNumbers, RowsRead, RowsOf, SourceTold, OtherTold, SourceOf, HoldsOther, OpensCounted, source_failed}
 use Rattle.spl_driver.specs.declared.sources.OneSource.{OneSource}

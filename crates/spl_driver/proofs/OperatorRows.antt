@@ -22,7 +22,7 @@ use Rattle.stream_model.specs.Meaning.{Graph, connections}
 use Rattle.stream_model.specs.React.{Kind, Operator, Source, FileSource, Filter, FileSink}
 use Rattle.language_model.specs.StreamTypes.{Attributes}
 use Rattle.file_adapters.specs.Source.{is_number_schema}
-use Rattle.file_laws.specs.Files.{source_file, source_files, is_named}
+use Rattle.check_laws.specs.Files.{source_file, source_files, is_named}
 use Rattle.list_run.specs.Runs.{RowsFit, rows_at}
 use Rattle.spl_driver.specs.Built.{is_built_graph, is_built_now, has_numbers, has_several}
 use Rattle.spl_driver.specs.Answer.{NoCountChanged}

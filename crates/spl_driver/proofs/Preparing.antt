@@ -8,7 +8,7 @@ use Rattle.stream_model.specs.declared.record.ArrivalList.{ArrivalList}
 use Rattle.language_model.specs.CheckedGraph.{CheckedGraph}
 use Rattle.stream_model.specs.CheckedMeaning.{graph_of}
 use Rattle.stream_model.specs.Meaning.{Graph, Entries, meaning}
-use Rattle.file_laws.specs.Files.{source_files}
+use Rattle.check_laws.specs.Files.{source_files}
 use Rattle.list_run.specs.Runs.{CanRun, RowsFit, AreStreams, rows_at}
 use Rattle.spl_driver.specs.Built.{is_built_graph, is_built_now}
 use Rattle.spl_driver.specs.Outcome.{Outcome, Unreadable, NotBuilt, Runs, has_fault, holds_numbers, meant, with_sources, with_graph}

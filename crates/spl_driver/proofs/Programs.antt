@@ -12,8 +12,8 @@ use Rattle.language_model.specs.CheckedGraph.{CheckedGraph}
 use Rattle.language_model.specs.Checking.{checked}
 use Rattle.run_report.specs.declared.refusal.Refusal.{Refusal}
 use Rattle.run_report.specs.Refusals.{refusal_of}
-use Rattle.file_laws.specs.Files.{OwnFiles}
-use Rattle.file_laws.specs.Laws.{OwnFilesLaw}
+use Rattle.check_laws.specs.Files.{OwnFiles}
+use Rattle.check_laws.specs.OwnFilesLaw.{OwnFilesLaw}
 use Rattle.spl_driver.specs.AcceptedLaws.{TooLongLaw}
 use Rattle.spl_driver.specs.Compiled.{IsCompiled}
 use Rattle.spl_driver.specs.declared.compile_answer.CompileAnswer.TheVariants as N

@@ -22,7 +22,7 @@ use Rattle.stream_model.specs.React.{Kind, Operator, Source, FileSource, Filter,
 use Rattle.stream_model.specs.Rows.{text_of}
 use Rattle.stream_model.specs.Stages.{out}
 use Rattle.stream_model.specs.Stream.{is_closed, is_tuple}
-use Rattle.file_laws.specs.Files.{sink_file, sink_files, is_named, OwnFiles}
+use Rattle.check_laws.specs.Files.{sink_file, sink_files, is_named, OwnFiles}
 use Rattle.file_adapters.specs.declared.sinks.Sink.{Sink}
 use Rattle.file_adapters.specs.declared.sinks.Sunk.{Sunk}
 use Rattle.file_adapters.specs.declared.sinks.Sunk.TheVariants as W

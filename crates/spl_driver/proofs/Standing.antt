@@ -16,7 +16,7 @@ use Rattle.run_report.specs.Refusals.{refusal_of}
 use Rattle.command_line.specs.declared.request.Request.{Request}
 use Rattle.command_line.specs.declared.request.Request.TheVariants as R
 use Rattle.command_line.specs.Request.{file_names}
-use Rattle.file_laws.specs.Files.{is_named}
+use Rattle.check_laws.specs.Files.{is_named}
 use Rattle.spl_driver.specs.Built.{is_built}
 use Rattle.spl_driver.specs.Files.{opens, creates, program_of, built_parts}
 use Rattle.spl_driver.specs.Outcome.{Outcome, NoRequest, Unreadable, Refused, NotBuilt, Checks, Runs, has_fault, with_program, carried_out, IsOutcomeBehind, IsOutcomeOf, IsOutcomeWhere, IsOutcome, ArePartsBehind, ArePartsOf, ArePartsIn}
@@ -138,11 +138,11 @@ OpensFirst request program parts = (rest : List (List ℕ)) × (opens (Some requ
 opens_program : (request : Request) (program : List ℕ) (parts : List Part) → program_of request ≡ Some program → OpensFirst request program parts
 opens_program (R.Check p) program parts e = let same : p ≡ program = cc in ([], ap (λ (q : List ℕ). q ∷ []) same)
 opens_program (R.Plan p) program parts e = let same : p ≡ program = cc in ([], ap (λ (q : List ℕ). q ∷ []) same)
-opens_program (R.Run p options) program parts e = let same : p ≡ program = cc in (_, ap (λ (q : List ℕ). q ∷ Rattle.file_laws.specs.Files.source_files parts) same)
+opens_program (R.Run p options) program parts e = let same : p ≡ program = cc in (_, ap (λ (q : List ℕ). q ∷ Rattle.check_laws.specs.Files.source_files parts) same)
 opens_program (R.Replay p arrivals) program parts e =
-    let same : p ≡ program = cc in (_, ap (λ (q : List ℕ). q ∷ Rattle.file_laws.specs.Files.source_files parts ++ arrivals ∷ []) same)
+    let same : p ≡ program = cc in (_, ap (λ (q : List ℕ). q ∷ Rattle.check_laws.specs.Files.source_files parts ++ arrivals ∷ []) same)
 opens_program (R.Simulate p width schedule steps) program parts e =
-    let same : p ≡ program = cc in (_, ap (λ (q : List ℕ). q ∷ Rattle.file_laws.specs.Files.source_files parts) same)
+    let same : p ≡ program = cc in (_, ap (λ (q : List ℕ). q ∷ Rattle.check_laws.specs.Files.source_files parts) same)
 opens_program (R.Make name rows start) program parts e = absurd cc
 
 or_first : (a b c : Bool) → ((a || b) || c) ≡ false → a ≡ false

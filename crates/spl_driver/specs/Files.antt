@@ -5,7 +5,7 @@ use Rattle.language_model.specs.Accepted.{ProgramRefusal}
 use Rattle.language_model.specs.CheckedGraph.{CheckedGraph}
 use Rattle.command_line.specs.declared.request.Request.{Request}
 use Rattle.command_line.specs.declared.request.Request.TheVariants as R
-use Rattle.file_laws.specs.Files.{source_files, sink_files}
+use Rattle.check_laws.specs.Files.{source_files, sink_files}
 use Rattle.spl_driver.specs.Built.{is_built_now}
 
 -- the file of a request's program

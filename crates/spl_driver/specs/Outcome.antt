@@ -19,7 +19,7 @@ use Rattle.run_report.specs.Refusals.{refusal_of}
 use Rattle.command_line.specs.declared.request.Request.{Request}
 use Rattle.command_line.specs.declared.request.Request.TheVariants as R
 use Rattle.command_line.specs.Request.{file_names}
-use Rattle.file_laws.specs.Files.{source_files}
+use Rattle.check_laws.specs.Files.{source_files}
 use Rattle.file_adapters.specs.Source.{is_number_file}
 use Rattle.spl_driver.specs.Built.{is_built, is_built_graph, has_several}
 use Rattle.spl_driver.specs.Files.{program_of, parts_of}

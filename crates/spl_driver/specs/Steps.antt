@@ -26,7 +26,7 @@ use Rattle.run_report.specs.declared.cause.Cause.{Cause}
 use Rattle.run_report.specs.declared.cause.Cause.TheVariants as C
 use Rattle.run_report.specs.Refusals.{refusal_of}
 use Rattle.run_report.specs.Texts.{status_text}
-use Rattle.file_laws.specs.Files.{source_files, sink_files, is_named, OwnFiles}
+use Rattle.check_laws.specs.Files.{source_files, sink_files, is_named, OwnFiles}
 use Rattle.file_adapters.specs.Source.{is_number_file, is_number_schema}
 use Rattle.file_adapters.specs.declared.sinks.Sink.{Sink}
 use Rattle.list_run.specs.Runs.{CanRun, RowsFit, AreStreams, rows_at}

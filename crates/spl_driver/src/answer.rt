@@ -3,7 +3,7 @@ ghost use Rattle.std.specs.Prelude.{◌≡◌, ◌<◌, ◌-◌, ◌^◌, [], tr
 ghost use Rattle.feed_pour.specs.Contents.{WhereTold};
 ghost use Rattle.run_report.specs.Texts.{status_text, check_text};
 ghost use Rattle.command_line.specs.Request.{file_names};
-ghost use Rattle.file_laws.specs.Files.{OwnFiles};
+ghost use Rattle.check_laws.specs.Files.{OwnFiles};
 ghost use Rattle.spl_driver.specs.Answer.{Answered, MayBe, Shown};
 ghost use Rattle.spl_driver.specs.Built.{is_built};
 ghost use Rattle.spl_driver.specs.Files.{opens, creates, built_parts, program_of};

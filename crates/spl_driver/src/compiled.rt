@@ -10,8 +10,8 @@ ghost use Rattle.spl_driver.specs.Steps.{CompiledAt, HasOwnFiles, OpensCounted, 
 use crate::compile_answer::CompileAnswer;
 use crate::compiling::compile;
 use crate::laws::accepted_law;
+use check_laws::own_files_law;
 use feed_pour::{Fetched, Shelf, fetch};
-use file_laws::own_files_law;
 use language_model::Checked;
 use run_report::{Code, Refusal};
 use spl_tree::{LexicalError, MOST_BYTES};

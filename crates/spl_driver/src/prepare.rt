@@ -1,7 +1,7 @@
 //! A run made ready: its sources read, and its streams computed.
 ghost use Rattle.std.specs.Prelude.{◌≡◌, ◌<◌, ◌-◌, ◌^◌, true, IfSome};
 ghost use Rattle.feed_pour.specs.Contents.{WhereTold, TellsSame};
-ghost use Rattle.file_laws.specs.Files.{source_files};
+ghost use Rattle.check_laws.specs.Files.{source_files};
 ghost use Rattle.spl_driver.specs.Answer.{ReadsFailed};
 ghost use Rattle.spl_driver.specs.Built.{is_built_now};
 ghost use Rattle.spl_driver.specs.Steps.{PreparedOf, OpensCounted, prepare_failed};

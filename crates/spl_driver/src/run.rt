@@ -1,7 +1,7 @@
 //! A run of a checked graph, from its sources to its sinks.
 ghost use Rattle.std.specs.Prelude.{◌≡◌, ◌<◌, ◌-◌, ◌^◌, true, ℕ, List, [], IfOk};
 ghost use Rattle.feed_pour.specs.Contents.{WhereTold};
-ghost use Rattle.file_laws.specs.Files.{source_files, sink_files, OwnFiles};
+ghost use Rattle.check_laws.specs.Files.{source_files, sink_files, OwnFiles};
 ghost use Rattle.spl_driver.specs.Answer.{cause_of};
 ghost use Rattle.spl_driver.specs.Built.{is_built_now};
 ghost use Rattle.spl_driver.specs.Lines.{IsLine};

@@ -1,7 +1,7 @@
 //! The sources of a run, read as whole files.
 ghost use Rattle.std.specs.Prelude.{◌≡◌, ◌<◌, ◌≤◌, ◌-◌, ◌^◌, ◌∷◌, [], length, true, IfSome};
 ghost use Rattle.feed_pour.specs.Contents.{WhereTold, TellsSame};
-ghost use Rattle.file_laws.specs.Files.{source_files};
+ghost use Rattle.check_laws.specs.Files.{source_files};
 ghost use Rattle.spl_driver.specs.Answer.{ReadsFailed};
 ghost use Rattle.spl_driver.specs.Built.{is_built_now};
 ghost use Rattle.spl_driver.specs.Steps.{SourcesOf, SourceOf, RowsRead, OpensCounted, sources_failed, source_failed};

@@ -28,9 +28,9 @@ use Rattle.language_model.specs.Parameters.{Tables}
 use Rattle.language_model.specs.SinkFiles.{OpFile, composite_of, file_of, invocation_at, is_sink, is_source, op_file, text_in, value_named}
 use Rattle.language_model.specs.StreamTypes.{Body, body_at}
 use Rattle.language_model.specs.Typing.{after, mismatch}
-use Rattle.file_laws.proofs.FileParameters.{HasFile, has_file}
-use Rattle.file_laws.proofs.FollowedTexts.{file_found}
-use Rattle.file_laws.proofs.FoundSteps.{Gives, after_gives, gives_from, gives_then, same_Ok}
+use Rattle.check_laws.proofs.FileParameters.{HasFile, has_file}
+use Rattle.check_laws.proofs.FollowedTexts.{file_found}
+use Rattle.check_laws.proofs.FoundSteps.{Gives, after_gives, gives_from, gives_then, same_Ok}
 
 -- ---- files without their places
 

@@ -23,11 +23,11 @@ use Rattle.language_model.specs.Parameters.{dollar_tables}
 use Rattle.language_model.specs.Scopes.{At}
 use Rattle.language_model.specs.SinkFiles.{OpFile, op_file}
 use Rattle.language_model.specs.Typing.{after}
-use Rattle.file_laws.specs.Files.{OwnFiles, is_named, sink_files, source_files}
-use Rattle.file_laws.specs.Laws.{OwnFilesLaw}
-use Rattle.file_laws.proofs.FileParts.{operators_files, part_file}
-use Rattle.file_laws.proofs.FoundSteps.{after_gives, same_Ok}
-use Rattle.file_laws.proofs.FreeFiles.{Clear, Free, all_free, bare_free}
+use Rattle.check_laws.specs.Files.{OwnFiles, is_named, sink_files, source_files}
+use Rattle.check_laws.specs.OwnFilesLaw.{OwnFilesLaw}
+use Rattle.check_laws.proofs.FileParts.{operators_files, part_file}
+use Rattle.check_laws.proofs.FoundSteps.{after_gives, same_Ok}
+use Rattle.check_laws.proofs.FreeFiles.{Clear, Free, all_free, bare_free}
 
 -- ---- the files of parts
 

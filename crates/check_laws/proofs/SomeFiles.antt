@@ -1,9 +1,9 @@
 -- Which of some parts have files of their own.
 use Rattle.std.specs.Prelude.{◌≡◌, true, false, [], ◌∷◌, codes}
 use Rattle.std.proofs.Common.{refl}
-use Rattle.file_laws.specs.Files.{OwnFiles}
-use Rattle.file_laws.specs.SomeParts.{sink_of, source_of, two_sinks}
-use Rattle.file_laws.proofs.OwnFiles.{own_files}
+use Rattle.check_laws.specs.Files.{OwnFiles}
+use Rattle.check_laws.specs.examples.SomeFiles.{sink_of, source_of, two_sinks}
+use Rattle.check_laws.proofs.OwnFiles.{own_files}
 
 pub two_own : OwnFiles (codes "report" ∷ []) two_sinks
 two_own = own_files (codes "report" ∷ []) two_sinks (refl, (refl, (refl, tt)), (refl, (refl, tt), (refl, tt, tt)))

@@ -1,8 +1,8 @@
 //! No sink writes a file that something else has.
 ghost use Rattle.std.specs.Prelude.{[], ◌∷◌, codes};
-ghost use Rattle.file_laws.specs.Files.{OwnFiles};
-ghost use Rattle.file_laws.specs.Laws.{OwnFilesLaw};
-ghost use Rattle.file_laws.specs.SomeParts.{sink_of, source_of, two_sinks};
+ghost use Rattle.check_laws.specs.Files.{OwnFiles};
+ghost use Rattle.check_laws.specs.OwnFilesLaw.{OwnFilesLaw};
+ghost use Rattle.check_laws.specs.examples.SomeFiles.{sink_of, source_of, two_sinks};
 
 /// In a checked graph of a unit each sink has a file of its own: no other sink writes it, no source
 /// reads it, and it is none of the files that sinks may not have.

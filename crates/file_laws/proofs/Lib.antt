@@ -1,7 +1,0 @@
-mod FoundSteps
-mod FollowedTexts
-mod FileParameters
-mod FileParts
-mod FreeFiles
-mod OwnFiles
-mod SomeParts
