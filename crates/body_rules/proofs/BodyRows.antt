@@ -1,6 +1,6 @@
 -- How far the loops over statements and branches have come.
-use Rattle.std.specs.Prelude.{◌≡◌, ℕ, suc, ◌+◌, ◌<◌, ◌≤◌, List, [], ◌∷◌, ◌++◌, length, drop, Bool, Ok, Err}
-use Rattle.std.proofs.Common.{refl, ap, sym, subst, ◌∙◌, append_assoc, append-nil, get_or, drop-cons, add-one}
+use Rattle.std.specs.Prelude.{◌≡◌, ℕ, ◌+◌, ◌<◌, ◌≤◌, List, [], ◌∷◌, ◌++◌, length, drop, Bool, Ok, Err}
+use Rattle.std.proofs.Common.{refl, ap, sym, subst, ◌∙◌, append_assoc, append-nil, get_or}
 use Rattle.std.proofs.lemmas.List.{drop_all}
 use Rattle.spl_tree.specs.declared.body.Statement.{Statement}
 use Rattle.spl_tree.specs.declared.code.Code.{Code}
@@ -15,11 +15,8 @@ use Rattle.language_model.specs.declared.answer.TypeAnswer.{TypeAnswer}
 use Rattle.language_model.specs.declared.answer.TypeAnswer.TheVariants.{Refused, Memory}
 use Rattle.language_model.specs.Finds.{Finds, with_front}
 use Rattle.body_rules.specs.Leads.{Leads}
-use Rattle.body_rules.proofs.Steps.{after_after, stops}
-
--- the rest of a list from a place on
-pub drop_at : {A : Type 0} (xs : List A) (i : ℕ) (x : A) → i < length xs → x ≡ get_or xs i x → drop i xs ≡ x ∷ drop (i + 1) xs
-drop_at xs i x h e = rw add-one (drop-cons xs i x h ∙ ap (λ y. y ∷ drop (suc i) xs) (sym e))
+use Rattle.language_model.proofs.FoundAnswers.{after_after, stops}
+use Rattle.spl_value.proofs.Lists.{drop_at}
 
 -- ---- rows whose items don't depend on one another
 

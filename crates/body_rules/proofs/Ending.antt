@@ -1,12 +1,12 @@
 -- The last of some statements.
-use Rattle.std.specs.Prelude.{◌≡◌, ℕ, Bool, true, ◌&&◌, List, [], ◌∷◌, ◌++◌, map}
-use Rattle.std.proofs.Common.{refl, ap, sym, ◌∙◌, arith, ◌≤◌, ◌+◌}
+use Rattle.std.specs.Prelude.{◌≡◌, ℕ, Bool, List, [], ◌∷◌, ◌++◌, map}
+use Rattle.std.proofs.Common.{refl, ap, ◌∙◌, arith, ◌≤◌, ◌+◌}
 use Rattle.std.proofs.lemmas.List.{map-append}
 use Rattle.spl_tree.specs.declared.expression.Placed.{Placed}
 use Rattle.spl_tree.specs.StatementGrammar.{Stmt}
 use Rattle.language_model.specs.BodyTyping.{last_returns, returns}
 use Rattle.language_model.specs.BodyTypingLaws.{kind_returns}
-use Rattle.body_rules.proofs.Weights.{total}
+use Rattle.spl_value.proofs.Lists.{total}
 
 last_of : (xs : List (Placed Bool)) (x : Placed Bool) → last_returns (xs ++ x ∷ []) ≡ x.what
 last_of [] x = refl

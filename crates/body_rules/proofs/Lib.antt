@@ -1,5 +1,4 @@
 mod Weights
-mod Steps
 mod Lengths
 mod BodyRows
 mod Ending

@@ -1,7 +1,6 @@
 -- How far the loops over the functions of a unit have come.
-use Rattle.std.specs.Prelude.{◌≡◌, ◌<◌, ◌+◌, ℕ, Bool, true, false, List, [], ◌∷◌, ◌++◌, length, take, drop, filter_map, Option, Some, None, Ok, Err}
-use Rattle.std.proofs.Common.{refl, ap, sym, ◌∙◌, append-nil, append_assoc, get_or, add-one}
-use Rattle.std.proofs.Math.Seq.{take-suc}
+use Rattle.std.specs.Prelude.{◌≡◌, ◌<◌, ◌+◌, ℕ, false, List, [], ◌∷◌, ◌++◌, length, take, drop, filter_map, Option, Ok, Err}
+use Rattle.std.proofs.Common.{refl, ap, sym, ◌∙◌, append-nil, append_assoc, get_or}
 use Rattle.std.proofs.lemmas.List.Elements.{filter_map-append}
 use Rattle.spl_tree.specs.declared.body.Function.{Function}
 use Rattle.spl_tree.specs.declared.unit.Definition.{Definition}
@@ -18,13 +17,10 @@ use Rattle.language_model.specs.declared.answer.TypeAnswer.{TypeAnswer}
 use Rattle.language_model.specs.Finds.{Finds, with_front}
 use Rattle.body_rules.specs.declared.functions.FunctionTypes.{FunctionTypes}
 use Rattle.body_rules.specs.Signatures.{as_types, function_in, scope_in, with_definition, with_function}
-use Rattle.body_rules.proofs.BodyRows.{drop_at}
-use Rattle.body_rules.proofs.Steps.{after_after, finds_by, stops}
+use Rattle.language_model.proofs.FoundAnswers.{after_after, finds_by, stops}
+use Rattle.spl_value.proofs.Lists.{drop_at, take_at as taken_on}
 
 -- ---- signatures
-
-taken_on : {A : Type 0} (xs : List A) (i : ℕ) (x : A) → i < length xs → x ≡ get_or xs i x → take (i + 1) xs ≡ take i xs ++ x ∷ []
-taken_on xs i x h e = ap (λ n. take n xs) (add-one i) ∙ take-suc xs i x h ∙ ap (λ y. take i xs ++ y ∷ []) (sym e)
 
 module _ (types : Types) where
   abbrev signatures : List FunctionDefinition → List Signature

@@ -19,7 +19,7 @@ use Rattle.language_model.specs.Typing.{after}
 use Rattle.language_model.specs.declared.answer.TypeAnswer.{TypeAnswer}
 use Rattle.language_model.specs.Finds.{Finds}
 use Rattle.body_rules.proofs.BodyRows.{branch}
-use Rattle.body_rules.proofs.Steps.{goes, stops}
+use Rattle.language_model.proofs.FoundAnswers.{goes, stops}
 
 pub branch_stops : (setting : Setting) (inside : Bool) (scope : Scope) (a : Expr × Stmt) (code : Code Slot) (e : TypeAnswer) → condition_typing scope a.0 ≡ Ok code
     → Finds (alone setting inside scope (stated a.1)) (Err e) → Finds (branch setting inside scope a) (Err e)

@@ -1,5 +1,5 @@
 -- What fits a type is of its shape.
-use Rattle.std.proofs.Common.{◌≡◌, Bool, true, false, ◌&&◌, IsTrue, List, inl, inr, subst, refl, sym, ◌∙◌}
+use Rattle.std.proofs.Common.{◌≡◌, IsTrue, List, inl, inr, subst, sym, ◌∙◌}
 use Rattle.std.specs.List.{list_all}
 use Rattle.spl_value.specs.declared.types.SplType.{SplType}
 use Rattle.spl_value.specs.declared.types.SplType.TheVariants as S
@@ -9,10 +9,7 @@ use Rattle.spl_value.specs.Calls.{FitsCollection}
 use Rattle.spl_value.proofs.FitsLaws.{pair_fits, fits_map, list_from_fits, map_from_fits}
 use Rattle.spl_value.specs.Pairs.{are_pairs}
 use Rattle.spl_value.specs.Values.{fits}
-
-first_true : (a b : Bool) → (a && b) ≡ true → a ≡ true
-first_true true b e = refl
-first_true false b e = cc
+use Rattle.spl_value.proofs.Bools.{and_left as first_true}
 
 -- a list or a map
 pub not_collection : (v : Value) → FitsCollection v → ((vs : List Value) → v ≡ V.List vs → ⊥) → ((ps : List (Value × Value)) → v ≡ V.Map ps → ⊥) → ⊥

@@ -1,5 +1,5 @@
 -- What is found, by what is found on the way to it.
-use Rattle.std.specs.Prelude.{◌≡◌, ◌==◌, ℕ, Bool, true, false, IsTrue, List, [], ◌∷◌, length, Some, None, Ok, Err, slice_get, if◌then◌else◌}
+use Rattle.std.specs.Prelude.{◌≡◌, ◌==◌, ℕ, Bool, true, false, IsTrue, List, [], ◌∷◌, length, Some, None, Ok, slice_get, if◌then◌else◌}
 use Rattle.std.proofs.Common.{refl, sym, ap, subst, ◌∙◌, arith}
 use Rattle.std.proofs.lemmas.Bool.{eqb-true}
 use Rattle.spl_value.specs.declared.types.Named.{Named}
@@ -14,8 +14,9 @@ use Rattle.language_model.specs.declared.scope.Typed.{Typed}
 use Rattle.language_model.specs.BodyLaws.{BodyFitLaw}
 use Rattle.language_model.specs.CodeFits.{CodeFits}
 use Rattle.language_model.specs.FitLaws.{ConstantLaw, DollarsFit, FitLaw, WantedLaw}
-use Rattle.language_model.specs.Typing.{Found, after, same_types, typing}
+use Rattle.language_model.specs.Typing.{Found, same_types, typing}
 use Rattle.language_model.proofs.TypingLaws.{same_types_law}
+use Rattle.language_model.proofs.FoundAnswers.{Gives}
 
 -- what typing is known to give
 pub record TypingGives : Type 0 where
@@ -24,30 +25,9 @@ pub record TypingGives : Type 0 where
   pub constant : ConstantLaw
   pub body : BodyFitLaw
 
--- what is found has the fact
-abbrev pub Gives : {A : Type 0} → (A → Type 0) → Found A → Type 0
-Gives P (Ok x) = P x
-Gives P (Err refusal) = Unit {0}
-
-pub gives_then : {A B : Type 0} (Q : B → Type 0) (r : Found A) (f : A → Found B) → ((x : A) → r ≡ Ok x → Gives Q (f x)) → Gives Q (after r f)
-gives_then Q (Ok x) f k = k x refl
-gives_then Q (Err refusal) f k = tt
-
-pub gives_after : {A B : Type 0} (P : A → Type 0) (Q : B → Type 0) (r : Found A) (f : A → Found B) → Gives P r → ((x : A) → P x → Gives Q (f x))
-    → Gives Q (after r f)
-gives_after P Q (Ok x) f h k = k x h
-gives_after P Q (Err refusal) f h k = tt
-
-pub gives_on : {A : Type 0} (P Q : A → Type 0) (r : Found A) → Gives P r → ((x : A) → P x → Q x) → Gives Q r
-gives_on P Q (Ok x) h k = k x h
-gives_on P Q (Err refusal) h k = tt
-
 pub gives_if : {A : Type 0} (P : A → Type 0) (b : Bool) (x y : Found A) → (b ≡ true → Gives P x) → (b ≡ false → Gives P y) → Gives P (if b then x else y)
 gives_if P true x y h k = h refl
 gives_if P false x y h k = k refl
-
-pub gives_from : {A : Type 0} (P : A → Type 0) (r : Found A) (x : A) → Gives P r → r ≡ Ok x → P x
-gives_from P r x h e = subst (Gives P) e h
 
 -- ---- codes
 

@@ -15,7 +15,9 @@ use Rattle.language_model.specs.Scopes.{At, attribute_of}
 use Rattle.language_model.proofs.Standing.{Bears, attribute_there}
 use Rattle.language_model.specs.StreamTypes.{Attributes}
 use Rattle.language_model.specs.Typing.{after, unknown}
-use Rattle.check_laws.proofs.Accepting.{Gives, gives_after, gives_if, gives_on, gives_then}
+use Rattle.check_laws.proofs.Accepting.{gives_if}
+use Rattle.language_model.proofs.FoundAnswers.{Gives, gives_after, gives_on, gives_then}
+use Rattle.spl_value.proofs.Lists.{any_first as in_front}
 
 -- ---- how often a place is assigned
 
@@ -51,9 +53,6 @@ Apart before (x ∷ xs) = (list_any (λ n. n == x.0) before ≡ false) × Apart 
 apart-append : {A : Type 0} (before : List ℕ) (xs ys : Assigned A) → Apart before xs → Apart (places before xs) ys → Apart before (xs ++ ys)
 apart-append before [] ys h g = g
 apart-append before (x ∷ xs) ys h g = (h.0, apart-append (x.0 ∷ before) xs ys h.1 g)
-
-in_front : (i : ℕ) (before : List ℕ) → list_any (λ n. n == i) (i ∷ before) ≡ true
-in_front i before = ap (λ b. b || list_any (λ n. n == i) before) (eq-eqb i i refl)
 
 behind : (i j : ℕ) (before : List ℕ) → list_any (λ n. n == i) before ≡ true → list_any (λ n. n == i) (j ∷ before) ≡ true
 behind i j before has =

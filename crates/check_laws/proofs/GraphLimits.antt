@@ -1,5 +1,5 @@
 -- The graph of a unit stays within the limits, and has as many names for its ports as its operators take streams.
-use Rattle.std.specs.Prelude.{◌≡◌, ◌+◌, ◌<◌, ◌≤◌, ◌^◌, ℕ, zero, suc, nat_le, nat_lt, true, List, [], ◌∷◌, map, length, sum_by, Option, Some, None, slice_get}
+use Rattle.std.specs.Prelude.{◌≡◌, ◌+◌, ◌<◌, ◌≤◌, ◌^◌, ℕ, suc, nat_le, nat_lt, true, List, [], ◌∷◌, map, length, sum_by, Option, Some, None, slice_get}
 use Rattle.std.specs.Option.{option_and_then, option_map}
 use Rattle.std.proofs.Common.{refl, sym, ap, ◌∙◌, subst, arith}
 use Rattle.std.proofs.lemmas.Bool.{and_parts, leb-true, ltb-true}
@@ -21,28 +21,13 @@ use Rattle.language_model.specs.Numbering.{expansion_of, expansions_from, op_of,
 use Rattle.language_model.specs.Scopes.{At}
 use Rattle.language_model.specs.SinkFiles.{composite_of}
 use Rattle.language_model.specs.StreamTypes.{Body, body_at, name_places}
-use Rattle.check_laws.proofs.GrownBodies.{Holds, Takes, in_front, main_holds}
-use Rattle.check_laws.proofs.SourceCounts.{at_most_sum, body_of, port_counted, streams_within}
+use Rattle.check_laws.proofs.GrownBodies.{Holds, Takes, main_holds}
+use Rattle.check_laws.proofs.SourceCounts.{body_of, port_counted, streams_within}
 use Rattle.check_laws.proofs.UnitGraphs.{IsMade}
+use Rattle.language_model.proofs.ExpansionAnswers.{expansion_at, op_at, ops_length}
+use Rattle.spl_value.proofs.Lists.{at_most_sum, before_more as in_front}
 
 -- ---- operators and expansions
-
-ops_length : (made : Made) (n : ℕ) (ops : List Operation) → length (ops_from made n ops) ≡ length ops
-ops_length made n [] = refl
-ops_length made n (o ∷ ops) = ap suc (ops_length made (suc n) ops)
-
-op_at : (made : Made) (n : ℕ) (ops : List Operation) (m : ℕ) → slice_get (ops_from made n ops) m ≡ option_map (op_of made (n + m)) (slice_get ops m)
-op_at made n [] m = refl
-op_at made n (o ∷ ops) zero = let same : n ≡ n + 0 = omega arith in ap (λ i. Some (op_of made i o)) same
-op_at made n (o ∷ ops) (suc m) = let same : suc n + m ≡ n + suc m = omega arith in op_at made (suc n) ops m ∙ ap (λ i. option_map (op_of made i) (slice_get ops m)) same
-
-expansion_at : (made : Made) (n : ℕ) (es : List Inlined) (m : ℕ)
-    → slice_get (expansions_from made n es) m ≡ option_map (expansion_of made (n + m)) (slice_get es m)
-expansion_at made n [] m = refl
-expansion_at made n (e ∷ es) zero = let same : n ≡ n + 0 = omega arith in ap (λ i. Some (expansion_of made i e)) same
-expansion_at made n (e ∷ es) (suc m) =
-    let same : suc n + m ≡ n + suc m = omega arith in
-    expansion_at made (suc n) es m ∙ ap (λ i. option_map (expansion_of made i) (slice_get es m)) same
 
 mapped : {A B : Type 0} (f : A → B) (o : Option A) (b : B) → option_map f o ≡ Some b → (a : A) × (o ≡ Some a) × (f a ≡ b)
 mapped f None b e = absurd cc

@@ -20,17 +20,10 @@ use Rattle.language_model.specs.Invoking.{Body, Nothing, Operator, Target, body_
 use Rattle.language_model.specs.Scopes.{At}
 use Rattle.language_model.proofs.Standing as F
 use Rattle.language_model.proofs.Standing.{first_stands}
-use Rattle.check_laws.proofs.UnitGraphs.{after_gives, same_Ok}
+use Rattle.language_model.proofs.ExpansionAnswers.{after_gives, same_Ok}
+use Rattle.spl_value.proofs.Lists.{append_front as grown, append_last as last_at}
 
 -- ---- lists
-
-pub in_front : {A : Type 0} (xs ys : List A) (i : ℕ) → i < length xs → slice_get (xs ++ ys) i ≡ slice_get xs i
-in_front [] ys i lt = absurd (omega arith)
-in_front (x ∷ xs) ys zero lt = refl
-in_front (x ∷ xs) ys (suc i) lt = in_front xs ys i (omega arith)
-
-pub grown : {A : Type 0} (xs ys : List A) (i : ℕ) (x : A) → slice_get xs i ≡ Some x → slice_get (xs ++ ys) i ≡ Some x
-grown xs ys i x e = in_front xs ys i (slice_get_within xs i x e) ∙ e
 
 -- what stands in a list with one more: in the list, or that one at its end
 in_or_last : {A : Type 0} (xs : List A) (y : A) (i : ℕ) (x : A) → slice_get (xs ++ y ∷ []) i ≡ Some x → (slice_get xs i ≡ Some x) ⊎ ((y ≡ x) × (i ≡ length xs))
@@ -38,10 +31,6 @@ in_or_last [] y zero x e = inr (cc, refl)
 in_or_last [] y (suc i) x e = absurd cc
 in_or_last (z ∷ xs) y zero x e = inl e
 in_or_last (z ∷ xs) y (suc i) x e = elim (in_or_last xs y i x e) [ inl old ↦ inl old | inr new ↦ inr (new.0, ap suc new.1) ]
-
-last_at : {A : Type 0} (xs : List A) (x : A) → slice_get (xs ++ x ∷ []) (length xs) ≡ Some x
-last_at [] x = refl
-last_at (y ∷ xs) x = last_at xs x
 
 append_none : {A : Type 0} (xs : List A) → xs ++ [] ≡ xs
 append_none [] = refl

@@ -35,8 +35,9 @@ use Rattle.language_model.specs.Scopes.{At, first_from}
 use Rattle.language_model.proofs.Standing.{Stands, first_stands}
 use Rattle.language_model.specs.TypeNames.{Types, type_meant}
 use Rattle.language_model.specs.Typing.{after, refused, typing}
-use Rattle.check_laws.proofs.Accepting.{Gives, TypingGives, gives_after, gives_from, gives_if, gives_then, none_at, wanted_fits}
+use Rattle.check_laws.proofs.Accepting.{TypingGives, gives_if, none_at, wanted_fits}
 use Rattle.check_laws.proofs.PlainStates.{state_plain}
+use Rattle.language_model.proofs.FoundAnswers.{Gives, gives_after, gives_from, gives_then}
 
 -- ---- the state
 

@@ -1,5 +1,5 @@
 -- The outputs of operators fit their ports.
-use Rattle.std.specs.Prelude.{◌≡◌, ◌==◌, ◌+◌, ℕ, zero, suc, Bool, true, false, cond, List, [], ◌∷◌, map, length, Option, Some, None, Ok, Err, slice_get, if◌then◌else◌, codes}
+use Rattle.std.specs.Prelude.{◌≡◌, ◌==◌, ◌+◌, ℕ, zero, suc, Bool, true, false, cond, List, [], ◌∷◌, map, length, Option, Some, None, Ok, slice_get, if◌then◌else◌, codes}
 use Rattle.std.specs.List.{AllByRecursion, count_by}
 use Rattle.std.specs.Str.{bytes_eq}
 use Rattle.std.proofs.Common.{refl, sym, ap, subst, ◌∙◌}
@@ -37,15 +37,11 @@ use Rattle.language_model.specs.OutputTyping.{Assigned, Collecting, Summing, Ext
 use Rattle.language_model.specs.Scopes.{At, OfAttribute, PortAttribute, attribute_of, attributes_of, last_from, meant, port_of, variable_meant, variable_of}
 use Rattle.language_model.proofs.Standing.{Bears, attribute_there}
 use Rattle.language_model.specs.StreamTypes.{Attributes}
-use Rattle.language_model.specs.Typing.{Found, after, as_wanted, meant_typed, mismatch, same_types, typed, typing}
+use Rattle.language_model.specs.Typing.{after, as_wanted, meant_typed, mismatch, same_types, typed, typing}
 use Rattle.language_model.proofs.TypingLaws as L
-use Rattle.check_laws.proofs.Accepting.{Gives, TypingGives, gives_after, gives_if, gives_then, none_at, rolled, same_equal, typed_fits, wanted_fits}
+use Rattle.check_laws.proofs.Accepting.{TypingGives, gives_if, none_at, rolled, same_equal, typed_fits, wanted_fits}
 use Rattle.check_laws.proofs.AssignedOnce.{AssignsFit, EachOnce, FillsFit, ForAttribute, counts_times, each_once, times}
-
--- what is found behind what is found behind something
-after_after : {A B D : Type 0} (r : Found A) (f : A → Found B) (g : B → Found D) → after (after r f) g ≡ after r (λ x. after (f x) g)
-after_after (Ok x) f g = refl
-after_after (Err refusal) f g = refl
+use Rattle.language_model.proofs.FoundAnswers.{Gives, after_after, gives_after, gives_then}
 
 -- the code of a tuple that has one field for each attribute, of its type
 pub record TupleFits (scope : Scope) (schema : Attributes) (code : Code Slot) : Type 0 where

@@ -4,7 +4,6 @@ use Rattle.std.specs.List.{list_any}
 use Rattle.std.specs.Str.{bytes_eq}
 use Rattle.std.specs.Cmp.Lexicographic.{bytes_decides}
 use Rattle.std.proofs.Common.{refl, sym, ap, subst, ◌∙◌, arith}
-use Rattle.std.proofs.lemmas.Bool.{eq-eqb}
 use Rattle.spl_value.specs.declared.types.IntKind.{IntKind}
 use Rattle.spl_value.specs.declared.types.Named.{Named}
 use Rattle.spl_value.specs.declared.types.SplType.{SplType}
@@ -35,7 +34,9 @@ use Rattle.language_model.specs.ParameterTyping.{Role, AsFile, AsFormat, AsParsi
 use Rattle.language_model.specs.Scopes.{At, attribute_of}
 use Rattle.language_model.proofs.Standing.{Bears, attribute_there}
 use Rattle.language_model.specs.Typing.{after, mismatch, typing}
-use Rattle.check_laws.proofs.Accepting.{Gives, TypingGives, gives_after, gives_if, gives_then, none_at, rolled, typed_fits, wanted_fits}
+use Rattle.check_laws.proofs.Accepting.{TypingGives, gives_if, none_at, rolled, typed_fits, wanted_fits}
+use Rattle.language_model.proofs.FoundAnswers.{Gives, gives_after, gives_then}
+use Rattle.spl_value.proofs.Lists.{any_first as in_front}
 
 -- ---- files
 
@@ -86,9 +87,6 @@ key_fits at name schema before (Some a) h =
 named_key : (schema : List (Named SplType)) (before : List ℕ) (at : ℕ) (o : Option (List ℕ)) → Gives (Key schema before) (key_of schema before at o)
 named_key schema before at None = tt
 named_key schema before at (Some name) = key_fits at name schema before (attribute_of schema name) (attribute_there schema name)
-
-in_front : (place : ℕ) (before : List ℕ) → list_any (λ n. n == place) (place ∷ before) ≡ true
-in_front place before = ap (λ b. b || list_any (λ n. n == place) before) (eq-eqb place place refl)
 
 -- of a list in which no number comes again
 no_keys : (schema : List (Named SplType)) (before : List ℕ) → Keys schema before []

@@ -35,11 +35,12 @@ use Rattle.language_model.specs.ParameterTyping.{AsAttributes, AsCondition, AsFi
 use Rattle.language_model.specs.StreamTypes.{Attributes, passed, same_attributes}
 use Rattle.language_model.specs.Typing.{after, mismatch, refused}
 use Rattle.check_laws.specs.PartsLaw.{PartsLaw}
-use Rattle.check_laws.proofs.Accepting.{Gives, TypingGives, gives_after, gives_from, gives_if, gives_then, lone, none_at, same_schemas}
+use Rattle.check_laws.proofs.Accepting.{TypingGives, gives_if, lone, none_at, same_schemas}
 use Rattle.check_laws.proofs.LogicFits.{logic_fits}
 use Rattle.check_laws.proofs.OutputsFit.{InputsFit, TupleFits, groups_fit, inputs_fit, tuple_fits}
 use Rattle.check_laws.proofs.ParametersFit.{AllFit, AsRole, ParametersFit, as_role, condition_given, condition_there, file_there, index_there, parameters_fit, places_there, some_there}
 use Rattle.check_laws.proofs.WindowsFit.{Along, WindowsFit, windows_fit}
+use Rattle.language_model.proofs.FoundAnswers.{Gives, gives_after, gives_from, gives_then}
 
 abbrev schemas_of : List Port → List Attributes
 schemas_of ports = map (λ p. p.schema) ports

@@ -47,7 +47,9 @@ use Rattle.language_model.specs.TypeNames.{Types, type_meant}
 use Rattle.language_model.specs.Typing.{Wanted, Found, Part, Wants, Anything, This, Another, after, are_distinct, as_wanted, dollar_typed, elements_typed, entries_typed, field_typed, fields_typed, gives_each, level_prefix, list_typed, map_typed, mismatch, number_typed, own_fields, part, part_typed, prefix_typed, prefixes_at, prefixes_typed, refused, same_types, tuple_typed, typed, typing, unary_typed, wants_list, wants_map, wants_tuple}
 use Rattle.language_model.proofs.TypingLaws as Y
 use Rattle.language_model.specs.TypingLaws.{parted, parts, entry_parts, field_parts}
-use Rattle.check_laws.proofs.Accepting.{Gives, gives_after, gives_from, gives_if, gives_then, none_at}
+use Rattle.check_laws.proofs.Accepting.{gives_if, none_at}
+use Rattle.language_model.proofs.FoundAnswers.{Gives, gives_after, gives_from, gives_then}
+use Rattle.spl_value.proofs.Bools.{false_true as never_so}
 
 -- ---- codes, by their parts
 
@@ -128,9 +130,6 @@ tuple_state given fs = state_level given (E.Tuple fs) (X.Tuple fs) (E.outs-Tuple
 both_so : (a b : Bool) → a ≡ true → b ≡ true → (a && b) ≡ true
 both_so true b h g = g
 both_so false b h g = absurd cc
-
-never_so : {A : Type 0} (b : Bool) → b ≡ false → b ≡ true → A
-never_so b e h = absurd cc
 
 -- ---- what typing gives
 

@@ -1,13 +1,12 @@
 -- Of the names of a port at least as many are counted as the port has streams.
-use Rattle.std.specs.Prelude.{◌≡◌, ◌+◌, ◌<◌, ◌≤◌, ◌^◌, ℕ, zero, suc, List, [], ◌∷◌, ◌++◌, map, flat_map, filter_map, length, sum_by, Option, Some, None, slice_get}
+use Rattle.std.specs.Prelude.{◌≡◌, ◌+◌, ◌<◌, ◌≤◌, ◌^◌, ℕ, zero, suc, List, [], ◌∷◌, ◌++◌, map, flat_map, filter_map, length, Option, Some, None, slice_get}
 use Rattle.std.specs.List.{cons_option}
 use Rattle.std.specs.Option.{option_and_then, option_map, option_map_or}
 use Rattle.std.specs.Str.{bytes_eq}
 use Rattle.std.proofs.Common.{refl, sym, ap, ◌∙◌, subst, arith, length-append}
 use Rattle.std.proofs.lemmas.List.{length-map}
 use Rattle.std.proofs.lemmas.List.Concat.{flat_map-cons}
-use Rattle.std.proofs.lemmas.List.Sums.{get_or-le-sum_by}
-use Rattle.std.proofs.lemmas.Option.{get_or_from_slice_get, same_Some, slice_get-map, slice_get_within}
+use Rattle.std.proofs.lemmas.Option.{same_Some, slice_get-map, slice_get_within}
 use Rattle.spl_tree.specs.declared.expression.Placed.{Placed}
 use Rattle.spl_tree.specs.declared.graph.Site.{Site}
 use Rattle.spl_tree.specs.declared.unit.InputPort.{InputPort}
@@ -20,6 +19,7 @@ use Rattle.language_model.specs.Numbering.{expansion_of, input_streams, numbers_
 use Rattle.language_model.specs.Scopes.{At, first_from}
 use Rattle.language_model.proofs.Standing.{Stands, first_stands}
 use Rattle.language_model.specs.StreamTypes.{Body, name_places, so_often, taken_by}
+use Rattle.spl_value.proofs.Lists.{at_most_sum}
 
 -- ---- lists
 
@@ -185,11 +185,6 @@ module _ (made : Made) (earlier : List Inlined) (front : (k : ℕ) → k < lengt
       omega (arith, split, placed, often, first, rest)
 
 -- ---- what a port takes
-
-pub at_most_sum : {A : Type 0} (f : A → ℕ) (xs : List A) (k : ℕ) (x : A) → slice_get xs k ≡ Some x → f x ≤ sum_by f xs
-at_most_sum f xs k x e =
-    let le = get_or-le-sum_by f xs k x (slice_get_within xs k x e) in
-    subst (λ y. f y ≤ sum_by f xs) (get_or_from_slice_get xs k x x e) le
 
 pub streams_within : (made : Made) (xs : List Source) → length (streams_of made xs) ≤ length xs
 streams_within made xs = filter_map_within (stream_of (length made.expansions) made) xs

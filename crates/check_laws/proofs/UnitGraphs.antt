@@ -1,6 +1,6 @@
 -- The graph of a unit: from which composite it comes, and what was expanded on the way to it.
-use Rattle.std.specs.Prelude.{◌≡◌, ℕ, List, Option, Some, None, Ok, Err, map, length, slice_get}
-use Rattle.std.proofs.Common.{refl, sym, ◌∙◌}
+use Rattle.std.specs.Prelude.{◌≡◌, ℕ, List, Option, Some, None, Ok, map, length, slice_get}
+use Rattle.std.proofs.Common.{sym, ◌∙◌}
 use Rattle.spl_tree.specs.declared.expression.Placed.{Placed}
 use Rattle.spl_tree.specs.declared.graph.Graph.{Graph}
 use Rattle.spl_tree.specs.declared.unit.Composite.{Composite}
@@ -12,6 +12,7 @@ use Rattle.language_model.specs.Flat.{IsFlat, expands, files_had, flat_from, gra
 use Rattle.language_model.specs.Numbering.{expansions_from, ops_from, streams_from}
 use Rattle.language_model.specs.Scopes.{At}
 use Rattle.language_model.specs.Taking.{first_untaken, taken}
+use Rattle.language_model.proofs.ExpansionAnswers.{after_gives, same_Ok}
 
 -- ---- the main composite
 
@@ -28,13 +29,6 @@ from_main unit names g x (recursive main n declared is r) e = absurd cc
 from_main unit names g x (expands main declared is r) e = record { main = main; there = is.1; flat = e }
 
 -- ---- what was expanded
-
-pub after_gives : {A B : Type 0} (x : Found A) (f : A → Found B) (b : B) → after x f ≡ Ok b → (a : A) × (x ≡ Ok a) × (f a ≡ Ok b)
-after_gives (Ok a) f b e = (a, refl, e)
-after_gives (Err r) f b e = absurd cc
-
-pub same_Ok : {A : Type 0} {x y : A} → ◌≡◌ {A = Found A} (Ok x) (Ok y) → x ≡ y
-same_Ok e = cc
 
 abbrev topo_of : Made → List ℕ
 topo_of made = taken (streams_from 0 made.ops) (ops_from made 0 made.ops)

@@ -1,4 +1,3 @@
-pub mod Steps
 pub mod Naming
 pub mod Tables
 pub mod Invocations

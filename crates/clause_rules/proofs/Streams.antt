@@ -9,7 +9,7 @@ use Rattle.language_model.specs.StreamTypes.{Attributes, stream_attributes}
 use Rattle.language_model.specs.Typing.{Found, after}
 use Rattle.language_model.specs.declared.answer.TypeAnswer.{TypeAnswer}
 use Rattle.language_model.specs.Finds.{Finds, with_front}
-use Rattle.clause_rules.proofs.Steps.{finds_by, stops}
+use Rattle.language_model.proofs.FoundAnswers.{finds_by, stops}
 
 pub numbers_next : (i n : ℕ) → i < n → numbers_from i (n - i) ≡ i ∷ numbers_from (i + 1) (n - (i + 1))
 numbers_next i n lt =

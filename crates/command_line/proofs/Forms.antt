@@ -13,14 +13,7 @@ use Rattle.command_line.specs.declared.arguments.Argument.TheVariants.{Counts}
 use Rattle.command_line.specs.Arguments.{is_equals, valued, cut_at, option_of, arguments}
 use Rattle.command_line.specs.RequestLaws.{TwoFormsLaw}
 use Rattle.command_line.proofs.Reading.{first_word}
-
-first_false : (a b : Bool) → (a || b) ≡ false → a ≡ false
-first_false true b e = e
-first_false false b e = refl
-
-second_false : (a b : Bool) → (a || b) ≡ false → b ≡ false
-second_false true b e = absurd cc
-second_false false b e = e
+use Rattle.spl_value.proofs.Bools.{or_first as first_false, or_second as second_false}
 
 -- a name without `=`, and what is behind it
 passes_name : (name behind : List ℕ) → list_any is_equals name ≡ false → position_or_len is_equals (name ++ behind) ≡ length name + position_or_len is_equals behind

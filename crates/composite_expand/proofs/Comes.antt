@@ -1,6 +1,6 @@
 -- What a unit comes to, by what its main composite does.
 use Rattle.std.proofs.Common.{◌≡◌, ◌∙◌, refl, sym, ap, subst, ℕ, zero, suc, ◌+◌, ◌<◌, List, [], ◌∷◌, length, Option, Some, None, Ok, Err, arith}
-use Rattle.std.specs.Prelude.{Bool, true, false, ◌&&◌, Result, map, slice_get, if◌then◌else◌, codes}
+use Rattle.std.specs.Prelude.{Bool, true, false, Result, map, slice_get, if◌then◌else◌, codes}
 use Rattle.std.specs.Option.{option_map_or}
 use Rattle.spl_tree.specs.declared.expression.Placed.{Placed}
 use Rattle.spl_tree.specs.declared.graph.Graph.{Graph}
@@ -27,6 +27,7 @@ use Rattle.composite_tables.specs.Inputs.{Shows, AreNested, InputsStand}
 use Rattle.composite_expand.specs.declared.walk.Walk.{Walk}
 use Rattle.composite_tables.specs.Numbered.{IsNumbered}
 use Rattle.composite_expand.specs.Walks.{IsExpanded, Starts, Refuses}
+use Rattle.spl_value.proofs.Bools.{and_left, and_right}
 
 label_found : (ops : List Operation) (op : ℕ) (label : Placed (List ℕ)) → slice_get (map (λ (x : Operation). placed x.at x.label) ops) op ≡ Some label
     → option_map_or (λ (x : Operation). placed x.at x.label) (slice_get ops op) (placed 0 []) ≡ label
@@ -86,14 +87,6 @@ module _ (unit : List Definition) (names : List (List ℕ)) (main : At Composite
       ∙ ap (if_none_had _) (sym had) ∙ ap (λ h. if_none_had h found) (sym same)
 
 -- ---- the main composite
-
-and_left : (a b : Bool) → (a && b) ≡ true → a ≡ true
-and_left true b is = refl
-and_left false b is = absurd cc
-
-and_right : (a b : Bool) → (a && b) ≡ true → b ≡ true
-and_right true b is = is
-and_right false b is = absurd cc
 
 none_of : {A : Type 0} (xs : List A) → is_empty xs ≡ true → xs ≡ []
 none_of [] is = refl

@@ -1,7 +1,7 @@
 -- What a step of a walk comes to, by what it writes.
 use Rattle.std.proofs.Common.{◌≡◌, ◌∙◌, ◌⊎◌, inl, inr, refl, sym, ap, subst, ℕ, zero, suc, ◌+◌, ◌-◌, ◌<◌, ◌≤◌, List, [], ◌∷◌, ◌++◌, length, take, Option, Some, None, Ok, Err, codes, arith, length-append, get_or}
 use Rattle.std.specs.Prelude.{Bool, true, false, ◌&&◌, ◌==◌, ◌^◌, min, nat_le, nat_lt, Result, IfOk, MatchOption, if◌then◌else◌, reverse, slice_get, slice_set, sum_by}
-use Rattle.std.proofs.lemmas.List.{reverse-append, length-reverse, length-set}
+use Rattle.std.proofs.lemmas.List.{length-reverse, length-set}
 use Rattle.std.proofs.lemmas.List.Sums.{sum_by-append}
 use Rattle.spl_tree.specs.declared.expression.Placed.{Placed}
 use Rattle.spl_tree.specs.declared.graph.OpKind.{OpKind}
@@ -32,9 +32,8 @@ use Rattle.composite_expand.specs.Walking.{Keeps, IsIdle}
 use Rattle.composite_expand.specs.Walks.{AreMarks, IsOn, Front, IsFurther, IsNew, IsAt, IsOver, OpensWith, GoesOn, work_left}
 use Rattle.composite_expand.proofs.Way.{Holds, front, refused, passed_over, added, ended, back, closed_grown, closed_idle, opened, is_deep}
 use Rattle.composite_expand.proofs.Work.{work_closed, work_further, work_opened}
-
-pub reversed : {A : Type 0} (xs ys : List A) (x : A) → ys ≡ xs ++ x ∷ [] → reverse ys ≡ x ∷ reverse xs
-reversed xs ys x is = ap reverse is ∙ reverse-append xs (x ∷ [])
+use Rattle.spl_value.proofs.Bools.{and_left as andb_left, and_right as andb_right}
+use Rattle.spl_value.proofs.Lists.{reverse_more as reversed}
 
 -- all but the bodies on the way
 pub record IsSame (w v : Walk) : Type 0 where
@@ -340,14 +339,6 @@ pub same_walk : (w : Walk) (os : List Opened) → IsSame w (record w { opened = 
 same_walk w os = record { names = refl; idle = refl; ops = refl; bodies = refl; inputs = refl; connections = refl }
 
 -- ---- the inputs of a body that is opened
-
-andb_left : (a b : Bool) → (a && b) ≡ true → a ≡ true
-andb_left true b is = refl
-andb_left false b is = absurd cc
-
-andb_right : (a b : Bool) → (a && b) ≡ true → b ≡ true
-andb_right true b is = is
-andb_right false b is = absurd cc
 
 fits_inputs : (d : Composite) (i : Invocation) → fits_head d i ≡ true → length d.inputs ≡ length i.inputs
 fits_inputs d i fits =

@@ -25,15 +25,7 @@ use Rattle.composite_tables.specs.Inputs.{Shows, AreNested, InputsStand}
 use Rattle.composite_expand.specs.Walking.{Frame, frame, closed, resumed, Keeps, IsIdle}
 use Rattle.composite_expand.specs.Walks.{IsFrame, IsAround, Tracks, place_of_frame, IsWay, IsIdleSoFar, Waits, AreIdle, AreMarks, StandsThere, IsOn, Front, IsFurther, IsNew}
 use Rattle.composite_expand.proofs.Resuming.{closes, goes_on, refuses, opens, idle_body, idle_more, keeps_grown, keeps_next}
-
--- the rest of a list begins with what stands there
-pub next_rest : {A : Type 0} (xs : List A) (n : ℕ) (x : A) → slice_get xs n ≡ Some x → drop n xs ≡ x ∷ drop (suc n) xs
-next_rest [] n x is = absurd (no_item n is) where
-  no_item : (n : ℕ) → slice_get [] n ≡ Some x → ⊥
-  no_item zero is = cc
-  no_item (suc n) is = cc
-next_rest (y ∷ ys) zero x is = let same : y ≡ x = cc in ap (λ z. z ∷ ys) same
-next_rest (y ∷ ys) (suc n) x is = next_rest ys n x is
+use Rattle.spl_value.proofs.Lists.{next_rest}
 
 -- with no body on the way all is done
 frames_done : (unit : List Definition) (names : List ℕ) (fs : List Frame) → Tracks unit names [] fs → fs ≡ []

@@ -12,7 +12,7 @@ use Rattle.composite_expand.specs.declared.walk.Opened.{Opened}
 use Rattle.composite_expand.specs.declared.walk.Walk.{Walk}
 use Rattle.composite_expand.specs.Walking.{Frame}
 use Rattle.composite_expand.specs.Walks.{Tracks, target_work, graph_work, body_work, opened_work, way_work, work_left, Front, IsFurther, IsNew}
-use Rattle.composite_expand.proofs.Way.{next_rest}
+use Rattle.spl_value.proofs.Lists.{next_rest}
 
 same_count : (unit : List Definition) (names : List ℕ) (os : List Opened) (fs : List Frame) → Tracks unit names os fs → length os ≡ length fs
 same_count unit names [] [] is = refl

@@ -19,7 +19,8 @@ use Rattle.composite_tables.specs.declared.made.Taken.TheVariants as T
 use Rattle.composite_tables.specs.declared.inputs.Counted.{Counted}
 use Rattle.composite_tables.specs.Inputs.{AreInputs, StandsFor, IsTakenBefore, IsBody}
 use Rattle.composite_tables.specs.Reading.{Counts, PortsStand}
-use Rattle.composite_tables.proofs.Extending.{at_or_last, input_before, stands_before}
+use Rattle.composite_tables.proofs.Extending.{input_before, stands_before}
+use Rattle.spl_value.proofs.Lists.{append_cases as at_or_last}
 
 abbrev pub streams_taken : List Inlined → ℕ → InputPort → List Source
 streams_taken xs number q = flat_map (λ n. sources_of xs number n.what) q.streams

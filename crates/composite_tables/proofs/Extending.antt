@@ -2,7 +2,7 @@
 use Rattle.std.specs.Prelude.{◌≡◌, ℕ, zero, suc, ◌<◌, ◌≤◌, List, [], ◌∷◌, ◌++◌, flat_map, length, Option, Some, None, slice_get}
 use Rattle.std.specs.Option.{option_map_or}
 use Rattle.std.proofs.Common.{◌⊎◌, inl, inr, refl, sym, ap, subst, ◌∙◌, arith, length-append}
-use Rattle.std.proofs.lemmas.Option.{none-some, same_Some, slice_get_within}
+use Rattle.std.proofs.lemmas.Option.{slice_get_within}
 use Rattle.spl_tree.specs.declared.graph.Site.{Site}
 use Rattle.spl_tree.specs.declared.unit.Definition.{Definition}
 use Rattle.language_model.specs.declared.expansion.Source.{Source}
@@ -13,20 +13,12 @@ use Rattle.composite_tables.specs.declared.made.Input.{Input}
 use Rattle.composite_tables.specs.declared.made.Taken.{Taken}
 use Rattle.composite_tables.specs.declared.made.Taken.TheVariants as T
 use Rattle.composite_tables.specs.Inputs.{AreInputs, AreNested, InputsStand, IsBefore, IsTakenBefore, Shows, ShowsBody, StandsFor, list_taken}
+use Rattle.spl_value.proofs.Lists.{append_cases as at_or_last, before_more}
 
 -- ---- lists that are the same up to a number
 
 abbrev SameBelow : ℕ → List Inlined → List Inlined → Type 0
 SameBelow limit xs ys = (m : ℕ) → m < limit → slice_get xs m ≡ slice_get ys m
-
-pub before_more : {A : Type 0} (xs ys : List A) (m : ℕ) → m < length xs → slice_get (xs ++ ys) m ≡ slice_get xs m
-before_more [] ys m within = absurd (omega arith)
-before_more (x ∷ xs) ys zero within = refl
-before_more (x ∷ xs) ys (suc m) within = before_more xs ys m (omega arith)
-
-pub last_of_more : {A : Type 0} (xs : List A) (x : A) → slice_get (xs ++ x ∷ []) (length xs) ≡ Some x
-last_of_more [] x = refl
-last_of_more (y ∷ ys) x = last_of_more ys x
 
 abbrev Outside : Type 0
 Outside = ℕ → List ℕ → List Source
@@ -127,18 +119,6 @@ module _ (xs ys : List Inlined) (nested : AreNested xs) where
   }
 
 -- ---- one body more, or less
-
--- an element of a list with one more at its end
-pub at_or_last : {A : Type 0} (xs : List A) (x : A) (k : ℕ) (y : A) → slice_get (xs ++ x ∷ []) k ≡ Some y
-    → (slice_get xs k ≡ Some y) ⊎ ((k ≡ length xs) × (x ≡ y))
-at_or_last [] x zero y here = inr (refl, same_Some x y here)
-at_or_last [] x (suc k) y here = absurd (none-some y here)
-at_or_last (z ∷ zs) x zero y here = inl here
-at_or_last (z ∷ zs) x (suc k) y here =
-    elim (at_or_last zs x k y here) [
-      | inl h ↦ inl h
-      | inr h ↦ inr (ap suc h.0, h.1)
-    ]
 
 pub nested_more : (xs : List Inlined) (x : Inlined) → AreNested xs → IsBefore (length xs) x.site → AreNested (xs ++ x ∷ [])
 nested_more xs x nested before k y here =

@@ -15,13 +15,9 @@ use Rattle.composite_tables.specs.SiteTable.{Parts, parts_of, stream_there, row_
 use Rattle.composite_tables.specs.StreamTable.{Table, stream_in}
 use Rattle.composite_tables.proofs.Outputs.{and_then_same, followed, followed_same, stream_law}
 use Rattle.composite_tables.proofs.SiteTables.{composite_is, there_is}
+use Rattle.spl_value.proofs.Lists.{get_set_same as slice_get-set_same}
 
 -- ---- rows
-
-slice_get-set_same : {A : Type 0} (xs : List A) (k : ℕ) (x : A) → k < length xs → slice_get (slice_set xs k x) k ≡ Some x
-slice_get-set_same [] k x h = absurd (omega arith)
-slice_get-set_same (y ∷ ys) zero x h = refl
-slice_get-set_same (y ∷ ys) (suc k) x h = slice_get-set_same ys k x (omega arith)
 
 slice_get-set_other : {A : Type 0} (xs : List A) (k j : ℕ) (x : A) → k < j → slice_get (slice_set xs k x) j ≡ slice_get xs j
 slice_get-set_other [] k j x h = refl

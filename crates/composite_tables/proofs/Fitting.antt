@@ -11,6 +11,7 @@ use Rattle.language_model.specs.Composites.{is_empty}
 use Rattle.language_model.specs.Declarations.{Name, is_same, repeated_after}
 use Rattle.language_model.specs.Invoking.{is_among, is_argument, has_value, fit_parameters}
 use Rattle.composite_tables.specs.Arguments.{argument_names, fit_once}
+use Rattle.spl_value.proofs.Bools.{and_false}
 
 abbrev pub again : List Name → List Parameter → List Name
 again before arguments = repeated_after (λ before n. list_any (λ m. is_same m n) before) before (map (λ a. a.name) arguments)
@@ -20,10 +21,6 @@ abbrev pub fit_behind : Composite → List Name → List Parameter → Bool
 fit_behind c before arguments = list_all (is_argument c) arguments && is_empty (again before arguments)
 
 -- ---- the next argument
-
-and_false : (b : Bool) → (b && false) ≡ false
-and_false true = refl
-and_false false = refl
 
 module _ (c : Composite) (before : List Name) (a : Parameter) (rest : List Parameter) where
   pub misfit : is_argument c a ≡ false → fit_behind c before (a ∷ rest) ≡ false

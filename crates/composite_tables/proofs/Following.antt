@@ -1,11 +1,10 @@
 -- Following a name outwards, body by body.
 use Rattle.std.specs.Prelude.{◌≡◌, ◌+◌, ◌-◌, ◌*◌, ◌^◌, ◌<◌, ◌≤◌, ℕ, zero, suc, List, [], ◌∷◌, ◌++◌, drop, flat_map, get_or, length, sum_by, take, Option, None, Some, slice_get}
 use Rattle.std.specs.Option.{option_and_then, option_map_or}
-use Rattle.std.proofs.Common.{refl, sym, ap, subst, ◌∙◌, append-nil, append_assoc, arith}
+use Rattle.std.proofs.Common.{refl, sym, ap, ◌∙◌, append-nil, append_assoc, arith}
 use Rattle.std.proofs.Math.Nat.{mul-le-mul_left, one-le-pow, pow-le-pow_right, pow-suc}
 use Rattle.std.proofs.lemmas.List.{take_all}
-use Rattle.std.proofs.lemmas.List.Sums.{get_or-le-sum_by}
-use Rattle.std.proofs.lemmas.Option.{get_or_from_slice_get, none-some, same_Some, slice_get_past, slice_get_within}
+use Rattle.std.proofs.lemmas.Option.{none-some, same_Some, slice_get_past, slice_get_within}
 use Rattle.spl_tree.specs.declared.expression.Placed.{Placed}
 use Rattle.spl_tree.specs.declared.graph.Site.{Site}
 use Rattle.spl_tree.specs.declared.unit.Composite.{Composite}
@@ -21,13 +20,9 @@ use Rattle.composite_tables.specs.declared.made.Input.{Input}
 use Rattle.composite_tables.specs.declared.sources.Reading.{Reading}
 use Rattle.composite_tables.specs.Inputs.{Shows, AreKept, IsBody}
 use Rattle.composite_tables.specs.Reading.{composite_at, list_left, list_read, most_names, names_in, size_read}
+use Rattle.spl_value.proofs.Lists.{at_most_sum as term_le, get_below as some_at}
 
 -- ---- what there is at a number
-
-some_at : {A : Type 0} (xs : List A) (k : ℕ) → k < length xs → (x : A) × (slice_get xs k ≡ Some x)
-some_at [] k within = absurd (omega arith)
-some_at (x ∷ xs) zero within = (x, refl)
-some_at (x ∷ xs) (suc k) within = some_at xs k (omega arith)
 
 none_at : {A : Type 0} (xs : List A) (k : ℕ) → slice_get xs k ≡ None → length xs ≤ k
 none_at [] k none = omega arith
@@ -86,9 +81,6 @@ module _ (unit : List Definition) (bodies : List Body) (rows : List (List Input)
   no_row number name none = past number name (slice_get_past xs number (omega (arith, none_at rows number none, kept.inputs.count)))
 
 -- ---- how much is left
-
-term_le : {A : Type 0} (f : A → ℕ) (xs : List A) (k : ℕ) (x : A) → slice_get xs k ≡ Some x → f x ≤ sum_by f xs
-term_le f xs k x is = subst (λ y. f y ≤ sum_by f xs) (get_or_from_slice_get xs k x x is) (get_or-le-sum_by f xs k x (slice_get_within xs k x is))
 
 -- no port has too many names
 pub few_names : (unit : List Definition) (bodies : List Body) (site : Site) (port : ℕ) → length (names_in site port (composite_at unit bodies site.expansion)) ≤ most_names unit

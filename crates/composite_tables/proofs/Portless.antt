@@ -1,18 +1,14 @@
 -- The composites without ports, the first of them and those behind it.
-use Rattle.std.specs.Prelude.{◌≡◌, ℕ, zero, suc, ◌+◌, true, false, List, [], ◌∷◌, if◌then◌else◌, codes, slice_get, Option, Some, None}
+use Rattle.std.specs.Prelude.{◌≡◌, ℕ, suc, ◌+◌, true, false, List, [], ◌∷◌, if◌then◌else◌, codes, slice_get, Option, Some, None}
 use Rattle.std.specs.List.{cons_option}
 use Rattle.std.proofs.Common.{refl, ap, ◌∙◌, drop, add-one, subst, arith}
 use Rattle.spl_tree.specs.declared.unit.Composite.{Composite}
 use Rattle.spl_tree.specs.declared.unit.Definition.{Definition}
 use Rattle.language_model.specs.Composites.{composites, composite_named, has_no_ports, portless, behind_first, only_one, if_main, named_or_only, main_of}
 use Rattle.language_model.specs.Scopes.{At, at_place, first_from}
+use Rattle.spl_value.proofs.Lists.{next_rest as drop_at}
 
 -- ---- one composite more
-
-drop_at : {A : Type 0} (xs : List A) (k : ℕ) (x : A) → slice_get xs k ≡ Some x → drop k xs ≡ x ∷ drop (suc k) xs
-drop_at [] k x e = cc
-drop_at (y ∷ xs) zero x e = let same : y ≡ x = cc in ap (λ y. y ∷ xs) same
-drop_at (y ∷ xs) (suc k) x e = drop_at xs k x e
 
 module _ (cs : List Composite) (k : ℕ) (c : Composite) (there : slice_get cs k ≡ Some c) where
   here : first_from has_no_ports k (drop k cs) ≡ (if has_no_ports c then Some (at_place k c) else first_from has_no_ports (suc k) (drop (suc k) cs))

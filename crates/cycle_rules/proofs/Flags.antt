@@ -11,18 +11,15 @@ use Rattle.std.proofs.Math.Nat.{zero-add}
 use Rattle.spl_tree.specs.declared.graph.Op.{Op}
 use Rattle.spl_tree.specs.declared.graph.Stream.{Stream}
 use Rattle.language_model.specs.Taking.{is_taken, next_from, taken_on, first_untaken}
-use Rattle.cycle_rules.proofs.Lists.{drop_at, take_at}
 use Rattle.cycle_rules.specs.Makers.{is_made, are_made, Adds, AreRows, covers_from, covers, covers_all, ready, first_ready}
+use Rattle.spl_value.proofs.Bools.{and_false, or_false, or_true}
+use Rattle.spl_value.proofs.Lists.{drop_at, take_at}
 
 -- ---- rows
 
 pub and_assoc : (a b c : Bool) → ((a && b) && c) ≡ (a && (b && c))
 and_assoc true b c = refl
 and_assoc false b c = refl
-
-and_false : (a : Bool) → (a && false) ≡ false
-and_false true = refl
-and_false false = refl
 
 swapped : (a b c : Bool) → (a && (b && c)) ≡ ((a && b) && c)
 swapped a b c = sym (and_assoc a b c)
@@ -139,14 +136,6 @@ same_number n = eq-eqb n n refl
 
 other_number : (n m : ℕ) → m ≢ n → (n == m) ≡ false
 other_number n m h = elim (eqb_tells n m) [ inl e ↦ absurd (h (sym e.1)) | inr d ↦ d.0 ]
-
-or_true : (a : Bool) → (a || true) ≡ true
-or_true true = refl
-or_true false = refl
-
-or_false : (a : Bool) → (a || false) ≡ a
-or_false true = refl
-or_false false = refl
 
 -- one more that is taken
 pub flags_more : (taken : List ℕ) (flags : List Bool) (n : ℕ) → n < length flags → AreFlags taken flags → AreFlags (taken ++ n ∷ []) (set flags n true)

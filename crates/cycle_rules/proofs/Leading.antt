@@ -8,8 +8,8 @@ use Rattle.cycle_rules.specs.Standing.{Stands}
 use Rattle.cycle_rules.specs.Callers.{Lists, Reached, near, far, AreCallers}
 use Rattle.cycle_rules.specs.Taking.{Before, IsTaken}
 use Rattle.cycle_rules.specs.Backs.{BackBy, NoneBack, FirstBack, IsRecursionAt}
-use Rattle.cycle_rules.proofs.Gets.{get_within}
 use Rattle.cycle_rules.proofs.Calling.{calling_of, lt_split}
+use Rattle.spl_value.proofs.Lists.{get_within}
 
 leads_from : (calls : Calls) (i j : ℕ) → Leads calls i j → i < length calls
 leads_from calls i j (directly a b c) = get_within calls i c.list c.of_caller

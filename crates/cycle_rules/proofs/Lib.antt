@@ -12,5 +12,4 @@ mod Reaching
 mod Snoc
 mod StatementLaws
 mod Takings
-mod Weights
 mod Widening

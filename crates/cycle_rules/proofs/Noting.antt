@@ -3,7 +3,7 @@ use Rattle.std.proofs.Common.{◌≡◌, ◌<◌, ◌⊎◌, ◌∙◌, ℕ, suc
 use Rattle.std.specs.Prelude.{slice_get}
 use Rattle.spl_tree.specs.declared.expression.Placed.{Placed}
 use Rattle.cycle_rules.specs.Callers.{Lists, Notes, NotesAll, Calling}
-use Rattle.cycle_rules.proofs.Gets.{take_more, take_last, take_cases}
+use Rattle.spl_value.proofs.Lists.{take_cases, take_last, take_more}
 
 pub calling_more : (n : ℕ) (cs : List (Placed ℕ)) (to : ℕ) → Calling (take n cs) to → Calling (take (suc n) cs) to
 calling_more n cs to h = record { at = h.at; call = h.call; is = take_more n cs h.at h.call h.is; callee = h.callee }

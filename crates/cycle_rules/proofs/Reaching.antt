@@ -9,9 +9,9 @@ use Rattle.std.proofs.lemmas.Map.Views.{Contains-from_any}
 use Rattle.cycle_rules.specs.declared.place_set.PlaceSet.{PlaceSet}
 use Rattle.cycle_rules.specs.Standing.{Stands, IsSet, Widens}
 use Rattle.cycle_rules.specs.Callers.{Lists, Reached, near, far}
-use Rattle.cycle_rules.proofs.Gets.{get_within, get_below}
 use Rattle.cycle_rules.proofs.Widening.{here}
 use Rattle.cycle_rules.proofs.Calling.{lt_split}
+use Rattle.spl_value.proofs.Lists.{get_below, get_within}
 
 pub within_marks : (s : PlaceSet) → IsSet s → (i : ℕ) → Stands s.places.items i → i < length s.marks.items
 within_marks s h i st = get_within s.marks.items i true (h.marked i st)

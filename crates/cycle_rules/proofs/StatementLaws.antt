@@ -16,7 +16,7 @@ use Rattle.spl_tree.specs.Grammar.{Expr}
 use Rattle.spl_tree.specs.StatementGrammar.{Stmt}
 use Rattle.language_model.specs.Mentions.{Mentions, level_statement, statement_mentions, block_mentions, expr_mentions, optional_mentions, declaration_mentions}
 use Rattle.cycle_rules.specs.Mentioned.{arm_mentions, other_mentions}
-use Rattle.cycle_rules.proofs.Weights.{total}
+use Rattle.spl_value.proofs.Lists.{total}
 
 at_level : (k : StmtKind) (x : StmtKind-F StmtKind) → out-StmtKind k ≡ x
     → statement_mentions k ≡ level_statement (map-StmtKind StmtKind Mentions statement_mentions x)

@@ -7,9 +7,9 @@ use Rattle.cycle_rules.specs.declared.place_set.PlaceSet.{PlaceSet}
 use Rattle.cycle_rules.specs.Standing.{Stands, IsSet, Widens}
 use Rattle.cycle_rules.specs.Callers.{Calling}
 use Rattle.cycle_rules.specs.Taking.{IsTaken, Misses, Lacks, Takes}
-use Rattle.cycle_rules.proofs.Gets.{get_within, get_below, only_one, take_cases}
 use Rattle.cycle_rules.proofs.Widening.{here}
 use Rattle.cycle_rules.proofs.Calling.{calling_of, call_at}
+use Rattle.spl_value.proofs.Lists.{get_below, get_within, only_one, take_cases}
 
 -- what stood stands where it stood
 abbrev Keeps : List ℕ → List ℕ → Type 0

@@ -3,7 +3,7 @@ use Rattle.std.proofs.Common.{◌≡◌, ◌<◌, ◌⊎◌, ◌∙◌, ℕ, suc
 use Rattle.std.specs.Prelude.{slice_get}
 use Rattle.cycle_rules.specs.declared.place_set.PlaceSet.{PlaceSet}
 use Rattle.cycle_rules.specs.Standing.{Stands, IsSet, Widens}
-use Rattle.cycle_rules.proofs.Gets.{append_front, append_last, append_cases, set_here, set_elsewhere, set_cases, only_one, take_more, take_last, take_cases}
+use Rattle.spl_value.proofs.Lists.{append_cases, append_front, append_last, only_one, set_cases, set_elsewhere, set_here, take_cases, take_last, take_more}
 
 abbrev pub here : (xs : List ℕ) (k i : ℕ) → slice_get xs k ≡ Some i → Stands xs i
 here xs k i e = record { at = k; is = e }

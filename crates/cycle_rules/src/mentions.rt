@@ -31,7 +31,7 @@ fn add<'u>(at: u32, what: Mention<'u>, out: &mut Mentions<'u>) -> Result<(), NoM
 
 /// Adds what an expression mentions.
 #[cycle(mentions)]
-#[tactic(auto, using(crate::proofs::MentionLaws::expr_laws, crate::proofs::Weights::weight_laws))]
+#[tactic(auto, using(crate::proofs::MentionLaws::expr_laws, spl_tree::proofs::ExprWeights::weight_laws))]
 fn of_expr<'u>(expr: &'u Expr, out: &mut Mentions<'u>) -> Result<(), NoMemory>
     ensures { Adds out.old.items out.new.items (expr_mentions expr.now) result }
 {

@@ -20,7 +20,7 @@ use Rattle.written_types.specs.declared.finding.TypeScope.{TypeScope}
 use Rattle.written_types.specs.TypeScopes.{types_in}
 use Rattle.body_sites.specs.Sites.{MeansTypes}
 use Rattle.dollar_rules.specs.Tables.{tables_of}
-use Rattle.dollar_rules.proofs.Places.{copied_at}
+use Rattle.spl_value.proofs.Lists.{copied_at}
 
 pub settled_for : (r : Result Scope NoMemory) (own given : List Dollar) → IfOk r (λ s. s ≡ constant_scope own) → own ≡ given → IfOk r (λ s. s ≡ constant_scope given)
 settled_for (Ok s) own given h e = h ∙ ap constant_scope e

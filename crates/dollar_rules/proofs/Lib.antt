@@ -1,11 +1,9 @@
-pub mod ExprWeights
 pub mod ConstantLaws
 pub mod DollarLaws
 pub mod Adding
 pub mod Marks
 pub mod MarkedTables
 pub mod SettledOnes
-pub mod Places
 pub mod Passing
 pub mod Leading
 pub mod Settles

@@ -6,7 +6,7 @@ use Rattle.std.specs.Slice.{IsItemAt}
 use Rattle.std.proofs.Common.{refl, ap, ◌∙◌, arith}
 use Rattle.spl_tree.specs.declared.unit.CompositeParameter.{CompositeParameter}
 use Rattle.dollar_rules.specs.Heads.{passes_at, passes_from}
-use Rattle.dollar_rules.proofs.Places.{copied_at}
+use Rattle.spl_value.proofs.Lists.{copied_at}
 
 module _ (passes : ℕ → CompositeParameter → Bool) where
   passes_get : (at : ℕ) (ps : List CompositeParameter) (k j : ℕ) → j ≡ at + k → slice_get (passes_from passes at ps) k ≡ option_map (passes j) (slice_get ps k)

@@ -1,5 +1,5 @@
 -- One parameter more is settled, behind those that its default mentions.
-use Rattle.std.specs.Prelude.{◌≡◌, ◌≢◌, ◌==◌, ◌<◌, ◌≤◌, ◌-◌, ℕ, zero, suc, Bool, true, false, ◌&&◌, if◌then◌else◌, List, [], ◌∷◌, filter_map, length, Option, Some, None, is_some, slice_get, slice_index_or, ◌⊎◌}
+use Rattle.std.specs.Prelude.{◌≡◌, ◌≢◌, ◌==◌, ◌<◌, ◌≤◌, ◌-◌, ℕ, zero, suc, Bool, true, false, if◌then◌else◌, List, [], ◌∷◌, filter_map, length, Option, Some, None, is_some, slice_get, slice_index_or, ◌⊎◌}
 use Rattle.std.specs.List.{Contains, cons_option}
 use Rattle.std.specs.Option.{option_map_or}
 use Rattle.std.specs.Str.{bytes_eq}
@@ -23,10 +23,7 @@ use Rattle.language_model.specs.Typing.{Found, after, mismatch}
 use Rattle.dollar_rules.specs.Given.{AreSettled, Given, IsDone, IsReady, found_at_last, found_in, is_marked, marks_in, means, settled_table, table}
 use Rattle.dollar_rules.proofs.Marks.{fewer, marked_is, marked_none, one_more}
 use Rattle.dollar_rules.proofs.MarkedTables.{dollar_is, same_found, stands_for}
-
-first_of_both : (a b : Bool) → (a && b) ≡ true → a ≡ true
-first_of_both true b e = refl
-first_of_both false b e = e
+use Rattle.spl_value.proofs.Bools.{and_left as first_of_both}
 
 -- ---- what a default mentions
 

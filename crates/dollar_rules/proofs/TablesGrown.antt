@@ -1,6 +1,6 @@
 -- The tables of the parameters, expansion by expansion.
-use Rattle.std.specs.Prelude.{◌≡◌, ◌<◌, ◌≤◌, ℕ, suc, ◌+◌, List, [], ◌∷◌, ◌++◌, length, map, Result, Ok, Err, IfOk}
-use Rattle.std.proofs.Common.{ap, sym, ◌∙◌, get_or, drop, drop-cons, add-one, append_assoc, append-nil}
+use Rattle.std.specs.Prelude.{◌≡◌, ◌<◌, ◌≤◌, ℕ, ◌+◌, List, [], ◌∷◌, ◌++◌, length, map, Result, Ok, Err, IfOk}
+use Rattle.std.proofs.Common.{ap, sym, ◌∙◌, get_or, drop, append_assoc, append-nil}
 use Rattle.std.proofs.lemmas.List.{drop_all, map-append}
 use Rattle.spl_value.specs.declared.memory.NoMemory.{NoMemory}
 use Rattle.spl_tree.specs.declared.graph.Expansion.{Expansion}
@@ -9,10 +9,7 @@ use Rattle.language_model.specs.declared.scope.Dollar.{Dollar}
 use Rattle.language_model.specs.declared.scope.Scope.{Scope}
 use Rattle.language_model.specs.Parameters.{Tables, constant_scope, expansion_dollars, tables_from}
 use Rattle.dollar_rules.specs.Tables.{AreConstants, tables_of}
-
--- the rest of a list from a place on
-pub rest_at : {A : Type 0} (xs : List A) (i : ℕ) (x : A) → i < length xs → x ≡ get_or xs i x → drop i xs ≡ x ∷ drop (i + 1) xs
-rest_at xs i x h e = rw add-one (drop-cons xs i x h ∙ ap (λ y. y ∷ drop (suc i) xs) (sym e))
+use Rattle.spl_value.proofs.Lists.{drop_at as rest_at}
 
 abbrev constant : Scope → Scope
 constant s = constant_scope s.dollars

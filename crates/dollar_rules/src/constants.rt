@@ -7,7 +7,7 @@ use spl_tree::{Expr, ExprKind, Field};
 
 /// Whether no name, call, member or element stands in an expression.
 #[cycle(constants)]
-#[tactic(auto, using(crate::proofs::ConstantLaws::constant_laws, crate::proofs::ExprWeights::weight_laws))]
+#[tactic(auto, using(crate::proofs::ConstantLaws::constant_laws, spl_tree::proofs::ExprWeights::weight_laws))]
 pub(crate) fn is_constant(expr: &Expr) -> bool
     ensures { result ≡ is_constant expr.now }
 {

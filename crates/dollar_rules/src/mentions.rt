@@ -27,7 +27,7 @@ fn add<'u>(name: &'u Name, out: &mut Names<'u>) -> Result<(), NoMemory>
 
 /// Adds the parameters of an expression.
 #[cycle(mentions)]
-#[tactic(auto, using(crate::proofs::DollarLaws::dollar_laws, crate::proofs::ExprWeights::weight_laws))]
+#[tactic(auto, using(crate::proofs::DollarLaws::dollar_laws, spl_tree::proofs::ExprWeights::weight_laws))]
 fn of_expr<'u>(expr: &'u Expr, out: &mut Names<'u>) -> Result<(), NoMemory>
     ensures { Adds out.old.items out.new.items (dollars_in expr.now) result }
 {

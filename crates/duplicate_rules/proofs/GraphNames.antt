@@ -6,7 +6,7 @@ use Rattle.language_model.specs.Declarations.{Name, is_same, Declared, OutputPor
 use Rattle.duplicate_rules.specs.declared.declarations.graphs.GraphName.{GraphName}
 use Rattle.duplicate_rules.specs.Graphs.{shown, outputs_of, others_of}
 use Rattle.duplicate_rules.specs.NamesBefore.{Has}
-use Rattle.duplicate_rules.proofs.Rows.{rest_at}
+use Rattle.spl_value.proofs.Lists.{drop_at as rest_at}
 
 pub or_false : (a b : Bool) → b ≡ false → (a || b) ≡ a
 or_false true b e = refl

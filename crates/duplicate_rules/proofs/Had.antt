@@ -9,6 +9,7 @@ use Rattle.language_model.specs.Declarations.{is_same}
 use Rattle.language_model.specs.SinkFiles.{OpFile, is_had}
 use Rattle.duplicate_rules.specs.declared.files.UsedFile.{UsedFile}
 use Rattle.duplicate_rules.specs.Seen.{file_seen}
+use Rattle.spl_value.proofs.Lists.{any_map}
 
 -- ---- those before a file
 
@@ -25,10 +26,6 @@ any_reverse p (x ∷ xs) =
     ∙ list_any-append p (reverse xs) (x ∷ [])
     ∙ ap (λ b. b || (p x || false)) (any_reverse p xs)
     ∙ swap (list_any p xs) (p x)
-
-any_map : {A B : Type 0} (p : B → Bool) (f : A → B) (xs : List A) → list_any p (map f xs) ≡ list_any (λ x. p (f x)) xs
-any_map p f [] = refl
-any_map p f (x ∷ xs) = ap (λ b. p (f x) || b) (any_map p f xs)
 
 -- the files so far, the last one first
 abbrev pub before : List UsedFile → List OpFile

@@ -3,7 +3,6 @@ mod DefinitionNames
 mod Firsts
 mod GraphNames
 mod Had
-mod Lists
 mod NameRows
 mod Rows
 mod SetWeights

@@ -7,10 +7,6 @@ pub or_cond : (a b : Bool) → cond a true b ≡ (a || b)
 or_cond true b = refl
 or_cond false b = refl
 
-pub or_true : (a b : Bool) → b ≡ true → (a || b) ≡ true
-or_true true b e = refl
-or_true false b e = e
-
 pub not_taken : (taken added : Bool) → added ≡ not taken → added ≡ true → taken ≡ false
 not_taken true added e t = cc
 not_taken false added e t = refl

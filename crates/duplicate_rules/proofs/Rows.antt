@@ -1,14 +1,11 @@
 -- Rows that are gone through item by item.
-use Rattle.std.specs.Prelude.{◌≡◌, ℕ, suc, ◌+◌, ◌<◌, ◌≤◌, List, ◌∷◌, length, drop, flat_map, Option}
-use Rattle.std.proofs.Common.{sym, ap, ◌∙◌, get_or, drop-cons, add-one}
+use Rattle.std.specs.Prelude.{◌≡◌, ℕ, ◌+◌, ◌<◌, ◌≤◌, List, length, drop, flat_map, Option}
+use Rattle.std.proofs.Common.{sym, ap, ◌∙◌, get_or}
 use Rattle.std.proofs.lemmas.List.{drop_all}
 use Rattle.language_model.specs.Declarations.{Name, Sets}
 use Rattle.duplicate_rules.specs.Earliest.{earliest_in}
 use Rattle.duplicate_rules.proofs.Best.{earliest_in-append}
-
--- the rest of a list from a place on
-pub rest_at : {A : Type 0} (xs : List A) (i : ℕ) (x : A) → i < length xs → x ≡ get_or xs i x → drop i xs ≡ x ∷ drop (i + 1) xs
-rest_at xs i x h e = rw add-one (drop-cons xs i x h ∙ ap (λ y. y ∷ drop (suc i) xs) (sym e))
+use Rattle.spl_value.proofs.Lists.{drop_at as rest_at}
 
 -- ---- the best of the sets within a row
 

@@ -18,10 +18,7 @@ use Rattle.spl_tree.specs.declared.statement.StmtKind.TheFolds.{fold-StmtKind, f
 use Rattle.spl_tree.specs.Grammar.{Expr}
 use Rattle.spl_tree.specs.StatementGrammar.{Stmt}
 use Rattle.spl_tree.specs.TypeGrammar.{TypeExpr}
-
-abbrev pub total : {A : Type 0} → (A → ℕ) → List A → ℕ
-total f [] = 0
-total f (x ∷ xs) = f x + total f xs
+use Rattle.spl_value.proofs.Lists.{total}
 
 -- an item weighs no more than its row
 pub item_below : {A : Type 0} (f : A → ℕ) (xs : List A) (i : ℕ) (x : A) → i < length xs → x ≡ get_or xs i x → f x ≤ total f xs

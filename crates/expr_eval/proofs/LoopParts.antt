@@ -19,7 +19,7 @@ use Rattle.expr_eval.specs.Running.{EndsRow, EndsLoop}
 use Rattle.value_operations.specs.declared.stop.Stop.{Stop}
 use Rattle.value_operations.specs.declared.stop.Stop.TheVariants as P
 use Rattle.value_operations.proofs.Following.{enter_followed, followed_stops, stops_by}
-use Rattle.expr_eval.proofs.Rows.{drop_at}
+use Rattle.spl_value.proofs.Lists.{drop_at}
 
 -- ---- rows
 

@@ -27,7 +27,7 @@ use Rattle.language_model.specs.ValueLaws.{StatementLeadsLaw}
 use Rattle.language_model.specs.WorldFits.{FunctionsFit, Fits, VariablesFit, LeadsTo}
 use Rattle.expr_eval.specs.Running.{RowIsFit, StatementIsFit, ArmsAreFit, LoopIsFit, OverIsFit, state}
 use Rattle.expr_eval.proofs.NewVariables.{with_values, declared_fit, without_variable, entered_leads}
-use Rattle.expr_eval.proofs.Rows.{drop_at}
+use Rattle.spl_value.proofs.Lists.{drop_at}
 
 -- ---- parts of what fits
 

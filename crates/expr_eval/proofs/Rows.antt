@@ -1,7 +1,7 @@
 -- How far the loops over rows have come.
-use Rattle.std.specs.Prelude.{◌≡◌, ℕ, suc, ◌+◌, ◌≤◌, ◌<◌, List, [], ◌∷◌, ◌++◌, length, drop}
+use Rattle.std.specs.Prelude.{◌≡◌, ℕ, ◌+◌, ◌≤◌, ◌<◌, List, [], ◌∷◌, ◌++◌, length, drop}
 use Rattle.std.specs.List.{fold}
-use Rattle.std.proofs.Common.{refl, sym, ap, ◌∙◌, append_assoc, append-nil, get_or, drop-cons, add-one}
+use Rattle.std.proofs.Common.{refl, sym, ap, ◌∙◌, append_assoc, append-nil, get_or}
 use Rattle.std.proofs.lemmas.List.{drop_all}
 use Rattle.spl_value.specs.declared.value.Value.{Value}
 use Rattle.spl_value.specs.Pairs.{pairs_put}
@@ -14,9 +14,7 @@ use Rattle.language_model.specs.EvaluationLaws.{values_of, pair_values, field_va
 use Rattle.value_operations.specs.Answers.{StopsAs}
 use Rattle.value_operations.specs.declared.stop.Stop.{Stop}
 use Rattle.value_operations.proofs.Following.{followed_followed, followed_done, followed_stops, stops_by}
-
-pub drop_at : {A : Type 0} (xs : List A) (i : ℕ) (x : A) → i < length xs → x ≡ get_or xs i x → drop i xs ≡ x ∷ drop (i + 1) xs
-drop_at xs i x h e = rw add-one (drop-cons xs i x h ∙ ap (λ y. y ∷ drop (suc i) xs) (sym e))
+use Rattle.spl_value.proofs.Lists.{drop_at}
 
 -- a row whose items are gone through by S
 pub record IsRow {X Y : Type 0} (S : X → ℕ → Outcome Y) (R : List X → ℕ → Outcome (List Y)) : Type 0 where

@@ -25,7 +25,7 @@ use Rattle.language_model.specs.WorldFits.{Fits}
 use Rattle.expr_eval.specs.Fitting.{IsFit, FitTakings}
 use Rattle.value_operations.specs.Taking.{HasMember, HasElements, HasKeys}
 use Rattle.expr_eval.proofs.ValueTypes.{of_type, taken_of_type}
-use Rattle.expr_eval.proofs.Rows.{drop_at}
+use Rattle.spl_value.proofs.Lists.{drop_at}
 
 -- what the first step asks for, and where the others lead from there
 abbrev pub Steps : Scope → List (Taking (Code Slot)) → SplType → SplType → Type 0

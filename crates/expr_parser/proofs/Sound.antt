@@ -18,6 +18,7 @@ use Rattle.expr_parser.proofs.Soundness.{Phrase, Behind, After, Leads, leads_som
 use Rattle.expr_parser.specs.Lines as lines
 use Rattle.expr_parser.specs.Lines.{Line, Value, Whole, Rest, Climb, Chain, Prefixed, Group, Named, Brace, rule, R, is, expect, field, field_rule, operator_of, is_name, name_of}
 use Rattle.expr_parser.proofs.TestLaws.{is-true, is_name-true, is_literal-true, is_prefix-true, is_target-true, is_operator-true}
+use Rattle.spl_value.proofs.Lists.{push_some}
 
 -- A name alone
 
@@ -109,11 +110,6 @@ Phrases (lines.Fields at fs named) = After (LeadingField fs) (From S.LeftBrace a
 Phrases (lines.Steps e ss) = After Steps (After Primary Operand e) ss
 
 -- Phrases put together
-
--- a list with an element at its end is not empty
-push_some : {A : Type 0} (xs : List A) (x : A) → xs ++ x ∷ [] ≡ [] → ⊥
-push_some [] x e = cc
-push_some (y ∷ xs) x e = cc
 
 -- no prefixes are no tokens
 prefixes_none : {ps : List Prefix} {a : List Token} → Prefixes ps a → ps ≡ [] → a ≡ []

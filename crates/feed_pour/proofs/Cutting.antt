@@ -5,19 +5,12 @@ use Rattle.feed_pour.specs.Failing.{sooner, next_failing, is_to_fail}
 use Rattle.feed_pour.specs.Memory.{script_up_to, script_of, FirstToFail, IsBehindEnd, cut_before}
 use Rattle.feed_pour.specs.Plain.{plain_script}
 use Rattle.feed_pour.proofs.Failing.{Above, above, not_lt}
+use Rattle.spl_value.proofs.Bools.{or_last as or_more, or_left as or_first}
 
 -- what is found is one of the numbers
 abbrev Among : List ℕ → Option ℕ → Type 0
 Among f None = Unit {0}
 Among f (Some k) = is_to_fail k f ≡ true
-
-or_more : (b m : Bool) → m ≡ true → (b || m) ≡ true
-or_more true m e = refl
-or_more false m e = e
-
-or_first : (b m : Bool) → b ≡ true → (b || m) ≡ true
-or_first true m e = refl
-or_first false m e = cc
 
 only_first : (b m : Bool) → m ≡ false → (b || m) ≡ true → b ≡ true
 only_first true m none any = refl

@@ -8,6 +8,7 @@ use Rattle.spl_value.specs.Script as S
 use Rattle.feed_pour.specs.Contents.{Gave}
 use Rattle.feed_pour.specs.Failing.{sooner, next_failing, is_to_fail, CallCounted}
 use Rattle.feed_pour.specs.Memory.{script_up_to, script_of}
+use Rattle.spl_value.proofs.Bools.{lt_true as true_lt, true_lt as lt_true}
 
 none_at : (t : Bool) (c k : ℕ) (ks : List ℕ) → nat_lt c k ≡ t → k ≤ c → next_failing c ks ≡ None → (if t then sooner k (next_failing c ks) else next_failing c ks) ≡ None
 none_at true c k ks is le ih = absurd (grind arith)
@@ -68,14 +69,8 @@ miss c (k ∷ ks) any = miss_at (k == c + 1) c k ks refl any (miss c ks)
 
 -- ---- scripts
 
-lt_true : (a b : ℕ) → nat_lt a b ≡ true → a < b
-lt_true a b e = grind arith
-
 lt_false : (a b : ℕ) → nat_lt a b ≡ false → b ≤ a
 lt_false a b e = grind arith
-
-true_lt : (a b : ℕ) → a < b → nat_lt a b ≡ true
-true_lt a b e = grind arith
 
 -- what stands before j pieces, or the whole
 abbrev part : Bool → ℕ → List ℕ → Script

@@ -1,5 +1,5 @@
 -- What stands under a name behind a change of one entry.
-use Rattle.std.proofs.Common.{◌≡◌, ◌≢◌, ℕ, ◌+◌, ◌<◌, ◌≤◌, List, [], ◌∷◌, ◌++◌, length, get_or, Bool, true, false, if◌then◌else◌, cond, not, Option, Some, None, refl, sym, ◌∙◌, ap, suc, zero, arith, position, subst, inl, inr, ◌⊎◌, Result, Ok, Err}
+use Rattle.std.proofs.Common.{◌≡◌, ◌≢◌, ℕ, ◌+◌, ◌<◌, ◌≤◌, List, [], ◌∷◌, ◌++◌, length, get_or, Bool, true, false, if◌then◌else◌, cond, not, Option, Some, None, refl, sym, ◌∙◌, ap, suc, zero, arith, position, subst, inl, inr, Result, Ok, Err}
 use Rattle.std.proofs.Math.ListN.{set}
 use Rattle.std.specs.Prelude.{IsSome, OnOk, OnErr}
 use Rattle.std.specs.Bool.{Decides}
@@ -10,9 +10,7 @@ use Rattle.feed_pour.specs.declared.table.Entry.{Entry}
 use Rattle.feed_pour.specs.Table.{under, Puts}
 use Rattle.feed_pour.specs.Files.{counts_of, counts_in}
 use Rattle.feed_pour.specs.declared.tallies.Tallies.{Tallies}
-
-pub same_name : (a : List ℕ) → bytes_eq a a ≡ true
-same_name a = (bytes_eq-Decides a a).1 refl
+use Rattle.spl_value.proofs.Lists.{same_name, same_or_not}
 
 pub other_name : (a b : List ℕ) → b ≢ a → bytes_eq a b ≡ false
 other_name a b differs = elim (bytes_eq a b) as (λ r. Decides r (a ≡ b) → r ≡ false) [
@@ -125,12 +123,6 @@ pub not_known : {T : Type 0} (t : List (Entry T)) (name : List ℕ) → position
 not_known {T} t name none some =
     let e : under t name ≡ None = under_none t name (place_past t name none) in
     let h : IsSome {T = T} None = subst (λ (o : Option T). IsSome o) e some in cc
-
-pub same_or_not : (a b : List ℕ) → (a ≡ b) ⊎ (a ≢ b)
-same_or_not a b = elim (bytes_eq a b) as (λ r. Decides r (a ≡ b) → (a ≡ b) ⊎ (a ≢ b)) [
-  | true ↦ λ d. inl (d.0 refl)
-  | false ↦ λ d. inr (λ e. let h : false ≡ true = d.1 e in cc)
-] (bytes_eq-Decides a b)
 
 pub counts_stay : (old new : List (Entry Tallies)) (name : List ℕ) (value : Tallies) → Puts (under old) (under new) name value →
     counts_of (Some value) ≡ counts_in old name → (n : List ℕ) → counts_in new n ≡ counts_in old n

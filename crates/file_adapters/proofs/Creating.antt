@@ -11,7 +11,8 @@ use Rattle.feed_pour.specs.declared.outside.PourAnswer.TheVariants as P
 use Rattle.file_adapters.specs.Sinks.{EmptyBefore, is_file}
 use Rattle.file_adapters.specs.Steps.{CreateCounted, CreateCause}
 use Rattle.file_adapters.specs.declared.sinks.Sink.{Sink}
-use Rattle.file_adapters.proofs.Files.{one_or_other, out_of_more, among_not, told_then, told_itself}
+use Rattle.file_adapters.proofs.Files.{out_of_more, among_not, told_then, told_itself}
+use Rattle.spl_value.proofs.Lists.{same_or_not as one_or_other}
 
 pub none_created : (told : Option Told) (sinks : List Sink) → WhereTold told told (EmptyBefore 0 sinks)
 none_created told sinks = told_itself told (EmptyBefore 0 sinks) (λ t. record {

@@ -1,5 +1,5 @@
 -- The files of sinks: which names they are, and that no two sinks have one.
-use Rattle.std.proofs.Common.{◌≡◌, ◌≢◌, ℕ, ◌+◌, ◌-◌, ◌<◌, ◌≤◌, List, [], ◌∷◌, ◌++◌, length, take, drop, get_or, map, true, false, Option, Some, None, refl, sym, ◌∙◌, ap, arith, inl, inr, ◌⊎◌, length-drop}
+use Rattle.std.proofs.Common.{◌≡◌, ◌≢◌, ℕ, ◌+◌, ◌-◌, ◌<◌, ◌≤◌, List, [], ◌∷◌, ◌++◌, length, take, drop, get_or, map, true, false, Option, Some, None, refl, sym, ◌∙◌, ap, arith, length-drop}
 use Rattle.std.specs.Bool.{Decides}
 use Rattle.std.specs.Str.{bytes_eq}
 use Rattle.std.proofs.lemmas.Bool.{or_parts}
@@ -21,12 +21,6 @@ other_name a b differs = elim (bytes_eq a b) as (λ r. Decides r (a ≡ b) → r
 
 from_test : (a b : List ℕ) → bytes_eq a b ≡ false → a ≢ b
 from_test a b e same = let one = same_name a b same in cc
-
-pub one_or_other : (a b : List ℕ) → (a ≡ b) ⊎ (a ≢ b)
-one_or_other a b = elim (bytes_eq a b) as (λ r. Decides r (a ≡ b) → (a ≡ b) ⊎ (a ≢ b)) [
-  | true ↦ λ d. inl (d.0 refl)
-  | false ↦ λ d. inr (λ same. let one = d.1 same in cc)
-] (bytes_eq-Decides a b)
 
 -- a name that no sink's file has
 pub not_among : (sinks : List Sink) (n : List ℕ) → ((i : ℕ) (d : Sink) → i < length sinks → (get_or sinks i d).file ≢ n) → is_file sinks n ≡ false

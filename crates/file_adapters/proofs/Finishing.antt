@@ -11,7 +11,8 @@ use Rattle.feed_pour.specs.declared.outside.Failed.{Failed}
 use Rattle.file_adapters.specs.Sinks.{AreDistinct, is_file}
 use Rattle.file_adapters.specs.Steps.{EachFinished, FinishCause, FinishCounted}
 use Rattle.file_adapters.specs.declared.sinks.Sink.{Sink}
-use Rattle.file_adapters.proofs.Files.{one_or_other, out_of_more, apart, later_out, told_then, told_itself}
+use Rattle.file_adapters.proofs.Files.{out_of_more, apart, later_out, told_then, told_itself}
+use Rattle.spl_value.proofs.Lists.{same_or_not as one_or_other}
 
 -- ---- what the files hold
 

@@ -1,6 +1,6 @@
 -- The creating, the writing and the finishing of sinks' files together.
 use Rattle.std.proofs.Common.{◌≡◌, ℕ, zero, suc, ◌<◌, ◌≤◌, List, [], ◌∷◌, length, take, get_or, map, Bool, true, false, Option, Some, None, Result, Ok, Err, refl, sym, ◌∙◌, ap, subst, arith, inl, inr, ◌⊎◌}
-use Rattle.std.specs.Prelude.{IfSome, IsErr, slice_get}
+use Rattle.std.specs.Prelude.{IfSome, IsErr}
 use Rattle.std.specs.List.{All, Any}
 use Rattle.std.proofs.lemmas.Bool.{cases_lt}
 use Rattle.std.proofs.lemmas.List.{take_all, take-take, get_or-take, length-take-le, length-take}
@@ -16,6 +16,7 @@ use Rattle.file_adapters.specs.Sinks.{AreDistinct, EmptyBefore, FailedAs, HeldAf
 use Rattle.file_adapters.specs.Steps.{CreateCounted, EachFinished, EachPoured, FinishCounted, RowsPoured, WriteFault, sunk_of}
 use Rattle.file_adapters.specs.declared.sinks.Sink.{Sink}
 use Rattle.file_adapters.proofs.Files.{among_not, later_out, not_among}
+use Rattle.spl_value.proofs.Lists.{get_within as found_within}
 
 element : {X : Type 0} (xs : List X) (k : ℕ) → k < length xs → X
 element [] k small = absurd (omega arith)
@@ -216,11 +217,6 @@ pub unwritten_told : (e : PourAnswer) (f : Bool) (sinks : List Sink) (streams : 
 unwritten_told e f sinks streams place None new distinct within told = tt
 unwritten_told e f sinks streams place (Some t) None distinct within told = told
 unwritten_told e f sinks streams place (Some t) (Some u) distinct within told = unwritten e f sinks streams place t u distinct within told
-
-found_within : {X : Type 0} (xs : List X) (i : ℕ) (x : X) → slice_get xs i ≡ Some x → i < length xs
-found_within [] i x e = absurd cc
-found_within (y ∷ xs) zero x e = omega arith
-found_within (y ∷ xs) (suc i) x e = let h = found_within xs i x e in omega (arith, h)
 
 unwritten_cause : (e : PourAnswer) (f : Bool) (old mid new : PerName) (sinks : List Sink) (place : ℕ) → CreateCounted (Err e) place sinks old mid → FinishCounted f (take place sinks) mid new
     → SinksCause (sunk_of (Err e) f) sinks old new

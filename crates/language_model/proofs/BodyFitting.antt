@@ -25,7 +25,7 @@ use Rattle.spl_tree.specs.StatementGrammar.{Stmt}
 use Rattle.spl_tree.specs.TypeGrammar.{TypeExpr}
 use Rattle.language_model.specs.declared.scope.Scope.{Scope}
 use Rattle.language_model.specs.BodyFits as G
-use Rattle.language_model.specs.BodyFits.{Purpose, OfFunction, OfHandler, outputs_of, result_of, with_variable, GoesOver, StatementFits, RowFits, ArmsFit}
+use Rattle.language_model.specs.BodyFits.{Purpose, OfFunction, OfHandler, with_variable, GoesOver, StatementFits, RowFits, ArmsFit}
 use Rattle.language_model.specs.BodyLaws.{BodyFitLaw}
 use Rattle.language_model.specs.BodyTyping.{Setting, alone, arms_typing, assigned, body_typing, condition_typing, declaration_typing, first_value, for_typing, is_window, level_over, other_typing, over_typing, part_stated, return_typing, row_typing, stated, staying, submit_typing, submitted, submitted_on, submitted_to, variable, way_out}
 use Rattle.language_model.specs.BodyTypingLaws.{row_stated, arms_stated, other_stated}
@@ -42,7 +42,8 @@ use Rattle.language_model.proofs.Fitting.{Fits, FitsAt, good, good_any, good_at}
 use Rattle.language_model.proofs.SameTypes.{equal_from_same}
 use Rattle.language_model.proofs.StatementTypes.{assignment_type_law, compound_type_law, call_type_law}
 use Rattle.language_model.proofs.StmtInduction.{OfBranch, OfOther, StmtSteps, stmt_ind}
-use Rattle.language_model.proofs.Wanting.{Gives, gives_after, gives_from, gives_if, gives_some, part_of, rolled, Some_thing}
+use Rattle.language_model.proofs.Wanting.{gives_if, gives_some, part_of, rolled, Some_thing}
+use Rattle.language_model.proofs.FoundAnswers.{Gives, gives_after, gives_from}
 
 -- ---- what expressions give
 

@@ -17,7 +17,8 @@ use Rattle.language_model.specs.BodyTypingLaws.{row_stated, arms_stated, other_s
 use Rattle.language_model.proofs.BodyTypingLaws.{kind_stated, block_stated, if_stated, return_stated, arms_return, block_returns, if_returns, declare_returns, assign_returns, call_returns, while_returns, for_returns, break_returns, continue_returns, submit_returns}
 use Rattle.language_model.specs.Typing.{Found, after, typing}
 use Rattle.language_model.proofs.StmtInduction.{OfBranch, OfOther, StmtSteps, stmt_ind}
-use Rattle.language_model.proofs.Wanting.{Gives, gives_after, gives_from, gives_some, Some_thing}
+use Rattle.language_model.proofs.Wanting.{gives_some, Some_thing}
+use Rattle.language_model.proofs.FoundAnswers.{Gives, gives_after, gives_from}
 
 -- the code of a statement whose text does returns
 abbrev Ends : StmtKind → Type 0

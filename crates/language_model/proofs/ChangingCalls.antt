@@ -22,9 +22,9 @@ use Rattle.language_model.specs.BodyFits.{ChangeFits}
 use Rattle.language_model.specs.Typing.{Found, after, refused, Part, if_mutable, level_changed, changed_typed, arguments_typed, typing}
 use Rattle.language_model.specs.StatementTyping.{TypedPlace, as_part, level_place, place_given, place_typing, change_made, change_typing, level_call, call_typing}
 use Rattle.language_model.specs.PlaceLaws.{read_code, called, AppendLaw, RemoveLaw, ClearLaw}
-use Rattle.language_model.proofs.Wanting.{gives_from}
 use Rattle.language_model.proofs.PlaceTyping.{PlaceIn, gives_place}
 use Rattle.language_model.proofs.GivenPlaces.{selected_reads_back}
+use Rattle.language_model.proofs.FoundAnswers.{gives_from}
 
 module _ (at : ℕ) (scope : Scope) (call : CallName) (e : Expr) (es : List (Placed Part)) (p : TypedPlace) (types : List SplType) (of : PlaceIn scope e p)
     (is : level_changed call (out-SplType p.kind) ≡ Some types) where

@@ -16,6 +16,7 @@ use Rattle.language_model.specs.TypeNameLaws.{NamesLaw}
 use Rattle.language_model.specs.Typing.{unknown}
 use Rattle.language_model.proofs.Standing.{Stands, first_stands}
 use Rattle.language_model.proofs.TypeInduction.{same_shape}
+use Rattle.spl_value.proofs.Bools.{or_last as or_right, or_left}
 
 -- ---- ways from place to place
 
@@ -38,13 +39,6 @@ one f g (inr b) = g b
 either : (a b : Bool) → (a || b) ≡ true → (a ≡ true) ⊎ (b ≡ true)
 either true b e = inl refl
 either false b e = inr e
-
-or_left : (a b : Bool) → a ≡ true → (a || b) ≡ true
-or_left a b e = ap (λ c. c || b) e
-
-or_right : (a b : Bool) → b ≡ true → (a || b) ≡ true
-or_right true b e = refl
-or_right false b e = e
 
 any_is : (p : ℕ → Bool) (row : List ℕ) → list_any p row ≡ true → (n : ℕ) × Among row n × (p n ≡ true)
 any_is p [] e = absurd cc

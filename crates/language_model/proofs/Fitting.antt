@@ -29,7 +29,6 @@ use Rattle.spl_tree.specs.declared.token.Number.{Number}
 use Rattle.spl_tree.specs.declared.expression.ExprKind.{ExprKind}
 use Rattle.spl_tree.specs.declared.expression.ExprKind.TheVariants as E
 use Rattle.spl_tree.specs.declared.expression.ExprKind.TheOpen as X
-use Rattle.spl_tree.specs.declared.expression.ExprKind.TheOpen.{ExprKind-F}
 use Rattle.spl_tree.specs.declared.expression.ExprKind.TheFolds.{map-ExprKind}
 use Rattle.spl_tree.specs.Grammar.{Expr}
 use Rattle.spl_tree.proofs.Induction.{OfExpr, OfEntry, OfField, OfStep, ExprSteps, expr_ind}
@@ -56,13 +55,14 @@ use Rattle.language_model.specs.declared.scope.Variable.{Variable}
 use Rattle.language_model.specs.Scopes.{At, Meant, OfVariable, OfAttribute, OfPort, Nothing, PortAttribute, meant, variable_meant, variable_of, attributes_of, port_of, attribute_of, function_of, unresolved_of, dollar_of}
 use Rattle.language_model.specs.Typing.{Wanted, Found, after, mismatch, typed, as_wanted, number_typed, same_types, Part, part_typed, meant_typed, dollar_typed, Wants, Anything, This, Another, wants_list, wants_map, wants_tuple, elements_typed, list_typed, entries_typed, map_typed, are_distinct, gives_each, field_typed, fields_typed, own_fields, tuple_typed, level_index, member_typed, level_step, steps_typed, selected, select_typed, port_attribute, of_port, of_base, level_prefix, prefix_typed, prefixes_at, prefixes_typed, unary_typed, integer_operator, order_operator, on_integers, ordering_of, or_else, level_operator, operands_typed, level_in, binary_typed, marker_asked, binary_or_marker, branch_wanted, conditional_typed, arguments_typed, value_given, function_typed, call_of, int32, OnFirst, level_first, first_typed, argument_count, fixed_typed, no_value, arguments_of, built_in_typed, call_typed, level_part, part, typing}
 use Rattle.language_model.specs.CodeFits as F
-use Rattle.language_model.specs.CodeFits.{CodeFits, SlotFits, ElementsFit, PairsFit, FieldsFit, ArgumentsFit, StepsLead, UnaryGives, UnariesGive, BinaryGives, BuiltInGives, OneEach}
+use Rattle.language_model.specs.CodeFits.{CodeFits, SlotFits, ElementsFit, PairsFit, FieldsFit, ArgumentsFit, StepsLead, UnaryGives, UnariesGive, BinaryGives, BuiltInGives}
 use Rattle.language_model.specs.FitLaws.{DollarsFit, FitLaw}
 use Rattle.language_model.proofs.Closed.{closed_law}
 use Rattle.language_model.proofs.Standing.{Stands, first_stands, Bears, variable_there, attribute_there, port_there, function_there, InPorts, FirstOf, attributes_there}
 use Rattle.language_model.proofs.Places.{AtNames, names_one_each, InRow, row_one_each}
 use Rattle.language_model.proofs.SameTypes.{equal_from_same}
-use Rattle.language_model.proofs.Wanting.{Gives, gives_after, gives_on, gives_both, gives_if, gives_from, gives_no_call, Some_thing, gives_some, Meets, MeetsIn, rolled, Keeps, keeps, part_of, part_at}
+use Rattle.language_model.proofs.Wanting.{gives_both, gives_if, gives_no_call, Some_thing, gives_some, Meets, MeetsIn, rolled, Keeps, keeps, part_of, part_at}
+use Rattle.language_model.proofs.FoundAnswers.{Gives, gives_after, gives_from, gives_on}
 
 -- the code fits at its type, and at a type
 abbrev pub Fits : Scope → Typed → Type 0

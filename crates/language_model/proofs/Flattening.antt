@@ -1,5 +1,5 @@
 -- What the graph of a unit was made of, and which operator makes which stream.
-use Rattle.std.specs.Prelude.{◌≡◌, ◌+◌, ◌<◌, ◌↔◌, ◌-◌, ℕ, zero, suc, List, [], ◌∷◌, ◌++◌, map, length, take, Option, Some, None, Ok, Err, slice_get}
+use Rattle.std.specs.Prelude.{◌≡◌, ◌+◌, ◌<◌, ◌↔◌, ◌-◌, ℕ, zero, suc, List, [], ◌∷◌, ◌++◌, map, length, take, Option, Some, None, Ok, slice_get}
 use Rattle.std.specs.Option.{option_map}
 use Rattle.std.proofs.Common.{refl, sym, ap, ◌∙◌, subst, arith, inl, inr}
 use Rattle.std.proofs.lemmas.List.{length-map}
@@ -14,21 +14,16 @@ use Rattle.spl_tree.specs.declared.unit.Composite.{Composite}
 use Rattle.spl_tree.specs.declared.unit.Definition.{Definition}
 use Rattle.language_model.specs.Declarations.{first_of}
 use Rattle.language_model.specs.declared.expansion.Operation.{Operation}
-use Rattle.language_model.specs.Expansion.{Made, Found, after, expanded_main}
+use Rattle.language_model.specs.Expansion.{Made, after, expanded_main}
 use Rattle.language_model.specs.Flat.{flat_from, graph_of, ordered, if_all_taken, with_own_files, files_had, if_none_had}
 use Rattle.language_model.specs.FlatLaws.{IsMadeAs, MakerLaw}
 use Rattle.language_model.specs.Numbering.{numbers_from, first_stream, op_of, ops_from, streams_from}
 use Rattle.language_model.specs.Scopes.{At}
 use Rattle.language_model.specs.Taking.{taken, first_untaken}
+use Rattle.language_model.proofs.ExpansionAnswers.{after_gives, op_at}
+use Rattle.spl_value.proofs.Lists.{before_more as in_front}
 
 -- ---- what a graph was made of
-
-pub after_gives : {A B : Type 0} (x : Found A) (f : A → Found B) (b : B) → after x f ≡ Ok b → (a : A) × (x ≡ Ok a) × (f a ≡ Ok b)
-after_gives (Ok a) f b e = (a, refl, e)
-after_gives (Err r) f b e = absurd cc
-
-pub same_Ok : {A : Type 0} {x y : A} → ◌≡◌ {A = Found A} (Ok x) (Ok y) → x ≡ y
-same_Ok e = cc
 
 abbrev pub topo_of : Made → List ℕ
 topo_of made = taken (streams_from 0 made.ops) (ops_from made 0 made.ops)
@@ -62,11 +57,6 @@ pub mapped : {A B : Type 0} (f : A → B) (o : Option A) (b : B) → option_map 
 mapped f None b e = absurd cc
 mapped f (Some a) b e = (a, refl, cc)
 
-pub in_front : {A : Type 0} (xs ys : List A) (i : ℕ) → i < length xs → slice_get (xs ++ ys) i ≡ slice_get xs i
-in_front [] ys i lt = absurd (omega arith)
-in_front (x ∷ xs) ys zero lt = refl
-in_front (x ∷ xs) ys (suc i) lt = in_front xs ys i (omega arith)
-
 pub behind : {A : Type 0} (xs ys : List A) (i j : ℕ) → i ≡ length xs + j → slice_get (xs ++ ys) i ≡ slice_get ys j
 behind [] ys i j e = let same : i ≡ j = omega arith in ap (slice_get ys) same
 behind (x ∷ xs) ys zero j e = absurd (omega arith)
@@ -88,11 +78,6 @@ numbers_length n zero = refl
 numbers_length n (suc count) = ap suc (numbers_length (suc n) count)
 
 -- ---- operators and streams of a graph
-
-pub op_at : (made : Made) (n : ℕ) (ops : List Operation) (m : ℕ) → slice_get (ops_from made n ops) m ≡ option_map (op_of made (n + m)) (slice_get ops m)
-op_at made n [] m = refl
-op_at made n (o ∷ ops) zero = let same : n ≡ n + 0 = omega arith in ap (λ i. Some (op_of made i o)) same
-op_at made n (o ∷ ops) (suc m) = let same : suc n + m ≡ n + suc m = omega arith in op_at made (suc n) ops m ∙ ap (λ i. option_map (op_of made i) (slice_get ops m)) same
 
 pub op_there : (made : Made) (n : ℕ) (o : Operation) → slice_get made.ops n ≡ Some o → slice_get (ops_from made 0 made.ops) n ≡ Some (op_of made n o)
 op_there made n o e =

@@ -24,8 +24,9 @@ use Rattle.language_model.specs.TypingLaws.{step_parts}
 use Rattle.language_model.specs.StatementTyping.{TypedPlace, as_part, level_variable, level_place, place_given, place_typing}
 use Rattle.language_model.specs.PlaceLaws as P
 use Rattle.language_model.specs.PlaceLaws.{read_code, IsPlace, NamePlaceLaw, PlaceGivenLaw, PlaceRefusedLaw}
-use Rattle.language_model.proofs.Wanting.{Gives, gives_after, gives_from, Some_thing, gives_some, part_of}
+use Rattle.language_model.proofs.Wanting.{Some_thing, gives_some, part_of}
 use Rattle.language_model.proofs.PlaceTyping.{variable_found}
+use Rattle.language_model.proofs.FoundAnswers.{Gives, gives_after, gives_from}
 
 -- the code reads a place
 abbrev HasPlace : Typed → Type 0

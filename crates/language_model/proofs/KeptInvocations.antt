@@ -24,9 +24,10 @@ use Rattle.language_model.specs.Numbering.{op_of, expansion_of, expansions_from}
 use Rattle.language_model.specs.Recursion.{HasNoRecursion, calls_among, composite_callers}
 use Rattle.language_model.specs.Scopes.{At}
 use Rattle.language_model.specs.SinkFiles.{composite_of, invocation_at}
-use Rattle.language_model.proofs.Flattening.{after_gives, same_Ok, topo_of, made_of, mapped, op_there}
+use Rattle.language_model.proofs.Flattening.{topo_of, made_of, mapped, op_there}
 use Rattle.language_model.proofs.Inlining.{IsIn, Holds, Grows, grown, within_is, found, last_stands, declared_gives, main_holds}
 use Rattle.language_model.proofs.Nesting.{IsPath, composites_within, invoked_is_call}
+use Rattle.language_model.proofs.ExpansionAnswers.{after_gives, expansion_at, same_Ok}
 
 -- ---- what stands in what was made
 
@@ -266,12 +267,6 @@ does_all unit acyclic (suc depth) p before next nested e =
     (λ j i is. let same : 0 + j ≡ j = omega arith in ap (slice_get p.body.composite.what.graph) same ∙ is) e
 
 -- ---- the whole
-
-expansion_at : (made : Made) (n : ℕ) (es : List Inlined) (m : ℕ) → slice_get (expansions_from made n es) m ≡ option_map (expansion_of made (n + m)) (slice_get es m)
-expansion_at made n [] m = refl
-expansion_at made n (e ∷ es) zero = let same : n ≡ n + 0 = omega arith in ap (λ i. Some (expansion_of made i e)) same
-expansion_at made n (e ∷ es) (suc m) =
-    let same : suc n + m ≡ n + suc m = omega arith in expansion_at made (suc n) es m ∙ ap (λ i. option_map (expansion_of made i) (slice_get es m)) same
 
 -- the main body is the first, and all bodies are done
 record IsFinished (unit : List Definition) (main : At Composite) (made : Made) : Type 0 where

@@ -1,3 +1,5 @@
+pub mod ExpansionAnswers
+pub mod FoundAnswers
 pub mod DefinedTypes
 pub mod Standing
 pub mod TypeInduction

@@ -9,21 +9,16 @@ use Rattle.std.proofs.lemmas.List.Folds.{list_any_at, list_all_at}
 use Rattle.std.proofs.lemmas.Option.{same_Some, slice_get_within}
 use Rattle.spl_tree.specs.declared.graph.Op.{Op}
 use Rattle.spl_tree.specs.declared.graph.Stream.{Stream}
-use Rattle.language_model.specs.declared.expansion.Operation.{Operation}
 use Rattle.language_model.specs.Expansion.{Made}
 use Rattle.language_model.specs.Flat.{graph_of}
 use Rattle.language_model.specs.FlatLaws.{IsTopological, TopoLaw, ConnectedLaw}
 use Rattle.language_model.specs.Numbering.{ops_from, streams_from}
 use Rattle.language_model.specs.Taking.{is_taken, is_ready, next_from, taken_on, taken, first_untaken}
 use Rattle.language_model.proofs.Flattening.{topo_of, made_of}
+use Rattle.language_model.proofs.ExpansionAnswers.{ops_length}
+use Rattle.spl_value.proofs.Lists.{contains_here, contains_later}
 
 -- ---- what is among some numbers
-
-contains_here : (n : ℕ) (ns : List ℕ) → Contains (n ∷ ns) n
-contains_here n ns = (0, omega arith, refl)
-
-contains_later : (m n : ℕ) (ns : List ℕ) → Contains ns n → Contains (m ∷ ns) n
-contains_later m n ns h = (suc h.0, (let lt : h.0 < length ns = h.1 in omega arith), h.2)
 
 pub taken_there : (ns : List ℕ) (n : ℕ) → is_taken ns n ≡ true → Contains ns n
 taken_there [] n e = absurd cc
@@ -186,10 +181,6 @@ all_taken ns from (suc count) e k lt =
     ] refl e
 
 -- ---- the order of a graph
-
-ops_length : (made : Made) (n : ℕ) (ops : List Operation) → length (ops_from made n ops) ≡ length ops
-ops_length made n [] = refl
-ops_length made n (o ∷ ops) = ap suc (ops_length made (suc n) ops)
 
 topological : (made : Made) → first_untaken (topo_of made) 0 (length made.ops) ≡ None → IsTopological (graph_of made (topo_of made))
 topological made e =

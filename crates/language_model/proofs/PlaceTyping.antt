@@ -38,8 +38,9 @@ use Rattle.language_model.specs.StatementTyping.{TypedPlace, level_variable, lev
 use Rattle.language_model.specs.FitLaws.{DollarsFit}
 use Rattle.language_model.specs.PlaceLaws.{PlaceTypeLaw, read_code, PlaceReadsLaw}
 use Rattle.language_model.proofs.Standing.{Bears, variable_there}
-use Rattle.language_model.proofs.Wanting.{Gives, gives_after, gives_on, gives_both, gives_if, gives_from, Some_thing, gives_some, part_of, part_at}
+use Rattle.language_model.proofs.Wanting.{gives_both, gives_if, Some_thing, gives_some, part_of, part_at}
 use Rattle.language_model.proofs.Fitting.{Fits, good, good_any}
+use Rattle.language_model.proofs.FoundAnswers.{Gives, gives_after, gives_from, gives_on}
 
 -- ---- the variable that a code reads
 

@@ -1,5 +1,5 @@
 -- Types that are the same are equal.
-use Rattle.std.specs.Prelude.{◌≡◌, Bool, true, ◌&&◌, List, [], ◌∷◌, map, Some}
+use Rattle.std.specs.Prelude.{◌≡◌, Bool, true, ◌&&◌, List, [], ◌∷◌, Some}
 use Rattle.std.specs.List.{AllByRecursion}
 use Rattle.std.specs.Cmp.{first_so, second_so}
 use Rattle.std.specs.Cmp.Lexicographic.{pointwise, bytes_decides}
@@ -18,12 +18,7 @@ use Rattle.spl_tree.specs.declared.keyword.Keyword.TheVariants as W
 use Rattle.spl_tree.specs.Words.{keyword_word, keyword_of}
 use Rattle.spl_tree.proofs.WordLaws.{keywords_law}
 use Rattle.language_model.specs.Typing.{level_same, same_types}
-
-pointwise-map : {A B C : Type 0} (R : B → C → Bool) (f : A → B) (xs : List A) (ys : List C) → pointwise R (map f xs) ys ≡ pointwise (λ x y. R (f x) y) xs ys
-pointwise-map R f [] [] = refl
-pointwise-map R f [] (y ∷ ys) = refl
-pointwise-map R f (x ∷ xs) [] = refl
-pointwise-map R f (x ∷ xs) (y ∷ ys) = ap (λ b. R (f x) y && b) (pointwise-map R f xs ys)
+use Rattle.spl_value.proofs.Lists.{pointwise-map}
 
 level_same-map : {A B C : Type 0} (f : A → B) (R : B → C → Bool) (t : SplType-F A) (u : SplType-F C) → level_same R (map-SplType A B f t) u ≡ level_same (λ a v. R (f a) v) t u
 level_same-map f R (T.Tuple xs) (T.Tuple ys) =

@@ -40,9 +40,10 @@ use Rattle.language_model.specs.StatementTyping.{as_part, level_place, place_giv
 use Rattle.language_model.specs.PlaceLaws.{FitsAnywhere, AssignmentTypeLaw, CompoundTypeLaw, CallTypeLaw}
 use Rattle.language_model.proofs.SameTypes.{equal_from_same}
 use Rattle.language_model.proofs.Standing.{Bears, function_there}
-use Rattle.language_model.proofs.Wanting.{Gives, gives_after, gives_on, gives_both, gives_if, gives_from, gives_no_call, Some_thing, gives_some, rolled, part_of}
+use Rattle.language_model.proofs.Wanting.{gives_both, gives_if, gives_no_call, Some_thing, gives_some, rolled, part_of}
 use Rattle.language_model.proofs.Fitting.{Fits, FitsAt, Good, good, all_good, good_any, good_at, operator_fits, operands_fit, arguments_fit, built_in_fits}
 use Rattle.language_model.proofs.PlaceTyping.{MayChange, gives_if_mutable, Rests, part_rests, FitsPlace, given_fits, place_fits}
+use Rattle.language_model.proofs.FoundAnswers.{Gives, gives_after, gives_from, gives_on}
 
 -- ---- assignments
 

@@ -1,5 +1,5 @@
 -- Induction over written types, and that a type's meaning is led by what its own names stand for.
-use Rattle.std.specs.Prelude.{◌≡◌, ℕ, List, [], ◌∷◌, ◌++◌, Ok, map, flat_map}
+use Rattle.std.specs.Prelude.{◌≡◌, ℕ, List, [], ◌∷◌, Ok, map, flat_map}
 use Rattle.std.specs.List.{AllByRecursion}
 use Rattle.std.proofs.Common.{refl, ap, sym, subst, ◌∙◌}
 use Rattle.spl_value.specs.declared.types.IntKind.{IntKind}
@@ -19,6 +19,7 @@ use Rattle.spl_tree.specs.TypeGrammar.{TypeExpr, Shape}
 use Rattle.language_model.specs.TypeNames.{Types, Names, attributes_type, written_attributes, tuple_type, shape_meant, shape_names, type_names}
 use Rattle.language_model.proofs.TypeNameLaws.{kind_written, kind_names_in, boolean_written, rstring_written, int_written, left_out_written, name_written, list_written, map_written, tuple_written, name_names, list_names, map_names, tuple_names}
 use Rattle.language_model.specs.Typing.{after}
+use Rattle.spl_value.proofs.Lists.{all_left as all_front, all_right as all_back}
 
 -- ---- induction
 
@@ -66,14 +67,6 @@ module _ (P : TypeKind → Type 0) (s : TypeKindSteps P) where
 -- names stand for the same
 abbrev pub Agree : Types → Types → Names → Type 0
 Agree f g names = AllByRecursion (λ name. (at : ℕ) → f at name ≡ g at name) names
-
-all_front : {A : Type 0} (P : A → Type 0) (xs ys : List A) → AllByRecursion P (xs ++ ys) → AllByRecursion P xs
-all_front P [] ys h = tt
-all_front P (x ∷ xs) ys h = (h.0, all_front P xs ys h.1)
-
-all_back : {A : Type 0} (P : A → Type 0) (xs ys : List A) → AllByRecursion P (xs ++ ys) → AllByRecursion P ys
-all_back P [] ys h = h
-all_back P (x ∷ xs) ys h = all_back P xs ys h.1
 
 module _ (f g : Types) where
   abbrev Same : TypeKind → Type 0

@@ -18,10 +18,11 @@ use Rattle.language_model.specs.Typing.{Found, after, as_wanted, mismatch, wrong
 use Rattle.language_model.proofs.TypingLaws as W
 use Rattle.language_model.specs.StatementTyping.{as_part, built_in_statement, function_statement, call_statement}
 use Rattle.language_model.specs.PlaceLaws as P
-use Rattle.language_model.specs.PlaceLaws.{called, IsCallOf, ValueCallLaw}
-use Rattle.language_model.proofs.Wanting.{Gives, gives_after, gives_if, gives_from, gives_no_call, Some_thing, gives_some}
+use Rattle.language_model.specs.PlaceLaws.{IsCallOf, ValueCallLaw}
+use Rattle.language_model.proofs.Wanting.{gives_if, gives_no_call, Some_thing, gives_some}
 use Rattle.language_model.proofs.StatementTypes.{IsBuiltIn, built_in_is}
 use Rattle.language_model.proofs.ChangingCalls.{called_is}
+use Rattle.language_model.proofs.FoundAnswers.{Gives, gives_after, gives_from}
 
 -- where the call has a value, the statement is that call
 abbrev May : Found Typed → Found Statement → Type 0

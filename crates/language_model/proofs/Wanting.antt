@@ -23,26 +23,11 @@ use Rattle.language_model.specs.declared.scope.Typed.{Typed}
 use Rattle.language_model.specs.Typing.{Wanted, Found, after, mismatch, as_wanted, same_types, Part, part_typed, Wants, Anything, This, Another, level_element, wants_list, level_pair, wants_map, level_schema, wants_tuple, elements_typed, list_typed, entries_typed, map_typed, are_distinct, gives_each, fields_typed, own_fields, tuple_typed, not_callable, branch_wanted, conditional_typed, level_part, part, typing}
 use Rattle.language_model.specs.FitLaws.{WantedLaw}
 use Rattle.language_model.proofs.SameTypes.{equal_from_same}
-
--- what is found has the fact
-abbrev pub Gives : {A : Type 0} → (A → Type 0) → Found A → Type 0
-Gives P (Ok x) = P x
-Gives P (Err refusal) = Unit {0}
-
-pub gives_after : {A B : Type 0} (P : A → Type 0) (Q : B → Type 0) (r : Found A) (f : A → Found B) → Gives P r → ((x : A) → P x → Gives Q (f x)) → Gives Q (after r f)
-gives_after P Q (Ok x) f h k = k x h
-gives_after P Q (Err refusal) f h k = tt
-
-pub gives_on : {A : Type 0} (P Q : A → Type 0) (r : Found A) → Gives P r → ((x : A) → P x → Q x) → Gives Q r
-gives_on P Q (Ok x) h k = k x h
-gives_on P Q (Err refusal) h k = tt
+use Rattle.language_model.proofs.FoundAnswers.{Gives, gives_after, gives_from}
 
 pub gives_both : {A : Type 0} (P Q : A → Type 0) (r : Found A) → Gives P r → Gives Q r → Gives (λ x. P x × Q x) r
 gives_both P Q (Ok x) g h = (g, h)
 gives_both P Q (Err refusal) g h = tt
-
-pub gives_from : {A : Type 0} (P : A → Type 0) (r : Found A) (x : A) → Gives P r → r ≡ Ok x → P x
-gives_from P r x h e = subst (Gives P) e h
 
 -- a function that isn't there gives nothing
 pub gives_no_call : {A : Type 0} (P : A → Type 0) (at : ℕ) (name : List ℕ) (o : Option CheckRefusal) → Gives P (not_callable at name o)

@@ -20,12 +20,9 @@ use Rattle.language_model.specs.Typing.{Found, after, as_wanted, Part, level_ope
 use Rattle.language_model.proofs.TypingLaws as W
 use Rattle.language_model.specs.StatementTyping.{TypedPlace, place_typing}
 use Rattle.language_model.specs.PlaceLaws.{written_out, CompoundLaw}
-use Rattle.language_model.proofs.Wanting.{Gives, part_of}
+use Rattle.language_model.proofs.Wanting.{part_of}
 use Rattle.language_model.proofs.PlaceTyping.{PlaceIn, gives_place}
-
-after_after : {A B D : Type 0} (r : Found A) (f : A → Found B) (g : B → Found D) → after (after r f) g ≡ after r (λ x. after (f x) g)
-after_after (Ok x) f g = refl
-after_after (Err refusal) f g = refl
+use Rattle.language_model.proofs.FoundAnswers.{Gives, after_after}
 
 after_same : {A B : Type 0} (P : A → Type 0) (r : Found A) (f g : A → Found B) → Gives P r → ((x : A) → P x → f x ≡ g x) → after r f ≡ after r g
 after_same P (Ok x) f g h same = same x h

@@ -1,9 +1,8 @@
 -- The faults of ends, and whom they name.
-use Rattle.std.proofs.Common.{◌≡◌, ℕ, zero, suc, ◌+◌, ◌<◌, ◌==◌, Bool, true, false, cond, if◌then◌else◌, List, [], ◌∷◌, refl, sym, ap, subst, ◌∙◌, map, length, slice_get, Option, Some, None, drop, arith}
+use Rattle.std.proofs.Common.{◌≡◌, ℕ, suc, ◌<◌, Bool, true, false, if◌then◌else◌, List, [], ◌∷◌, refl, sym, ap, subst, ◌∙◌, map, length, slice_get, Option, Some, None}
 use Rattle.std.specs.Prelude.{⊤}
 use Rattle.std.specs.List.{concat, Contains}
 use Rattle.std.specs.Option.{option_or}
-use Rattle.std.proofs.lemmas.Bool.{cases_Bool}
 use Rattle.std.proofs.lemmas.Option.{slice_get_within}
 use Rattle.spl_value.specs.declared.item.Fault.{Fault}
 use Rattle.spl_value.specs.declared.item.Item.{Item}
@@ -16,21 +15,21 @@ use Rattle.spl_tree.specs.declared.graph.Op.{Op}
 use Rattle.language_model.specs.declared.checked.Part.{Part}
 use Rattle.language_model.specs.declared.checked.Part.TheVariants as A
 use Rattle.language_model.specs.CheckedGraph.{CheckedGraph}
-use Rattle.stream_model.specs.CheckedMeaning.{kind_of, operator_with}
-use Rattle.stream_model.specs.Ends.{stream_fault, operator_fault, is_read, unread_fault, first_fault, end_fault, run_fault}
+use Rattle.stream_model.specs.CheckedMeaning.{kind_of}
+use Rattle.stream_model.specs.Ends.{stream_fault, operator_fault, is_read, unread_fault, first_fault, end_fault}
 use Rattle.language_model.specs.Keeping.{Keeps}
 use Rattle.stream_model.specs.Laws.{GraphLaw}
 use Rattle.stream_model.specs.Meaning.{Graph, Lists, Entries, Meaning, meaning}
 use Rattle.language_model.specs.Outcomes.{Outcome, Done, Faulted, Stuck}
-use Rattle.stream_model.specs.PathLaws.{pass, passed, fault_by}
+use Rattle.stream_model.specs.PathLaws.{pass, passed}
 use Rattle.stream_model.proofs.PathLaws.{sink_fault}
-use Rattle.stream_model.specs.React.{Operator, Kind, Source, FileSource, Filter, FileSink, passes}
+use Rattle.stream_model.specs.React.{Operator, Kind, FileSink, passes}
 use Rattle.list_run.specs.Runs.{CanRun}
-use Rattle.list_run.specs.SinkLaws.{FaultsName, SourcesName, FaultNamesLaw}
-use Rattle.list_run.proofs.GraphOperators.{Shape, source, filter, sink, shape_of, operator_at, same_length}
+use Rattle.list_run.specs.SinkLaws.{FaultsName, FaultNamesLaw}
+use Rattle.list_run.proofs.GraphOperators.{Shape, source, filter, sink, shape_of, operator_at}
 use Rattle.list_run.proofs.Made.{Running, by_order}
-use Rattle.list_run.proofs.Orders.{contains_here}
 use Rattle.list_run.proofs.Sinking.{events_are}
+use Rattle.spl_value.proofs.Lists.{contains_here}
 
 -- ---- ends
 

@@ -1,5 +1,5 @@
 -- The fault of each end, from the streams that stay.
-use Rattle.std.proofs.Common.{◌≡◌, ℕ, zero, suc, ◌+◌, ◌<◌, ◌≤◌, ◌==◌, ◌||◌, ◌&&◌, not, Bool, true, false, cond, if◌then◌else◌, List, [], ◌∷◌, refl, sym, ap, subst, ◌∙◌, map, length, slice_get, Option, Some, None, drop, arith}
+use Rattle.std.proofs.Common.{◌≡◌, ℕ, zero, suc, ◌+◌, ◌<◌, ◌≤◌, ◌==◌, ◌&&◌, not, Bool, true, false, if◌then◌else◌, List, [], ◌∷◌, sym, ap, subst, ◌∙◌, map, length, slice_get, Option, Some, None, drop, arith}
 use Rattle.std.specs.List.{concat, list_any}
 use Rattle.std.specs.Option.{option_or, unwrap_or}
 use Rattle.std.proofs.lemmas.Bool.{or_left, or_right}
@@ -15,10 +15,11 @@ use Rattle.stream_model.specs.Meaning.{Graph, Lists, Entries, Meaning, meaning}
 use Rattle.stream_model.specs.React.{Operator, Kind, FileSink}
 use Rattle.list_run.specs.Runs.{CanRun, AreStreams, rows_at}
 use Rattle.list_run.specs.Sinks.{is_sink, is_sunk, sinks_stream, stays}
-use Rattle.list_run.proofs.GraphOperators.{OperatorAt, Shape, source, filter, sink, shape_of, operator_at, operator_there, same_length}
+use Rattle.list_run.proofs.GraphOperators.{Shape, source, filter, sink, shape_of, operator_at, operator_there, same_length}
 use Rattle.list_run.proofs.Made.{only_makes}
 use Rattle.list_run.proofs.Ending.{made_end, sink_end, out_within, in_within}
-use Rattle.list_run.proofs.Reading.{front_of, drop_past}
+use Rattle.list_run.proofs.Reading.{drop_past}
+use Rattle.spl_value.proofs.Lists.{next_rest as front_of}
 
 -- the graph that can run is the one that is there
 pub can_run : (c : CheckedGraph) (g : Graph) → (x : Graph) × CanRun c x → graph_of c ≡ Some g → CanRun c g

@@ -2,7 +2,7 @@
 use Rattle.std.proofs.Common.{◌≡◌, ℕ, zero, suc, ◌+◌, ◌<◌, ◌≤◌, List, [], ◌∷◌, ◌++◌, refl, sym, ap, subst, ◌∙◌, length, slice_get, Option, Some, None, Bool, arith}
 use Rattle.std.specs.List.{concat, Contains}
 use Rattle.std.specs.Option.{option_map, unwrap_or}
-use Rattle.std.proofs.lemmas.Option.{slice_get_within, slice_get-get_or}
+use Rattle.std.proofs.lemmas.Option.{slice_get_within}
 use Rattle.spl_tree.specs.declared.graph.Op.{Op}
 use Rattle.spl_tree.specs.declared.graph.OpKind.{OpKind}
 use Rattle.spl_tree.specs.declared.code.Code.{Code}
@@ -12,9 +12,9 @@ use Rattle.language_model.specs.declared.checked.Part.TheVariants as A
 use Rattle.language_model.specs.declared.scope.Scope.{Scope}
 use Rattle.language_model.specs.declared.scope.Signature.{Signature}
 use Rattle.language_model.specs.CheckedGraph.{CheckedGraph}
-use Rattle.stream_model.specs.CheckedMeaning.{graph_of, operators_from, operator_with, with_operator, kind_of, schema_at, first_schema}
+use Rattle.stream_model.specs.CheckedMeaning.{graph_of, operators_from, operator_with, with_operator, kind_of, schema_at}
 use Rattle.language_model.specs.Keeping as K
-use Rattle.language_model.specs.Keeping.{Keeps, StreamsHave, PortsHave, PortHas, PartFits, NamesPorts}
+use Rattle.language_model.specs.Keeping.{Keeps, StreamsHave, PortsHave, PartFits, NamesPorts}
 use Rattle.stream_model.specs.Laws.{IsNumbered}
 use Rattle.stream_model.specs.Meaning.{Graph, connections}
 use Rattle.stream_model.specs.React.{Operator, Kind}
@@ -22,6 +22,7 @@ use Rattle.language_model.specs.StreamTypes.{Attributes}
 use Rattle.language_model.specs.WorldFits.{FunctionsFit}
 use Rattle.list_run.specs.Fitting.{FitsSchema}
 use Rattle.list_run.specs.Runs.{CanRun}
+use Rattle.spl_value.proofs.Lists.{get_below as there_is}
 
 -- ---- the operators of the list
 
@@ -102,11 +103,6 @@ is_numbered c g e n o at =
     let is = operator_at c g e n o at in
     let number : 0 + n ≡ n = omega arith in
     ap (λ (x : Operator). x.number) is.same ∙ number
-
-pub there_is : {A : Type 0} (xs : List A) (n : ℕ) → n < length xs → (x : A) × (slice_get xs n ≡ Some x)
-there_is [] n h = absurd (omega (arith, h))
-there_is (x ∷ xs) zero h = (x, refl)
-there_is (x ∷ xs) (suc n) h = there_is xs n (omega (arith, h))
 
 pub operator_there : (c : CheckedGraph) (g : Graph) → Keeps c → graph_of c ≡ Some g → (n : ℕ) → n < length c.graph.ops → (o : Operator) × (slice_get g.ops n ≡ Some o)
 operator_there c g k e n h = there_is g.ops n (let same = same_length c g k e in omega (arith, same, h))

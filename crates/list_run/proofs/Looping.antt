@@ -1,5 +1,5 @@
 -- The table of streams while the operators are run in their order.
-use Rattle.std.proofs.Common.{◌≡◌, ℕ, zero, suc, ◌+◌, ◌-◌, ◌<◌, ◌≤◌, List, [], ◌∷◌, ◌++◌, append_assoc, refl, sym, ap, subst, ◌∙◌, length, slice_get, get_or, take, drop, replicate, Some, arith}
+use Rattle.std.proofs.Common.{◌≡◌, ℕ, zero, suc, ◌+◌, ◌-◌, ◌<◌, ◌≤◌, List, [], ◌∷◌, ◌++◌, append_assoc, refl, sym, ap, subst, ◌∙◌, length, get_or, take, drop, replicate, Some, arith}
 use Rattle.std.specs.List.{Contains}
 use Rattle.std.proofs.lemmas.List.Elements.{Contains-append_right}
 use Rattle.spl_value.specs.declared.item.Item.{Item}
@@ -10,10 +10,9 @@ use Rattle.stream_model.specs.Laws.{GraphLaw}
 use Rattle.stream_model.specs.Meaning.{Graph, Entries, meaning}
 use Rattle.list_run.specs.Runs.{CanRun, RowsFit, AreStreams, rows_at}
 use Rattle.list_run.specs.Table.{Advances, RowsStand, Stands, TableFits}
-use Rattle.list_run.proofs.Orders.{contains_here}
-use Rattle.list_run.proofs.Made.{Running}
 use Rattle.list_run.proofs.Shapes.{running}
 use Rattle.list_run.proofs.Whole.{begins, finishes, rows_stand, table_begins}
+use Rattle.spl_value.proofs.Lists.{contains_here}
 
 -- the rest of the order is still to be run
 pub record Remains (c : CheckedGraph) (initial : List (List Item)) (rest : List ℕ) (table rows : List (List Item)) : Type 0 where

@@ -1,9 +1,8 @@
 -- What each operator of a graph that can run makes of the streams of its meaning.
-use Rattle.std.proofs.Common.{◌≡◌, ℕ, zero, suc, ◌+◌, ◌<◌, ◌==◌, nat_lt, ◌||◌, not, cond, Bool, true, false, List, [], ◌∷◌, ◌++◌, append_assoc, append-nil, refl, sym, ap, subst, ◌∙◌, map, length, slice_get, Option, Some, None, position, inl, inr, arith}
-use Rattle.std.specs.List.{concat, Contains, cons_option, filter_map, list_any}
+use Rattle.std.proofs.Common.{◌≡◌, ℕ, zero, suc, ◌+◌, ◌<◌, ◌==◌, nat_lt, ◌||◌, not, cond, Bool, true, false, List, [], ◌∷◌, ◌++◌, append_assoc, append-nil, refl, sym, ap, subst, ◌∙◌, length, slice_get, Option, Some, None, position, inl, inr, arith}
+use Rattle.std.specs.List.{concat, Contains, cons_option, list_any}
 use Rattle.std.proofs.lemmas.Bool.{eqb-true, eq-eqb, or_cases, or_right}
 use Rattle.std.proofs.lemmas.List.Elements.{Contains-append_cases, filter_map-append}
-use Rattle.std.proofs.lemmas.List.Folds.{list_any_at}
 use Rattle.std.proofs.lemmas.Option.{slice_get_within}
 use Rattle.spl_value.specs.declared.item.Item.{Item}
 use Rattle.spl_tree.specs.declared.graph.Op.{Op}
@@ -14,19 +13,18 @@ use Rattle.language_model.specs.declared.checked.Part.{Part}
 use Rattle.language_model.specs.declared.checked.Part.TheVariants as A
 use Rattle.language_model.specs.CheckedGraph.{CheckedGraph}
 use Rattle.stream_model.specs.CheckedMeaning.{operator_with, kind_of, first_schema}
-use Rattle.language_model.specs.FlatLaws.{IsMadeAs}
 use Rattle.language_model.specs.Keeping.{Keeps}
-use Rattle.stream_model.specs.Laws.{GraphLaw, makes_stream, reads_stream, is_made}
-use Rattle.stream_model.specs.Meaning.{Graph, Lists, Entries, meaning, makes, made_by, events_at, connections, in_topo}
+use Rattle.stream_model.specs.Laws.{GraphLaw, makes_stream, is_made}
+use Rattle.stream_model.specs.Meaning.{Graph, Lists, Entries, meaning, makes, events_at, in_topo}
 use Rattle.stream_model.specs.PathLaws.{passed}
 use Rattle.stream_model.proofs.PathLaws.{filter_out}
-use Rattle.stream_model.specs.React.{Kind, Operator, Source, FileSource, Filter, FileSink}
+use Rattle.stream_model.specs.React.{Kind, Operator, Source, FileSource, Filter}
 use Rattle.stream_model.specs.Stages.{out}
-use Rattle.stream_model.specs.Stream.{Event, came}
 use Rattle.list_run.specs.Runs.{CanRun}
 use Rattle.list_run.specs.Table.{ops_at}
-use Rattle.list_run.proofs.GraphOperators.{Shape, source, filter, sink, shape_of, operator_at, operator_there, same_topo, same_length, there_is}
-use Rattle.list_run.proofs.Orders.{Split, split_at, contains_here, contains_from_any, any_from_contains, maker_in, made_from, is_ordered}
+use Rattle.list_run.proofs.GraphOperators.{Shape, source, filter, sink, shape_of, operator_at, operator_there, same_topo, same_length}
+use Rattle.list_run.proofs.Orders.{split_at, any_from_contains, maker_in, made_from, is_ordered}
+use Rattle.spl_value.proofs.Lists.{contains_here, get_below as there_is}
 
 -- a graph that can run, and how its meaning follows its order
 pub record Running (c : CheckedGraph) (g : Graph) : Type 0 where

@@ -1,28 +1,21 @@
 -- The operators of a graph that can run, in its topological order, are ordered.
-use Rattle.std.proofs.Common.{◌≡◌, ℕ, zero, suc, ◌+◌, ◌<◌, ◌==◌, ◌||◌, Bool, true, false, List, [], ◌∷◌, ◌++◌, append_assoc, refl, sym, ap, subst, ◌∙◌, length, slice_get, Option, Some, None, inl, inr, arith}
+use Rattle.std.proofs.Common.{◌≡◌, ℕ, suc, ◌+◌, ◌==◌, ◌||◌, Bool, true, false, List, [], ◌∷◌, ◌++◌, append_assoc, refl, sym, ap, subst, ◌∙◌, slice_get, Option, Some, None, inl, inr}
 use Rattle.std.specs.List.{concat, Contains, cons_option, filter_map, list_any}
 use Rattle.std.proofs.lemmas.Bool.{cases_Bool, eqb-true, eq-eqb, or_cases, or_right}
 use Rattle.std.proofs.lemmas.List.Elements.{Contains-append_left, Contains-append_right}
 use Rattle.std.proofs.lemmas.List.Folds.{list_any_at}
-use Rattle.spl_tree.specs.declared.graph.Op.{Op}
 use Rattle.spl_tree.specs.declared.graph.Stream.{Stream}
 use Rattle.language_model.specs.CheckedGraph.{CheckedGraph}
-use Rattle.stream_model.specs.CheckedMeaning.{graph_of, operator_with}
-use Rattle.language_model.specs.FlatLaws.{IsMadeAs, IsTopological}
+use Rattle.stream_model.specs.CheckedMeaning.{graph_of}
+use Rattle.language_model.specs.FlatLaws.{IsMadeAs}
 use Rattle.language_model.specs.Keeping.{Keeps}
 use Rattle.stream_model.specs.Laws.{makes_stream, reads_stream, is_made, IsOrdered}
 use Rattle.stream_model.specs.Meaning.{Graph, connections, in_topo}
 use Rattle.stream_model.specs.React.{Operator}
-use Rattle.list_run.specs.Table.{ops_at}
 use Rattle.list_run.proofs.GraphOperators.{operator_at, same_topo}
+use Rattle.spl_value.proofs.Lists.{contains_here, contains_later}
 
 -- ---- lists
-
-pub contains_here : (n : ℕ) (ns : List ℕ) → Contains (n ∷ ns) n
-contains_here n ns = (0, omega arith, refl)
-
-pub contains_later : (m n : ℕ) (ns : List ℕ) → Contains ns n → Contains (m ∷ ns) n
-contains_later m n ns h = (suc h.0, (let lt : h.0 < length ns = h.1 in omega arith), h.2)
 
 -- a number that is in a list stands at some place of it
 pub place_of : (s : ℕ) (ns : List ℕ) → list_any (λ n. n == s) ns ≡ true → (p : ℕ) × (slice_get ns p ≡ Some s)

@@ -15,11 +15,7 @@ use Rattle.stream_model.specs.React.{Operator, Kind}
 use Rattle.list_run.specs.Sinks.{op_reads, reads_at, is_sink, is_sink_part, is_sunk, sinks_at, sinks_stream}
 use Rattle.list_run.specs.Table.{ops_at}
 use Rattle.list_run.proofs.GraphOperators.{operator_at, operator_there, same_length}
-
-pub front_of : {A : Type 0} (xs : List A) (i : ℕ) (x : A) → slice_get xs i ≡ Some x → drop i xs ≡ x ∷ drop (suc i) xs
-front_of [] i x e = absurd cc
-front_of (y ∷ xs) zero x e = let same : y ≡ x = cc in ap (λ z. z ∷ xs) same
-front_of (y ∷ xs) (suc i) x e = front_of xs i x e
+use Rattle.spl_value.proofs.Lists.{next_rest as front_of}
 
 pub drop_past : {A : Type 0} (xs : List A) (i : ℕ) → length xs ≤ i → drop i xs ≡ []
 drop_past [] zero h = refl

@@ -1,9 +1,9 @@
 -- The table of streams, from one operator to the next.
-use Rattle.std.proofs.Common.{◌≡◌, ℕ, zero, suc, ◌<◌, ◌==◌, ◌||◌, not, Bool, true, false, cond, if◌then◌else◌, List, [], ◌∷◌, ◌++◌, append_assoc, refl, sym, ap, subst, ◌∙◌, length, slice_get, Option, Some, None, inl, inr, arith}
+use Rattle.std.proofs.Common.{◌≡◌, ℕ, zero, suc, ◌<◌, ◌==◌, ◌||◌, not, Bool, true, false, List, [], ◌∷◌, ◌++◌, append_assoc, refl, sym, ap, subst, ◌∙◌, length, slice_get, Option, Some, None, inl, inr, arith}
 use Rattle.std.specs.Prelude.{slice_set, ◌⊎◌}
 use Rattle.std.specs.List.{concat, Contains, cons_option, list_any}
 use Rattle.std.specs.Option.{unwrap_or}
-use Rattle.std.proofs.lemmas.Bool.{cases_Bool, eqb-true, eq-eqb, or_cases, or_left, or_right, or_parts, or_from}
+use Rattle.std.proofs.lemmas.Bool.{cases_Bool, eqb-true, eq-eqb, or_cases, or_left, or_right, or_from}
 use Rattle.std.proofs.lemmas.List.Elements.{Contains-append_right}
 use Rattle.std.proofs.lemmas.Option.{slice_get_within}
 use Rattle.spl_value.specs.declared.item.Item.{Item}
@@ -12,7 +12,7 @@ use Rattle.spl_tree.specs.declared.code.Code.{Code}
 use Rattle.spl_tree.specs.declared.code.Slot.{Slot}
 use Rattle.language_model.specs.declared.checked.Part.TheVariants as A
 use Rattle.language_model.specs.CheckedGraph.{CheckedGraph}
-use Rattle.stream_model.specs.CheckedMeaning.{operator_with, kind_of, schema_at, first_schema}
+use Rattle.stream_model.specs.CheckedMeaning.{operator_with, schema_at, first_schema}
 use Rattle.stream_model.specs.Ends.{is_read}
 use Rattle.stream_model.specs.Laws.{makes_stream, reads_stream, is_made}
 use Rattle.stream_model.specs.Meaning.{Graph, Lists, Entries, meaning, connections}
@@ -22,16 +22,12 @@ use Rattle.list_run.specs.Fitting.{IsStream}
 use Rattle.list_run.specs.Runs.{rows_at}
 use Rattle.list_run.specs.Sinks.{is_sunk, stays}
 use Rattle.list_run.specs.Table.{ops_at, RowsStand, TableFits, is_wanted, left_of, Stands}
-use Rattle.list_run.proofs.Orders.{contains_here, contains_later, is_ordered, not_before}
+use Rattle.list_run.proofs.Orders.{is_ordered, not_before}
 use Rattle.list_run.proofs.Made.{Running, operator_is, around, only_makes, source_stream, filter_stream}
 use Rattle.list_run.proofs.Streams.{passed_ends, passed_fit}
+use Rattle.spl_value.proofs.Lists.{contains_here, contains_later, get_set_same}
 
 -- ---- lists
-
-pub get_set_same : {A : Type 0} (xs : List A) (k : ℕ) (x : A) → k < length xs → slice_get (slice_set xs k x) k ≡ Some x
-get_set_same [] k x h = absurd (omega (arith, h))
-get_set_same (y ∷ xs) zero x h = refl
-get_set_same (y ∷ xs) (suc k) x h = get_set_same xs k x (omega (arith, h))
 
 pub get_set_other : {A : Type 0} (xs : List A) (k j : ℕ) (x : A) → (k ≡ j → ⊥) → slice_get (slice_set xs k x) j ≡ slice_get xs j
 get_set_other [] k j x apart = refl

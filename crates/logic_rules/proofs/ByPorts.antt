@@ -9,6 +9,7 @@ use Rattle.language_model.specs.declared.checked.Handled.{Handled}
 use Rattle.language_model.specs.declared.checked.StateVariable.{StateVariable}
 use Rattle.language_model.specs.LogicTyping.{handler_of, handlers_on, is_event}
 use Rattle.logic_rules.specs.Handling.{made_of}
+use Rattle.spl_value.proofs.Bools.{and_false as false_behind}
 
 -- ---- ports without handlers
 
@@ -24,10 +25,6 @@ none_each event other port zero = refl
 none_each event other port (suc n) = ap (λ xs. None ∷ xs) (none_each event other (suc port) n)
 
 -- ---- one handler in front of others
-
-false_behind : (b : Bool) → (b && false) ≡ false
-false_behind true = refl
-false_behind false = refl
 
 set_nothing : {A : Type 0} (d : ℕ) (y : A) → slice_set [] d y ≡ []
 set_nothing zero y = refl

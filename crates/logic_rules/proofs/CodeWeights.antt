@@ -8,7 +8,7 @@ use Rattle.spl_tree.specs.declared.code.Code.TheViews.{out-Code}
 use Rattle.spl_tree.specs.declared.code.Code.TheFolds.{fold-Code, fold_out-Code, map-Code}
 use Rattle.spl_tree.specs.declared.code.Slot.{Slot}
 use Rattle.spl_tree.specs.declared.code.UnaryCode.{UnaryCode}
-use Rattle.logic_rules.proofs.ExprWeights.{total}
+use Rattle.spl_value.proofs.Lists.{total}
 
 -- of the forms whose parts are looked at
 abbrev level_weight : Code-F Slot ℕ → ℕ

@@ -24,8 +24,8 @@ use Rattle.language_model.specs.Finds.{Finds}
 use Rattle.written_types.specs.declared.finding.TypeScope.{TypeScope}
 use Rattle.written_types.specs.TypeScopes.{types_in}
 use Rattle.logic_rules.specs.Handling.{handled_in, handlers_found, handlers_in, made_of, seen_scope, surroundings}
-use Rattle.logic_rules.proofs.FoundRows.{drop_at}
-use Rattle.logic_rules.proofs.Steps.{finds_by, goes, stops}
+use Rattle.language_model.proofs.FoundAnswers.{finds_by, goes, stops}
+use Rattle.spl_value.proofs.Lists.{drop_at}
 
 abbrev second : {A B : Type 0} → B → Found (A × B) → B
 second y (Ok x) = x.1

@@ -1,8 +1,6 @@
-pub mod ExprWeights
 pub mod CodeWeights
 pub mod PlainLaws
 pub mod StateValueLaws
-pub mod Steps
 pub mod Lists
 pub mod FoundRows
 pub mod StateTyping

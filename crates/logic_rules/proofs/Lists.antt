@@ -1,5 +1,5 @@
 -- Items that are taken out of lists and put back.
-use Rattle.std.specs.Prelude.{◌≡◌, ◌+◌, ◌<◌, ℕ, zero, suc, Bool, true, false, List, [], ◌∷◌, length, if◌then◌else◌, slice_get, Option, Some, None, remove, insert}
+use Rattle.std.specs.Prelude.{◌≡◌, ◌+◌, ℕ, zero, suc, Bool, true, false, List, [], ◌∷◌, if◌then◌else◌, slice_get, Option, Some, None, remove, insert}
 use Rattle.std.proofs.Common.{refl, ap, sym, subst, ◌∙◌, arith}
 use Rattle.language_model.specs.Scopes.{At, at_place, first_from}
 
@@ -8,11 +8,6 @@ pub put_back : {A : Type 0} (xs : List A) (i : ℕ) (x : A) → slice_get xs i �
 put_back [] i x e = cc
 put_back (y ∷ ys) zero x e = let q : y ≡ x = cc in ap (λ z. z ∷ ys) (sym q)
 put_back (y ∷ ys) (suc i) x e = ap (λ zs. y ∷ zs) (put_back ys i x e)
-
-pub get_within : {A : Type 0} (xs : List A) (i : ℕ) (x : A) → slice_get xs i ≡ Some x → i < length xs
-get_within [] i x e = cc
-get_within (y ∷ ys) zero x e = omega arith
-get_within (y ∷ ys) (suc i) x e = let h = get_within ys i x e in omega arith
 
 module _ {A : Type 0} (p : A → Bool) where
   -- what was found in a list that begins at a place is there

@@ -7,16 +7,13 @@ use Rattle.std.proofs.lemmas.Option.{unwrap_or-slice_get}
 use Rattle.std.proofs.lemmas.Bool.{eqb-true, eqb-false}
 use Rattle.language_model.specs.OutputTyping.{Assigned, is_assigned, places}
 use Rattle.output_rules.specs.Marking.{Tells}
+use Rattle.spl_value.proofs.Bools.{or_false as or_none}
 
 or_over : (a b c : Bool) → (a || (b || c)) ≡ ((b || a) || c)
 or_over true true c = refl
 or_over true false c = refl
 or_over false true c = refl
 or_over false false c = refl
-
-or_none : (a : Bool) → (a || false) ≡ a
-or_none true = refl
-or_none false = refl
 
 all_places : {A : Type 0} (before : List ℕ) (xs : Assigned A) (k : ℕ)
     → list_any (λ n. n == k) (places before xs) ≡ (is_assigned k xs || list_any (λ n. n == k) before)

@@ -14,7 +14,9 @@ use Rattle.language_model.specs.declared.answer.TypeAnswer.{TypeAnswer}
 use Rattle.language_model.specs.Finds.{Finds, with_front}
 use Rattle.output_rules.specs.Marking.{Tells}
 use Rattle.output_rules.proofs.OutputMarks.{tells_more}
-use Rattle.output_rules.proofs.OutputSteps.{drop_at, finds_by, front_more, front_on, stops}
+use Rattle.output_rules.proofs.OutputSteps.{front_more, front_on}
+use Rattle.language_model.proofs.FoundAnswers.{finds_by, stops}
+use Rattle.spl_value.proofs.Lists.{drop_at}
 
 places-append : {A : Type 0} (before : List ℕ) (xs ys : Assigned A) → places before (xs ++ ys) ≡ places (places before xs) ys
 places-append before [] ys = refl

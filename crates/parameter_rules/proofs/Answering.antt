@@ -1,6 +1,6 @@
 -- How the answers of calls go together, as the definitions do.
 use Rattle.std.specs.Prelude.{◌≡◌, ℕ, ◌+◌, ◌<◌, ◌≤◌, List, [], ◌∷◌, ◌++◌, length, drop, Some, Result, Ok, Err, IsErrAnd}
-use Rattle.std.proofs.Common.{refl, ap, sym, subst, ◌∙◌, append_assoc, append-nil, get_or}
+use Rattle.std.proofs.Common.{ap, sym, subst, ◌∙◌, append_assoc, append-nil, get_or}
 use Rattle.std.proofs.lemmas.List.{drop_all}
 use Rattle.std.proofs.lemmas.Result.{err_from_is_err_and}
 use Rattle.language_model.specs.declared.scope.CheckError.{CheckError}
@@ -10,21 +10,8 @@ use Rattle.language_model.specs.declared.answer.TypeAnswer.{TypeAnswer}
 use Rattle.language_model.specs.declared.answer.TypeAnswer.TheVariants.{Refused, Memory}
 use Rattle.language_model.specs.Finds.{Finds, with_front}
 use Rattle.parameter_rules.specs.Refusals.{Refuses}
-use Rattle.parameter_rules.proofs.Lists.{drop_at}
-
-pub stops : {A B : Type 0} (o : Found A) (f : A → Found B) (e : TypeAnswer) → Finds o (Err e) → Finds (after o f) (Err e)
-stops o f (Refused r) h = ap (λ o. after o f) h
-stops o f Memory h = tt
-
-pub goes : {A B : Type 0} (o : Found A) (f : A → Found B) (x : A) (r : Result B TypeAnswer) → o ≡ Ok x → Finds (f x) r → Finds (after o f) r
-goes o f x r h g = subst (λ o. Finds (after o f) r) (sym h) g
-
-pub finds_by : {A : Type 0} (o p : Found A) (r : Result A TypeAnswer) → o ≡ p → Finds p r → Finds o r
-finds_by o p r e g = subst (λ o. Finds o r) (sym e) g
-
-pub after_after : {A B C : Type 0} (o : Found A) (f : A → Found B) (h : B → Found C) → after (after o f) h ≡ after o (λ x. after (f x) h)
-after_after (Ok x) f h = refl
-after_after (Err r) f h = refl
+use Rattle.language_model.proofs.FoundAnswers.{after_after, finds_by, stops}
+use Rattle.spl_value.proofs.Lists.{drop_at}
 
 -- what is said of an error that `?` hands on
 pub fails : {B : Type 0} (o p : Found B) (r : Result B TypeAnswer) (e : TypeAnswer) → IsErrAnd r (λ y. y ≡ e) → o ≡ p → Finds p (Err e) → Finds o r

@@ -20,7 +20,7 @@ use Rattle.parameter_rules.specs.declared.parameters.roles.Role as C
 use Rattle.parameter_rules.specs.declared.parameters.roles.Role.TheVariants as R
 use Rattle.parameter_rules.specs.Roles.{role_seen}
 use Rattle.parameter_rules.proofs.Answering.{IsRow}
-use Rattle.parameter_rules.proofs.Lists.{drop_at}
+use Rattle.spl_value.proofs.Lists.{drop_at}
 
 -- a parameter of another role than attributes has one value
 pub other_value : (site : Site) (p : Parameter) (role : C.Role) → (role ≡ R.Attributes → ⊥)

@@ -20,8 +20,9 @@ use Rattle.language_model.specs.declared.answer.TypeAnswer.{TypeAnswer}
 use Rattle.language_model.specs.Finds.{Finds, with_front}
 use Rattle.parameter_rules.specs.declared.windows.measures.Measure.{Measure}
 use Rattle.parameter_rules.specs.Windows.{counted, differing}
-use Rattle.parameter_rules.proofs.Answering.{IsRow, after_after, finds_by, stops}
+use Rattle.parameter_rules.proofs.Answering.{IsRow}
 use Rattle.parameter_rules.proofs.Lists.{some_at}
+use Rattle.language_model.proofs.FoundAnswers.{after_after, finds_by, stops}
 
 -- what is made of what a part measures, where it measures something
 abbrev pub measure_or : {A : Type 0} → (Measure → A) → Found A → Option Measure → Found A

@@ -11,14 +11,11 @@ use Rattle.spl_tree.specs.declared.graph.Op.{Op}
 use Rattle.language_model.specs.declared.checked.Part.{Part}
 use Rattle.language_model.specs.declared.checked.Part.TheVariants as A
 use Rattle.language_model.specs.CheckedGraph.{CheckedGraph}
-use Rattle.stream_model.specs.CheckedMeaning.{graph_of, kind_of, operator_with, operators_from, with_operator}
-use Rattle.stream_model.specs.Meaning.{Graph, connections}
-use Rattle.stream_model.specs.React.{Kind, Operator}
+use Rattle.stream_model.specs.CheckedMeaning.{kind_of, operator_with, operators_from, with_operator}
+use Rattle.stream_model.specs.Meaning.{connections}
+use Rattle.stream_model.specs.React.{Operator}
 use Rattle.spl_driver.specs.Built.{is_built_graph, is_built_now, has_numbers, has_several, is_built_operator, are_built}
-
-and-false : (b : Bool) → (b && false) ≡ false
-and-false true = refl
-and-false false = refl
+use Rattle.spl_value.proofs.Bools.{and_false as and-false}
 
 -- whether an operator of the graph is built
 abbrev is_built_one : CheckedGraph → Operator → Bool

@@ -20,13 +20,14 @@ use Rattle.command_line.specs.declared.request.RunOptions.{RunOptions}
 use Rattle.check_laws.specs.Files.{source_files, sink_files, is_named}
 use Rattle.spl_driver.specs.Built.{is_built, is_built_graph, is_built_now, is_plain, is_given}
 use Rattle.spl_driver.specs.Files.{opens, creates, if_given, built_parts}
-use Rattle.spl_driver.specs.Outcome.{Outcome, NotBuilt, Checks, Runs, meant, with_sources, with_graph}
+use Rattle.spl_driver.specs.Outcome.{NotBuilt, Checks, Runs, meant, with_sources, with_graph}
 use Rattle.spl_driver.specs.Answer.{Stands, OpenFailed, CreateFailed}
 use Rattle.spl_driver.specs.Lines.{IsLine}
 use Rattle.spl_driver.specs.Steps.{IsRunOf, IsCarried, CarriedComes, CountsShow, FilesShow}
 use Rattle.spl_driver.specs.declared.ended.Ended.{Ended}
 use Rattle.spl_driver.proofs.Running.{not_built_files}
 use Rattle.spl_driver.proofs.Standing.{told_same}
+use Rattle.spl_value.proofs.Bools.{or_last as or_here}
 
 -- ---- a check
 
@@ -97,10 +98,6 @@ ran_files told now request p options c ended counts later e built graph h =
 or_rest : (a b c : Bool) → ((a || b) || c) ≡ false → (b || c) ≡ false
 or_rest true b c e = cc
 or_rest false b c e = e
-
-or_here : (a b : Bool) → b ≡ true → (a || b) ≡ true
-or_here true b e = refl
-or_here false b e = e
 
 pub ran_counts : (request : Request) (p : List ℕ) (options : RunOptions) (c : CheckedGraph) (cause : Cause) (old new : PerName) → request ≡ R.Run p options → is_built request ≡ true → is_built_now c ≡ true
     → CountsShow cause (source_files c.parts) (sink_files c.parts) old new → CountsShow cause (opens (Some request) (built_parts c)) (creates (Some request) (built_parts c)) old new

@@ -1,10 +1,9 @@
 -- A file read as a whole: what the counts and the script show of it.
-use Rattle.std.proofs.Common.{◌≡◌, ◌≢◌, ◌-◌, ◌^◌, ◌<◌, ◌≤◌, ℕ, List, [], ◌∷◌, length, Bool, true, false, refl, sym, ◌∙◌, ap, subst, arith, inl, inr, ◌⊎◌, Option, Some, None, nat_le}
+use Rattle.std.proofs.Common.{◌≡◌, ◌≢◌, ◌-◌, ◌^◌, ◌<◌, ◌≤◌, ℕ, List, [], ◌∷◌, length, Bool, true, false, refl, sym, ◌∙◌, ap, subst, arith, inl, inr, Option, Some, None, nat_le}
 use Rattle.std.specs.Prelude.{IfSome, ◌||◌, ◌&&◌}
-use Rattle.std.specs.Bool.{Decides}
 use Rattle.std.specs.Str.{bytes_eq}
 use Rattle.std.proofs.lemmas.Slice.Eq.{bytes_eq-Decides}
-use Rattle.spl_value.specs.Script.{Script, End}
+use Rattle.spl_value.specs.Script.{Script}
 use Rattle.feed_pour.specs.Counts.{Counts, PerName, Counted, OthersStay}
 use Rattle.feed_pour.specs.Contents.{Told, WhereTold, TellsSame}
 use Rattle.feed_pour.specs.Named.{FetchedOf, FetchCounted, open_failed, read_failed}
@@ -14,12 +13,7 @@ use Rattle.check_laws.specs.Files.{is_named}
 use Rattle.spl_driver.specs.Outcome.{is_failed, has_fault}
 use Rattle.spl_driver.specs.Answer.{NoCountChanged, ReadsFailed, OpenFailed}
 use Rattle.spl_driver.specs.Steps.{OnlyOpened, OpensCounted}
-
-pub same_or_not : (a b : List ℕ) → (a ≡ b) ⊎ (a ≢ b)
-same_or_not a b = elim (bytes_eq a b) as (λ r. Decides r (a ≡ b) → (a ≡ b) ⊎ (a ≢ b)) [
-  | true ↦ λ d. inl (d.0 refl)
-  | false ↦ λ d. inr (λ e. let h : false ≡ true = d.1 e in cc)
-] (bytes_eq-Decides a b)
+use Rattle.spl_value.proofs.Lists.{same_or_not}
 
 -- ---- counts
 

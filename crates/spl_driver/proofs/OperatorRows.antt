@@ -9,7 +9,6 @@ use Rattle.std.proofs.lemmas.List.{map-append, take_more}
 use Rattle.std.proofs.lemmas.Option.{slice_get_read}
 use Rattle.std.proofs.lemmas.List.Elements.{filter_map-append}
 use Rattle.std.proofs.lemmas.List.Folds.{list_any-append, list_all-append}
-use Rattle.spl_value.specs.Script.{Script}
 use Rattle.spl_value.specs.declared.item.Item.{Item}
 use Rattle.spl_tree.specs.declared.graph.Op.{Op}
 use Rattle.feed_pour.specs.Counts.{Counts, PerName, Rose}
@@ -17,19 +16,19 @@ use Rattle.feed_pour.specs.Contents.{Told, WhereTold, TellsSame}
 use Rattle.language_model.specs.declared.checked.Part.{Part}
 use Rattle.language_model.specs.declared.checked.Part.TheVariants as A
 use Rattle.language_model.specs.CheckedGraph.{CheckedGraph}
-use Rattle.stream_model.specs.CheckedMeaning.{first_schema, graph_of, kind_of, operator_with, operators_from, with_operator}
+use Rattle.stream_model.specs.CheckedMeaning.{first_schema, kind_of, operator_with, operators_from, with_operator}
 use Rattle.stream_model.specs.Meaning.{Graph, connections}
 use Rattle.stream_model.specs.React.{Kind, Operator, Source, FileSource, Filter, FileSink}
-use Rattle.language_model.specs.StreamTypes.{Attributes}
 use Rattle.file_adapters.specs.Source.{is_number_schema}
 use Rattle.check_laws.specs.Files.{source_file, source_files, is_named}
-use Rattle.list_run.specs.Runs.{RowsFit, rows_at}
+use Rattle.list_run.specs.Runs.{rows_at}
 use Rattle.spl_driver.specs.Built.{is_built_graph, is_built_now, has_numbers, has_several}
 use Rattle.spl_driver.specs.Answer.{NoCountChanged}
 use Rattle.spl_driver.specs.Outcome.{rows_by, has_fault, holds_numbers}
 use Rattle.spl_driver.specs.Steps.{AreNumbers, RowsOf, RowsFor, HoldsOther, SourceTold, AllRead, all_numbers, RowsTold, SourcesOf, OpensCounted}
 use Rattle.spl_driver.proofs.NumberRows.{rows_before, other_before}
 use Rattle.spl_driver.specs.declared.sources.Sources.TheVariants as S
+use Rattle.spl_value.proofs.Bools.{and_false as and-false, or_last}
 
 -- ---- one operator more
 
@@ -72,10 +71,6 @@ pub record ReadTo (parts : List Part) (numbers : Bool) (told : Told) : Type 0 wh
 and-true : (b : Bool) → (b && true) ≡ b
 and-true true = refl
 and-true false = refl
-
-and-false : (b : Bool) → (b && false) ≡ false
-and-false true = refl
-and-false false = refl
 
 one_read : (part : Part) (items : List Item) (t : Told) → RowsOf part items (Some t) → ReadTo (part ∷ []) true t
 one_read (A.FileSource file strict) items t h = record {
@@ -160,18 +155,11 @@ other_on parts i part numbers after told mid within at h same one e =
     (subst (λ (b : Bool). IfSome told (ReadTo (take i parts ++ part ∷ []) b)) (sym e)
     (other_read told (take i parts) part numbers h (other_before part told mid same one)))
 
-pub false_true : {A : Type 0} (b : Bool) → b ≡ false → b ≡ true → A
-false_true b h e = let bad : false ≡ true = sym h ∙ e in cc
-
 -- ---- the files of one operator among those of all
 
 or_first : (b x : Bool) → (b || false) ≡ true → (b || x) ≡ true
 or_first true x h = refl
 or_first false x h = let bad : false ≡ true = h in cc
-
-or_last : (b x : Bool) → x ≡ true → (b || x) ≡ true
-or_last true x h = refl
-or_last false x h = h
 
 front_named : (file : Option (List ℕ)) (names : List (List ℕ)) (n : List ℕ) → is_named (cons_option file []) n ≡ true → is_named (cons_option file names) n ≡ true
 front_named None names n h = let bad : false ≡ true = h in cc

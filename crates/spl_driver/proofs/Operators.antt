@@ -17,6 +17,7 @@ use Rattle.stream_model.specs.React.{Operator, Kind, FileSink}
 use Rattle.language_model.specs.StreamTypes.{Attributes}
 use Rattle.list_run.specs.Runs.{CanRun}
 use Rattle.spl_driver.specs.Steps.{first_input}
+use Rattle.spl_value.proofs.Lists.{get_below as there_is}
 
 -- ---- the operators of the list
 
@@ -83,11 +84,6 @@ ops_made c g e = (graph_made c.graph.topo (operators_from c 0 c.graph.ops c.part
 
 pub same_length : (c : CheckedGraph) (g : Graph) → length c.parts ≡ length c.graph.ops → graph_of c ≡ Some g → length g.ops ≡ length c.graph.ops
 same_length c g l e = operators_length c 0 c.graph.ops c.parts g.ops l (ops_made c g e)
-
-there_is : {A : Type 0} (xs : List A) (n : ℕ) → n < length xs → (x : A) × (slice_get xs n ≡ Some x)
-there_is [] n h = absurd (omega (arith, h))
-there_is (x ∷ xs) zero h = (x, refl)
-there_is (x ∷ xs) (suc n) h = there_is xs n (omega (arith, h))
 
 -- the operator with a number, by the clauses with that number
 pub operator_at : (c : CheckedGraph) (g : Graph) → length c.parts ≡ length c.graph.ops → graph_of c ≡ Some g → (n : ℕ) (op : Op) (part : Part)

@@ -1,20 +1,17 @@
 -- What stands behind a run, from its streams and what was written of them.
-use Rattle.std.proofs.Common.{◌≡◌, ◌∙◌, ◌<◌, ◌≤◌, ◌+◌, ◌-◌, ◌^◌, ℕ, zero, suc, arith, slice_index_or, Bool, true, false, List, [], ◌∷◌, ◌++◌, map, length, refl, sym, ap, subst, inl, inr, ◌⊎◌, Option, Some, None, Result, Ok, Err}
+use Rattle.std.proofs.Common.{◌≡◌, ◌∙◌, ◌<◌, ◌≤◌, ◌+◌, ◌-◌, ◌^◌, ℕ, zero, suc, arith, slice_index_or, Bool, true, List, [], ◌∷◌, map, length, refl, sym, ap, subst, inl, inr, Option, Some, None, Result, Ok, Err}
 use Rattle.std.specs.Prelude.{IfSome, IfOk, ◌||◌}
-use Rattle.std.specs.Bool.{Decides}
-use Rattle.std.specs.List.{filter_map, Any}
+use Rattle.std.specs.List.{Any}
 use Rattle.std.specs.Str.{bytes_eq}
-use Rattle.std.proofs.lemmas.Slice.Eq.{bytes_eq-Decides}
 use Rattle.spl_value.specs.declared.item.Fault.{Fault}
 use Rattle.spl_value.specs.declared.item.Item.{Item}
 use Rattle.spl_value.specs.declared.memory.NoMemory.{NoMemory}
 use Rattle.spl_tree.specs.declared.graph.Op.{Op}
 use Rattle.language_model.specs.declared.checked.Part.{Part}
-use Rattle.feed_pour.specs.Counts.{Counts as Tallies, PerName, Rose}
+use Rattle.feed_pour.specs.Counts.{PerName}
 use Rattle.feed_pour.specs.Contents.{Told, WhereTold, TellsSame}
 use Rattle.stream_model.specs.declared.record.ArrivalList.{ArrivalList}
 use Rattle.stream_model.specs.declared.record.Arrivals.{Arrivals}
-use Rattle.stream_model.specs.declared.record.Counts.{Counts}
 use Rattle.stream_model.specs.declared.record.SinkCount.{SinkCount}
 use Rattle.language_model.specs.CheckedGraph.{CheckedGraph}
 use Rattle.stream_model.specs.CheckedMeaning.{graph_of}
@@ -28,16 +25,18 @@ use Rattle.check_laws.specs.Files.{source_files, sink_files, is_named, OwnFiles}
 use Rattle.file_adapters.specs.declared.sinks.Sink.{Sink}
 use Rattle.file_adapters.specs.declared.sinks.Sunk.{Sunk}
 use Rattle.file_adapters.specs.declared.sinks.Sunk.TheVariants as S
-use Rattle.file_adapters.specs.Sinks.{AreDistinct, SinksWritten, SinksCount, SinksCounted, SinksCause, RoseAt, is_file}
-use Rattle.list_run.specs.Runs.{CanRun, AreStreams}
+use Rattle.file_adapters.specs.Sinks.{AreDistinct, SinksWritten, SinksCount, SinksCounted, RoseAt, is_file}
+use Rattle.list_run.specs.Runs.{AreStreams}
 use Rattle.list_run.specs.SinkLaws.{SinkTextLaw, SinkCountLaw}
-use Rattle.spl_driver.specs.Outcome.{Outcome, NoRequest, Unreadable, Refused, NotBuilt, Checks, Runs, entries_in, meant, rows_told, several, with_graph}
-use Rattle.spl_driver.specs.Answer.{EachSink, HoldsText, HoldsPrefix, SameFiles, CarriedOut, Begun, Stands, OpenFailed, CreateFailed, NoCountChanged, ReadsFailed, cause_of, counts_of, IsRun}
-use Rattle.spl_driver.specs.Lines.{IsLine, IsLineOf}
-use Rattle.spl_driver.specs.Steps.{OnlyOpened, OpensCounted, StreamsFor, IsRunOf, RunComes, CountsShow, FilesShow, EndsAs, TellsRun, sinks_of, sinks_from, sink_of, sink_in_front, counts_from}
+use Rattle.spl_driver.specs.Outcome.{Outcome, NoRequest, Unreadable, Refused, NotBuilt, Checks, Runs, entries_in, meant, rows_told, with_graph}
+use Rattle.spl_driver.specs.Answer.{EachSink, HoldsText, HoldsPrefix, SameFiles, CarriedOut, Begun, Stands, CreateFailed, NoCountChanged, ReadsFailed, cause_of, counts_of, IsRun}
+use Rattle.spl_driver.specs.Lines.{IsLine}
+use Rattle.spl_driver.specs.Steps.{OpensCounted, StreamsFor, IsRunOf, RunComes, CountsShow, FilesShow, EndsAs, TellsRun, sinks_of, sinks_from, sink_of, sink_in_front, counts_from}
 use Rattle.spl_driver.specs.declared.ended.Ended.{Ended}
 use Rattle.spl_driver.proofs.SinkLemmas.{texts, prefixes, same_prefixes, counts_are, none_several, is_file_named, distinct}
-use Rattle.spl_driver.proofs.Standing.{BegunSame, same_told, same_counts, line_map}
+use Rattle.spl_driver.proofs.Standing.{BegunSame, same_told, same_counts}
+use Rattle.spl_value.proofs.Bools.{or_first, or_second, or_true}
+use Rattle.spl_value.proofs.Lists.{same_name}
 
 -- files that stay hold prefixes of any text
 pub begun_same : BegunSame
@@ -101,24 +100,6 @@ quiet_counts cause k opened created old new is other words quiet = record {
   quiet = λ a b. quiet;
   device = λ e. absurd (other (sym is ∙ e));
 }
-
-or_true : (a : Bool) → (a || true) ≡ true
-or_true true = refl
-or_true false = refl
-
-same_name : (name : List ℕ) → bytes_eq name name ≡ true
-same_name name = elim (bytes_eq name name) as (λ r. Decides r (name ≡ name) → r ≡ true) [
-  | true ↦ λ d. refl
-  | false ↦ λ d. let h : false ≡ true = d.1 refl in cc
-] (bytes_eq-Decides name name)
-
-or_first : (a b : Bool) → (a || b) ≡ false → a ≡ false
-or_first true b e = cc
-or_first false b e = refl
-
-or_second : (a b : Bool) → (a || b) ≡ false → b ≡ false
-or_second true b e = cc
-or_second false b e = e
 
 pub device_counts : (cause : Cause) (opened created : List (List ℕ)) (old new : PerName) → cause ≡ C.Device → OpensCounted true opened old new → CountsShow cause opened created old new
 device_counts cause opened created old new is counted = record {

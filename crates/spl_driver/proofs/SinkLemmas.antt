@@ -37,6 +37,7 @@ use Rattle.spl_driver.specs.Outcome.{if_several, several}
 use Rattle.spl_driver.specs.Steps.{counts_from, first_input, sink_of, sink_in_front, sinks_from, sinks_of}
 use Rattle.spl_driver.proofs.Operators.{ops_made, parted, sink_at}
 pub use Rattle.spl_driver.proofs.Operators.{sink_takes}
+use Rattle.spl_value.proofs.Bools.{and_left as and_first, and_right as and_second, or_last as or_second}
 
 -- ---- graphs that are built
 
@@ -46,14 +47,6 @@ graph_in f (Some g) e = (g, refl, e)
 
 pub graph_there : (c : CheckedGraph) → is_built_now c ≡ true → (g : Graph) × (graph_of c ≡ Some g) × (is_built_graph c g ≡ true)
 graph_there c e = graph_in (is_built_graph c) (graph_of c) e
-
-and_first : (a b : Bool) → (a && b) ≡ true → a ≡ true
-and_first true b e = refl
-and_first false b e = e
-
-and_second : (a b : Bool) → (a && b) ≡ true → b ≡ true
-and_second true b e = e
-and_second false b e = absurd cc
 
 all_at : {A : Type 0} (p : A → Bool) (xs : List A) → list_all p xs ≡ true → (n : ℕ) (x : A) → slice_get xs n ≡ Some x → p x ≡ true
 all_at p [] e n x at = absurd cc
@@ -175,10 +168,6 @@ pub is_file_named : (c : CheckedGraph) → length c.parts ≡ length c.graph.ops
 is_file_named c l n = named_file (sinks_of c) n ∙ ap (λ files. is_named files n) (files_from c.graph.ops c.parts l)
 
 -- ---- what a sink's operator is
-
-or_second : (a b : Bool) → b ≡ true → (a || b) ≡ true
-or_second true b h = refl
-or_second false b h = h
 
 any_at : {A : Type 0} (p : A → Bool) (xs : List A) (n : ℕ) (x : A) → slice_get xs n ≡ Some x → p x ≡ true → list_any p xs ≡ true
 any_at p [] n x at h = absurd cc

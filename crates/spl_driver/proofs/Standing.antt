@@ -1,9 +1,8 @@
 -- What stands behind each answer, from what the steps of a request did.
 use Rattle.std.proofs.Common.{◌≡◌, ◌∙◌, ℕ, Bool, true, false, List, [], ◌∷◌, ◌++◌, refl, sym, ap, subst, inl, inr, ◌⊎◌, Option, Some, None, Result, Ok, Err}
 use Rattle.std.specs.Prelude.{IfSome, ◌||◌, IfOk}
-use Rattle.feed_pour.specs.Counts.{PerName, Rose}
+use Rattle.feed_pour.specs.Counts.{PerName}
 use Rattle.feed_pour.specs.Contents.{Told, WhereTold, TellsSame}
-use Rattle.spl_value.specs.declared.item.Fault.{Fault}
 use Rattle.spl_value.specs.declared.memory.NoMemory.{NoMemory}
 use Rattle.language_model.specs.declared.checked.Part.{Part}
 use Rattle.stream_model.specs.declared.record.Arrivals.{Arrivals}
@@ -12,21 +11,20 @@ use Rattle.language_model.specs.CheckedGraph.{CheckedGraph}
 use Rattle.run_report.specs.declared.cause.Cause.{Cause}
 use Rattle.run_report.specs.declared.cause.Cause.TheVariants as C
 use Rattle.run_report.specs.declared.refusal.Refusal.{Refusal}
-use Rattle.run_report.specs.Refusals.{refusal_of}
 use Rattle.command_line.specs.declared.request.Request.{Request}
 use Rattle.command_line.specs.declared.request.Request.TheVariants as R
 use Rattle.command_line.specs.Request.{file_names}
 use Rattle.check_laws.specs.Files.{is_named}
 use Rattle.spl_driver.specs.Built.{is_built}
 use Rattle.spl_driver.specs.Files.{opens, creates, program_of, built_parts}
-use Rattle.spl_driver.specs.Outcome.{Outcome, NoRequest, Unreadable, Refused, NotBuilt, Checks, Runs, has_fault, with_program, carried_out, IsOutcomeBehind, IsOutcomeOf, IsOutcomeWhere, IsOutcome, ArePartsBehind, ArePartsOf, ArePartsIn}
-use Rattle.spl_driver.specs.Answer.{SameFiles, Begun, Stands, OpenFailed, CreateFailed, DeviceFailed, NoCountChanged, ReadsFailed, Answered, SomeRose, Shown, IsOr, Untouched, ByWords}
+use Rattle.spl_driver.specs.Outcome.{Outcome, NoRequest, Refused, NotBuilt, Checks, Runs, has_fault, with_program, carried_out, IsOutcomeBehind, IsOutcomeOf, IsOutcomeWhere, IsOutcome, ArePartsBehind, ArePartsOf, ArePartsIn}
+use Rattle.spl_driver.specs.Answer.{SameFiles, Begun, Stands, OpenFailed, CreateFailed, DeviceFailed, NoCountChanged, ReadsFailed, Answered, SomeRose, Shown}
 use Rattle.spl_driver.specs.Lines.{Comes, IsLine, IsLineOf}
 use Rattle.spl_driver.specs.RequestLaws.{OneOutcomeLaw, OnePartsLaw}
-use Rattle.spl_driver.specs.Steps.{OnlyOpened, OpensCounted, CompiledAt, compile_failed, IsCarried, CarriedComes, CountsShow, FilesShow}
-use Rattle.spl_driver.specs.declared.compiled.Compiled.{Compiled}
+use Rattle.spl_driver.specs.Steps.{OpensCounted, CompiledAt, IsCarried, CarriedComes, CountsShow, FilesShow}
 use Rattle.spl_driver.specs.declared.compiled.Compiled.TheVariants as P
 use Rattle.spl_driver.specs.declared.ended.Ended.{Ended}
+use Rattle.spl_value.proofs.Bools.{or_false as or_none, or_left as or_true}
 
 -- ---- shelves that tell the same
 
@@ -148,14 +146,6 @@ opens_program (R.Make name rows start) program parts e = absurd cc
 or_first : (a b c : Bool) → ((a || b) || c) ≡ false → a ≡ false
 or_first true b c e = cc
 or_first false b c e = refl
-
-or_none : (a : Bool) → (a || false) ≡ a
-or_none true = refl
-or_none false = refl
-
-or_true : (a b : Bool) → a ≡ true → (a || b) ≡ true
-or_true true b e = refl
-or_true false b e = absurd cc
 
 -- a refusal of the program
 pub refused_answer : (told now : Option Told) (request : Request) (program : List ℕ) (refusal : Refusal) (ended : Ended) (counts later : PerName)

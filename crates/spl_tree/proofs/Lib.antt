@@ -7,3 +7,4 @@ pub mod WeightLaws
 pub mod WordLaws
 pub mod TokenLaws
 pub mod UnitSpellings
+pub mod ExprWeights

@@ -27,8 +27,9 @@ use Rattle.spl_tree.specs.Tokens.{Refusal, word_kind, number_kind, digits, suffi
 use Rattle.spl_tree.specs.Laws.{Cut, done, gap, token, RangesLaw}
 use Rattle.spl_tree.proofs.CutLaws.{cut_law}
 use Rattle.spl_tree.specs.Grammar as G
-use Rattle.spl_tree.specs.Grammar.{Expr, Prefix, placed, Literal, Primary, Elements, Items, Entries, Fields, Steps, Operand, Unary, At, Spells}
+use Rattle.spl_tree.specs.Grammar.{Expr, placed, Literal, Primary, Elements, Items, Entries, Fields, Steps, Operand, Unary, At, Spells}
 use Rattle.spl_tree.specs.Ranges.{number_in_range, step_in_range, level_in_range, in_range}
+use Rattle.spl_value.proofs.Lists.{all_left, all_right}
 
 -- ---- tokens
 
@@ -82,14 +83,6 @@ cut_ranged (gap at text rest ts g c) = cut_ranged c
 cut_ranged (token at kind text rest ts t c) = (subst RangedIn t.is (kind_ranged text), cut_ranged c)
 
 -- ---- lists
-
-all_left : {A : Type 0} (P : A → Type 0) (xs ys : List A) → AllByRecursion P (xs ++ ys) → AllByRecursion P xs
-all_left P [] ys h = tt
-all_left P (x ∷ xs) ys h = (h.0, all_left P xs ys h.1)
-
-all_right : {A : Type 0} (P : A → Type 0) (xs ys : List A) → AllByRecursion P (xs ++ ys) → AllByRecursion P ys
-all_right P [] ys h = h
-all_right P (x ∷ xs) ys h = all_right P xs ys h.1
 
 all_more : {A : Type 0} (P : A → Type 0) (xs : List A) (x : A) → AllByRecursion P xs → P x → AllByRecursion P (xs ++ x ∷ [])
 all_more P [] x h here = (here, tt)

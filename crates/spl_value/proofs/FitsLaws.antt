@@ -5,7 +5,6 @@ use Rattle.std.specs.declared.cmp.Ordering.TheVariants.{Less, Equal, Greater}
 use Rattle.std.specs.Ordering.{eq_by_cmp}
 use Rattle.std.specs.Cmp.{first_so, second_so}
 use Rattle.std.specs.Cmp.Derive.{both_true}
-use Rattle.std.specs.Cmp.Lexicographic.{pointwise}
 use Rattle.std.specs.FinMap.Entries.{by_order}
 use Rattle.std.proofs.Common.{refl, sym, ap, ◌∙◌}
 use Rattle.std.proofs.lemmas.Int.{to_z-of_z}
@@ -29,12 +28,7 @@ use Rattle.spl_value.proofs.OrderLaws.{value_cmp-IsAntisymmetric}
 use Rattle.spl_value.specs.Pairs.{are_pairs, pairs_get, pairs_put, pairs_without}
 use Rattle.spl_value.proofs.PairsLaws.{put_are_pairs, without_are_pairs}
 use Rattle.spl_value.proofs.Induction.{TypeSteps, type_ind}
-
-pointwise-map : {A B C : Type 0} (R : B → C → Bool) (f : A → B) (xs : List A) (ys : List C) → pointwise R (map f xs) ys ≡ pointwise (λ x y. R (f x) y) xs ys
-pointwise-map R f [] [] = refl
-pointwise-map R f [] (y ∷ ys) = refl
-pointwise-map R f (x ∷ xs) [] = refl
-pointwise-map R f (x ∷ xs) (y ∷ ys) = ap (λ b. R (f x) y && b) (pointwise-map R f xs ys)
+use Rattle.spl_value.proofs.Lists.{pointwise-map}
 
 level_fits-map : {A B : Type 0} (f : A → B) (R : B → Value → Bool) (t : SplType-F A) (x : Value-F Value) → level_fits R (map-SplType A B f t) x ≡ level_fits (λ a v. R (f a) v) t x
 level_fits-map f R (T.Int k) (O.Int n) = refl

@@ -17,19 +17,12 @@ use Rattle.spl_value.specs.declared.value.Value.TheOpen.{Value-F}
 use Rattle.spl_value.specs.declared.value.Value.TheViews.{out-Value, roll-Value, roll-out-Value}
 use Rattle.spl_value.specs.Values.{modulus, top, kind_holds, level_fits, fits}
 use Rattle.spl_value.proofs.FitsLaws.{fits_is}
-use Rattle.spl_value.proofs.WrapLaws.{sizes, true_lt}
+use Rattle.spl_value.proofs.WrapLaws.{sizes}
 use Rattle.spl_value.specs.Key.{level_is_key, is_key_option, are_key_places, key_of, enc_integer, level_enc, enc_value, enc_values, level_is_key_type, is_key_type, level_is_short, is_short, key_fits}
 use Rattle.spl_value.specs.KeyLaws.{KeyPlacesLaw, KeyTypesLaw, OneKeyLaw, SameBytesLaw}
+use Rattle.spl_value.proofs.Bools.{and_left as first, and_right as second, true_lt}
 
 -- ---- words
-
-first : (a b : Bool) → (a && b) ≡ true → a ≡ true
-first true b e = refl
-first false b e = cc
-
-second : (a b : Bool) → (a && b) ≡ true → b ≡ true
-second true b e = e
-second false b e = absurd cc
 
 cons_head : (x y : ℕ) (xs ys : List ℕ) → x ∷ xs ≡ y ∷ ys → x ≡ y
 cons_head x y xs ys e = cc

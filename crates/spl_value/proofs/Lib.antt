@@ -1,3 +1,5 @@
+pub mod Bools
+pub mod Lists
 pub mod FitsLaws
 pub mod OrderLaws
 pub mod PairsLaws

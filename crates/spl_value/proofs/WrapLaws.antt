@@ -1,5 +1,5 @@
 -- Remainders and the numbers of a kind: the proofs of the laws on wrapping.
-use Rattle.std.specs.Prelude.{◌≡◌, ℕ, zero, suc, ◌+◌, ◌-◌, ◌*◌, ◌/◌, ◌%◌, ◌<◌, ◌≤◌, ℤ, pos, negsuc, neg_ℤ, ◌+ℤ◌, ◌-ℤ◌, ◌*ℤ◌, true, nat_lt}
+use Rattle.std.specs.Prelude.{◌≡◌, ℕ, zero, suc, ◌+◌, ◌-◌, ◌*◌, ◌/◌, ◌%◌, ◌<◌, ◌≤◌, ℤ, pos, negsuc, neg_ℤ, ◌+ℤ◌, ◌-ℤ◌, ◌*ℤ◌, true}
 use Rattle.std.specs.Int.{int_rem_euclid}
 use Rattle.std.proofs.Common.{refl, sym, ap, ◌∙◌, arith}
 use Rattle.std.proofs.lemmas.Int.{ints, int_rem_euclid_is}
@@ -10,6 +10,7 @@ use Rattle.spl_value.specs.declared.types.IntKind.TheVariants.{I8, I16, I32, I64
 use Rattle.spl_value.specs.Values.{modulus, top, kind_holds}
 use Rattle.spl_value.specs.Wrap.{IsCongruent, negatives, wrapped}
 use Rattle.spl_value.specs.WrapLaws.{BelongsLaw, CongruentLaw, KeptLaw, OneWrappedLaw}
+use Rattle.spl_value.proofs.Bools.{lt_true, true_lt}
 
 -- a kind has numbers, and those that are not below 0 are among them
 pub sizes : (k : IntKind) → (0 < top k) × (top k ≤ modulus k)
@@ -21,12 +22,6 @@ sizes U8 = (omega arith, omega arith)
 sizes U16 = (omega arith, omega arith)
 sizes U32 = (omega arith, omega arith)
 sizes U64 = (omega arith, omega arith)
-
-lt_true : (a b : ℕ) → a < b → nat_lt a b ≡ true
-lt_true a b h = grind arith
-
-pub true_lt : (a b : ℕ) → nat_lt a b ≡ true → a < b
-true_lt a b h = grind arith
 
 -- a number is of the kind where it is so far above the least one
 pub holds_above : (k : IntKind) (z : ℤ) (r : ℕ) → z +ℤ pos (negatives k) ≡ pos r → r < modulus k → kind_holds k z ≡ true

@@ -1,6 +1,6 @@
 -- The streams of a port, name by name.
 use Rattle.std.specs.Prelude.{◌≡◌, ℕ, zero, suc, ◌+◌, ◌<◌, ◌≤◌, true, false, if◌then◌else◌, List, [], ◌∷◌, ◌++◌, flat_map, length, take, drop, Ok, Err, slice_get, Some}
-use Rattle.std.proofs.Common.{refl, ap, sym, ◌∙◌, add-one, arith, drop-cons, get_or}
+use Rattle.std.proofs.Common.{refl, ap, sym, ◌∙◌, arith, get_or}
 use Rattle.spl_tree.specs.declared.expression.Placed.{Placed}
 use Rattle.spl_tree.specs.declared.graph.Graph.{Graph}
 use Rattle.spl_tree.specs.declared.unit.Definition.{Definition}
@@ -11,11 +11,8 @@ use Rattle.language_model.specs.Typing.{Found, after, mismatch}
 use Rattle.language_model.proofs.TypingLaws.{same_types_law}
 use Rattle.language_model.specs.declared.answer.TypeAnswer.{TypeAnswer}
 use Rattle.language_model.specs.Finds.{Finds}
-use Rattle.stream_rules.proofs.AnswerSteps.{finds_by, stops}
-
--- the rest of a row from a place on
-rest_at : {A : Type 0} (xs : List A) (i : ℕ) (x : A) → i < length xs → x ≡ get_or xs i x → drop i xs ≡ x ∷ drop (i + 1) xs
-rest_at xs i x h e = rw add-one (drop-cons xs i x h ∙ ap (λ y. y ∷ drop (suc i) xs) (sym e))
+use Rattle.language_model.proofs.FoundAnswers.{finds_by, stops}
+use Rattle.spl_value.proofs.Lists.{drop_at as rest_at}
 
 pub long_enough : {A : Type 0} (m : ℕ) (row : List A) → m ≤ length row → length (take m row) ≡ m
 long_enough zero row h = refl

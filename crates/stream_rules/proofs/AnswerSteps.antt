@@ -1,7 +1,6 @@
 -- How the answers of calls go together, as the definition does.
-use Rattle.std.specs.Prelude.{◌≡◌, ℕ, List, Result, Ok, Err, IsErrAnd}
+use Rattle.std.specs.Prelude.{◌≡◌, ℕ, List, Err}
 use Rattle.std.proofs.Common.{refl, ap, sym, subst, ◌∙◌}
-use Rattle.std.proofs.lemmas.Result.{err_from_is_err_and}
 use Rattle.spl_value.specs.declared.types.SplType.{SplType}
 use Rattle.spl_value.specs.declared.types.SplType.TheOpen as O
 use Rattle.spl_value.specs.declared.types.SplType.TheOpen.{SplType-F}
@@ -9,27 +8,10 @@ use Rattle.spl_value.specs.declared.types.SplType.TheVariants as S
 use Rattle.spl_value.specs.declared.types.SplType.TheViews.{out-SplType, roll-SplType, roll-out-SplType}
 use Rattle.language_model.specs.declared.scope.CheckRefusal.{CheckRefusal}
 use Rattle.language_model.specs.StreamTypes.{Attributes, level_attributes}
-use Rattle.language_model.specs.Typing.{Found, after, mismatch, unknown}
+use Rattle.language_model.specs.Typing.{Found, mismatch, unknown}
 use Rattle.language_model.specs.declared.answer.TypeAnswer.{TypeAnswer}
 use Rattle.language_model.specs.declared.answer.TypeAnswer.TheVariants.{Refused, Memory}
 use Rattle.language_model.specs.Finds.{Finds, IsUnknown}
-
--- what is said of an error that `?` hands on
-pub exit : {B : Type 0} (P : Result B TypeAnswer → Type 0) (r : Result B TypeAnswer) (e : TypeAnswer) → IsErrAnd r (λ y. y ≡ e) → P (Err e) → P r
-exit P r e h q = let p = err_from_is_err_and r h in subst P (sym (p.1 ∙ ap Err p.2)) q
-
-pub fails : {B : Type 0} (o : Found B) (r : Result B TypeAnswer) (e : TypeAnswer) → IsErrAnd r (λ y. y ≡ e) → Finds o (Err e) → Finds o r
-fails o r e h q = exit (Finds o) r e h q
-
-pub stops : {A B : Type 0} (o : Found A) (f : A → Found B) (e : TypeAnswer) → Finds o (Err e) → Finds (after o f) (Err e)
-stops o f (Refused r) h = ap (λ o. after o f) h
-stops o f Memory h = tt
-
-pub goes : {A B : Type 0} (o : Found A) (f : A → Found B) (x : A) (r : Result B TypeAnswer) → o ≡ Ok x → Finds (f x) r → Finds (after o f) r
-goes o f x r h g = subst (λ o. Finds (after o f) r) (sym h) g
-
-pub finds_by : {A : Type 0} (o p : Found A) (r : Result A TypeAnswer) → o ≡ p → Finds p r → Finds o r
-finds_by o p r e g = subst (λ o. Finds o r) (sym e) g
 
 pub refused_as : {A : Type 0} (o : Found A) (a : TypeAnswer) (r : CheckRefusal) → a ≡ Refused r → o ≡ Err r → Finds o (Err a)
 refused_as o a r e h = subst (λ a. Finds o (Err a)) (sym e) h

@@ -16,7 +16,7 @@ use Rattle.language_model.specs.Finds.{Finds}
 use Rattle.body_sites.specs.Bodies.{body_seen}
 use Rattle.stream_rules.specs.Outside.{StandsOutside}
 use Rattle.stream_rules.specs.declared.origins.Origin.{Origin}
-use Rattle.stream_rules.proofs.AnswerSteps.{finds_by, stops}
+use Rattle.language_model.proofs.FoundAnswers.{finds_by, stops}
 
 pub none_of : {A : Type 0} (o : Option A) → is_some o ≡ false → o ≡ None
 none_of None e = refl

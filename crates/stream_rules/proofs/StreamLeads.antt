@@ -12,10 +12,7 @@ use Rattle.language_model.specs.Scopes.{At}
 use Rattle.language_model.specs.StreamTypes.{Attributes, Body, Origin, attributes_within, named_stream, origin_attributes, origin_of, shape_or_stream, stream_leads}
 use Rattle.language_model.specs.Typing.{Found, unknown}
 use Rattle.stream_rules.specs.Origins.{lead_at}
-
-or_false : (b : Bool) → (b || false) ≡ b
-or_false true = refl
-or_false false = refl
+use Rattle.spl_value.proofs.Bools.{or_false}
 
 -- ---- back to itself
 

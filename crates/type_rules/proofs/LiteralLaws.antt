@@ -21,8 +21,9 @@ use Rattle.language_model.specs.declared.answer.TypeAnswer.{TypeAnswer}
 use Rattle.language_model.specs.Finds.{Finds}
 use Rattle.type_rules.specs.Kinds.{if_wanted, schema_for}
 use Rattle.type_rules.specs.LiteralAnswers.{attribute_for, field_for, list_given, map_given, with_own}
-use Rattle.type_rules.proofs.Rows.{drop_at}
-use Rattle.type_rules.proofs.Steps.{after_after, after_each, finds_by, goes, stops}
+use Rattle.type_rules.proofs.Steps.{after_each}
+use Rattle.language_model.proofs.FoundAnswers.{after_after, finds_by, goes, stops}
+use Rattle.spl_value.proofs.Lists.{drop_at}
 
 abbrev Codes : Type 0
 Codes = List (Code Slot)

@@ -21,8 +21,8 @@ use Rattle.language_model.specs.declared.answer.TypeAnswer.{TypeAnswer}
 use Rattle.language_model.specs.Finds.{Finds, with_front}
 use Rattle.type_rules.specs.Kinds.{index_for}
 use Rattle.type_rules.specs.Takings.{Taken, behind, index_taken, member_taken}
-use Rattle.type_rules.proofs.Rows.{drop_at}
-use Rattle.type_rules.proofs.Steps.{after_after, finds_by, stops}
+use Rattle.language_model.proofs.FoundAnswers.{after_after, finds_by, stops}
+use Rattle.spl_value.proofs.Lists.{drop_at}
 
 abbrev found_or : {A : Type 0} → Found A → A → A
 found_or (Ok x) y = x

@@ -1,14 +1,10 @@
 -- Rows that are gone through item by item.
-use Rattle.std.specs.Prelude.{◌≡◌, ◌↔◌, IsTrue, ℕ, suc, ◌+◌, ◌<◌, Bool, true, false, List, [], ◌∷◌, ◌++◌, map, length, drop, take, Option, Some, None, if◌then◌else◌}
-use Rattle.std.proofs.Common.{refl, ap, sym, ◌∙◌, arith, get_or, drop-cons, add-one}
-use Rattle.std.proofs.Math.Seq.{take-suc}
+use Rattle.std.specs.Prelude.{◌≡◌, ◌↔◌, IsTrue, ℕ, suc, ◌+◌, ◌<◌, Bool, true, false, List, [], ◌∷◌, ◌++◌, map, length, take, Option, Some, None, if◌then◌else◌}
+use Rattle.std.proofs.Common.{refl, ap, sym, ◌∙◌, arith, get_or}
 use Rattle.std.proofs.lemmas.List.{length-take-le}
 use Rattle.language_model.specs.Scopes.{At, at_place, last_from, or_before}
 use Rattle.language_model.specs.Typing.{is_nil}
-
--- the rest of a list from a place on
-pub drop_at : {A : Type 0} (xs : List A) (i : ℕ) (x : A) → i < length xs → x ≡ get_or xs i x → drop i xs ≡ x ∷ drop (i + 1) xs
-drop_at xs i x h e = rw add-one (drop-cons xs i x h ∙ ap (λ y. y ∷ drop (suc i) xs) (sym e))
+use Rattle.spl_value.proofs.Lists.{take_at as taken_on}
 
 pub nil_as : {A B : Type 0} (f : A → B) (xs : List A) (b : Bool) → (IsTrue b ↔ (xs ≡ [])) → b ≡ is_nil (map f xs)
 nil_as f [] b h = h.1 refl
@@ -22,9 +18,6 @@ or_before_or (Some x) y z = refl
 or_before_none : {A : Type 0} (x : Option (At A)) → or_before x None ≡ x
 or_before_none None = refl
 or_before_none (Some x) = refl
-
-taken_on : {A : Type 0} (xs : List A) (i : ℕ) (x : A) → i < length xs → x ≡ get_or xs i x → take (i + 1) xs ≡ take i xs ++ x ∷ []
-taken_on xs i x h e = ap (λ n. take n xs) (add-one i) ∙ take-suc xs i x h ∙ ap (λ y. take i xs ++ y ∷ []) (sym e)
 
 module _ {A : Type 0} (p : A → Bool) where
   abbrev here : ℕ → A → Option (At A)

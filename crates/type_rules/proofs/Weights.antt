@@ -14,10 +14,7 @@ use Rattle.spl_tree.specs.declared.expression.ExprKind.TheOpen as X
 use Rattle.spl_tree.specs.declared.expression.ExprKind.TheOpen.{ExprKind-F}
 use Rattle.spl_tree.specs.declared.expression.ExprKind.TheViews.{out-ExprKind}
 use Rattle.spl_tree.specs.declared.expression.ExprKind.TheFolds.{fold-ExprKind, fold_out-ExprKind, map-ExprKind}
-
-abbrev pub total : {A : Type 0} → (A → ℕ) → List A → ℕ
-total f [] = 0
-total f (x ∷ xs) = f x + total f xs
+use Rattle.spl_value.proofs.Lists.{total}
 
 abbrev step_of : Step (Placed ℕ) → ℕ
 step_of (N.Member m) = 0

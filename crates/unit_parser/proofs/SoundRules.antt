@@ -23,6 +23,7 @@ use Rattle.unit_parser.specs.Lines.{Line, Value, R, is_word, type_of, is_dollar,
 use Rattle.unit_parser.proofs.SoundTests.{is_word-true, is_type-true, is_dollar-true, is_assignment-true}
 use Rattle.unit_parser.proofs.SoundPhrases.{Closed, closed, Rows, TakesSteps, ExpressionPhrases, Phrases}
 use Rattle.unit_parser.proofs.SoundSamples.{has, a_token, a_symbol, a_keyword, a_word}
+use Rattle.spl_value.proofs.Lists.{push_some}
 
 -- each way through a rule completes a phrase of U, and where it stops, some tokens would complete one
 abbrev pub Leads : {A : Type 0} → Phrase A → R A → Type 0
@@ -40,11 +41,6 @@ leads_map U V m (call x k) q = λ y. leads_map (After (Phrases x) U y) (After (P
 -- expressions with commas between them and the closing bracket
 closed_elements : {close : Symbol} {es : List Expr} {a : List Token} → Closed Items close es a → expression_phrases.Closed close es a
 closed_elements (closed es c a d right) = record { inside = a; last = c; splits = refl; spells = elements es a d; is = right }
-
--- a list with an element at its end is not empty
-push_some : {A : Type 0} (xs : List A) (x : A) → xs ++ x ∷ [] ≡ [] → ⊥
-push_some [] x e = cc
-push_some (y ∷ xs) x e = cc
 
 -- no steps are no tokens
 pub steps_none : {ss : List (Step Expr)} {a : List Token} → Steps ss a → ss ≡ [] → a ≡ []

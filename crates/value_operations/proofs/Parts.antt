@@ -1,5 +1,5 @@
 -- The parts of values that fit.
-use Rattle.std.specs.Prelude.{◌≡◌, ℕ, zero, suc, ◌<◌, ◌≤◌, ℤ, pos, negsuc, nat_abs, Bool, true, false, ◌&&◌, IsTrue, List, [], ◌∷◌, length, Some, slice_get}
+use Rattle.std.specs.Prelude.{◌≡◌, ℕ, zero, suc, ◌<◌, ◌≤◌, ℤ, pos, negsuc, nat_abs, IsTrue, List, [], ◌∷◌, length, Some, slice_get}
 use Rattle.std.specs.Cmp.{second_so}
 use Rattle.std.specs.Int.{w64, w128, FitsUnsigned}
 use Rattle.std.specs.List.{list_all}
@@ -20,6 +20,7 @@ use Rattle.spl_value.specs.Values.{fits, tuple_fits, kind_holds}
 use Rattle.language_model.specs.Operators.{found, given, level_member, element_at, level_element}
 use Rattle.value_operations.specs.Taking.{HasMember, HasElements, HasKeys}
 use Rattle.value_operations.proofs.Sizes.{kept_in_128, natural_fits}
+use Rattle.spl_value.proofs.Bools.{and_left as first_true}
 
 -- ---- tuples
 
@@ -76,10 +77,6 @@ module _ (v index : Value) where
       element_is is.0 n is.1 f ∙ below k is.0 n holds (subst (λ (z : ℤ). FitsUnsigned w64 z → ⊥) (kept_in_128 k n holds) never)
 
 -- ---- maps
-
-first_true : (a b : Bool) → (a && b) ≡ true → a ≡ true
-first_true true b e = refl
-first_true false b e = cc
 
 pub pairs_of : (k t : SplType) (v : Value) (ps : List (Value × Value)) → IsTrue (fits (S.Map k t) v) → v ≡ V.Map ps → IsTrue (are_pairs ps)
 pairs_of k t v ps h e =

@@ -9,7 +9,7 @@ use Rattle.spl_tree.specs.declared.unit.Definition.{Definition}
 use Rattle.spl_tree.specs.declared.unit.Definition.TheVariants as D
 use Rattle.spl_tree.specs.declared.unit.TypeDefinition.{TypeDefinition}
 use Rattle.language_model.specs.TypeNames.{as_type, type_definitions}
-use Rattle.written_types.proofs.Rows.{take_on}
+use Rattle.spl_value.proofs.Lists.{take_at as take_on}
 
 module _ (unit : List Definition) (i : ℕ) (d : Definition) (within : i < length unit) (here : d ≡ get_or unit i d) where
   one_more : type_definitions (take (i + 1) unit) ≡ type_definitions (take i unit) ++ cons_option (as_type d) []

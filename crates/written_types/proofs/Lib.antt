@@ -1,4 +1,3 @@
-mod Gets
 mod Searching
 mod Widening
 mod Rows

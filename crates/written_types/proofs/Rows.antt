@@ -1,12 +1,8 @@
 -- Rows that are gone through item by item.
 use Rattle.std.specs.Prelude.{◌≡◌, ℕ, zero, suc, ◌+◌, ◌<◌, ◌≤◌, List, [], ◌∷◌, ◌++◌, length, map, take, flat_map}
-use Rattle.std.proofs.Common.{refl, ap, sym, ◌∙◌, arith, append-nil, get_or, add-one}
-use Rattle.std.proofs.Math.Seq.{take-suc}
+use Rattle.std.proofs.Common.{refl, ap, ◌∙◌, arith, append-nil, get_or}
 use Rattle.std.proofs.lemmas.Grind.{flat_map-append}
-
--- one item more
-pub take_on : {A : Type 0} (xs : List A) (i : ℕ) (x : A) → i < length xs → x ≡ get_or xs i x → take (i + 1) xs ≡ take i xs ++ x ∷ []
-take_on xs i x h e = ap (λ n. take n xs) (add-one i) ∙ take-suc xs i x h ∙ ap (λ y. take i xs ++ y ∷ []) (sym e)
+use Rattle.spl_value.proofs.Lists.{take_at as take_on}
 
 -- what each item gives, one item more
 pub gives_on : {A B : Type 0} (f : A → List B) (xs : List A) (i : ℕ) (x : A) → i < length xs → x ≡ get_or xs i x

@@ -13,8 +13,9 @@ use Rattle.written_types.specs.declared.place_set.PlaceSet.{PlaceSet}
 use Rattle.language_model.specs.Leading.{leads, leads_back}
 use Rattle.written_types.specs.Standing.{Stands, IsSet, Widens}
 use Rattle.written_types.specs.Stepping.{steps_from, LeadsWithin}
-use Rattle.written_types.proofs.Gets.{get_below}
 use Rattle.written_types.proofs.Widening.{here}
+use Rattle.spl_value.proofs.Bools.{or_true as or_right}
+use Rattle.spl_value.proofs.Lists.{get_below}
 
 -- ---- what passes a test in a list
 
@@ -30,10 +31,6 @@ passing p (x ∷ xs) any = elim (or_cases (p x) (list_any p xs) any) [
   | inl t ↦ record { item = x; stands = here (x ∷ xs) 0 x refl; passes = t }
   | inr h ↦ let q = passing p xs h in record { item = q.item; stands = here (x ∷ xs) (suc q.stands.at) q.item q.stands.is; passes = q.passes }
 ]
-
-or_right : (a : Bool) → (a || true) ≡ true
-or_right true = refl
-or_right false = refl
 
 -- ---- steps
 

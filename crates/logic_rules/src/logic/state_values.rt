@@ -52,7 +52,7 @@ fn are_minus_prefixes(prefixes: &[Prefix]) -> bool
 /// Whether an expression is one of literals and `-`, and of lists, maps and tuples of such, in
 /// parentheses or not.
 #[cycle(state_values)]
-#[tactic(auto, using(crate::proofs::StateValueLaws::state_value_laws, crate::proofs::ExprWeights::weight_laws))]
+#[tactic(auto, using(crate::proofs::StateValueLaws::state_value_laws, spl_tree::proofs::ExprWeights::weight_laws))]
 pub(super) fn is_state_value(dollars: &[Dollar], expr: &Expr) -> bool
     ensures { result ≡ is_state_value dollars.now expr.now }
 {

@@ -2,9 +2,9 @@ use Rattle.std.proofs.Common.{Err, subst, sym, ◌+◌, ◌∙◌, ap}
 use Rattle.language_model.specs.Finds.{Finds}
 use Rattle.written_types.specs.TypeScopes.{types_in}
 use Rattle.body_rules.proofs.Signing.{in_unit, typed_from, typed_on, typed_past, typed_stops}
-use Rattle.body_rules.proofs.Steps.{fails, finds_by, no_front}
 use Rattle.body_rules.proofs.functions.each_function.Goals.{in-Function+in_ok-next+in_ok-push, in_default}
 use Rattle.body_rules.proofs.functions.each_function.Goals as goal
+use Rattle.language_model.proofs.FoundAnswers.{fails, finds_by, no_front}
 
 pub loop-definition-init : goal.loop-definition-init
 loop-definition-init c =

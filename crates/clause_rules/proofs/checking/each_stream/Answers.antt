@@ -1,9 +1,9 @@
 use Rattle.std.proofs.Common.{ap, sym, ◌∙◌}
 use Rattle.language_model.specs.Checking.{each_stream}
 use Rattle.language_model.specs.Numbering.{numbers_from}
-use Rattle.clause_rules.proofs.Steps.{fails}
 use Rattle.clause_rules.proofs.Streams.{stream_found, stream_stops}
 use Rattle.clause_rules.proofs.checking.each_stream.Goals as goal
+use Rattle.language_model.proofs.FoundAnswers.{fails}
 
 pub returns-in_err-schema : goal.returns-in_err-schema
 returns-in_err-schema c =

@@ -1,12 +1,12 @@
-use Rattle.std.proofs.Common.{Err, ap, sym, ◌∙◌}
+use Rattle.std.proofs.Common.{Err, ◌∙◌}
 use Rattle.language_model.specs.Literals.{followed}
 use Rattle.written_types.specs.TypeScopes.{types_in}
 use Rattle.parameter_rules.specs.Sites.{followed_in}
 use Rattle.body_sites.specs.Bodies.{body_seen}
 use Rattle.clause_rules.specs.Programs.{program_unit}
 use Rattle.clause_rules.proofs.Invocations.{invocation_is}
-use Rattle.clause_rules.proofs.Steps.{fails, finds_by}
 use Rattle.clause_rules.proofs.operators.invocation_checked.Goals as goal
+use Rattle.language_model.proofs.FoundAnswers.{fails, finds_by}
 
 pub returns-in_err-part-clause-part : goal.returns-in_err-part-clause-part
 returns-in_err-part-clause-part c =

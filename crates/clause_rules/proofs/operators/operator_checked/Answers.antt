@@ -4,9 +4,9 @@ use Rattle.std.proofs.Common.{Err, ap, sym, ◌∙◌}
 use Rattle.body_sites.specs.Bodies.{body_at_sites, body_seen}
 use Rattle.clause_rules.specs.Programs.{program_unit}
 use Rattle.clause_rules.proofs.Invocations.{operator_is}
-use Rattle.clause_rules.proofs.Steps.{fails, finds_by}
 use Rattle.clause_rules.proofs.Tables.{put_back}
 use Rattle.clause_rules.proofs.operators.operator_checked.Goals as goal
+use Rattle.language_model.proofs.FoundAnswers.{fails, finds_by}
 
 pub returns-in_err-part-clause-part : goal.returns-in_err-part-clause-part
 returns-in_err-part-clause-part c =

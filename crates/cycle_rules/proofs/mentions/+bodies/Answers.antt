@@ -1,6 +1,6 @@
 use Rattle.std.proofs.Common.{arith}
 use Rattle.cycle_rules.proofs.StatementLaws.{statement_weight, arm_weight}
-use Rattle.cycle_rules.proofs.Weights.{item_below}
+use Rattle.spl_tree.proofs.ExprWeights.{item_below}
 use Rattle.cycle_rules.proofs.mentions.+bodies.Goals as goal
 
 pub of_statements-of_statement-requires : goal.of_statements-of_statement-requires

@@ -4,7 +4,7 @@ use Rattle.language_model.specs.Mentions.{expr_mentions, Called}
 use Rattle.cycle_rules.specs.Mentioned.{step_mentions}
 use Rattle.cycle_rules.proofs.Adding.{adds_behind, both_behind}
 use Rattle.cycle_rules.proofs.MentionLaws.{mentions, of_call, of_select, of_binary, of_conditional}
-use Rattle.cycle_rules.proofs.Weights.{expr_weight, entry_weight, field_weight, step_weight, item_below}
+use Rattle.spl_tree.proofs.ExprWeights.{expr_weight, entry_weight, field_weight, step_weight, item_below}
 use Rattle.cycle_rules.proofs.mentions.+mentions.Goals as goal
 
 pub of_exprs-of_expr-requires : goal.of_exprs-of_expr-requires

@@ -1,7 +1,7 @@
 use Rattle.std.proofs.Common.{◌≡◌, ◌+◌, ◌++◌, flat_map, take}
 use Rattle.language_model.specs.Mentions.{expr_mentions}
 use Rattle.cycle_rules.specs.Mentioned.{mentions_seen, entry_mentions, field_mentions, step_mentions}
-use Rattle.cycle_rules.proofs.Weights.{expr_weight, weights, entry_weights, field_weights, step_weights}
+use Rattle.spl_tree.proofs.ExprWeights.{expr_weight, weights, entry_weights, field_weights, step_weights}
 use Rattle.cycle_rules.proofs.mentions.+mentions.Given as goal
 
 abbrev pub invariant-of_entries-loop-key : goal.invariant-of_entries-loop-key

@@ -3,9 +3,9 @@ use Rattle.std.specs.Prelude.{slice_get, filter_map, MatchOption}
 use Rattle.std.proofs.lemmas.Option.{slice_get-get_or}
 use Rattle.language_model.specs.Recursion.{call_among, calls_among, IsAcyclic, IsFirstRecursion}
 use Rattle.cycle_rules.specs.Named.{caller_seen, callers_seen}
-use Rattle.cycle_rules.proofs.Gets.{get_below}
 use Rattle.cycle_rules.proofs.CallTables.{get_map, get_back}
 use Rattle.cycle_rules.proofs.recursion.first_in.Goals as goal
+use Rattle.spl_value.proofs.Lists.{get_below}
 
 pub returns-in-Some : goal.returns-in-Some
 returns-in-Some c =

@@ -1,5 +1,5 @@
 use Rattle.std.proofs.Common.{arith}
-use Rattle.dollar_rules.proofs.ExprWeights.{expr_weight, entry_weight, field_weight, item_below}
+use Rattle.spl_tree.proofs.ExprWeights.{expr_weight, entry_weight, field_weight, item_below}
 use Rattle.dollar_rules.proofs.constants.+constants.Goals as goal
 
 pub are_constant-is_constant-requires : goal.are_constant-is_constant-requires

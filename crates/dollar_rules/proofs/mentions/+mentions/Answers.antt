@@ -3,7 +3,7 @@ use Rattle.language_model.specs.DollarLaws.{dollars_in}
 use Rattle.dollar_rules.specs.Mentioned.{step_dollars}
 use Rattle.dollar_rules.proofs.Adding.{adds_behind, both_behind}
 use Rattle.dollar_rules.proofs.DollarLaws.{form_dollars, of_select, of_binary, of_conditional}
-use Rattle.dollar_rules.proofs.ExprWeights.{expr_weight, entry_weight, field_weight, step_weight, item_below}
+use Rattle.spl_tree.proofs.ExprWeights.{expr_weight, entry_weight, field_weight, step_weight, item_below}
 use Rattle.dollar_rules.proofs.mentions.+mentions.Goals as goal
 
 pub of_exprs-of_expr-requires : goal.of_exprs-of_expr-requires

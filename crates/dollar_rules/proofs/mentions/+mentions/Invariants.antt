@@ -1,7 +1,7 @@
 use Rattle.std.proofs.Common.{◌≡◌, ◌+◌, ◌++◌, flat_map, take}
 use Rattle.language_model.specs.DollarLaws.{dollars_in}
 use Rattle.dollar_rules.specs.Mentioned.{names_seen, entry_dollars, field_dollars, step_dollars}
-use Rattle.dollar_rules.proofs.ExprWeights.{expr_weight, weights, entry_weights, field_weights, step_weights}
+use Rattle.spl_tree.proofs.ExprWeights.{expr_weight, weights, entry_weights, field_weights, step_weights}
 use Rattle.dollar_rules.proofs.mentions.+mentions.Given as goal
 
 abbrev pub invariant-of_entries-loop-key : goal.invariant-of_entries-loop-key

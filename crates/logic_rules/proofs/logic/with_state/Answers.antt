@@ -5,8 +5,8 @@ use Rattle.language_model.specs.Typing.{after}
 use Rattle.language_model.specs.Finds.{Finds}
 use Rattle.logic_rules.specs.Handling.{handlers_in, made_of, surroundings}
 use Rattle.logic_rules.proofs.HandlersFound.{as_made, found_as, inside}
-use Rattle.logic_rules.proofs.Steps.{fails, finds_by, stops}
 use Rattle.logic_rules.proofs.logic.with_state.Goals as goal
+use Rattle.language_model.proofs.FoundAnswers.{fails, finds_by, stops}
 
 pub returns-in_err-handled-clause-code : goal.returns-in_err-handled-clause-code
 returns-in_err-handled-clause-code c =

@@ -8,9 +8,10 @@ use Rattle.language_model.specs.ParameterTyping.{role_of, value_typing}
 use Rattle.language_model.specs.Typing.{after, refused}
 use Rattle.parameter_rules.specs.Roles.{role_seen}
 use Rattle.parameter_rules.specs.Sites.{site_seen}
-use Rattle.parameter_rules.proofs.Answering.{fails, finds_by, refuses, stops}
+use Rattle.parameter_rules.proofs.Answering.{fails, refuses}
 use Rattle.parameter_rules.proofs.Giving.{parameter_once, parameter_twice}
 use Rattle.parameter_rules.proofs.parameters.parameter_typing.Goals as goal
+use Rattle.language_model.proofs.FoundAnswers.{finds_by, stops}
 
 pub returns-then-has_name : goal.returns-then-has_name
 returns-then-has_name c =

@@ -3,8 +3,9 @@ use Rattle.std.proofs.Common.{ap, sym, refl, ◌∙◌}
 use Rattle.language_model.specs.Policies.{aggregate_policy, aggregate_rule, partitioned_or_not}
 use Rattle.language_model.specs.Typing.{after}
 use Rattle.parameter_rules.specs.Sites.{numbers_at}
-use Rattle.parameter_rules.proofs.Answering.{fails, finds_by, stops}
+use Rattle.parameter_rules.proofs.Answering.{fails}
 use Rattle.parameter_rules.proofs.windows.aggregate_policy.Goals as goal
+use Rattle.language_model.proofs.FoundAnswers.{finds_by, stops}
 
 pub returns-in_err-rule : goal.returns-in_err-rule
 returns-in_err-rule c =

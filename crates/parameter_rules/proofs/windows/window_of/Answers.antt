@@ -7,9 +7,10 @@ use Rattle.language_model.specs.Checking.{policy_of}
 use Rattle.language_model.specs.Scopes.{at_place, first_from}
 use Rattle.language_model.specs.Typing.{after}
 use Rattle.parameter_rules.specs.Sites.{numbers_at}
-use Rattle.parameter_rules.proofs.Answering.{fails, finds_by, refuses, stops}
+use Rattle.parameter_rules.proofs.Answering.{fails, refuses}
 use Rattle.parameter_rules.proofs.Windowing.{window_once, window_twice}
 use Rattle.parameter_rules.proofs.windows.window_of.Goals as goal
+use Rattle.language_model.proofs.FoundAnswers.{finds_by, stops}
 
 pub returns-then-has_window : goal.returns-then-has_window
 returns-then-has_window c =

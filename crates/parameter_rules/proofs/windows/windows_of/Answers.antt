@@ -4,9 +4,10 @@ use Rattle.std.proofs.Common.{ap, sym, arith, ◌∙◌}
 use Rattle.language_model.specs.Checking.{each_window, has_windows, policy_of}
 use Rattle.language_model.specs.Policies.{windows_typing}
 use Rattle.parameter_rules.specs.Sites.{numbers_at}
-use Rattle.parameter_rules.proofs.Answering.{fails, finds_by, goes, stops}
+use Rattle.parameter_rules.proofs.Answering.{fails}
 use Rattle.parameter_rules.proofs.Windowing.{windows_written}
 use Rattle.parameter_rules.proofs.windows.windows_of.Goals as goal
+use Rattle.language_model.proofs.FoundAnswers.{finds_by, goes, stops}
 
 pub returns-in_err-windows-in-Some : goal.returns-in_err-windows-in-Some
 returns-in_err-windows-in-Some c =

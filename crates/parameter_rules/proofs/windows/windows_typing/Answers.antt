@@ -4,10 +4,11 @@ use Rattle.language_model.specs.Checking.{policy_of}
 use Rattle.language_model.specs.Policies.{windows_typing}
 use Rattle.language_model.specs.Finds.{with_front}
 use Rattle.parameter_rules.specs.Sites.{numbers_at}
-use Rattle.parameter_rules.proofs.Answering.{fails, finds_by, row_on, row_stops}
+use Rattle.parameter_rules.proofs.Answering.{fails, row_on, row_stops}
 use Rattle.parameter_rules.proofs.Lists.{keys_more}
 use Rattle.parameter_rules.proofs.Windowing.{window_behind, windows_row}
 use Rattle.parameter_rules.proofs.windows.windows_typing.Goals as goal
+use Rattle.language_model.proofs.FoundAnswers.{finds_by}
 
 pub returns-in_err-next : goal.returns-in_err-next
 returns-in_err-next c =

@@ -2,9 +2,10 @@ use Rattle.std.proofs.Common.{rules, arith, ◌≡◌, ◌<◌, ◌≤◌, List,
 use Rattle.std.proofs.lemmas.List.{take_all}
 use Rattle.language_model.specs.declared.checked.Part.{Part}
 use Rattle.spl_driver.proofs.Fetching.{told_twice, quiet_twice, lent_twice}
-use Rattle.spl_driver.proofs.OperatorRows.{rows_on, read_on, other_on, false_true, one_failed, all_sources}
+use Rattle.spl_driver.proofs.OperatorRows.{rows_on, read_on, other_on, one_failed, all_sources}
 use Rattle.spl_driver.proofs.sources.read_sources.Goals.{in-Rows+else-is_err, in-Other}
 use Rattle.spl_driver.proofs.sources.read_sources.Goals as goal
+use Rattle.spl_value.proofs.Bools.{false_true}
 
 pub returns-in-Device-clause-cause : goal.returns-in-Device-clause-cause
 returns-in-Device-clause-cause g c =

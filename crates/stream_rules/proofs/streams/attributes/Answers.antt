@@ -2,9 +2,10 @@ use Rattle.std.proofs.Common.{◌≡◌, None, ap, sym, ◌∙◌}
 use Rattle.std.specs.Option.{option_map}
 use Rattle.language_model.specs.StreamTypes.{origin_of}
 use Rattle.stream_rules.specs.Origins.{lead_at, origin_seen}
-use Rattle.stream_rules.proofs.AnswerSteps.{finds_by, refused_as, unknown_as}
+use Rattle.stream_rules.proofs.AnswerSteps.{refused_as, unknown_as}
 use Rattle.stream_rules.proofs.StandingOrigins.{circle_there, made_nowhere, own_there}
 use Rattle.stream_rules.proofs.streams.attributes.Goals as goal
+use Rattle.language_model.proofs.FoundAnswers.{finds_by}
 
 pub returns-in_default-origin_of : goal.returns-in_default-origin_of
 returns-in_default-origin_of c =

@@ -3,8 +3,8 @@ use Rattle.spl_value.specs.declared.types.SplType.TheViews.{out-SplType}
 use Rattle.language_model.specs.StreamTypes.{level_attributes}
 use Rattle.language_model.specs.TypeNames.{Types, composite_types, shape_meant}
 use Rattle.language_model.specs.Finds.{Finds}
-use Rattle.stream_rules.proofs.AnswerSteps.{fails, goes, stops}
 use Rattle.stream_rules.proofs.streams.own_attributes.Goals as goal
+use Rattle.language_model.proofs.FoundAnswers.{fails, goes, stops}
 
 pub returns-in_err-kind : goal.returns-in_err-kind
 returns-in_err-kind c =

@@ -4,8 +4,8 @@ use Rattle.spl_tree.specs.declared.expression.ExprKind.TheViews.{out-ExprKind}
 use Rattle.language_model.specs.Typing.{call_of}
 use Rattle.language_model.specs.TypingLaws.{parts}
 use Rattle.language_model.specs.StatementTyping.{call_statement, level_call}
-use Rattle.type_rules.proofs.Steps.{finds_by}
 use Rattle.type_rules.proofs.statements.call_of.Goals as goal
+use Rattle.language_model.proofs.FoundAnswers.{finds_by}
 
 pub returns-in-Call : goal.returns-in-Call
 returns-in-Call c =

@@ -1,9 +1,9 @@
 use Rattle.std.proofs.Common.{Err, ap, sym, subst, ◌∙◌}
 use Rattle.language_model.specs.BodyTyping.{submitted}
 use Rattle.language_model.specs.Finds.{IsUnknown}
-use Rattle.body_rules.proofs.Steps.{finds_by}
 use Rattle.body_rules.proofs.Submitting.{no_port, port_by, submits_as, this_port, unknown_is}
 use Rattle.body_rules.proofs.bodies.submits.submitted.Goals as goal
+use Rattle.language_model.proofs.FoundAnswers.{finds_by}
 
 pub returns-in_default-port_named : goal.returns-in_default-port_named
 returns-in_default-port_named c =

@@ -4,10 +4,11 @@ use Rattle.std.specs.List.{list_any}
 use Rattle.language_model.specs.Declarations.{definition_name, first_of, is_built_in, is_defined, is_same, repeated_after}
 use Rattle.duplicate_rules.specs.NamesBefore.{Has, Hold}
 use Rattle.duplicate_rules.proofs.DefinitionNames.{same_names}
-use Rattle.duplicate_rules.proofs.NameRows.{is_taken, not_taken, or_true, passed, stopped}
-use Rattle.duplicate_rules.proofs.Rows.{rest_at}
+use Rattle.duplicate_rules.proofs.NameRows.{is_taken, not_taken, passed, stopped}
 use Rattle.duplicate_rules.proofs.declarations.definitions.first_behind.Goals.{then-is_built_in-via-then-is_built_in, then-is_built_in-via-else-is_built_in+then-not-added}
 use Rattle.duplicate_rules.proofs.declarations.definitions.first_behind.Goals as goal
+use Rattle.spl_value.proofs.Bools.{or_last as or_true}
+use Rattle.spl_value.proofs.Lists.{drop_at as rest_at}
 
 pub loop-definition-preserved : goal.loop-definition-preserved
 loop-definition-preserved c =

@@ -4,9 +4,9 @@ use Rattle.std.specs.List.{cons_option}
 use Rattle.std.specs.Option.{option_copied}
 use Rattle.duplicate_rules.specs.Earliest.{earliest}
 use Rattle.duplicate_rules.specs.NamesBefore.{again}
-use Rattle.duplicate_rules.proofs.Rows.{rest_at}
 use Rattle.duplicate_rules.proofs.declarations.names.earliest_behind.Goals.{in-Some, in_default}
 use Rattle.duplicate_rules.proofs.declarations.names.earliest_behind.Goals as goal
+use Rattle.spl_value.proofs.Lists.{drop_at as rest_at}
 
 pub loop-part-preserved : goal.loop-part-preserved
 loop-part-preserved g c =

@@ -2,8 +2,8 @@ use Rattle.std.specs.Prelude.{◌≡◌, slice_get}
 use Rattle.std.specs.Option.{option_copied}
 use Rattle.std.proofs.Common.{ap, sym, ◌∙◌}
 use Rattle.std.proofs.lemmas.Option.{slice_get-map}
-use Rattle.duplicate_rules.proofs.Lists.{copied_at}
 use Rattle.duplicate_rules.proofs.sites.Sites.composite.Goals as goal
+use Rattle.spl_value.proofs.Lists.{copied_at}
 
 pub returns : goal.returns
 returns c =

@@ -7,9 +7,10 @@ use Rattle.body_rules.specs.Settings.{setting_meant}
 use Rattle.language_model.specs.Finds.{Finds}
 use Rattle.logic_rules.specs.Handling.{seen_scope}
 use Rattle.logic_rules.proofs.HandlersFound.{as_handled, handled_first, port_there}
-use Rattle.logic_rules.proofs.Lists.{found_at, get_within}
-use Rattle.logic_rules.proofs.Steps.{fails, finds_by, stops}
+use Rattle.logic_rules.proofs.Lists.{found_at}
 use Rattle.logic_rules.proofs.logic.handling.handled_next.Goals as goal
+use Rattle.language_model.proofs.FoundAnswers.{fails, finds_by, stops}
+use Rattle.spl_value.proofs.Lists.{get_within}
 
 pub body_on-requires-clause-within : goal.body_on-requires-clause-within
 body_on-requires-clause-within c =

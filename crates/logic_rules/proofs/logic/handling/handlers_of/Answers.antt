@@ -5,8 +5,8 @@ use Rattle.body_rules.specs.Settings.{setting_meant}
 use Rattle.language_model.specs.Finds.{Finds}
 use Rattle.logic_rules.specs.Handling.{handled_in}
 use Rattle.logic_rules.proofs.HandlersFound.{comes_on, comes_out}
-use Rattle.logic_rules.proofs.Steps.{fails}
 use Rattle.logic_rules.proofs.logic.handling.handlers_of.Goals as goal
+use Rattle.language_model.proofs.FoundAnswers.{fails}
 
 pub returns-in_err-next-clause-code : goal.returns-in_err-next-clause-code
 returns-in_err-next-clause-code c =

@@ -1,6 +1,6 @@
 use Rattle.std.proofs.Common.{arith}
 use Rattle.logic_rules.proofs.CodeWeights.{weight, entry_weight, field_weight}
-use Rattle.logic_rules.proofs.ExprWeights.{item_below}
+use Rattle.spl_tree.proofs.ExprWeights.{item_below}
 use Rattle.logic_rules.proofs.logic.plain_codes.+plain.Goals as goal
 
 pub are_plain-is_plain-requires : goal.are_plain-is_plain-requires

@@ -3,8 +3,8 @@ use Rattle.language_model.specs.LogicTyping.{state_typing, state_variable}
 use Rattle.written_types.specs.TypeScopes.{types_in}
 use Rattle.logic_rules.proofs.FoundRows.{row_on, row_stops}
 use Rattle.logic_rules.proofs.StateTyping.{state_row}
-use Rattle.logic_rules.proofs.Steps.{fails, finds_by}
 use Rattle.logic_rules.proofs.logic.state.state_of.Goals as goal
+use Rattle.language_model.proofs.FoundAnswers.{fails, finds_by}
 
 pub loop-declaration-preserved : goal.loop-declaration-preserved
 loop-declaration-preserved c =

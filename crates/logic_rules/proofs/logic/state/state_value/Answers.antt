@@ -6,8 +6,8 @@ use Rattle.language_model.specs.Parameters.{constant_scope}
 use Rattle.language_model.specs.Typing.{after, typing}
 use Rattle.language_model.specs.Finds.{Finds}
 use Rattle.logic_rules.proofs.StateTyping.{value_refused, value_typed}
-use Rattle.logic_rules.proofs.Steps.{fails, finds_by, stops}
 use Rattle.logic_rules.proofs.logic.state.state_value.Goals as goal
+use Rattle.language_model.proofs.FoundAnswers.{fails, finds_by, stops}
 
 pub returns-then-not-is_state_value : goal.returns-then-not-is_state_value
 returns-then-not-is_state_value c =

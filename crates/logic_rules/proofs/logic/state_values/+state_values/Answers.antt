@@ -3,7 +3,7 @@ use Rattle.std.specs.Prelude.{◌&&◌}
 use Rattle.std.specs.List.{list_all}
 use Rattle.language_model.specs.LogicTyping.{is_state_value}
 use Rattle.logic_rules.proofs.StateValueLaws.{of_map, of_tuple, passes}
-use Rattle.logic_rules.proofs.ExprWeights.{expr_weight, entry_weight, field_weight, item_below}
+use Rattle.spl_tree.proofs.ExprWeights.{expr_weight, entry_weight, field_weight, item_below}
 use Rattle.logic_rules.proofs.logic.state_values.+state_values.Goals as goal
 
 pub are_state_values-is_state_value-requires : goal.are_state_values-is_state_value-requires

@@ -3,9 +3,9 @@ use Rattle.language_model.specs.Finds.{with_front}
 use Rattle.language_model.specs.OutputTyping.{filled_from, is_assigned}
 use Rattle.output_rules.proofs.OutputMarks.{tells_assigned}
 use Rattle.output_rules.proofs.OutputRows.{fill_past, fill_on, fill_stops}
-use Rattle.output_rules.proofs.OutputSteps.{fails, finds_by}
 use Rattle.output_rules.proofs.outputs.assigned.others.Goals.{then-not-marks-place+in_ok-number+in_ok-value+in_ok-push, else-not-marks-place}
 use Rattle.output_rules.proofs.outputs.assigned.others.Goals as goal
+use Rattle.language_model.proofs.FoundAnswers.{fails, finds_by}
 
 pub loop-place-preserved : goal.loop-place-preserved
 loop-place-preserved g c =

@@ -3,9 +3,10 @@ use Rattle.std.proofs.Common.{refl, sym, ap, arith, ◌∙◌}
 use Rattle.spl_value.specs.declared.types.SplType.TheViews.{out-SplType}
 use Rattle.language_model.specs.ParameterTyping.{level_key, word_of}
 use Rattle.language_model.specs.Scopes.{at_place}
-use Rattle.parameter_rules.proofs.Answering.{finds_by, refused_by}
+use Rattle.parameter_rules.proofs.Answering.{refused_by}
 use Rattle.parameter_rules.proofs.Giving.{key_once, key_twice}
 use Rattle.parameter_rules.proofs.parameters.keys.key_of.Goals as goal
+use Rattle.language_model.proofs.FoundAnswers.{finds_by}
 
 pub returns-then-is_among : goal.returns-then-is_among
 returns-then-is_among c =

@@ -2,9 +2,9 @@ use Rattle.std.proofs.Common.{ap, sym, ◌∙◌}
 use Rattle.language_model.specs.ParameterTyping.{one_value, single_value}
 use Rattle.parameter_rules.specs.Roles.{role_seen}
 use Rattle.parameter_rules.specs.Sites.{site_seen}
-use Rattle.parameter_rules.proofs.Answering.{finds_by}
 use Rattle.parameter_rules.proofs.Giving.{other_value}
 use Rattle.parameter_rules.proofs.parameters.values.value_of.Goals as goal
+use Rattle.language_model.proofs.FoundAnswers.{finds_by}
 
 pub returns-in_default : goal.returns-in_default
 returns-in_default c =

@@ -1,8 +1,9 @@
 use Rattle.language_model.specs.Policies.{bad_window}
 use Rattle.parameter_rules.specs.Sites.{numbers_at}
-use Rattle.parameter_rules.proofs.Answering.{fails, stops}
+use Rattle.parameter_rules.proofs.Answering.{fails}
 use Rattle.parameter_rules.proofs.Windowing.{measure_or, measured_by}
 use Rattle.parameter_rules.proofs.windows.rules.sliding_measure.Goals as goal
+use Rattle.language_model.proofs.FoundAnswers.{stops}
 
 pub returns-in_err-measure : goal.returns-in_err-measure
 returns-in_err-measure c =

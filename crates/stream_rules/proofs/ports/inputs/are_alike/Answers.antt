@@ -7,8 +7,8 @@ use Rattle.language_model.specs.StreamTypes.{are_alike, so_often, taken_by}
 use Rattle.stream_rules.specs.Among.{graph_of, unit_of}
 use Rattle.body_sites.specs.Bodies.{body_seen}
 use Rattle.stream_rules.proofs.AlikeStreams.{long_enough, name_on, name_stops}
-use Rattle.stream_rules.proofs.AnswerSteps.{fails, finds_by}
 use Rattle.stream_rules.proofs.ports.inputs.are_alike.Goals as goal
+use Rattle.language_model.proofs.FoundAnswers.{fails, finds_by}
 
 pub returns-in_err-row_alike : goal.returns-in_err-row_alike
 returns-in_err-row_alike c =

@@ -5,8 +5,8 @@ use Rattle.language_model.specs.Finds.{Finds}
 use Rattle.stream_rules.specs.Among.{graph_of, unit_of}
 use Rattle.body_sites.specs.Bodies.{body_seen}
 use Rattle.stream_rules.proofs.AlikeStreams.{port_is}
-use Rattle.stream_rules.proofs.AnswerSteps.{fails, finds_by, stops}
 use Rattle.stream_rules.proofs.ports.inputs.port_attributes.Goals as goal
+use Rattle.language_model.proofs.FoundAnswers.{fails, finds_by, stops}
 
 pub returns-in_err-are_alike : goal.returns-in_err-are_alike
 returns-in_err-are_alike c =

@@ -1,9 +1,9 @@
 use Rattle.std.proofs.Common.{◌≡◌, suc, length, arith}
 use Rattle.stream_rules.specs.Among.{graph_of, unit_of}
 use Rattle.body_sites.specs.Bodies.{body_seen}
-use Rattle.stream_rules.proofs.AnswerSteps.{fails, finds_by}
 use Rattle.stream_rules.proofs.PortHeads.{outside_fails, outside_first}
 use Rattle.stream_rules.proofs.ports.outputs.heads.Goals as goal
+use Rattle.language_model.proofs.FoundAnswers.{fails, finds_by}
 
 pub returns-in_err-origin : goal.returns-in_err-origin
 returns-in_err-origin c =

@@ -1,7 +1,7 @@
 use Rattle.std.proofs.Common.{◌∙◌, ap, map}
 use Rattle.output_rules.proofs.OutputIndex.{from_scope}
-use Rattle.output_rules.proofs.OutputSteps.{finds_by}
 use Rattle.output_rules.proofs.outputs.attributes.Inputs.taken_over.Goals as goal
+use Rattle.language_model.proofs.FoundAnswers.{finds_by}
 
 pub returns : goal.returns
 returns c =

@@ -4,9 +4,9 @@ use Rattle.language_model.specs.StreamTypes.{port_stands_for}
 use Rattle.language_model.specs.Finds.{Finds}
 use Rattle.stream_rules.specs.Among.{graph_of, unit_of}
 use Rattle.body_sites.specs.Bodies.{body_seen}
-use Rattle.stream_rules.proofs.AnswerSteps.{fails}
 use Rattle.stream_rules.proofs.PortHeads.{head_on, head_stops, none_of}
 use Rattle.stream_rules.proofs.ports.inputs.heads.+heads.Goals as goal
+use Rattle.language_model.proofs.FoundAnswers.{fails}
 
 pub name_passes-returns-in_err-port_stands_for-clause-found : goal.name_passes-returns-in_err-port_stands_for-clause-found
 name_passes-returns-in_err-port_stands_for-clause-found t c =
