@@ -8,7 +8,6 @@ ghost use Rattle.body_rules.specs.Settings.{setting_meant};
 ghost use Rattle.language_model.specs.Finds.{Finds};
 
 mod parts;
-mod refusals;
 mod results;
 mod submits;
 mod variables;

@@ -5,6 +5,5 @@ mod checking;
 mod operators;
 mod parts;
 mod ports;
-mod refusals;
 
 pub use checking::{CheckAnswer, check};

@@ -13,9 +13,8 @@ ghost use Rattle.clause_rules.specs.Programs.{AreInvoked, IsBody, invocation_in,
 
 use crate::parts::{Around, Checks, output_rows, part_of};
 use crate::ports::{config_checked, outputs_of, ports_checked, ports_of};
-use crate::refusals::refused;
 use body_sites::{Body, Sites};
-use language_model::{CheckError, Dollar, Given, Part, Policy, Scope, TypeAnswer};
+use language_model::{CheckError, Dollar, Given, Part, Policy, Scope, TypeAnswer, refused};
 use parameter_rules::{
     CompositeTable, ExpressionSite, Follow, is_partitioned, parameters_of, windows_of,
 };

@@ -10,9 +10,9 @@ ghost use Rattle.language_model.specs.Typing.{after};
 ghost use Rattle.language_model.specs.Finds.{Finds};
 ghost use Rattle.clause_rules.specs.Operators.{around_seen, checks_seen, groups_at, rows_of_schemas, rows_seen, tuple_at};
 
-use crate::refusals::{refused, refused_name};
 use language_model::{
-    CheckError, Collected, Given, Part, Policy, Port, Position, Scope, TypeAnswer,
+    CheckError, Collected, Given, Part, Policy, Port, Position, Scope, TypeAnswer, refused,
+    refused_name,
 };
 use logic_rules::logic_of;
 use output_rules::{groups_of, places_of, tuple_of};

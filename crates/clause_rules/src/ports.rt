@@ -4,8 +4,7 @@ ghost use Rattle.language_model.specs.Checking.{config_checked, fit_ports, port_
 ghost use Rattle.language_model.specs.Finds.{Finds};
 ghost use Rattle.clause_rules.specs.Operators.{named};
 
-use crate::refusals::{refused, refused_name};
-use language_model::{CheckError, Port, TypeAnswer};
+use language_model::{CheckError, Port, TypeAnswer, refused, refused_name};
 use spl_tree::{InputPort, Invocation, Op, OpKind, OutputStream, Parameter};
 use spl_value::{Items, Name, NoMemory, Schema};
 use std::alloc::Global;

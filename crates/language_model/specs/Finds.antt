@@ -1,6 +1,7 @@
 -- What a call answers, against the definition of types.
 use Rattle.std.specs.Prelude.{◌≡◌, ℕ, List, ◌++◌, Option, Some, None, Result, Ok, Err}
 use Rattle.std.specs.Borrow.{Bor}
+use Rattle.language_model.specs.declared.scope.CheckError.{CheckError}
 use Rattle.language_model.specs.declared.scope.CheckError.TheVariants as E
 use Rattle.language_model.specs.Scopes.{At, at_place}
 use Rattle.language_model.specs.Typing.{Found, after}
@@ -19,10 +20,14 @@ FindsBy seen found (Ok x) = found ≡ Ok (seen x)
 FindsBy seen found (Err (Refused refusal)) = found ≡ Err refusal
 FindsBy seen found (Err Memory) = Unit {0}
 
+-- it is the refusal of a name or a word. Of want of memory nothing is said
+abbrev pub IsRefused : CheckError → ℕ → List ℕ → TypeAnswer → Type 0
+IsRefused error at name (Refused refusal) = refusal ≡ record { error = error; at = at; name = Some name }
+IsRefused error at name Memory = Unit {0}
+
 -- the name has no meaning
 abbrev pub IsUnknown : ℕ → List ℕ → TypeAnswer → Type 0
-IsUnknown at name (Refused refusal) = refusal ≡ record { error = E.Unknown; at = at; name = Some name }
-IsUnknown at name Memory = Unit {0}
+IsUnknown at name answer = IsRefused E.Unknown at name answer
 
 -- it is the same number
 abbrev pub Narrows : ℕ → Result ℕ TypeAnswer → Type 0

@@ -15,7 +15,9 @@ mod laws;
 mod outs;
 mod scope;
 
-pub use answer::TypeAnswer;
+pub use answer::{
+    TypeAnswer, mismatch, narrow, refuse, refused, refused_name, unknown, wrong_call,
+};
 pub use checked::{
     Collected, Collector, Gathers, Given, Handled, Handlers, ParameterValue, Part, Policy,
     PortTypes, Position, StateVariable, WindowRule,

@@ -9,7 +9,7 @@ use Rattle.language_model.specs.Typing.{Found, after, refused}
 use Rattle.language_model.specs.declared.answer.TypeAnswer.{TypeAnswer}
 use Rattle.language_model.specs.declared.answer.TypeAnswer.TheVariants.{Refused, Memory}
 use Rattle.language_model.specs.Finds.{Finds, with_front}
-use Rattle.parameter_rules.specs.Refusals.{Refuses}
+use Rattle.language_model.specs.Finds.{IsRefused}
 use Rattle.language_model.proofs.FoundAnswers.{after_after, finds_by, stops}
 use Rattle.spl_value.proofs.Lists.{drop_at}
 
@@ -17,7 +17,7 @@ use Rattle.spl_value.proofs.Lists.{drop_at}
 pub fails : {B : Type 0} (o p : Found B) (r : Result B TypeAnswer) (e : TypeAnswer) → IsErrAnd r (λ y. y ≡ e) → o ≡ p → Finds p (Err e) → Finds o r
 fails o p r e h same g = let q = finds_by o p (Err e) same g in let w = err_from_is_err_and r h in subst (Finds o) (sym (w.1 ∙ ap Err w.2)) q
 
-pub refuses : (A : Type 0) (error : CheckError) (at : ℕ) (name : List ℕ) (a : TypeAnswer) → Refuses error at name a → Finds (refused {A = A} error at (Some name)) (Err a)
+pub refuses : (A : Type 0) (error : CheckError) (at : ℕ) (name : List ℕ) (a : TypeAnswer) → IsRefused error at name a → Finds (refused {A = A} error at (Some name)) (Err a)
 refuses A error at name (Refused r) h = ap Err (sym h)
 refuses A error at name Memory h = tt
 

@@ -1,5 +1,4 @@
 pub mod Following
-pub mod Refusals
 pub mod Roles
 pub mod Sites
 pub mod Taking

@@ -15,8 +15,7 @@ pub(crate) mod refusals;
 
 pub use composites::CompositeTable;
 pub use follow::Follow;
-use language_model::{Scope, TypeAnswer};
-use refusals::mismatch;
+use language_model::{Scope, TypeAnswer, mismatch};
 use spl_tree::{Expr, ExprKind, Number};
 use spl_value::{Bytes, Items, SplType};
 use std::alloc::Global;

@@ -14,8 +14,8 @@ mod measures;
 mod rules;
 
 use crate::literals::ExpressionSite;
-use crate::literals::refusals::{bad_window, extra, narrow, unknown};
-use language_model::{Policy, Port, TypeAnswer};
+use crate::literals::refusals::{bad_window, extra};
+use language_model::{Policy, Port, TypeAnswer, narrow, unknown};
 use rules::{aggregate_rule, is_word, join_rule};
 use spl_tree::{OpKind, Placed, PortWindow, WindowPart};
 use spl_value::Items;

@@ -10,11 +10,10 @@ mod outputs;
 mod same;
 mod standing;
 
-use crate::refusals::mismatch;
 use crate::streams::StreamTable;
 use body_sites::{Body, Sites};
 use inputs::ports_attributes;
-use language_model::{PortTypes, TypeAnswer};
+use language_model::{PortTypes, TypeAnswer, mismatch};
 use outputs::outputs_attributes;
 use same::same_attributes;
 use spl_tree::{Graph, Invocation, Op, OpKind, OutputStream};

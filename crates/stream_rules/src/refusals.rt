@@ -1,23 +1,12 @@
 //! Refusals of streams and ports.
-ghost use Rattle.std.specs.Prelude.{◌≡◌, Err, None};
-ghost use Rattle.language_model.specs.declared.scope.CheckError.TheVariants as E;
+ghost use Rattle.std.specs.Prelude.{Err, None};
 ghost use Rattle.language_model.specs.declared.answer.TypeAnswer.TheVariants.{Refused};
-ghost use Rattle.language_model.specs.Finds.{Finds, IsUnknown};
+ghost use Rattle.language_model.specs.Finds.{IsUnknown};
 ghost use Rattle.stream_rules.specs.Answers.{Copies};
 
 use language_model::{CheckError, CheckRefusal, TypeAnswer};
 use spl_value::{Items, Name};
 use std::alloc::Global;
-
-pub(crate) fn mismatch(at: u32) -> TypeAnswer
-    ensures { result ≡ Refused (record { error = E.Mismatch; at = at; name = None }) }
-{
-    TypeAnswer::Refused(CheckRefusal {
-        error: CheckError::Mismatch,
-        at,
-        name: None,
-    })
-}
 
 /// A name without a meaning, at a place.
 pub(crate) fn unknown(alloc: Global, at: u32, name: &Name) -> TypeAnswer

@@ -12,9 +12,9 @@ ghost use Rattle.stream_rules.specs.FoundStreams.{AreFound};
 mod reading;
 
 use crate::origins::{Leads, origin_of};
-use crate::refusals::{mismatch, unknown};
+use crate::refusals::unknown;
 use body_sites::{Body, Sites};
-use language_model::{CheckRefusal, TypeAnswer};
+use language_model::{CheckRefusal, TypeAnswer, mismatch};
 use spl_tree::{Graph, Shape};
 use spl_value::{NoMemory, Schema, SplType};
 use std::alloc::Global;

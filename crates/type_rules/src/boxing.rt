@@ -5,8 +5,7 @@ ghost use Rattle.spl_value.specs.declared.types.SplType.TheVariants as S;
 ghost use Rattle.language_model.specs.Typing.{typed};
 ghost use Rattle.language_model.specs.Finds.{Finds};
 
-use crate::answer::TypeAnswer;
-use language_model::Typed;
+use language_model::{TypeAnswer, Typed};
 use spl_tree::{Code, Slot};
 use spl_value::{Boxed, SplType, copy_type};
 use std::alloc::Global;

@@ -14,13 +14,13 @@ ghost use Rattle.type_rules.specs.CallNames.{changing, computing, looking};
 ghost use Rattle.type_rules.specs.Kinds.{has_order};
 ghost use Rattle.type_rules.specs.Calls.{asked, asked_by_change, change_asked, first_for, function_found, given, row_for, value_asked};
 
-use crate::answer::{TypeAnswer, mismatch, narrow, not_mutable, wrong_call};
+use crate::answer::not_mutable;
 use crate::boxing::boxed_copy;
 use crate::forms::root_name;
 use crate::kinds::{has_order, integer_of};
 use crate::making::call_typed;
 use crate::names::{function, not_callable, variable};
-use language_model::{Codes, Scope, Signature, Typed};
+use language_model::{Codes, Scope, Signature, TypeAnswer, Typed, mismatch, narrow, wrong_call};
 use spl_tree::{BuiltIn, CallName, Code, Expr, Slot};
 use spl_value::{Boxed, IntKind, Items, SplType, copy_type};
 use std::alloc::Global;

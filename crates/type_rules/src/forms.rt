@@ -6,9 +6,8 @@ ghost use Rattle.language_model.specs.TypingLaws.{step_parts};
 ghost use Rattle.language_model.specs.Finds.{Finds};
 ghost use Rattle.type_rules.specs.Members.{MemberOfPort};
 
-use crate::answer::TypeAnswer;
 use crate::names::{Meaning, meaning_of};
-use language_model::{Port, Scope};
+use language_model::{Port, Scope, TypeAnswer};
 use spl_tree::{BinaryOperator, Code, Expr, ExprKind, Marker, Placed, Slot, Step};
 use spl_value::{Boxed, Name};
 use std::alloc::Global;

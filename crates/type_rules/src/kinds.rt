@@ -11,10 +11,9 @@ ghost use Rattle.type_rules.specs.Kinds.{this_or_other, pair_copied, held_copied
 ghost use Rattle.type_rules.specs.LiteralAnswers.{field_for};
 ghost use Rattle.language_model.specs.TypingLaws.{field_part, field_parts};
 
-use crate::answer::{TypeAnswer, mismatch, narrow};
 use crate::boxing::boxed_copy;
 use crate::names::attribute;
-use language_model::Typed;
+use language_model::{TypeAnswer, Typed, mismatch, narrow};
 use spl_tree::{BinaryCode, Code, Expr, Field, Slot};
 use spl_value::{Attribute, Boxed, IntKind, Schema, SplType, same_type};
 use std::alloc::Global;

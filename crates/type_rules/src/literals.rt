@@ -7,9 +7,10 @@ ghost use Rattle.language_model.specs.Typing.{typed};
 ghost use Rattle.language_model.specs.Finds.{Finds};
 ghost use Rattle.type_rules.specs.LiteralAnswers.{list_given, map_given, with_own};
 
-use crate::answer::{TypeAnswer, mismatch};
 use crate::boxing::boxed;
-use language_model::{Codes, EntryCodes, FieldCodes, Typed, push_code, push_entry, push_field};
+use language_model::{
+    Codes, EntryCodes, FieldCodes, TypeAnswer, Typed, mismatch, push_code, push_entry, push_field,
+};
 use spl_tree::Code;
 use spl_value::{Boxed, Items, Name, Named, NoMemory, Schema, SplType, copy_schema};
 use std::alloc::{AllocError, Global};

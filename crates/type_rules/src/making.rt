@@ -10,11 +10,12 @@ ghost use Rattle.language_model.specs.Typing.{after, level_index, typed, number_
 ghost use Rattle.language_model.specs.Finds.{Finds};
 ghost use Rattle.type_rules.specs.Takings.{Takes, member_taken, index_taken};
 
-use crate::answer::{TypeAnswer, mismatch, narrow, unknown};
 use crate::boxing::{boxed, boxed_copy};
 use crate::kinds::{index_typed, schema_of};
 use crate::names::{attribute, attribute_typed};
-use language_model::{Codes, Port, Takings, Typed, push_element, push_key};
+use language_model::{
+    Codes, Port, Takings, TypeAnswer, Typed, mismatch, narrow, push_element, push_key, unknown,
+};
 use spl_tree::{BuiltIn, Code, Number, Placed, Slot, Taking};
 use spl_value::{Attribute, Boxed, Bytes, Items, Name, SplType, Value, is_of_kind};
 use std::alloc::Global;

@@ -9,10 +9,10 @@ ghost use Rattle.language_model.specs.Typing.{meant_typed, dollar_typed, not_cal
 ghost use Rattle.language_model.specs.Finds.{Points, Finds};
 ghost use Rattle.type_rules.specs.Names.{Holds, Means};
 
-use crate::answer::{TypeAnswer, narrow, unknown};
 use crate::boxing::boxed_copy;
 use language_model::{
-    CheckRefusal, Port, Scope, Signature, Typed, Variable, copy_refusal, copy_typed,
+    CheckRefusal, Port, Scope, Signature, TypeAnswer, Typed, Variable, copy_refusal, copy_typed,
+    narrow, unknown,
 };
 use spl_tree::{Code, Slot};
 use spl_value::{Attribute, Boxed, SplType, copy_schema};

@@ -7,9 +7,8 @@ ghost use Rattle.language_model.specs.Typing.{integer_operator, order_operator, 
 ghost use Rattle.language_model.specs.Finds.{Finds, FindsBy};
 ghost use Rattle.type_rules.specs.Operands.{right_for, operation_given, same_given};
 
-use crate::answer::{TypeAnswer, mismatch};
 use crate::kinds::{held_of, is_same};
-use language_model::Typed;
+use language_model::{TypeAnswer, Typed, mismatch};
 use spl_tree::{
     BinaryCode, BinaryOperator, CastTarget, Code, IntegerOperator, OrderOperator, Prefix,
     PrefixOperator, Slot, UnaryCode,

@@ -6,11 +6,11 @@ ghost use Rattle.language_model.specs.StatementTyping.{level_variable, level_pla
 ghost use Rattle.language_model.specs.Finds.{Finds};
 ghost use Rattle.type_rules.specs.Places.{with_kind};
 
-use crate::answer::{TypeAnswer, not_mutable};
+use crate::answer::not_mutable;
 use crate::boxing::release;
 use crate::calls::may_change;
 use crate::rules::type_of;
-use language_model::{Scope, Takings, Typed};
+use language_model::{Scope, Takings, TypeAnswer, Typed};
 use spl_tree::{Code, Expr, Place, Slot};
 use spl_value::{Boxed, Items, SplType};
 use std::alloc::Global;

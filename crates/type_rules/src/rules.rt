@@ -8,7 +8,6 @@ ghost use Rattle.language_model.specs.Typing.{typing, typed, part, list_typed, w
 ghost use Rattle.language_model.specs.TypingLaws.{parted, parts, entry_parts, field_parts, step_parts};
 ghost use Rattle.language_model.specs.Finds.{Finds, with_front};
 
-use crate::answer::TypeAnswer;
 use crate::boxing::{kind_in, kinds_in, truth};
 use crate::calls::{
     argument_row, behind_first, call_named, called, first_wanted, function_given, given,
@@ -25,7 +24,7 @@ use crate::making::{
 };
 use crate::names::{dollar_typed, name_typed};
 use crate::operators::{branch_wanted, operation_of, prefixed, right_wanted};
-use language_model::{Codes, Scope, Typed};
+use language_model::{Codes, Scope, TypeAnswer, Typed};
 use spl_tree::{BinaryOperator, CallName, Expr, ExprKind, Field, Step};
 use spl_value::{Items, SplType, Value};
 use std::alloc::Global;

@@ -8,14 +8,13 @@ ghost use Rattle.language_model.specs.StatementTyping.{assignment_typing, compou
 ghost use Rattle.language_model.specs.Finds.{Finds};
 ghost use Rattle.type_rules.specs.Places.{only};
 
-use crate::answer::{TypeAnswer, mismatch, narrow, wrong_call};
 use crate::calls::{argument_count, call_named, called, change_asked};
 use crate::kinds::as_wanted;
 use crate::making::code_of;
 use crate::operators::{binary, operator_on};
 use crate::places::{place_given, place_of};
 use crate::rules::{arguments, call, type_of};
-use language_model::{Codes, Scope, Typed};
+use language_model::{Codes, Scope, TypeAnswer, Typed, mismatch, narrow, wrong_call};
 use spl_tree::{BinaryOperator, CallName, Change, Code, Expr, ExprKind, Place, Slot, Statement};
 use spl_value::{Boxed, Items, SplType};
 use std::alloc::Global;

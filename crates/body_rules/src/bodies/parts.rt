@@ -8,10 +8,9 @@ ghost use Rattle.body_rules.specs.Leads.{Leads, inside_loop, shortened};
 ghost use Rattle.body_rules.specs.Settings.{purpose_meant, setting_meant};
 ghost use Rattle.language_model.specs.Finds.{Finds};
 
-use super::refusals::{mismatch, wrong_call};
 use super::variables::add_variable;
 use super::{BodyPurpose, BodySetting};
-use language_model::{Scope, TypeAnswer, Typed};
+use language_model::{Scope, TypeAnswer, Typed, mismatch, wrong_call};
 use spl_tree::{BinaryOperator, Code, Declaration, Expr, Slot, Statement};
 use spl_value::{Boxed, SplType, default_of, same_type};
 use std::alloc::Global;

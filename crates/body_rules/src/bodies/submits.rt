@@ -6,9 +6,8 @@ ghost use Rattle.language_model.specs.Scopes.{first_from};
 ghost use Rattle.body_rules.specs.Settings.{purpose_meant, setting_meant};
 ghost use Rattle.language_model.specs.Finds.{Finds, Points};
 
-use super::refusals::{narrow, unknown, wrong_call};
 use super::{BodyPurpose, BodySetting};
-use language_model::{Port, Scope, TypeAnswer};
+use language_model::{Port, Scope, TypeAnswer, narrow, unknown, wrong_call};
 use spl_tree::{Expr, Marker, Placed, Statement};
 use spl_value::{Boxed, Name, Schema, SplType, copy_schema};
 use std::alloc::Global;

@@ -10,9 +10,9 @@ ghost use Rattle.body_rules.specs.Settings.{setting_meant};
 ghost use Rattle.language_model.specs.Finds.{Finds, Points};
 ghost use Rattle.logic_rules.specs.Handling.{handled_in, handlers_in, seen_scope};
 
-use super::refusals::{handled_twice, narrow, unknown};
+use super::refusals::{handled_twice, unknown};
 use body_rules::{BodySetting, body_of};
-use language_model::{Handled, Port, Scope, TypeAnswer};
+use language_model::{Handled, Port, Scope, TypeAnswer, narrow};
 use spl_tree::{Body, HandledEvent, Handler, Placed, Stmt};
 use spl_value::Items;
 use std::alloc::Global;

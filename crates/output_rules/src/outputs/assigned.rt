@@ -5,9 +5,9 @@ ghost use Rattle.language_model.specs.Typing.{after};
 ghost use Rattle.language_model.specs.Finds.{Finds, with_front};
 ghost use Rattle.output_rules.specs.Marking.{Tells};
 
-use super::answers::{bad_output, narrow, unknown};
+use super::answers::bad_output;
 use super::index::Index;
-use language_model::{Port, TypeAnswer};
+use language_model::{Port, TypeAnswer, narrow, unknown};
 use spl_tree::{Expr, Field, OutputAssignments};
 use spl_value::{Attribute, Items, SplType};
 use std::alloc::Global;

@@ -5,9 +5,9 @@ ghost use Rattle.language_model.specs.Typing.{same_types};
 ghost use Rattle.language_model.specs.Finds.{Finds};
 ghost use Rattle.output_rules.specs.Indexed.{HoldsIn, attributes_in, same_schemas};
 
-use super::answers::{bad_output, narrow};
+use super::answers::bad_output;
 use super::index::Index;
-use language_model::{Port, Scope, TypeAnswer};
+use language_model::{Port, Scope, TypeAnswer, narrow};
 use spl_tree::{Code, Slot};
 use spl_value::{Attribute, NoMemory, SplType, same_type};
 use std::alloc::Global;

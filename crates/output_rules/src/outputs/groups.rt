@@ -7,10 +7,11 @@ ghost use Rattle.language_model.specs.OutputTyping.{assigned_group, called_typin
 ghost use Rattle.language_model.specs.Finds.{Finds};
 ghost use Rattle.output_rules.specs.Collecting.{collecting_meant, collector_on, counted};
 
-use super::answers::{mismatch, wrong_call};
 use super::assigned::{Assigned, Gives, all_given};
 use super::attributes::{Inputs, is_same};
-use language_model::{Collected, Collector, Gathers, Port, Scope, TypeAnswer, Typed};
+use language_model::{
+    Collected, Collector, Gathers, Port, Scope, TypeAnswer, Typed, mismatch, wrong_call,
+};
 use spl_tree::{Expr, ExprKind, OutputAssignments};
 use spl_value::{Attribute, IntKind, Items, NoMemory, SplType, copy_type};
 use std::alloc::Global;

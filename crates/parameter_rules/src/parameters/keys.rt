@@ -7,8 +7,7 @@ ghost use Rattle.language_model.specs.Finds.{Finds};
 
 use super::values::word_of;
 use crate::literals::attributes::attribute;
-use crate::literals::refusals::{mismatch, narrow, unknown};
-use language_model::{Port, TypeAnswer};
+use language_model::{Port, TypeAnswer, mismatch, narrow, unknown};
 use spl_tree::Expr;
 use spl_value::{Attribute, Items, Places, SplType};
 use std::alloc::Global;

@@ -9,9 +9,8 @@ ghost use Rattle.parameter_rules.specs.Sites.{site_seen};
 
 use super::keys::{first_schema, some_keys};
 use super::roles::Role;
-use crate::literals::refusals::mismatch;
 use crate::literals::{ExpressionSite, file_name};
-use language_model::{ParameterValue, Position, TypeAnswer, Typed};
+use language_model::{ParameterValue, Position, TypeAnswer, Typed, mismatch};
 use spl_tree::{Code, Expr, ExprKind, Parameter, Slot};
 use spl_value::{Boxed, SplType};
 use std::alloc::Global;

@@ -12,9 +12,9 @@ ghost use Rattle.parameter_rules.specs.Sites.{numbers_at};
 ghost use Rattle.parameter_rules.specs.Windows.{counted, differing, with_kind, with_limit};
 
 use crate::literals::attributes::attribute;
-use crate::literals::refusals::{bad_window, narrow, unknown};
+use crate::literals::refusals::bad_window;
 use crate::literals::{ExpressionSite, number_literal};
-use language_model::TypeAnswer;
+use language_model::{TypeAnswer, narrow, unknown};
 use spl_tree::{Expr, ExprKind, Number, WindowPart};
 use spl_value::{Attribute, IntKind, SplType, is_of_kind, same_type};
 use std::alloc::Global;

@@ -11,10 +11,9 @@ mod heads;
 
 use super::standing::{Streams, attributes};
 use crate::ports::same::same_attributes;
-use crate::refusals::mismatch;
 use body_sites::Body;
 use heads::heads;
-use language_model::TypeAnswer;
+use language_model::{TypeAnswer, mismatch};
 use spl_tree::InputPort;
 use spl_value::{Attribute, Ids, Items, Schema};
 use std::alloc::Global;

@@ -7,10 +7,10 @@ ghost use Rattle.stream_rules.specs.Among.{Hold, graph_of, unit_of};
 ghost use Rattle.body_sites.specs.Bodies.{body_seen};
 
 use crate::ports::same::same_attributes;
-use crate::refusals::{mismatch, unknown};
+use crate::refusals::unknown;
 use crate::streams::{StreamTable, own_attributes};
 use body_sites::{Body, Sites};
-use language_model::TypeAnswer;
+use language_model::{TypeAnswer, mismatch};
 use spl_tree::{Graph, HeadPort, Shape};
 use spl_value::{Attribute, Schema};
 use std::alloc::Global;

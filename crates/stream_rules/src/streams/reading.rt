@@ -9,8 +9,8 @@ ghost use Rattle.stream_rules.specs.Streams.{IsTableOf};
 
 use super::StreamTable;
 use crate::origins::flag_at;
-use crate::refusals::{copy_of, mismatch};
-use language_model::TypeAnswer;
+use crate::refusals::copy_of;
+use language_model::{TypeAnswer, mismatch};
 use spl_value::{Schema, copy_schema};
 use std::alloc::Global;
 
