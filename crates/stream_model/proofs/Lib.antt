@@ -9,3 +9,7 @@ pub mod Waiting
 pub mod Growing
 pub mod Graphs
 pub mod FileRows
+pub mod Keys
+pub mod Contents
+pub mod Flushes
+pub mod MappedWindows

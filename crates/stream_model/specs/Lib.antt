@@ -8,4 +8,9 @@ pub mod Rows
 pub mod Laws
 pub mod PathLaws
 pub mod CheckedMeaning
+pub mod Keys
+pub mod Inputs
+pub mod Windows
+pub mod PortWindows
+pub mod WindowLaws
 pub mod examples

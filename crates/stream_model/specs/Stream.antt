@@ -33,7 +33,7 @@ abbrev pub any_closes : List Item → Bool
 any_closes [] = false
 any_closes (x ∷ xs) = if closes x then true else any_closes xs
 
-abbrev pub is_empty : List Item → Bool
+abbrev pub is_empty : {A : Type 0} → List A → Bool
 is_empty [] = true
 is_empty (x ∷ xs) = false
 

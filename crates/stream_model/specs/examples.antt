@@ -1,1 +1,2 @@
 pub mod TwoSinks
+pub mod WindowExamples

@@ -3,6 +3,7 @@
 
 mod laws;
 mod record;
+mod window_laws;
 
 pub use laws::{
     chain_is_ordered, ends_on_literals, graph_law, graphs_of_operators, history_law, kinds_law,
@@ -10,4 +11,8 @@ pub use laws::{
 };
 pub use record::{
     ArrivalList, ArrivalLists, Arrivals, ChannelCount, ChannelCounts, Counts, SinkCount, SinkCounts,
+};
+pub use window_laws::{
+    mapped_windows_law, window_contents_law, window_insert_law, window_keys_law,
+    window_markers_law, windows_on_literals,
 };

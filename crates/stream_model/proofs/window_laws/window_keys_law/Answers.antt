@@ -1,0 +1,15 @@
+use Rattle.stream_model.proofs.Contents.{port_law, one_key_law, own_key_law}
+use Rattle.stream_model.proofs.Keys.{same_key_law}
+use Rattle.stream_model.proofs.window_laws.window_keys_law.Goals as goal
+
+pub returns-clause-port : goal.returns-clause-port
+returns-clause-port c = port_law
+
+pub returns-clause-one : goal.returns-clause-one
+returns-clause-one c = one_key_law
+
+pub returns-clause-own : goal.returns-clause-own
+returns-clause-own c = own_key_law
+
+pub returns-clause-same : goal.returns-clause-same
+returns-clause-same c = same_key_law
