@@ -13,3 +13,4 @@ pub mod Keys
 pub mod Contents
 pub mod Flushes
 pub mod MappedWindows
+pub mod Groups

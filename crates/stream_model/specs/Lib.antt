@@ -13,4 +13,6 @@ pub mod Inputs
 pub mod Windows
 pub mod PortWindows
 pub mod WindowLaws
+pub mod Groups
+pub mod GroupLaws
 pub mod examples

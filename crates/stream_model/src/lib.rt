@@ -1,10 +1,12 @@
 //! What a graph of operators means on one thread.
 #![tactic(auto)]
 
+mod group_laws;
 mod laws;
 mod record;
 mod window_laws;
 
+pub use group_laws::{groups_law, groups_on_literals};
 pub use laws::{
     chain_is_ordered, ends_on_literals, graph_law, graphs_of_operators, history_law, kinds_law,
     order_law, path_law, rows_law, rows_on_literals, text_on_literals,

@@ -1,0 +1,14 @@
+-- The groups of a window's content by the places of `groupBy`, which stand in the order of the text. A place that a tuple doesn't
+-- have is left out of its key. Without places the tuples, where there are some, are one group, with the key [].
+use Rattle.std.specs.Prelude.{ℕ, List, map, filter}
+use Rattle.spl_value.specs.declared.value.Value.{Value}
+use Rattle.spl_value.specs.Key.{key_of}
+use Rattle.stream_model.specs.Keys.{same_key, each_key}
+
+-- the tuples of a group, in their order
+abbrev pub of_group : List ℕ → List (List Value) → List Value → List (List Value)
+of_group places ts k = filter (λ t. same_key k (key_of t places)) ts
+
+-- each group once, by ascending key, with its tuples
+abbrev pub groups : List ℕ → List (List Value) → List (List Value × List (List Value))
+groups places ts = each_key (of_group places ts) (map (λ t. key_of t places) ts)
