@@ -14,3 +14,6 @@ pub mod Contents
 pub mod Flushes
 pub mod MappedWindows
 pub mod Groups
+pub mod Records
+pub mod UsedUp
+pub mod OneAfterAnother

@@ -15,4 +15,6 @@ pub mod PortWindows
 pub mod WindowLaws
 pub mod Groups
 pub mod GroupLaws
+pub mod Records
+pub mod RecordLaws
 pub mod examples

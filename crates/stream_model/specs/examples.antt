@@ -1,2 +1,3 @@
 pub mod TwoSinks
 pub mod WindowExamples
+pub mod RecordExamples

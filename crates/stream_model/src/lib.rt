@@ -4,6 +4,7 @@
 mod group_laws;
 mod laws;
 mod record;
+mod record_laws;
 mod window_laws;
 
 pub use group_laws::{groups_law, groups_on_literals};
@@ -14,6 +15,7 @@ pub use laws::{
 pub use record::{
     ArrivalList, ArrivalLists, Arrivals, ChannelCount, ChannelCounts, Counts, SinkCount, SinkCounts,
 };
+pub use record_laws::{records_law, records_on_literals};
 pub use window_laws::{
     mapped_windows_law, window_contents_law, window_insert_law, window_keys_law,
     window_markers_law, windows_on_literals,
