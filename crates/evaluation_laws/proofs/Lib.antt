@@ -1,0 +1,5 @@
+pub mod Taking
+pub mod TakingCodes
+pub mod TakingStatements
+pub mod TakenTurns
+mod OneCall

@@ -1,0 +1,2 @@
+pub mod TurnsLaws
+pub mod examples
