@@ -2,4 +2,5 @@ pub mod Taking
 pub mod TakingCodes
 pub mod TakingStatements
 pub mod TakenTurns
+pub mod PlainCodes
 mod OneCall

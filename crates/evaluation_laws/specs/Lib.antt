@@ -1,2 +1,3 @@
 pub mod TurnsLaws
+pub mod LiteralLaws
 pub mod examples
