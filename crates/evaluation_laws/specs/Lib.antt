@@ -1,3 +1,4 @@
 pub mod TurnsLaws
 pub mod LiteralLaws
+pub mod NamedSlotsLaw
 pub mod examples

@@ -1,10 +1,13 @@
-//! What operators need to know of evaluation: how many turns it takes, and what literals come to.
+//! What operators need to know of evaluation: how many turns it takes, what literals come to, and what bodies do
+//! with the slots that they name.
 #![tactic(auto)]
 
+mod bodies;
 mod examples;
 mod literals;
 mod turns;
 
+pub use bodies::slots_law;
 pub use examples::turns_on_literals;
 pub use literals::literals_law;
 pub use turns::{runs_turns_law, value_turns_law};

@@ -1,0 +1,5 @@
+use Rattle.evaluation_laws.proofs.AgreeingSlots.{named_slots_law}
+use Rattle.evaluation_laws.proofs.bodies.slots_law.Goals as goal
+
+pub returns : goal.returns
+returns c = record { named = named_slots_law }
