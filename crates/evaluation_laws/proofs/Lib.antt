@@ -4,4 +4,6 @@ pub mod TakingStatements
 pub mod TakenTurns
 pub mod AgreeingSlots
 pub mod PlainCodes
+pub mod Keeping
+pub mod ImmutableVariables
 mod OneCall

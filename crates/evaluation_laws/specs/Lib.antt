@@ -1,4 +1,5 @@
 pub mod TurnsLaws
 pub mod LiteralLaws
 pub mod NamedSlotsLaw
+pub mod ImmutableLaws
 pub mod examples

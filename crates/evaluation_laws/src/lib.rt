@@ -1,5 +1,5 @@
 //! What operators need to know of evaluation: how many turns it takes, what literals come to, and what bodies do
-//! with the slots that they name.
+//! with the slots that they name and with variables that aren't mutable.
 #![tactic(auto)]
 
 mod bodies;
