@@ -2,4 +2,5 @@ pub mod TurnsLaws
 pub mod LiteralLaws
 pub mod NamedSlotsLaw
 pub mod ImmutableLaws
+pub mod OutcomeLaws
 pub mod examples

@@ -1,13 +1,15 @@
-//! What operators need to know of evaluation: how many turns it takes, what literals come to, and what bodies do
-//! with the slots that they name and with variables that aren't mutable.
+//! What operators need to know of evaluation: how many turns it takes, what literals come to, what bodies do
+//! with the slots that they name and with variables that aren't mutable, and what becomes of what fits.
 #![tactic(auto)]
 
 mod bodies;
 mod examples;
 mod literals;
+mod outcomes;
 mod turns;
 
 pub use bodies::slots_law;
 pub use examples::turns_on_literals;
 pub use literals::literals_law;
+pub use outcomes::outcomes_law;
 pub use turns::{runs_turns_law, value_turns_law};
