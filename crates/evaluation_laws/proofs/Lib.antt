@@ -4,7 +4,9 @@ pub mod TakingStatements
 pub mod TakenTurns
 pub mod AgreeingSlots
 pub mod PlainCodes
+pub mod FirstValues
 pub mod FittingOutcomes
+pub mod Handling
 pub mod Keeping
 pub mod ImmutableVariables
 mod OneCall

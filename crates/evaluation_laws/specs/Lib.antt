@@ -3,4 +3,5 @@ pub mod LiteralLaws
 pub mod NamedSlotsLaw
 pub mod ImmutableLaws
 pub mod OutcomeLaws
+pub mod HandlerLaws
 pub mod examples

@@ -4,12 +4,14 @@
 
 mod bodies;
 mod examples;
+mod handlers;
 mod literals;
 mod outcomes;
 mod turns;
 
 pub use bodies::slots_law;
 pub use examples::turns_on_literals;
+pub use handlers::handlers_law;
 pub use literals::literals_law;
 pub use outcomes::outcomes_law;
 pub use turns::{runs_turns_law, value_turns_law};
