@@ -10,3 +10,4 @@ pub mod Handling
 pub mod Keeping
 pub mod ImmutableVariables
 mod OneCall
+mod OneHandler

@@ -10,7 +10,7 @@ mod outcomes;
 mod turns;
 
 pub use bodies::slots_law;
-pub use examples::turns_on_literals;
+pub use examples::{constant_on_literals, handler_on_literals, turns_on_literals};
 pub use handlers::handlers_law;
 pub use literals::literals_law;
 pub use outcomes::outcomes_law;
