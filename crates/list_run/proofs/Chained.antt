@@ -1,4 +1,5 @@
 -- The worked graph keeps what checked graphs keep, and can run.
+use Rattle.std.specs.Option.{option_map_or}
 use Rattle.std.proofs.Common.{◌≡◌, ◌↔◌, ℕ, zero, suc, ◌+◌, ◌<◌, ◌≤◌, ◌&&◌, pos, Bool, true, false, IsTrue, List, [], ◌∷◌, ◌++◌, refl, sym, ap, subst, ◌∙◌, length, slice_get, get_or, Option, None, Some, codes, inl, arith}
 use Rattle.std.specs.List.{AllByRecursion, concat, Contains}
 use Rattle.std.proofs.lemmas.Str.{IsUtf8-from_ascii, is_utf8-from_IsUtf8}
@@ -24,7 +25,7 @@ use Rattle.language_model.specs.declared.scope.Port.{Port}
 use Rattle.language_model.specs.declared.scope.Scope.{Scope}
 use Rattle.language_model.specs.declared.scope.Signature.{Signature}
 use Rattle.language_model.specs.CheckedGraph.{CheckedGraph}
-use Rattle.stream_model.specs.CheckedMeaning.{op_of}
+use Rattle.stream_model.specs.examples.CheckedGraphs.{op_of}
 use Rattle.language_model.specs.Checking.{has_text_form, level_text_form}
 use Rattle.language_model.specs.CodeFits as F
 use Rattle.language_model.specs.CodeFits.{CodeFits}
@@ -33,12 +34,12 @@ use Rattle.language_model.specs.FlatLaws.{IsMadeAs, IsTopological}
 use Rattle.language_model.specs.Keeping as K
 use Rattle.language_model.specs.Keeping.{Keeps, GraphKeeps, OperatorFits, PortsHave}
 use Rattle.language_model.specs.Literals.{is_file_name}
-use Rattle.stream_model.specs.Meaning.{connections}
-use Rattle.stream_model.specs.React.{Operator, Source, FileSource}
+use Rattle.stream_model.specs.Meaning.{}
+use Rattle.stream_model.specs.Operators.{Operator, connections, output_attributes}
 use Rattle.stream_model.specs.Stream.{is_closed, TuplesFit}
 use Rattle.language_model.specs.StreamTypes.{Attributes}
 use Rattle.list_run.specs.Chain.{numbers, divides, chain, chain_graph, chain_rows}
-use Rattle.list_run.specs.Runs.{CanRun, RowsFit, rows_at}
+use Rattle.list_run.specs.Runs.{CanRun, RowsFit, is_run, rows_at}
 
 abbrev flat : Flat
 flat = chain.graph
@@ -321,8 +322,19 @@ chain_keeps = record {
     none i s at = cc
 
 pub chain_runs : CanRun chain chain_graph
-chain_runs = record { graph = refl; single = single }
+chain_runs = record { graph = refl; kinds = kinds; single = single }
   where
+    run : (x op : Operator) → Some x ≡ Some op → is_run x.clauses ≡ true → is_run op.clauses ≡ true
+    run x op e h = let same : x ≡ op = cc in subst (λ (o : Operator). is_run o.clauses ≡ true) same h
+
+    kinds : (n : ℕ) (op : Operator) → slice_get chain_graph.ops n ≡ Some op → is_run op.clauses ≡ true
+    kinds zero op e = run _ op e refl
+    kinds (suc zero) op e = run _ op e refl
+    kinds (suc (suc zero)) op e = run _ op e refl
+    kinds (suc (suc (suc zero))) op e = run _ op e refl
+    kinds (suc (suc (suc (suc zero)))) op e = run _ op e refl
+    kinds (suc (suc (suc (suc (suc n))))) op e = absurd cc
+
     few : (x op : Operator) → Some x ≡ Some op → length (connections x) ≤ 1 → length (connections op) ≤ 1
     few x op e h = let same : x ≡ op = cc in subst (λ (o : Operator). length (connections o) ≤ 1) same h
 
@@ -340,20 +352,20 @@ row_fits n h = fits_tuple numbers (V.Int (pos n) ∷ []) ∙ ap (λ b. b && true
 pub chain_rows_fit : RowsFit chain_graph chain_rows
 chain_rows_fit = record { count = refl; closed = closed; fit = fit }
   where
-    closed : (n : ℕ) (op : Operator) (source : Source) → slice_get chain_graph.ops n ≡ Some op → op.kind ≡ FileSource source → is_closed (rows_at chain_rows n) ≡ true
-    closed zero op source e k = refl
-    closed (suc zero) op source e k = absurd cc
-    closed (suc (suc zero)) op source e k = absurd cc
-    closed (suc (suc (suc zero))) op source e k = absurd cc
-    closed (suc (suc (suc (suc zero)))) op source e k = absurd cc
-    closed (suc (suc (suc (suc (suc n))))) op source e k = absurd cc
+    closed : (n : ℕ) (op : Operator) (file : List ℕ) (strict : Bool) → slice_get chain_graph.ops n ≡ Some op → op.clauses ≡ A.FileSource file strict → is_closed (rows_at chain_rows n) ≡ true
+    closed zero op file strict e k = refl
+    closed (suc zero) op file strict e k = absurd cc
+    closed (suc (suc zero)) op file strict e k = absurd cc
+    closed (suc (suc (suc zero))) op file strict e k = absurd cc
+    closed (suc (suc (suc (suc zero)))) op file strict e k = absurd cc
+    closed (suc (suc (suc (suc (suc n))))) op file strict e k = absurd cc
 
-    fit : (n : ℕ) (op : Operator) (source : Source) → slice_get chain_graph.ops n ≡ Some op → op.kind ≡ FileSource source → TuplesFit source.schema (rows_at chain_rows n)
-    fit zero op source e k =
-        let same : record { file = codes "in"; schema = numbers; strict = true } ≡ source = cc in
-        subst (λ (x : Source). TuplesFit x.schema (rows_at chain_rows 0)) same (row_fits 3 (fits_int I32 (pos 3)), (row_fits 12 (fits_int I32 (pos 12)), (row_fits 0 (fits_int I32 (pos 0)), (row_fits 4 (fits_int I32 (pos 4)), tt))))
-    fit (suc zero) op source e k = tt
-    fit (suc (suc zero)) op source e k = tt
-    fit (suc (suc (suc zero))) op source e k = tt
-    fit (suc (suc (suc (suc zero)))) op source e k = tt
-    fit (suc (suc (suc (suc (suc n))))) op source e k = tt
+    fit : (n : ℕ) (op : Operator) (file : List ℕ) (strict : Bool) → slice_get chain_graph.ops n ≡ Some op → op.clauses ≡ A.FileSource file strict → TuplesFit (output_attributes op 0) (rows_at chain_rows n)
+    fit zero op file strict e k =
+        subst (λ (x : Option Operator). TuplesFit (option_map_or (λ (o : Operator). output_attributes o 0) x []) (rows_at chain_rows 0)) e
+        (row_fits 3 (fits_int I32 (pos 3)), (row_fits 12 (fits_int I32 (pos 12)), (row_fits 0 (fits_int I32 (pos 0)), (row_fits 4 (fits_int I32 (pos 4)), tt))))
+    fit (suc zero) op file strict e k = tt
+    fit (suc (suc zero)) op file strict e k = tt
+    fit (suc (suc (suc zero))) op file strict e k = tt
+    fit (suc (suc (suc (suc zero)))) op file strict e k = tt
+    fit (suc (suc (suc (suc (suc n))))) op file strict e k = tt

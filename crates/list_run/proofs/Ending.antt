@@ -15,7 +15,6 @@ use Rattle.spl_tree.specs.declared.graph.Op.{Op}
 use Rattle.language_model.specs.declared.checked.Part.{Part}
 use Rattle.language_model.specs.declared.checked.Part.TheVariants as A
 use Rattle.language_model.specs.CheckedGraph.{CheckedGraph}
-use Rattle.stream_model.specs.CheckedMeaning.{kind_of}
 use Rattle.stream_model.specs.Ends.{stream_fault, operator_fault, is_read, unread_fault, first_fault, end_fault}
 use Rattle.language_model.specs.Keeping.{Keeps}
 use Rattle.stream_model.specs.Laws.{GraphLaw}
@@ -23,7 +22,8 @@ use Rattle.stream_model.specs.Meaning.{Graph, Lists, Entries, Meaning, meaning}
 use Rattle.language_model.specs.Outcomes.{Outcome, Done, Faulted, Stuck}
 use Rattle.stream_model.specs.PathLaws.{pass, passed}
 use Rattle.stream_model.proofs.PathLaws.{sink_fault}
-use Rattle.stream_model.specs.React.{Operator, Kind, FileSink, passes}
+use Rattle.stream_model.specs.Operators.{Operator}
+use Rattle.stream_model.specs.Bodies.{at_tuple, most_turns, passes}
 use Rattle.list_run.specs.Runs.{CanRun}
 use Rattle.list_run.specs.SinkLaws.{FaultsName, FaultNamesLaw}
 use Rattle.list_run.proofs.GraphOperators.{Shape, source, filter, sink, shape_of, operator_at}
@@ -43,7 +43,7 @@ made_end g m o s outs = ap (end_fault g m o) outs ∙ or_none (unread_fault g m 
 
 -- and of a sink
 pub sink_end : (c : CheckedGraph) (g : Graph) → CanRun c g → (rows : Lists) (entries : Entries) (n t : ℕ) (o : Operator) (file : List ℕ) → slice_get g.ops n ≡ Some o
-    → o.kind ≡ FileSink file → o.ins ≡ (t ∷ []) ∷ [] → o.outs ≡ []
+    → o.clauses ≡ A.FileSink file → o.ins ≡ (t ∷ []) ∷ [] → o.outs ≡ []
     → end_fault g (meaning g rows entries) o o.outs ≡ stream_fault ((meaning g rows entries).streams t)
 sink_end c g r rows entries n t o file at kind ins outs =
     ap (end_fault g (meaning g rows entries) o) outs
@@ -70,13 +70,13 @@ within_passing : (count n : ℕ) → n < count → (o : Outcome Bool) (vs : List
 within_passing count n lt (Done true turns) vs behind h = h
 within_passing count n lt (Done false turns) vs behind h = h
 within_passing count n lt (Faulted kind) vs behind h = (lt, tt)
-within_passing count n lt Stuck vs behind h = h
+within_passing count n lt Stuck vs behind h = (lt, tt)
 
 passed_within : (count n : ℕ) → n < count → (functions : List Function) (condition : Option (Code Slot)) (items : List Item) → Within count items
     → Within count (passed n functions condition items)
 passed_within count n lt functions condition [] h = tt
 passed_within count n lt functions condition (I.Tuple vs ∷ items) h =
-    within_passing count n lt (passes functions condition vs) vs (passed n functions condition items) (passed_within count n lt functions condition items h)
+    within_passing count n lt (passes functions condition (at_tuple vs) most_turns) vs (passed n functions condition items) (passed_within count n lt functions condition items h)
 passed_within count n lt functions condition (I.Window ∷ items) h = passed_within count n lt functions condition items h
 passed_within count n lt functions condition (I.Final ∷ items) h = tt
 passed_within count n lt functions condition (I.Bad f ∷ items) h = (h.0, tt)
@@ -117,7 +117,7 @@ end_within : (c : CheckedGraph) (g : Graph) → Running c g → (rows : Lists) (
     → (n : ℕ) (o : Operator) → slice_get g.ops n ≡ Some o → end_fault g (meaning g rows entries) o o.outs ≡ Some f → f.op < length g.ops
 end_within c g r rows entries f each n o at e =
     let is = operator_at c g r.runs.graph n o at in
-    by_shape is.op is.part is.there is.is_kind (ap (λ (x : Operator). x.ins) is.same) (ap (λ (x : Operator). x.outs) is.same) (ap (λ (x : Operator). x.kind) is.same)
+    by_shape is.op is.part is.there (ap (λ (x : Operator). x.ins) is.same) (ap (λ (x : Operator). x.outs) is.same) (ap (λ (x : Operator). x.clauses) is.same)
     (shape_of c g r.keeps r.runs n is.op is.part is.there is.has)
   where
     of_stream : (s : ℕ) → s < length c.graph.streams → stream_fault ((meaning g rows entries).streams s) ≡ Some f → f.op < length g.ops
@@ -128,14 +128,13 @@ end_within c g r rows entries f each n o at e =
         of_stream s (out_within c r.keeps n s op there outs)
         (unread (is_read g.ops s) (stream_fault ((meaning g rows entries).streams s)) f (sym (made_end g (meaning g rows entries) o s (same ∙ outs)) ∙ e))
 
-    by_shape : (op : Op) (part : Part) {kind : Kind} → slice_get c.graph.ops n ≡ Some op → kind_of c op part ≡ Some kind → o.ins ≡ op.ins → o.outs ≡ op.outs → o.kind ≡ kind
+    by_shape : (op : Op) (part : Part) → slice_get c.graph.ops n ≡ Some op → o.ins ≡ op.ins → o.outs ≡ op.outs → o.clauses ≡ part
         → Shape c op part → f.op < length g.ops
-    by_shape op _ there has ins outs kind (source file strict s no_ins only) = of_output s op there outs only
-    by_shape op _ there has ins outs kind (filter condition t s one only same fits) = of_output s op there outs only
-    by_shape op _ {kind} there has ins outs is (sink file t one none) =
-        let sinks : kind ≡ FileSink file = cc in
+    by_shape op _ there ins outs kind (source file strict s no_ins only) = of_output s op there outs only
+    by_shape op _ there ins outs kind (filter condition t s one only same fits) = of_output s op there outs only
+    by_shape op _ there ins outs is (sink file t one none) =
         of_stream t (in_within c r.keeps n t op there one)
-        (sym (sink_end c g r.runs rows entries n t o file at (is ∙ sinks) (ins ∙ one) (outs ∙ none)) ∙ e)
+        (sym (sink_end c g r.runs rows entries n t o file at is (ins ∙ one) (outs ∙ none)) ∙ e)
 
 pub fault_names_law : GraphLaw → FaultNamesLaw
 fault_names_law law c g rows entries f k r names e =
@@ -143,6 +142,6 @@ fault_names_law law c g rows entries f k r names e =
     let found = first_is (λ o. end_fault g (meaning g rows entries) o o.outs) g.ops f e in
     end_within c g running rows entries f
     (by_order c g running rows entries (Within (length g.ops)) (record {
-      sources = λ n o src at kind. named_within (length g.ops) n (slice_get_within g.ops n o at) (rows n) (names n o src at kind);
+      sources = λ n o file strict at kind. named_within (length g.ops) n (slice_get_within g.ops n o at) (rows n) (names n o file strict at kind);
       filters = λ n condition items lt h. passed_within (length g.ops) n lt c.functions condition items h;
     })) found.0 found.1 found.2 found.3

@@ -15,10 +15,10 @@ use Rattle.language_model.specs.Functions.{value}
 use Rattle.language_model.specs.Operators.{truth_of}
 use Rattle.language_model.specs.Outcomes.{Outcome, Done, Faulted, Stuck, followed, need}
 use Rattle.stream_model.specs.PathLaws.{pass, fault_by}
-use Rattle.stream_model.specs.React.{most_turns, at_tuple, holds}
+use Rattle.stream_model.specs.Bodies.{most_turns, at_tuple, holds}
 use Rattle.value_operations.specs.Answers.{Evaluates}
 use Rattle.expr_eval.specs.Fitting.{IsFit}
-use Rattle.list_run.specs.Filter.{no_tuple, is_true, decided, judged, Judges}
+use Rattle.list_run.specs.Filter.{no_tuple, decided, judged, Judges}
 use Rattle.list_run.specs.declared.filter.Judged.{Judged}
 use Rattle.list_run.specs.declared.filter.Judged.TheVariants as J
 
@@ -32,29 +32,19 @@ evaluated functions c env vs answer turns at h =
 
 -- whether it is true decides
 by_value : (n : ℕ) (functions : List Function) (c : Code Slot) (vs : List Value) (v : Value) (turns : ℕ) (behind : List Item)
-    → value functions c (world_of (at_tuple vs)) most_turns ≡ Done v turns → pass n (holds functions c vs) vs behind ≡ (if is_true v then I.Tuple vs ∷ behind else behind)
+    → value functions c (world_of (at_tuple vs)) most_turns ≡ Done v turns → pass n (holds functions c (at_tuple vs) most_turns) vs behind ≡ judged n (decided (truth_of v) vs) behind
 by_value n functions c vs v turns behind is =
-    ap (λ (o : Outcome Value). pass n (followed o (λ w turns. need (truth_of w) (λ b. Done b turns))) vs behind) is ∙ by (truth_of v) refl
+    ap (λ (o : Outcome Value). pass n (followed o (λ w turns. need (truth_of w) (λ b. Done b turns))) vs behind) is ∙ by (truth_of v)
   where
-    by : (o : Option Bool) → truth_of v ≡ o → pass n (need (truth_of v) (λ b. Done b turns)) vs behind ≡ (if is_true v then I.Tuple vs ∷ behind else behind)
-    by (Some true) e = rw e refl
-    by (Some false) e = rw e refl
-    by None e = rw e refl
+    by : (o : Option Bool) → pass n (need o (λ b. Done b turns)) vs behind ≡ judged n (decided o vs) behind
+    by (Some true) = refl
+    by (Some false) = refl
+    by None = refl
 
 -- its fault is the filter's
 by_fault : (n : ℕ) (functions : List Function) (c : Code Slot) (vs : List Value) (behind : List Item) (kind : FaultKind)
-    → value functions c (world_of (at_tuple vs)) most_turns ≡ Faulted kind → pass n (holds functions c vs) vs behind ≡ I.Bad (fault_by n kind) ∷ []
+    → value functions c (world_of (at_tuple vs)) most_turns ≡ Faulted kind → pass n (holds functions c (at_tuple vs) most_turns) vs behind ≡ I.Bad (fault_by n kind) ∷ []
 by_fault n functions c vs behind kind is = ap (λ (o : Outcome Value). pass n (followed o (λ w turns. need (truth_of w) (λ b. Done b turns))) vs behind) is
-
--- by what is answered
-judges_value : (b : Bool) (functions : List Function) (c : Code Slot) (vs : List Value) (v : Value) (turns : ℕ)
-    → value functions c (world_of (at_tuple vs)) most_turns ≡ Done v turns → b ≡ is_true v → Judges (holds functions c vs) vs (decided b vs)
-judges_value b functions c vs v turns is same n behind =
-    by_value n functions c vs v turns behind is ∙ ap (λ (t : Bool). if t then I.Tuple vs ∷ behind else behind) (sym same) ∙ by b
-  where
-    by : (t : Bool) → cond t (I.Tuple vs ∷ behind) behind ≡ judged n (cond t (J.Kept vs) J.Dropped) behind
-    by true = refl
-    by false = refl
 
 -- the environment with the tuple in it
 with_tuple : (env : Env) (inputs : List (List Value)) (vs : List Value) → env ≡ no_tuple → inputs ≡ env.inputs ++ vs ∷ []
@@ -81,17 +71,17 @@ taken_out : (env : Env) (inputs rest : List (List Value)) (vs last : List Value)
 taken_out env inputs rest vs last empty pushed popped =
     only_last rest vs last (sym (pushed ∙ ap (λ (e : Env). e.inputs ++ vs ∷ []) empty) ∙ popped)
 
-pub by_decided : (functions : List Function) (c : Code Slot) (env : Env) (inputs rest : List (List Value)) (vs last : List Value) (v : Value) (turns : ℕ) (passes : Bool) (answer : Judged)
+pub by_decided : (functions : List Function) (c : Code Slot) (env : Env) (inputs rest : List (List Value)) (vs last : List Value) (v : Value) (turns : ℕ) (answer : Judged)
     → env ≡ no_tuple → inputs ≡ env.inputs ++ vs ∷ [] → inputs ≡ rest ++ last ∷ []
     → Evaluates (value functions c (world_of (record { inputs = inputs; vars = env.vars; punct = env.punct })) 1000000) (E.Value v) turns
-    → passes ≡ is_true v → answer ≡ decided passes last → Judges (holds functions c vs) vs answer
-by_decided functions c env inputs rest vs last v turns passes answer empty pushed popped is same made =
-    subst (Judges (holds functions c vs) vs) (ap (decided passes) (sym (taken_out env inputs rest vs last empty pushed popped)) ∙ sym made)
-    (judges_value passes functions c vs v turns (evaluated functions c _ vs (E.Value v) turns (with_tuple env inputs vs empty pushed) is) same)
+    → answer ≡ decided (truth_of v) last → Judges (holds functions c (at_tuple vs) most_turns) vs answer
+by_decided functions c env inputs rest vs last v turns answer empty pushed popped is made =
+    subst (Judges (holds functions c (at_tuple vs) most_turns) vs) (ap (decided (truth_of v)) (sym (taken_out env inputs rest vs last empty pushed popped)) ∙ sym made)
+    (λ n behind. by_value n functions c vs v turns behind (evaluated functions c _ vs (E.Value v) turns (with_tuple env inputs vs empty pushed) is))
 
 pub by_faulted : (functions : List Function) (c : Code Slot) (env : Env) (inputs : List (List Value)) (vs : List Value) (kind : FaultKind) (turns : ℕ)
     → env ≡ no_tuple → inputs ≡ env.inputs ++ vs ∷ []
     → Evaluates (value functions c (world_of (record { inputs = inputs; vars = env.vars; punct = env.punct })) 1000000) (E.Bad kind) turns
-    → Judges (holds functions c vs) vs (J.Faulted kind)
+    → Judges (holds functions c (at_tuple vs) most_turns) vs (J.Faulted kind)
 by_faulted functions c env inputs vs kind turns empty pushed is n behind =
     by_fault n functions c vs behind kind (evaluated functions c _ vs (E.Bad kind) turns (with_tuple env inputs vs empty pushed) is)

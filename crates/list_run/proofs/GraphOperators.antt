@@ -1,7 +1,7 @@
 -- The operators of a checked graph of sources, filters and sinks, by their numbers.
-use Rattle.std.proofs.Common.{◌≡◌, ℕ, zero, suc, ◌+◌, ◌<◌, ◌≤◌, List, [], ◌∷◌, ◌++◌, refl, sym, ap, subst, ◌∙◌, length, slice_get, Option, Some, None, Bool, arith}
+use Rattle.std.proofs.Common.{◌≡◌, ℕ, zero, suc, ◌+◌, ◌<◌, ◌≤◌, List, [], ◌∷◌, ◌++◌, refl, sym, ap, subst, ◌∙◌, length, slice_get, Option, Some, Bool, true, arith}
 use Rattle.std.specs.List.{concat, Contains}
-use Rattle.std.specs.Option.{option_map, unwrap_or}
+use Rattle.std.specs.Option.{unwrap_or}
 use Rattle.std.proofs.lemmas.Option.{slice_get_within}
 use Rattle.spl_tree.specs.declared.graph.Op.{Op}
 use Rattle.spl_tree.specs.declared.graph.OpKind.{OpKind}
@@ -12,99 +12,69 @@ use Rattle.language_model.specs.declared.checked.Part.TheVariants as A
 use Rattle.language_model.specs.declared.scope.Scope.{Scope}
 use Rattle.language_model.specs.declared.scope.Signature.{Signature}
 use Rattle.language_model.specs.CheckedGraph.{CheckedGraph}
-use Rattle.stream_model.specs.CheckedMeaning.{graph_of, operators_from, operator_with, with_operator, kind_of, schema_at}
+use Rattle.stream_model.specs.CheckedMeaning.{graph_of, operators_from, operator_with, schema_at}
 use Rattle.language_model.specs.Keeping as K
 use Rattle.language_model.specs.Keeping.{Keeps, StreamsHave, PortsHave, PartFits, NamesPorts}
 use Rattle.stream_model.specs.Laws.{IsNumbered}
-use Rattle.stream_model.specs.Meaning.{Graph, connections}
-use Rattle.stream_model.specs.React.{Operator, Kind}
+use Rattle.stream_model.specs.Meaning.{Graph}
+use Rattle.stream_model.specs.Operators.{Operator, connections}
 use Rattle.language_model.specs.StreamTypes.{Attributes}
 use Rattle.language_model.specs.WorldFits.{FunctionsFit}
 use Rattle.list_run.specs.Fitting.{FitsSchema}
-use Rattle.list_run.specs.Runs.{CanRun}
+use Rattle.list_run.specs.Runs.{CanRun, is_run}
 use Rattle.spl_value.proofs.Lists.{get_below as there_is}
 
 -- ---- the operators of the list
-
--- an operator in front of others, by its parts
-record Parted (f : Kind → Operator) (k : Option Kind) (rest : Option (List Operator)) (all : List Operator) : Type 0 where
-  pub kind : Kind
-  pub is_kind : k ≡ Some kind
-  pub more : List Operator
-  pub others : rest ≡ Some more
-  pub whole : all ≡ f kind ∷ more
-
-parted : (f : Kind → Operator) (k : Option Kind) (rest : Option (List Operator)) (all : List Operator) → with_operator (option_map f k) rest ≡ Some all
-    → Parted f k rest all
-parted f None rest all e = absurd cc
-parted f (Some kind) None all e = absurd cc
-parted f (Some kind) (Some more) all e = record { kind = kind; is_kind = refl; more = more; others = refl; whole = cc }
 
 -- an operator of the list is one of the graph with its clauses
 pub record OperatorAt (c : CheckedGraph) (from : ℕ) (ops : List Op) (parts : List Part) (n : ℕ) (o : Operator) : Type 0 where
   pub op : Op
   pub part : Part
-  pub kind : Kind
   pub there : slice_get ops n ≡ Some op
   pub has : slice_get parts n ≡ Some part
-  pub is_kind : kind_of c op part ≡ Some kind
-  pub same : o ≡ operator_with c (from + n) op kind
+  pub same : o ≡ operator_with c (from + n) op part
 
-operator_from : (c : CheckedGraph) (from : ℕ) (ops : List Op) (parts : List Part) (all : List Operator) → operators_from c from ops parts ≡ Some all
-    → (n : ℕ) (o : Operator) → slice_get all n ≡ Some o → OperatorAt c from ops parts n o
-operator_from c from [] parts all e n o at = let none : all ≡ [] = cc in let past : slice_get {X = Operator} [] n ≡ Some o = ap (λ xs. slice_get xs n) (sym none) ∙ at in absurd cc
-operator_from c from (op ∷ ops) [] all e n o at = let none : all ≡ [] = cc in let past : slice_get {X = Operator} [] n ≡ Some o = ap (λ xs. slice_get xs n) (sym none) ∙ at in absurd cc
-operator_from c from (op ∷ ops) (part ∷ parts) all e zero o at =
-    let p = parted (operator_with c from op) (kind_of c op part) (operators_from c (suc from) ops parts) all e in
-    let first : Some (operator_with c from op p.kind) ≡ Some o = ap (λ xs. slice_get xs 0) (sym p.whole) ∙ at in
-    let same : o ≡ operator_with c from op p.kind = cc in
+operator_from : (c : CheckedGraph) (from : ℕ) (ops : List Op) (parts : List Part) (n : ℕ) (o : Operator) → slice_get (operators_from c from ops parts) n ≡ Some o
+    → OperatorAt c from ops parts n o
+operator_from c from [] parts n o at = absurd cc
+operator_from c from (op ∷ ops) [] n o at = absurd cc
+operator_from c from (op ∷ ops) (part ∷ parts) zero o at =
+    let same : o ≡ operator_with c from op part = cc in
     let number : from ≡ from + 0 = omega arith in
-    record { op = op; part = part; kind = p.kind; there = refl; has = refl; is_kind = p.is_kind; same = same ∙ ap (λ k. operator_with c k op p.kind) number }
-operator_from c from (op ∷ ops) (part ∷ parts) all e (suc n) o at =
-    let p = parted (operator_with c from op) (kind_of c op part) (operators_from c (suc from) ops parts) all e in
-    let rest = operator_from c (suc from) ops parts p.more p.others n o (ap (λ xs. slice_get xs (suc n)) (sym p.whole) ∙ at) in
+    record { op = op; part = part; there = refl; has = refl; same = same ∙ ap (λ k. operator_with c k op part) number }
+operator_from c from (op ∷ ops) (part ∷ parts) (suc n) o at =
+    let rest = operator_from c (suc from) ops parts n o at in
     let number : suc from + n ≡ from + suc n = omega arith in
-    record { op = rest.op; part = rest.part; kind = rest.kind; there = rest.there; has = rest.has; is_kind = rest.is_kind; same = rest.same ∙ ap (λ k. operator_with c k rest.op rest.kind) number }
+    record { op = rest.op; part = rest.part; there = rest.there; has = rest.has; same = rest.same ∙ ap (λ k. operator_with c k rest.op rest.part) number }
 
-operators_length : (c : CheckedGraph) (from : ℕ) (ops : List Op) (parts : List Part) (all : List Operator) → length parts ≡ length ops
-    → operators_from c from ops parts ≡ Some all → length all ≡ length ops
-operators_length c from [] parts all l e = let none : all ≡ [] = cc in ap length none
-operators_length c from (op ∷ ops) [] all l e = absurd (omega (arith, l))
-operators_length c from (op ∷ ops) (part ∷ parts) all l e =
-    let p = parted (operator_with c from op) (kind_of c op part) (operators_from c (suc from) ops parts) all e in
+operators_length : (c : CheckedGraph) (from : ℕ) (ops : List Op) (parts : List Part) → length parts ≡ length ops → length (operators_from c from ops parts) ≡ length ops
+operators_length c from [] parts l = refl
+operators_length c from (op ∷ ops) [] l = absurd (omega (arith, l))
+operators_length c from (op ∷ ops) (part ∷ parts) l =
     let same : length parts ≡ length ops = omega (arith, l) in
-    let more = operators_length c (suc from) ops parts p.more same p.others in
-    ap length p.whole ∙ omega (arith, more)
+    let more = operators_length c (suc from) ops parts same in
+    omega (arith, more)
 
 -- ---- the graph
 
-graph_made : (topo : List ℕ) (all : Option (List Operator)) (g : Graph) → option_map (λ ops. record { ops = ops; topo = topo }) all ≡ Some g
-    → (all ≡ Some g.ops) × (g.topo ≡ topo)
-graph_made topo None g e = absurd cc
-graph_made topo (Some ops) g e =
-    let same : record { ops = ops; topo = topo } ≡ g = cc in (ap (λ (x : Graph). Some x.ops) same, ap (λ (x : Graph). x.topo) (sym same))
+pub same_topo : (c : CheckedGraph) (g : Graph) → graph_of c ≡ g → g.topo ≡ c.graph.topo
+same_topo c g e = ap (λ (x : Graph). x.topo) (sym e)
 
-ops_made : (c : CheckedGraph) (g : Graph) → graph_of c ≡ Some g → operators_from c 0 c.graph.ops c.parts ≡ Some g.ops
-ops_made c g e = (graph_made c.graph.topo (operators_from c 0 c.graph.ops c.parts) g e).0
-
-pub same_topo : (c : CheckedGraph) (g : Graph) → graph_of c ≡ Some g → g.topo ≡ c.graph.topo
-same_topo c g e = (graph_made c.graph.topo (operators_from c 0 c.graph.ops c.parts) g e).1
-
-pub same_length : (c : CheckedGraph) (g : Graph) → Keeps c → graph_of c ≡ Some g → length g.ops ≡ length c.graph.ops
-same_length c g k e = operators_length c 0 c.graph.ops c.parts g.ops k.parts (ops_made c g e)
+pub same_length : (c : CheckedGraph) (g : Graph) → Keeps c → graph_of c ≡ g → length g.ops ≡ length c.graph.ops
+same_length c g k e = ap (λ (x : Graph). length x.ops) (sym e) ∙ operators_length c 0 c.graph.ops c.parts k.parts
 
 -- an operator of the graph by its number
-pub operator_at : (c : CheckedGraph) (g : Graph) → graph_of c ≡ Some g → (n : ℕ) (o : Operator) → slice_get g.ops n ≡ Some o
+pub operator_at : (c : CheckedGraph) (g : Graph) → graph_of c ≡ g → (n : ℕ) (o : Operator) → slice_get g.ops n ≡ Some o
     → OperatorAt c 0 c.graph.ops c.parts n o
-operator_at c g e n o at = operator_from c 0 c.graph.ops c.parts g.ops (ops_made c g e) n o at
+operator_at c g e n o at = operator_from c 0 c.graph.ops c.parts n o (ap (λ (x : Graph). slice_get x.ops n) e ∙ at)
 
-pub is_numbered : (c : CheckedGraph) (g : Graph) → graph_of c ≡ Some g → IsNumbered g
+pub is_numbered : (c : CheckedGraph) (g : Graph) → graph_of c ≡ g → IsNumbered g
 is_numbered c g e n o at =
     let is = operator_at c g e n o at in
     let number : 0 + n ≡ n = omega arith in
     ap (λ (x : Operator). x.number) is.same ∙ number
 
-pub operator_there : (c : CheckedGraph) (g : Graph) → Keeps c → graph_of c ≡ Some g → (n : ℕ) → n < length c.graph.ops → (o : Operator) × (slice_get g.ops n ≡ Some o)
+pub operator_there : (c : CheckedGraph) (g : Graph) → Keeps c → graph_of c ≡ g → (n : ℕ) → n < length c.graph.ops → (o : Operator) × (slice_get g.ops n ≡ Some o)
 operator_there c g k e n h = there_is g.ops n (let same = same_length c g k e in omega (arith, same, h))
 
 -- ---- what each operator is
@@ -150,27 +120,27 @@ one_port_in schemas _ _ schema e (K.one_port streams ports first rest h hs) few 
 schema_is : (c : CheckedGraph) (s : ℕ) (schema : Attributes) → slice_get c.schemas s ≡ Some schema → schema_at c s ≡ schema
 schema_is c s schema e = ap (λ o. unwrap_or o []) e
 
-by_clauses : (c : CheckedGraph) (op : Op) (signatures : List Signature) (scope : Scope) (kind : OpKind) (ins outs : List Attributes) (part : Part) (k : Kind)
+by_clauses : (c : CheckedGraph) (op : Op) (signatures : List Signature) (scope : Scope) (kind : OpKind) (ins outs : List Attributes) (part : Part)
     → FunctionsFit signatures c.functions → PortsHave c.schemas op.ins ins → StreamsHave c.schemas op.outs outs → NamesPorts signatures ins scope
-    → length (concat op.ins) ≤ 1 → kind_of c op part ≡ Some k → PartFits scope kind ins outs part → Shape c op part
-by_clauses c op signatures scope _ _ _ _ k fs takes gives names few is (K.file_source file strict schema f t) =
+    → length (concat op.ins) ≤ 1 → is_run part ≡ true → PartFits scope kind ins outs part → Shape c op part
+by_clauses c op signatures scope _ _ _ _ fs takes gives names few is (K.file_source file strict schema f t) =
     let out = one_stream c.schemas op.outs _ schema refl gives in source file strict out.0 (no_ports_in c.schemas op.ins _ refl takes) out.1
-by_clauses c op signatures scope _ _ _ _ k fs takes gives names few is (K.file_sink file schema f t) =
+by_clauses c op signatures scope _ _ _ _ fs takes gives names few is (K.file_sink file schema f t) =
     let inp = one_port_in c.schemas op.ins _ schema refl takes few in sink file inp.0 inp.1 (no_streams_in c.schemas op.outs _ refl gives)
-by_clauses c op signatures scope _ _ _ _ k fs takes gives names few is (K.filter condition schema fits) =
+by_clauses c op signatures scope _ _ _ _ fs takes gives names few is (K.filter condition schema fits) =
     let out = one_stream c.schemas op.outs _ schema refl gives in
     let inp = one_port_in c.schemas op.ins _ schema refl takes few in
     let at_in : schema_at c inp.0 ≡ schema = schema_is c inp.0 schema inp.2 in
     filter condition inp.0 out.0 inp.1 out.1 (at_in ∙ sym (schema_is c out.0 schema out.2))
     (subst (λ (x : Attributes). FitsSchema c.functions condition x) (sym at_in)
     (record { signatures = signatures; scope = scope; functions_fit = fs; names = names; condition_fits = fits }))
-by_clauses c op signatures scope _ _ _ _ k fs takes gives names few is (K.functor condition fields input schema a b d) = absurd cc
-by_clauses c op signatures scope _ _ _ _ k fs takes gives names few is (K.punctor condition position schema a) = absurd cc
-by_clauses c op signatures scope _ _ _ _ k fs takes gives names few is (K.split index kind schema outs a b) = absurd cc
-by_clauses c op signatures scope _ _ _ _ k fs takes gives names few is (K.union places ins schema a b) = absurd cc
-by_clauses c op signatures scope _ _ _ _ k fs takes gives names few is (K.custom handlers ins outs a) = absurd cc
-by_clauses c op signatures scope _ _ _ _ k fs takes gives names few is (K.aggregate window partition group output input schema a b d e f) = absurd cc
-by_clauses c op signatures scope _ _ _ _ k fs takes gives names few is (K.join left right condition fields first second schema a b d e f h i) = absurd cc
+by_clauses c op signatures scope _ _ _ _ fs takes gives names few is (K.functor condition fields input schema a b d) = absurd cc
+by_clauses c op signatures scope _ _ _ _ fs takes gives names few is (K.punctor condition position schema a) = absurd cc
+by_clauses c op signatures scope _ _ _ _ fs takes gives names few is (K.split index kind schema outs a b) = absurd cc
+by_clauses c op signatures scope _ _ _ _ fs takes gives names few is (K.union places ins schema a b) = absurd cc
+by_clauses c op signatures scope _ _ _ _ fs takes gives names few is (K.custom handlers ins outs a) = absurd cc
+by_clauses c op signatures scope _ _ _ _ fs takes gives names few is (K.aggregate window partition group output input schema a b d e f) = absurd cc
+by_clauses c op signatures scope _ _ _ _ fs takes gives names few is (K.join left right condition fields first second schema a b d e f h i) = absurd cc
 
 -- each operator of a graph that can run
 pub shape_of : (c : CheckedGraph) (g : Graph) → Keeps c → CanRun c g → (n : ℕ) (op : Op) (part : Part) → slice_get c.graph.ops n ≡ Some op → slice_get c.parts n ≡ Some part
@@ -183,7 +153,5 @@ shape_of c g k r n op part there has =
     let few : length (concat op.ins) ≤ 1 =
     subst (λ (x : Op). length (concat x.ins) ≤ 1) same_op (subst (λ (x : Operator). length (connections x) ≤ 1) is.same (r.single n o.0 o.1)) in
     let f = k.operators n op part there has in
-    let turned_op = sym same_op in
-    let turned_part = sym same_part in
-    by_clauses c op k.signatures f.scope op.kind f.ins f.outs part is.kind k.functions f.takes f.gives f.names few
-    ((λ i. kind_of c (turned_op i) (turned_part i)) ∙ is.is_kind) f.clauses
+    by_clauses c op k.signatures f.scope op.kind f.ins f.outs part k.functions f.takes f.gives f.names few
+    (sym (ap (λ (x : Operator). is_run x.clauses) is.same ∙ ap is_run same_part) ∙ r.kinds n o.0 o.1) f.clauses

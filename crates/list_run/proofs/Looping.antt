@@ -20,10 +20,10 @@ pub record Remains (c : CheckedGraph) (initial : List (List Item)) (rest : List 
   pub order : c.graph.topo ≡ before ++ rest
   pub rows_stand : RowsStand c rows
   pub table_fits : TableFits c table
-  pub stands : (g : Graph) (entries : Entries) → graph_of c ≡ Some g → Stands g (meaning g (rows_at initial) entries) (rows_at initial) rest table rows
+  pub stands : (g : Graph) (entries : Entries) → graph_of c ≡ g → Stands g (meaning g (rows_at initial) entries) (rows_at initial) rest table rows
 
 pub remains_first : (v c : CheckedGraph) (table rows : List (List Item)) (rest : List ℕ) (count : ℕ) → v ≡ c → Keeps v → (x : Graph) × CanRun c x → GraphLaw
-    → ((g : Graph) → graph_of c ≡ Some g → RowsFit g rows) → count ≡ length v.graph.streams → table ≡ replicate count [] → rest ≡ v.graph.topo → Remains c rows rest table rows
+    → ((g : Graph) → graph_of c ≡ g → RowsFit g rows) → count ≡ length v.graph.streams → table ≡ replicate count [] → rest ≡ v.graph.topo → Remains c rows rest table rows
 remains_first v c table rows rest count same keeps runs law fit many e is =
     let k = subst Keeps same keeps in
     let f = table_begins c table (e ∙ ap (λ n. replicate n []) (many ∙ ap (λ (x : CheckedGraph). length x.graph.streams) same)) in
@@ -72,8 +72,8 @@ none_remain [] h = refl
 none_remain (x ∷ xs) h = absurd (omega (arith, h))
 
 pub remains_none : (v c : CheckedGraph) (initial : List (List Item)) (rest : List ℕ) (table rows : List (List Item)) → v ≡ c → Keeps v → (x : Graph) × CanRun c x → GraphLaw
-    → ((g : Graph) → graph_of c ≡ Some g → RowsFit g initial) → Remains c initial rest table rows → length rest < 1
-    → (g : Graph) (entries : Entries) → graph_of c ≡ Some g → AreStreams c g (meaning g (rows_at initial) entries) table
+    → ((g : Graph) → graph_of c ≡ g → RowsFit g initial) → Remains c initial rest table rows → length rest < 1
+    → (g : Graph) (entries : Entries) → graph_of c ≡ g → AreStreams c g (meaning g (rows_at initial) entries) table
 remains_none v c initial rest table rows same keeps runs law fit r over g entries here =
     finishes c g (running c g (subst Keeps same keeps) runs law here) entries initial table rows (fit g here) r.table_fits
     (subst (λ ns. Stands g (meaning g (rows_at initial) entries) (rows_at initial) ns table rows) (none_remain rest over) (r.stands g entries here))

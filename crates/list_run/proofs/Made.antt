@@ -12,13 +12,13 @@ use Rattle.spl_tree.specs.declared.code.Slot.{Slot}
 use Rattle.language_model.specs.declared.checked.Part.{Part}
 use Rattle.language_model.specs.declared.checked.Part.TheVariants as A
 use Rattle.language_model.specs.CheckedGraph.{CheckedGraph}
-use Rattle.stream_model.specs.CheckedMeaning.{operator_with, kind_of, first_schema}
+use Rattle.stream_model.specs.CheckedMeaning.{operator_with}
 use Rattle.language_model.specs.Keeping.{Keeps}
 use Rattle.stream_model.specs.Laws.{GraphLaw, makes_stream, is_made}
 use Rattle.stream_model.specs.Meaning.{Graph, Lists, Entries, meaning, makes, events_at, in_topo}
 use Rattle.stream_model.specs.PathLaws.{passed}
 use Rattle.stream_model.proofs.PathLaws.{filter_out}
-use Rattle.stream_model.specs.React.{Kind, Operator, Source, FileSource, Filter}
+use Rattle.stream_model.specs.Operators.{Operator}
 use Rattle.stream_model.specs.Stages.{out}
 use Rattle.list_run.specs.Runs.{CanRun}
 use Rattle.list_run.specs.Table.{ops_at}
@@ -35,16 +35,15 @@ pub record Running (c : CheckedGraph) (g : Graph) : Type 0 where
 -- ---- operators
 
 -- the operator with a number
-pub operator_is : (c : CheckedGraph) (g : Graph) → Running c g → (n : ℕ) (op : Op) (part : Part) (kind : Kind) → slice_get c.graph.ops n ≡ Some op
-    → slice_get c.parts n ≡ Some part → kind_of c op part ≡ Some kind → slice_get g.ops n ≡ Some (operator_with c n op kind)
-operator_is c g r n op part kind there has is_kind =
+pub operator_is : (c : CheckedGraph) (g : Graph) → Running c g → (n : ℕ) (op : Op) (part : Part) → slice_get c.graph.ops n ≡ Some op
+    → slice_get c.parts n ≡ Some part → slice_get g.ops n ≡ Some (operator_with c n op part)
+operator_is c g r n op part there has =
     let o = operator_there c g r.keeps r.runs.graph n (slice_get_within c.graph.ops n op there) in
     let is = operator_at c g r.runs.graph n o.0 o.1 in
     let same_op : is.op ≡ op = (let e : Some is.op ≡ Some op = sym is.there ∙ there in cc) in
     let same_part : is.part ≡ part = (let e : Some is.part ≡ Some part = sym is.has ∙ has in cc) in
-    let same_kind : is.kind ≡ kind = (let e : Some is.kind ≡ Some kind = sym is.is_kind ∙ (λ i. kind_of c (same_op i) (same_part i)) ∙ is_kind in cc) in
     let number : 0 + n ≡ n = omega arith in
-    o.1 ∙ ap (λ x. Some x) is.same ∙ (λ i. Some (operator_with c (number i) (same_op i) (same_kind i)))
+    o.1 ∙ ap (λ x. Some x) is.same ∙ (λ i. Some (operator_with c (number i) (same_op i) (same_part i)))
 
 -- each operator is in the order
 pub in_order : (c : CheckedGraph) (g : Graph) → Running c g → (n : ℕ) (o : Operator) → slice_get g.ops n ≡ Some o → Contains g.topo n
@@ -81,17 +80,16 @@ pub source_stream : (c : CheckedGraph) (g : Graph) → Running c g → (rows : L
     → slice_get c.graph.ops n ≡ Some op → slice_get c.parts n ≡ Some (A.FileSource file strict) → op.outs ≡ s ∷ []
     → (meaning g rows entries).streams s ≡ rows n
 source_stream c g r rows entries n s op file strict there has outs =
-    made_stream c g r rows entries n s (operator_with c n op (FileSource (record { file = file; schema = first_schema c op.outs; strict = strict })))
-    (operator_is c g r n op (A.FileSource file strict) _ there has refl) outs
+    made_stream c g r rows entries n s (operator_with c n op (A.FileSource file strict)) (operator_is c g r n op (A.FileSource file strict) there has) outs
 
 -- that of a filter is what passes its condition
 pub filter_stream : (c : CheckedGraph) (g : Graph) → Running c g → (rows : Lists) (entries : Entries) (n t s : ℕ) (op : Op) (condition : Option (Code Slot))
     → slice_get c.graph.ops n ≡ Some op → slice_get c.parts n ≡ Some (A.Filter condition) → op.ins ≡ (t ∷ []) ∷ [] → op.outs ≡ s ∷ []
     → (meaning g rows entries).streams s ≡ passed n c.functions condition ((meaning g rows entries).streams t)
 filter_stream c g r rows entries n t s op condition there has ins outs =
-    let o : Operator = operator_with c n op (Filter condition) in
+    let o : Operator = operator_with c n op (A.Filter condition) in
     let streams : Lists = (meaning g rows entries).streams in
-    made_stream c g r rows entries n s o (operator_is c g r n op (A.Filter condition) _ there has refl) outs
+    made_stream c g r rows entries n s o (operator_is c g r n op (A.Filter condition) there has) outs
     ∙ ap (λ ports. out o 0 (events_at streams (concat ports) (entries n))) ins
     ∙ filter_out o condition t s (streams t) refl ins outs
 
@@ -133,7 +131,7 @@ made_before c g r first last n t op whole there ins =
 
 -- what holds of the rows of sources, and of what filters make of what it holds of
 pub record Holds (c : CheckedGraph) (g : Graph) (rows : Lists) (P : List Item → Type 0) : Type 0 where
-  pub sources : (n : ℕ) (o : Operator) (source : Source) → slice_get g.ops n ≡ Some o → o.kind ≡ FileSource source → P (rows n)
+  pub sources : (n : ℕ) (o : Operator) (file : List ℕ) (strict : Bool) → slice_get g.ops n ≡ Some o → o.clauses ≡ A.FileSource file strict → P (rows n)
   pub filters : (n : ℕ) (condition : Option (Code Slot)) (items : List Item) → n < length g.ops → P items → P (passed n c.functions condition items)
 
 of_one : (c : CheckedGraph) (g : Graph) → Running c g → (rows : Lists) (entries : Entries) (P : List Item → Type 0) → Holds c g rows P
@@ -152,7 +150,7 @@ of_one c g r rows entries P h first last n s o whole at makes before =
     by_shape op _ there has m (source file strict k ins outs) =
         let same : k ≡ s = is_it k (ap (list_any (λ t. t == s)) (sym outs) ∙ m) in
         subst P (sym (source_stream c g r rows entries n s op file strict there has (outs ∙ ap (λ x. x ∷ []) same)))
-        (h.sources n _ _ (operator_is c g r n op (A.FileSource file strict) _ there has refl) refl)
+        (h.sources n _ file strict (operator_is c g r n op (A.FileSource file strict) there has) refl)
     by_shape op _ there has m (filter condition t k ins outs same_schema fits) =
         let same : k ≡ s = is_it k (ap (list_any (λ t. t == s)) (sym outs) ∙ m) in
         subst P (sym (filter_stream c g r rows entries n t s op condition there has ins (outs ∙ ap (λ x. x ∷ []) same)))

@@ -10,8 +10,8 @@ use Rattle.stream_model.specs.CheckedMeaning.{graph_of}
 use Rattle.language_model.specs.FlatLaws.{IsMadeAs}
 use Rattle.language_model.specs.Keeping.{Keeps}
 use Rattle.stream_model.specs.Laws.{makes_stream, reads_stream, is_made, IsOrdered}
-use Rattle.stream_model.specs.Meaning.{Graph, connections, in_topo}
-use Rattle.stream_model.specs.React.{Operator}
+use Rattle.stream_model.specs.Meaning.{Graph, in_topo}
+use Rattle.stream_model.specs.Operators.{Operator, connections}
 use Rattle.list_run.proofs.GraphOperators.{operator_at, same_topo}
 use Rattle.spl_value.proofs.Lists.{contains_here, contains_later}
 
@@ -126,7 +126,7 @@ pub apart_false : (b : Bool) → (b ≡ true → ⊥) → b ≡ false
 apart_false b never = elim (cases_Bool b) [ inl holds ↦ absurd (never holds) | inr fails ↦ fails ]
 
 -- a stream that an operator makes is made as its number and some port say
-pub made_as : (c : CheckedGraph) (g : Graph) → graph_of c ≡ Some g → (n s : ℕ) (op : Operator) → slice_get g.ops n ≡ Some op → makes_stream op s ≡ true
+pub made_as : (c : CheckedGraph) (g : Graph) → graph_of c ≡ g → (n s : ℕ) (op : Operator) → slice_get g.ops n ≡ Some op → makes_stream op s ≡ true
     → (x : Stream) × (x.maker ≡ n) × IsMadeAs c.graph x s
 made_as c g e n s op there makes =
     let is = operator_at c g e n op there in
@@ -135,7 +135,7 @@ made_as c g e n s op there makes =
     (record { maker = n; port = at.0 }, refl, (is.op, is.there, ap (λ ss. slice_get ss at.0) (sym outs) ∙ at.1))
 
 -- so no two do
-pub one_maker : (c : CheckedGraph) (g : Graph) → Keeps c → graph_of c ≡ Some g → (m n s : ℕ) (op other : Operator) → slice_get g.ops m ≡ Some op → slice_get g.ops n ≡ Some other
+pub one_maker : (c : CheckedGraph) (g : Graph) → Keeps c → graph_of c ≡ g → (m n s : ℕ) (op other : Operator) → slice_get g.ops m ≡ Some op → slice_get g.ops n ≡ Some other
     → makes_stream op s ≡ true → makes_stream other s ≡ true → m ≡ n
 one_maker c g k e m n s op other at there makes also =
     let x = made_as c g e m s op at makes in
@@ -146,7 +146,7 @@ one_maker c g k e m n s op other at there makes also =
     sym x.1 ∙ ap (λ (z : Stream). z.maker) same ∙ y.1
 
 -- the first of the numbers behind another one isn't that one, nor any before it
-pub not_before : (c : CheckedGraph) (g : Graph) → Keeps c → graph_of c ≡ Some g → (first last : List ℕ) (n m : ℕ) → g.topo ≡ first ++ n ∷ last → Contains last m
+pub not_before : (c : CheckedGraph) (g : Graph) → Keeps c → graph_of c ≡ g → (first last : List ℕ) (n m : ℕ) → g.topo ≡ first ++ n ∷ last → Contains last m
     → Contains (first ++ n ∷ []) m → ⊥
 not_before c g k e first last n m whole later earlier =
     let at = split_at m last (any_from_contains m last later) in
@@ -155,7 +155,7 @@ not_before c g k e first last n m whole later earlier =
     k.graph.ordered.once (first ++ n ∷ at.before) at.after m turned
     (subst (λ ms. Contains ms m) (append_assoc first (n ∷ []) at.before) (Contains-append_left (first ++ n ∷ []) at.before m earlier))
 
-pub not_itself : (c : CheckedGraph) (g : Graph) → Keeps c → graph_of c ≡ Some g → (first last : List ℕ) (n m : ℕ) → g.topo ≡ first ++ n ∷ last → Contains first m
+pub not_itself : (c : CheckedGraph) (g : Graph) → Keeps c → graph_of c ≡ g → (first last : List ℕ) (n m : ℕ) → g.topo ≡ first ++ n ∷ last → Contains first m
     → Contains (n ∷ last) m → ⊥
 not_itself c g k e first last n m whole earlier later =
     let at = split_at m (n ∷ last) (any_from_contains m (n ∷ last) later) in
@@ -163,7 +163,7 @@ not_itself c g k e first last n m whole earlier later =
     sym (same_topo c g e) ∙ whole ∙ ap (λ ms. first ++ ms) at.whole ∙ sym (append_assoc first at.before (m ∷ at.after)) in
     k.graph.ordered.once (first ++ at.before) at.after m turned (Contains-append_left first at.before m earlier)
 
-pub is_ordered : (c : CheckedGraph) (g : Graph) → Keeps c → graph_of c ≡ Some g → IsOrdered (in_topo g)
+pub is_ordered : (c : CheckedGraph) (g : Graph) → Keeps c → graph_of c ≡ g → IsOrdered (in_topo g)
 is_ordered c g k e = record { once = once; forward = forward }
   where
     once : (before after : List Operator) (op : Operator) (s : ℕ) → in_topo g ≡ before ++ op ∷ after → makes_stream op s ≡ true → is_made after s ≡ false

@@ -7,12 +7,12 @@ use Rattle.spl_tree.specs.declared.graph.Op.{Op}
 use Rattle.language_model.specs.declared.checked.Part.{Part}
 use Rattle.language_model.specs.declared.checked.Part.TheVariants as A
 use Rattle.language_model.specs.CheckedGraph.{CheckedGraph}
-use Rattle.stream_model.specs.CheckedMeaning.{graph_of, kind_of}
+use Rattle.stream_model.specs.CheckedMeaning.{graph_of}
 use Rattle.stream_model.specs.Ends.{is_read}
 use Rattle.language_model.specs.Keeping.{Keeps}
-use Rattle.stream_model.specs.Meaning.{Graph, connections}
-use Rattle.stream_model.specs.React.{Operator, Kind}
-use Rattle.list_run.specs.Sinks.{op_reads, reads_at, is_sink, is_sink_part, is_sunk, sinks_at, sinks_stream}
+use Rattle.stream_model.specs.Meaning.{Graph}
+use Rattle.stream_model.specs.Operators.{Operator, connections}
+use Rattle.list_run.specs.Sinks.{op_reads, reads_at, is_sink_part, is_sunk, sinks_at, sinks_stream}
 use Rattle.list_run.specs.Table.{ops_at}
 use Rattle.list_run.proofs.GraphOperators.{operator_at, operator_there, same_length}
 use Rattle.spl_value.proofs.Lists.{next_rest as front_of}
@@ -23,42 +23,36 @@ drop_past [] (suc i) h = refl
 drop_past (x ∷ xs) zero h = absurd (omega (arith, h))
 drop_past (x ∷ xs) (suc i) h = drop_past xs i (omega (arith, h))
 
-sink_by_part : (c : CheckedGraph) (op : Op) (part : Part) (kind : Kind) → kind_of c op part ≡ Some kind → is_sink kind ≡ is_sink_part part
-sink_by_part c op (A.FileSource file strict) kind e = ap (λ o. option_map_or is_sink o false) (sym e)
-sink_by_part c op (A.Filter condition) kind e = ap (λ o. option_map_or is_sink o false) (sym e)
-sink_by_part c op (A.FileSink file) kind e = ap (λ o. option_map_or is_sink o false) (sym e)
-sink_by_part c op _ kind e = absurd cc
-
 -- what an operator reads, by its number
-reads_by : (c : CheckedGraph) (g : Graph) → graph_of c ≡ Some g → (n s : ℕ) (o : Operator) → slice_get g.ops n ≡ Some o
+reads_by : (c : CheckedGraph) (g : Graph) → graph_of c ≡ g → (n s : ℕ) (o : Operator) → slice_get g.ops n ≡ Some o
     → list_any (λ t. t == s) (connections o) ≡ reads_at c.graph.ops n s
 reads_by c g e n s o at =
     let is = operator_at c g e n o at in
     ap (λ (x : Operator). list_any (λ t. t == s) (connections x)) is.same ∙ ap (λ found. option_map_or (λ op. op_reads op s) found false) (sym is.there)
 
-sinks_by : (c : CheckedGraph) (g : Graph) → graph_of c ≡ Some g → (n s : ℕ) (o : Operator) → slice_get g.ops n ≡ Some o → sinks_stream s o ≡ sinks_at c n s
+sinks_by : (c : CheckedGraph) (g : Graph) → graph_of c ≡ g → (n s : ℕ) (o : Operator) → slice_get g.ops n ≡ Some o → sinks_stream s o ≡ sinks_at c n s
 sinks_by c g e n s o at =
     let is = operator_at c g e n o at in
-    let sinks : is_sink o.kind ≡ option_map_or is_sink_part (slice_get c.parts n) false =
-    ap (λ (x : Operator). is_sink x.kind) is.same ∙ sink_by_part c is.op is.part is.kind is.is_kind ∙ ap (λ p. option_map_or is_sink_part p false) (sym is.has) in
+    let sinks : is_sink_part o.clauses ≡ option_map_or is_sink_part (slice_get c.parts n) false =
+    ap (λ (x : Operator). is_sink_part x.clauses) is.same ∙ ap (λ p. option_map_or is_sink_part p false) (sym is.has) in
     let reads = reads_by c g e n s o at in
     λ i. sinks i && reads i
 
 -- ---- one operator more
 
-read_more : (c : CheckedGraph) (g : Graph) → Keeps c → graph_of c ≡ Some g → (s i : ℕ) → i < length c.graph.ops
+read_more : (c : CheckedGraph) (g : Graph) → Keeps c → graph_of c ≡ g → (s i : ℕ) → i < length c.graph.ops
     → is_read (drop i g.ops) s ≡ (reads_at c.graph.ops i s || is_read (drop (suc i) g.ops) s)
 read_more c g k e s i lt =
     let o = operator_there c g k e i lt in
     ap (λ ops. is_read ops s) (front_of g.ops i o.0 o.1) ∙ ap (λ b. b || is_read (drop (suc i) g.ops) s) (reads_by c g e i s o.0 o.1)
 
-sunk_more : (c : CheckedGraph) (g : Graph) → Keeps c → graph_of c ≡ Some g → (s i : ℕ) → i < length c.graph.ops
+sunk_more : (c : CheckedGraph) (g : Graph) → Keeps c → graph_of c ≡ g → (s i : ℕ) → i < length c.graph.ops
     → list_any (sinks_stream s) (drop i g.ops) ≡ (sinks_at c i s || list_any (sinks_stream s) (drop (suc i) g.ops))
 sunk_more c g k e s i lt =
     let o = operator_there c g k e i lt in
     ap (list_any (sinks_stream s)) (front_of g.ops i o.0 o.1) ∙ ap (λ b. b || list_any (sinks_stream s) (drop (suc i) g.ops)) (sinks_by c g e i s o.0 o.1)
 
-later_more : (c : CheckedGraph) (g : Graph) → Keeps c → graph_of c ≡ Some g → (s i : ℕ) (later : List ℕ) (n : ℕ) → slice_get later i ≡ Some n
+later_more : (c : CheckedGraph) (g : Graph) → Keeps c → graph_of c ≡ g → (s i : ℕ) (later : List ℕ) (n : ℕ) → slice_get later i ≡ Some n
     → is_read (ops_at g (drop i later)) s ≡ (reads_at c.graph.ops n s || is_read (ops_at g (drop (suc i) later)) s)
 later_more c g k e s i later n at =
     ap (λ ns. is_read (ops_at g ns) s) (front_of later i n at) ∙ go (slice_get g.ops n) refl
@@ -90,41 +84,41 @@ not_here all here rest now e f h = sym (sym e ∙ f ∙ ap (λ b. b || rest) h)
 next : (P : ℕ → Type 0) (i : ℕ) → P (suc i) → P (i + 1)
 next P i p = let same : suc i ≡ i + 1 = omega arith in subst P same p
 
-pub read_found : (c : CheckedGraph) (g : Graph) → Keeps c → graph_of c ≡ Some g → (s i : ℕ) (r : Bool) → i < length c.graph.ops → r ≡ reads_at c.graph.ops i s → r ≡ true
+pub read_found : (c : CheckedGraph) (g : Graph) → Keeps c → graph_of c ≡ g → (s i : ℕ) (r : Bool) → i < length c.graph.ops → r ≡ reads_at c.graph.ops i s → r ≡ true
     → is_read (drop i g.ops) s ≡ is_read g.ops s → true ≡ is_read g.ops s
 read_found c g k e s i r lt is holds inv = found_here _ _ _ _ inv (read_more c g k e s i lt) (sym is ∙ holds)
 
-pub read_on : (c : CheckedGraph) (g : Graph) → Keeps c → graph_of c ≡ Some g → (s i : ℕ) (r : Bool) → i < length c.graph.ops → r ≡ reads_at c.graph.ops i s → r ≡ false
+pub read_on : (c : CheckedGraph) (g : Graph) → Keeps c → graph_of c ≡ g → (s i : ℕ) (r : Bool) → i < length c.graph.ops → r ≡ reads_at c.graph.ops i s → r ≡ false
     → is_read (drop i g.ops) s ≡ is_read g.ops s → is_read (drop (i + 1) g.ops) s ≡ is_read g.ops s
 read_on c g k e s i r lt is fails inv =
     next (λ j. is_read (drop j g.ops) s ≡ is_read g.ops s) i (not_here _ _ _ _ inv (read_more c g k e s i lt) (sym is ∙ fails))
 
-pub read_end : (c : CheckedGraph) (g : Graph) → Keeps c → graph_of c ≡ Some g → (s i : ℕ) → length c.graph.ops ≤ i
+pub read_end : (c : CheckedGraph) (g : Graph) → Keeps c → graph_of c ≡ g → (s i : ℕ) → length c.graph.ops ≤ i
     → is_read (drop i g.ops) s ≡ is_read g.ops s → false ≡ is_read g.ops s
 read_end c g k e s i past inv =
     ap (λ ops. is_read ops s) (sym (drop_past g.ops i (let same = same_length c g k e in omega (arith, same, past)))) ∙ inv
 
-pub sunk_found : (c : CheckedGraph) (g : Graph) → Keeps c → graph_of c ≡ Some g → (s i : ℕ) (r : Bool) → i < length c.graph.ops → r ≡ sinks_at c i s → r ≡ true
+pub sunk_found : (c : CheckedGraph) (g : Graph) → Keeps c → graph_of c ≡ g → (s i : ℕ) (r : Bool) → i < length c.graph.ops → r ≡ sinks_at c i s → r ≡ true
     → list_any (sinks_stream s) (drop i g.ops) ≡ is_sunk g s → true ≡ is_sunk g s
 sunk_found c g k e s i r lt is holds inv = found_here _ _ _ _ inv (sunk_more c g k e s i lt) (sym is ∙ holds)
 
-pub sunk_on : (c : CheckedGraph) (g : Graph) → Keeps c → graph_of c ≡ Some g → (s i : ℕ) (r : Bool) → i < length c.graph.ops → r ≡ sinks_at c i s → r ≡ false
+pub sunk_on : (c : CheckedGraph) (g : Graph) → Keeps c → graph_of c ≡ g → (s i : ℕ) (r : Bool) → i < length c.graph.ops → r ≡ sinks_at c i s → r ≡ false
     → list_any (sinks_stream s) (drop i g.ops) ≡ is_sunk g s → list_any (sinks_stream s) (drop (i + 1) g.ops) ≡ is_sunk g s
 sunk_on c g k e s i r lt is fails inv =
     next (λ j. list_any (sinks_stream s) (drop j g.ops) ≡ is_sunk g s) i (not_here _ _ _ _ inv (sunk_more c g k e s i lt) (sym is ∙ fails))
 
-pub sunk_end : (c : CheckedGraph) (g : Graph) → Keeps c → graph_of c ≡ Some g → (s i : ℕ) → length c.graph.ops ≤ i
+pub sunk_end : (c : CheckedGraph) (g : Graph) → Keeps c → graph_of c ≡ g → (s i : ℕ) → length c.graph.ops ≤ i
     → list_any (sinks_stream s) (drop i g.ops) ≡ is_sunk g s → false ≡ is_sunk g s
 sunk_end c g k e s i past inv =
     ap (list_any (sinks_stream s)) (sym (drop_past g.ops i (let same = same_length c g k e in omega (arith, same, past)))) ∙ inv
 
-pub later_found : (c : CheckedGraph) (g : Graph) → Keeps c → graph_of c ≡ Some g → (s i : ℕ) (later : List ℕ) (r : Bool) → i < length later
+pub later_found : (c : CheckedGraph) (g : Graph) → Keeps c → graph_of c ≡ g → (s i : ℕ) (later : List ℕ) (r : Bool) → i < length later
     → r ≡ reads_at c.graph.ops (get_or later i 0) s → r ≡ true
     → is_read (ops_at g (drop i later)) s ≡ is_read (ops_at g later) s → true ≡ is_read (ops_at g later) s
 later_found c g k e s i later r lt is holds inv =
     found_here _ _ _ _ inv (later_more c g k e s i later (get_or later i 0) (slice_get-get_or later i 0 lt)) (sym is ∙ holds)
 
-pub later_on : (c : CheckedGraph) (g : Graph) → Keeps c → graph_of c ≡ Some g → (s i : ℕ) (later : List ℕ) (r : Bool) → i < length later
+pub later_on : (c : CheckedGraph) (g : Graph) → Keeps c → graph_of c ≡ g → (s i : ℕ) (later : List ℕ) (r : Bool) → i < length later
     → r ≡ reads_at c.graph.ops (get_or later i 0) s → r ≡ false
     → is_read (ops_at g (drop i later)) s ≡ is_read (ops_at g later) s → is_read (ops_at g (drop (i + 1) later)) s ≡ is_read (ops_at g later) s
 later_on c g k e s i later r lt is fails inv =

@@ -33,7 +33,7 @@ pub record Filters (c : CheckedGraph) (op : Op) (condition : Option (Code Slot))
   pub same_schema : schema_at c input ≡ schema_at c output
   pub fits : FitsSchema c.functions condition (schema_at c input)
 
-pub running : (c : CheckedGraph) (g : Graph) → Keeps c → (x : Graph) × CanRun c x → GraphLaw → graph_of c ≡ Some g → Running c g
+pub running : (c : CheckedGraph) (g : Graph) → Keeps c → (x : Graph) × CanRun c x → GraphLaw → graph_of c ≡ g → Running c g
 running c g k r law e = record { keeps = k; runs = can_run c g r e; law = law }
 
 source_by : (c : CheckedGraph) (op : Op) (part : Part) (file : List ℕ) (strict : Bool) → Shape c op part → part ≡ A.FileSource file strict → (s : ℕ) × (op.outs ≡ s ∷ [])
@@ -147,7 +147,7 @@ sink_advances c n later op part file table rows h law e g initial entries is st 
 -- the table behind a filter
 abbrev pub Filtered : CheckedGraph → ℕ → ℕ → ℕ → List ℕ → Option (Code Slot) → List (List Item) → List (List Item) → Type 0
 Filtered c n t s later condition table new_table =
-    (g : Graph) → graph_of c ≡ Some g → new_table ≡ slice_set (left_of (is_wanted g later t) t table) s (passed n c.functions condition (rows_at table t))
+    (g : Graph) → graph_of c ≡ g → new_table ≡ slice_set (left_of (is_wanted g later t) t table) s (passed n c.functions condition (rows_at table t))
 
 pub filter_table : (c : CheckedGraph) (n t s : ℕ) (later : List ℕ) (op : Op) (part : Part) (condition : Option (Code Slot)) (table new_table : List (List Item)) → Here c n op part
     → part ≡ A.Filter condition → op.ins ≡ (t ∷ []) ∷ [] → op.outs ≡ s ∷ [] → TableFits c table → Filtered c n t s later condition table new_table → TableFits c new_table
@@ -175,12 +175,12 @@ pub taken_ends : (c : CheckedGraph) (t : ℕ) (table : List (List Item)) (items 
 taken_ends c t table items f at = (f.fit t items at).1
 
 pub room_left : (c : CheckedGraph) (t s : ℕ) (later : List ℕ) (table left : List (List Item)) → (x : Graph) × CanRun c x → s < length table
-    → ((g : Graph) → graph_of c ≡ Some g → left ≡ left_of (is_wanted g later t) t table) → s < length left
+    → ((g : Graph) → graph_of c ≡ g → left ≡ left_of (is_wanted g later t) t table) → s < length left
 room_left c t s later table left runs within made =
     subst (λ l. s < l) (sym (ap length (made runs.0 runs.1.graph) ∙ left_length (is_wanted runs.0 later t) t table)) within
 
 pub filter_made : (v c : CheckedGraph) (n t s : ℕ) (later : List ℕ) (condition : Option (Code Slot)) (table left new_table : List (List Item)) (items given : List Item) → v ≡ c
-    → slice_get table t ≡ Some items → ((g : Graph) → graph_of c ≡ Some g → left ≡ left_of (is_wanted g later t) t table) → given ≡ passed n v.functions condition items
+    → slice_get table t ≡ Some items → ((g : Graph) → graph_of c ≡ g → left ≡ left_of (is_wanted g later t) t table) → given ≡ passed n v.functions condition items
     → new_table ≡ slice_set left s given → Filtered c n t s later condition table new_table
 filter_made v c n t s later condition table left new_table items given same at made passes is g e =
     let there : items ≡ rows_at table t = ap (λ o. unwrap_or o []) (sym at) in

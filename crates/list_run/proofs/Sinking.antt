@@ -9,12 +9,11 @@ use Rattle.spl_tree.specs.declared.graph.Op.{Op}
 use Rattle.language_model.specs.declared.checked.Part.{Part}
 use Rattle.language_model.specs.declared.checked.Part.TheVariants as A
 use Rattle.language_model.specs.CheckedGraph.{CheckedGraph}
-use Rattle.stream_model.specs.CheckedMeaning.{kind_of}
 use Rattle.language_model.specs.Keeping.{Keeps}
 use Rattle.stream_model.specs.Meaning.{Graph, Lists, Entries, meaning, events_of, events_at, text}
 use Rattle.stream_model.specs.PathLaws.{written}
 use Rattle.stream_model.proofs.PathLaws.{sink_out}
-use Rattle.stream_model.specs.React.{Operator, Kind, FileSource, Filter, FileSink}
+use Rattle.stream_model.specs.Operators.{Operator}
 use Rattle.stream_model.specs.Rows.{item_text, text_of}
 use Rattle.stream_model.specs.Stages.{out}
 use Rattle.stream_model.specs.Stream.{Event, came, is_closed, is_empty, is_tuple}
@@ -47,13 +46,13 @@ written_count (I.Bad f ∷ items) e = ap (λ xs. count_by is_tuple (I.Bad f ∷ 
 -- ---- sinks
 
 -- a sink has no output
-pub sink_outs : (c : CheckedGraph) (g : Graph) → Keeps c → CanRun c g → (n : ℕ) (o : Operator) (file : List ℕ) → slice_get g.ops n ≡ Some o → o.kind ≡ FileSink file → o.outs ≡ []
+pub sink_outs : (c : CheckedGraph) (g : Graph) → Keeps c → CanRun c g → (n : ℕ) (o : Operator) (file : List ℕ) → slice_get g.ops n ≡ Some o → o.clauses ≡ A.FileSink file → o.outs ≡ []
 sink_outs c g k r n o file at kind =
     let is = operator_at c g r.graph n o at in
-    let same : is.kind ≡ FileSink file = sym (ap (λ (x : Operator). x.kind) is.same) ∙ kind in
-    ap (λ (x : Operator). x.outs) is.same ∙ by_shape is.op is.part (is.is_kind ∙ ap (λ x. Some x) same) (shape_of c g k r n is.op is.part is.there is.has)
+    let same : is.part ≡ A.FileSink file = sym (ap (λ (x : Operator). x.clauses) is.same) ∙ kind in
+    ap (λ (x : Operator). x.outs) is.same ∙ by_shape is.op is.part same (shape_of c g k r n is.op is.part is.there is.has)
   where
-    by_shape : (op : Op) (part : Part) → kind_of c op part ≡ Some (FileSink file) → Shape c op part → op.outs ≡ []
+    by_shape : (op : Op) (part : Part) → part ≡ A.FileSink file → Shape c op part → op.outs ≡ []
     by_shape op _ e (source f strict s ins outs) = absurd cc
     by_shape op _ e (filter condition t s ins outs same fits) = absurd cc
     by_shape op _ e (sink f t ins outs) = outs
@@ -68,7 +67,7 @@ events_are c g r rows entries n s o at ins =
     ∙ ap (λ ports. events_at streams (concat ports) (entries o.number)) ins
 
 sink_gives : (c : CheckedGraph) (g : Graph) (n : ℕ) (o : Operator) (file : List ℕ) (s : ℕ) (rows : Lists) (entries : Entries)
-    → Keeps c → CanRun c g → slice_get g.ops n ≡ Some o → o.kind ≡ FileSink file → o.ins ≡ (s ∷ []) ∷ []
+    → Keeps c → CanRun c g → slice_get g.ops n ≡ Some o → o.clauses ≡ A.FileSink file → o.ins ≡ (s ∷ []) ∷ []
     → out o 0 ((meaning g rows entries).events o.number) ≡ written ((meaning g rows entries).streams s)
 sink_gives c g n o file s rows entries k r at kind ins =
     ap (out o 0) (events_are c g r rows entries n s o at ins)

@@ -20,7 +20,7 @@ use Rattle.language_model.specs.CodeFits.{CodeFits}
 use Rattle.language_model.specs.Keeping.{NamesPorts}
 use Rattle.language_model.specs.Outcomes.{Outcome, Done, Faulted, Stuck}
 use Rattle.stream_model.specs.PathLaws.{pass, passed, fault_by}
-use Rattle.stream_model.specs.React.{at_tuple, passes}
+use Rattle.stream_model.specs.Bodies.{at_tuple, most_turns, passes}
 use Rattle.stream_model.specs.Stream.{is_closed, is_empty, TuplesFit}
 use Rattle.language_model.specs.StreamTypes.{Attributes}
 use Rattle.language_model.specs.WorldFits.{EnvFits, FunctionsFit}
@@ -54,12 +54,12 @@ ends_passing : (n : ℕ) (o : Outcome Bool) (vs : List Value) (behind : List Ite
 ends_passing n (Done true turns) vs behind h = h
 ends_passing n (Done false turns) vs behind h = h
 ends_passing n (Faulted kind) vs behind h = refl
-ends_passing n Stuck vs behind h = h
+ends_passing n Stuck vs behind h = refl
 
 pub passed_ends : (n : ℕ) (functions : List Function) (condition : Option (Code Slot)) (items : List Item) → EndsOnce (passed n functions condition items)
 passed_ends n functions condition [] = tt
 passed_ends n functions condition (I.Tuple vs ∷ items) =
-    ends_passing n (passes functions condition vs) vs (passed n functions condition items) (passed_ends n functions condition items)
+    ends_passing n (passes functions condition (at_tuple vs) most_turns) vs (passed n functions condition items) (passed_ends n functions condition items)
 passed_ends n functions condition (I.Window ∷ items) = passed_ends n functions condition items
 passed_ends n functions condition (I.Final ∷ items) = refl
 passed_ends n functions condition (I.Bad f ∷ items) = refl
@@ -69,13 +69,13 @@ fit_passing : (schema : Attributes) (n : ℕ) (o : Outcome Bool) (vs : List Valu
 fit_passing schema n (Done true turns) vs behind v h = (v, h)
 fit_passing schema n (Done false turns) vs behind v h = h
 fit_passing schema n (Faulted kind) vs behind v h = tt
-fit_passing schema n Stuck vs behind v h = h
+fit_passing schema n Stuck vs behind v h = tt
 
 pub passed_fit : (schema : Attributes) (n : ℕ) (functions : List Function) (condition : Option (Code Slot)) (items : List Item) → TuplesFit schema items
     → TuplesFit schema (passed n functions condition items)
 passed_fit schema n functions condition [] h = tt
 passed_fit schema n functions condition (I.Tuple vs ∷ items) h =
-    fit_passing schema n (passes functions condition vs) vs (passed n functions condition items) h.0 (passed_fit schema n functions condition items h.1)
+    fit_passing schema n (passes functions condition (at_tuple vs) most_turns) vs (passed n functions condition items) h.0 (passed_fit schema n functions condition items h.1)
 passed_fit schema n functions condition (I.Window ∷ items) h = passed_fit schema n functions condition items h
 passed_fit schema n functions condition (I.Final ∷ items) h = tt
 passed_fit schema n functions condition (I.Bad f ∷ items) h = tt
@@ -84,14 +84,14 @@ closes_passing : (n : ℕ) (o : Outcome Bool) (vs : List Value) (behind : List I
 closes_passing n (Done true turns) vs behind h = h
 closes_passing n (Done false turns) vs behind h = h
 closes_passing n (Faulted kind) vs behind h = refl
-closes_passing n Stuck vs behind h = h
+closes_passing n Stuck vs behind h = refl
 
 -- what passes of a closed stream is closed
 pub passed_closed : (n : ℕ) (functions : List Function) (condition : Option (Code Slot)) (items : List Item) → is_closed items ≡ true
     → is_closed (passed n functions condition items) ≡ true
 passed_closed n functions condition [] h = absurd cc
 passed_closed n functions condition (I.Tuple vs ∷ items) h =
-    closes_passing n (passes functions condition vs) vs (passed n functions condition items) (passed_closed n functions condition items h)
+    closes_passing n (passes functions condition (at_tuple vs) most_turns) vs (passed n functions condition items) (passed_closed n functions condition items h)
 passed_closed n functions condition (I.Window ∷ items) h = passed_closed n functions condition items h
 passed_closed n functions condition (I.Final ∷ items) h = refl
 passed_closed n functions condition (I.Bad f ∷ items) h = refl

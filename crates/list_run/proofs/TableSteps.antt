@@ -15,9 +15,9 @@ use Rattle.language_model.specs.CheckedGraph.{CheckedGraph}
 use Rattle.stream_model.specs.CheckedMeaning.{operator_with, schema_at, first_schema}
 use Rattle.stream_model.specs.Ends.{is_read}
 use Rattle.stream_model.specs.Laws.{makes_stream, reads_stream, is_made}
-use Rattle.stream_model.specs.Meaning.{Graph, Lists, Entries, meaning, connections}
+use Rattle.stream_model.specs.Meaning.{Graph, Lists, Entries, meaning}
 use Rattle.stream_model.specs.PathLaws.{passed}
-use Rattle.stream_model.specs.React.{Operator, Kind, FileSource, Filter, FileSink}
+use Rattle.stream_model.specs.Operators.{Operator, connections}
 use Rattle.list_run.specs.Fitting.{IsStream}
 use Rattle.list_run.specs.Runs.{rows_at}
 use Rattle.list_run.specs.Sinks.{is_sunk, stays}
@@ -156,8 +156,8 @@ pub source_moves : (c : CheckedGraph) (g : Graph) → Running c g → (initial :
     → slice_get rows n ≡ Some items → Stands g (meaning g initial entries) initial (n ∷ later) table rows
     → Stands g (meaning g initial entries) initial later (slice_set table s items) (slice_set rows n [])
 source_moves c g r initial entries n s later op file strict table rows items there has outs at st =
-    moves g initial entries n later (operator_with c n op kind) table rows (slice_set table s items) (slice_set rows n [])
-    (operator_is c g r n op (A.FileSource file strict) kind there has refl)
+    moves g initial entries n later (operator_with c n op (A.FileSource file strict)) table rows (slice_set table s items) (slice_set rows n [])
+    (operator_is c g r n op (A.FileSource file strict) there has)
     (record {
       count = set_length table s items;
       made = λ k within makes. (
@@ -170,17 +170,14 @@ source_moves c g r initial entries n s later op file strict table rows items the
           not_before c g r.keeps r.runs.graph st.before later n k st.split among
           (subst (Contains (st.before ++ n ∷ [])) same (Contains-append_right st.before (n ∷ []) n (contains_here n [])))));
     }) st
-  where
-    kind : Kind
-    kind = FileSource (record { file = file; schema = first_schema c op.outs; strict = strict })
 
 -- a sink was run
 pub sink_moves : (c : CheckedGraph) (g : Graph) → Running c g → (initial : Lists) (entries : Entries) (n : ℕ) (later : List ℕ) (op : Op) (file : List ℕ)
     (table rows : List (List Item)) → slice_get c.graph.ops n ≡ Some op → slice_get c.parts n ≡ Some (A.FileSink file) → op.outs ≡ []
     → Stands g (meaning g initial entries) initial (n ∷ later) table rows → Stands g (meaning g initial entries) initial later table rows
 sink_moves c g r initial entries n later op file table rows there has outs st =
-    moves g initial entries n later (operator_with c n op (FileSink file)) table rows table rows
-    (operator_is c g r n op (A.FileSink file) (FileSink file) there has refl)
+    moves g initial entries n later (operator_with c n op (A.FileSink file)) table rows table rows
+    (operator_is c g r n op (A.FileSink file) there has)
     (record {
       count = refl;
       made = λ k within makes. (let none : list_any (λ o. o == k) [] ≡ true = ap (list_any (λ o. o == k)) (sym outs) ∙ makes in absurd cc);
@@ -238,7 +235,7 @@ filter_moves c g r initial entries n t s later op condition table rows there has
     }) st
   where
     o : Operator
-    o = operator_with c n op (Filter condition)
+    o = operator_with c n op (A.Filter condition)
 
     left : List (List Item)
     left = left_of (is_wanted g later t) t table
@@ -247,7 +244,7 @@ filter_moves c g r initial entries n t s later op condition table rows there has
     given = passed n c.functions condition (rows_at table t)
 
     at : slice_get g.ops n ≡ Some o
-    at = operator_is c g r n op (A.Filter condition) (Filter condition) there has refl
+    at = operator_is c g r n op (A.Filter condition) there has
 
     reads : reads_stream o t ≡ true
     reads = ap (λ ports. list_any (λ i. i == t) (concat ports)) ins ∙ only_makes t

@@ -1,5 +1,6 @@
 -- The table of streams before the first operator and behind the last one.
-use Rattle.std.proofs.Common.{◌≡◌, ℕ, zero, suc, ◌+◌, ◌<◌, ◌||◌, Bool, true, false, List, [], ◌∷◌, ◌++◌, refl, sym, ap, subst, ◌∙◌, length, slice_get, Option, Some, None, replicate, arith}
+use Rattle.std.proofs.Common.{◌≡◌, ℕ, zero, suc, ◌+◌, ◌<◌, ◌||◌, Bool, true, false, List, [], ◌∷◌, ◌++◌, map, refl, sym, ap, subst, ◌∙◌, length, slice_get, Option, Some, None, replicate, arith}
+use Rattle.std.specs.Option.{unwrap_or}
 use Rattle.std.proofs.lemmas.Bool.{or_left}
 use Rattle.spl_value.specs.declared.item.Item.{Item}
 use Rattle.spl_tree.specs.declared.graph.Op.{Op}
@@ -8,8 +9,7 @@ use Rattle.language_model.specs.CheckedGraph.{CheckedGraph}
 use Rattle.stream_model.specs.CheckedMeaning.{first_schema, schema_at}
 use Rattle.stream_model.specs.Laws.{is_made}
 use Rattle.stream_model.specs.Meaning.{Graph, Lists, Entries, meaning}
-use Rattle.stream_model.specs.React.{FileSource}
-use Rattle.stream_model.specs.Stream.{is_closed}
+use Rattle.stream_model.specs.Stream.{is_closed, TuplesFit}
 use Rattle.list_run.specs.Fitting.{IsStream}
 use Rattle.list_run.specs.Runs.{RowsFit, AreStreams, rows_at}
 use Rattle.list_run.specs.Sinks.{stays}
@@ -18,12 +18,17 @@ use Rattle.list_run.proofs.GraphOperators.{same_topo, same_length}
 use Rattle.list_run.proofs.Made.{Running, operator_is, all_made, by_order}
 use Rattle.list_run.proofs.Streams.{closed_ends, passed_closed}
 
+-- the attributes of the first output port
+first_port : (c : CheckedGraph) (outs : List ℕ) → unwrap_or (slice_get (map (schema_at c) outs) 0) [] ≡ first_schema c outs
+first_port c [] = refl
+first_port c (s ∷ outs) = refl
+
 pub rows_stand : (c : CheckedGraph) (g : Graph) (rows : List (List Item)) → Running c g → RowsFit g rows → RowsStand c rows
 rows_stand c g rows r f = record {
   count = f.count ∙ same_length c g r.keeps r.runs.graph;
   fit = λ n op file strict there has. (
-      let at = operator_is c g r n op (A.FileSource file strict) (FileSource (record { file = file; schema = first_schema c op.outs; strict = strict })) there has refl in
-      (f.fit n _ _ at refl, closed_ends (rows_at rows n) (f.closed n _ _ at refl)));
+      let at = operator_is c g r n op (A.FileSource file strict) there has in
+      (subst (λ schema. TuplesFit schema (rows_at rows n)) (first_port c op.outs) (f.fit n _ file strict at refl), closed_ends (rows_at rows n) (f.closed n _ file strict at refl)));
 }
 
 empty_lists : (count : ℕ) (s : ℕ) (items : List Item) → slice_get (replicate count []) s ≡ Some items → items ≡ []

@@ -16,9 +16,8 @@ use Rattle.spl_tree.specs.declared.code.Slot.TheVariants as L
 use Rattle.spl_tree.specs.declared.graph.OpKind.TheVariants as O
 use Rattle.language_model.specs.declared.checked.Part.TheVariants as A
 use Rattle.language_model.specs.CheckedGraph.{CheckedGraph}
-use Rattle.stream_model.specs.CheckedMeaning.{op_of}
+use Rattle.stream_model.specs.examples.CheckedGraphs.{op_of}
 use Rattle.stream_model.specs.Meaning.{Graph}
-use Rattle.stream_model.specs.React.{FileSource, Filter, FileSink}
 use Rattle.language_model.specs.StreamTypes.{Attributes}
 
 abbrev pub numbers : Attributes
@@ -44,11 +43,11 @@ chain = record {
 -- the operators that it stands for
 abbrev pub chain_graph : Graph
 chain_graph = record {
-  ops = record { number = 0; functions = []; kind = FileSource (record { file = codes "in"; schema = numbers; strict = true }); ins = []; outs = 0 ∷ [] }
-      ∷ record { number = 1; functions = []; kind = Filter (Some divides); ins = (0 ∷ []) ∷ []; outs = 1 ∷ [] }
-      ∷ record { number = 2; functions = []; kind = Filter None; ins = (1 ∷ []) ∷ []; outs = 2 ∷ [] }
-      ∷ record { number = 3; functions = []; kind = FileSink (codes "some"); ins = (2 ∷ []) ∷ []; outs = [] }
-      ∷ record { number = 4; functions = []; kind = FileSink (codes "all"); ins = (0 ∷ []) ∷ []; outs = [] } ∷ [];
+  ops = record { number = 0; clauses = A.FileSource (codes "in") true; functions = []; types = record { ins = []; outs = numbers ∷ [] }; ins = []; outs = 0 ∷ [] }
+      ∷ record { number = 1; clauses = A.Filter (Some divides); functions = []; types = record { ins = numbers ∷ []; outs = numbers ∷ [] }; ins = (0 ∷ []) ∷ []; outs = 1 ∷ [] }
+      ∷ record { number = 2; clauses = A.Filter None; functions = []; types = record { ins = numbers ∷ []; outs = numbers ∷ [] }; ins = (1 ∷ []) ∷ []; outs = 2 ∷ [] }
+      ∷ record { number = 3; clauses = A.FileSink (codes "some"); functions = []; types = record { ins = numbers ∷ []; outs = [] }; ins = (2 ∷ []) ∷ []; outs = [] }
+      ∷ record { number = 4; clauses = A.FileSink (codes "all"); functions = []; types = record { ins = numbers ∷ []; outs = [] }; ins = (0 ∷ []) ∷ []; outs = [] } ∷ [];
   topo = 0 ∷ 1 ∷ 2 ∷ 3 ∷ 4 ∷ [];
 }
 

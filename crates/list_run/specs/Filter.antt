@@ -1,6 +1,6 @@
 -- What a filter makes of a stream, tuple by tuple.
 use Rattle.std.specs.Prelude.{◌≡◌, ℕ, Bool, false, List, [], ◌∷◌, ◌++◌, if◌then◌else◌, Option, None, Some}
-use Rattle.std.specs.Option.{unwrap_or}
+use Rattle.spl_value.specs.declared.item.FaultKind.TheVariants as K
 use Rattle.spl_value.specs.declared.item.Item.{Item}
 use Rattle.spl_value.specs.declared.item.Item.TheVariants as I
 use Rattle.spl_value.specs.declared.value.Value.{Value}
@@ -18,13 +18,10 @@ use Rattle.list_run.specs.declared.filter.Judged.TheVariants as J
 abbrev pub no_tuple : Env
 no_tuple = record { inputs = []; vars = []; punct = None }
 
--- a value is `true`
-abbrev pub is_true : Value → Bool
-is_true v = unwrap_or (truth_of v) false
-
--- a tuple passes or doesn't
-abbrev pub decided : Bool → List Value → Judged
-decided passes vs = if passes then J.Kept vs else J.Dropped
+-- a tuple passes or doesn't by the truth of a value, and a value without one faults
+abbrev pub decided : Option Bool → List Value → Judged
+decided (Some passes) vs = if passes then J.Kept vs else J.Dropped
+decided None vs = J.Faulted K.BadRow
 
 -- what a tuple and those behind it become, by what is answered of it
 abbrev pub judged : ℕ → Judged → List Item → List Item

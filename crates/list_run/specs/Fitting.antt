@@ -8,7 +8,7 @@ use Rattle.spl_tree.specs.declared.code.Slot.{Slot}
 use Rattle.language_model.specs.declared.scope.Scope.{Scope}
 use Rattle.language_model.specs.declared.scope.Signature.{Signature}
 use Rattle.language_model.specs.Keeping.{ConditionFits, NamesPorts}
-use Rattle.stream_model.specs.React.{at_tuple}
+use Rattle.stream_model.specs.Bodies.{at_tuple}
 use Rattle.stream_model.specs.Stream.{TuplesFit}
 use Rattle.language_model.specs.StreamTypes.{Attributes}
 use Rattle.language_model.specs.WorldFits.{FunctionsFit}

@@ -9,7 +9,7 @@ use Rattle.language_model.specs.CheckedGraph.{CheckedGraph}
 use Rattle.stream_model.specs.Ends.{is_read}
 use Rattle.stream_model.specs.Laws.{reads_stream}
 use Rattle.stream_model.specs.Meaning.{Graph}
-use Rattle.stream_model.specs.React.{Kind, Operator, FileSource, Filter, FileSink}
+use Rattle.stream_model.specs.Operators.{Operator}
 
 -- ---- by the operators of a checked graph
 
@@ -28,16 +28,11 @@ is_sink_part _ = false
 abbrev pub sinks_at : CheckedGraph → ℕ → ℕ → Bool
 sinks_at c n s = option_map_or is_sink_part (slice_get c.parts n) false && reads_at c.graph.ops n s
 
--- ---- by those of the graph that it stands for
-
-abbrev pub is_sink : Kind → Bool
-is_sink (FileSource source) = false
-is_sink (Filter condition) = false
-is_sink (FileSink file) = true
+-- ---- by those of the graph of operators
 
 -- the operator is a sink of the stream
 abbrev pub sinks_stream : ℕ → Operator → Bool
-sinks_stream s op = is_sink op.kind && reads_stream op s
+sinks_stream s op = is_sink_part op.clauses && reads_stream op s
 
 -- a sink reads the stream
 abbrev pub is_sunk : Graph → ℕ → Bool

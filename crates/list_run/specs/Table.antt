@@ -10,7 +10,7 @@ use Rattle.stream_model.specs.CheckedMeaning.{graph_of, schema_at, first_schema}
 use Rattle.stream_model.specs.Ends.{is_read}
 use Rattle.stream_model.specs.Laws.{is_made}
 use Rattle.stream_model.specs.Meaning.{Graph, Lists, Entries, Meaning, meaning}
-use Rattle.stream_model.specs.React.{Operator}
+use Rattle.stream_model.specs.Operators.{Operator}
 use Rattle.list_run.specs.Fitting.{IsStream}
 use Rattle.list_run.specs.Runs.{rows_at}
 use Rattle.list_run.specs.Sinks.{is_sunk, stays}
@@ -54,5 +54,5 @@ pub record Stands (g : Graph) (m : Meaning) (initial : Lists) (rest : List ℕ) 
 -- the first operator of the rest was run
 abbrev pub Advances : CheckedGraph → ℕ → List ℕ → List (List Item) → List (List Item) → List (List Item) → List (List Item) → Type 0
 Advances c n later table rows new_table new_rows =
-    (g : Graph) (initial : Lists) (entries : Entries) → graph_of c ≡ Some g
+    (g : Graph) (initial : Lists) (entries : Entries) → graph_of c ≡ g
     → Stands g (meaning g initial entries) initial (n ∷ later) table rows → Stands g (meaning g initial entries) initial later new_table new_rows

@@ -3,7 +3,7 @@ ghost use Rattle.std.specs.Prelude.{◌≡◌, ◌<◌, ℕ, Some, length, slice
 ghost use Rattle.stream_model.specs.CheckedMeaning.{graph_of};
 ghost use Rattle.stream_model.specs.Ends.{end_fault, run_fault, stream_fault};
 ghost use Rattle.stream_model.specs.Meaning.{Graph, Lists, Entries, meaning};
-ghost use Rattle.stream_model.specs.React.{Operator};
+ghost use Rattle.stream_model.specs.Operators.{Operator};
 ghost use Rattle.list_run.specs.Runs.{CanRun, AreStreams, rows_at};
 
 use crate::readers::{input_of, is_read, only};
@@ -40,7 +40,7 @@ fn fault_at(streams: &Items<Items<Item>>, stream: u32) -> Option<Fault>
 fn fault_of_end(checked: &Checked, streams: &Items<Items<Item>>, number: usize) -> Option<Fault>
     requires runs { (g : Graph) × CanRun checked.now g }
     requires number { number < length checked.now.graph.ops }
-    ensures { (g : Graph) (rows : Lists) (entries : Entries) (op : Operator) → graph_of checked.now ≡ Some g
+    ensures { (g : Graph) (rows : Lists) (entries : Entries) (op : Operator) → graph_of checked.now ≡ g
         → AreStreams checked.now g (meaning g rows entries) streams.now → slice_get g.ops number ≡ Some op
         → result ≡ end_fault g (meaning g rows entries) op op.outs }
 {
@@ -64,7 +64,7 @@ fn fault_of_end(checked: &Checked, streams: &Items<Items<Item>>, number: usize) 
 /// with one.
 pub fn fault_of_run(checked: &Checked, streams: &Items<Items<Item>>) -> Option<Fault>
     requires { (g : Graph) × CanRun checked.now g }
-    ensures { (g : Graph) (rows : Lists) (entries : Entries) → graph_of checked.now ≡ Some g
+    ensures { (g : Graph) (rows : Lists) (entries : Entries) → graph_of checked.now ≡ g
         → AreStreams checked.now g (meaning g rows entries) streams.now → result ≡ run_fault g (meaning g rows entries) }
 {
     for number in 0..checked.graph.ops.len() {

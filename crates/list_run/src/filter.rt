@@ -1,10 +1,11 @@
 //! What a filter gives for a stream.
 ghost use Rattle.std.specs.Prelude.{◌≡◌, [], ◌∷◌, None, Some, IfOk};
 ghost use Rattle.stream_model.specs.PathLaws.{passed, fault_by};
-ghost use Rattle.stream_model.specs.React.{at_tuple, holds};
+ghost use Rattle.language_model.specs.Operators.{truth_of};
+ghost use Rattle.stream_model.specs.Bodies.{at_tuple, holds, most_turns};
 ghost use Rattle.expr_eval.specs.Fitting.{IsFit};
 ghost use Rattle.list_run.specs.Fitting.{FitsTuples};
-ghost use Rattle.list_run.specs.Filter.{no_tuple, is_true, decided, Judges, Adds, AddsJudged};
+ghost use Rattle.list_run.specs.Filter.{no_tuple, decided, Judges, Adds, AddsJudged};
 
 use expr_eval::{Env, eval};
 use spl_tree::{Code, Functions, Slot};
@@ -24,24 +25,15 @@ pub(crate) enum Judged {
     Faulted(FaultKind),
 }
 
-/// Whether a value is `true`.
-fn is_true(value: Value) -> bool
-    ensures { result ≡ is_true value }
+/// A tuple passes or doesn't, by what its condition evaluates to. A value that is no boolean, which no
+/// condition of a checked graph has, is a fault.
+fn decided(value: &Value, values: Values) -> Judged
+    ensures { result ≡ decided (truth_of value.now) values }
 {
     match value {
-        Value::Bool(is_true) => is_true,
-        _ => false,
-    }
-}
-
-/// A tuple passes or doesn't.
-fn decided(passes: bool, values: Values) -> Judged
-    ensures { result ≡ decided passes values }
-{
-    if passes {
-        Judged::Kept(values)
-    } else {
-        Judged::Dropped
+        Value::Bool(true) => Judged::Kept(values),
+        Value::Bool(false) => Judged::Dropped,
+        _ => Judged::Faulted(FaultKind::BadRow),
     }
 }
 
@@ -55,7 +47,7 @@ fn judge(
 ) -> Result<Judged, NoMemory>
     requires fit { IsFit functions.now condition.now (at_tuple values) }
     requires empty { env.old ≡ no_tuple }
-    ensures judges { IfOk result (Judges (holds functions.now condition.now values) values) }
+    ensures judges { IfOk result (Judges (holds functions.now condition.now (at_tuple values) most_turns) values) }
     ensures empty { IfOk result (λ _. env.new ≡ env.old) }
 {
     env.inputs.push(values)?;
@@ -65,7 +57,7 @@ fn judge(
         unreachable!()
     };
     match value {
-        Evaluated::Value(value) => Ok(decided(is_true(value), values)),
+        Evaluated::Value(value) => Ok(decided(&value, values)),
         Evaluated::Bad(kind) => Ok(Judged::Faulted(kind)),
         Evaluated::Memory => Err(NoMemory),
     }

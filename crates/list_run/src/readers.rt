@@ -73,7 +73,7 @@ fn sinks_at(checked: &Checked, number: usize, stream: u32) -> bool
 /// Whether any operator reads a stream.
 pub(crate) fn is_read(checked: &Checked, stream: u32) -> bool
     requires { (g : Operators) × CanRun checked.now g }
-    ensures { (g : Operators) → graph_of checked.now ≡ Some g → result ≡ is_read g.ops stream }
+    ensures { (g : Operators) → graph_of checked.now ≡ g → result ≡ is_read g.ops stream }
 {
     for number in 0..checked.graph.ops.len() {
         if reads_at(&checked.graph, number, stream) {
@@ -86,7 +86,7 @@ pub(crate) fn is_read(checked: &Checked, stream: u32) -> bool
 /// Whether one of the operators with these numbers reads a stream.
 fn is_read_later(checked: &Checked, later: &[u32], stream: u32) -> bool
     requires { (g : Operators) × CanRun checked.now g }
-    ensures { (g : Operators) → graph_of checked.now ≡ Some g → result ≡ is_read (ops_at g later.now) stream }
+    ensures { (g : Operators) → graph_of checked.now ≡ g → result ≡ is_read (ops_at g later.now) stream }
 {
     for number in later {
         if reads_at(&checked.graph, *number as usize, stream) {
@@ -99,7 +99,7 @@ fn is_read_later(checked: &Checked, later: &[u32], stream: u32) -> bool
 /// Whether a sink reads a stream.
 fn is_sunk(checked: &Checked, stream: u32) -> bool
     requires { (g : Operators) × CanRun checked.now g }
-    ensures { (g : Operators) → graph_of checked.now ≡ Some g → result ≡ is_sunk g stream }
+    ensures { (g : Operators) → graph_of checked.now ≡ g → result ≡ is_sunk g stream }
 {
     for number in 0..checked.graph.ops.len() {
         if sinks_at(checked, number, stream) {
@@ -112,7 +112,7 @@ fn is_sunk(checked: &Checked, stream: u32) -> bool
 /// Whether a sink reads a stream, or one of the operators that are still to be run does.
 pub(crate) fn is_wanted(checked: &Checked, later: &[u32], stream: u32) -> bool
     requires { (g : Operators) × CanRun checked.now g }
-    ensures { (g : Operators) → graph_of checked.now ≡ Some g → result ≡ is_wanted g later.now stream }
+    ensures { (g : Operators) → graph_of checked.now ≡ g → result ≡ is_wanted g later.now stream }
 {
     is_sunk(checked, stream) || is_read_later(checked, later, stream)
 }

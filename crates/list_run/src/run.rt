@@ -59,7 +59,7 @@ fn stream_for(
     requires runs { (g : Graph) × CanRun checked.now g }
     requires there { stream < length table.old }
     ensures items { IfOk result (λ items. slice_get table.old stream ≡ Some items) }
-    ensures others { IfOk result (λ _. (g : Graph) → graph_of checked.now ≡ Some g
+    ensures others { IfOk result (λ _. (g : Graph) → graph_of checked.now ≡ g
         → table.new ≡ left_of (is_wanted g later.now stream) stream table.old) }
 {
     let at = stream as usize;
@@ -107,7 +107,7 @@ fn run_filter(
     requires output { output < length table.old }
     requires table { TableFits checked.now table.old }
     requires fit { FitsSchema checked.now.functions condition.now (schema_at checked.now input) }
-    ensures { IfOk result (λ _. (g : Graph) → graph_of checked.now ≡ Some g
+    ensures { IfOk result (λ _. (g : Graph) → graph_of checked.now ≡ g
         → table.new ≡ slice_set (left_of (is_wanted g later.now input) input table.old) output
         (passed number checked.now.functions condition.now (rows_at table.old input))) }
 {
@@ -170,8 +170,8 @@ pub fn streams_of(
     rows: Items<Items<Item>>,
 ) -> Result<Items<Items<Item>>, NoMemory>
     requires runs { (g : Graph) × CanRun checked.now g }
-    requires rows { (g : Graph) → graph_of checked.now ≡ Some g → RowsFit g rows }
-    ensures { IfOk result (λ streams. (g : Graph) (entries : Entries) → graph_of checked.now ≡ Some g
+    requires rows { (g : Graph) → graph_of checked.now ≡ g → RowsFit g rows }
+    ensures { IfOk result (λ streams. (g : Graph) (entries : Entries) → graph_of checked.now ≡ g
         → AreStreams checked.now g (meaning g (rows_at rows) entries) streams) }
 {
     graph_law();

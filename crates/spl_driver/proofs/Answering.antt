@@ -6,6 +6,7 @@ use Rattle.spl_value.specs.declared.item.Fault.{Fault}
 use Rattle.feed_pour.specs.Counts.{PerName, Rose}
 use Rattle.feed_pour.specs.Contents.{Told, WhereTold}
 use Rattle.language_model.specs.declared.checked.Part.{Part}
+use Rattle.language_model.specs.declared.checked.Part.TheVariants as A
 use Rattle.stream_model.specs.declared.record.Arrivals.{Arrivals}
 use Rattle.language_model.specs.CheckedGraph.{CheckedGraph}
 use Rattle.stream_model.specs.Ends.{run_fault}
@@ -13,7 +14,7 @@ use Rattle.stream_model.specs.Meaning.{Graph, Meaning}
 use Rattle.run_report.specs.declared.cause.Cause.{Cause}
 use Rattle.run_report.specs.declared.cause.Cause.TheVariants as C
 use Rattle.run_report.specs.declared.refusal.Refusal.{Refusal}
-use Rattle.stream_model.specs.React.{Kind, Operator, FileSource, Filter, FileSink}
+use Rattle.stream_model.specs.Operators.{Operator}
 use Rattle.command_line.specs.declared.request.Request.{Request}
 use Rattle.spl_driver.specs.Built.{is_built}
 use Rattle.spl_driver.specs.Outcome.{Outcome, NoRequest, Unreadable, Refused, NotBuilt, Checks, Runs, IsOutcome, ArePartsIn}
@@ -50,14 +51,21 @@ IsOne Is = (r s : Outcome) → Is r → Is s → r ≡ s
 
 -- ---- weaker facts
 
-front_at : (m : Meaning) (old new : Told) (kind : Kind) (op : Operator) → AtSink (HoldsText m new) kind op → AtSink (HoldsPrefix m old new) kind op
-front_at m old new (FileSource source) op h = tt
-front_at m old new (Filter condition) op h = tt
-front_at m old new (FileSink file) op h = inr (length (sink_text m op), h ∙ ap (λ (x : List ℕ). Some x) (sym (take-length (sink_text m op))))
+front_at : (m : Meaning) (old new : Told) (clauses : Part) (op : Operator) → AtSink (HoldsText m new) clauses op → AtSink (HoldsPrefix m old new) clauses op
+front_at m old new (A.FileSource file strict) op h = tt
+front_at m old new (A.FileSink file) op h = inr (length (sink_text m op), h ∙ ap (λ (x : List ℕ). Some x) (sym (take-length (sink_text m op))))
+front_at m old new (A.Filter condition) op h = tt
+front_at m old new (A.Functor condition output) op h = tt
+front_at m old new (A.Punctor condition position) op h = tt
+front_at m old new (A.Split index) op h = tt
+front_at m old new (A.Union places) op h = tt
+front_at m old new (A.Custom handlers) op h = tt
+front_at m old new (A.Aggregate window partition group output) op h = tt
+front_at m old new (A.Join left right condition output) op h = tt
 
 fronts : (m : Meaning) (old new : Told) (ops : List Operator) → EachSink (HoldsText m new) ops → EachSink (HoldsPrefix m old new) ops
 fronts m old new [] h = tt
-fronts m old new (op ∷ ops) h = (front_at m old new op.kind op h.0, fronts m old new ops h.1)
+fronts m old new (op ∷ ops) h = (front_at m old new op.clauses op h.0, fronts m old new ops h.1)
 
 weaker_run : (fault : Option Fault) (Is : Outcome → Type 0) (ended : Ended) (result : Outcome) (t u : Told) → IsOne Is → RunsTo fault Is ended u → Is result → Begun result t u
 weaker_run fault Is ended result t u one (c, g, m, is, e, run) comes =

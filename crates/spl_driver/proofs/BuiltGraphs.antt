@@ -1,64 +1,51 @@
 -- The graph of operators is built where each operator with its clauses is.
 use Prim.Native.Nat.{zero, suc}
 use Rattle.std.proofs.Common.{◌≡◌, ◌<◌, ◌+◌, ◌++◌, arith, get_or, take, length, append-nil, nat_eq, ℕ, List, [], ◌∷◌, Bool, true, false, refl, sym, ap, ◌∙◌, Option, Some, None}
-use Rattle.std.specs.Prelude.{min, not, slice_get, ◌&&◌}
+use Rattle.std.specs.Prelude.{min, map, not, slice_get, ◌&&◌}
 use Rattle.std.specs.List.{list_all, concat}
 use Rattle.std.proofs.lemmas.List.{take_more, length-append}
 use Rattle.std.proofs.lemmas.Option.{slice_get_read}
 use Rattle.std.proofs.lemmas.List.Folds.{concat-append, list_all-append}
-use Rattle.std.specs.Option.{option_map, option_map_or}
+use Rattle.std.specs.Option.{unwrap_or}
 use Rattle.spl_tree.specs.declared.graph.Op.{Op}
 use Rattle.language_model.specs.declared.checked.Part.{Part}
 use Rattle.language_model.specs.declared.checked.Part.TheVariants as A
 use Rattle.language_model.specs.CheckedGraph.{CheckedGraph}
-use Rattle.stream_model.specs.CheckedMeaning.{kind_of, operator_with, operators_from, with_operator}
-use Rattle.stream_model.specs.Meaning.{connections}
-use Rattle.stream_model.specs.React.{Operator}
-use Rattle.spl_driver.specs.Built.{is_built_graph, is_built_now, has_numbers, has_several, is_built_operator, are_built}
+use Rattle.stream_model.specs.CheckedMeaning.{first_schema, operator_with, operators_from, schema_at}
+use Rattle.stream_model.specs.Operators.{Operator, connections}
+use Rattle.spl_driver.specs.Built.{is_built_now, has_several, is_built_operator, is_built_with, are_built}
+use Rattle.file_adapters.specs.Source.{is_number_schema}
 use Rattle.spl_value.proofs.Bools.{and_false as and-false}
 
--- whether an operator of the graph is built
-abbrev is_built_one : CheckedGraph → Operator → Bool
-is_built_one c op = not (has_several (connections op)) && has_numbers c op.kind op
+-- the first of some streams has the attributes that they have
+first_port : (c : CheckedGraph) (outs : List ℕ) → first_schema c outs ≡ unwrap_or (slice_get (map (schema_at c) outs) 0) []
+first_port c [] = refl
+first_port c (s ∷ outs) = refl
 
-abbrev all_built : CheckedGraph → Option (List Operator) → Bool
-all_built c found = option_map_or (λ (ops : List Operator). list_all (is_built_one c) ops) found false
+pub makes_first : (c : CheckedGraph) (outs : List ℕ) (found : Bool) → found ≡ is_number_schema (first_schema c outs)
+    → found ≡ is_number_schema (unwrap_or (slice_get (map (schema_at c) outs) 0) [])
+makes_first c outs found e = e ∙ ap is_number_schema (first_port c outs)
 
-one_more : (c : CheckedGraph) (op : Operator) (rest : Option (List Operator)) → all_built c (with_operator (Some op) rest) ≡ (is_built_one c op && all_built c rest)
-one_more c op None = sym (and-false (is_built_one c op))
-one_more c op (Some ops) = refl
+-- whatever its number
+any_number : (c : CheckedGraph) (n : ℕ) (op : Op) (part : Part) → is_built_operator c (operator_with c n op part) ≡ is_built_with c op part
+any_number c n op (A.FileSource file strict) = refl
+any_number c n op (A.FileSink file) = refl
+any_number c n op (A.Filter condition) = refl
+any_number c n op (A.Functor condition output) = refl
+any_number c n op (A.Punctor condition position) = refl
+any_number c n op (A.Split index) = refl
+any_number c n op (A.Union places) = refl
+any_number c n op (A.Custom handlers) = refl
+any_number c n op (A.Aggregate window partition group output) = refl
+any_number c n op (A.Join left right condition output) = refl
 
-none_more : (c : CheckedGraph) (n : ℕ) (op : Op) (rest : Option (List Operator)) (later : Bool)
-    → all_built c (with_operator (option_map (operator_with c n op) None) rest) ≡ ((not (has_several (concat op.ins)) && false) && later)
-none_more c n op rest later = sym (ap (λ (b : Bool). b && later) (and-false (not (has_several (concat op.ins)))))
-
-step_built : (c : CheckedGraph) (n : ℕ) (op : Op) (part : Part) (rest : Option (List Operator))
-    → all_built c (with_operator (option_map (operator_with c n op) (kind_of c op part)) rest) ≡ (is_built_operator c op part && all_built c rest)
-step_built c n op (A.FileSource file strict) rest = one_more c _ rest
-step_built c n op (A.FileSink file) rest = one_more c _ rest
-step_built c n op (A.Filter condition) rest = one_more c _ rest
-step_built c n op (A.Functor condition output) rest = none_more c n op rest (all_built c rest)
-step_built c n op (A.Punctor condition position) rest = none_more c n op rest (all_built c rest)
-step_built c n op (A.Split index) rest = none_more c n op rest (all_built c rest)
-step_built c n op (A.Union places) rest = none_more c n op rest (all_built c rest)
-step_built c n op (A.Custom handlers) rest = none_more c n op rest (all_built c rest)
-step_built c n op (A.Aggregate window partition group output) rest = none_more c n op rest (all_built c rest)
-step_built c n op (A.Join left right condition output) rest = none_more c n op rest (all_built c rest)
-
-each_built : (c : CheckedGraph) (n : ℕ) (ops : List Op) (parts : List Part) → all_built c (operators_from c n ops parts) ≡ are_built c ops parts
+each_built : (c : CheckedGraph) (n : ℕ) (ops : List Op) (parts : List Part) → list_all (is_built_operator c) (operators_from c n ops parts) ≡ are_built c ops parts
 each_built c n [] parts = refl
 each_built c n (op ∷ ops) [] = refl
-each_built c n (op ∷ ops) (part ∷ parts) =
-    step_built c n op part (operators_from c (suc n) ops parts)
-    ∙ ap (λ (b : Bool). is_built_operator c op part && b) (each_built c (suc n) ops parts)
-
-of_graph : (c : CheckedGraph) (topo : List ℕ) (found : Option (List Operator))
-    → option_map_or (is_built_graph c) (option_map (λ (ops : List Operator). record { ops = ops; topo = topo }) found) false ≡ all_built c found
-of_graph c topo None = refl
-of_graph c topo (Some ops) = refl
+each_built c n (op ∷ ops) (part ∷ parts) = λ i. any_number c n op part i && each_built c (suc n) ops parts i
 
 pub built_now : (c : CheckedGraph) → is_built_now c ≡ are_built c c.graph.ops c.parts
-built_now c = of_graph c c.graph.topo (operators_from c 0 c.graph.ops c.parts) ∙ each_built c 0 c.graph.ops c.parts
+built_now c = each_built c 0 c.graph.ops c.parts
 
 -- ---- the streams of ports, one port more
 
@@ -111,13 +98,13 @@ none_of_ports test ports i port within at h = sym (none_at test ports i port (sl
 -- ---- the first operator, and none
 
 pub built_first : (c : CheckedGraph) (ops : List Op) (parts : List Part) (op : Op) (part : Part) → 0 < length ops → 0 < length parts → op ≡ get_or ops 0 op
-    → part ≡ get_or parts 0 part → false ≡ is_built_operator c op part → are_built c ops parts ≡ are_built c c.graph.ops c.parts → false ≡ is_built_now c
+    → part ≡ get_or parts 0 part → false ≡ is_built_with c op part → are_built c ops parts ≡ are_built c c.graph.ops c.parts → false ≡ is_built_now c
 built_first c [] parts op part some others at here is same = let bad : ⊥ = omega arith in absurd bad
 built_first c (o ∷ ops) [] op part some others at here is same = let bad : ⊥ = omega arith in absurd bad
 built_first c (o ∷ ops) (p ∷ parts) op part some others at here is same =
     let one : op ≡ o = at in
     let other : part ≡ p = here in
-    ap (λ (b : Bool). b && are_built c ops parts) (is ∙ ap (λ (x : Op). is_built_operator c x part) one ∙ ap (λ (x : Part). is_built_operator c o x) other)
+    ap (λ (b : Bool). b && are_built c ops parts) (is ∙ ap (λ (x : Op). is_built_with c x part) one ∙ ap (λ (x : Part). is_built_with c o x) other)
     ∙ same ∙ sym (built_now c)
 
 pub built_no_ops : (c : CheckedGraph) (ops : List Op) (parts : List Part) → length ops < 1 → are_built c ops parts ≡ are_built c c.graph.ops c.parts

@@ -118,11 +118,8 @@ ran_counts request p options c cause old new e built graph h =
 -- ---- a run of a graph that isn't built
 
 not_built_graph : (c : CheckedGraph) (t : Told) (lists : List ArrivalList) → is_built_now c ≡ false → with_graph c t lists (graph_of c) ≡ NotBuilt
-not_built_graph c t lists other = go (graph_of c) other
-  where
-    go : (found : Option Graph) → option_map_or (is_built_graph c) found false ≡ false → with_graph c t lists found ≡ NotBuilt
-    go None e = refl
-    go (Some g) e = ap (λ (b : Bool). if b then with_sources (map t.script (source_files c.parts)) (Runs c g (meant g t lists)) else NotBuilt) e
+not_built_graph c t lists other =
+    ap (λ (b : Bool). if b then with_sources (map t.script (source_files c.parts)) (Runs c (graph_of c) (meant (graph_of c) t lists)) else NotBuilt) other
 
 unbuilt_told : (told : Option Told) (c : CheckedGraph) → is_built_now c ≡ false → IfSome told (λ t. (lists : List ArrivalList) → with_graph c t lists (graph_of c) ≡ NotBuilt)
 unbuilt_told None c other = tt

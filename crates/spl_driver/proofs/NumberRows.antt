@@ -56,7 +56,7 @@ source_told file bytes items t h (numbers, is, all) = record {
   read = no_fault (t.script file) bytes h;
   numbers = ap (λ (b : Bool). b && is_number_file (t.script file).bytes) (is_short (t.script file) bytes h)
       ∙ ap (λ (s : Script). is_number_file s.bytes) h.0 ∙ is;
-  rows = λ n source at schema. all (setting_of n source) schema refl ∙ sym (ap (λ (s : Script). rows (setting_of n source) s.bytes s.ending) h.0);
+  rows = λ op strict schema. all (setting_of op strict) schema refl ∙ sym (ap (λ (s : Script). rows (setting_of op strict) s.bytes s.ending) h.0);
 }
 
 -- the rows of a source's file that was read

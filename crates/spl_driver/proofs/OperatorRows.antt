@@ -16,13 +16,13 @@ use Rattle.feed_pour.specs.Contents.{Told, WhereTold, TellsSame}
 use Rattle.language_model.specs.declared.checked.Part.{Part}
 use Rattle.language_model.specs.declared.checked.Part.TheVariants as A
 use Rattle.language_model.specs.CheckedGraph.{CheckedGraph}
-use Rattle.stream_model.specs.CheckedMeaning.{first_schema, kind_of, operator_with, operators_from, with_operator}
-use Rattle.stream_model.specs.Meaning.{Graph, connections}
-use Rattle.stream_model.specs.React.{Kind, Operator, Source, FileSource, Filter, FileSink}
+use Rattle.stream_model.specs.CheckedMeaning.{operator_with, operators_from}
+use Rattle.stream_model.specs.Meaning.{Graph}
+use Rattle.stream_model.specs.Operators.{Operator, connections, output_attributes}
 use Rattle.file_adapters.specs.Source.{is_number_schema}
 use Rattle.check_laws.specs.Files.{source_file, source_files, is_named}
 use Rattle.list_run.specs.Runs.{rows_at}
-use Rattle.spl_driver.specs.Built.{is_built_graph, is_built_now, has_numbers, has_several}
+use Rattle.spl_driver.specs.Built.{is_built_now, is_built_operator, has_number_files, has_several}
 use Rattle.spl_driver.specs.Answer.{NoCountChanged}
 use Rattle.spl_driver.specs.Outcome.{rows_by, has_fault, holds_numbers}
 use Rattle.spl_driver.specs.Steps.{AreNumbers, RowsOf, RowsFor, HoldsOther, SourceTold, AllRead, all_numbers, RowsTold, SourcesOf, OpensCounted}
@@ -196,105 +196,76 @@ one_failed parts i part old mid new within at quiet (only, (n, is, rose)) =
 
 -- ---- all operators of a graph
 
--- the rows of an operator of this kind
-pub record KindRows (kind : Kind) (items : List Item) (told : Option Told) : Type 0 where
-  pub numbers : (source : Source) → kind ≡ FileSource source → AreNumbers items × (is_number_schema source.schema ≡ true)
-  pub same : IfSome told (λ t. (n : ℕ) → items ≡ rows_by t n kind)
+-- the rows of an operator with these clauses
+pub record ClausesRows (clauses : Part) (op : Operator) (items : List Item) (told : Option Told) : Type 0 where
+  pub numbers : (file : List ℕ) (strict : Bool) → clauses ≡ A.FileSource file strict → AreNumbers items × (is_number_schema (output_attributes op 0) ≡ true)
+  pub same : IfSome told (λ t. items ≡ rows_by t clauses op)
 
-source_rows : (source : Source) (items : List Item) (told : Option Told) → is_number_schema source.schema ≡ true → AreNumbers items
-    → IfSome told (SourceTold source.file items) → KindRows (FileSource source) items told
-source_rows source items told schema numbers h = record {
-  numbers = λ other is. (numbers, subst (λ (s : Source). is_number_schema s.schema ≡ true) (the_source other is) schema);
-  same = go told h;
-}
+source_rows : (c : CheckedGraph) (file : List ℕ) (strict : Bool) (op : Operator) (items : List Item) (told : Option Told) → is_number_schema (output_attributes op 0) ≡ true
+    → AreNumbers items → IfSome told (SourceTold file items) → ClausesRows (A.FileSource file strict) op items told
+source_rows c file strict op items told schema numbers h = record { numbers = λ other loose is. (numbers, schema); same = go told h }
   where
-    the_source : (other : Source) → FileSource source ≡ FileSource other → source ≡ other
-    the_source other is = cc
-
-    go : (told : Option Told) → IfSome told (SourceTold source.file items) → IfSome told (λ t. (n : ℕ) → items ≡ rows_by t n (FileSource source))
+    go : (told : Option Told) → IfSome told (SourceTold file items) → IfSome told (λ t. items ≡ rows_by t (A.FileSource file strict) op)
     go None h = tt
-    go (Some t) h = λ n. h.rows n source refl schema
+    go (Some t) h = h.rows op strict schema
 
-no_rows : (told : Option Told) (kind : Kind) (items : List Item) → ((source : Source) → kind ≡ FileSource source → ⊥) → items ≡ []
-    → ((t : Told) (n : ℕ) → rows_by t n kind ≡ []) → KindRows kind items told
-no_rows told kind items other is none = record { numbers = λ source e. absurd (other source e); same = go told }
+no_rows : (told : Option Told) (clauses : Part) (op : Operator) (items : List Item) → ((file : List ℕ) (strict : Bool) → clauses ≡ A.FileSource file strict → ⊥) → items ≡ []
+    → ((t : Told) → rows_by t clauses op ≡ []) → ClausesRows clauses op items told
+no_rows told clauses op items other is none = record { numbers = λ file strict e. absurd (other file strict e); same = go told }
   where
-    go : (told : Option Told) → IfSome told (λ t. (n : ℕ) → items ≡ rows_by t n kind)
+    go : (told : Option Told) → IfSome told (λ t. items ≡ rows_by t clauses op)
     go None = tt
-    go (Some t) = λ n. is ∙ sym (none t n)
+    go (Some t) = is ∙ sym (none t)
 
-kind_rows : (c : CheckedGraph) (n : ℕ) (op : Op) (part : Part) (kind : Kind) (items : List Item) (told : Option Told) → kind_of c op part ≡ Some kind
-    → has_numbers c kind (operator_with c n op kind) ≡ true → RowsOf part items told → KindRows kind items told
-kind_rows c n op (A.FileSource file strict) kind items told e built h =
-    let source : Source = record { file = file; schema = first_schema c op.outs; strict = strict } in
-    let is : Some (FileSource source) ≡ Some kind = e in
-    let same : FileSource source ≡ kind = cc in
-    let schema : is_number_schema (first_schema c op.outs) ≡ true = ap (λ (k : Kind). has_numbers c k (operator_with c n op kind)) same ∙ built in
-    subst (λ (k : Kind). KindRows k items told) same (source_rows source items told schema h.0 h.1)
-kind_rows c n op (A.FileSink file) kind items told e built h =
-    let is : Some (FileSink file) ≡ Some kind = e in
-    let same : FileSink file ≡ kind = cc in
-    subst (λ (k : Kind). KindRows k items told) same (no_rows told (FileSink file) items (λ source x. cc) h (λ t m. refl))
-kind_rows c n op (A.Filter condition) kind items told e built h =
-    let is : Some (Filter condition) ≡ Some kind = e in
-    let same : Filter condition ≡ kind = cc in
-    subst (λ (k : Kind). KindRows k items told) same (no_rows told (Filter condition) items (λ source x. cc) h (λ t m. refl))
-kind_rows c n op (A.Functor condition output) kind items told e built h = let is : None ≡ Some kind = e in cc
-kind_rows c n op (A.Punctor condition position) kind items told e built h = let is : None ≡ Some kind = e in cc
-kind_rows c n op (A.Split index) kind items told e built h = let is : None ≡ Some kind = e in cc
-kind_rows c n op (A.Union places) kind items told e built h = let is : None ≡ Some kind = e in cc
-kind_rows c n op (A.Custom handlers) kind items told e built h = let is : None ≡ Some kind = e in cc
-kind_rows c n op (A.Aggregate window partition group output) kind items told e built h = let is : None ≡ Some kind = e in cc
-kind_rows c n op (A.Join left right condition output) kind items told e built h = let is : None ≡ Some kind = e in cc
+clauses_rows : (c : CheckedGraph) (part : Part) (op : Operator) (items : List Item) (told : Option Told) → has_number_files c part op ≡ true → RowsOf part items told
+    → ClausesRows part op items told
+clauses_rows c (A.FileSource file strict) op items told built h = source_rows c file strict op items told built h.0 h.1
+clauses_rows c (A.FileSink file) op items told built h = no_rows told (A.FileSink file) op items (λ f s x. cc) h (λ t. refl)
+clauses_rows c (A.Filter condition) op items told built h = no_rows told (A.Filter condition) op items (λ f s x. cc) h (λ t. refl)
+clauses_rows c (A.Functor condition output) op items told built h = no_rows told (A.Functor condition output) op items (λ f s x. cc) h (λ t. refl)
+clauses_rows c (A.Punctor condition position) op items told built h = no_rows told (A.Punctor condition position) op items (λ f s x. cc) h (λ t. refl)
+clauses_rows c (A.Split index) op items told built h = no_rows told (A.Split index) op items (λ f s x. cc) h (λ t. refl)
+clauses_rows c (A.Union places) op items told built h = no_rows told (A.Union places) op items (λ f s x. cc) h (λ t. refl)
+clauses_rows c (A.Custom handlers) op items told built h = no_rows told (A.Custom handlers) op items (λ f s x. cc) h (λ t. refl)
+clauses_rows c (A.Aggregate window partition group output) op items told built h = no_rows told (A.Aggregate window partition group output) op items (λ f s x. cc) h (λ t. refl)
+clauses_rows c (A.Join left right condition output) op items told built h = no_rows told (A.Join left right condition output) op items (λ f s x. cc) h (λ t. refl)
 
 -- the rows of operators
 pub record GraphRows (ops : List Operator) (rows : List (List Item)) (told : Option Told) : Type 0 where
   pub count : length rows ≡ length ops
-  pub numbers : (n : ℕ) (op : Operator) (source : Source) → slice_get ops n ≡ Some op → op.kind ≡ FileSource source
-      → AreNumbers (rows_at rows n) × (is_number_schema source.schema ≡ true)
-  pub same : IfSome told (λ t. (n m : ℕ) → rows_at rows n ≡ option_map_or (λ (op : Operator). rows_by t m op.kind) (slice_get ops n) [])
+  pub numbers : (n : ℕ) (op : Operator) (file : List ℕ) (strict : Bool) → slice_get ops n ≡ Some op → op.clauses ≡ A.FileSource file strict
+      → AreNumbers (rows_at rows n) × (is_number_schema (output_attributes op 0) ≡ true)
+  pub same : IfSome told (λ t. (n : ℕ) → rows_at rows n ≡ option_map_or (λ (op : Operator). rows_by t op.clauses op) (slice_get ops n) [])
 
 no_operators : (told : Option Told) → GraphRows [] [] told
-no_operators told = record { count = refl; numbers = λ n op source e is. let bad : None ≡ Some op = e in cc; same = go told }
+no_operators told = record { count = refl; numbers = λ n op file strict e is. let bad : None ≡ Some op = e in cc; same = go told }
   where
-    go : (told : Option Told) → IfSome told (λ t. (n m : ℕ) → rows_at [] n ≡ option_map_or (λ (op : Operator). rows_by t m op.kind) (slice_get [] n) [])
+    go : (told : Option Told) → IfSome told (λ t. (n : ℕ) → rows_at [] n ≡ option_map_or (λ (op : Operator). rows_by t op.clauses op) (slice_get [] n) [])
     go None = tt
-    go (Some t) = λ n m. refl
+    go (Some t) = λ n. refl
 
-one_operator : (op : Operator) (ops : List Operator) (items : List Item) (rows : List (List Item)) (told : Option Told) → KindRows op.kind items told
+one_operator : (op : Operator) (ops : List Operator) (items : List Item) (rows : List (List Item)) (told : Option Told) → ClausesRows op.clauses op items told
     → GraphRows ops rows told → GraphRows (op ∷ ops) (items ∷ rows) told
 one_operator op ops items rows told first rest = record { count = ap suc rest.count; numbers = numbers; same = go told first.same rest.same }
   where
-    numbers : (n : ℕ) (o : Operator) (source : Source) → slice_get (op ∷ ops) n ≡ Some o → o.kind ≡ FileSource source
-        → AreNumbers (rows_at (items ∷ rows) n) × (is_number_schema source.schema ≡ true)
-    numbers zero o source e is = let at : Some op ≡ Some o = e in let same : op ≡ o = cc in first.numbers source (ap (λ (x : Operator). x.kind) same ∙ is)
-    numbers (suc n) o source e is = rest.numbers n o source e is
+    numbers : (n : ℕ) (o : Operator) (file : List ℕ) (strict : Bool) → slice_get (op ∷ ops) n ≡ Some o → o.clauses ≡ A.FileSource file strict
+        → AreNumbers (rows_at (items ∷ rows) n) × (is_number_schema (output_attributes o 0) ≡ true)
+    numbers zero o file strict e is =
+        let at : Some op ≡ Some o = e in
+        let same : op ≡ o = cc in
+        subst (λ (x : Operator). AreNumbers items × (is_number_schema (output_attributes x 0) ≡ true)) same
+        (first.numbers file strict (ap (λ (x : Operator). x.clauses) same ∙ is))
+    numbers (suc n) o file strict e is = rest.numbers n o file strict e is
 
-    go : (told : Option Told) → IfSome told (λ t. (n : ℕ) → items ≡ rows_by t n op.kind)
-        → IfSome told (λ t. (n m : ℕ) → rows_at rows n ≡ option_map_or (λ (o : Operator). rows_by t m o.kind) (slice_get ops n) [])
-        → IfSome told (λ t. (n m : ℕ) → rows_at (items ∷ rows) n ≡ option_map_or (λ (o : Operator). rows_by t m o.kind) (slice_get (op ∷ ops) n) [])
+    go : (told : Option Told) → IfSome told (λ t. items ≡ rows_by t op.clauses op)
+        → IfSome told (λ t. (n : ℕ) → rows_at rows n ≡ option_map_or (λ (o : Operator). rows_by t o.clauses o) (slice_get ops n) [])
+        → IfSome told (λ t. (n : ℕ) → rows_at (items ∷ rows) n ≡ option_map_or (λ (o : Operator). rows_by t o.clauses o) (slice_get (op ∷ ops) n) [])
     go None a b = tt
     go (Some t) a b = each
       where
-        each : (n m : ℕ) → rows_at (items ∷ rows) n ≡ option_map_or (λ (o : Operator). rows_by t m o.kind) (slice_get (op ∷ ops) n) []
-        each zero m = a m
-        each (suc n) m = b n m
-
--- an operator that is there, in front of others that are
-pub record Front (c : CheckedGraph) (n : ℕ) (op : Op) (first : Option Kind) (later : Option (List Operator)) (all : List Operator) : Type 0 where
-  pub kind : Kind
-  pub others : List Operator
-  pub is : first ≡ Some kind
-  pub rest : later ≡ Some others
-  pub whole : operator_with c n op kind ∷ others ≡ all
-
-front : (c : CheckedGraph) (n : ℕ) (op : Op) (first : Option Kind) (later : Option (List Operator)) (all : List Operator)
-    → with_operator (option_map (operator_with c n op) first) later ≡ Some all → Front c n op first later all
-front c n op None later all e = let bad : None ≡ Some all = e in cc
-front c n op (Some kind) None all e = let bad : None ≡ Some all = e in cc
-front c n op (Some kind) (Some others) all e =
-    let is : Some (operator_with c n op kind ∷ others) ≡ Some all = e in
-    record { kind = kind; others = others; is = refl; rest = refl; whole = cc }
+        each : (n : ℕ) → rows_at (items ∷ rows) n ≡ option_map_or (λ (o : Operator). rows_by t o.clauses o) (slice_get (op ∷ ops) n) []
+        each zero = a
+        each (suc n) = b n
 
 both : (a b : Bool) → (a && b) ≡ true → (a ≡ true) × (b ≡ true)
 both true b h = (refl, h)
@@ -303,48 +274,33 @@ both false b h = let bad : false ≡ true = h in cc
 tail_length : (a b : ℕ) → suc a ≡ suc b → a ≡ b
 tail_length a b e = omega arith
 
-built_rows : (c : CheckedGraph) (n : ℕ) (ops : List Op) (parts : List Part) (all : List Operator) (rows : List (List Item)) (told : Option Told)
-    → length parts ≡ length ops → operators_from c n ops parts ≡ Some all
-    → list_all (λ op. not (has_several (connections op)) && has_numbers c op.kind op) all ≡ true → RowsFor parts rows told → GraphRows all rows told
-built_rows c n ops [] all (r ∷ rows) told len e built h = absurd h
-built_rows c n [] [] all [] told len e built h =
-    let is : Some [] ≡ Some all = e in
-    let same : [] ≡ all = cc in
-    subst (λ (os : List Operator). GraphRows os [] told) same (no_operators told)
-built_rows c n (op ∷ ops) [] all rows told len e built h = let bad : 0 ≡ suc (length ops) = len in absurd cc
-built_rows c n [] (part ∷ parts) all rows told len e built h = let bad : suc (length parts) ≡ 0 = len in absurd cc
-built_rows c n (op ∷ ops) (part ∷ parts) all [] told len e built h = absurd h
-built_rows c n (op ∷ ops) (part ∷ parts) all (items ∷ rows) told len e built h =
-    let f = front c n op (kind_of c op part) (operators_from c (suc n) ops parts) all e in
-    let o : Operator = operator_with c n op f.kind in
-    let all_built : list_all (λ op. not (has_several (connections op)) && has_numbers c op.kind op) (o ∷ f.others) ≡ true =
-    ap (list_all (λ op. not (has_several (connections op)) && has_numbers c op.kind op)) f.whole ∙ built in
-    let each = both (not (has_several (connections o)) && has_numbers c f.kind o) (list_all (λ op. not (has_several (connections op)) && has_numbers c op.kind op) f.others) all_built in
-    let first = both (not (has_several (connections o))) (has_numbers c f.kind o) each.0 in
-    let fewer : length parts ≡ length ops = tail_length (length parts) (length ops) len in
-    subst (λ (os : List Operator). GraphRows os (items ∷ rows) told) f.whole
-    (one_operator o f.others items rows told (kind_rows c n op part f.kind items told f.is first.1 h.0)
-    (built_rows c (suc n) ops parts f.others rows told fewer f.rest each.1 h.1))
-
-operators_of : (topo : List ℕ) (found : Option (List Operator)) (g : Graph) → option_map (λ ops. record { ops = ops; topo = topo }) found ≡ Some g
-    → found ≡ Some g.ops
-operators_of topo None g e = let bad : None ≡ Some g = e in cc
-operators_of topo (Some ops) g e = ap (λ (x : Option Graph). option_map (λ (h : Graph). h.ops) x) e
+built_rows : (c : CheckedGraph) (n : ℕ) (ops : List Op) (parts : List Part) (rows : List (List Item)) (told : Option Told) → length parts ≡ length ops
+    → list_all (is_built_operator c) (operators_from c n ops parts) ≡ true → RowsFor parts rows told → GraphRows (operators_from c n ops parts) rows told
+built_rows c n ops [] (r ∷ rows) told len built h = absurd h
+built_rows c n [] [] [] told len built h = no_operators told
+built_rows c n (op ∷ ops) [] rows told len built h = let bad : 0 ≡ suc (length ops) = len in absurd cc
+built_rows c n [] (part ∷ parts) rows told len built h = let bad : suc (length parts) ≡ 0 = len in absurd cc
+built_rows c n (op ∷ ops) (part ∷ parts) [] told len built h = absurd h
+built_rows c n (op ∷ ops) (part ∷ parts) (items ∷ rows) told len built h =
+    let o : Operator = operator_with c n op part in
+    let each = both (is_built_operator c o) (list_all (is_built_operator c) (operators_from c (suc n) ops parts)) built in
+    let first = both (not (has_several (connections o))) (has_number_files c part o) each.0 in
+    one_operator o (operators_from c (suc n) ops parts) items rows told (clauses_rows c part o items told first.1 h.0)
+    (built_rows c (suc n) ops parts rows told (tail_length (length parts) (length ops) len) each.1 h.1)
 
 rows_told_of : (c : CheckedGraph) (g : Graph) (rows : List (List Item)) (told : Option Told) → IfSome told (ReadTo c.parts true) → GraphRows g.ops rows told
     → IfSome told (RowsTold rows c g)
 rows_told_of c g rows None h all = tt
-rows_told_of c g rows (Some t) h all = record { read = h.read; numbers = h.are; same = λ n. all.same n n }
+rows_told_of c g rows (Some t) h all = record { read = h.read; numbers = h.are; same = all.same }
 
 pub all_rows : (c : CheckedGraph) (rows : List (List Item)) (told : Option Told) → length c.parts ≡ length c.graph.ops → is_built_now c ≡ true
     → RowsFor c.parts rows told → IfSome told (ReadTo c.parts true) → SourcesOf (S.Rows rows) c told
 all_rows c rows told len built h read g e =
-    let of_graph : is_built_graph c g ≡ true = sym (ap (λ (x : Option Graph). option_map_or (is_built_graph c) x false) e) ∙ built in
-    let all = built_rows c 0 c.graph.ops c.parts g.ops rows told len (operators_of c.graph.topo (operators_from c 0 c.graph.ops c.parts) g e) of_graph h in (
+    let all = subst (λ (ops : List Operator). GraphRows ops rows told) (ap (λ (x : Graph). x.ops) e) (built_rows c 0 c.graph.ops c.parts rows told len built h) in (
       record {
         count = all.count;
-        closed = λ n op source at is. (all.numbers n op source at is).0.closed;
-        fit = λ n op source at is. let x = all.numbers n op source at is in x.0.fit source.schema x.1;
+        closed = λ n op file strict at is. (all.numbers n op file strict at is).0.closed;
+        fit = λ n op file strict at is. let x = all.numbers n op file strict at is in x.0.fit (output_attributes op 0) x.1;
       },
       rows_told_of c g rows told read all,
     )

@@ -20,7 +20,7 @@ pub runs : (c : CheckedGraph) → is_built_now c ≡ true → (g : Graph) × Can
 runs c built = let there = graph_there c built in (there.0, can_run c there.0 there.1 there.2)
 
 -- the rows of the sources that were read
-pub rows_fit : (c : CheckedGraph) (rows : List (List Item)) (told : Option Told) → SourcesOf (S.Rows rows) c told → (g : Graph) → graph_of c ≡ Some g → RowsFit g rows
+pub rows_fit : (c : CheckedGraph) (rows : List (List Item)) (told : Option Told) → SourcesOf (S.Rows rows) c told → (g : Graph) → graph_of c ≡ g → RowsFit g rows
 rows_fit c rows told h g e = (h g e).0
 
 sources_pass : (c : CheckedGraph) (t : Told) (next : Outcome) → AllRead c.parts t → all_numbers c.parts t ≡ true → with_sources (map t.script (source_files c.parts)) next ≡ next
@@ -29,14 +29,14 @@ sources_pass c t next read numbers =
     ∙ ap (λ (b : Bool). if b then next else NotBuilt) numbers
 
 outcome_at : (c : CheckedGraph) (g : Graph) (t : Told) (lists : List ArrivalList) → is_built_graph c g ≡ true → AllRead c.parts t → all_numbers c.parts t ≡ true
-    → with_graph c t lists (Some g) ≡ Runs c g (meant g t lists)
+    → with_graph c t lists g ≡ Runs c g (meant g t lists)
 outcome_at c g t lists built read numbers =
     ap (λ (b : Bool). if b then with_sources (map t.script (source_files c.parts)) (Runs c g (meant g t lists)) else NotBuilt) built
     ∙ sources_pass c t (Runs c g (meant g t lists)) read numbers
 
 -- the streams of those rows
 pub streams_for : (c : CheckedGraph) (rows streams : List (List Item)) (told : Option Told) → is_built_now c ≡ true → SourcesOf (S.Rows rows) c told
-    → ((g : Graph) (entries : Entries) → graph_of c ≡ Some g → AreStreams c g (meaning g (rows_at rows) entries) streams) → StreamsFor c streams told
+    → ((g : Graph) (entries : Entries) → graph_of c ≡ g → AreStreams c g (meaning g (rows_at rows) entries) streams) → StreamsFor c streams told
 streams_for c rows streams told built h are =
     let there = graph_there c built in
     record {
@@ -55,6 +55,6 @@ streams_for c rows streams told built h are =
     same None q = tt
     same (Some t) q = q.same
 
-    comes : (o : Option Told) → IfSome o (RowsTold rows c g) → IfSome o (λ t. (lists : List ArrivalList) → with_graph c t lists (Some g) ≡ Runs c g (meant g t lists))
+    comes : (o : Option Told) → IfSome o (RowsTold rows c g) → IfSome o (λ t. (lists : List ArrivalList) → with_graph c t lists g ≡ Runs c g (meant g t lists))
     comes None q = tt
     comes (Some t) q = λ lists. outcome_at c g t lists (graph_there c built).2 q.read q.numbers

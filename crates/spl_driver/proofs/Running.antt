@@ -119,7 +119,7 @@ EndsBehind S.Memory fault c ended = ended.cause ≡ C.NoMemory
 
 -- the fault is that of the run
 abbrev pub IsFaultOf : Sunk → CheckedGraph → List (List Item) → Option Fault → Type 0
-IsFaultOf (S.Done ns) c streams fault = (g : Graph) (rows : Lists) (entries : Entries) → graph_of c ≡ Some g → AreStreams c g (meaning g rows entries) streams → fault ≡ run_fault g (meaning g rows entries)
+IsFaultOf (S.Done ns) c streams fault = (g : Graph) (rows : Lists) (entries : Entries) → graph_of c ≡ g → AreStreams c g (meaning g rows entries) streams → fault ≡ run_fault g (meaning g rows entries)
 IsFaultOf _ c streams fault = Unit {0}
 
 -- what the run comes to, by its streams
@@ -304,7 +304,7 @@ lent_behind c sinks old mid new keeps e first second small =
 
 -- what the run comes to, or anything where nothing is told; its fault is the run's
 some_outcome : (told : Option Told) (c : CheckedGraph) (streams : List (List Item)) (arrivals : Arrivals) (fault : Option Fault) → StreamsFor c streams told
-    → ((g : Graph) (rows : Lists) (entries : Entries) → graph_of c ≡ Some g → AreStreams c g (meaning g rows entries) streams → fault ≡ run_fault g (meaning g rows entries))
+    → ((g : Graph) (rows : Lists) (entries : Entries) → graph_of c ≡ g → AreStreams c g (meaning g rows entries) streams → fault ≡ run_fault g (meaning g rows entries))
     → (g : Graph) × (m : Meaning) × RunComes c arrivals told (Runs c g m) × (fault ≡ run_fault g m)
 some_outcome None c streams arrivals fault p faults = (
   p.graph,

@@ -2,7 +2,7 @@
 use Rattle.std.proofs.Common.{◌≡◌, ℕ, zero, suc, ◌+◌, ◌-◌, ◌^◌, ◌<◌, ◌≤◌, min, Bool, true, false, not, ◌&&◌, ◌||◌, ◌==◌, List, [], ◌∷◌, ◌++◌, map, length, take, refl, sym, ap, subst, ◌∙◌, slice_get, Option, Some, None, inl, inr, ◌⊎◌, arith}
 use Rattle.std.proofs.Math.Seq.{take-length}
 use Rattle.std.specs.List.{All, concat, cons_option, count_by, list_all, list_any, filter_map}
-use Rattle.std.specs.Option.{option_map_or, unwrap_or}
+use Rattle.std.specs.Option.{unwrap_or}
 use Rattle.std.specs.Prelude.{if◌then◌else◌}
 use Rattle.std.specs.Str.{bytes_eq}
 use borrow.Author.Tests.{eq-eqb}
@@ -13,12 +13,12 @@ use Rattle.language_model.specs.declared.checked.Part.{Part}
 use Rattle.language_model.specs.declared.checked.Part.TheVariants as A
 use Rattle.stream_model.specs.declared.record.SinkCount.{SinkCount}
 use Rattle.language_model.specs.CheckedGraph.{CheckedGraph}
-use Rattle.stream_model.specs.CheckedMeaning.{first_schema, graph_of, kind_of, operator_with, operators_from}
+use Rattle.stream_model.specs.CheckedMeaning.{graph_of, operator_with, operators_from}
 use Rattle.stream_model.specs.Ends.{is_read}
 use Rattle.language_model.specs.Keeping.{Keeps}
 use Rattle.stream_model.specs.Laws.{reads_stream}
-use Rattle.stream_model.specs.Meaning.{Entries, Graph, Lists, Meaning, connections, meaning}
-use Rattle.stream_model.specs.React.{Kind, Operator, Source, FileSource, Filter, FileSink}
+use Rattle.stream_model.specs.Meaning.{Entries, Graph, Lists, Meaning, meaning}
+use Rattle.stream_model.specs.Operators.{Operator, connections}
 use Rattle.stream_model.specs.Rows.{text_of}
 use Rattle.stream_model.specs.Stages.{out}
 use Rattle.stream_model.specs.Stream.{is_closed, is_tuple}
@@ -28,25 +28,21 @@ use Rattle.file_adapters.specs.declared.sinks.Sunk.{Sunk}
 use Rattle.file_adapters.specs.declared.sinks.Sunk.TheVariants as W
 use Rattle.file_adapters.specs.Sinks as S
 use Rattle.file_adapters.specs.Sinks.{AreDistinct, HeldAfter, HoldsFront, SinksCount, SinksWritten, is_file, sink_rows, stream_at}
-use Rattle.list_run.specs.Runs.{AreStreams, CanRun}
+use Rattle.list_run.specs.Runs.{AreStreams, CanRun, is_run}
 use Rattle.list_run.specs.SinkLaws.{SinkCountLaw, SinkTextLaw}
 use Rattle.list_run.specs.Sinks.{is_sunk, sinks_stream, stays}
 use Rattle.spl_driver.specs.Answer.{AtSink, EachSink, HoldsPrefix, HoldsText, SameFiles, sink_count, sink_text, tuples_of}
-use Rattle.spl_driver.specs.Built.{has_several, has_numbers, is_built_graph, is_built_now}
+use Rattle.spl_driver.specs.Built.{has_several, has_number_files, is_built_graph, is_built_now, is_built_operator}
 use Rattle.spl_driver.specs.Outcome.{if_several, several}
 use Rattle.spl_driver.specs.Steps.{counts_from, first_input, sink_of, sink_in_front, sinks_from, sinks_of}
-use Rattle.spl_driver.proofs.Operators.{ops_made, parted, sink_at}
+use Rattle.spl_driver.proofs.Operators.{ops_made, operator_at}
 pub use Rattle.spl_driver.proofs.Operators.{sink_takes}
 use Rattle.spl_value.proofs.Bools.{and_left as and_first, and_right as and_second, or_last as or_second}
 
 -- ---- graphs that are built
 
-graph_in : (f : Graph → Bool) (o : Option Graph) → option_map_or f o false ≡ true → (g : Graph) × (o ≡ Some g) × (f g ≡ true)
-graph_in f None e = absurd cc
-graph_in f (Some g) e = (g, refl, e)
-
-pub graph_there : (c : CheckedGraph) → is_built_now c ≡ true → (g : Graph) × (graph_of c ≡ Some g) × (is_built_graph c g ≡ true)
-graph_there c e = graph_in (is_built_graph c) (graph_of c) e
+pub graph_there : (c : CheckedGraph) → is_built_now c ≡ true → (g : Graph) × (graph_of c ≡ g) × (is_built_graph c g ≡ true)
+graph_there c e = (graph_of c, refl, e)
 
 all_at : {A : Type 0} (p : A → Bool) (xs : List A) → list_all p xs ≡ true → (n : ℕ) (x : A) → slice_get xs n ≡ Some x → p x ≡ true
 all_at p [] e n x at = absurd cc
@@ -58,11 +54,26 @@ one_at_most [] e = omega arith
 one_at_most (s ∷ []) e = omega arith
 one_at_most (s ∷ t ∷ streams) e = absurd cc
 
-pub can_run : (c : CheckedGraph) (g : Graph) → graph_of c ≡ Some g → is_built_graph c g ≡ true → CanRun c g
+-- an operator whose files are numbers is run
+runs_with : (c : CheckedGraph) (clauses : Part) (op : Operator) → has_number_files c clauses op ≡ true → is_run clauses ≡ true
+runs_with c (A.FileSource file strict) op e = refl
+runs_with c (A.FileSink file) op e = refl
+runs_with c (A.Filter condition) op e = refl
+runs_with c (A.Functor condition output) op e = absurd cc
+runs_with c (A.Punctor condition position) op e = absurd cc
+runs_with c (A.Split index) op e = absurd cc
+runs_with c (A.Union places) op e = absurd cc
+runs_with c (A.Custom handlers) op e = absurd cc
+runs_with c (A.Aggregate window partition group output) op e = absurd cc
+runs_with c (A.Join left right condition output) op e = absurd cc
+
+pub can_run : (c : CheckedGraph) (g : Graph) → graph_of c ≡ g → is_built_graph c g ≡ true → CanRun c g
 can_run c g graph built = record {
   graph = graph;
-  single = λ n op at. one_at_most (connections op) (and_first (not (has_several (connections op))) (has_numbers c op.kind op)
-      (all_at (λ o. not (has_several (connections o)) && has_numbers c o.kind o) g.ops built n op at));
+  kinds = λ n op at. runs_with c op.clauses op (and_second (not (has_several (connections op))) (has_number_files c op.clauses op)
+      (all_at (is_built_operator c) g.ops built n op at));
+  single = λ n op at. one_at_most (connections op) (and_first (not (has_several (connections op))) (has_number_files c op.clauses op)
+      (all_at (is_built_operator c) g.ops built n op at));
 }
 
 not_several : (streams : List ℕ) → length streams ≤ 1 → has_several streams ≡ false
@@ -82,14 +93,21 @@ none_several c g r = none_listed g.ops r.single
 
 -- ---- files that stay
 
-prefix_at : (m : Meaning) (t u : Told) (kind : Kind) (op : Operator) → SameFiles t u → AtSink (HoldsPrefix m t u) kind op
-prefix_at m t u (FileSource source) op same = tt
-prefix_at m t u (Filter condition) op same = tt
-prefix_at m t u (FileSink file) op same = inl (same file)
+prefix_at : (m : Meaning) (t u : Told) (clauses : Part) (op : Operator) → SameFiles t u → AtSink (HoldsPrefix m t u) clauses op
+prefix_at m t u (A.FileSource file strict) op same = tt
+prefix_at m t u (A.FileSink file) op same = inl (same file)
+prefix_at m t u (A.Filter condition) op same = tt
+prefix_at m t u (A.Functor condition output) op same = tt
+prefix_at m t u (A.Punctor condition position) op same = tt
+prefix_at m t u (A.Split index) op same = tt
+prefix_at m t u (A.Union places) op same = tt
+prefix_at m t u (A.Custom handlers) op same = tt
+prefix_at m t u (A.Aggregate window partition group output) op same = tt
+prefix_at m t u (A.Join left right condition output) op same = tt
 
 pub same_prefixes : (m : Meaning) (t u : Told) (ops : List Operator) → SameFiles t u → EachSink (HoldsPrefix m t u) ops
 same_prefixes m t u [] same = tt
-same_prefixes m t u (op ∷ ops) same = (prefix_at m t u op.kind op same, same_prefixes m t u ops same)
+same_prefixes m t u (op ∷ ops) same = (prefix_at m t u op.clauses op same, same_prefixes m t u ops same)
 
 -- ---- the files of sinks
 
@@ -176,7 +194,7 @@ any_at p (y ∷ xs) (suc n) x at h = or_second (p y) (list_any p xs) (any_at p x
 
 -- a sink of a run: its operator, the stream that it takes, and that this is closed and was given
 record SinkRuns (c : CheckedGraph) (g : Graph) (m : Meaning) (streams : List (List Item)) (n : ℕ) (op : Op) (file : List ℕ) : Type 0 where
-  pub there : slice_get g.ops n ≡ Some (operator_with c n op (FileSink file))
+  pub there : slice_get g.ops n ≡ Some (operator_with c n op (A.FileSink file))
   pub ins : op.ins ≡ (first_input op ∷ []) ∷ []
   pub closed : is_closed (m.streams (first_input op)) ≡ true
   pub given : stream_at streams (record { file = file; stream = first_input op }) ≡ m.streams (first_input op)
@@ -184,12 +202,12 @@ record SinkRuns (c : CheckedGraph) (g : Graph) (m : Meaning) (streams : List (Li
 sink_runs : (c : CheckedGraph) (g : Graph) (m : Meaning) (streams : List (List Item)) (n : ℕ) (op : Op) (file : List ℕ) → Keeps c → CanRun c g → AreStreams c g m streams
     → slice_get c.graph.ops n ≡ Some op → slice_get c.parts n ≡ Some (A.FileSink file) → SinkRuns c g m streams n op file
 sink_runs c g m streams n op file k r are there has =
-    let at = sink_at c g k.parts r.graph n op file there has in
+    let at = operator_at c g r.graph n op (A.FileSink file) there has in
     let takes = sink_takes c g n op file k r there has in
     let s = first_input op in
-    let reads : reads_stream (operator_with c n op (FileSink file)) s ≡ true =
+    let reads : reads_stream (operator_with c n op (A.FileSink file)) s ≡ true =
     ap (λ ins. list_any (λ i. i == s) (concat ins)) takes.0 ∙ ap (λ b. b || false) (eq-eqb s s refl) in
-    let sunk : is_sunk g s ≡ true = any_at (sinks_stream s) g.ops n (operator_with c n op (FileSink file)) at reads in
+    let sunk : is_sunk g s ≡ true = any_at (sinks_stream s) g.ops n (operator_with c n op (A.FileSink file)) at reads in
     let stay : stays g s ≡ true = ap (λ b. b || not (is_read g.ops s)) sunk in
     record {
       there = at;
@@ -206,62 +224,52 @@ sink_with op file = record { file = file; stream = first_input op }
 -- a fact of a sink's operator from one of the sink, at each place
 abbrev AtPlaces : (Operator → List ℕ → Type 0) → (Sink → Type 0) → CheckedGraph → ℕ → List Op → List Part → Type 0
 AtPlaces Q P c from ops parts = (n number : ℕ) (op : Op) (file : List ℕ) → number ≡ from + n → slice_get ops n ≡ Some op → slice_get parts n ≡ Some (A.FileSink file)
-    → P (sink_with op file) → Q (operator_with c number op (FileSink file)) file
+    → P (sink_with op file) → Q (operator_with c number op (A.FileSink file)) file
 
 at_rest : (Q : Operator → List ℕ → Type 0) (P : Sink → Type 0) (c : CheckedGraph) (from : ℕ) (op : Op) (part : Part) (ops : List Op) (parts : List Part)
     → AtPlaces Q P c from (op ∷ ops) (part ∷ parts) → AtPlaces Q P c (suc from) ops parts
 at_rest Q P c from op part ops parts h n number o file is there has = h (suc n) number o file (omega (arith, is)) there has
 
-at_part : (Q : Operator → List ℕ → Type 0) (P : Sink → Type 0) (c : CheckedGraph) (from : ℕ) (op : Op) (part : Part) (rest : List Sink) (kind : Kind)
-    → kind_of c op part ≡ Some kind → ((file : List ℕ) → part ≡ A.FileSink file → P (sink_with op file) → Q (operator_with c from op (FileSink file)) file)
-    → All P (sink_in_front (sink_of op part) rest) → AtSink Q kind (operator_with c from op kind) × All P rest
-at_part Q P c from op (A.FileSource file strict) rest kind is h all =
-    let source : Source = record { file = file; schema = first_schema c op.outs; strict = strict } in
-    let same : FileSource source ≡ kind = cc in
-    (subst (λ k. AtSink Q k (operator_with c from op k)) same tt, all)
-at_part Q P c from op (A.FileSink file) rest kind is h all =
-    let same : FileSink file ≡ kind = cc in
-    (subst (λ k. AtSink Q k (operator_with c from op k)) same (h file refl (all 0 (sink_with op file) (omega arith))), λ i d l. all (suc i) d (omega (arith, l)))
-at_part Q P c from op (A.Filter condition) rest kind is h all =
-    let same : Filter condition ≡ kind = cc in
-    (subst (λ k. AtSink Q k (operator_with c from op k)) same tt, all)
-at_part Q P c from op (A.Functor condition output) rest kind is h all = absurd cc
-at_part Q P c from op (A.Punctor condition position) rest kind is h all = absurd cc
-at_part Q P c from op (A.Split index) rest kind is h all = absurd cc
-at_part Q P c from op (A.Union places) rest kind is h all = absurd cc
-at_part Q P c from op (A.Custom handlers) rest kind is h all = absurd cc
-at_part Q P c from op (A.Aggregate window partition group output) rest kind is h all = absurd cc
-at_part Q P c from op (A.Join left right condition output) rest kind is h all = absurd cc
+at_part : (Q : Operator → List ℕ → Type 0) (P : Sink → Type 0) (c : CheckedGraph) (from : ℕ) (op : Op) (part : Part) (rest : List Sink)
+    → ((file : List ℕ) → part ≡ A.FileSink file → P (sink_with op file) → Q (operator_with c from op (A.FileSink file)) file)
+    → All P (sink_in_front (sink_of op part) rest) → AtSink Q part (operator_with c from op part) × All P rest
+at_part Q P c from op (A.FileSource file strict) rest h all = (tt, all)
+at_part Q P c from op (A.FileSink file) rest h all = (h file refl (all 0 (sink_with op file) (omega arith)), λ i d l. all (suc i) d (omega (arith, l)))
+at_part Q P c from op (A.Filter condition) rest h all = (tt, all)
+at_part Q P c from op (A.Functor condition output) rest h all = (tt, all)
+at_part Q P c from op (A.Punctor condition position) rest h all = (tt, all)
+at_part Q P c from op (A.Split index) rest h all = (tt, all)
+at_part Q P c from op (A.Union places) rest h all = (tt, all)
+at_part Q P c from op (A.Custom handlers) rest h all = (tt, all)
+at_part Q P c from op (A.Aggregate window partition group output) rest h all = (tt, all)
+at_part Q P c from op (A.Join left right condition output) rest h all = (tt, all)
 
-each_sink : (Q : Operator → List ℕ → Type 0) (P : Sink → Type 0) (c : CheckedGraph) (from : ℕ) (ops : List Op) (parts : List Part) (all : List Operator)
-    → operators_from c from ops parts ≡ Some all → AtPlaces Q P c from ops parts → All P (sinks_from ops parts) → EachSink Q all
-each_sink Q P c from [] parts all e h ps = let none : [] ≡ all = cc in subst (EachSink Q) none tt
-each_sink Q P c from (op ∷ ops) [] all e h ps = let none : [] ≡ all = cc in subst (EachSink Q) none tt
-each_sink Q P c from (op ∷ ops) (part ∷ parts) all e h ps =
-    let p = parted (operator_with c from op) (kind_of c op part) (operators_from c (suc from) ops parts) all e in
-    let first = at_part Q P c from op part (sinks_from ops parts) p.kind p.is_kind
-    (λ file is. h 0 from op file (omega arith) refl (ap (λ x. Some x) is)) ps in
-    let rest = each_sink Q P c (suc from) ops parts p.more p.others (at_rest Q P c from op part ops parts h) first.1 in
-    subst (EachSink Q) (sym p.whole) (first.0, rest)
+each_sink : (Q : Operator → List ℕ → Type 0) (P : Sink → Type 0) (c : CheckedGraph) (from : ℕ) (ops : List Op) (parts : List Part)
+    → AtPlaces Q P c from ops parts → All P (sinks_from ops parts) → EachSink Q (operators_from c from ops parts)
+each_sink Q P c from [] parts h ps = tt
+each_sink Q P c from (op ∷ ops) [] h ps = tt
+each_sink Q P c from (op ∷ ops) (part ∷ parts) h ps =
+    let first = at_part Q P c from op part (sinks_from ops parts) (λ file is. h 0 from op file (omega arith) refl (ap (λ x. Some x) is)) ps in
+    (first.0, each_sink Q P c (suc from) ops parts (at_rest Q P c from op part ops parts h) first.1)
 
 -- each sink of a graph, with its number
-each_of : (Q : Operator → List ℕ → Type 0) (P : Sink → Type 0) (c : CheckedGraph) (g : Graph) → graph_of c ≡ Some g
+each_of : (Q : Operator → List ℕ → Type 0) (P : Sink → Type 0) (c : CheckedGraph) (g : Graph) → graph_of c ≡ g
     → ((n : ℕ) (op : Op) (file : List ℕ) → slice_get c.graph.ops n ≡ Some op → slice_get c.parts n ≡ Some (A.FileSink file) → P (sink_with op file)
-    → Q (operator_with c n op (FileSink file)) file)
+    → Q (operator_with c n op (A.FileSink file)) file)
     → All P (sinks_of c) → EachSink Q g.ops
 each_of Q P c g e h ps =
-    each_sink Q P c 0 c.graph.ops c.parts g.ops (ops_made c g e)
+    subst (EachSink Q) (ops_made c g e) (each_sink Q P c 0 c.graph.ops c.parts
     (λ n number op file is there has p. let same : n ≡ number = omega (arith, is) in
-    subst (λ k. Q (operator_with c k op (FileSink file)) file) same (h n op file there has p)) ps
+    subst (λ k. Q (operator_with c k op (A.FileSink file)) file) same (h n op file there has p)) ps)
 
 -- ---- their texts
 
 text_is : (c : CheckedGraph) (g : Graph) (rows : Lists) (entries : Entries) (streams : List (List Item)) (n : ℕ) (op : Op) (file : List ℕ) → Keeps c → CanRun c g
     → AreStreams c g (meaning g rows entries) streams → SinkTextLaw → slice_get c.graph.ops n ≡ Some op → slice_get c.parts n ≡ Some (A.FileSink file)
-    → sink_text (meaning g rows entries) (operator_with c n op (FileSink file)) ≡ S.sink_text streams (sink_with op file)
+    → sink_text (meaning g rows entries) (operator_with c n op (A.FileSink file)) ≡ S.sink_text streams (sink_with op file)
 text_is c g rows entries streams n op file k r are law there has =
     let s = sink_runs c g (meaning g rows entries) streams n op file k r are there has in
-    law c g n (operator_with c n op (FileSink file)) file (first_input op) rows entries k r s.there refl s.ins s.closed ∙ ap text_of (sym s.given)
+    law c g n (operator_with c n op (A.FileSink file)) file (first_input op) rows entries k r s.there refl s.ins s.closed ∙ ap text_of (sym s.given)
 
 -- each sink's file holds its text
 pub texts : (c : CheckedGraph) (g : Graph) (rows : Lists) (entries : Entries) (streams : List (List Item)) → Keeps c → CanRun c g
@@ -289,7 +297,7 @@ pub prefixes : (c : CheckedGraph) (g : Graph) (rows : Lists) (entries : Entries)
     → EachSink (HoldsPrefix (meaning g rows entries) t u) g.ops
 prefixes c g rows entries streams k r are law result t u w =
     each_of (HoldsPrefix (meaning g rows entries) t u) (λ s. HeldAfter result (S.sink_text streams s) (t.holds s.file) (u.holds s.file)) c g r.graph
-    (λ n op file there has h. prefix_held result (meaning g rows entries) t u (operator_with c n op (FileSink file)) file (S.sink_text streams (sink_with op file))
+    (λ n op file there has h. prefix_held result (meaning g rows entries) t u (operator_with c n op (A.FileSink file)) file (S.sink_text streams (sink_with op file))
     (text_is c g rows entries streams n op file k r are law there has) h) w.holds
 
 -- ---- their rows
@@ -300,74 +308,67 @@ least n small = omega (arith, small)
 rows_are : (c : CheckedGraph) (g : Graph) (rows : Lists) (entries : Entries) (streams : List (List Item)) (n : ℕ) (op : Op) (file : List ℕ) → Keeps c → CanRun c g
     → AreStreams c g (meaning g rows entries) streams → SinkCountLaw → slice_get c.graph.ops n ≡ Some op → slice_get c.parts n ≡ Some (A.FileSink file)
     → sink_rows streams (sink_with op file) < 2 ^ 64
-    → tuples_of (meaning g rows entries) (operator_with c n op (FileSink file)) ≡ sink_rows streams (sink_with op file)
+    → tuples_of (meaning g rows entries) (operator_with c n op (A.FileSink file)) ≡ sink_rows streams (sink_with op file)
 rows_are c g rows entries streams n op file k r are law there has small =
     let s = sink_runs c g (meaning g rows entries) streams n op file k r are there has in
-    let made : length (out (operator_with c n op (FileSink file)) 0 ((meaning g rows entries).events n)) ≡ sink_rows streams (sink_with op file) =
-    law c g n (operator_with c n op (FileSink file)) file (first_input op) rows entries k r s.there refl s.ins s.closed
+    let made : length (out (operator_with c n op (A.FileSink file)) 0 ((meaning g rows entries).events n)) ≡ sink_rows streams (sink_with op file) =
+    law c g n (operator_with c n op (A.FileSink file)) file (first_input op) rows entries k r s.there refl s.ins s.closed
     ∙ ap (count_by is_tuple) (sym s.given) in
     ap (λ k. min k (2 ^ 64 - 1)) made ∙ least (sink_rows streams (sink_with op file)) small
 
 -- so many tuples at each place
 abbrev CountsAt : Meaning → List (List Item) → CheckedGraph → ℕ → List Op → List Part → Type 0
 CountsAt m streams c from ops parts = (n number : ℕ) (op : Op) (file : List ℕ) → number ≡ from + n → slice_get ops n ≡ Some op → slice_get parts n ≡ Some (A.FileSink file)
-    → sink_rows streams (sink_with op file) < 2 ^ 64 → tuples_of m (operator_with c number op (FileSink file)) ≡ sink_rows streams (sink_with op file)
+    → sink_rows streams (sink_with op file) < 2 ^ 64 → tuples_of m (operator_with c number op (A.FileSink file)) ≡ sink_rows streams (sink_with op file)
 
 abbrev Small : List ℕ → Type 0
 Small ns = All (λ n. n < 2 ^ 64) ns
 
-count_part : (m : Meaning) (streams : List (List Item)) (c : CheckedGraph) (from : ℕ) (op : Op) (part : Part) (parts : List Part) (rest : List Sink) (kind : Kind) (more : List SinkCount)
-    → kind_of c op part ≡ Some kind
+count_part : (m : Meaning) (streams : List (List Item)) (c : CheckedGraph) (from : ℕ) (op : Op) (part : Part) (parts : List Part) (rest : List Sink) (more : List SinkCount)
     → ((file : List ℕ) → part ≡ A.FileSink file → sink_rows streams (sink_with op file) < 2 ^ 64
-    → tuples_of m (operator_with c from op (FileSink file)) ≡ sink_rows streams (sink_with op file))
+    → tuples_of m (operator_with c from op (A.FileSink file)) ≡ sink_rows streams (sink_with op file))
     → (Small (map (sink_rows streams) rest) → counts_from (suc from) parts (map (sink_rows streams) rest) ≡ more)
     → Small (map (sink_rows streams) (sink_in_front (sink_of op part) rest))
     → counts_from from (part ∷ parts) (map (sink_rows streams) (sink_in_front (sink_of op part) rest))
-    ≡ cons_option (sink_count m kind (operator_with c from op kind)) more
-count_part m streams c from op (A.FileSource file strict) parts rest kind more is h later small =
-    let source : Source = record { file = file; schema = first_schema c op.outs; strict = strict } in
-    let same : FileSource source ≡ kind = cc in
-    later small ∙ ap (λ k. cons_option (sink_count m k (operator_with c from op k)) more) same
-count_part m streams c from op (A.FileSink file) parts rest kind more is h later small =
-    let same : FileSink file ≡ kind = cc in
+    ≡ cons_option (sink_count m part (operator_with c from op part)) more
+count_part m streams c from op (A.FileSource file strict) parts rest more h later small = later small
+count_part m streams c from op (A.FileSink file) parts rest more h later small =
     let tuples = sym (h file refl (small 0 0 (omega arith))) in
-    let behind = later (λ i d l. small (suc i) d (omega (arith, l))) in
-    (λ i. record { op = from; tuples = tuples i } ∷ behind i) ∙ ap (λ k. cons_option (sink_count m k (operator_with c from op k)) more) same
-count_part m streams c from op (A.Filter condition) parts rest kind more is h later small =
-    let same : Filter condition ≡ kind = cc in
-    later small ∙ ap (λ k. cons_option (sink_count m k (operator_with c from op k)) more) same
-count_part m streams c from op (A.Functor condition output) parts rest kind more is h later small = absurd cc
-count_part m streams c from op (A.Punctor condition position) parts rest kind more is h later small = absurd cc
-count_part m streams c from op (A.Split index) parts rest kind more is h later small = absurd cc
-count_part m streams c from op (A.Union places) parts rest kind more is h later small = absurd cc
-count_part m streams c from op (A.Custom handlers) parts rest kind more is h later small = absurd cc
-count_part m streams c from op (A.Aggregate window partition group output) parts rest kind more is h later small = absurd cc
-count_part m streams c from op (A.Join left right condition output) parts rest kind more is h later small = absurd cc
+    let others = later (λ i d l. small (suc i) d (omega (arith, l))) in
+    λ i. record { op = from; tuples = tuples i } ∷ others i
+count_part m streams c from op (A.Filter condition) parts rest more h later small = later small
+count_part m streams c from op (A.Functor condition output) parts rest more h later small = later small
+count_part m streams c from op (A.Punctor condition position) parts rest more h later small = later small
+count_part m streams c from op (A.Split index) parts rest more h later small = later small
+count_part m streams c from op (A.Union places) parts rest more h later small = later small
+count_part m streams c from op (A.Custom handlers) parts rest more h later small = later small
+count_part m streams c from op (A.Aggregate window partition group output) parts rest more h later small = later small
+count_part m streams c from op (A.Join left right condition output) parts rest more h later small = later small
 
 abbrev counts_in : Meaning → List Operator → List SinkCount
-counts_in m ops = filter_map (λ op. sink_count m op.kind op) ops
+counts_in m ops = filter_map (λ (op : Operator). sink_count m op.clauses op) ops
 
-counts_made : (m : Meaning) (streams : List (List Item)) (c : CheckedGraph) (from : ℕ) (ops : List Op) (parts : List Part) (all : List Operator) → length parts ≡ length ops
-    → operators_from c from ops parts ≡ Some all → CountsAt m streams c from ops parts → Small (map (sink_rows streams) (sinks_from ops parts))
-    → counts_from from parts (map (sink_rows streams) (sinks_from ops parts)) ≡ counts_in m all
-counts_made m streams c from [] [] all l e h small = let none : [] ≡ all = cc in ap (counts_in m) none
-counts_made m streams c from [] (part ∷ parts) all l e h small = absurd (omega (arith, l))
-counts_made m streams c from (op ∷ ops) [] all l e h small = absurd (omega (arith, l))
-counts_made m streams c from (op ∷ ops) (part ∷ parts) all l e h small =
-    let p = parted (operator_with c from op) (kind_of c op part) (operators_from c (suc from) ops parts) all e in
-    count_part m streams c from op part parts (sinks_from ops parts) p.kind (counts_in m p.more) p.is_kind
+counts_made : (m : Meaning) (streams : List (List Item)) (c : CheckedGraph) (from : ℕ) (ops : List Op) (parts : List Part) → length parts ≡ length ops
+    → CountsAt m streams c from ops parts → Small (map (sink_rows streams) (sinks_from ops parts))
+    → counts_from from parts (map (sink_rows streams) (sinks_from ops parts)) ≡ counts_in m (operators_from c from ops parts)
+counts_made m streams c from [] [] l h small = refl
+counts_made m streams c from [] (part ∷ parts) l h small = absurd (omega (arith, l))
+counts_made m streams c from (op ∷ ops) [] l h small = absurd (omega (arith, l))
+counts_made m streams c from (op ∷ ops) (part ∷ parts) l h small =
+    count_part m streams c from op part parts (sinks_from ops parts) (counts_in m (operators_from c (suc from) ops parts))
     (λ file is. h 0 from op file (omega arith) refl (ap (λ x. Some x) is))
-    (counts_made m streams c (suc from) ops parts p.more (omega (arith, l)) p.others (λ n number o file is there has. h (suc n) number o file (omega (arith, is)) there has))
-    small ∙ ap (counts_in m) (sym p.whole)
+    (counts_made m streams c (suc from) ops parts (omega (arith, l)) (λ n number o file is there has. h (suc n) number o file (omega (arith, is)) there has))
+    small
 
 -- the counts of a run are those of the meaning
 pub counts_are : (c : CheckedGraph) (g : Graph) (rows : Lists) (entries : Entries) (streams : List (List Item)) → Keeps c → CanRun c g
     → AreStreams c g (meaning g rows entries) streams → SinkCountLaw → (ns : List ℕ) → SinksCount (W.Done ns) (sinks_of c) streams
-    → counts_from 0 c.parts ns ≡ filter_map (λ op. sink_count (meaning g rows entries) op.kind op) g.ops
+    → counts_from 0 c.parts ns ≡ filter_map (λ op. sink_count (meaning g rows entries) op.clauses op) g.ops
 counts_are c g rows entries streams k r are law ns count =
     ap (counts_from 0 c.parts) count.0
-    ∙ counts_made (meaning g rows entries) streams c 0 c.graph.ops c.parts g.ops k.parts (ops_made c g r.graph)
+    ∙ counts_made (meaning g rows entries) streams c 0 c.graph.ops c.parts k.parts
     (λ n number op file is there has small. let same : n ≡ number = omega (arith, is) in
-    subst (λ k. tuples_of (meaning g rows entries) (operator_with c k op (FileSink file)) ≡ sink_rows streams (sink_with op file)) same
+    subst (λ k. tuples_of (meaning g rows entries) (operator_with c k op (A.FileSink file)) ≡ sink_rows streams (sink_with op file)) same
     (rows_are c g rows entries streams n op file k r are law there has small))
     (subst Small count.0 count.1)
+    ∙ ap (counts_in (meaning g rows entries)) (ops_made c g r.graph)

@@ -5,13 +5,14 @@ use Rattle.feed_pour.specs.Counts.{PerName, Rose}
 use Rattle.feed_pour.specs.Contents.{Told}
 use Rattle.spl_value.specs.declared.item.Fault.{Fault}
 use Rattle.language_model.specs.declared.checked.Part.{Part}
+use Rattle.language_model.specs.declared.checked.Part.TheVariants as A
 use Rattle.stream_model.specs.declared.record.Arrivals.{Arrivals}
 use Rattle.stream_model.specs.declared.record.Counts.{Counts}
 use Rattle.stream_model.specs.declared.record.SinkCount.{SinkCount}
 use Rattle.language_model.specs.CheckedGraph.{CheckedGraph}
 use Rattle.stream_model.specs.Ends.{run_fault}
 use Rattle.stream_model.specs.Meaning.{Graph, Meaning, text}
-use Rattle.stream_model.specs.React.{Kind, Operator, FileSource, Filter, FileSink}
+use Rattle.stream_model.specs.Operators.{Operator}
 use Rattle.stream_model.specs.Stages.{out}
 use Rattle.run_report.specs.declared.cause.Cause.{Cause}
 use Rattle.run_report.specs.declared.cause.Cause.TheVariants as C
@@ -26,14 +27,13 @@ use Rattle.spl_driver.specs.declared.ended.Ended.{Ended}
 -- ---- a run that was carried out
 
 -- a fact of each sink and its file
-abbrev pub AtSink : (Operator → List ℕ → Type 0) → Kind → Operator → Type 0
-AtSink P (FileSource source) op = ⊤
-AtSink P (Filter condition) op = ⊤
-AtSink P (FileSink file) op = P op file
+abbrev pub AtSink : (Operator → List ℕ → Type 0) → Part → Operator → Type 0
+AtSink P (A.FileSink file) op = P op file
+AtSink P _ op = ⊤
 
 abbrev pub EachSink : (Operator → List ℕ → Type 0) → List Operator → Type 0
 EachSink P [] = ⊤
-EachSink P (op ∷ ops) = AtSink P op.kind op × EachSink P ops
+EachSink P (op ∷ ops) = AtSink P op.clauses op × EachSink P ops
 
 -- the text of a sink in the meaning
 abbrev pub sink_text : Meaning → Operator → List ℕ
@@ -49,14 +49,13 @@ HoldsPrefix m old new op file = (new.holds file ≡ old.holds file) ⊎ ((n : �
 abbrev pub tuples_of : Meaning → Operator → ℕ
 tuples_of m op = min (length (out op 0 (m.events op.number))) (2 ^ 64 - 1)
 
-abbrev pub sink_count : Meaning → Kind → Operator → Option SinkCount
-sink_count m (FileSource source) op = None
-sink_count m (Filter condition) op = None
-sink_count m (FileSink file) op = Some (record { op = op.number; tuples = tuples_of m op })
+abbrev pub sink_count : Meaning → Part → Operator → Option SinkCount
+sink_count m (A.FileSink file) op = Some (record { op = op.number; tuples = tuples_of m op })
+sink_count m _ op = None
 
 -- the counts of a run without replicas: the tuples of each sink, in the order of the operators
 abbrev pub counts_of : Graph → Meaning → Counts
-counts_of g m = record { channels = []; sinks = filter_map (λ op. sink_count m op.kind op) g.ops }
+counts_of g m = record { channels = []; sinks = filter_map (λ op. sink_count m op.clauses op) g.ops }
 
 -- The run of this graph with this meaning was carried out: each sink's file holds its text, the counts are the meaning's,
 -- and the record has a list for each operator with several connections.

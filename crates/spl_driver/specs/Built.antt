@@ -1,14 +1,13 @@
 -- Which requests and graphs are carried out today.
 use Rattle.std.specs.Prelude.{ℕ, Bool, true, false, not, ◌&&◌, List, [], ◌∷◌, Option, Some, None}
-use Rattle.std.specs.List.{concat, list_all}
-use Rattle.std.specs.Option.{option_map_or}
+use Rattle.std.specs.List.{list_all}
 use Rattle.spl_tree.specs.declared.graph.Op.{Op}
 use Rattle.language_model.specs.declared.checked.Part.{Part}
 use Rattle.language_model.specs.declared.checked.Part.TheVariants as A
 use Rattle.language_model.specs.CheckedGraph.{CheckedGraph}
-use Rattle.stream_model.specs.CheckedMeaning.{first_schema, graph_of, schema_at}
-use Rattle.stream_model.specs.Meaning.{Graph, connections}
-use Rattle.stream_model.specs.React.{Kind, Operator, FileSource, Filter, FileSink}
+use Rattle.stream_model.specs.CheckedMeaning.{graph_of, operator_with, schema_at}
+use Rattle.stream_model.specs.Meaning.{Graph}
+use Rattle.stream_model.specs.Operators.{Operator, connections, output_attributes}
 use Rattle.command_line.specs.declared.request.Request.{Request}
 use Rattle.command_line.specs.declared.request.Request.TheVariants as R
 use Rattle.command_line.specs.declared.request.RunOptions.{RunOptions}
@@ -35,31 +34,30 @@ has_several [] = false
 has_several (s ∷ []) = false
 has_several (s ∷ t ∷ ss) = true
 
--- the rows of a source and of a sink are one number each
-abbrev pub has_numbers : CheckedGraph → Kind → Operator → Bool
-has_numbers c (FileSource source) op = is_number_schema source.schema
-has_numbers c (Filter condition) op = true
-has_numbers c (FileSink file) op = list_all (λ s. is_number_schema (schema_at c s)) (connections op)
+-- a source, a Filter or a sink, and the rows of its file, where it has one, are one number each
+abbrev pub has_number_files : CheckedGraph → Part → Operator → Bool
+has_number_files c (A.FileSource file strict) op = is_number_schema (output_attributes op 0)
+has_number_files c (A.Filter condition) op = true
+has_number_files c (A.FileSink file) op = list_all (λ s. is_number_schema (schema_at c s)) (connections op)
+has_number_files c _ op = false
 
--- no operator has several connections, and the rows of all files are one number each
+-- which takes no more than one stream
+abbrev pub is_built_operator : CheckedGraph → Operator → Bool
+is_built_operator c op = not (has_several (connections op)) && has_number_files c op.clauses op
+
+-- What a run can do today: each operator of the graph is one of these.
 abbrev pub is_built_graph : CheckedGraph → Graph → Bool
-is_built_graph c g = list_all (λ op. not (has_several (connections op)) && has_numbers c op.kind op) g.ops
+is_built_graph c g = list_all (is_built_operator c) g.ops
 
--- ---- the same of the clauses of operators
+abbrev pub is_built_now : CheckedGraph → Bool
+is_built_now c = is_built_graph c (graph_of c)
 
-abbrev pub has_number_files : CheckedGraph → Op → Part → Bool
-has_number_files c op (A.FileSource file strict) = is_number_schema (first_schema c op.outs)
-has_number_files c op (A.Filter condition) = true
-has_number_files c op (A.FileSink file) = list_all (λ s. is_number_schema (schema_at c s)) (concat op.ins)
-has_number_files c op _ = false
+-- ---- the same of the operators of a checked graph
 
-abbrev pub is_built_operator : CheckedGraph → Op → Part → Bool
-is_built_operator c op part = not (has_several (concat op.ins)) && has_number_files c op part
+-- of one with these clauses
+abbrev pub is_built_with : CheckedGraph → Op → Part → Bool
+is_built_with c op part = is_built_operator c (operator_with c 0 op part)
 
 abbrev pub are_built : CheckedGraph → List Op → List Part → Bool
-are_built c (op ∷ ops) (part ∷ parts) = is_built_operator c op part && are_built c ops parts
+are_built c (op ∷ ops) (part ∷ parts) = is_built_with c op part && are_built c ops parts
 are_built c _ _ = true
-
--- the graph of operators is there, and is built
-abbrev pub is_built_now : CheckedGraph → Bool
-is_built_now c = option_map_or (is_built_graph c) (graph_of c) false

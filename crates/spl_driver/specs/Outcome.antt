@@ -7,13 +7,14 @@ use Rattle.spl_value.specs.Script as script
 use Rattle.spl_value.specs.declared.item.Item.{Item}
 use Rattle.feed_pour.specs.Contents.{Told}
 use Rattle.language_model.specs.declared.checked.Part.{Part}
+use Rattle.language_model.specs.declared.checked.Part.TheVariants as A
 use Rattle.stream_model.specs.declared.record.ArrivalList.{ArrivalList}
 use Rattle.stream_model.specs.declared.record.Arrivals.{Arrivals}
 use Rattle.language_model.specs.Accepted.{ProgramRefusal, IsAccepted}
 use Rattle.language_model.specs.CheckedGraph.{CheckedGraph}
 use Rattle.stream_model.specs.CheckedMeaning.{graph_of}
-use Rattle.stream_model.specs.Meaning.{Graph, Meaning, meaning, connections, rows_of}
-use Rattle.stream_model.specs.React.{Kind, Operator, FileSource, Filter, FileSink}
+use Rattle.stream_model.specs.Meaning.{Graph, Meaning, meaning, rows_of}
+use Rattle.stream_model.specs.Operators.{Operator, connections}
 use Rattle.run_report.specs.declared.refusal.Refusal.{Refusal}
 use Rattle.run_report.specs.Refusals.{refusal_of}
 use Rattle.command_line.specs.declared.request.Request.{Request}
@@ -27,13 +28,12 @@ use Rattle.spl_driver.specs.Files.{program_of, parts_of}
 -- ---- what a run is given
 
 -- the rows of an operator's file, where it is a source, from what the shelf tells
-abbrev pub rows_by : Told → ℕ → Kind → List Item
-rows_by told n (FileSource source) = rows_of n source (told.script source.file)
-rows_by told n (Filter condition) = []
-rows_by told n (FileSink file) = []
+abbrev pub rows_by : Told → Part → Operator → List Item
+rows_by told (A.FileSource file strict) op = rows_of op strict (told.script file)
+rows_by told _ op = []
 
 abbrev pub rows_told : Graph → Told → ℕ → List Item
-rows_told g told n = option_map_or (λ op. rows_by told n op.kind) (slice_get g.ops n) []
+rows_told g told n = option_map_or (λ op. rows_by told op.clauses op) (slice_get g.ops n) []
 
 -- an operator's list in an arrival record
 abbrev pub entries_in : List ArrivalList → ℕ → List ℕ
@@ -83,9 +83,8 @@ holds_numbers script = is_within script && is_number_file script.bytes
 abbrev pub with_sources : List Script → Outcome → Outcome
 with_sources sources next = if list_any has_fault sources then Unreadable else if list_all holds_numbers sources then next else NotBuilt
 
-abbrev pub with_graph : CheckedGraph → Told → List ArrivalList → Option Graph → Outcome
-with_graph c told lists None = NotBuilt
-with_graph c told lists (Some g) =
+abbrev pub with_graph : CheckedGraph → Told → List ArrivalList → Graph → Outcome
+with_graph c told lists g =
     if is_built_graph c g then with_sources (map told.script (source_files c.parts)) (Runs c g (meant g told lists)) else NotBuilt
 
 -- an accepted program is checked or run, as the request says

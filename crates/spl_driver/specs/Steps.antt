@@ -17,7 +17,7 @@ use Rattle.stream_model.specs.declared.record.SinkCount.{SinkCount}
 use Rattle.language_model.specs.Accepted.{ProgramRefusal, IsAccepted}
 use Rattle.language_model.specs.CheckedGraph.{CheckedGraph}
 use Rattle.stream_model.specs.CheckedMeaning.{graph_of}
-use Rattle.stream_model.specs.React.{Source}
+use Rattle.stream_model.specs.Operators.{Operator, output_attributes}
 use Rattle.stream_model.specs.Rows.{Setting, rows}
 use Rattle.stream_model.specs.Stream.{is_closed, TuplesFit}
 use Rattle.language_model.specs.StreamTypes.{Attributes}
@@ -94,7 +94,7 @@ RowsRead O.Memory bytes = ⊤
 pub record SourceTold (file : List ℕ) (items : List Item) (told : Told) : Type 0 where
   pub read : has_fault (told.script file) ≡ false
   pub numbers : holds_numbers (told.script file) ≡ true
-  pub rows : (n : ℕ) (source : Source) → source.file ≡ file → is_number_schema source.schema ≡ true → items ≡ rows_of n source (told.script file)
+  pub rows : (op : Operator) (strict : Bool) → is_number_schema (output_attributes op 0) ≡ true → items ≡ rows_of op strict (told.script file)
 
 -- the rows of an operator with these clauses
 abbrev pub RowsOf : Part → List Item → Option Told → Type 0
@@ -147,7 +147,7 @@ pub record RowsTold (rows : List (List Item)) (c : CheckedGraph) (g : Graph) (to
 
 -- the rows of each source; or one of their files holds something else
 abbrev pub SourcesOf : Sources → CheckedGraph → Option Told → Type 0
-SourcesOf (S.Rows rows) c told = (g : Graph) → graph_of c ≡ Some g → RowsFit g rows × IfSome told (RowsTold rows c g)
+SourcesOf (S.Rows rows) c told = (g : Graph) → graph_of c ≡ g → RowsFit g rows × IfSome told (RowsTold rows c g)
 SourcesOf S.NotBuilt c told = IfSome told (λ t. AllRead c.parts t × (all_numbers c.parts t ≡ false))
 SourcesOf S.Device c told = ⊤
 SourcesOf S.Memory c told = ⊤
@@ -169,7 +169,7 @@ pub record StreamsFor (c : CheckedGraph) (streams : List (List Item)) (told : Op
   pub runs : CanRun c graph
   pub streams_of : StreamsOf c graph rows streams
   pub told_rows : IfSome told (λ t. (n : ℕ) → rows n ≡ rows_told graph t n)
-  pub outcome : IfSome told (λ t. (lists : List ArrivalList) → with_graph c t lists (Some graph) ≡ Runs c graph (meant graph t lists))
+  pub outcome : IfSome told (λ t. (lists : List ArrivalList) → with_graph c t lists graph ≡ Runs c graph (meant graph t lists))
 
 abbrev pub PreparedOf : Prepared → CheckedGraph → Option Told → Type 0
 PreparedOf (Q.Streams streams) c told = StreamsFor c streams told

@@ -1,9 +1,9 @@
 //! Which requests and graphs are carried out today.
 ghost use Rattle.std.specs.Prelude.{◌≡◌, min};
 ghost use Rattle.std.specs.List.{concat, list_all};
-ghost use Rattle.stream_model.specs.CheckedMeaning.{first_schema, schema_at};
+ghost use Rattle.stream_model.specs.CheckedMeaning.{first_schema, operator_with, schema_at};
 ghost use Rattle.file_adapters.specs.Source.{is_number_schema};
-ghost use Rattle.spl_driver.specs.Built.{is_plain, has_several, has_number_files, is_built_operator, is_built_now, are_built};
+ghost use Rattle.spl_driver.specs.Built.{is_plain, has_several, has_number_files, is_built_with, is_built_now, are_built};
 
 use command_line::RunOptions;
 use language_model::{Checked, Part};
@@ -88,9 +88,9 @@ fn has_several(ins: &[Ids]) -> bool
     count == 2
 }
 
-// Whether an operator is built, and the rows of its file are one number each.
+// Whether an operator is a source, a Filter or a sink, and the rows of its file are one number each.
 fn has_number_files(checked: &Checked, op: &Op, part: &Part) -> bool
-    ensures { result ≡ has_number_files checked.now op.now part.now }
+    ensures { result ≡ has_number_files checked.now part.now (operator_with checked.now 0 op.now part.now) }
 {
     match part {
         Part::FileSource { .. } => makes_numbers(checked, op.outs.as_slice()),
@@ -100,8 +100,9 @@ fn has_number_files(checked: &Checked, op: &Op, part: &Part) -> bool
     }
 }
 
-fn is_built_operator(checked: &Checked, op: &Op, part: &Part) -> bool
-    ensures { result ≡ is_built_operator checked.now op.now part.now }
+// Whether an operator with these clauses is built.
+fn is_built_with(checked: &Checked, op: &Op, part: &Part) -> bool
+    ensures { result ≡ is_built_with checked.now op.now part.now }
 {
     !has_several(op.ins.as_slice()) && has_number_files(checked, op, part)
 }
@@ -114,7 +115,7 @@ pub fn is_built_graph(checked: &Checked) -> bool
     let mut ops = checked.graph.ops.as_slice();
     let mut parts = checked.parts.as_slice();
     'operators: while let ([op, later @ ..], [part, behind @ ..]) = (ops, parts) {
-        if !is_built_operator(checked, op, part) {
+        if !is_built_with(checked, op, part) {
             return false;
         }
         ops = later;

@@ -5,79 +5,19 @@ use Rattle.std.proofs.lemmas.Bool.{cond-true, cond-false, cases_eq, or_parts, ne
 use Rattle.spl_value.specs.declared.item.Item.{Item}
 use Rattle.spl_value.specs.declared.item.Item.TheVariants as I
 use Rattle.spl_value.specs.declared.item.FaultKind.{FaultKind}
+use Rattle.language_model.specs.declared.checked.Part.{Part}
+use Rattle.language_model.specs.declared.checked.PortTypes.{PortTypes}
 use Rattle.language_model.specs.declared.outs.Output.{Output}
 use Rattle.spl_tree.specs.declared.body.Function.{Function}
-use Rattle.spl_tree.specs.declared.code.Code.{Code}
-use Rattle.spl_tree.specs.declared.code.Slot.{Slot}
-use Rattle.language_model.specs.Outcomes.{Outcome, Done, Faulted, Stuck}
 use Rattle.stream_model.specs.Stream.{Event, came, is_fault, closes, any_closes, is_closed, is_empty}
-use Rattle.stream_model.specs.React.{Operator, Kind, FileSource, Filter, FileSink, Answer, Gives, Faults, body, body_of, filter_body, sink_body, passes, filter_answer, react, ended, ended_by, answered, on_each, output, is_waiting, is_last, fault_of}
+use Rattle.stream_model.specs.Operators.{Operator}
+use Rattle.stream_model.specs.PortEvents.{is_waiting, is_last}
+use Rattle.stream_model.specs.Bodies.{output, on_each}
+use Rattle.stream_model.specs.React.{Answer, Gives, Faults, body, react, ended, ended_by, answered, fault_of}
+use Rattle.stream_model.proofs.KindBodies.{given, some_closes, given_open}
 use Rattle.stream_model.specs.Stages.{Stage, gives_all, after, on_port}
 use Rattle.stream_model.proofs.StageLaws.{stage_at, one_in, one_in-parts, on_port-append, gives_all-over, after-over}
-use Rattle.stream_model.specs.Laws.{has_ended, BodyLaw, BodyPorts, EndItemLaw, EndGivesLaw, OutCloses, ClosedEnds, ClosedGivesClosed}
-
--- the items of an answer
-abbrev pub given : Answer → List Output
-given (Gives outs) = outs
-given (Faults kind) = []
-
-abbrev pub some_closes : List Output → Bool
-some_closes outs = list_any (λ o. closes o.item) outs
-
-filter_open : (functions : List Function) (condition : Option (Code Slot)) (x : Item) → some_closes (given (filter_body functions condition x)) ≡ false
-filter_open functions condition (I.Tuple vs) = go (passes functions condition vs)
-  where
-    go : (o : Outcome Bool) → some_closes (given (filter_answer vs o)) ≡ false
-    go (Done true turns) = refl
-    go (Done false turns) = refl
-    go (Faulted kind) = refl
-    go Stuck = refl
-filter_open functions condition I.Window = refl
-filter_open functions condition I.Final = refl
-filter_open functions condition (I.Bad f) = refl
-
-sink_open : (x : Item) → some_closes (given (sink_body x)) ≡ false
-sink_open (I.Tuple vs) = refl
-sink_open I.Window = refl
-sink_open I.Final = refl
-sink_open (I.Bad f) = refl
-
-given_open-of : (kind : Kind) (op : Operator) (earlier : List Event) (e : Event) → some_closes (given (body_of kind op earlier e)) ≡ false
-given_open-of (FileSource source) op earlier e = refl
-given_open-of (Filter condition) op earlier e = filter_open op.functions condition e.item
-given_open-of (FileSink file) op earlier e = sink_open e.item
-
-given_open : (op : Operator) (earlier : List Event) (e : Event) → some_closes (given (body op earlier e)) ≡ false
-given_open op earlier e = given_open-of op.kind op earlier e
-
-pub body_law : BodyLaw
-body_law op earlier e outs h = ap (λ a. some_closes (given a)) (sym h) ∙ given_open op earlier e
-
-filter_first : (functions : List Function) (condition : Option (Code Slot)) (x : Item) → list_all (λ o. o.port == 0) (given (filter_body functions condition x)) ≡ true
-filter_first functions condition (I.Tuple vs) = go (passes functions condition vs)
-  where
-    go : (o : Outcome Bool) → list_all (λ o. o.port == 0) (given (filter_answer vs o)) ≡ true
-    go (Done true turns) = refl
-    go (Done false turns) = refl
-    go (Faulted kind) = refl
-    go Stuck = refl
-filter_first functions condition I.Window = refl
-filter_first functions condition I.Final = refl
-filter_first functions condition (I.Bad f) = refl
-
-sink_first : (x : Item) → list_all (λ o. o.port == 0) (given (sink_body x)) ≡ true
-sink_first (I.Tuple vs) = refl
-sink_first I.Window = refl
-sink_first I.Final = refl
-sink_first (I.Bad f) = refl
-
-given_first : (kind : Kind) (op : Operator) (earlier : List Event) (e : Event) → list_all (λ o. o.port == 0) (given (body_of kind op earlier e)) ≡ true
-given_first (FileSource source) op earlier e = refl
-given_first (Filter condition) op earlier e = filter_first op.functions condition e.item
-given_first (FileSink file) op earlier e = sink_first e.item
-
-pub body_ports : BodyPorts
-body_ports op earlier e outs h = ap (λ a. list_all (λ o. o.port == 0) (given a)) (sym h) ∙ given_first op.kind op earlier e
+use Rattle.stream_model.specs.Laws.{has_ended, EndItemLaw, EndGivesLaw, OutCloses, ClosedEnds, ClosedGivesClosed}
 
 -- no item on a port closes where no output does
 on_port_open : (p : ℕ) (outs : List Output) → some_closes outs ≡ false → any_closes (on_port p outs) ≡ false
@@ -227,30 +167,30 @@ ended_by-last op (Gives outs) = refl
 ended_by-last op (Faults kind) = refl
 
 -- an item that closes ends an operator with one connection
-ended-closing : (n s : ℕ) (functions : List Function) (kind : Kind) (outs : List ℕ) (seen : List Event) (x : Item) → closes x ≡ true → is_some (ended (one_in n functions kind s outs) seen (came 0 x)) ≡ true
-ended-closing n s functions kind outs seen (I.Tuple vs) h = cc
-ended-closing n s functions kind outs seen I.Window h = cc
-ended-closing n s functions kind outs seen I.Final h = ended_by-last (one_in n functions kind s outs) (body (one_in n functions kind s outs) seen (came 0 I.Final))
-ended-closing n s functions kind outs seen (I.Bad f) h = refl
+ended-closing : (n s : ℕ) (clauses : Part) (functions : List Function) (types : PortTypes) (outs : List ℕ) (seen : List Event) (x : Item) → closes x ≡ true → is_some (ended (one_in n clauses functions types s outs) seen (came 0 x)) ≡ true
+ended-closing n s clauses functions types outs seen (I.Tuple vs) h = cc
+ended-closing n s clauses functions types outs seen I.Window h = cc
+ended-closing n s clauses functions types outs seen I.Final h = ended_by-last (one_in n clauses functions types s outs) (body (one_in n clauses functions types s outs) seen (came 0 I.Final))
+ended-closing n s clauses functions types outs seen (I.Bad f) h = refl
 
-over-closed : (n s : ℕ) (functions : List Function) (kind : Kind) (outs : List ℕ) (seen : List Event) (items : List Item) → is_closed items ≡ true
-    → (after (stage_at (one_in n functions kind s outs) seen false) (map (came 0) items)).over ≡ true
-over-closed n s functions kind outs seen [] h = cc
-over-closed n s functions kind outs seen (x ∷ items) h =
-    go (is_some (ended (one_in n functions kind s outs) seen (came 0 x))) (closes x) (ended-closing n s functions kind outs seen x) h
-    (over-closed n s functions kind outs (came 0 x ∷ seen) items)
+over-closed : (n s : ℕ) (clauses : Part) (functions : List Function) (types : PortTypes) (outs : List ℕ) (seen : List Event) (items : List Item) → is_closed items ≡ true
+    → (after (stage_at (one_in n clauses functions types s outs) seen false) (map (came 0) items)).over ≡ true
+over-closed n s clauses functions types outs seen [] h = cc
+over-closed n s clauses functions types outs seen (x ∷ items) h =
+    go (is_some (ended (one_in n clauses functions types s outs) seen (came 0 x))) (closes x) (ended-closing n s clauses functions types outs seen x) h
+    (over-closed n s clauses functions types outs (came 0 x ∷ seen) items)
   where
     go : (b c : Bool) → (c ≡ true → b ≡ true) → cond c (is_empty items) (is_closed items) ≡ true
-        → (is_closed items ≡ true → (after (stage_at (one_in n functions kind s outs) (came 0 x ∷ seen) false) (map (came 0) items)).over ≡ true)
-        → (after (stage_at (one_in n functions kind s outs) (came 0 x ∷ seen) b) (map (came 0) items)).over ≡ true
-    go true c f q rest = ap (λ (s : Stage). s.over) (after-over (stage_at (one_in n functions kind s outs) (came 0 x ∷ seen) true) (map (came 0) items) refl)
+        → (is_closed items ≡ true → (after (stage_at (one_in n clauses functions types s outs) (came 0 x ∷ seen) false) (map (came 0) items)).over ≡ true)
+        → (after (stage_at (one_in n clauses functions types s outs) (came 0 x ∷ seen) b) (map (came 0) items)).over ≡ true
+    go true c f q rest = ap (λ (s : Stage). s.over) (after-over (stage_at (one_in n clauses functions types s outs) (came 0 x ∷ seen) true) (map (came 0) items) refl)
     go false true f q rest = let clash : false ≡ true = f refl in cc
     go false false f q rest = rest q
 
 pub closed_ends : ClosedEnds
 closed_ends op s items i h =
-    ap (λ (one : Operator). has_ended one (map (came 0) items)) (one_in-parts op op.kind s op.outs refl i refl)
-    ∙ over-closed op.number s op.functions op.kind op.outs [] items h
+    ap (λ (one : Operator). has_ended one (map (came 0) items)) (one_in-parts op op.clauses s op.outs refl i refl)
+    ∙ over-closed op.number s op.clauses op.functions op.types op.outs [] items h
 
 pub closed_gives_closed : ClosedGivesClosed
 closed_gives_closed op s p items i lt h = out_closes op p (map (came 0) items) lt ∙ closed_ends op s items i h

@@ -8,8 +8,8 @@ use Rattle.std.proofs.lemmas.Bool.{cond-false, cases_Bool, or_parts, or_left, or
 use Rattle.std.proofs.lemmas.List.{reverse-append}
 use Rattle.std.proofs.lemmas.List.Folds.{list_any-append}
 use Rattle.stream_model.specs.Stream.{Event, came}
-use Rattle.stream_model.specs.React.{Operator}
-use Rattle.stream_model.specs.Meaning.{Lists, Entries, arrive, lists_at, connections, events_at, events_of, meaning, made_by, makes, streams_of, in_topo}
+use Rattle.stream_model.specs.Operators.{Operator, connections}
+use Rattle.stream_model.specs.Meaning.{Lists, Entries, arrive, lists_at, events_at, events_of, meaning, made_by, makes, streams_of, in_topo}
 use Rattle.stream_model.specs.Laws.{makes_stream, reads_stream, is_made, GraphLaw, EventsLaw, TopoEventsLaw}
 
 -- where nothing passes, there is no position
@@ -72,7 +72,7 @@ events_at-same one other (s ∷ t ∷ ss) entries agree = ap (λ (lists : Lists)
 makes-same : (op : Operator) (p : ℕ) (one other rows : Lists) (entries : Entries) → Agree one other (connections op)
     → makes op p one rows entries ≡ makes op p other rows entries
 makes-same op p one other rows entries agree =
-    ap (λ (events : List Event). made_by op.kind op p events (rows op.number)) (events_at-same one other (connections op) (entries op.number) agree)
+    ap (λ (events : List Event). made_by op.clauses op p events (rows op.number)) (events_at-same one other (connections op) (entries op.number) agree)
 
 reverse-around : (before after : List Operator) (op : Operator) → reverse (before ++ op ∷ after) ≡ reverse after ++ op ∷ reverse before
 reverse-around before after op =

@@ -3,7 +3,8 @@ use Rattle.std.proofs.Common.{ℕ, Bool, true, false, List, [], ◌∷◌, ◌++
 use Rattle.std.proofs.lemmas.Bool.{cond-true, cond-false}
 use Rattle.std.proofs.lemmas.List.{reverse-append}
 use Rattle.stream_model.specs.Stream.{Event}
-use Rattle.stream_model.specs.React.{Operator, react, ended}
+use Rattle.stream_model.specs.Operators.{Operator}
+use Rattle.stream_model.specs.React.{react, ended}
 use Rattle.stream_model.specs.Stages.{Stage, start, gives, next, gives_all, after, on_port, out}
 use Rattle.stream_model.proofs.StageLaws.{stage_at, gives_all-append, after-append, on_port-append, after-over}
 use Rattle.stream_model.specs.Laws.{StartLaw, HistoryLaw, EndLaw}

@@ -1,3 +1,4 @@
+mod Submits
 pub mod PlainLines
 pub mod RowsLaws
 pub mod StageLaws
@@ -17,3 +18,5 @@ pub mod Groups
 pub mod Records
 pub mod UsedUp
 pub mod OneAfterAnother
+pub mod ByPorts
+pub mod KindBodies

@@ -8,7 +8,9 @@ use Rattle.spl_value.specs.declared.item.Item.{Item}
 use Rattle.spl_value.specs.declared.item.Item.TheVariants as I
 use Rattle.stream_model.specs.Stream.{Event, came, is_final, closes, is_closed, is_empty, IsPrefix}
 use Rattle.stream_model.specs.Inputs.{inputs_of}
-use Rattle.stream_model.specs.React.{Operator, Answer, Gives, Faults, ports, port_at, is_over, all_over, body, ended, ended_by, is_waiting, is_last}
+use Rattle.stream_model.specs.Operators.{Operator, ports, port_at}
+use Rattle.stream_model.specs.PortEvents.{is_over, all_over, is_waiting, is_last}
+use Rattle.stream_model.specs.React.{Answer, Gives, Faults, body, ended, ended_by}
 use Rattle.stream_model.specs.Stages.{Stage, start, next, after}
 use Rattle.stream_model.proofs.StageLaws.{stage_at, after-over}
 use Rattle.stream_model.specs.Meaning.{Lists, with_list, taking, arrive}

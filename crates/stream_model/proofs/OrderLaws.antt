@@ -3,7 +3,7 @@ use Rattle.std.specs.Prelude.{ℕ, ◌==◌, true, false, List, [], ◌∷◌, �
 use Rattle.std.specs.List.{list_any}
 use Rattle.std.proofs.Common.{sym, ap, ◌∙◌, subst, inl, inr}
 use Rattle.std.proofs.lemmas.Bool.{eqb-true, or_cases}
-use Rattle.stream_model.specs.React.{Operator}
+use Rattle.stream_model.specs.Operators.{Operator}
 use Rattle.stream_model.specs.Laws.{makes_stream, reads_stream, is_made, IsOrdered}
 
 -- no operators

@@ -6,21 +6,23 @@ use Rattle.spl_value.specs.declared.item.Item.{Item}
 use Rattle.spl_tree.specs.declared.body.Function.{Function}
 use Rattle.language_model.specs.declared.outs.Output.{Output}
 use Rattle.stream_model.specs.Stream.{Event}
-use Rattle.stream_model.specs.React.{Operator, Kind}
+use Rattle.language_model.specs.declared.checked.Part.{Part}
+use Rattle.language_model.specs.declared.checked.PortTypes.{PortTypes}
+use Rattle.stream_model.specs.Operators.{Operator}
 use Rattle.stream_model.specs.Stages.{Stage, gives, next, gives_all, after, on_port}
 
 -- an operator behind these events, the newest first, over or not
 abbrev pub stage_at : Operator → List Event → Bool → Stage
 stage_at op seen over = record { op = op; seen = seen; over = over }
 
--- an operator of a kind with one connection
-abbrev pub one_in : ℕ → List Function → Kind → ℕ → List ℕ → Operator
-one_in number functions kind s outs = record { number = number; functions = functions; kind = kind; ins = (s ∷ []) ∷ []; outs = outs }
+-- an operator with these clauses and one connection
+abbrev pub one_in : ℕ → Part → List Function → PortTypes → ℕ → List ℕ → Operator
+one_in number clauses functions types s outs = record { number = number; clauses = clauses; functions = functions; types = types; ins = (s ∷ []) ∷ []; outs = outs }
 
 -- its parts are all of it
-pub one_in-parts : (op : Operator) (kind : Kind) (s : ℕ) (outs : List ℕ) → op.kind ≡ kind → op.ins ≡ (s ∷ []) ∷ [] → op.outs ≡ outs
-    → op ≡ one_in op.number op.functions kind s outs
-one_in-parts op kind s outs k i o = rw (← k, ← i, ← o)
+pub one_in-parts : (op : Operator) (clauses : Part) (s : ℕ) (outs : List ℕ) → op.clauses ≡ clauses → op.ins ≡ (s ∷ []) ∷ [] → op.outs ≡ outs
+    → op ≡ one_in op.number clauses op.functions op.types s outs
+one_in-parts op clauses s outs k i o = rw (← k, ← i, ← o)
 
 -- events in two lists: what the first gives, and what the second gives behind it
 pub gives_all-append : (s : Stage) (first second : List Event) → gives_all s (first ++ second) ≡ gives_all s first ++ gives_all (after s first) second

@@ -4,10 +4,12 @@ use Rattle.std.specs.List.{concat, list_any}
 use Rattle.std.proofs.lemmas.Bool.{cond-true, cond-false, ne_eqb, eq-eqb, or_parts}
 use Rattle.spl_value.specs.declared.item.Item.TheVariants as I
 use Rattle.stream_model.specs.Stream.{Event, came, is_final}
-use Rattle.stream_model.specs.React.{Operator, ports_from, ports, port_at, is_over, all_over, body, is_waiting, answered, ended_by, is_last}
+use Rattle.stream_model.specs.Operators.{Operator, ports_from, ports, port_at}
+use Rattle.stream_model.specs.PortEvents.{is_over, all_over, is_waiting, is_last}
+use Rattle.stream_model.specs.React.{body, answered, ended_by}
 use Rattle.stream_model.specs.Laws.{WaitLaw, PortsLaw}
 
-port_at-is : (ps : List ℕ) (i p : ℕ) → slice_get ps i ≡ Some p → port_at ps i ≡ p
+pub port_at-is : (ps : List ℕ) (i p : ℕ) → slice_get ps i ≡ Some p → port_at ps i ≡ p
 port_at-is [] i p h = cc
 port_at-is (q ∷ ps) zero p h = cc
 port_at-is (q ∷ ps) (suc i) p h = port_at-is ps i p h
@@ -19,7 +21,7 @@ is_over-not (e ∷ h) j q =
     cond-false ((e.input == j) && is_final e.item) true (is_over h j) parts.0 ∙ is_over-not h j parts.1
 
 -- where it hasn't come on some input whose port passes, it hasn't come on each
-all_over-not : (test : ℕ → Bool) (ps : List ℕ) (from j at p : ℕ) (h : List Event) → slice_get ps j ≡ Some p → test p ≡ true → at ≡ from + j → is_over h at ≡ false
+pub all_over-not : (test : ℕ → Bool) (ps : List ℕ) (from j at p : ℕ) (h : List Event) → slice_get ps j ≡ Some p → test p ≡ true → at ≡ from + j → is_over h at ≡ false
     → all_over test ps from h ≡ false
 all_over-not test [] from j at p h s t a o = cc
 all_over-not test (q ∷ ps) from zero at p h s t a o =
@@ -49,7 +51,7 @@ wait_law op i j p earlier at other apart none =
       cond-true (is_waiting op earlier (came i I.Final)) None (ended_by op (is_last op earlier (came i I.Final)) (body op earlier (came i I.Final))) w,
     )
 
-slice_get-past : (n : ℕ) (streams : List ℕ) (ps : List ℕ) (i k : ℕ) → k ≡ length streams + i → slice_get (map (λ s. n) streams ++ ps) k ≡ slice_get ps i
+pub slice_get-past : (n : ℕ) (streams : List ℕ) (ps : List ℕ) (i k : ℕ) → k ≡ length streams + i → slice_get (map (λ s. n) streams ++ ps) k ≡ slice_get ps i
 slice_get-past n [] ps i k e = let same : k ≡ i = omega arith in ap (slice_get ps) same
 slice_get-past n (s ∷ streams) ps i zero e = absurd (omega arith)
 slice_get-past n (s ∷ streams) ps i (suc k) e = slice_get-past n streams ps i k (omega arith)

@@ -7,9 +7,10 @@ use Rattle.spl_value.specs.declared.item.Fault.{Fault}
 use Rattle.spl_value.specs.declared.item.Item.{Item}
 use Rattle.spl_value.specs.declared.item.Item.TheVariants as I
 use Rattle.stream_model.specs.Stream.{Event}
-use Rattle.stream_model.specs.React.{Operator, ended}
+use Rattle.stream_model.specs.Operators.{Operator, connections}
+use Rattle.stream_model.specs.React.{ended}
 use Rattle.stream_model.specs.Stages.{Stage, start, next}
-use Rattle.stream_model.specs.Meaning.{Graph, Meaning, connections}
+use Rattle.stream_model.specs.Meaning.{Graph, Meaning}
 
 -- the fault that an item is
 abbrev pub fault_of : Item → Option Fault

@@ -1,18 +1,21 @@
 -- What the definitions of streams, operators and graphs come to.
-use Rattle.std.specs.Prelude.{ℕ, ◌+◌, ◌<◌, ◌≤◌, ◌==◌, ◌&&◌, Bool, true, false, List, [], ◌∷◌, ◌++◌, ◌≡◌, ◌⊎◌, map, length, reverse, slice_get, Option, Some, None, position, is_some, if◌then◌else◌}
+use Rattle.std.specs.Prelude.{ℕ, ◌+◌, ◌<◌, ◌≤◌, ◌==◌, nat_lt, ◌&&◌, Bool, true, false, List, [], ◌∷◌, ◌++◌, ◌≡◌, ◌⊎◌, map, length, reverse, slice_get, Option, Some, None, position, is_some, if◌then◌else◌}
 use Rattle.std.specs.List.{concat, count_by, filter_map, flat_map, list_all, list_any, All}
 use Rattle.spl_value.specs.declared.item.Item.{Item}
 use Rattle.spl_value.specs.declared.item.Item.TheVariants as I
 use Rattle.spl_value.specs.declared.item.FaultKind.{FaultKind}
 use Rattle.spl_value.specs.declared.item.FaultKind.TheVariants as K
 use Rattle.spl_value.specs.declared.value.Value.{Value}
+use Rattle.language_model.specs.declared.checked.Part.{Part}
+use Rattle.language_model.specs.declared.checked.Part.TheVariants as A
 use Rattle.language_model.specs.declared.outs.Output.{Output}
 use Rattle.stream_model.specs.Stream.{Event, came, is_final, is_fault, closes, any_closes, is_closed, IsPrefix}
-use Rattle.stream_model.specs.React.{Operator, ports, react, body, ended, Gives, Faults}
+use Rattle.stream_model.specs.Operators.{Operator, ports, connections}
+use Rattle.stream_model.specs.React.{react, body, ended, Gives, Faults}
 use Rattle.stream_model.specs.Stages.{start, after, out, on_port, chain}
 use Rattle.spl_value.specs.Script.{Ending, End, Failed}
 use Rattle.stream_model.specs.Rows.{Setting, Given, Row, Nothing, Bad, pieces, line_gives, rows}
-use Rattle.stream_model.specs.Meaning.{Graph, Lists, Entries, meaning, makes, connections, events_of, in_topo}
+use Rattle.stream_model.specs.Meaning.{Graph, Lists, Entries, meaning, makes, events_of, in_topo}
 
 abbrev pub has_ended : Operator → List Event → Bool
 has_ended op events = (after (start op) events).over
@@ -82,10 +85,20 @@ abbrev pub BodyLaw : Type 0
 BodyLaw = (op : Operator) (earlier : List Event) (e : Event) (outs : List Output) → body op earlier e ≡ Gives outs
     → list_any (λ o. closes o.item) outs ≡ false
 
--- the body of a source, of a filter and of a sink, whose writer stands as port 0, gives on port 0 alone
+-- a Custom picks the ports of its submits by itself
+abbrev pub is_custom : Part → Bool
+is_custom (A.Custom handlers) = true
+is_custom _ = false
+
+-- the body of every other operator with output ports gives on these alone
 abbrev pub BodyPorts : Type 0
-BodyPorts = (op : Operator) (earlier : List Event) (e : Event) (outs : List Output) → body op earlier e ≡ Gives outs
-    → list_all (λ o. o.port == 0) outs ≡ true
+BodyPorts = (op : Operator) (earlier : List Event) (e : Event) (outs : List Output) → is_custom op.clauses ≡ false → 0 < length op.outs
+    → body op earlier e ≡ Gives outs → list_all (λ o. nat_lt o.port (length op.outs)) outs ≡ true
+
+-- and that of a sink on port 0, as which its writer stands
+abbrev pub SinkPorts : Type 0
+SinkPorts = (op : Operator) (file : List ℕ) (earlier : List Event) (e : Event) (outs : List Output) → op.clauses ≡ A.FileSink file
+    → body op earlier e ≡ Gives outs → list_all (λ o. o.port == 0) outs ≡ true
 
 abbrev pub makes_stream : Operator → ℕ → Bool
 makes_stream op s = list_any (λ o. o == s) op.outs

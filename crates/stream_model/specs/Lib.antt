@@ -1,4 +1,10 @@
 pub mod Stream
+pub mod Operators
+pub mod PortEvents
+pub mod Bodies
+pub mod Customs
+pub mod Aggregates
+pub mod Joins
 pub mod React
 pub mod Stages
 pub mod Meaning
@@ -7,11 +13,11 @@ pub mod Fields
 pub mod Rows
 pub mod Laws
 pub mod PathLaws
+pub mod PortLaws
 pub mod CheckedMeaning
 pub mod Keys
 pub mod Inputs
 pub mod Windows
-pub mod PortWindows
 pub mod WindowLaws
 pub mod Groups
 pub mod GroupLaws

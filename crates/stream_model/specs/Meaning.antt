@@ -1,12 +1,14 @@
 -- What a graph of operators means on one thread: the events of every operator and the list of every stream.
 use Prim.Native.Nat.{zero, suc}
-use Rattle.std.specs.Prelude.{ℕ, ◌^◌, ◌==◌, List, [], ◌∷◌, map, reverse, position, slice_get, if◌then◌else◌}
-use Rattle.std.specs.List.{concat, filter_map}
+use Rattle.std.specs.Prelude.{ℕ, ◌^◌, Bool, ◌==◌, List, [], ◌∷◌, map, reverse, position, slice_get, if◌then◌else◌}
+use Rattle.std.specs.List.{filter_map}
 use Rattle.std.specs.Option.{option_map_or}
 use Rattle.spl_value.specs.declared.item.Item.{Item}
 use Rattle.stream_model.specs.Stream.{Event, came}
 use Rattle.spl_value.specs.Script.{Script}
-use Rattle.stream_model.specs.React.{Operator, Kind, Source, FileSource}
+use Rattle.language_model.specs.declared.checked.Part.{Part}
+use Rattle.language_model.specs.declared.checked.Part.TheVariants as A
+use Rattle.stream_model.specs.Operators.{Operator, connections, output_attributes}
 use Rattle.stream_model.specs.Stages.{out}
 use Rattle.stream_model.specs.Rows.{Setting, rows, text_of}
 
@@ -37,10 +39,6 @@ abbrev pub arrive : Lists → List ℕ → List Event
 arrive lists [] = []
 arrive lists (i ∷ entries) = taking i (lists i) (λ items. arrive (with_list lists i items) entries)
 
--- the stream of each input
-abbrev pub connections : Operator → List ℕ
-connections op = concat op.ins
-
 -- the list of the stream at each input; none past the last one
 abbrev pub lists_at : Lists → List ℕ → Lists
 lists_at streams [] i = []
@@ -57,13 +55,13 @@ abbrev pub events_of : Operator → Lists → List ℕ → List Event
 events_of op streams entries = events_at streams (connections op) entries
 
 -- what an operator makes on a port: a source its rows, another what it gives for its events
-abbrev pub made_by : Kind → Operator → ℕ → List Event → List Item → List Item
-made_by (FileSource source) op p events rows = rows
+abbrev pub made_by : Part → Operator → ℕ → List Event → List Item → List Item
+made_by (A.FileSource file strict) op p events rows = rows
 made_by _ op p events rows = out op p events
 
 -- what the operator makes of the streams, its rows and its record
 abbrev pub makes : Operator → ℕ → Lists → Lists → Entries → List Item
-makes op p streams rows entries = made_by op.kind op p (events_of op streams (entries op.number)) (rows op.number)
+makes op p streams rows entries = made_by op.clauses op p (events_of op streams (entries op.number)) (rows op.number)
 
 -- the list of each stream, made by operators whose last is first
 abbrev pub streams_of : List Operator → Lists → Entries → Lists
@@ -89,13 +87,13 @@ meaning g rows entries = record {
   events = events_of_number g (streams_of (reverse (in_topo g)) rows entries) entries;
 }
 
--- a source's file has at most 2^40 bytes
-abbrev pub setting_of : ℕ → Source → Setting
-setting_of n source = record { op = n; schema = source.schema; strict = source.strict; limit = 2 ^ 40 }
+-- how a source reads its file, which has at most 2^40 bytes: whether a bad row is a fault
+abbrev pub setting_of : Operator → Bool → Setting
+setting_of op strict = record { op = op.number; schema = output_attributes op 0; strict = strict; limit = 2 ^ 40 }
 
--- the stream of the source with this number, for what its reader gives
-abbrev pub rows_of : ℕ → Source → Script → List Item
-rows_of n source script = rows (setting_of n source) script.bytes script.ending
+-- the stream of a source, for what its reader gives
+abbrev pub rows_of : Operator → Bool → Script → List Item
+rows_of op strict script = rows (setting_of op strict) script.bytes script.ending
 
 -- the text that a sink writes for its events, up to its end
 abbrev pub text : Operator → List Event → List ℕ

@@ -4,7 +4,7 @@ use Rattle.spl_value.specs.declared.item.Item.{Item}
 use Rattle.spl_value.specs.declared.item.Item.TheVariants as I
 use Rattle.stream_model.specs.Stream.{Event, came, is_closed, IsPrefix}
 use Rattle.stream_model.specs.Inputs.{inputs_of, came_on}
-use Rattle.stream_model.specs.React.{Operator, ports}
+use Rattle.stream_model.specs.Operators.{Operator, ports}
 use Rattle.stream_model.specs.Stages.{start}
 use Rattle.stream_model.specs.Meaning.{Lists, arrive}
 use Rattle.stream_model.specs.Ends.{end_from}

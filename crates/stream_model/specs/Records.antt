@@ -6,7 +6,7 @@ use Rattle.std.specs.Prelude.{ℕ, ◌==◌, nat_lt, Bool, false, ◌&&◌, List
 use Rattle.std.specs.List.{list_all}
 use Rattle.stream_model.specs.Stream.{Event, is_empty}
 use Rattle.stream_model.specs.Inputs.{inputs_of}
-use Rattle.stream_model.specs.React.{Operator, ports}
+use Rattle.stream_model.specs.Operators.{Operator, ports}
 use Rattle.stream_model.specs.Stages.{Stage, start, next}
 use Rattle.stream_model.specs.Meaning.{Lists, arrive}
 

@@ -3,7 +3,8 @@ use Rattle.std.specs.Prelude.{ℕ, ◌==◌, Bool, false, List, [], ◌∷◌, �
 use Rattle.spl_value.specs.declared.item.Item.{Item}
 use Rattle.language_model.specs.declared.outs.Output.{Output}
 use Rattle.stream_model.specs.Stream.{Event, came}
-use Rattle.stream_model.specs.React.{Operator, react, ended}
+use Rattle.stream_model.specs.Operators.{Operator}
+use Rattle.stream_model.specs.React.{react, ended}
 
 -- an operator, the events that it has taken, the newest first, and whether it has ended
 pub record Stage : Type 0 where

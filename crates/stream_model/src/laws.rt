@@ -1,21 +1,24 @@
 //! What holds of streams and of what operators make of them.
-ghost use Rattle.std.specs.Prelude.{◌≡◌, ◌≤◌, ℕ, List, [], ◌∷◌, Option, Some, None, codes, pos, negsuc, true, false};
+ghost use Rattle.std.specs.Prelude.{◌≡◌, ◌≤◌, ℕ, Bool, List, [], ◌∷◌, Option, Some, None, slice_get, codes, pos, negsuc, true, false};
+ghost use Rattle.spl_tree.specs.declared.code.Code.TheVariants as C;
 ghost use Rattle.spl_value.specs.Script.{End, Failed};
 ghost use Rattle.spl_value.specs.declared.item.Item.TheVariants as I;
 ghost use Rattle.spl_value.specs.declared.item.FaultKind.TheVariants as K;
 ghost use Rattle.spl_value.specs.declared.types.IntKind.TheVariants as N;
 ghost use Rattle.spl_value.specs.declared.types.SplType.TheVariants as T;
 ghost use Rattle.spl_value.specs.declared.value.Value.TheVariants as V;
-ghost use Rattle.stream_model.specs.Laws.{StartLaw, HistoryLaw, EndLaw, EndItemLaw, EndGivesLaw, WaitLaw, PortsLaw, OutGrows, ChainGrows, OutCloses, ClosedEnds, ClosedGivesClosed, BodyLaw, BodyPorts, GraphLaw, EventsLaw, TopoEventsLaw, IsOrdered, IsNumbered, IsWithin, RowsClose, PiecesLaw, RowsLaw, FailedRowsLaw};
-ghost use Rattle.stream_model.specs.React.{Source, FileSource, Filter, FileSink};
+ghost use Rattle.stream_model.specs.Laws.{StartLaw, HistoryLaw, EndLaw, EndItemLaw, EndGivesLaw, WaitLaw, PortsLaw, OutGrows, ChainGrows, OutCloses, ClosedEnds, ClosedGivesClosed, BodyLaw, BodyPorts, SinkPorts, GraphLaw, EventsLaw, TopoEventsLaw, IsOrdered, IsNumbered, IsWithin, RowsClose, PiecesLaw, RowsLaw, FailedRowsLaw};
 ghost use Rattle.spl_tree.specs.declared.code.Code.{Code};
 ghost use Rattle.spl_tree.specs.declared.code.Slot.{Slot};
 ghost use Rattle.stream_model.specs.PathLaws.{path_graph, FilterLaw, SinkLaw, SinkFaultLaw};
 ghost use Rattle.stream_model.specs.examples.TwoSinks.{two_sinks, unread_source, bad_row, fault_of_run};
 ghost use Rattle.stream_model.specs.Rows.{Setting, rows, too_long, text_of};
-ghost use Rattle.spl_tree.specs.declared.graph.OpKind.TheVariants as O;
 ghost use Rattle.language_model.specs.declared.checked.Part.TheVariants as A;
-ghost use Rattle.stream_model.specs.CheckedMeaning.{graph_of, behind_source};
+ghost use Rattle.language_model.specs.StreamTypes.{Attributes};
+ghost use Rattle.spl_tree.specs.declared.graph.OpKind.TheVariants as O;
+ghost use Rattle.stream_model.specs.CheckedMeaning.{graph_of};
+ghost use Rattle.stream_model.specs.Operators.{Operator};
+ghost use Rattle.stream_model.specs.examples.CheckedGraphs.{after_source, texts, ids};
 
 /// No event gives nothing. One event more gives its reaction behind the history of all before it,
 /// and may end the operator, whose last item on each output port then says how. A port waits for
@@ -40,11 +43,13 @@ pub fn order_law()
     ensures closed { ClosedGivesClosed }
 {}
 
-/// No kind of operator gives a final marker or a fault by its body, or an item on another port than the
-/// first.
+/// No kind of operator gives a final marker or a fault by its body. A body gives on the operator's output
+/// ports alone, and that of a sink on port 0, as which its writer stands; on which ports a Custom submits is
+/// said where its bodies fit.
 pub fn kinds_law()
     ensures items { BodyLaw }
     ensures ports { BodyPorts }
+    ensures sinks { SinkPorts }
 {}
 
 /// What operators with one connection make of a stream. A filter passes the tuples for which its
@@ -64,14 +69,12 @@ pub fn graph_law()
     ensures in_order { TopoEventsLaw }
 {}
 
-/// A source, a filter behind it and a sink behind that are ordered, and numbered in their order.
+/// A source, a filter that reads it and a sink that reads that are ordered, and numbered in their order.
 pub fn chain_is_ordered()
-    ensures ordered { (source : Source) (condition : Option (Code Slot)) (file : List ℕ) → IsOrdered (
-        record { number = 0; functions = []; kind = FileSource source; ins = []; outs = 0 ∷ [] }
-        ∷ record { number = 1; functions = []; kind = Filter condition; ins = (0 ∷ []) ∷ []; outs = 1 ∷ [] }
-        ∷ record { number = 2; functions = []; kind = FileSink file; ins = (1 ∷ []) ∷ []; outs = [] } ∷ []) }
-    ensures numbered { (source : Source) (condition : Option (Code Slot)) (file : List ℕ)
-        → IsNumbered (path_graph source condition file) }
+    ensures ordered { (schema : Attributes) (source : List ℕ) (strict : Bool) (condition : Option (Code Slot)) (sink : List ℕ)
+        → IsOrdered (path_graph schema source strict condition sink).ops }
+    ensures numbered { (schema : Attributes) (source : List ℕ) (strict : Bool) (condition : Option (Code Slot)) (sink : List ℕ)
+        → IsNumbered (path_graph schema source strict condition sink) }
 {}
 
 /// The stream of a source is closed. Where there is no fault it is the rows of the file's lines.
@@ -138,13 +141,14 @@ pub fn text_on_literals()
         ≡ codes "\"a,\"\"b\"\"\"\n\"\"\n7\n" }
 {}
 
-/// The graph of operators of a source and a sink behind it. It isn't there yet where a Union stands in
-/// place of the sink.
+/// The operators of checked graphs, with the attributes of their ports: a source and a sink that reads it, and a Split into two streams.
 pub fn graphs_of_operators()
-    ensures built { graph_of (behind_source O.FileSink [] (A.FileSink (codes "out"))) ≡ Some (record {
-      ops = record { number = 0; functions = []; kind = FileSource (record { file = codes "in"; schema = record { name = codes "line"; kind = T.Text } ∷ []; strict = true }); ins = []; outs = 0 ∷ [] }
-          ∷ record { number = 1; functions = []; kind = FileSink (codes "out"); ins = (0 ∷ []) ∷ []; outs = [] } ∷ [];
+    ensures sink { graph_of (after_source O.FileSink [] (A.FileSink (codes "out"))) ≡ (record {
+      ops = record { number = 0; clauses = A.FileSource (codes "in") true; functions = []; types = record { ins = []; outs = texts ∷ [] }; ins = []; outs = 0 ∷ [] }
+          ∷ record { number = 1; clauses = A.FileSink (codes "out"); functions = []; types = record { ins = texts ∷ []; outs = [] }; ins = (0 ∷ []) ∷ []; outs = [] } ∷ [];
       topo = 0 ∷ 1 ∷ [];
     }) }
-    ensures not_built { graph_of (behind_source O.Union (1 ∷ []) (A.Union ((0 ∷ []) ∷ []))) ≡ None }
+    ensures split { slice_get (graph_of (after_source O.Split (1 ∷ 2 ∷ []) (A.Split (C.Literal (V.Int (pos 1)))))).ops 1 ≡ Some (record {
+      number = 1; clauses = A.Split (C.Literal (V.Int (pos 1))); functions = []; types = record { ins = texts ∷ []; outs = ids ∷ texts ∷ [] }; ins = (0 ∷ []) ∷ []; outs = 1 ∷ 2 ∷ [];
+    }) }
 {}

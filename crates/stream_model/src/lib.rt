@@ -3,6 +3,8 @@
 
 mod group_laws;
 mod laws;
+mod port_laws;
+mod react_laws;
 mod record;
 mod record_laws;
 mod window_laws;
@@ -11,6 +13,10 @@ pub use group_laws::{groups_law, groups_on_literals};
 pub use laws::{
     chain_is_ordered, ends_on_literals, graph_law, graphs_of_operators, history_law, kinds_law,
     order_law, path_law, rows_law, rows_on_literals, text_on_literals,
+};
+pub use port_laws::ports_law;
+pub use react_laws::{
+    aggregates_on_literals, customs_on_literals, join_on_literals, one_input_on_literals, union_on_literals,
 };
 pub use record::{
     ArrivalList, ArrivalLists, Arrivals, ChannelCount, ChannelCounts, Counts, SinkCount, SinkCounts,

@@ -4,7 +4,7 @@ ghost use Rattle.spl_value.specs.declared.item.Item.TheVariants as I;
 ghost use Rattle.language_model.specs.declared.checked.WindowRule.TheVariants as W;
 ghost use Rattle.stream_model.specs.Stream.{came};
 ghost use Rattle.stream_model.specs.Windows.{partition_key, window_events, content, tuple_fires, flushed_behind, Insert, Mark, Silent, Flushes, Triggers, fired_at, integer_at};
-ghost use Rattle.stream_model.specs.PortWindows.{items_of_port, port_content, port_fires};
+ghost use Rattle.stream_model.specs.PortEvents.{items_of, port_events};
 ghost use Rattle.stream_model.specs.WindowLaws.{TumblingCountLaw, SlidingCountLaw, TumblingDeltaLaw, SlidingDeltaLaw, TumblingCountInsert, TumblingDeltaInsert, TumblingPunctInsert, SlidingCountInsert, SlidingDeltaInsert, PortLaw, OneKeyLaw, OwnKeyLaw, SameKeyLaw, EmptiedLaw, PassingLaw, FlushedBehindLaw, FiredLaw, MappedLaw, MappedFiringLaw, BehindLaw};
 ghost use Rattle.stream_model.specs.examples.WindowExamples.{number, a_with, b_with, key_a, key_b, by_text, of_all, two_ports};
 
@@ -102,16 +102,16 @@ pub fn windows_on_literals()
         ≡ (a_with (pos 2) ∷ []) ∷ (b_with (pos 1) ∷ b_with (pos 0) ∷ []) ∷ [] }
     ensures final_behind_marker { fired_at W.TumblingPunct (λ t. []) I.Final (I.Window ∷ I.Tuple (number (pos 1)) ∷ []) ≡ [] }
     ensures final_behind_flush { fired_at (W.TumblingCount 2) (λ t. []) I.Final (I.Tuple (number (pos 2)) ∷ I.Tuple (number (pos 1)) ∷ []) ≡ [] }
-    ensures items_of_two_streams { items_of_port two_ports 0 (came 1 (I.Tuple (number (pos 3))) ∷ came 2 (I.Tuple (number (pos 7))) ∷ came 0 (I.Tuple (number (pos 1))) ∷ [])
+    ensures items_of_two_streams { items_of 0 (port_events two_ports
+        (came 1 (I.Tuple (number (pos 3))) ∷ came 2 (I.Tuple (number (pos 7))) ∷ came 0 I.Final ∷ came 0 (I.Tuple (number (pos 1))) ∷ []))
         ≡ I.Tuple (number (pos 3)) ∷ I.Tuple (number (pos 1)) ∷ [] }
-    ensures window_of_two_streams { port_content two_ports 0 (W.SlidingCount 2 None) (λ t. []) []
-        (came 1 (I.Tuple (number (pos 3))) ∷ came 2 (I.Tuple (number (pos 7))) ∷ came 0 (I.Tuple (number (pos 2))) ∷ came 1 (I.Tuple (number (pos 1))) ∷ [])
+    ensures end_of_port { port_events two_ports (came 1 I.Final ∷ came 2 I.Final ∷ came 0 I.Final ∷ []) ≡ came 0 I.Final ∷ came 1 I.Final ∷ [] }
+    ensures window_of_two_streams { content (W.SlidingCount 2 None) [] (window_events (λ t. []) (items_of 0 (port_events two_ports
+        (came 1 (I.Tuple (number (pos 3))) ∷ came 2 (I.Tuple (number (pos 7))) ∷ came 0 (I.Tuple (number (pos 2))) ∷ came 1 (I.Tuple (number (pos 1))) ∷ []))))
         ≡ number (pos 2) ∷ number (pos 3) ∷ [] }
-    ensures full_by_two_streams { port_fires two_ports 0 (W.TumblingCount 2) (λ t. []) (came 1 (I.Tuple (number (pos 3))))
-        (came 2 (I.Tuple (number (pos 7))) ∷ came 0 (I.Tuple (number (pos 1))) ∷ [])
+    ensures full_by_two_streams { fired_at (W.TumblingCount 2) (λ t. []) (I.Tuple (number (pos 3)))
+        (items_of 0 (port_events two_ports (came 2 (I.Tuple (number (pos 7))) ∷ came 0 (I.Tuple (number (pos 1))) ∷ [])))
         ≡ (number (pos 1) ∷ number (pos 3) ∷ []) ∷ [] }
-    ensures of_other_port { port_fires two_ports 0 (W.TumblingCount 2) (λ t. []) (came 2 (I.Tuple (number (pos 7))))
-        (came 1 (I.Tuple (number (pos 3))) ∷ came 0 (I.Tuple (number (pos 1))) ∷ []) ≡ [] }
     ensures no_attribute { integer_at 1 (number (pos 5)) ≡ pos 0 }
     ensures no_integer { integer_at 0 (a_with (pos 5)) ≡ pos 0 }
 {}

@@ -8,16 +8,18 @@ use Rattle.spl_tree.specs.declared.code.Code.{Code}
 use Rattle.spl_tree.specs.declared.code.Code.TheVariants as C
 use Rattle.spl_tree.specs.declared.code.Taking.TheVariants as A
 use Rattle.spl_tree.specs.declared.code.Slot.{Slot}
-use Rattle.stream_model.specs.React.{Operator, Filter, FileSink}
+use Rattle.language_model.specs.declared.checked.Part.TheVariants as P
+use Rattle.stream_model.specs.Operators.{Operator}
+use Rattle.stream_model.specs.examples.SomeOperators.{operator_of}
 use Rattle.stream_model.specs.Meaning.{Lists}
 
 -- a sink whose port takes two streams
 abbrev pub two_streams : Operator
-two_streams = record { number = 2; functions = []; kind = FileSink []; ins = (0 ∷ 1 ∷ []) ∷ []; outs = [] }
+two_streams = operator_of 2 (P.FileSink []) ((0 ∷ 1 ∷ []) ∷ []) []
 
 -- one with two ports of a stream each
 abbrev pub one_stream_each : Operator
-one_stream_each = record { number = 2; functions = []; kind = FileSink []; ins = (0 ∷ []) ∷ (1 ∷ []) ∷ []; outs = [] }
+one_stream_each = operator_of 2 (P.FileSink []) ((0 ∷ []) ∷ (1 ∷ []) ∷ []) []
 
 -- the first element of an empty list
 abbrev pub no_element : Code Slot
@@ -25,7 +27,7 @@ no_element = C.Select (C.Literal (V.List [])) (A.Element (C.Literal (V.Int (pos 
 
 -- a filter whose port takes two streams, and whose condition faults at each tuple
 abbrev pub faulting : Operator
-faulting = record { number = 2; functions = []; kind = Filter (Some no_element); ins = (0 ∷ 1 ∷ []) ∷ []; outs = 2 ∷ [] }
+faulting = operator_of 2 (P.Filter (Some no_element)) ((0 ∷ 1 ∷ []) ∷ []) (2 ∷ [])
 
 abbrev pub tuple : ℕ → Item
 tuple n = I.Tuple (V.Int (pos n) ∷ [])

@@ -3,16 +3,18 @@ use Rattle.std.specs.Prelude.{ℕ, ◌==◌, true, List, [], ◌∷◌, if◌the
 use Rattle.spl_value.specs.declared.item.Fault.{Fault}
 use Rattle.spl_value.specs.declared.item.FaultKind.TheVariants as K
 use Rattle.spl_value.specs.declared.item.Item.{Item}
-use Rattle.stream_model.specs.React.{Operator, FileSource, FileSink}
+use Rattle.language_model.specs.declared.checked.Part.TheVariants as P
+use Rattle.stream_model.specs.Operators.{Operator}
+use Rattle.stream_model.specs.examples.SomeOperators.{operator_of}
 use Rattle.stream_model.specs.Meaning.{Graph, Lists, meaning}
 use Rattle.stream_model.specs.Ends.{run_fault}
 
 -- a source that makes a stream, and a sink that reads one
 abbrev pub source : ℕ → ℕ → Operator
-source n s = record { number = n; functions = []; kind = FileSource (record { file = []; schema = []; strict = true }); ins = []; outs = s ∷ [] }
+source n s = operator_of n (P.FileSource [] true) [] (s ∷ [])
 
 abbrev pub sink : ℕ → ℕ → Operator
-sink n s = record { number = n; functions = []; kind = FileSink []; ins = (s ∷ []) ∷ []; outs = [] }
+sink n s = operator_of n (P.FileSink []) ((s ∷ []) ∷ []) []
 
 -- two sources, and sinks of the second one's stream and of the first one's
 abbrev pub two_sinks : Graph

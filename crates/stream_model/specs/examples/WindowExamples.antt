@@ -3,7 +3,9 @@ use Rattle.std.specs.Prelude.{ℕ, ℤ, List, [], ◌∷◌, map, codes}
 use Rattle.spl_value.specs.declared.value.Value.{Value}
 use Rattle.spl_value.specs.declared.value.Value.TheVariants as V
 use Rattle.spl_value.specs.Key.{key_of}
-use Rattle.stream_model.specs.React.{Operator, FileSink}
+use Rattle.language_model.specs.declared.checked.Part.TheVariants as P
+use Rattle.stream_model.specs.Operators.{Operator}
+use Rattle.stream_model.specs.examples.SomeOperators.{operator_of}
 use Rattle.stream_model.specs.Windows.{WindowEvent, Insert, in_order}
 
 -- a tuple of a number
@@ -38,4 +40,4 @@ of_all ts = history [] ts
 
 -- an operator with two ports: inputs 0 and 1 are of port 0, and input 2 is of port 1
 abbrev pub two_ports : Operator
-two_ports = record { number = 3; functions = []; kind = FileSink []; ins = (0 ∷ 1 ∷ []) ∷ (2 ∷ []) ∷ []; outs = [] }
+two_ports = operator_of 3 (P.FileSink []) ((0 ∷ 1 ∷ []) ∷ (2 ∷ []) ∷ []) []

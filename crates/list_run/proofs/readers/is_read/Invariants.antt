@@ -5,4 +5,4 @@ use Rattle.stream_model.specs.Meaning.{Graph}
 use Rattle.list_run.proofs.readers.is_read.Given as goal
 
 abbrev pub invariant-loop-number : goal.invariant-loop-number
-invariant-loop-number l = (g : Graph) → graph_of l.checked ≡ Some g → is_read (drop l.number g.ops) l.stream ≡ is_read g.ops l.stream
+invariant-loop-number l = (g : Graph) → graph_of l.checked ≡ g → is_read (drop l.number g.ops) l.stream ≡ is_read g.ops l.stream

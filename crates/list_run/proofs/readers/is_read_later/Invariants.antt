@@ -6,5 +6,5 @@ use Rattle.list_run.specs.Table.{ops_at}
 use Rattle.list_run.proofs.readers.is_read_later.Given as goal
 
 abbrev pub invariant-loop-number : goal.invariant-loop-number
-invariant-loop-number l = (g : Graph) → graph_of l.checked ≡ Some g
+invariant-loop-number l = (g : Graph) → graph_of l.checked ≡ g
     → is_read (ops_at g (drop l.number-index l.later)) l.stream ≡ is_read (ops_at g l.later) l.stream
