@@ -1,17 +1,16 @@
 -- An operator by its connections and by its ports.
-use Rattle.std.proofs.Common.{ℕ, zero, suc, ◌+◌, ◌<◌, ◌≤◌, ◌==◌, nat_lt, Bool, true, false, cond, not, ◌&&◌, ◌⊎◌, inl, inr, List, [], ◌∷◌, ◌++◌, ◌≡◌, map, length, length-append, slice_get, Option, Some, None, refl, sym, ap, subst, ◌∙◌, arith}
+use Rattle.std.proofs.Common.{ℕ, zero, suc, ◌+◌, ◌<◌, ◌==◌, nat_lt, Bool, true, false, cond, not, ◌&&◌, inl, inr, List, [], ◌∷◌, ◌++◌, ◌≡◌, map, length, slice_get, Some, None, refl, sym, ap, subst, ◌∙◌, arith}
 use Rattle.std.specs.List.{list_all}
 use Rattle.std.proofs.lemmas.Bool.{cond-true, cond-false, cases_eq, eq-eqb, eqb-true, ne_eqb, and_parts, ltb-true}
 use Rattle.spl_value.specs.declared.item.Item.{Item}
 use Rattle.spl_value.specs.declared.item.Item.TheVariants as I
 use Rattle.language_model.specs.declared.checked.Part.{Part}
 use Rattle.language_model.specs.declared.checked.Part.TheVariants as A
-use Rattle.language_model.specs.declared.outs.Output.{Output}
 use Rattle.stream_model.specs.Stream.{Event, came, is_final, is_fault, is_empty}
 use Rattle.stream_model.specs.Operators.{Operator, ports, ports_from, port_at}
 use Rattle.stream_model.specs.PortEvents.{by_ports, is_over, all_over, port_ended, all_ended, is_waiting, is_last, port_events}
 use Rattle.stream_model.specs.Bodies.{on_each}
-use Rattle.stream_model.specs.React.{Answer, Gives, Faults, answer, makes_by, port_body, body, react, ended, ended_by, answered, fault_of}
+use Rattle.stream_model.specs.React.{Answer, Gives, Faults, answer, makes_by, port_body, body, ended, ended_by, answered}
 use Rattle.stream_model.specs.PortLaws.{has_connections, name_inputs, at_port, ByPortsLaw, WaitingLaw, PortEndLaw, SinglePortsLaw}
 use Rattle.stream_model.proofs.Waiting.{all_over-not, port_at-is, slice_get-past}
 
@@ -273,7 +272,7 @@ same_events op (e ∷ h) named = by (is_waiting op h e) (same_events op h (and_p
         cond-false (is_waiting (by_ports op) (port_events op h) (came (port_at (ports op) e.input) e.item)) _ _
         (no_waiting op (port_events op h) (port_at (ports op) e.input) e.item below)
         ∙ (let n : port_at (singles 0 op.ins) (port_at (ports op) e.input) ≡ port_at (ports op) e.input =
-            port_of_single op.ins 0 (port_at (ports op) e.input) below ∙ omega arith in
+        port_of_single op.ins 0 (port_at (ports op) e.input) below ∙ omega arith in
         λ i. came (n i) e.item ∷ rest i)
 
 pub single_ports_law : SinglePortsLaw
@@ -306,8 +305,7 @@ final_no_fault (I.Bad g) f = cc
 pub waiting_law : WaitingLaw
 waiting_law op earlier e waits =
     let final = and_parts (is_final e.item) (not (port_ended op (port_at (ports op) e.input) (e ∷ earlier))) waits in
-    let fine : is_fault e.item ≡ false = final_no_fault e.item final.0 in
-    (
+    let fine : is_fault e.item ≡ false = final_no_fault e.item final.0 in (
       cond-false (is_fault e.item) (on_each (length op.outs) e.item) _ fine ∙ cond-true (is_waiting op earlier e) [] _ waits,
       cond-false (is_fault e.item) (Some e.item) _ fine ∙ cond-true (is_waiting op earlier e) None _ waits,
       cond-true (is_waiting op earlier e) (port_events op earlier) (came (port_at (ports op) e.input) e.item ∷ port_events op earlier) waits,
@@ -315,9 +313,9 @@ waiting_law op earlier e waits =
 
 pub by_ports_law : ByPortsLaw
 by_ports_law op earlier e some named waits = (
-      (λ i. cond (is_fault e.item) (on_each (length op.outs) e.item) (cond (same_waits i) [] (answers.0 i))),
-      (λ i. cond (is_fault e.item) (Some e.item) (cond (same_waits i) None (answers.1 i))),
-    )
+  (λ i. cond (is_fault e.item) (on_each (length op.outs) e.item) (cond (same_waits i) [] (answers.0 i))),
+  (λ i. cond (is_fault e.item) (Some e.item) (cond (same_waits i) None (answers.1 i))),
+)
   where
     parts : (nat_lt e.input (length (ports op)) ≡ true) × (name_inputs op earlier ≡ true)
     parts = and_parts (nat_lt e.input (length (ports op))) (name_inputs op earlier) named

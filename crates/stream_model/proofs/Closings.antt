@@ -1,6 +1,5 @@
 -- What an operator's streams are closed by.
-use Rattle.std.proofs.Common.{ℕ, zero, suc, ◌<◌, ◌≤◌, ◌==◌, Bool, true, false, cond, List, [], ◌∷◌, ◌++◌, ◌≡◌, refl, sym, ap, ◌∙◌, append-nil, map, length, Option, Some, None, is_some, ◌⊎◌, inl, inr, arith}
-use Rattle.std.specs.List.{list_all, list_any}
+use Rattle.std.proofs.Common.{ℕ, zero, suc, ◌<◌, ◌≤◌, ◌==◌, Bool, true, false, cond, List, [], ◌∷◌, ◌++◌, ◌≡◌, refl, sym, ap, ◌∙◌, append-nil, map, length, Some, None, is_some, ◌⊎◌, inl, inr, arith}
 use Rattle.std.proofs.lemmas.Bool.{cond-true, cond-false, cases_eq, or_parts, ne_eqb, eq-eqb}
 use Rattle.spl_value.specs.declared.item.Item.{Item}
 use Rattle.spl_value.specs.declared.item.Item.TheVariants as I
@@ -13,7 +12,7 @@ use Rattle.stream_model.specs.Stream.{Event, came, is_fault, closes, any_closes,
 use Rattle.stream_model.specs.Operators.{Operator}
 use Rattle.stream_model.specs.PortEvents.{is_waiting, is_last}
 use Rattle.stream_model.specs.Bodies.{output, on_each}
-use Rattle.stream_model.specs.React.{Answer, Gives, Faults, body, react, ended, ended_by, answered, fault_of}
+use Rattle.stream_model.specs.React.{Answer, Gives, Faults, body, react, ended, ended_by, answered, own_fault}
 use Rattle.stream_model.proofs.KindBodies.{given, some_closes, given_open}
 use Rattle.stream_model.specs.Stages.{Stage, gives_all, after, on_port}
 use Rattle.stream_model.proofs.StageLaws.{stage_at, one_in, one_in-parts, on_port-append, gives_all-over, after-over}
@@ -90,7 +89,7 @@ caused_closed op p x false false true (Gives outs) opens lt closing q =
     ∙ is_closed-append (on_port p outs) (on_port p (on_each (length op.outs) I.Final)) (on_port_open p outs opens)
     ∙ is_closed-each p (length op.outs) I.Final lt refl
 caused_closed op p x false false false (Gives outs) opens lt closing q = cc
-caused_closed op p x false false last (Faults kind) opens lt closing q = is_closed-each p (length op.outs) (fault_of op kind) lt refl
+caused_closed op p x false false last (Faults kind) opens lt closing q = is_closed-each p (length op.outs) (own_fault op kind) lt refl
 
 -- an event that doesn't end the operator closes no stream
 pub react_open : (op : Operator) (p : ℕ) (earlier : List Event) (e : Event) → is_some (ended op earlier e) ≡ false
@@ -109,12 +108,12 @@ end_item_law op earlier e x q = go (is_fault e.item) (is_waiting op earlier e) (
   where
     go : (fault waits last : Bool) (a : Answer) → is_fault e.item ≡ fault → body op earlier e ≡ a
         → cond fault (Some e.item) (cond waits None (ended_by op last a)) ≡ Some x
-        → (x ≡ I.Final) ⊎ (((x ≡ e.item) × (is_fault x ≡ true)) ⊎ ((kind : FaultKind) × (body op earlier e ≡ Faults kind) × (x ≡ fault_of op kind)))
+        → (x ≡ I.Final) ⊎ (((x ≡ e.item) × (is_fault x ≡ true)) ⊎ ((kind : FaultKind) × (body op earlier e ≡ Faults kind) × (x ≡ own_fault op kind)))
     go true waits last a f b q = let same : x ≡ e.item = cc in inr (inl (same, ap is_fault same ∙ f))
     go false true last a f b q = absurd (cc)
     go false false true (Gives outs) f b q = let same : x ≡ I.Final = cc in inl same
     go false false false (Gives outs) f b q = absurd (cc)
-    go false false last (Faults kind) f b q = let same : x ≡ fault_of op kind = cc in inr (inr (kind, b, same))
+    go false false last (Faults kind) f b q = let same : x ≡ own_fault op kind = cc in inr (inr (kind, b, same))
 
 -- the last item on a port, with none before it that closes
 abbrev EndsIn : List Item → Item → Type 0
@@ -133,7 +132,7 @@ caused_ends op p e x false false true (Gives outs) opens lt q =
     )
 caused_ends op p e x false false false (Gives outs) opens lt q = absurd (cc)
 caused_ends op p e x false false last (Faults kind) opens lt q =
-    let same : fault_of op kind ≡ x = cc in ([], on_port-each p (length op.outs) (fault_of op kind) lt ∙ ap (λ y. y ∷ []) same, refl)
+    let same : own_fault op kind ≡ x = cc in ([], on_port-each p (length op.outs) (own_fault op kind) lt ∙ ap (λ y. y ∷ []) same, refl)
 
 pub end_gives_law : EndGivesLaw
 end_gives_law op p earlier e lt = (

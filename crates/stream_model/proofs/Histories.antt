@@ -1,13 +1,14 @@
 -- One event more.
-use Rattle.std.proofs.Common.{ℕ, Bool, true, false, List, [], ◌∷◌, ◌++◌, ◌≡◌, refl, sym, ap, ◌∙◌, append-nil, append_assoc, reverse, is_some, cond, if◌then◌else◌}
+use Rattle.std.proofs.Common.{ℕ, Bool, true, false, List, [], ◌∷◌, ◌++◌, ◌≡◌, refl, sym, ap, ◌∙◌, append-nil, append_assoc, reverse, is_some, is_none, not, ◌&&◌, Option, None, Some, cond, if◌then◌else◌}
 use Rattle.std.proofs.lemmas.Bool.{cond-true, cond-false}
-use Rattle.std.proofs.lemmas.List.{reverse-append}
+use Rattle.std.proofs.lemmas.List.{reverse-append, reverse-reverse}
 use Rattle.stream_model.specs.Stream.{Event}
 use Rattle.stream_model.specs.Operators.{Operator}
 use Rattle.stream_model.specs.React.{react, ended}
+use Rattle.spl_value.specs.declared.item.Item.{Item}
 use Rattle.stream_model.specs.Stages.{Stage, start, gives, next, gives_all, after, on_port, out}
 use Rattle.stream_model.proofs.StageLaws.{stage_at, gives_all-append, after-append, on_port-append, after-over}
-use Rattle.stream_model.specs.Laws.{StartLaw, HistoryLaw, EndLaw}
+use Rattle.stream_model.specs.Laws.{StartLaw, HistoryLaw, EndLaw, LiveLaw, has_ended}
 
 pub start_law : StartLaw
 start_law op = (λ p. refl, refl)
@@ -67,3 +68,17 @@ end_law op events e =
     go false q =
         ap (λ (o : Operator). is_some (ended o (after (start op) events).seen e)) (after-op op [] events false)
         ∙ ap (λ (seen : List Event). is_some (ended op seen e)) (after-seen op [] events q ∙ append-nil (reverse events))
+
+pub live_law : LiveLaw
+live_law op [] = refl
+live_law op (e ∷ h) =
+    ap (λ b. b && is_none (ended op h e)) (live_law op h)
+    ∙ go (has_ended op (reverse h)) (ended op h e)
+    ∙ ap (λ seen. not (if has_ended op (reverse h) then true else is_some (ended op seen e))) (sym (reverse-reverse h))
+    ∙ ap not (sym (end_law op (reverse h) e))
+    ∙ ap (λ events. not (has_ended op events)) (sym (reverse-append (e ∷ []) h))
+  where
+    go : (b : Bool) (x : Option Item) → (not b && is_none x) ≡ not (if b then true else is_some x)
+    go true x = refl
+    go false None = refl
+    go false (Some x) = refl

@@ -36,7 +36,7 @@ use Rattle.stream_model.specs.Bodies.{Makes, most_turns, output, on_first, on_ea
 use Rattle.stream_model.specs.Customs.{handler, tuple_env, marker_env, left_by, item_leaves, state, custom_body}
 use Rattle.stream_model.specs.Aggregates.{arguments, group_tuple, tuples_of, slides, marker_after, marker_passed, contents_give, fired_give, aggregate_body}
 use Rattle.stream_model.specs.Joins.{pairs_at, pairs_give}
-use Rattle.stream_model.specs.React.{Answer, Gives, Faults, answer, makes_by, port_body, body}
+use Rattle.stream_model.specs.React.{Answer, Gives, Faults, answer, makes_by, body}
 use Rattle.stream_model.specs.Laws.{BodyLaw, BodyPorts, SinkPorts, is_custom}
 use Rattle.stream_model.proofs.Submits.{submits_open}
 

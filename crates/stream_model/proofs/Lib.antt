@@ -20,3 +20,5 @@ pub mod UsedUp
 pub mod OneAfterAnother
 pub mod ByPorts
 pub mod KindBodies
+pub mod SomePlans
+pub mod Replying

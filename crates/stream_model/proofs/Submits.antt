@@ -6,7 +6,6 @@ use Rattle.std.proofs.lemmas.Bool.{and_from}
 use Rattle.std.proofs.lemmas.List.Folds.{list_any-append}
 use Rattle.spl_value.specs.declared.item.Item.{Item}
 use Rattle.spl_value.specs.declared.item.Item.TheVariants as I
-use Rattle.spl_value.specs.declared.value.Value.{Value}
 use Rattle.spl_tree.specs.declared.body.Function.{Function}
 use Rattle.spl_tree.specs.declared.body.Statement.{Statement}
 use Rattle.spl_tree.specs.declared.body.Statement.TheVariants as T
@@ -23,7 +22,7 @@ use Rattle.language_model.specs.Outcomes.{Outcome, Done, Faulted, Stuck}
 use Rattle.language_model.specs.Statements.{State, Left}
 use Rattle.language_model.proofs.Returning.{Only}
 use Rattle.language_model.proofs.StatementInduction.{OfArm, StatementSteps, statement_ind}
-use Rattle.evaluation_laws.proofs.Keeping.{IsKept, LeftBy, all_pass, arms_pass, body_keeps, level_passes, row_passes, statement_passes}
+use Rattle.evaluation_laws.proofs.Keeping.{IsKept, LeftBy, all_pass, arms_pass, body_keeps, level_passes, statement_passes}
 use Rattle.stream_model.specs.Stream.{closes}
 
 -- ---- all statements pass where everything passes

@@ -1,5 +1,5 @@
 -- What the definitions of streams, operators and graphs come to.
-use Rattle.std.specs.Prelude.{ℕ, ◌+◌, ◌<◌, ◌≤◌, ◌==◌, nat_lt, ◌&&◌, Bool, true, false, List, [], ◌∷◌, ◌++◌, ◌≡◌, ◌⊎◌, map, length, reverse, slice_get, Option, Some, None, position, is_some, if◌then◌else◌}
+use Rattle.std.specs.Prelude.{ℕ, ◌+◌, ◌<◌, ◌≤◌, ◌==◌, nat_lt, ◌&&◌, not, Bool, true, false, List, [], ◌∷◌, ◌++◌, ◌≡◌, ◌⊎◌, map, length, reverse, slice_get, Option, Some, None, position, is_some, if◌then◌else◌}
 use Rattle.std.specs.List.{concat, count_by, filter_map, flat_map, list_all, list_any, All}
 use Rattle.spl_value.specs.declared.item.Item.{Item}
 use Rattle.spl_value.specs.declared.item.Item.TheVariants as I
@@ -12,6 +12,7 @@ use Rattle.language_model.specs.declared.outs.Output.{Output}
 use Rattle.stream_model.specs.Stream.{Event, came, is_final, is_fault, closes, any_closes, is_closed, IsPrefix}
 use Rattle.stream_model.specs.Operators.{Operator, ports, connections}
 use Rattle.stream_model.specs.React.{react, body, ended, Gives, Faults}
+use Rattle.stream_model.specs.Replies.{is_live}
 use Rattle.stream_model.specs.Stages.{start, after, out, on_port, chain}
 use Rattle.spl_value.specs.Script.{Ending, End, Failed}
 use Rattle.stream_model.specs.Rows.{Setting, Given, Row, Nothing, Bad, pieces, line_gives, rows}
@@ -34,6 +35,10 @@ HistoryLaw = (op : Operator) (p : ℕ) (events : List Event) (e : Event) →
 abbrev pub EndLaw : Type 0
 EndLaw = (op : Operator) (events : List Event) (e : Event) →
     has_ended op (events ++ e ∷ []) ≡ (if has_ended op events then true else is_some (ended op (reverse events) e))
+
+-- an operator hasn't ended after a history exactly where it hasn't after its events in their order
+abbrev pub LiveLaw : Type 0
+LiveLaw = (op : Operator) (h : List Event) → is_live op h ≡ not (has_ended op (reverse h))
 
 -- an operator ends with a final marker, with a fault that came, or with its body's own fault
 abbrev pub EndItemLaw : Type 0

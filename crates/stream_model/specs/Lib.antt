@@ -7,10 +7,15 @@ pub mod Aggregates
 pub mod Joins
 pub mod React
 pub mod Stages
+pub mod Replies
 pub mod Meaning
 pub mod Ends
 pub mod Fields
 pub mod Rows
+pub mod StateKinds
+pub mod Copies
+pub mod Selectivity
+pub mod Regions
 pub mod Laws
 pub mod PathLaws
 pub mod PortLaws

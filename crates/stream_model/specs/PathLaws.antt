@@ -9,7 +9,6 @@ use Rattle.spl_value.specs.declared.item.FaultKind.TheVariants as K
 use Rattle.spl_value.specs.declared.value.Value.{Value}
 use Rattle.spl_tree.specs.declared.body.Function.{Function}
 use Rattle.language_model.specs.declared.checked.Part.TheVariants as A
-use Rattle.language_model.specs.declared.checked.PortTypes.{PortTypes}
 use Rattle.language_model.specs.StreamTypes.{Attributes}
 use Rattle.spl_tree.specs.declared.code.Code.{Code}
 use Rattle.spl_tree.specs.declared.code.Slot.{Slot}
@@ -51,17 +50,32 @@ written (I.Bad f ∷ items) = []
 -- a source of stream 0, a filter that reads it and makes stream 1, and a sink that reads that, where all streams have these attributes
 abbrev pub path_source : Attributes → List ℕ → Bool → Operator
 path_source schema file strict = record {
-  number = 0; clauses = A.FileSource file strict; functions = []; types = record { ins = []; outs = schema ∷ [] }; ins = []; outs = 0 ∷ [];
+  number = 0;
+  clauses = A.FileSource file strict;
+  functions = [];
+  types = record { ins = []; outs = schema ∷ [] };
+  ins = [];
+  outs = 0 ∷ [];
 }
 
 abbrev pub path_filter : Attributes → Option (Code Slot) → Operator
 path_filter schema condition = record {
-  number = 1; clauses = A.Filter condition; functions = []; types = record { ins = schema ∷ []; outs = schema ∷ [] }; ins = (0 ∷ []) ∷ []; outs = 1 ∷ [];
+  number = 1;
+  clauses = A.Filter condition;
+  functions = [];
+  types = record { ins = schema ∷ []; outs = schema ∷ [] };
+  ins = (0 ∷ []) ∷ [];
+  outs = 1 ∷ [];
 }
 
 abbrev pub path_sink : Attributes → List ℕ → Operator
 path_sink schema file = record {
-  number = 2; clauses = A.FileSink file; functions = []; types = record { ins = schema ∷ []; outs = [] }; ins = (1 ∷ []) ∷ []; outs = [];
+  number = 2;
+  clauses = A.FileSink file;
+  functions = [];
+  types = record { ins = schema ∷ []; outs = [] };
+  ins = (1 ∷ []) ∷ [];
+  outs = [];
 }
 
 -- whose source has a file, and whose sink another

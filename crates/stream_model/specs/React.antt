@@ -1,5 +1,5 @@
 -- What one event of an operator causes, by the history of the events before it. A history has its newest event first.
-use Rattle.std.specs.Prelude.{ℕ, ◌==◌, Bool, List, [], ◌∷◌, ◌++◌, length, if◌then◌else◌, Option, Some, None}
+use Rattle.std.specs.Prelude.{ℕ, Bool, List, [], ◌++◌, length, if◌then◌else◌, Option, Some, None}
 use Rattle.spl_value.specs.declared.item.FaultKind.{FaultKind}
 use Rattle.spl_value.specs.declared.item.FaultKind.TheVariants as K
 use Rattle.spl_value.specs.declared.item.Item.{Item}
@@ -7,8 +7,8 @@ use Rattle.spl_value.specs.declared.item.Item.TheVariants as I
 use Rattle.language_model.specs.declared.checked.Part.{Part}
 use Rattle.language_model.specs.declared.checked.Part.TheVariants as A
 use Rattle.language_model.specs.declared.outs.Output.{Output}
-use Rattle.language_model.specs.Outcomes.{Outcome, Done, Faulted, Stuck}
-use Rattle.stream_model.specs.Stream.{Event, is_final, is_fault}
+use Rattle.language_model.specs.Outcomes.{Done, Faulted, Stuck}
+use Rattle.stream_model.specs.Stream.{Event, is_fault}
 use Rattle.stream_model.specs.Operators.{Operator, ports, port_at}
 use Rattle.stream_model.specs.PortEvents.{is_waiting, is_last, items_of, port_events}
 use Rattle.stream_model.specs.Bodies.{Makes, most_turns, on_each, filter_body, functor_body, punctor_body, split_body, union_body, sink_body}
@@ -56,12 +56,12 @@ body op earlier event = port_body op (port_events op earlier) (port_at (ports op
 -- ---- events
 
 -- a fault of the operator itself
-abbrev pub fault_of : Operator → FaultKind → Item
-fault_of op kind = I.Bad (record { op = op.number; kind = kind; line = 0 })
+abbrev pub own_fault : Operator → FaultKind → Item
+own_fault op kind = I.Bad (record { op = op.number; kind = kind; line = 0 })
 
 -- the body's fault on every output port and nothing else, or its items and at the end Final on every output port
 abbrev pub answered : Operator → Bool → Answer → List Output
-answered op last (Faults kind) = on_each (length op.outs) (fault_of op kind)
+answered op last (Faults kind) = on_each (length op.outs) (own_fault op kind)
 answered op last (Gives outs) = if last then outs ++ on_each (length op.outs) I.Final else outs
 
 -- What an event causes behind the events before it, while the operator hasn't ended. A fault that arrives goes to
@@ -74,7 +74,7 @@ react op earlier event =
 
 -- the fault or the final marker with which the body's answer ends the operator
 abbrev pub ended_by : Operator → Bool → Answer → Option Item
-ended_by op last (Faults kind) = Some (fault_of op kind)
+ended_by op last (Faults kind) = Some (own_fault op kind)
 ended_by op last (Gives outs) = if last then Some I.Final else None
 
 -- the fault or the final marker with which the operator ends at the event, where it does

@@ -4,3 +4,4 @@ pub mod TwoSinks
 pub mod WindowExamples
 pub mod RecordExamples
 pub mod Reacting
+pub mod SomeRegions

@@ -7,7 +7,7 @@ ghost use Rattle.spl_value.specs.declared.item.FaultKind.TheVariants as K;
 ghost use Rattle.spl_value.specs.declared.types.IntKind.TheVariants as N;
 ghost use Rattle.spl_value.specs.declared.types.SplType.TheVariants as T;
 ghost use Rattle.spl_value.specs.declared.value.Value.TheVariants as V;
-ghost use Rattle.stream_model.specs.Laws.{StartLaw, HistoryLaw, EndLaw, EndItemLaw, EndGivesLaw, WaitLaw, PortsLaw, OutGrows, ChainGrows, OutCloses, ClosedEnds, ClosedGivesClosed, BodyLaw, BodyPorts, SinkPorts, GraphLaw, EventsLaw, TopoEventsLaw, IsOrdered, IsNumbered, IsWithin, RowsClose, PiecesLaw, RowsLaw, FailedRowsLaw};
+ghost use Rattle.stream_model.specs.Laws.{StartLaw, HistoryLaw, EndLaw, LiveLaw, EndItemLaw, EndGivesLaw, WaitLaw, PortsLaw, OutGrows, ChainGrows, OutCloses, ClosedEnds, ClosedGivesClosed, BodyLaw, BodyPorts, SinkPorts, GraphLaw, EventsLaw, TopoEventsLaw, IsOrdered, IsNumbered, IsWithin, RowsClose, PiecesLaw, RowsLaw, FailedRowsLaw};
 ghost use Rattle.spl_tree.specs.declared.code.Code.{Code};
 ghost use Rattle.spl_tree.specs.declared.code.Slot.{Slot};
 ghost use Rattle.stream_model.specs.PathLaws.{path_graph, FilterLaw, SinkLaw, SinkFaultLaw};
@@ -27,13 +27,14 @@ pub fn history_law()
     ensures start { StartLaw }
     ensures history { HistoryLaw }
     ensures ends { EndLaw }
+    ensures live { LiveLaw }
     ensures by { EndItemLaw }
     ensures last { EndGivesLaw }
     ensures waits { WaitLaw }
     ensures inputs { PortsLaw }
 {}
 
-/// A longer list of events gives a longer stream. A closed stream ends the operator that reads it
+/// A longer list of events gives a longer stream: what an operator has given, no later event takes back. A closed stream ends the operator that reads it
 /// alone, and gives a closed one.
 pub fn order_law()
     ensures out { OutGrows }
@@ -149,6 +150,11 @@ pub fn graphs_of_operators()
       topo = 0 ∷ 1 ∷ [];
     }) }
     ensures split { slice_get (graph_of (after_source O.Split (1 ∷ 2 ∷ []) (A.Split (C.Literal (V.Int (pos 1)))))).ops 1 ≡ Some (record {
-      number = 1; clauses = A.Split (C.Literal (V.Int (pos 1))); functions = []; types = record { ins = texts ∷ []; outs = ids ∷ texts ∷ [] }; ins = (0 ∷ []) ∷ []; outs = 1 ∷ 2 ∷ [];
+      number = 1;
+      clauses = A.Split (C.Literal (V.Int (pos 1)));
+      functions = [];
+      types = record { ins = texts ∷ []; outs = ids ∷ texts ∷ [] };
+      ins = (0 ∷ []) ∷ [];
+      outs = 1 ∷ 2 ∷ [];
     }) }
 {}

@@ -1,16 +1,14 @@
 -- An operator of each kind, and streams, for worked cases of what operators give.
-use Rattle.std.specs.Prelude.{ℕ, ℤ, pos, true, false, List, [], ◌∷◌, ◌++◌, map, Option, Some, None, codes}
+use Rattle.std.specs.Prelude.{ℕ, ℤ, pos, true, false, List, [], ◌∷◌, map, Option, Some, None, codes}
 use Rattle.spl_value.specs.declared.item.Item.{Item}
 use Rattle.spl_value.specs.declared.item.Item.TheVariants as I
 use Rattle.spl_value.specs.declared.item.FaultKind.{FaultKind}
 use Rattle.spl_value.specs.declared.types.IntKind.TheVariants as N
 use Rattle.spl_value.specs.declared.types.SplType.TheVariants as T
-use Rattle.spl_value.specs.declared.value.Value.{Value}
 use Rattle.spl_value.specs.declared.value.Value.TheVariants as V
 use Rattle.spl_tree.specs.declared.body.Change.TheVariants as H
 use Rattle.spl_tree.specs.declared.body.Statement.{Statement}
 use Rattle.spl_tree.specs.declared.body.Statement.TheVariants as S
-use Rattle.spl_tree.specs.declared.code.BinaryCode.{BinaryCode}
 use Rattle.spl_tree.specs.declared.code.BinaryCode.TheVariants as D
 use Rattle.spl_tree.specs.declared.code.Code.{Code}
 use Rattle.spl_tree.specs.declared.code.Code.TheVariants as C
@@ -171,7 +169,7 @@ grouped = operator_of 1
     (gets 0 K.First (of_first 0) ∷ record { attribute = 1; collector = K.Count; argument = None } ∷ gets 2 K.Min (of_first 1) ∷ gets 3 K.Max (of_first 1) ∷ gets 4 K.Last (of_first 1) ∷ []))
     ((0 ∷ []) ∷ []) (1 ∷ [])
 
--- of three numbers: `s = Sum((int8) .., 100 / a)`, which wraps in int8 and faults at 0
+-- of three numbers: `s = Sum(100 / a)` over int8, which wraps in int8 and faults at 0
 abbrev pub dividing_sums : Operator
 dividing_sums = operator_of 1
     (A.Aggregate (record { partitioned = false; rule = W.TumblingCount 3 }) [] []
@@ -190,3 +188,16 @@ join = operator_of 1
 -- what it gives for the lists of its two inputs under a record
 abbrev pub joined : List Item → List Item → List ℕ → List Item
 joined left right entries = out join 0 (arrive (lists_of left right) entries)
+
+-- ---- what an operator may be asked
+
+-- a Functor from streams of a number `a` to such streams: `a = a + 1l`
+abbrev pub adding_one : Operator
+adding_one = record {
+  number = 1;
+  clauses = A.Functor None (C.Tuple ((0, C.Binary (D.Integers O.Add N.I64) (of_first 0) (literal (pos 1))) ∷ []));
+  functions = [];
+  types = record { ins = (record { name = codes "a"; kind = T.Int N.I64 } ∷ []) ∷ []; outs = (record { name = codes "a"; kind = T.Int N.I64 } ∷ []) ∷ [] };
+  ins = (0 ∷ []) ∷ [];
+  outs = 1 ∷ [];
+}
