@@ -4,6 +4,7 @@ ghost use Rattle.std.specs.List.{insert};
 
 use std::alloc::{AllocError, Global};
 use std::cmp::Ordering;
+use std::hash::{Hash, Hasher};
 use std::marker::Model;
 
 /// A `Vec` that contracts see as the list of its elements, so that a copy equals what it copies.
@@ -207,5 +208,18 @@ impl<T: Ord> Ord for Items<T> {
 
     fn cmp(&self, other: &Items<T>) -> Ordering {
         self.as_slice().cmp(&other.as_slice())
+    }
+}
+
+impl<T: Hash> Hash for Items<T> {
+    ghost use Rattle.std.specs.Hash as fed;
+    ghost use Rattle.std.specs.Hash.{items_Alike};
+
+    ghost hash_input = { fed.slice T.hash_input };
+
+    ghost respects_eq = { (items_Alike (record { fed = T.respects_eq })).fed };
+
+    fn hash<H: Hasher>(&self, state: &mut H) {
+        self.as_slice().hash(state);
     }
 }
