@@ -19,7 +19,7 @@ pub enum WindowRule {
         keep: u64,
         every: Option<u64>,
     },
-    /// The tuples whose attribute is no more than the limit below the last one's. It fires after every
+    /// The tuples that no later one exceeds in the attribute by more than the limit. It fires after every
     /// so many.
     SlidingDelta {
         attr: u32,
