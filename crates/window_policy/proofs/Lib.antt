@@ -1,0 +1,5 @@
+pub mod KeyOrder
+pub mod Deltas
+pub mod Parts
+pub mod Windows
+pub mod Marks

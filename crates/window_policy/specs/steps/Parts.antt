@@ -1,0 +1,58 @@
+-- What is kept of each key.
+use Rattle.std.specs.Prelude.{ℕ, Bool, true, cond, ◌<◌, ◌%◌, List, [], ◌≡◌, length, Option, Some, None}
+use Rattle.std.specs.Cmp.Lexicographic.{pointwise}
+use Rattle.indexmap.specs.IndexSet.{IndexSet, contains}
+use Rattle.spl_value.specs.declared.value.Value.{Value}
+use Rattle.spl_value.specs.contracts.value.ValuePartialEq.TheImpl as DerivedEq
+use Rattle.language_model.specs.declared.checked.WindowRule.{WindowRule}
+use Rattle.language_model.specs.declared.checked.WindowRule.TheVariants as W
+use Rattle.stream_model.specs.Windows.{held}
+use Rattle.window_policy.specs.declared.part.Part.{Part}
+use Rattle.window_policy.specs.steps.Deltas.{Rises}
+
+-- keys as the map compares them
+abbrev pub equal_key : List Value → List Value → Bool
+equal_key = pointwise (DerivedEq.ghosts).eq
+
+-- how many of n tuples came since a trigger fired
+abbrev pub CountsTo : Option ℕ → ℕ → ℕ → Type 0
+CountsTo None since n = Unit {0}
+CountsTo (Some every) since n = (0 < every) × (since ≡ n % every)
+
+abbrev pub Counts : WindowRule → ℕ → ℕ → Type 0
+Counts (W.TumblingCount count) since n = 0 < count
+Counts (W.TumblingDelta a limit) since n = Unit {0}
+Counts W.TumblingPunct since n = Unit {0}
+Counts (W.SlidingCount keep every) since n = CountsTo every since n
+Counts (W.SlidingDelta a limit every) since n = CountsTo every since n
+
+-- the attribute of a sliding delta rises, where that is known
+abbrev pub RisesWhere : WindowRule → Bool → List (List Value) → Type 0
+RisesWhere (W.SlidingDelta a limit every) known ts = known ≡ true → Rises a ts
+RisesWhere (W.TumblingCount n) known ts = Unit {0}
+RisesWhere (W.TumblingDelta a limit) known ts = Unit {0}
+RisesWhere W.TumblingPunct known ts = Unit {0}
+RisesWhere (W.SlidingCount keep every) known ts = Unit {0}
+
+-- a part holds what the window of its key does, by the tuples of the key, the newest first
+pub record Keeps (rule : WindowRule) (part : Part) (ts : List (List Value)) : Type 0 where
+  pub items : part.kept.items ≡ held rule ts
+  pub count : Counts rule part.since (length ts)
+  pub rises : RisesWhere rule part.rises part.kept.items
+
+-- nothing is kept for a key without tuples
+abbrev pub At : WindowRule → Option Part → List (List Value) → Type 0
+At rule None ts = ts ≡ []
+At rule (Some part) ts = Keeps rule part ts × (0 < length ts)
+
+-- whether a key came: it is noted where markers flush, and elsewhere something is kept for it
+abbrev pub noted_or : Bool → Bool → Bool → Bool
+noted_or flushes noted kept = cond flushes noted kept
+
+-- a key is noted where markers flush
+abbrev pub Notes : {S : Type 0} → Bool → IndexSet (List Value) S → IndexSet (List Value) S → List Value → Type 0
+Notes flushes old new key = (k : List Value) → contains equal_key new k ≡ cond flushes (cond (equal_key key k) true (contains equal_key old k)) (contains equal_key old k)
+
+-- a key with the tuples that are kept for it
+abbrev pub taken : List Value × Part → List Value × List (List Value)
+taken e = (e.0, e.1.kept.items)

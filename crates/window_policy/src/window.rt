@@ -1,0 +1,16 @@
+use crate::part::Part;
+use indexmap::{IndexMap, IndexSet};
+use language_model::Policy;
+use spl_value::Values;
+use std::alloc::Global;
+
+/// The windows of an input port, one for each key. What is held for a key is found by its hash.
+#[derive(Drop)]
+pub struct Window {
+    pub(crate) alloc: Global,
+    pub(crate) policy: Policy,
+    /// What is held for each key. Where window markers flush, a key leaves with its content.
+    pub(crate) parts: IndexMap<Values, Part>,
+    /// Where window markers flush, each key that came.
+    pub(crate) known: IndexSet<Values>,
+}
