@@ -1,0 +1,11 @@
+//! Windows: what they hold and when they fire, by the rules of the language.
+#![tactic(auto)]
+
+#[cfg(test)]
+mod events;
+#[cfg(test)]
+mod many;
+#[cfg(test)]
+mod rows;
+#[cfg(test)]
+mod rules;
