@@ -1,9 +1,10 @@
 -- How the bytes of a key tell its values: the proofs of the laws on keys.
-use Rattle.std.specs.Prelude.{◌≡◌, ℕ, ◌-◌, ◌^◌, ◌<◌, ◌≤◌, ◌&&◌, ◌++◌, ℤ, pos, negsuc, Bool, true, false, List, [], ◌∷◌, length, map, unsigned_abs, slice_get, Option, Some, None, if◌then◌else◌}
+use Rattle.std.specs.Prelude.{◌≡◌, ℕ, zero, suc, ◌+◌, ◌-◌, ◌^◌, ◌<◌, ◌≤◌, ◌==◌, ◌&&◌, ◌||◌, ◌++◌, ℤ, pos, negsuc, Bool, true, false, List, [], ◌∷◌, length, map, filter, unsigned_abs, slice_get, Option, Some, None, if◌then◌else◌}
 use Rattle.std.specs.Int.{from_le_bytes, w64, int_rem_euclid}
-use Rattle.std.specs.List.{cons_option}
+use Rattle.std.specs.List.{cons_option, enumerate_from}
 use Rattle.std.specs.Cmp.Lexicographic.{pointwise}
-use Rattle.std.proofs.Common.{refl, sym, ap, ◌∙◌, arith, append_assoc}
+use Rattle.std.proofs.Common.{refl, sym, ap, ◌∙◌, arith, append_assoc, cond, subst}
+use Rattle.std.proofs.lemmas.Bool.{eqb-true}
 use Rattle.std.proofs.lemmas.Nat.{from_le_bytes-to_le_bytes_8}
 use Rattle.spl_value.specs.declared.types.IntKind.{IntKind}
 use Rattle.spl_value.specs.declared.types.IntKind.TheVariants.{I8, I16, I32, I64, U8, U16, U32, U64}
@@ -18,8 +19,8 @@ use Rattle.spl_value.specs.declared.value.Value.TheViews.{out-Value, roll-Value,
 use Rattle.spl_value.specs.Values.{modulus, top, kind_holds, level_fits, fits}
 use Rattle.spl_value.proofs.FitsLaws.{fits_is}
 use Rattle.spl_value.proofs.WrapLaws.{sizes}
-use Rattle.spl_value.specs.Key.{level_is_key, is_key_option, are_key_places, key_of, enc_integer, level_enc, enc_value, enc_values, level_is_key_type, is_key_type, level_is_short, is_short, key_fits}
-use Rattle.spl_value.specs.KeyLaws.{KeyPlacesLaw, KeyTypesLaw, OneKeyLaw, SameBytesLaw}
+use Rattle.spl_value.specs.Key.{level_is_key, is_key_option, are_key_places, key_of, has_place, enc_integer, level_enc, enc_value, enc_values, level_is_key_type, is_key_type, level_is_short, is_short, key_fits}
+use Rattle.spl_value.specs.KeyLaws.{KeyPlacesLaw, KeyTypesLaw, OneKeyLaw, SameBytesLaw, SamePlacesLaw}
 use Rattle.spl_value.proofs.Bools.{and_left as first, and_right as second, true_lt}
 
 -- ---- words
@@ -52,8 +53,75 @@ level_key_types _ _ h g = absurd cc
 pub key_types : KeyTypesLaw
 key_types t v h g = level_key_types (out-SplType t) (out-Value v) h (sym (fits_is t v) ∙ g)
 
+pub same_places : SamePlacesLaw
+same_places tuple key places e =
+    let same : has_place key ≡ has_place places = λ i p. e p i in
+    ap (λ (has : ℕ → Bool). enc_values (map (λ (at : ℕ × Value). at.1) (filter (λ (at : ℕ × Value). has at.0) (enumerate_from 0 tuple)))) same
+
+-- the values from a place on whose places the key has
+abbrev chosen_from : List ℕ → ℕ → List Value → List Value
+chosen_from key n vs = map (λ at. at.1) (filter (λ at. has_place key at.0) (enumerate_from n vs))
+
+-- from a place on, what stands at the key's places
+abbrev SameFrom : List ℕ → ℕ → List Value → List Value → Type 0
+SameFrom key n vs ws = (p : ℕ) → has_place key (n + p) ≡ true → slice_get vs p ≡ slice_get ws p
+
+taken : (b : Bool) (n : ℕ) (v : Value) (rest : List (ℕ × Value)) → map (λ (at : ℕ × Value). at.1) (cond b ((n, v) ∷ rest) rest) ≡ cond b (v ∷ map (λ (at : ℕ × Value). at.1) rest) (map (λ (at : ℕ × Value). at.1) rest)
+taken true n v rest = refl
+taken false n v rest = refl
+
+later : (key : List ℕ) (n : ℕ) (v w : Value) (vs ws : List Value) → SameFrom key n (v ∷ vs) (w ∷ ws) → SameFrom key (n + 1) vs ws
+later key n v w vs ws same p h = same (suc p) (ap (has_place key) (omega arith) ∙ h)
+
+same_head : (v w : Value) → Some v ≡ Some w → v ≡ w
+same_head v w e = cc
+
+one_chosen : (b : Bool) (v w : Value) (vs ws : List Value) → (b ≡ true → v ≡ w) → vs ≡ ws → cond b (v ∷ vs) vs ≡ cond b (w ∷ ws) ws
+one_chosen true v w vs ws same e = λ i. same refl i ∷ e i
+one_chosen false v w vs ws same e = e
+
+none : (b : Bool) (w : Value) (ws : List Value) → (b ≡ true → None ≡ Some w) → cond b (w ∷ ws) ws ≡ ws
+none true w ws e = let bad : None ≡ Some w = e refl in absurd cc
+none false w ws e = refl
+
+nothing : (w : Value) (ws : List Value) (p : ℕ) → slice_get [] (suc p) ≡ slice_get (w ∷ ws) (suc p) → slice_get [] p ≡ slice_get ws p
+nothing w ws zero e = e
+nothing w ws (suc p) e = e
+
+-- nothing that stands there is at the key's places
+none_chosen : (key : List ℕ) (n : ℕ) (ws : List Value) → SameFrom key n [] ws → chosen_from key n ws ≡ []
+none_chosen key n [] same = refl
+none_chosen key n (w ∷ ws) same =
+    taken (has_place key n) n w (filter (λ at. has_place key at.0) (enumerate_from (n + 1) ws))
+    ∙ none (has_place key n) w (chosen_from key (n + 1) ws) (λ h. same 0 (ap (has_place key) (omega arith) ∙ h))
+    ∙ none_chosen key (n + 1) ws (λ p h. nothing w ws p (same (suc p) (ap (has_place key) (omega arith) ∙ h)))
+
+same_chosen : (key : List ℕ) (n : ℕ) (vs ws : List Value) → SameFrom key n vs ws → chosen_from key n vs ≡ chosen_from key n ws
+same_chosen key n [] ws same = sym (none_chosen key n ws same)
+same_chosen key n (v ∷ vs) [] same = none_chosen key n (v ∷ vs) (λ p h. sym (same p h))
+same_chosen key n (v ∷ vs) (w ∷ ws) same =
+    taken (has_place key n) n v (filter (λ at. has_place key at.0) (enumerate_from (n + 1) vs))
+    ∙ one_chosen (has_place key n) v w (chosen_from key (n + 1) vs) (chosen_from key (n + 1) ws)
+    (λ h. same_head v w (same 0 (ap (has_place key) (omega arith) ∙ h)))
+    (same_chosen key (n + 1) vs ws (later key n v w vs ws same))
+    ∙ sym (taken (has_place key n) n w (filter (λ at. has_place key at.0) (enumerate_from (n + 1) ws)))
+
+-- lists that read alike read alike at each of the places
+read_alike : (tuple other : List Value) (key : List ℕ) → map (slice_get tuple) key ≡ map (slice_get other) key → (p : ℕ) → has_place key p ≡ true → slice_get tuple p ≡ slice_get other p
+read_alike tuple other [] e p h = absurd cc
+read_alike tuple other (q ∷ key) e p h =
+    let here : slice_get tuple q ≡ slice_get other q = cc in
+    let rest : map (slice_get tuple) key ≡ map (slice_get other) key = cc in
+    go (q == p) refl h here (read_alike tuple other key rest p) where
+      go : (b : Bool) → (q == p) ≡ b → (b || has_place key p) ≡ true → slice_get tuple q ≡ slice_get other q
+          → (has_place key p ≡ true → slice_get tuple p ≡ slice_get other p) → slice_get tuple p ≡ slice_get other p
+      go true is h here rest = subst (λ z. slice_get tuple z ≡ slice_get other z) (eqb-true q p is) here
+      go false is h here rest = rest h
+
 pub same_bytes : SameBytesLaw
-same_bytes tuple other key places e = ap enc_values e
+same_bytes tuple other key h g e =
+    let alike : map (slice_get tuple) key ≡ map (slice_get other) key = sym (key_places tuple key h) ∙ ap (map Some) e ∙ key_places other key g in
+    ap enc_values (same_chosen key 0 tuple other (λ p has. read_alike tuple other key alike p (ap (has_place key) (omega arith) ∙ has)))
 
 -- ---- bytes that are one behind another
 

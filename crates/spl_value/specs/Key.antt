@@ -1,7 +1,8 @@
--- The key of a tuple, its bytes, and their hash.
-use Rattle.std.specs.Prelude.{ℕ, ◌*◌, ◌%◌, ◌^◌, ◌&&◌, ◌++◌, ℤ, pos, Bool, true, false, List, [], ◌∷◌, length, fold, bit_xor, nat_lt, unsigned_abs, slice_get, Option, Some, None, if◌then◌else◌}
+-- The key of a tuple, its bytes, and their hash. For the hash a key is a set of attributes: its bytes are
+-- in the order of the schema, whatever the order of its places, and a place that is given twice counts once.
+use Rattle.std.specs.Prelude.{ℕ, ◌*◌, ◌%◌, ◌^◌, ◌&&◌, ◌++◌, ◌==◌, ℤ, pos, Bool, true, false, List, [], ◌∷◌, length, map, filter, fold, bit_xor, nat_lt, unsigned_abs, slice_get, Option, Some, None, if◌then◌else◌}
 use Rattle.std.specs.Int.{to_le_bytes, w64, int_rem_euclid}
-use Rattle.std.specs.List.{flat_map, filter_map, list_all}
+use Rattle.std.specs.List.{enumerate_from, flat_map, filter_map, list_all, list_any}
 use Rattle.spl_value.specs.declared.types.SplType.{SplType}
 use Rattle.spl_value.specs.declared.types.SplType.TheOpen as T
 use Rattle.spl_value.specs.declared.types.SplType.TheOpen.{SplType-F}
@@ -42,9 +43,16 @@ is_key_option (Some v) = is_key_value v
 abbrev pub are_key_places : List Value → List ℕ → Bool
 are_key_places tuple key = list_all (λ p. is_key_option (slice_get tuple p)) key
 
--- the values at the key's places, in their order
+-- the values at the key's places, in the order of the places: as windows and groups are sorted by it
 abbrev pub key_of : List Value → List ℕ → List Value
 key_of tuple key = filter_map (slice_get tuple) key
+
+abbrev pub has_place : List ℕ → ℕ → Bool
+has_place key p = list_any (λ q. q == p) key
+
+-- the values whose places the key has, each once, in the order of the schema
+abbrev pub values_of_key : List Value → List ℕ → List Value
+values_of_key tuple key = map (λ at. at.1) (filter (λ at. has_place key at.0) (enumerate_from 0 tuple))
 
 -- Its bytes
 
@@ -68,7 +76,7 @@ enc_values values = flat_map enc_value values
 
 -- the bytes of the key
 abbrev pub enc : List Value → List ℕ → List ℕ
-enc tuple key = enc_values (key_of tuple key)
+enc tuple key = enc_values (values_of_key tuple key)
 
 -- The types of a key's values
 

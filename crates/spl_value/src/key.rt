@@ -4,8 +4,8 @@ ghost use Rattle.std.specs.Cmp.Lexicographic.{pointwise};
 ghost use Rattle.spl_value.specs.declared.types.IntKind.TheVariants as N;
 ghost use Rattle.spl_value.specs.declared.types.SplType.TheVariants as S;
 ghost use Rattle.spl_value.specs.declared.value.Value.TheVariants as V;
-ghost use Rattle.spl_value.specs.KeyLaws.{KeyPlacesLaw, KeyTypesLaw, SameBytesLaw, OneKeyLaw};
-ghost use Rattle.spl_value.specs.Key.{fnv, fnv_step, is_key_value, are_key_places, enc_integer, enc_value, enc, key_fits};
+ghost use Rattle.spl_value.specs.KeyLaws.{KeyPlacesLaw, KeyTypesLaw, SameBytesLaw, SamePlacesLaw, OneKeyLaw};
+ghost use Rattle.spl_value.specs.Key.{fnv, fnv_step, is_key_value, are_key_places, has_place as has_place_lem, enc_integer, enc_value, enc, key_fits};
 
 use crate::{Places, Value, Values};
 
@@ -54,10 +54,18 @@ fn hash_value(state: u64, v: &Value) -> u64
     }
 }
 
-/// The hash `fnv` of a tuple's key: of the bytes of the values at these places, in the order of
-/// the places. An integer is 8 bytes, its number modulo 2^64, the lowest byte first. A boolean is
-/// one byte, 0 or 1. A text is its length as such 8 bytes, and then its bytes. No memory is taken,
-/// since each value is hashed on from the ones before it.
+// Whether the key has the place.
+fn has_place(key: &[u32], place: usize) -> bool
+    ensures { result ≡ has_place_lem key.now place }
+{
+    key.iter().any(|p| *p as usize == place)
+}
+
+/// The hash `fnv` of a tuple's key: of the bytes of the values whose places the key has, in the order
+/// of the tuple, whatever the order of the key's places. A place that is given twice counts once. An
+/// integer is 8 bytes, its number modulo 2^64, the lowest byte first. A boolean is one byte, 0 or 1. A
+/// text is its length as such 8 bytes, and then its bytes. No memory is taken, since each value is
+/// hashed on from the ones before it.
 pub fn hash_key(tuple: &Values, key: &Places) -> u64
     requires { IsTrue (are_key_places tuple.now key.now) }
     ensures { result ≡ fnv (enc tuple.now key.now) }
@@ -65,20 +73,23 @@ pub fn hash_key(tuple: &Values, key: &Places) -> u64
     let values = tuple.as_slice();
     let places = key.as_slice();
     let mut state = OFFSET_BASIS;
-    for place in places {
-        state = hash_value(state, &values[*place as usize]);
+    for (place, value) in values.iter().enumerate() {
+        if has_place(places, place) {
+            state = hash_value(state, value);
+        }
     }
     state
 }
 
 /// A key has the value at each of its places, and a value of an integer type, `boolean` or
-/// `rstring` may stand there. Keys with the same values have the same bytes. Keys with other values
-/// of the same types have other bytes. Keys of other types may not: -1 of a signed type and
+/// `rstring` may stand there. Tuples with the same values at the key's places have the same bytes, and
+/// so have keys with the same places. Keys with other values of the same types have other bytes. Keys of other types may not: -1 of a signed type and
 /// 2^64 - 1 of `uint64` are the same 8 bytes.
 pub fn key_law()
     ensures places { KeyPlacesLaw }
     ensures types { KeyTypesLaw }
     ensures same { SameBytesLaw }
+    ensures places_as_a_set { SamePlacesLaw }
     ensures one { OneKeyLaw }
 {}
 
@@ -93,7 +104,9 @@ pub fn key_on_literals()
     ensures yes { enc_value (V.Bool true) ≡ 1 ∷ [] }
     ensures no_bytes { enc_value (V.Text []) ≡ replicate 8 0 }
     ensures two_places { enc (V.Text (codes "ab") ∷ V.Bool false ∷ V.Int (pos 7) ∷ []) (2 ∷ 0 ∷ [])
-        ≡ 7 ∷ replicate 7 0 ++ 2 ∷ replicate 7 0 ++ codes "ab" }
+        ≡ 2 ∷ replicate 7 0 ++ codes "ab" ++ 7 ∷ replicate 7 0 }
+    ensures twice_counts_once { enc (V.Text (codes "ab") ∷ V.Bool false ∷ V.Int (pos 7) ∷ []) (0 ∷ 2 ∷ 0 ∷ 2 ∷ [])
+        ≡ 2 ∷ replicate 7 0 ++ codes "ab" ++ 7 ∷ replicate 7 0 }
     ensures fitting { IsTrue (pointwise key_fits (S.Text ∷ S.Bool ∷ S.Int N.I8 ∷ [])
         (V.Text (codes "ab") ∷ V.Bool false ∷ V.Int (negsuc 127) ∷ [])) }
 {}

@@ -104,18 +104,15 @@ fn is_key_hashed_as(
 }
 
 #[test]
-fn a_key_is_hashed_in_the_order_of_its_places(rt: HostRuntime) -> Result<(), Fail> {
+fn a_key_is_hashed_as_a_set_of_attributes(rt: HostRuntime) -> Result<(), Fail> {
     let text = Value::Text(Items::from_slice(rt.alloc(), b"a")?);
     let tuple = Items::from_vec(vec![in rt.alloc(); text, Value::Int(1)]?);
+    let both = [1, 0, 0, 0, 0, 0, 0, 0, b'a', 1, 0, 0, 0, 0, 0, 0, 0];
     for (places, bytes) in [
-        (
-            [0, 1].as_slice(),
-            [1, 0, 0, 0, 0, 0, 0, 0, b'a', 1, 0, 0, 0, 0, 0, 0, 0].as_slice(),
-        ),
-        (
-            &[1, 0],
-            &[1, 0, 0, 0, 0, 0, 0, 0, 1, 0, 0, 0, 0, 0, 0, 0, b'a'],
-        ),
+        ([0, 1].as_slice(), both.as_slice()),
+        (&[1, 0], &both),
+        (&[0, 1, 0, 0, 1], &both),
+        (&[1, 1], &[1, 0, 0, 0, 0, 0, 0, 0]),
         (&[], &[]),
     ] {
         assert!(rt; is_key_hashed_as(rt.alloc(), &tuple, places, bytes)?);

@@ -5,5 +5,5 @@ use Rattle.spl_value.proofs.key.hash_key.Given as goal
 abbrev pub invariant-loop-place : goal.invariant-loop-place
 invariant-loop-place l = record {
   places : are_key_places l.values l.places ≡ true;
-  hash : l.state ≡ fnv (enc l.values (take l.place-index l.places));
+  hash : l.state ≡ fnv (enc (take l.place l.values) l.places);
 }

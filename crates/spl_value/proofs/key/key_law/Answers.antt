@@ -1,4 +1,4 @@
-use Rattle.spl_value.proofs.KeyLaws.{key_places, key_types, same_bytes, one_key}
+use Rattle.spl_value.proofs.KeyLaws.{key_places, key_types, same_bytes, same_places, one_key}
 use Rattle.spl_value.proofs.key.key_law.Goals as goal
 
 pub returns-clause-places : goal.returns-clause-places
@@ -12,3 +12,6 @@ returns-clause-same c = same_bytes
 
 pub returns-clause-one : goal.returns-clause-one
 returns-clause-one c = one_key
+
+pub returns-clause-places_as_a_set : goal.returns-clause-places_as_a_set
+returns-clause-places_as_a_set c = same_places

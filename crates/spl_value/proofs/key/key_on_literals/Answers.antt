@@ -23,6 +23,9 @@ returns-clause-no_bytes c = rw (V.outs-Text [])
 pub returns-clause-two_places : goal.returns-clause-two_places
 returns-clause-two_places c = rw (V.outs-Int (pos 7), V.outs-Text (codes "ab"))
 
+pub returns-clause-twice_counts_once : goal.returns-clause-twice_counts_once
+returns-clause-twice_counts_once c = rw (V.outs-Int (pos 7), V.outs-Text (codes "ab"))
+
 pub returns-clause-fitting : goal.returns-clause-fitting
 returns-clause-fitting c =
     rw (
