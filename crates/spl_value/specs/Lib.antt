@@ -11,5 +11,7 @@ pub mod Wrap
 pub mod WrapLaws
 pub mod Key
 pub mod KeyLaws
+pub mod Route
+pub mod Numbered
 pub mod Calls
 pub mod CallsLaws

@@ -11,6 +11,7 @@ mod key;
 mod memory;
 mod packet;
 mod pairs;
+mod routing;
 mod types;
 mod value;
 mod wrapping;
@@ -25,6 +26,7 @@ pub use key::{fnv, hash_key, key_law, key_on_literals};
 pub use memory::NoMemory;
 pub use packet::Packet;
 pub use pairs::pairs_law;
+pub use routing::Routing;
 pub use types::{
     Attribute, Bytes, Ids, Inputs, IntKind, Name, Named, Places, Schema, SplType, copy_schema,
     copy_type, same_type,
