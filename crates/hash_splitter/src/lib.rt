@@ -1,0 +1,7 @@
+//! The splitter of a region: which channel each item goes to, under which number, and when a pulse is due.
+#![tactic(auto)]
+
+mod splitter;
+
+pub use spl_value::Routing;
+pub use splitter::Splitter;
