@@ -1,0 +1,8 @@
+//! What a merger holds of the packets that it has taken: at most one item for each channel, its head.
+#![tactic(auto)]
+
+mod heads;
+mod laws;
+
+pub use heads::Heads;
+pub use laws::merge_law;
