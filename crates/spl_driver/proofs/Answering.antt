@@ -1,4 +1,4 @@
--- What the answer of a request comes to once its line is told.
+-- What the answer of a request means once its line is told.
 use Rattle.std.proofs.Common.{◌≡◌, ◌∙◌, ℕ, List, [], ◌∷◌, length, refl, sym, ap, subst, inl, inr, ◌⊎◌, Option, Some, None}
 use Rattle.std.specs.Prelude.{IfSome}
 use Rattle.std.proofs.Math.Seq.{take-length}
@@ -17,8 +17,9 @@ use Rattle.run_report.specs.declared.refusal.Refusal.{Refusal}
 use Rattle.stream_model.specs.Operators.{Operator}
 use Rattle.command_line.specs.declared.request.Request.{Request}
 use Rattle.spl_driver.specs.Built.{is_built}
-use Rattle.spl_driver.specs.Outcome.{Outcome, NoRequest, Unreadable, Refused, NotBuilt, Checks, Runs, IsOutcome, ArePartsIn}
-use Rattle.spl_driver.specs.Answer.{AtSink, EachSink, HoldsText, HoldsPrefix, sink_text, CarriedOut, RunsTo, ChecksTo, Begun, Stands, DeviceFailed, CreatedLast, Untold, NoCountChanged, Answered, Shown, IsOr, IsRun, IsAnswer, IsComplete, Untouched, ByWords, MayBe, cause_of}
+use Rattle.spl_driver.specs.Outcome.{RequestOutcome, NoRequest, Unreadable, Refused, NotBuilt, Checks, Runs, IsOutcome, ArePartsIn}
+use Rattle.spl_driver.specs.Files.{creates}
+use Rattle.spl_driver.specs.Answer.{AtSink, EachSink, HoldsText, HoldsPrefix, sink_text, CarriedOut, RunsTo, ChecksTo, SameFiles, Begun, CauseMeans, CreateFailed, DeviceFailed, FailedDevice, opening, creating, telling, NoCountChanged, Answered, Shown, IsOr, IsRun, IsAnswer, IsComplete, Untouched, ByWords, MayBe, cause_of}
 use Rattle.spl_driver.specs.Lines.{ToldAs}
 use Rattle.spl_driver.specs.RequestLaws.{OneOutcomeLaw}
 use Rattle.spl_driver.specs.declared.ended.Ended.{Ended}
@@ -28,26 +29,26 @@ use Rattle.spl_driver.proofs.Running.{begun_same}
 abbrev with_cause : Ended → Cause → ℕ → Ended
 with_cause ended cause status = record { status = status; cause = cause; arrivals = ended.arrivals; counts = ended.counts }
 
--- ---- what stands
+-- ---- what an answer means
 
-carried_same : (g : Graph) (m : Meaning) (ended : Ended) (cause : Cause) (status : ℕ) (u : Told) → CarriedOut g m ended u → CarriedOut g m (with_cause ended cause status) u
-carried_same g m ended cause status u h = record { texts = h.texts; counts = h.counts; lists = h.lists }
+run_same : (g : Graph) (m : Meaning) (ended : Ended) (cause : Cause) (status : ℕ) (u : Told) → CarriedOut g m ended u → CarriedOut g m (with_cause ended cause status) u
+run_same g m ended cause status u h = record { texts = h.texts; counts = h.counts; lists = h.lists }
 
-runs_same : (fault : Option Fault) (Is : Outcome → Type 0) (ended : Ended) (cause : Cause) (status : ℕ) (u : Told) → RunsTo fault Is ended u → RunsTo fault Is (with_cause ended cause status) u
-runs_same fault Is ended cause status u (c, g, m, is, e, h) = (c, g, m, is, e, carried_same g m ended cause status u h)
+runs_same : (fault : Option Fault) (Is : RequestOutcome → Type 0) (ended : Ended) (cause : Cause) (status : ℕ) (u : Told) → RunsTo fault Is ended u → RunsTo fault Is (with_cause ended cause status) u
+runs_same fault Is ended cause status u (c, g, m, is, e, h) = (c, g, m, is, e, run_same g m ended cause status u h)
 
-stands_same : (k : Cause) (Is : Outcome → Type 0) (ended : Ended) (cause : Cause) (status : ℕ) (t u : Told) → Stands k Is ended t u → Stands k Is (with_cause ended cause status) t u
-stands_same C.Done Is ended cause status t u (inl h) = inl h
-stands_same C.Done Is ended cause status t u (inr h) = inr (runs_same None Is ended cause status u h)
-stands_same (C.Stopped fault) Is ended cause status t u h = runs_same (Some fault) Is ended cause status u h
-stands_same C.BadWords Is ended cause status t u h = h
-stands_same (C.Refused refusal) Is ended cause status t u h = h
-stands_same C.NotBuilt Is ended cause status t u h = h
-stands_same C.Device Is ended cause status t u h = h
-stands_same C.NoMemory Is ended cause status t u h = h
+means_same : (k : Cause) (Is : RequestOutcome → Type 0) (ended : Ended) (cause : Cause) (status : ℕ) (t u : Told) → CauseMeans k Is ended t u → CauseMeans k Is (with_cause ended cause status) t u
+means_same C.Done Is ended cause status t u (inl h) = inl h
+means_same C.Done Is ended cause status t u (inr h) = inr (runs_same None Is ended cause status u h)
+means_same (C.Stopped fault) Is ended cause status t u h = runs_same (Some fault) Is ended cause status u h
+means_same C.BadWords Is ended cause status t u h = h
+means_same (C.Refused refusal) Is ended cause status t u h = h
+means_same C.NotBuilt Is ended cause status t u h = h
+means_same C.Device Is ended cause status t u h = h
+means_same C.NoMemory Is ended cause status t u h = h
 
-abbrev IsOne : (Outcome → Type 0) → Type 0
-IsOne Is = (r s : Outcome) → Is r → Is s → r ≡ s
+abbrev IsOne : (RequestOutcome → Type 0) → Type 0
+IsOne Is = (r s : RequestOutcome) → Is r → Is s → r ≡ s
 
 -- ---- weaker facts
 
@@ -67,12 +68,12 @@ fronts : (m : Meaning) (old new : Told) (ops : List Operator) → EachSink (Hold
 fronts m old new [] h = tt
 fronts m old new (op ∷ ops) h = (front_at m old new op.clauses op h.0, fronts m old new ops h.1)
 
-weaker_run : (fault : Option Fault) (Is : Outcome → Type 0) (ended : Ended) (result : Outcome) (t u : Told) → IsOne Is → RunsTo fault Is ended u → Is result → Begun result t u
+weaker_run : (fault : Option Fault) (Is : RequestOutcome → Type 0) (ended : Ended) (result : RequestOutcome) (t u : Told) → IsOne Is → RunsTo fault Is ended u → Is result → Begun result t u
 weaker_run fault Is ended result t u one (c, g, m, is, e, run) comes =
-    subst (λ (r : Outcome). Begun r t u) (one (Runs c g m) result is comes) (fronts m t u g.ops run.texts)
+    subst (λ (r : RequestOutcome). Begun r t u) (one (Runs c g m) result is comes) (fronts m t u g.ops run.texts)
 
--- behind each answer a sink was not created or holds a prefix of its text
-weaker : (k : Cause) (Is : Outcome → Type 0) (ended : Ended) (t u : Told) → IsOne Is → Stands k Is ended t u → (result : Outcome) → Is result → Begun result t u
+-- after each answer a sink was not created or holds a prefix of its text
+weaker : (k : Cause) (Is : RequestOutcome → Type 0) (ended : Ended) (t u : Told) → IsOne Is → CauseMeans k Is ended t u → (result : RequestOutcome) → Is result → Begun result t u
 weaker C.Done Is ended t u one (inl (c, is, same)) result comes = begun_same result t u same
 weaker C.Done Is ended t u one (inr run) result comes = weaker_run None Is ended result t u one run comes
 weaker (C.Stopped fault) Is ended t u one run result comes = weaker_run (Some fault) Is ended result t u one run comes
@@ -84,16 +85,11 @@ weaker C.NoMemory Is ended t u one h result comes = h result comes
 
 -- ---- once the line is told
 
-stands_said : (Is : Outcome → Type 0) (ended : Ended) (r : Cause) (status : ℕ) (Line : Type 0) (t u : Told) → IsOne Is → ToldAs ended.cause r Line
-    → Stands ended.cause Is ended t u → Stands r Is (with_cause ended r status) t u
-stands_said Is ended r status Line t u one (inl e) h = subst (λ (c : Cause). Stands c Is (with_cause ended r status) t u) (sym e) (stands_same ended.cause Is ended r status t u h)
-stands_said Is ended r status Line t u one (inr (inl e)) h = subst (λ (c : Cause). Stands c Is (with_cause ended r status) t u) (sym e) (weaker ended.cause Is ended t u one h)
-stands_said Is ended r status Line t u one (inr (inr (e, run, line))) h = subst (λ (c : Cause). Stands c Is (with_cause ended r status) t u) (sym e) (weaker ended.cause Is ended t u one h)
-
-device_said : (c r : Cause) (Failed Line : Type 0) → ToldAs c r Line → (c ≡ C.Device → Failed ⊎ ⊥) → r ≡ C.Device → Failed ⊎ Line
-device_said c r Failed Line (inl e) device is = elim (device (sym e ∙ is)) as (λ _. Failed ⊎ Line) [ inl failed ↦ inl failed | inr none ↦ absurd none ]
-device_said c r Failed Line (inr (inl e)) device is = absurd (let h : C.NoMemory ≡ C.Device = sym e ∙ is in cc)
-device_said c r Failed Line (inr (inr (e, run, line))) device is = inr line
+means_said : (Is : RequestOutcome → Type 0) (ended : Ended) (r : Cause) (status : ℕ) (Line : Type 0) (t u : Told) → IsOne Is → ToldAs ended.cause r Line
+    → CauseMeans ended.cause Is ended t u → CauseMeans r Is (with_cause ended r status) t u
+means_said Is ended r status Line t u one (inl e) h = subst (λ (c : Cause). CauseMeans c Is (with_cause ended r status) t u) (sym e) (means_same ended.cause Is ended r status t u h)
+means_said Is ended r status Line t u one (inr (inl e)) h = subst (λ (c : Cause). CauseMeans c Is (with_cause ended r status) t u) (sym e) (weaker ended.cause Is ended t u one h)
+means_said Is ended r status Line t u one (inr (inr (e, run, line))) h = subst (λ (c : Cause). CauseMeans c Is (with_cause ended r status) t u) (sym e) (weaker ended.cause Is ended t u one h)
 
 no_failure : {A : Type 0} (Failed : Type 0) → (Failed → ⊥) → Failed ⊎ ⊥ → A
 no_failure Failed none (inl failed) = absurd (none failed)
@@ -107,38 +103,60 @@ quiet_run (Some fault) request counts later Line h = h
 pub quiet_stop : (c : Cause) (request : Option Request) (counts later : PerName) (Line : Type 0) → IsRun c → Shown c request counts later Line → NoCountChanged counts later
 quiet_stop c request counts later Line (fault, is) h = quiet_run fault request counts later Line (subst (λ (x : Cause). Shown x request counts later Line) is h)
 
-created_said : (c r : Cause) (request : Option Request) (parts : List Part) (counts later : PerName) (Line : Type 0) (t u : Told) → ToldAs c r Line → Shown c request counts later ⊥
-    → (c ≡ C.Device → CreatedLast request parts counts later ⊥ t u) → r ≡ C.Device → CreatedLast request parts counts later Line t u
-created_said c r request parts counts later Line t u (inl e) shown created is none other = created (sym e ∙ is) none (inr (λ x. x))
-created_said c r request parts counts later Line t u (inr (inl e)) shown created is none other = absurd (let h : C.NoMemory ≡ C.Device = sym e ∙ is in cc)
-created_said c r request parts counts later Line t u (inr (inr (e, run, line))) shown created is none (inl changed) = absurd (changed (quiet_stop c request counts later ⊥ run shown))
-created_said c r request parts counts later Line t u (inr (inr (e, run, line))) shown created is none (inr quiet) = absurd (quiet line)
-
-untold_run : (fault : Option Fault) (Is : Outcome → Type 0) (ended : Ended) (r : Cause) (status : ℕ) (t u : Told) → Stands (cause_of fault) Is ended t u
+untold_run : (fault : Option Fault) (Is : RequestOutcome → Type 0) (ended : Ended) (r : Cause) (status : ℕ) (t u : Told) → CauseMeans (cause_of fault) Is ended t u
     → ChecksTo Is t u ⊎ ((fault : Option Fault) × RunsTo fault Is (with_cause ended r status) u)
 untold_run None Is ended r status t u (inl h) = inl h
 untold_run None Is ended r status t u (inr h) = inr (None, runs_same None Is ended r status u h)
 untold_run (Some fault) Is ended r status t u h = inr (Some fault, runs_same (Some fault) Is ended r status u h)
 
-untold_said : (Is : Outcome → Type 0) (ended : Ended) (r : Cause) (status : ℕ) (request : Option Request) (parts : List Part) (counts later : PerName) (Line : Type 0) (t u : Told)
-    → ToldAs ended.cause r Line → Stands ended.cause Is ended t u → (ended.cause ≡ C.Device → DeviceFailed request parts counts later ⊎ ⊥) → r ≡ C.Device
-    → Untold request parts counts later Is (with_cause ended r status) t u
-untold_said Is ended r status request parts counts later Line t u (inl e) h device is none = no_failure (DeviceFailed request parts counts later) none (device (sym e ∙ is))
-untold_said Is ended r status request parts counts later Line t u (inr (inl e)) h device is none = absurd (let clash : C.NoMemory ≡ C.Device = sym e ∙ is in cc)
-untold_said Is ended r status request parts counts later Line t u (inr (inr (e, (fault, run), line))) h device is none =
-    untold_run fault Is ended r status t u (subst (λ (c : Cause). Stands c Is ended t u) run h)
+-- a device that failed before the line was told
+failed_before : (request : Option Request) (parts : List Part) (counts later : PerName) (Line : Type 0) (Is : RequestOutcome → Type 0) (ended : Ended) (r : Cause) (status : ℕ) (t u : Told)
+    → FailedDevice request parts counts later ⊥ Is ended t u → FailedDevice request parts counts later Line Is (with_cause ended r status) t u
+failed_before request parts counts later Line Is ended r status t u (opening failed same) = opening failed same
+failed_before request parts counts later Line Is ended r status t u (creating failed) = creating failed
+failed_before request parts counts later Line Is ended r status t u (telling never quiet done) = absurd never
+
+device_said : (Is : RequestOutcome → Type 0) (ended : Ended) (r : Cause) (status : ℕ) (request : Option Request) (parts : List Part) (counts later : PerName) (Line : Type 0) (t u : Told)
+    → ToldAs ended.cause r Line → Shown ended.cause request counts later ⊥ → CauseMeans ended.cause Is ended t u
+    → (ended.cause ≡ C.Device → FailedDevice request parts counts later ⊥ Is ended t u) → r ≡ C.Device → FailedDevice request parts counts later Line Is (with_cause ended r status) t u
+device_said Is ended r status request parts counts later Line t u (inl e) shown h device is =
+    failed_before request parts counts later Line Is ended r status t u (device (sym e ∙ is))
+device_said Is ended r status request parts counts later Line t u (inr (inl e)) shown h device is = absurd (let clash : C.NoMemory ≡ C.Device = sym e ∙ is in cc)
+device_said Is ended r status request parts counts later Line t u (inr (inr (e, (fault, run), line))) shown h device is =
+    telling line (quiet_stop ended.cause request counts later ⊥ (fault, run) shown)
+    (untold_run fault Is ended r status t u (subst (λ (c : Cause). CauseMeans c Is ended t u) run h))
+
+-- one of the shelf's files failed, or the line
+failed_one : (request : Option Request) (parts : List Part) (counts later : PerName) (Line : Type 0) (Is : RequestOutcome → Type 0) (ended : Ended) (t u : Told)
+    → FailedDevice request parts counts later Line Is ended t u → DeviceFailed request parts counts later ⊎ Line
+failed_one request parts counts later Line Is ended t u (opening failed same) = inl (inl failed)
+failed_one request parts counts later Line Is ended t u (creating failed) = inl (inr failed)
+failed_one request parts counts later Line Is ended t u (telling line quiet done) = inr line
+
+-- where no file that is created failed, but some count changed or the line's didn't, every file is as it was
+failed_files : (request : Option Request) (parts : List Part) (counts later : PerName) (Line : Type 0) (Is : RequestOutcome → Type 0) (ended : Ended) (t u : Told)
+    → FailedDevice request parts counts later Line Is ended t u → (CreateFailed (creates request parts) counts later → ⊥) → (NoCountChanged counts later → ⊥) ⊎ (Line → ⊥) → SameFiles t u
+failed_files request parts counts later Line Is ended t u (opening failed same) none other = same
+failed_files request parts counts later Line Is ended t u (creating failed) none other = absurd (none failed)
+failed_files request parts counts later Line Is ended t u (telling line quiet done) none (inl changed) = absurd (changed quiet)
+failed_files request parts counts later Line Is ended t u (telling line quiet done) none (inr told) = absurd (told line)
+
+-- where no file failed, the request was carried out
+failed_line : (request : Option Request) (parts : List Part) (counts later : PerName) (Line : Type 0) (Is : RequestOutcome → Type 0) (ended : Ended) (t u : Told)
+    → FailedDevice request parts counts later Line Is ended t u → (DeviceFailed request parts counts later → ⊥) → ChecksTo Is t u ⊎ ((fault : Option Fault) × RunsTo fault Is ended u)
+failed_line request parts counts later Line Is ended t u (opening failed same) none = absurd (none (inl failed))
+failed_line request parts counts later Line Is ended t u (creating failed) none = absurd (none (inr failed))
+failed_line request parts counts later Line Is ended t u (telling line quiet done) none = done
 
 pub answered_said : OneOutcomeLaw → (told now : Option Told) (request : Option Request) (ended : Ended) (r : Cause) (status : ℕ) (counts later : PerName) (Line : Type 0) → ToldAs ended.cause r Line
     → Shown ended.cause request counts later ⊥ → WhereTold told now (Answered request ended counts later ⊥) → WhereTold told now (Answered request (with_cause ended r status) counts later Line)
 answered_said law None now request ended r status counts later Line e shown h = tt
 answered_said law (Some t) None request ended r status counts later Line e shown h = h
 answered_said law (Some t) (Some u) request ended r status counts later Line e shown h = record {
-  stands = stands_said (IsOutcome request t ended.arrivals) ended r status Line t u (law request t ended.arrivals) e h.stands;
+  means = means_said (IsOutcome t ended.arrivals request) ended r status Line t u (law request t ended.arrivals) e h.means;
   others = h.others;
   counted = h.counted;
-  device = λ is parts are. device_said ended.cause r (DeviceFailed request parts counts later) Line e (λ device. h.device device parts are) is;
-  created = λ is parts are. created_said ended.cause r request parts counts later Line t u e shown (λ device. h.created device parts are) is;
-  untold = λ is parts are. untold_said (IsOutcome request t ended.arrivals) ended r status request parts counts later Line t u e h.stands (λ device. h.device device parts are) is;
+  device = λ is parts are. device_said (IsOutcome t ended.arrivals request) ended r status request parts counts later Line t u e shown h.means (λ device. h.device device parts are) is;
   reads = h.reads;
 }
 
@@ -202,20 +220,20 @@ may_be_said request c r Line (inr (inr (e, run, line))) h = subst (MayBe request
 -- ---- completeness
 
 -- each answer is what the request comes to
-complete_at : (k : Cause) (Is : Outcome → Type 0) (result : Outcome) (Failed : Type 0) (ended : Ended) (t u : Told) → IsOne Is → Stands k Is ended t u
+complete_at : (k : Cause) (Is : RequestOutcome → Type 0) (result : RequestOutcome) (Failed : Type 0) (ended : Ended) (t u : Told) → IsOne Is → CauseMeans k Is ended t u
     → (k ≡ C.Device → Failed ⊎ ⊥) → Is result → IsAnswer result Failed ⊥ k
 complete_at C.Done Is result Failed ended t u one (inl (c, is, same)) device comes =
-    subst (λ (o : Outcome). IsAnswer o Failed ⊥ C.Done) (one (Checks c) result is comes) (λ none quiet. inl refl)
+    subst (λ (o : RequestOutcome). IsAnswer o Failed ⊥ C.Done) (one (Checks c) result is comes) (λ none quiet. inl refl)
 complete_at C.Done Is result Failed ended t u one (inr (c, g, m, is, fault, run)) device comes =
-    subst (λ (o : Outcome). IsAnswer o Failed ⊥ C.Done) (one (Runs c g m) result is comes) (λ none quiet. inl (ap cause_of (sym fault)))
+    subst (λ (o : RequestOutcome). IsAnswer o Failed ⊥ C.Done) (one (Runs c g m) result is comes) (λ none quiet. inl (ap cause_of (sym fault)))
 complete_at (C.Stopped f) Is result Failed ended t u one (c, g, m, is, fault, run) device comes =
-    subst (λ (o : Outcome). IsAnswer o Failed ⊥ (C.Stopped f)) (one (Runs c g m) result is comes) (λ none quiet. inl (ap cause_of (sym fault)))
+    subst (λ (o : RequestOutcome). IsAnswer o Failed ⊥ (C.Stopped f)) (one (Runs c g m) result is comes) (λ none quiet. inl (ap cause_of (sym fault)))
 complete_at C.BadWords Is result Failed ended t u one (is, same) device comes =
-    subst (λ (o : Outcome). IsAnswer o Failed ⊥ C.BadWords) (one NoRequest result is comes) (λ none. inl refl)
+    subst (λ (o : RequestOutcome). IsAnswer o Failed ⊥ C.BadWords) (one NoRequest result is comes) (λ none. inl refl)
 complete_at (C.Refused r) Is result Failed ended t u one (is, same) device comes =
-    subst (λ (o : Outcome). IsAnswer o Failed ⊥ (C.Refused r)) (one (Refused r) result is comes) (λ none. inl refl)
+    subst (λ (o : RequestOutcome). IsAnswer o Failed ⊥ (C.Refused r)) (one (Refused r) result is comes) (λ none. inl refl)
 complete_at C.NotBuilt Is result Failed ended t u one (is, same) device comes =
-    subst (λ (o : Outcome). IsAnswer o Failed ⊥ C.NotBuilt) (one NotBuilt result is comes) (λ none. inl refl)
+    subst (λ (o : RequestOutcome). IsAnswer o Failed ⊥ C.NotBuilt) (one NotBuilt result is comes) (λ none. inl refl)
 complete_at C.Device Is NoRequest Failed ended t u one h device comes = λ none. no_failure Failed none (device refl)
 complete_at C.Device Is Unreadable Failed ended t u one h device comes = inl refl
 complete_at C.Device Is (Refused r) Failed ended t u one h device comes = λ none. no_failure Failed none (device refl)
@@ -234,7 +252,7 @@ refused_not_run refusal None e = cc
 refused_not_run refusal (Some fault) e = cc
 
 -- it stays so once it is told
-answer_said : (result : Outcome) (Failed Line : Type 0) (c r : Cause) → ToldAs c r Line → IsAnswer result Failed ⊥ c → IsAnswer result Failed Line r
+answer_said : (result : RequestOutcome) (Failed Line : Type 0) (c r : Cause) → ToldAs c r Line → IsAnswer result Failed ⊥ c → IsAnswer result Failed Line r
 answer_said NoRequest Failed Line c r (inl e) h = λ none. subst (IsOr C.BadWords) (sym e) (h none)
 answer_said Unreadable Failed Line c r (inl e) h = subst (IsOr C.Device) (sym e) h
 answer_said (Refused s) Failed Line c r (inl e) h = λ none. subst (IsOr (C.Refused s)) (sym e) (h none)
@@ -260,4 +278,4 @@ complete law None now request ended r status counts later Line e h = tt
 complete law (Some t) None request ended r status counts later Line e h = absurd h
 complete law (Some t) (Some u) request ended r status counts later Line e h = λ result comes parts are.
     answer_said result (DeviceFailed request parts counts later) Line ended.cause r e
-    (complete_at ended.cause (IsOutcome request t ended.arrivals) result (DeviceFailed request parts counts later) ended t u (law request t ended.arrivals) h.stands (λ device. h.device device parts are) comes)
+    (complete_at ended.cause (IsOutcome t ended.arrivals request) result (DeviceFailed request parts counts later) ended t u (law request t ended.arrivals) h.means (λ device. failed_one request parts counts later ⊥ (IsOutcome t ended.arrivals request) ended t u (h.device device parts are)) comes)

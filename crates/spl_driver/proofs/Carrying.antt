@@ -21,9 +21,9 @@ use Rattle.check_laws.specs.Files.{source_files, sink_files, is_named}
 use Rattle.spl_driver.specs.Built.{is_built, is_built_graph, is_built_now, is_plain, is_given}
 use Rattle.spl_driver.specs.Files.{opens, creates, if_given, built_parts}
 use Rattle.spl_driver.specs.Outcome.{NotBuilt, Checks, Runs, meant, with_sources, with_graph}
-use Rattle.spl_driver.specs.Answer.{Stands, OpenFailed, CreateFailed}
+use Rattle.spl_driver.specs.Answer.{CauseMeans, OpenFailed, CreateFailed}
 use Rattle.spl_driver.specs.Lines.{IsLine}
-use Rattle.spl_driver.specs.Steps.{IsRunOf, IsCarried, CarriedComes, CountsShow, FilesShow}
+use Rattle.spl_driver.specs.Steps.{IsRunOf, IsAcceptedOutcome, IsToldAcceptedOutcome, CountsShow, FilesShow}
 use Rattle.spl_driver.specs.declared.ended.Ended.{Ended}
 use Rattle.spl_driver.proofs.Running.{not_built_files}
 use Rattle.spl_driver.proofs.Standing.{told_same}
@@ -32,31 +32,31 @@ use Rattle.spl_value.proofs.Bools.{or_last as or_here}
 -- ---- a check
 
 check_files : (told : Option Told) (p : List ℕ) (c : CheckedGraph) (ended : Ended) (counts : PerName) → ended.cause ≡ C.Done
-    → WhereTold told told (λ t u. FilesShow (IsCarried (R.Check p) c ended.arrivals t) (creates (Some (R.Check p)) (built_parts c)) ended counts counts t u)
+    → WhereTold told told (λ t u. FilesShow (IsAcceptedOutcome (R.Check p) c ended.arrivals t) (creates (Some (R.Check p)) (built_parts c)) ended counts counts t u)
 check_files None p c ended counts is = tt
 check_files (Some t) p c ended counts is = record {
-  stands = subst (λ (k : Cause). Stands k (IsCarried (R.Check p) c ended.arrivals t) ended t t) (sym is) (inl (c, refl, λ n. refl));
+  means = subst (λ (k : Cause). CauseMeans k (IsAcceptedOutcome (R.Check p) c ended.arrivals t) ended t t) (sym is) (inl (c, refl, λ n. refl));
   others = λ n named. refl;
-  last = λ device none n. refl;
+  last = λ device. inl (λ n. refl);
   reads = λ n differs. absurd (differs refl);
 }
 
 pub checked_files : (told : Option Told) (request : Request) (p : List ℕ) (c : CheckedGraph) (ended : Ended) (counts : PerName) → request ≡ R.Check p → ended.cause ≡ C.Done
-    → WhereTold told told (λ t u. FilesShow (IsCarried request c ended.arrivals t) (creates (Some request) (built_parts c)) ended counts counts t u)
+    → WhereTold told told (λ t u. FilesShow (IsAcceptedOutcome request c ended.arrivals t) (creates (Some request) (built_parts c)) ended counts counts t u)
 checked_files told request p c ended counts e is =
-    subst (λ (q : Request). WhereTold told told (λ t u. FilesShow (IsCarried q c ended.arrivals t) (creates (Some q) (built_parts c)) ended counts counts t u)) (sym e)
+    subst (λ (q : Request). WhereTold told told (λ t u. FilesShow (IsAcceptedOutcome q c ended.arrivals t) (creates (Some q) (built_parts c)) ended counts counts t u)) (sym e)
     (check_files told p c ended counts is)
 
-check_comes : (told : Option Told) (p : List ℕ) (c : CheckedGraph) (arrivals : Arrivals) → CarriedComes (R.Check p) c arrivals told (Checks c)
+check_comes : (told : Option Told) (p : List ℕ) (c : CheckedGraph) (arrivals : Arrivals) → IsToldAcceptedOutcome (R.Check p) c arrivals told (Checks c)
 check_comes None p c arrivals = tt
 check_comes (Some t) p c arrivals = refl
 
 pub checked_line : (told : Option Told) (request : Request) (p : List ℕ) (c : CheckedGraph) (ended : Ended) (line : Result (List ℕ) NoMemory) → request ≡ R.Check p → ended.cause ≡ C.Done
-    → IfOk line (λ l. l ≡ check_text c) → IfOk line (IsLine ended.cause (CarriedComes request c ended.arrivals told))
+    → IfOk line (λ l. l ≡ check_text c) → IfOk line (IsLine ended.cause (IsToldAcceptedOutcome request c ended.arrivals told))
 checked_line told request p c ended (Err x) e is h = tt
 checked_line told request p c ended (Ok line) e is h =
-    subst (λ (k : Cause). IsLine k (CarriedComes request c ended.arrivals told) line) (sym is)
-    (subst (λ (q : Request). IsLine C.Done (CarriedComes q c ended.arrivals told) line) (sym e) (Checks c, check_comes told p c ended.arrivals, refl, h))
+    subst (λ (k : Cause). IsLine k (IsToldAcceptedOutcome request c ended.arrivals told) line) (sym is)
+    (subst (λ (q : Request). IsLine C.Done (IsToldAcceptedOutcome q c ended.arrivals told) line) (sym e) (Checks c, check_comes told p c ended.arrivals, refl, h))
 
 -- ---- a run
 
@@ -89,9 +89,9 @@ run_creates p options c plain built = creates_sinks p options (built_parts c) pl
 
 pub ran_files : (told now : Option Told) (request : Request) (p : List ℕ) (options : RunOptions) (c : CheckedGraph) (ended : Ended) (counts later : PerName) → request ≡ R.Run p options
     → is_built request ≡ true → is_built_now c ≡ true → WhereTold told now (λ t u. FilesShow (IsRunOf c ended.arrivals t) (sink_files c.parts) ended counts later t u)
-    → WhereTold told now (λ t u. FilesShow (IsCarried request c ended.arrivals t) (creates (Some request) (built_parts c)) ended counts later t u)
+    → WhereTold told now (λ t u. FilesShow (IsAcceptedOutcome request c ended.arrivals t) (creates (Some request) (built_parts c)) ended counts later t u)
 ran_files told now request p options c ended counts later e built graph h =
-    subst (λ (q : Request). WhereTold told now (λ t u. FilesShow (IsCarried q c ended.arrivals t) (creates (Some q) (built_parts c)) ended counts later t u)) (sym e)
+    subst (λ (q : Request). WhereTold told now (λ t u. FilesShow (IsAcceptedOutcome q c ended.arrivals t) (creates (Some q) (built_parts c)) ended counts later t u)) (sym e)
     (subst (λ (ns : List (List ℕ)). WhereTold told now (λ t u. FilesShow (IsRunOf c ended.arrivals t) ns ended counts later t u))
     (sym (run_creates p options c (plain_run request p options e built) graph)) h)
 
@@ -127,7 +127,7 @@ unbuilt_told (Some t) c other = λ lists. not_built_graph c t lists other
 
 pub unbuilt_files : (told : Option Told) (request : Request) (p : List ℕ) (options : RunOptions) (c : CheckedGraph) (ended : Ended) (counts : PerName) → request ≡ R.Run p options
     → is_built_now c ≡ false → ended.cause ≡ C.NotBuilt
-    → WhereTold told told (λ t u. FilesShow (IsCarried request c ended.arrivals t) (creates (Some request) (built_parts c)) ended counts counts t u)
+    → WhereTold told told (λ t u. FilesShow (IsAcceptedOutcome request c ended.arrivals t) (creates (Some request) (built_parts c)) ended counts counts t u)
 unbuilt_files told request p options c ended counts e other is =
-    subst (λ (q : Request). WhereTold told told (λ t u. FilesShow (IsCarried q c ended.arrivals t) (creates (Some q) (built_parts c)) ended counts counts t u)) (sym e)
+    subst (λ (q : Request). WhereTold told told (λ t u. FilesShow (IsAcceptedOutcome q c ended.arrivals t) (creates (Some q) (built_parts c)) ended counts counts t u)) (sym e)
     (not_built_files told told c (creates (Some (R.Run p options)) (built_parts c)) ended counts counts is (unbuilt_told told c other) (told_same told) (λ n. refl))

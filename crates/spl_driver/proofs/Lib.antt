@@ -15,6 +15,7 @@ pub mod Operators
 pub mod SinkLemmas
 pub mod Running
 pub mod Carrying
+pub mod PlainAnswers
 pub mod SinkSteps
 pub mod Preparing
 pub mod Answering

@@ -11,7 +11,7 @@ use Rattle.stream_model.specs.Meaning.{Graph, Entries, meaning}
 use Rattle.check_laws.specs.Files.{source_files}
 use Rattle.list_run.specs.Runs.{CanRun, RowsFit, AreStreams, rows_at}
 use Rattle.spl_driver.specs.Built.{is_built_graph, is_built_now}
-use Rattle.spl_driver.specs.Outcome.{Outcome, Unreadable, NotBuilt, Runs, has_fault, holds_numbers, meant, with_sources, with_graph}
+use Rattle.spl_driver.specs.Outcome.{RequestOutcome, Unreadable, NotBuilt, Runs, has_fault, holds_numbers, meant, with_sources, with_graph}
 use Rattle.spl_driver.specs.Steps.{RowsTold, StreamsFor, AllRead, all_numbers, SourcesOf}
 use Rattle.spl_driver.specs.declared.sources.Sources.TheVariants as S
 use Rattle.spl_driver.proofs.SinkLemmas.{graph_there, can_run}
@@ -23,7 +23,7 @@ runs c built = let there = graph_there c built in (there.0, can_run c there.0 th
 pub rows_fit : (c : CheckedGraph) (rows : List (List Item)) (told : Option Told) → SourcesOf (S.Rows rows) c told → (g : Graph) → graph_of c ≡ g → RowsFit g rows
 rows_fit c rows told h g e = (h g e).0
 
-sources_pass : (c : CheckedGraph) (t : Told) (next : Outcome) → AllRead c.parts t → all_numbers c.parts t ≡ true → with_sources (map t.script (source_files c.parts)) next ≡ next
+sources_pass : (c : CheckedGraph) (t : Told) (next : RequestOutcome) → AllRead c.parts t → all_numbers c.parts t ≡ true → with_sources (map t.script (source_files c.parts)) next ≡ next
 sources_pass c t next read numbers =
     ap (λ (b : Bool). if b then Unreadable else if list_all holds_numbers (map t.script (source_files c.parts)) then next else NotBuilt) read
     ∙ ap (λ (b : Bool). if b then next else NotBuilt) numbers

@@ -28,8 +28,8 @@ use Rattle.file_adapters.specs.declared.sinks.Sunk.TheVariants as S
 use Rattle.file_adapters.specs.Sinks.{AreDistinct, SinksWritten, SinksCount, SinksCounted, RoseAt, is_file}
 use Rattle.list_run.specs.Runs.{AreStreams}
 use Rattle.list_run.specs.SinkLaws.{SinkTextLaw, SinkCountLaw}
-use Rattle.spl_driver.specs.Outcome.{Outcome, NoRequest, Unreadable, Refused, NotBuilt, Checks, Runs, entries_in, meant, rows_told, with_graph}
-use Rattle.spl_driver.specs.Answer.{EachSink, HoldsText, HoldsPrefix, SameFiles, CarriedOut, Begun, Stands, CreateFailed, NoCountChanged, ReadsFailed, cause_of, counts_of, IsRun}
+use Rattle.spl_driver.specs.Outcome.{RequestOutcome, NoRequest, Unreadable, Refused, NotBuilt, Checks, Runs, entries_in, meant, rows_told, with_graph}
+use Rattle.spl_driver.specs.Answer.{EachSink, HoldsText, HoldsPrefix, SameFiles, CarriedOut, Begun, CauseMeans, CreateFailed, NoCountChanged, ReadsFailed, cause_of, counts_of, IsRun}
 use Rattle.spl_driver.specs.Lines.{IsLine}
 use Rattle.spl_driver.specs.Steps.{OpensCounted, StreamsFor, IsRunOf, RunComes, CountsShow, FilesShow, EndsAs, TellsRun, sinks_of, sinks_from, sink_of, sink_in_front, counts_from}
 use Rattle.spl_driver.specs.declared.ended.Ended.{Ended}
@@ -52,12 +52,12 @@ begun_same (Runs c g m) t u same = same_prefixes m t u g.ops same
 -- all files are as they were, and no count changed
 pub quiet_files : (told now : Option Told) (c : CheckedGraph) (created : List (List ℕ)) (cause : Cause) (ended : Ended) (counts later : PerName) → ended.cause ≡ cause → (cause ≡ C.Device → ⊥)
     → WhereTold told now TellsSame → NoCountChanged counts later
-    → ((t u : Told) → told ≡ Some t → SameFiles t u → Stands cause (IsRunOf c ended.arrivals t) ended t u)
+    → ((t u : Told) → told ≡ Some t → SameFiles t u → CauseMeans cause (IsRunOf c ended.arrivals t) ended t u)
     → WhereTold told now (λ t u. FilesShow (IsRunOf c ended.arrivals t) created ended counts later t u)
 quiet_files None now c created cause ended counts later is other same quiet stands = tt
 quiet_files (Some t) None c created cause ended counts later is other same quiet stands = same
 quiet_files (Some t) (Some u) c created cause ended counts later is other same quiet stands = record {
-  stands = subst (λ (k : Cause). Stands k (IsRunOf c ended.arrivals t) ended t u) (sym is) (stands t u refl same.holds);
+  means = subst (λ (k : Cause). CauseMeans k (IsRunOf c ended.arrivals t) ended t u) (sym is) (stands t u refl same.holds);
   others = λ n named. same.holds n;
   last = λ device. absurd (other (sym is ∙ device));
   reads = λ n differs. absurd (differs (ap (λ k. k.reading) (quiet n)));
@@ -86,9 +86,9 @@ pub device_files : BegunSame → (told now : Option Told) (c : CheckedGraph) (cr
 device_files begun None now c created ended counts later is same reads = tt
 device_files begun (Some t) None c created ended counts later is same reads = same
 device_files begun (Some t) (Some u) c created ended counts later is same reads = record {
-  stands = subst (λ (k : Cause). Stands k (IsRunOf c ended.arrivals t) ended t u) (sym is) (λ r comes. begun r t u same.holds);
+  means = subst (λ (k : Cause). CauseMeans k (IsRunOf c ended.arrivals t) ended t u) (sym is) (λ r comes. begun r t u same.holds);
   others = λ n named. same.holds n;
-  last = λ device none. same.holds;
+  last = λ device. inl same.holds;
   reads = reads;
 }
 
@@ -129,14 +129,14 @@ Laws = SinkTextLaw × SinkCountLaw
 meaning_same : (g : Graph) (rows : Lists) (t : Told) (lists : List ArrivalList) → ((n : ℕ) → rows n ≡ rows_told g t n) → meaning g rows (entries_in lists) ≡ meant g t lists
 meaning_same g rows t lists same = λ i. meaning g (λ n. same n i) (entries_in lists)
 
-runs_as : (fault : Option Fault) (Is : Outcome → Type 0) (c : CheckedGraph) (g : Graph) (m : Meaning) (ended : Ended) (t u : Told) → Is (Runs c g m) → run_fault g m ≡ fault → CarriedOut g m ended u
-    → Stands (cause_of fault) Is ended t u
+runs_as : (fault : Option Fault) (Is : RequestOutcome → Type 0) (c : CheckedGraph) (g : Graph) (m : Meaning) (ended : Ended) (t u : Told) → Is (Runs c g m) → run_fault g m ≡ fault → CarriedOut g m ended u
+    → CauseMeans (cause_of fault) Is ended t u
 runs_as None Is c g m ended t u is e h = inr (c, g, m, is, e, h)
 runs_as (Some fault) Is c g m ended t u is e h = (c, g, m, is, e, h)
 
 sunk_stands : Laws → (r : Sunk) (c : CheckedGraph) (streams : List (List Item)) (fault : Option Fault) (ended : Ended) (t u : Told) → Keeps c
     → StreamsFor c streams (Some t) → SinksWritten r (sinks_of c) streams t u → SinksCount r (sinks_of c) streams → IsFaultOf r c streams fault
-    → EndsBehind r fault c ended → ended.arrivals.lists ≡ [] → Stands ended.cause (IsRunOf c ended.arrivals t) ended t u
+    → EndsBehind r fault c ended → ended.arrivals.lists ≡ [] → CauseMeans ended.cause (IsRunOf c ended.arrivals t) ended t u
 sunk_stands laws r c streams fault ended t u keeps p written count faults ends lists = go r written count faults ends
   where
     g : Graph
@@ -158,8 +158,8 @@ sunk_stands laws r c streams fault ended t u keeps p written count faults ends l
     fronts s h = subst (λ (x : Meaning). EachSink (HoldsPrefix x t u) g.ops) same
         (prefixes c g p.rows (entries_in ended.arrivals.lists) streams keeps p.runs (p.streams_of (entries_in ended.arrivals.lists)) laws.0 s t u h)
 
-    begun : (s : Sunk) → SinksWritten s (sinks_of c) streams t u → (result : Outcome) → IsRunOf c ended.arrivals t result → Begun result t u
-    begun s h result e = subst (λ (o : Outcome). Begun o t u) (comes ∙ sym e) (fronts s h)
+    begun : (s : Sunk) → SinksWritten s (sinks_of c) streams t u → (result : RequestOutcome) → IsRunOf c ended.arrivals t result → Begun result t u
+    begun s h result e = subst (λ (o : RequestOutcome). Begun o t u) (comes ∙ sym e) (fronts s h)
 
     done : (ns : List ℕ) → SinksWritten (S.Done ns) (sinks_of c) streams t u → SinksCount (S.Done ns) (sinks_of c) streams
         → ended.counts ≡ record { channels = []; sinks = counts_from 0 c.parts ns } → CarriedOut g m ended u
@@ -173,11 +173,11 @@ sunk_stands laws r c streams fault ended t u keeps p written count faults ends l
       lists = ap (map (λ (l : ArrivalList). l.op)) lists ∙ sym (none_several c g p.runs);
     }
 
-    at_cause : (k : Cause) → ended.cause ≡ k → Stands k (IsRunOf c ended.arrivals t) ended t u → Stands ended.cause (IsRunOf c ended.arrivals t) ended t u
-    at_cause k is h = subst (λ (x : Cause). Stands x (IsRunOf c ended.arrivals t) ended t u) (sym is) h
+    at_cause : (k : Cause) → ended.cause ≡ k → CauseMeans k (IsRunOf c ended.arrivals t) ended t u → CauseMeans ended.cause (IsRunOf c ended.arrivals t) ended t u
+    at_cause k is h = subst (λ (x : Cause). CauseMeans x (IsRunOf c ended.arrivals t) ended t u) (sym is) h
 
     go : (s : Sunk) → SinksWritten s (sinks_of c) streams t u → SinksCount s (sinks_of c) streams → IsFaultOf s c streams fault → EndsBehind s fault c ended
-        → Stands ended.cause (IsRunOf c ended.arrivals t) ended t u
+        → CauseMeans ended.cause (IsRunOf c ended.arrivals t) ended t u
     go (S.Done ns) h count faults (inl (is, counts)) = at_cause (cause_of fault) is
         (runs_as fault (IsRunOf c ended.arrivals t) c g m ended t u comes
         (sym (faults g p.rows (entries_in ended.arrivals.lists) p.runs.graph (p.streams_of (entries_in ended.arrivals.lists)) ∙ ap (run_fault g) same))
@@ -250,9 +250,9 @@ files_behind laws (Some t) (Some s) (Some u) r c streams fault ended counts betw
   where
     go : SinksWritten r (sinks_of c) streams t u → FilesShow (IsRunOf c ended.arrivals t) (sink_files c.parts) ended between later t u
     go w = record {
-      stands = sunk_stands laws r c streams fault ended t u keeps p w count faults ends lists;
+      means = sunk_stands laws r c streams fault ended t u keeps p w count faults ends lists;
       others = λ n named. w.others n (is_file_named c same n ∙ named);
-      last = λ device none. absurd (none (sinks_failed r c fault ended between later same counted ends device));
+      last = λ device. inr (sinks_failed r c fault ended between later same counted ends device);
       reads = λ n differs. absurd (differs (counted.reading n));
     }
 
@@ -320,7 +320,7 @@ some_outcome (Some t) c streams arrivals fault p faults = (
       ∙ ap (run_fault p.graph) (meaning_same p.graph p.rows t arrivals.lists p.told_rows),
 )
 
-line_of_fault : (fault : Option Fault) (Is : Outcome → Type 0) (c : CheckedGraph) (g : Graph) (m : Meaning) (line : List ℕ) → Is (Runs c g m) → fault ≡ run_fault g m
+line_of_fault : (fault : Option Fault) (Is : RequestOutcome → Type 0) (c : CheckedGraph) (g : Graph) (m : Meaning) (line : List ℕ) → Is (Runs c g m) → fault ≡ run_fault g m
     → line ≡ status_text (Some c) (cause_of fault) → IsLine (cause_of fault) Is line
 line_of_fault None Is c g m line is ends e = (Runs c g m, is, ap cause_of ends, e)
 line_of_fault (Some fault) Is c g m line is ends e = (Runs c g m, is, ap cause_of ends, e)
@@ -341,7 +341,7 @@ run_line told c streams fault sinks ended (Ok line) p faults ends tells = run_li
 run_line told c streams fault sinks ended (Err e) p faults ends tells = tt
 
 -- the line of another cause
-pub plain_line : (cause k : Cause) (Is : Outcome → Type 0) (line : List ℕ) → cause ≡ k → (IsRun k → ⊥) → line ≡ status_text None k → IsLine cause Is line
+pub plain_line : (cause k : Cause) (Is : RequestOutcome → Type 0) (line : List ℕ) → cause ≡ k → (IsRun k → ⊥) → line ≡ status_text None k → IsLine cause Is line
 plain_line cause k Is line is other e = subst (λ (x : Cause). IsLine x Is line) (sym is) (go k other e)
   where
     go : (k : Cause) → (IsRun k → ⊥) → line ≡ status_text None k → IsLine k Is line

@@ -1,5 +1,5 @@
--- What stands behind each answer, from what the steps of a request did.
-use Rattle.std.proofs.Common.{◌≡◌, ◌∙◌, ℕ, Bool, true, false, List, [], ◌∷◌, ◌++◌, refl, sym, ap, subst, inl, inr, ◌⊎◌, Option, Some, None, Result, Ok, Err}
+-- What each answer means, from what the steps of a request did.
+use Rattle.std.proofs.Common.{◌≡◌, ◌∙◌, ◌<◌, ◌-◌, ◌^◌, arith, ℕ, Bool, true, false, List, [], ◌∷◌, ◌++◌, refl, sym, ap, subst, inl, inr, ◌⊎◌, Option, Some, None, Result, Ok, Err}
 use Rattle.std.specs.Prelude.{IfSome, ◌||◌, IfOk}
 use Rattle.feed_pour.specs.Counts.{PerName}
 use Rattle.feed_pour.specs.Contents.{Told, WhereTold, TellsSame}
@@ -17,13 +17,14 @@ use Rattle.command_line.specs.Request.{file_names}
 use Rattle.check_laws.specs.Files.{is_named}
 use Rattle.spl_driver.specs.Built.{is_built}
 use Rattle.spl_driver.specs.Files.{opens, creates, program_of, built_parts}
-use Rattle.spl_driver.specs.Outcome.{Outcome, NoRequest, Refused, NotBuilt, Checks, Runs, has_fault, with_program, carried_out, IsOutcomeBehind, IsOutcomeOf, IsOutcomeWhere, IsOutcome, ArePartsBehind, ArePartsOf, ArePartsIn}
-use Rattle.spl_driver.specs.Answer.{SameFiles, Begun, Stands, OpenFailed, CreateFailed, DeviceFailed, NoCountChanged, ReadsFailed, Answered, SomeRose, Shown}
-use Rattle.spl_driver.specs.Lines.{Comes, IsLine, IsLineOf}
+use Rattle.spl_driver.specs.Outcome.{RequestOutcome, NoRequest, Refused, NotBuilt, Checks, Runs, has_fault, IsFound, IsOutcome, no_request, not_built, ArePartsIn, of_program}
+use Rattle.spl_driver.specs.Answer.{SameFiles, Begun, CauseMeans, OpenFailed, CreateFailed, FailedDevice, opening, creating, NoCountChanged, ReadsFailed, Answered, SomeRose, Shown, ByWords}
+use Rattle.spl_driver.specs.Lines.{IsToldOutcome, IsLine, IsLineOf}
 use Rattle.spl_driver.specs.RequestLaws.{OneOutcomeLaw, OnePartsLaw}
-use Rattle.spl_driver.specs.Steps.{OpensCounted, CompiledAt, IsCarried, CarriedComes, CountsShow, FilesShow}
+use Rattle.spl_driver.specs.Steps.{OpensCounted, CompiledAt, accepted_outcome, IsAcceptedOutcome, IsToldAcceptedOutcome, CountsShow, FilesShow}
 use Rattle.spl_driver.specs.declared.compiled.Compiled.TheVariants as P
 use Rattle.spl_driver.specs.declared.ended.Ended.{Ended}
+use Rattle.spl_driver.proofs.Requests.{outcome_found, found_outcome}
 use Rattle.spl_value.proofs.Bools.{or_false as or_none, or_left as or_true}
 
 -- ---- shelves that tell the same
@@ -45,25 +46,25 @@ IsQuiet cause = (cause ≡ C.Device) ⊎ (cause ≡ C.NoMemory)
 
 -- a list of prefixes from equal files is a lemma on sinks
 abbrev pub BegunSame : Type 0
-BegunSame = (result : Outcome) (t u : Told) → SameFiles t u → Begun result t u
+BegunSame = (result : RequestOutcome) (t u : Told) → SameFiles t u → Begun result t u
 
 -- ---- one cause and another
 
-pub stands_map : (cause : Cause) (Is Js : Outcome → Type 0) (ended : Ended) (t u : Told) → ((r : Outcome) → Is r → Js r) → ((r : Outcome) → Js r → Is r)
-    → Stands cause Is ended t u → Stands cause Js ended t u
-stands_map C.Done Is Js ended t u to from (inl (c, is, same)) = inl (c, to (Checks c) is, same)
-stands_map C.Done Is Js ended t u to from (inr (c, g, m, is, e, h)) = inr (c, g, m, to (Runs c g m) is, e, h)
-stands_map (C.Stopped fault) Is Js ended t u to from (c, g, m, is, e, h) = (c, g, m, to (Runs c g m) is, e, h)
-stands_map C.BadWords Is Js ended t u to from (is, same) = (to NoRequest is, same)
-stands_map (C.Refused refusal) Is Js ended t u to from (is, same) = (to (Refused refusal) is, same)
-stands_map C.NotBuilt Is Js ended t u to from (is, same) = (to NotBuilt is, same)
-stands_map C.Device Is Js ended t u to from h = λ r js. h r (from r js)
-stands_map C.NoMemory Is Js ended t u to from h = λ r js. h r (from r js)
+pub means_map : (cause : Cause) (Is Js : RequestOutcome → Type 0) (ended : Ended) (t u : Told) → ((r : RequestOutcome) → Is r → Js r) → ((r : RequestOutcome) → Js r → Is r)
+    → CauseMeans cause Is ended t u → CauseMeans cause Js ended t u
+means_map C.Done Is Js ended t u to from (inl (c, is, same)) = inl (c, to (Checks c) is, same)
+means_map C.Done Is Js ended t u to from (inr (c, g, m, is, e, h)) = inr (c, g, m, to (Runs c g m) is, e, h)
+means_map (C.Stopped fault) Is Js ended t u to from (c, g, m, is, e, h) = (c, g, m, to (Runs c g m) is, e, h)
+means_map C.BadWords Is Js ended t u to from (is, same) = (to NoRequest is, same)
+means_map (C.Refused refusal) Is Js ended t u to from (is, same) = (to (Refused refusal) is, same)
+means_map C.NotBuilt Is Js ended t u to from (is, same) = (to NotBuilt is, same)
+means_map C.Device Is Js ended t u to from h = λ r js. h r (from r js)
+means_map C.NoMemory Is Js ended t u to from h = λ r js. h r (from r js)
 
-line_of_map : (Is Js : Outcome → Type 0) (cause : Cause) (line : List ℕ) → ((r : Outcome) → Is r → Js r) → IsLineOf Is cause line → IsLineOf Js cause line
+line_of_map : (Is Js : RequestOutcome → Type 0) (cause : Cause) (line : List ℕ) → ((r : RequestOutcome) → Is r → Js r) → IsLineOf Is cause line → IsLineOf Js cause line
 line_of_map Is Js cause line to (r, is, ends, e) = (r, to r is, ends, e)
 
-pub line_map : (cause : Cause) (Is Js : Outcome → Type 0) (line : List ℕ) → ((r : Outcome) → Is r → Js r) → IsLine cause Is line → IsLine cause Js line
+pub line_map : (cause : Cause) (Is Js : RequestOutcome → Type 0) (line : List ℕ) → ((r : RequestOutcome) → Is r → Js r) → IsLine cause Is line → IsLine cause Js line
 line_map C.Done Is Js line to is = line_of_map Is Js C.Done line to is
 line_map (C.Stopped fault) Is Js line to is = line_of_map Is Js (C.Stopped fault) line to is
 line_map C.NoMemory Is Js line to is = is
@@ -79,20 +80,18 @@ pub reads_same : (told : Option Told) (counts : PerName) → IfSome told (ReadsF
 reads_same None counts = tt
 reads_same (Some t) counts = λ n differs. absurd (differs refl)
 
--- an answer behind which all files are as they were and no count changed
+-- an answer after which all files are as they were and no count changed
 pub quiet_answer : (told now : Option Told) (request : Option Request) (cause : Cause) (ended : Ended) (counts later : PerName) → ended.cause ≡ cause → (cause ≡ C.Device → ⊥)
     → WhereTold told now TellsSame → NoCountChanged counts later
-    → ((t u : Told) → told ≡ Some t → SameFiles t u → Stands cause (IsOutcome request t ended.arrivals) ended t u)
+    → ((t u : Told) → told ≡ Some t → SameFiles t u → CauseMeans cause (IsOutcome t ended.arrivals request) ended t u)
     → WhereTold told now (Answered request ended counts later ⊥)
 quiet_answer None now request cause ended counts later is other same quiet stands = tt
 quiet_answer (Some t) None request cause ended counts later is other same quiet stands = same
 quiet_answer (Some t) (Some u) request cause ended counts later is other same quiet stands = record {
-  stands = subst (λ (c : Cause). Stands c (IsOutcome request t ended.arrivals) ended t u) (sym is) (stands t u refl same.holds);
+  means = subst (λ (c : Cause). CauseMeans c (IsOutcome t ended.arrivals request) ended t u) (sym is) (stands t u refl same.holds);
   others = λ parts are n named. same.holds n;
   counted = λ parts are n named. quiet n;
   device = λ device. absurd (other (sym is ∙ device));
-  created = λ device. absurd (other (sym is ∙ device));
-  untold = λ device. absurd (other (sym is ∙ device));
   reads = λ n differs. absurd (differs (ap (λ c. c.reading) (quiet n)));
 }
 
@@ -104,30 +103,26 @@ wanting_answer begun told now request ended counts later is same quiet =
 
 -- no request
 pub words_answer : (told : Option Told) (ended : Ended) (counts : PerName) → ended.cause ≡ C.BadWords → WhereTold told told (Answered None ended counts counts ⊥)
-words_answer told ended counts is = quiet_answer told told None C.BadWords ended counts counts is (λ e. cc) (told_same told) (λ n. refl) (λ t u e files. (refl, files))
+words_answer told ended counts is = quiet_answer told told None C.BadWords ended counts counts is (λ e. cc) (told_same told) (λ n. refl) (λ t u e files. (no_request, files))
 
 -- a request that isn't built by its words
 pub not_built_answer : (told : Option Told) (request : Request) (ended : Ended) (counts : PerName) → is_built request ≡ false → ended.cause ≡ C.NotBuilt
     → WhereTold told told (Answered (Some request) ended counts counts ⊥)
 not_built_answer told request ended counts no_part is =
     quiet_answer told told (Some request) C.NotBuilt ended counts counts is (λ e. cc) (told_same told) (λ n. refl)
-    (λ t u e files. (subst (λ (b : Bool). IsOutcomeWhere b request t ended.arrivals.lists NotBuilt) (sym no_part) refl, files))
+    (λ t u e files. (not_built request no_part, files))
 
 -- ---- answers by the program
 
--- what the file of the program comes to is what the request does
+-- the outcome of the request is that of its program
 outcome_of : (t : Told) (request : Request) (program : List ℕ) (arrivals : Arrivals) (found : Result CheckedGraph ProgramRefusal) → is_built request ≡ true → program_of request ≡ Some program
-    → has_fault (t.script program) ≡ false → IsAccepted (t.script program).bytes (file_names request) found → IsOutcome (Some request) t arrivals (with_program request t arrivals.lists found)
+    → has_fault (t.script program) ≡ false → IsAccepted (t.script program).bytes (file_names request) found → IsOutcome t arrivals (Some request) (found_outcome request t arrivals found)
 outcome_of t request program arrivals found built of quiet accepted =
-    subst (λ (b : Bool). IsOutcomeWhere b request t arrivals.lists (with_program request t arrivals.lists found)) (sym built)
-    (subst (λ (p : Option (List ℕ)). IsOutcomeOf p request t arrivals.lists (with_program request t arrivals.lists found)) (sym of)
-    (subst (λ (b : Bool). IsOutcomeBehind b request (t.script program).bytes t arrivals.lists (with_program request t arrivals.lists found)) (sym quiet) (found, accepted, refl)))
+    outcome_found t arrivals request program found built of (record { read = quiet; accepted = accepted })
 
 parts_in : (t : Told) (request : Request) (program : List ℕ) (found : Result CheckedGraph ProgramRefusal) → program_of request ≡ Some program → has_fault (t.script program) ≡ false
-    → IsAccepted (t.script program).bytes (file_names request) found → (parts : List Part) → parts ≡ Rattle.spl_driver.specs.Files.parts_of found → ArePartsIn (Some request) t parts
-parts_in t request program found of quiet accepted parts e =
-    subst (λ (p : Option (List ℕ)). ArePartsOf p request t parts) (sym of)
-    (subst (λ (b : Bool). ArePartsBehind b request (t.script program).bytes parts) (sym quiet) (found, accepted, e))
+    → IsAccepted (t.script program).bytes (file_names request) found → ArePartsIn t (Some request) (Rattle.spl_driver.specs.Files.parts_of found)
+parts_in t request program found of quiet accepted = of_program request program found of (record { read = quiet; accepted = accepted })
 
 -- the program is the first of the files that are opened
 abbrev OpensFirst : Request → List ℕ → List Part → Type 0
@@ -155,10 +150,10 @@ pub refused_answer : (told now : Option Told) (request : Request) (program : Lis
 refused_answer told now request program refusal ended counts later built of is made same quiet =
     quiet_answer told now (Some request) (C.Refused refusal) ended counts later is (λ e. cc) same quiet (λ t u e files. (go t e, files))
   where
-    go : (t : Told) → told ≡ Some t → IsOutcome (Some request) t ended.arrivals (Refused refusal)
+    go : (t : Told) → told ≡ Some t → IsOutcome t ended.arrivals (Some request) (Refused refusal)
     go t e =
         let at = subst (λ (o : Option Told). IfSome o (λ t. CompiledAt (P.Refused refusal) (t.script program) (file_names request))) e made in
-        subst (λ (r : Refusal). IsOutcome (Some request) t ended.arrivals (Refused r)) (sym at.1.2)
+        subst (λ (r : Refusal). IsOutcome t ended.arrivals (Some request) (Refused r)) (sym at.1.2)
         (outcome_of t request program ended.arrivals (Err at.1.0) built of at.0 at.1.1)
 
 -- a program that couldn't be opened or read
@@ -168,12 +163,10 @@ pub device_answer : BegunSame → (told now : Option Told) (request : Request) (
 device_answer begun None now request program ended counts later of is counted same reads = tt
 device_answer begun (Some t) None request program ended counts later of is counted same reads = same
 device_answer begun (Some t) (Some u) request program ended counts later of is counted same reads = record {
-  stands = subst (λ (c : Cause). Stands c (IsOutcome (Some request) t ended.arrivals) ended t u) (sym is) (λ r comes. begun r t u same.holds);
+  means = subst (λ (c : Cause). CauseMeans c (IsOutcome t ended.arrivals (Some request)) ended t u) (sym is) (λ r comes. begun r t u same.holds);
   others = λ parts are n named. same.holds n;
   counted = λ parts are n named. counted.0.others n (outside parts n named);
-  device = λ device parts are. inl (inl (failed parts));
-  created = λ device parts are none other. same.holds;
-  untold = λ device parts are none. absurd (none (inl (failed parts)));
+  device = λ device parts are. opening (failed parts) same.holds;
   reads = reads;
 }
   where
@@ -188,65 +181,71 @@ device_answer begun (Some t) (Some u) request program ended counts later of is c
         let first = opens_program request program parts of in
         (counted.1.0, ap (λ (ns : List (List ℕ)). is_named ns counted.1.0) first.1 ∙ or_true _ (is_named first.0 counted.1.0) (sym (or_none _) ∙ counted.1.1), counted.1.2)
 
--- ---- answers behind the program
+-- ---- answers after the program is read
 
 -- what was done with an accepted program, from its reading on
-pub carried_answer : OneOutcomeLaw → OnePartsLaw → (told mid now : Option Told) (request : Request) (program : List ℕ) (c : CheckedGraph) (ended : Ended) (counts between later : PerName)
+pub accepted_answer : OneOutcomeLaw → OnePartsLaw → (told mid now : Option Told) (request : Request) (program : List ℕ) (c : CheckedGraph) (ended : Ended) (counts between later : PerName)
     → is_built request ≡ true → program_of request ≡ Some program
     → IfSome told (λ t. CompiledAt (P.Checked c) (t.script program) (file_names request))
     → WhereTold told mid TellsSame → NoCountChanged counts between
-    → WhereTold mid now (λ t u. FilesShow (IsCarried request c ended.arrivals t) (creates (Some request) (built_parts c)) ended between later t u)
+    → WhereTold mid now (λ t u. FilesShow (IsAcceptedOutcome request c ended.arrivals t) (creates (Some request) (built_parts c)) ended between later t u)
     → CountsShow ended.cause (opens (Some request) (built_parts c)) (creates (Some request) (built_parts c)) between later
     → WhereTold told now (Answered (Some request) ended counts later ⊥)
-carried_answer one parts_one None mid now request program c ended counts between later built of made same quiet files shown = tt
-carried_answer one parts_one (Some t) None now request program c ended counts between later built of made same quiet files shown = absurd same
-carried_answer one parts_one (Some t) (Some s) None request program c ended counts between later built of made same quiet files shown = files
-carried_answer one parts_one (Some t) (Some s) (Some u) request program c ended counts between later built of made same quiet files shown =
-    go (subst (λ (k : PerName). FilesShow (IsCarried request c ended.arrivals t) (creates (Some request) (built_parts c)) ended k later t u) (same_counts counts between quiet)
-    (subst (λ (x : Told). FilesShow (IsCarried request c ended.arrivals x) (creates (Some request) (built_parts c)) ended between later x u) (same_told t s same) files))
+accepted_answer one parts_one None mid now request program c ended counts between later built of made same quiet files shown = tt
+accepted_answer one parts_one (Some t) None now request program c ended counts between later built of made same quiet files shown = absurd same
+accepted_answer one parts_one (Some t) (Some s) None request program c ended counts between later built of made same quiet files shown = files
+accepted_answer one parts_one (Some t) (Some s) (Some u) request program c ended counts between later built of made same quiet files shown =
+    go (subst (λ (k : PerName). FilesShow (IsAcceptedOutcome request c ended.arrivals t) (creates (Some request) (built_parts c)) ended k later t u) (same_counts counts between quiet)
+    (subst (λ (x : Told). FilesShow (IsAcceptedOutcome request c ended.arrivals x) (creates (Some request) (built_parts c)) ended between later x u) (same_told t s same) files))
     (subst (λ (k : PerName). CountsShow ended.cause (opens (Some request) (built_parts c)) (creates (Some request) (built_parts c)) k later) (same_counts counts between quiet) shown)
   where
-    comes : IsOutcome (Some request) t ended.arrivals (carried_out request c t ended.arrivals.lists)
+    comes : IsOutcome t ended.arrivals (Some request) (accepted_outcome request c t ended.arrivals)
     comes = outcome_of t request program ended.arrivals (Ok c) built of made.0 made.1
 
-    parts_are : (parts : List Part) → ArePartsIn (Some request) t parts → built_parts c ≡ parts
-    parts_are parts are = parts_one (Some request) t (built_parts c) parts (parts_in t request program (Ok c) of made.0 made.1 (built_parts c) refl) are
+    parts_are : (parts : List Part) → ArePartsIn t (Some request) parts → built_parts c ≡ parts
+    parts_are parts are = parts_one (Some request) t (built_parts c) parts (parts_in t request program (Ok c) of made.0 made.1) are
 
-    go : FilesShow (IsCarried request c ended.arrivals t) (creates (Some request) (built_parts c)) ended counts later t u
+    failed_device : SameFiles t u ⊎ CreateFailed (creates (Some request) (built_parts c)) counts later
+        → OpenFailed (opens (Some request) (built_parts c)) counts later ⊎ CreateFailed (creates (Some request) (built_parts c)) counts later
+        → FailedDevice (Some request) (built_parts c) counts later ⊥ (IsOutcome t ended.arrivals (Some request)) ended t u
+    failed_device (inr failed) cause = creating failed
+    failed_device (inl files) (inl failed) = opening failed files
+    failed_device (inl files) (inr failed) = creating failed
+
+    go : FilesShow (IsAcceptedOutcome request c ended.arrivals t) (creates (Some request) (built_parts c)) ended counts later t u
         → CountsShow ended.cause (opens (Some request) (built_parts c)) (creates (Some request) (built_parts c)) counts later
         → Answered (Some request) ended counts later ⊥ t u
     go f k = record {
-      stands = stands_map ended.cause (IsCarried request c ended.arrivals t) (IsOutcome (Some request) t ended.arrivals) ended t u
-          (λ r e. subst (IsOutcome (Some request) t ended.arrivals) (sym e) comes)
-          (λ r is. one (Some request) t ended.arrivals r _ is comes) f.stands;
+      means = means_map ended.cause (IsAcceptedOutcome request c ended.arrivals t) (IsOutcome t ended.arrivals (Some request)) ended t u
+          (λ r e. subst (IsOutcome t ended.arrivals (Some request)) (sym e) comes)
+          (λ r is. one (Some request) t ended.arrivals r _ is comes) f.means;
       others = λ parts are n named. f.others n (ap (λ (ps : List Part). is_named (creates (Some request) ps) n) (parts_are parts are) ∙ named);
       counted = λ parts are n named.
           k.others n (ap (λ (ps : List Part). is_named (opens (Some request) ps) n || is_named (creates (Some request) ps) n) (parts_are parts are) ∙ named);
-      device = λ device parts are. inl (subst (λ (ps : List Part). DeviceFailed (Some request) ps counts later) (parts_are parts are) (k.device device));
-      created = λ device parts are none other.
-          f.last device (subst (λ (ps : List Part). CreateFailed (creates (Some request) ps) counts later → ⊥) (sym (parts_are parts are)) none);
-      untold = λ device parts are none. absurd (none (subst (λ (ps : List Part). DeviceFailed (Some request) ps counts later) (parts_are parts are) (k.device device)));
+      device = λ device parts are.
+          subst (λ (ps : List Part). FailedDevice (Some request) ps counts later ⊥ (IsOutcome t ended.arrivals (Some request)) ended t u) (parts_are parts are)
+          (failed_device (f.last device) (k.device device));
       reads = f.reads;
     }
 
 -- the line of what was done
-carried_line_of : (told mid : Option Told) (request : Request) (program : List ℕ) (c : CheckedGraph) (cause : Cause) (arrivals : Arrivals) (line : List ℕ)
+accepted_line_of : (told mid : Option Told) (request : Request) (program : List ℕ) (c : CheckedGraph) (cause : Cause) (arrivals : Arrivals) (line : List ℕ)
     → is_built request ≡ true → program_of request ≡ Some program
     → IfSome told (λ t. CompiledAt (P.Checked c) (t.script program) (file_names request)) → WhereTold told mid TellsSame
-    → IsLine cause (CarriedComes request c arrivals mid) line → IsLine cause (Comes (Some request) told arrivals) line
-carried_line_of None mid request program c cause arrivals line built of made same is = line_map cause (CarriedComes request c arrivals mid) (Comes (Some request) None arrivals) line (λ r h. tt) is
-carried_line_of (Some t) None request program c cause arrivals line built of made same is = absurd same
-carried_line_of (Some t) (Some s) request program c cause arrivals line built of made same is =
-    line_map cause (CarriedComes request c arrivals (Some s)) (Comes (Some request) (Some t) arrivals) line
-    (λ r e. subst (IsOutcome (Some request) t arrivals) (sym (e ∙ ap (λ (x : Told). carried_out request c x arrivals.lists) (same_told t s same)))
+    → IsLine cause (IsToldAcceptedOutcome request c arrivals mid) line → IsLine cause (IsToldOutcome (Some request) told arrivals) line
+accepted_line_of None mid request program c cause arrivals line built of made same is = line_map cause (IsToldAcceptedOutcome request c arrivals mid) (IsToldOutcome (Some request) None arrivals) line (λ r h. tt) is
+accepted_line_of (Some t) None request program c cause arrivals line built of made same is = absurd same
+accepted_line_of (Some t) (Some s) request program c cause arrivals line built of made same is =
+    line_map cause (IsToldAcceptedOutcome request c arrivals (Some s)) (IsToldOutcome (Some request) (Some t) arrivals) line
+    (λ r e. subst (IsOutcome t arrivals (Some request)) (sym (e ∙ ap (λ (x : Told). accepted_outcome request c x arrivals) (same_told t s same)))
     (outcome_of t request program arrivals (Ok c) built of made.0 made.1)) is
 
-pub carried_line : (told mid : Option Told) (request : Request) (program : List ℕ) (c : CheckedGraph) (cause : Cause) (arrivals : Arrivals) (line : Result (List ℕ) NoMemory)
+pub accepted_line : (told mid : Option Told) (request : Request) (program : List ℕ) (c : CheckedGraph) (cause : Cause) (arrivals : Arrivals) (line : Result (List ℕ) NoMemory)
     → is_built request ≡ true → program_of request ≡ Some program
     → IfSome told (λ t. CompiledAt (P.Checked c) (t.script program) (file_names request)) → WhereTold told mid TellsSame
-    → IfOk line (IsLine cause (CarriedComes request c arrivals mid)) → IfOk line (IsLine cause (Comes (Some request) told arrivals))
-carried_line told mid request program c cause arrivals (Ok line) built of made same is = carried_line_of told mid request program c cause arrivals line built of made same is
-carried_line told mid request program c cause arrivals (Err e) built of made same is = tt
+    → IfOk line (IsLine cause (IsToldAcceptedOutcome request c arrivals mid)) → IfOk line (IsLine cause (IsToldOutcome (Some request) told arrivals))
+accepted_line told mid request program c cause arrivals (Ok line) built of made same is = accepted_line_of told mid request program c cause arrivals line built of made same is
+accepted_line told mid request program c cause arrivals (Err e) built of made same is = tt
 
 -- ---- what the counts show
 
@@ -274,11 +273,26 @@ shown_at C.NotBuilt request opened created old new Line h = h.quiet (λ e. cc) (
 shown_at C.Device request opened created old new Line h = inl (some_rose opened created old new (h.device refl))
 shown_at C.NoMemory request opened created old new Line h = tt
 
-pub shown_behind : (cause : Cause) (request : Option Request) (opened created : List (List ℕ)) (old mid new : PerName) (Line : Type 0)
+pub shown_after : (cause : Cause) (request : Option Request) (opened created : List (List ℕ)) (old mid new : PerName) (Line : Type 0)
     → NoCountChanged old mid → CountsShow cause opened created mid new → Shown cause request old new Line
-shown_behind cause request opened created old mid new Line quiet h =
+shown_after cause request opened created old mid new Line quiet h =
     subst (λ (k : PerName). Shown cause request k new Line) (same_counts old mid quiet) (shown_at cause request opened created mid new Line h)
 
 pub device_shown : (cause : Cause) (request : Option Request) (program : List ℕ) (old new : PerName) (Line : Type 0) → cause ≡ C.Device → OpensCounted true (program ∷ []) old new
     → Shown cause request old new Line
 device_shown cause request program old new Line is counted = subst (λ (k : Cause). Shown k request old new Line) (sym is) (inl (counted.1.0, inl counted.1.2))
+
+-- a request that is built isn't decided by its words
+pub built_words : (request : Request) (cause : Cause) (old new : PerName) → is_built request ≡ true → ByWords (Some request) cause old new
+built_words request cause old new built = λ other. absurd (let clash : true ≡ false = sym built ∙ other in cc)
+
+-- with no memory nothing is decided otherwise
+pub wanting_words : (request : Option Request) (old new : PerName) → NoCountChanged old new → ByWords request C.NoMemory old new
+wanting_words None old new quiet = record { answer = inr refl; counts = quiet }
+wanting_words (Some request) old new quiet = λ other. record { answer = inr refl; counts = quiet }
+
+-- what was lent is given back by the first step and by the second
+pub lent_after : (old mid new : ℕ) → (old < 2 ^ 64 - 1 → mid ≡ old) → (mid < 2 ^ 64 - 256 → new ≡ mid) → old < 2 ^ 64 - 256 → new ≡ old
+lent_after old mid new first second small =
+    let same = first (omega (arith, small)) in
+    second (omega (arith, same, small)) ∙ same

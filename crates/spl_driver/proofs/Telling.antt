@@ -13,7 +13,7 @@ use Rattle.run_report.specs.Texts.{status_text}
 use Rattle.command_line.specs.declared.request.Request.{Request}
 use Rattle.spl_driver.specs.Answer.{IsRun, NoCountChanged, Shown, SomeRose, cause_of}
 use Rattle.spl_driver.specs.Lines.{is_run, ToldAs, LinePoured, whole, front, failed, wanting, Pours, PoursLine, IsLine, IsLineOf, PouredText, PouredLine, PouredFront, Said}
-use Rattle.spl_driver.specs.Outcome.{Outcome}
+use Rattle.spl_driver.specs.Outcome.{RequestOutcome}
 use Rattle.spl_driver.proofs.Answering.{quiet_stop}
 
 -- ---- causes of requests that were carried out
@@ -65,7 +65,7 @@ rose_by before after e is counted = (subst (λ (x : PourAnswer). Counted (failed
 -- ---- what was said
 
 -- the line of a request that was carried out
-line_of_run : (Is : Outcome → Type 0) (cause : Cause) (line : List ℕ) (fault : Option Fault) → cause ≡ cause_of fault → IsLine cause Is line → IsLineOf Is (cause_of fault) line
+line_of_run : (Is : RequestOutcome → Type 0) (cause : Cause) (line : List ℕ) (fault : Option Fault) → cause ≡ cause_of fault → IsLine cause Is line → IsLineOf Is (cause_of fault) line
 line_of_run Is cause line None e is = subst (λ (c : Cause). IsLine c Is line) e is
 line_of_run Is cause line (Some f) e is = subst (λ (c : Cause). IsLine c Is line) e is
 
@@ -79,7 +79,7 @@ text_front text line old now Failed e rises n held = inr (rises, (n, held ∙ ap
 abbrev pub ShelfShows : Cause → PerName → PerName → Type 0
 ShelfShows cause counts later = (cause ≡ C.Device → SomeRose counts later) × (IsRun cause → NoCountChanged counts later)
 
-said_whole : (cause : Cause) (Is : Outcome → Type 0) (counts later : PerName) (line old : List ℕ) (now : Option (List ℕ)) (Failed : Type 0) → ShelfShows cause counts later
+said_whole : (cause : Cause) (Is : RequestOutcome → Type 0) (counts later : PerName) (line old : List ℕ) (now : Option (List ℕ)) (Failed : Type 0) → ShelfShows cause counts later
     → IsLine cause Is line → now ≡ Some (old ++ line) → Said cause Is counts later (Some old) now Failed
 said_whole C.Done Is counts later line old now Failed shows is held = (line, is, held)
 said_whole (C.Stopped fault) Is counts later line old now Failed shows is held = (line, is, held)
@@ -89,7 +89,7 @@ said_whole (C.Refused refusal) Is counts later line old now Failed shows is held
 said_whole C.NotBuilt Is counts later line old now Failed shows is held = text_whole _ line old now Failed is held
 said_whole C.Device Is counts later line old now Failed shows is held = inl (shows.0 refl, text_whole _ line old now Failed is held)
 
-said_front : (cause : Cause) (Is : Outcome → Type 0) (counts later : PerName) (line old : List ℕ) (now : Option (List ℕ)) (Failed : Type 0) → ShelfShows cause counts later
+said_front : (cause : Cause) (Is : RequestOutcome → Type 0) (counts later : PerName) (line old : List ℕ) (now : Option (List ℕ)) (Failed : Type 0) → ShelfShows cause counts later
     → IsLine cause Is line → (IsRun cause → ⊥) → Failed → (n : ℕ) → now ≡ Some (old ++ take n line) → Said cause Is counts later (Some old) now Failed
 said_front C.Done Is counts later line old now Failed shows is other rises n held = absurd (other (None, refl))
 said_front (C.Stopped fault) Is counts later line old now Failed shows is other rises n held = absurd (other (Some fault, refl))
@@ -99,7 +99,7 @@ said_front (C.Refused refusal) Is counts later line old now Failed shows is othe
 said_front C.NotBuilt Is counts later line old now Failed shows is other rises n held = text_front _ line old now Failed is rises n held
 said_front C.Device Is counts later line old now Failed shows is other rises n held = inl (shows.0 refl, text_front _ line old now Failed is rises n held)
 
-said_poured : (cause r : Cause) (Is : Outcome → Type 0) (counts later : PerName) (line old : List ℕ) (now : Option (List ℕ)) (Failed : Type 0) → ShelfShows cause counts later
+said_poured : (cause r : Cause) (Is : RequestOutcome → Type 0) (counts later : PerName) (line old : List ℕ) (now : Option (List ℕ)) (Failed : Type 0) → ShelfShows cause counts later
     → IsLine cause Is line → LinePoured cause r line old now Failed → Said r Is counts later (Some old) now Failed
 said_poured cause r Is counts later line old now Failed shows is (whole e held) =
     subst (λ (c : Cause). Said c Is counts later (Some old) now Failed) (sym e) (said_whole cause Is counts later line old now Failed shows is held)
@@ -110,7 +110,7 @@ said_poured cause r Is counts later line old now Failed shows is (failed e (faul
     (inr (shows.1 (fault, run), (rises, (cause_of fault, line, line_of_run Is cause line fault run is, n, held))))
 said_poured cause r Is counts later line old now Failed shows is (wanting e) = subst (λ (c : Cause). Said c Is counts later (Some old) now Failed) (sym e) tt
 
-said_nothing : (r : Cause) (Is : Outcome → Type 0) (counts later : PerName) (old now : Option (List ℕ)) (Failed : Type 0) → r ≡ C.NoMemory → Said r Is counts later old now Failed
+said_nothing : (r : Cause) (Is : RequestOutcome → Type 0) (counts later : PerName) (old now : Option (List ℕ)) (Failed : Type 0) → r ≡ C.NoMemory → Said r Is counts later old now Failed
 said_nothing r Is counts later None now Failed e = tt
 said_nothing r Is counts later (Some old) now Failed e = subst (λ (c : Cause). Said c Is counts later (Some old) now Failed) (sym e) tt
 
@@ -126,7 +126,7 @@ shelf_shows cause request counts later h = (rose, λ run. quiet_stop cause reque
     rose e = at_device (subst (λ (c : Cause). Shown c request counts later ⊥) e h)
 
 -- the line of a cause, once it is told
-pub said : (cause r : Cause) (request : Option Request) (Is : Outcome → Type 0) (counts later : PerName) (line : Result (List ℕ) NoMemory) (old now : Option (List ℕ)) (Failed : Type 0)
+pub said : (cause r : Cause) (request : Option Request) (Is : RequestOutcome → Type 0) (counts later : PerName) (line : Result (List ℕ) NoMemory) (old now : Option (List ℕ)) (Failed : Type 0)
     → Shown cause request counts later ⊥ → IfOk line (IsLine cause Is) → PoursLine cause r line old now Failed → Said r Is counts later old now Failed
 said cause r request Is counts later (Ok line) None now Failed shown is poured = tt
 said cause r request Is counts later (Ok line) (Some old) now Failed shown is poured =

@@ -1,4 +1,4 @@
--- Which answer a request gets, and what stands behind each answer.
+-- Which answer a request gets, and what each answer means.
 use Rattle.std.specs.Prelude.{◌≡◌, ◌≢◌, ◌-◌, ◌^◌, ◌⊎◌, ◌||◌, min, ℕ, Bool, List, [], ◌∷◌, map, length, take, false, true, Option, Some, None, ⊤, IfSome}
 use Rattle.std.specs.List.{filter_map}
 use Rattle.feed_pour.specs.Counts.{PerName, Rose}
@@ -21,7 +21,7 @@ use Rattle.command_line.specs.declared.request.Request.TheVariants as R
 use Rattle.check_laws.specs.Files.{is_named}
 use Rattle.spl_driver.specs.Built.{is_built}
 use Rattle.spl_driver.specs.Files.{opens, creates}
-use Rattle.spl_driver.specs.Outcome.{Outcome, NoRequest, Unreadable, Refused, NotBuilt, Checks, Runs, IsOutcome, ArePartsIn, has_fault, several}
+use Rattle.spl_driver.specs.Outcome.{RequestOutcome, NoRequest, Unreadable, Refused, NotBuilt, Checks, Runs, IsOutcome, ArePartsIn, has_fault, several}
 use Rattle.spl_driver.specs.declared.ended.Ended.{Ended}
 
 -- ---- a run that was carried out
@@ -68,30 +68,30 @@ abbrev pub SameFiles : Told → Told → Type 0
 SameFiles old new = (n : List ℕ) → new.holds n ≡ old.holds n
 
 -- a graph whose run has this fault, or none, was carried out
-abbrev pub RunsTo : Option Fault → (Outcome → Type 0) → Ended → Told → Type 0
+abbrev pub RunsTo : Option Fault → (RequestOutcome → Type 0) → Ended → Told → Type 0
 RunsTo fault Is ended new =
     (c : CheckedGraph) × (g : Graph) × (m : Meaning) × Is (Runs c g m) × (run_fault g m ≡ fault) × CarriedOut g m ended new
 
 -- a program was checked, and no file changed
-abbrev pub ChecksTo : (Outcome → Type 0) → Told → Told → Type 0
+abbrev pub ChecksTo : (RequestOutcome → Type 0) → Told → Told → Type 0
 ChecksTo Is old new = (c : CheckedGraph) × Is (Checks c) × SameFiles old new
 
--- ---- what stands behind each answer
+-- ---- what each answer means
 
 -- no sink was created, or those that were hold a prefix of their text
-abbrev pub Begun : Outcome → Told → Told → Type 0
+abbrev pub Begun : RequestOutcome → Told → Told → Type 0
 Begun (Runs c g m) old new = EachSink (HoldsPrefix m old new) g.ops
 Begun _ old new = SameFiles old new
 
--- each cause, by what the request comes to
-abbrev pub Stands : Cause → (Outcome → Type 0) → Ended → Told → Told → Type 0
-Stands C.Done Is ended old new = ChecksTo Is old new ⊎ RunsTo None Is ended new
-Stands (C.Stopped fault) Is ended old new = RunsTo (Some fault) Is ended new
-Stands C.BadWords Is ended old new = Is NoRequest × SameFiles old new
-Stands (C.Refused refusal) Is ended old new = Is (Refused refusal) × SameFiles old new
-Stands C.NotBuilt Is ended old new = Is NotBuilt × SameFiles old new
-Stands C.Device Is ended old new = (result : Outcome) → Is result → Begun result old new
-Stands C.NoMemory Is ended old new = (result : Outcome) → Is result → Begun result old new
+-- what a cause means, by the outcome of the request and the files
+abbrev pub CauseMeans : Cause → (RequestOutcome → Type 0) → Ended → Told → Told → Type 0
+CauseMeans C.Done Is ended old new = ChecksTo Is old new ⊎ RunsTo None Is ended new
+CauseMeans (C.Stopped fault) Is ended old new = RunsTo (Some fault) Is ended new
+CauseMeans C.BadWords Is ended old new = Is NoRequest × SameFiles old new
+CauseMeans (C.Refused refusal) Is ended old new = Is (Refused refusal) × SameFiles old new
+CauseMeans C.NotBuilt Is ended old new = Is NotBuilt × SameFiles old new
+CauseMeans C.Device Is ended old new = (result : RequestOutcome) → Is result → Begun result old new
+CauseMeans C.NoMemory Is ended old new = (result : RequestOutcome) → Is result → Begun result old new
 
 -- the count of opening or reading of one of the first names rose, or of creating or writing of one of the second
 abbrev pub OpenFailed : List (List ℕ) → PerName → PerName → Type 0
@@ -107,31 +107,26 @@ DeviceFailed request parts old new = OpenFailed (opens request parts) old new �
 abbrev pub NoCountChanged : PerName → PerName → Type 0
 NoCountChanged old new = (n : List ℕ) → new n ≡ old n
 
--- where no count of creating or writing a created file rose, but some count changed or that of the line's pour didn't rise,
--- every file is as it was
-abbrev pub CreatedLast : Option Request → List Part → PerName → PerName → Type 0 → Told → Told → Type 0
-CreatedLast request parts counts now LineFailed old new =
-    (CreateFailed (creates request parts) counts now → ⊥) → (NoCountChanged counts now → ⊥) ⊎ (LineFailed → ⊥) → SameFiles old new
+-- Which device failed, where the answer is that one did: that of a file that is opened, and then no file changed; that of a file that is created; or
+-- the pour of the line, and then the request was carried out, and no count changed.
+pub data FailedDevice (request : Option Request) (parts : List Part) (counts now : PerName) (LineFailed : Type 0) (Is : RequestOutcome → Type 0) (ended : Ended) (old new : Told) : Type 0 where
+  opening : OpenFailed (opens request parts) counts now → SameFiles old new → FailedDevice request parts counts now LineFailed Is ended old new
+  creating : CreateFailed (creates request parts) counts now → FailedDevice request parts counts now LineFailed Is ended old new
+  telling : LineFailed → NoCountChanged counts now → ChecksTo Is old new ⊎ ((fault : Option Fault) × RunsTo fault Is ended new)
+      → FailedDevice request parts counts now LineFailed Is ended old new
 
--- where no count of an opened or created file rose, the request was carried out, and its line couldn't be told
-abbrev pub Untold : Option Request → List Part → PerName → PerName → (Outcome → Type 0) → Ended → Told → Told → Type 0
-Untold request parts counts now Is ended old new =
-    (DeviceFailed request parts counts now → ⊥) → ChecksTo Is old new ⊎ ((fault : Option Fault) × RunsTo fault Is ended new)
-
--- a count of reading changes only at a file whose reader fails behind at most 1,048,576 bytes
+-- a count of reading changes only at a file whose reader fails after at most 1,048,576 bytes
 abbrev pub ReadsFailed : PerName → PerName → Told → Type 0
 ReadsFailed counts now old = (n : List ℕ) → (now n).reading ≢ (counts n).reading → has_fault (old.script n) ≡ true
 
 -- the answer to a request at a shelf that tells its files, where the count of the line's pour rose or not
 pub record Answered (request : Option Request) (ended : Ended) (counts now : PerName) (LineFailed : Type 0) (old new : Told) : Type 0 where
-  pub stands : Stands ended.cause (IsOutcome request old ended.arrivals) ended old new
-  pub others : (parts : List Part) → ArePartsIn request old parts → (n : List ℕ) → is_named (creates request parts) n ≡ false → new.holds n ≡ old.holds n
-  pub counted : (parts : List Part) → ArePartsIn request old parts → (n : List ℕ)
+  pub means : CauseMeans ended.cause (IsOutcome old ended.arrivals request) ended old new
+  pub others : (parts : List Part) → ArePartsIn old request parts → (n : List ℕ) → is_named (creates request parts) n ≡ false → new.holds n ≡ old.holds n
+  pub counted : (parts : List Part) → ArePartsIn old request parts → (n : List ℕ)
       → (is_named (opens request parts) n || is_named (creates request parts) n) ≡ false → now n ≡ counts n
-  pub device : ended.cause ≡ C.Device → (parts : List Part) → ArePartsIn request old parts → DeviceFailed request parts counts now ⊎ LineFailed
-  pub created : ended.cause ≡ C.Device → (parts : List Part) → ArePartsIn request old parts → CreatedLast request parts counts now LineFailed old new
-  pub untold : ended.cause ≡ C.Device → (parts : List Part) → ArePartsIn request old parts
-      → Untold request parts counts now (IsOutcome request old ended.arrivals) ended old new
+  pub device : ended.cause ≡ C.Device → (parts : List Part) → ArePartsIn old request parts
+      → FailedDevice request parts counts now LineFailed (IsOutcome old ended.arrivals request) ended old new
   pub reads : ReadsFailed counts now old
 
 -- ---- what the counts alone show
@@ -192,8 +187,8 @@ cause_of (Some fault) = C.Stopped fault
 abbrev pub IsRun : Cause → Type 0
 IsRun cause = (fault : Option Fault) × (cause ≡ cause_of fault)
 
--- where no device failed, what the request comes to is the answer, or memory was wanting
-abbrev pub IsAnswer : Outcome → Type 0 → Type 0 → Cause → Type 0
+-- where no device failed, the outcome of the request is the answer, or memory was wanting
+abbrev pub IsAnswer : RequestOutcome → Type 0 → Type 0 → Cause → Type 0
 IsAnswer NoRequest Failed LineFailed cause = (Failed → ⊥) → IsOr C.BadWords cause
 IsAnswer Unreadable Failed LineFailed cause = IsOr C.Device cause
 IsAnswer (Refused refusal) Failed LineFailed cause = (Failed → ⊥) → IsOr (C.Refused refusal) cause
@@ -201,10 +196,10 @@ IsAnswer NotBuilt Failed LineFailed cause = (Failed → ⊥) → IsOr C.NotBuilt
 IsAnswer (Checks c) Failed LineFailed cause = (Failed → ⊥) → (LineFailed → ⊥) → IsOr C.Done cause
 IsAnswer (Runs c g m) Failed LineFailed cause = (Failed → ⊥) → (LineFailed → ⊥) → IsOr (cause_of (run_fault g m)) cause
 
--- whatever the request comes to
+-- whatever the outcome of the request
 abbrev pub IsComplete : Option Request → Ended → PerName → PerName → Type 0 → Told → Type 0
 IsComplete request ended counts now LineFailed told =
-    (result : Outcome) → IsOutcome request told ended.arrivals result → (parts : List Part) → ArePartsIn request told parts
+    (result : RequestOutcome) → IsOutcome told ended.arrivals request result → (parts : List Part) → ArePartsIn told request parts
     → IsAnswer result (DeviceFailed request parts counts now) LineFailed ended.cause
 
 -- the cause is this one, or memory was wanting, and nothing was touched

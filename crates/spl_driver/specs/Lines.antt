@@ -10,30 +10,30 @@ use Rattle.run_report.specs.declared.cause.Cause.TheVariants as C
 use Rattle.run_report.specs.Texts.{status_text, check_text}
 use Rattle.command_line.specs.declared.request.Request.{Request}
 use Rattle.spl_driver.specs.Answer.{IsRun, NoCountChanged, SomeRose, cause_of}
-use Rattle.spl_driver.specs.Outcome.{Outcome, Checks, Runs, IsOutcome}
+use Rattle.spl_driver.specs.Outcome.{RequestOutcome, Checks, Runs, IsOutcome}
 
--- what the request comes to, where the shelf tells its files; anything where it doesn't
-abbrev pub Comes : Option Request → Option Told → Arrivals → Outcome → Type 0
-Comes request told arrivals result = IfSome told (λ t. IsOutcome request t arrivals result)
+-- the outcome of the request, where the shelf tells its files; anything where it doesn't
+abbrev pub IsToldOutcome : Option Request → Option Told → Arrivals → RequestOutcome → Type 0
+IsToldOutcome request told arrivals result = IfSome told (λ t. IsOutcome t arrivals request result)
 
 -- the line of a request that was carried out: what was checked, or how the run ended
-abbrev pub line_of : Outcome → Cause → List ℕ
+abbrev pub line_of : RequestOutcome → Cause → List ℕ
 line_of (Checks c) cause = check_text c
 line_of (Runs c g m) cause = status_text (Some c) cause
 line_of _ cause = []
 
 -- how a request ends that is carried out: a check is done, and a run ends with its fault, or without
-abbrev pub EndsWith : Outcome → Cause → Type 0
+abbrev pub EndsWith : RequestOutcome → Cause → Type 0
 EndsWith (Checks c) cause = cause ≡ C.Done
 EndsWith (Runs c g m) cause = cause ≡ cause_of (run_fault g m)
 EndsWith _ cause = ⊥
 
--- a request that comes to something was carried out, it ended so, and this is its line
-abbrev pub IsLineOf : (Outcome → Type 0) → Cause → List ℕ → Type 0
-IsLineOf Is cause line = (result : Outcome) × Is result × EndsWith result cause × (line ≡ line_of result cause)
+-- a request of such an outcome was carried out, it ended so, and this is its line
+abbrev pub IsLineOf : (RequestOutcome → Type 0) → Cause → List ℕ → Type 0
+IsLineOf Is cause line = (result : RequestOutcome) × Is result × EndsWith result cause × (line ≡ line_of result cause)
 
 -- the line of a cause; nothing is said of that of want of memory
-abbrev pub IsLine : Cause → (Outcome → Type 0) → List ℕ → Type 0
+abbrev pub IsLine : Cause → (RequestOutcome → Type 0) → List ℕ → Type 0
 IsLine C.NoMemory Is line = ⊤
 IsLine C.Done Is line = IsLineOf Is C.Done line
 IsLine (C.Stopped fault) Is line = IsLineOf Is (C.Stopped fault) line
@@ -47,17 +47,17 @@ abbrev pub PouredText : List ℕ → List ℕ → Option (List ℕ) → Type 0 �
 PouredText bytes old now Failed = (now ≡ Some (old ++ bytes)) ⊎ (Failed × ((n : ℕ) × (now ≡ Some (old ++ take n bytes))))
 
 -- a line of a request that was carried out was poured whole
-abbrev pub PouredLine : (Outcome → Type 0) → Cause → List ℕ → Option (List ℕ) → Type 0
+abbrev pub PouredLine : (RequestOutcome → Type 0) → Cause → List ℕ → Option (List ℕ) → Type 0
 PouredLine Is cause old now = (line : List ℕ) × IsLineOf Is cause line × (now ≡ Some (old ++ line))
 
 -- or a front of it and no more, since the pour failed
-abbrev pub PouredFront : (Outcome → Type 0) → List ℕ → Option (List ℕ) → Type 0 → Type 0
+abbrev pub PouredFront : (RequestOutcome → Type 0) → List ℕ → Option (List ℕ) → Type 0 → Type 0
 PouredFront Is old now Failed =
     Failed × ((cause : Cause) × (line : List ℕ) × IsLineOf Is cause line × (n : ℕ) × (now ≡ Some (old ++ take n line)))
 
 -- The cause's line was poured; nothing is said of want of memory. Where a device failed, that is one of the shelf's, and its line was poured; or
 -- none of the shelf's failed, and the line that would have come was begun.
-abbrev pub Said : Cause → (Outcome → Type 0) → PerName → PerName → Option (List ℕ) → Option (List ℕ) → Type 0 → Type 0
+abbrev pub Said : Cause → (RequestOutcome → Type 0) → PerName → PerName → Option (List ℕ) → Option (List ℕ) → Type 0 → Type 0
 Said cause Is counts later None now Failed = ⊤
 Said C.NoMemory Is counts later (Some old) now Failed = ⊤
 Said C.Done Is counts later (Some old) now Failed = PouredLine Is C.Done old now

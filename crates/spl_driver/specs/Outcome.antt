@@ -1,4 +1,4 @@
--- What a request comes to, with ample memory and devices that give what the shelf tells.
+-- The outcome of a request, with ample memory and devices that give what the shelf tells.
 use Rattle.std.specs.Prelude.{◌≡◌, ℕ, ◌==◌, ◌&&◌, nat_le, List, [], ◌∷◌, map, length, Bool, true, false, if◌then◌else◌, Option, Some, None, Result, Ok, Err, slice_get}
 use Rattle.std.specs.List.{filter_map, list_any, list_all}
 use Rattle.std.specs.Option.{option_map_or}
@@ -19,10 +19,11 @@ use Rattle.run_report.specs.declared.refusal.Refusal.{Refusal}
 use Rattle.run_report.specs.Refusals.{refusal_of}
 use Rattle.command_line.specs.declared.request.Request.{Request}
 use Rattle.command_line.specs.declared.request.Request.TheVariants as R
+use Rattle.command_line.specs.declared.request.RunOptions.{RunOptions}
 use Rattle.command_line.specs.Request.{file_names}
 use Rattle.check_laws.specs.Files.{source_files}
 use Rattle.file_adapters.specs.Source.{is_number_file}
-use Rattle.spl_driver.specs.Built.{is_built, is_built_graph, has_several}
+use Rattle.spl_driver.specs.Built.{is_built, is_built_graph, is_plain, has_several}
 use Rattle.spl_driver.specs.Files.{program_of, parts_of}
 
 -- ---- what a run is given
@@ -51,17 +52,17 @@ several g = filter_map if_several g.ops
 abbrev pub meant : Graph → Told → List ArrivalList → Meaning
 meant g told lists = meaning g (rows_told g told) (entries_in lists)
 
--- ---- what it comes to
+-- ---- its outcome
 
 -- The words are no request; a file that is read ends in a fault; the program is refused; the request isn't built; the program is checked, and
 -- has this graph; or its graph runs, and has this meaning.
-pub data Outcome : Type 0 where
-  NoRequest : Outcome
-  Unreadable : Outcome
-  Refused : Refusal → Outcome
-  NotBuilt : Outcome
-  Checks : (checked : CheckedGraph) → Outcome
-  Runs : (checked : CheckedGraph) (graph : Graph) (meaning : Meaning) → Outcome
+pub data RequestOutcome : Type 0 where
+  NoRequest : RequestOutcome
+  Unreadable : RequestOutcome
+  Refused : Refusal → RequestOutcome
+  NotBuilt : RequestOutcome
+  Checks : (checked : CheckedGraph) → RequestOutcome
+  Runs : (checked : CheckedGraph) (graph : Graph) (meaning : Meaning) → RequestOutcome
 
 abbrev pub is_failed : Ending → Bool
 is_failed script.End = false
@@ -80,55 +81,43 @@ abbrev pub holds_numbers : Script → Bool
 holds_numbers script = is_within script && is_number_file script.bytes
 
 -- all sources are read before their bytes are looked at
-abbrev pub with_sources : List Script → Outcome → Outcome
+abbrev pub with_sources : List Script → RequestOutcome → RequestOutcome
 with_sources sources next = if list_any has_fault sources then Unreadable else if list_all holds_numbers sources then next else NotBuilt
 
-abbrev pub with_graph : CheckedGraph → Told → List ArrivalList → Graph → Outcome
+abbrev pub with_graph : CheckedGraph → Told → List ArrivalList → Graph → RequestOutcome
 with_graph c told lists g =
     if is_built_graph c g then with_sources (map told.script (source_files c.parts)) (Runs c g (meant g told lists)) else NotBuilt
 
--- an accepted program is checked or run, as the request says
-abbrev pub carried_out : Request → CheckedGraph → Told → List ArrivalList → Outcome
-carried_out (R.Check program) c told lists = Checks c
-carried_out (R.Run program options) c told lists = with_graph c told lists (graph_of c)
-carried_out _ c told lists = NotBuilt
+-- the outcome of a run of an accepted program
+abbrev pub run_outcome : CheckedGraph → Told → Arrivals → RequestOutcome
+run_outcome c told arrivals = with_graph c told arrivals.lists (graph_of c)
 
-abbrev pub with_program : Request → Told → List ArrivalList → Result CheckedGraph ProgramRefusal → Outcome
-with_program request told lists (Err refusal) = Refused (refusal_of refusal)
-with_program request told lists (Ok c) = carried_out request c told lists
+-- the program in this file can be read, and is accepted with this graph or refused
+pub record IsFound (told : Told) (program : List ℕ) (names : List (List ℕ)) (found : Result CheckedGraph ProgramRefusal) : Type 0 where
+  pub read : has_fault (told.script program) ≡ false
+  pub accepted : IsAccepted (told.script program).bytes names found
 
--- whether the program's file has a fault is looked at before its bytes
-abbrev pub IsOutcomeBehind : Bool → Request → List ℕ → Told → List ArrivalList → Outcome → Type 0
-IsOutcomeBehind true request bytes told lists result = result ≡ Unreadable
-IsOutcomeBehind false request bytes told lists result =
-    (found : Result CheckedGraph ProgramRefusal) × IsAccepted bytes (file_names request) found × (result ≡ with_program request told lists found)
-
-abbrev pub IsOutcomeOf : Option (List ℕ) → Request → Told → List ArrivalList → Outcome → Type 0
-IsOutcomeOf None request told lists result = result ≡ NotBuilt
-IsOutcomeOf (Some program) request told lists result =
-    IsOutcomeBehind (has_fault (told.script program)) request (told.script program).bytes told lists result
-
--- the words decide whether the request is built
-abbrev pub IsOutcomeWhere : Bool → Request → Told → List ArrivalList → Outcome → Type 0
-IsOutcomeWhere true request told lists result = IsOutcomeOf (program_of request) request told lists result
-IsOutcomeWhere false request told lists result = result ≡ NotBuilt
-
-abbrev pub IsOutcome : Option Request → Told → Arrivals → Outcome → Type 0
-IsOutcome None told arrivals result = result ≡ NoRequest
-IsOutcome (Some request) told arrivals result = IsOutcomeWhere (is_built request) request told arrivals.lists result
+-- A request with ample memory has one outcome, by its case: the words are no request; they ask for what isn't built; the program can't be read; it
+-- is refused; it is checked; it is run.
+pub data IsOutcome (told : Told) (arrivals : Arrivals) : Option Request → RequestOutcome → Type 0 where
+  no_request : IsOutcome told arrivals None NoRequest
+  not_built : (request : Request) → is_built request ≡ false → IsOutcome told arrivals (Some request) NotBuilt
+  unreadable : (request : Request) (program : List ℕ) → is_built request ≡ true → program_of request ≡ Some program → has_fault (told.script program) ≡ true
+      → IsOutcome told arrivals (Some request) Unreadable
+  refused : (request : Request) (program : List ℕ) (refusal : ProgramRefusal) → is_built request ≡ true → program_of request ≡ Some program
+      → IsFound told program (file_names request) (Err refusal) → IsOutcome told arrivals (Some request) (Refused (refusal_of refusal))
+  checks : (program : List ℕ) (c : CheckedGraph) → IsFound told program (file_names (R.Check program)) (Ok c)
+      → IsOutcome told arrivals (Some (R.Check program)) (Checks c)
+  runs : (program : List ℕ) (options : RunOptions) (c : CheckedGraph) → is_plain options ≡ true → IsFound told program (file_names (R.Run program options)) (Ok c)
+      → IsOutcome told arrivals (Some (R.Run program options)) (run_outcome c told arrivals)
 
 -- ---- the operators of its program
 
--- a program that can't be read to its end has none
-abbrev pub ArePartsBehind : Bool → Request → List ℕ → List Part → Type 0
-ArePartsBehind true request bytes parts = parts ≡ []
-ArePartsBehind false request bytes parts = (found : Result CheckedGraph ProgramRefusal) × IsAccepted bytes (file_names request) found × (parts ≡ parts_of found)
-
-abbrev pub ArePartsOf : Option (List ℕ) → Request → Told → List Part → Type 0
-ArePartsOf None request told parts = parts ≡ []
-ArePartsOf (Some program) request told parts = ArePartsBehind (has_fault (told.script program)) request (told.script program).bytes parts
-
--- the clauses of the operators that the request's program is run by, which are none where it isn't accepted or its graph isn't built
-abbrev pub ArePartsIn : Option Request → Told → List Part → Type 0
-ArePartsIn None told parts = parts ≡ []
-ArePartsIn (Some request) told parts = ArePartsOf (program_of request) request told parts
+-- The clauses of the operators that the request's program is run by: none where there is no program, where it can't be read, where it isn't accepted,
+-- or where its graph isn't built.
+pub data ArePartsIn (told : Told) : Option Request → List Part → Type 0 where
+  of_no_request : ArePartsIn told None []
+  of_no_program : (request : Request) → program_of request ≡ None → ArePartsIn told (Some request) []
+  of_unreadable : (request : Request) (program : List ℕ) → program_of request ≡ Some program → has_fault (told.script program) ≡ true → ArePartsIn told (Some request) []
+  of_program : (request : Request) (program : List ℕ) (found : Result CheckedGraph ProgramRefusal) → program_of request ≡ Some program
+      → IsFound told program (file_names request) found → ArePartsIn told (Some request) (parts_of found)

@@ -4,20 +4,20 @@ use Rattle.feed_pour.specs.Contents.{Told}
 use Rattle.language_model.specs.declared.checked.Part.{Part}
 use Rattle.stream_model.specs.declared.record.Arrivals.{Arrivals}
 use Rattle.command_line.specs.declared.request.Request.{Request}
-use Rattle.spl_driver.specs.Outcome.{Outcome, IsOutcome, ArePartsIn}
+use Rattle.spl_driver.specs.Outcome.{RequestOutcome, IsOutcome, ArePartsIn}
 
 -- a request comes to one thing at most, under an arrival record
 abbrev pub OneOutcomeLaw : Type 0
-OneOutcomeLaw = (request : Option Request) (t : Told) (arrivals : Arrivals) (r s : Outcome) → IsOutcome request t arrivals r → IsOutcome request t arrivals s → r ≡ s
+OneOutcomeLaw = (request : Option Request) (t : Told) (arrivals : Arrivals) (r s : RequestOutcome) → IsOutcome t arrivals request r → IsOutcome t arrivals request s → r ≡ s
 
 -- and none comes to nothing
 abbrev pub SomeOutcomeLaw : Type 0
-SomeOutcomeLaw = (request : Option Request) (t : Told) (arrivals : Arrivals) → ((r : Outcome) → IsOutcome request t arrivals r → ⊥) → ⊥
+SomeOutcomeLaw = (request : Option Request) (t : Told) (arrivals : Arrivals) → ((r : RequestOutcome) → IsOutcome t arrivals request r → ⊥) → ⊥
 
 -- its program has the operators of one list at most
 abbrev pub OnePartsLaw : Type 0
-OnePartsLaw = (request : Option Request) (t : Told) (x y : List Part) → ArePartsIn request t x → ArePartsIn request t y → x ≡ y
+OnePartsLaw = (request : Option Request) (t : Told) (x y : List Part) → ArePartsIn t request x → ArePartsIn t request y → x ≡ y
 
 -- and none has those of no list
 abbrev pub SomePartsLaw : Type 0
-SomePartsLaw = (request : Option Request) (t : Told) → ((x : List Part) → ArePartsIn request t x → ⊥) → ⊥
+SomePartsLaw = (request : Option Request) (t : Told) → ((x : List Part) → ArePartsIn t request x → ⊥) → ⊥

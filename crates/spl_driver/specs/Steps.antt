@@ -1,6 +1,6 @@
 -- What the steps of a request come to: the program compiled, the sources read, the streams computed, the sinks written.
 use Prim.Native.Nat.{suc}
-use Rattle.std.specs.Prelude.{◌≡◌, ◌<◌, ◌≤◌, ◌^◌, ◌⊎◌, ◌||◌, ◌&&◌, ℕ, List, [], ◌∷◌, map, length, Bool, true, false, ⊤, Option, Some, None, Result, Ok, Err, IfSome, slice_get}
+use Rattle.std.specs.Prelude.{◌≡◌, ◌<◌, ◌≤◌, ◌-◌, ◌^◌, ◌⊎◌, ◌||◌, ◌&&◌, ℕ, List, [], ◌∷◌, map, length, Bool, true, false, ⊤, Option, Some, None, Result, Ok, Err, IfOk, IfSome, slice_get}
 use Rattle.std.specs.List.{concat, filter_map, list_any, list_all}
 use Rattle.std.specs.Option.{option_map_or, unwrap_or}
 use Rattle.spl_value.specs.declared.item.Fault.{Fault}
@@ -8,7 +8,7 @@ use Rattle.spl_value.specs.declared.item.Item.{Item}
 use Rattle.spl_value.specs.Script.{Script, End}
 use Rattle.spl_tree.specs.declared.graph.Op.{Op}
 use Rattle.feed_pour.specs.Counts.{PerName}
-use Rattle.feed_pour.specs.Contents.{Told}
+use Rattle.feed_pour.specs.Contents.{Told, WhereTold}
 use Rattle.language_model.specs.declared.checked.Part.{Part}
 use Rattle.language_model.specs.declared.checked.Part.TheVariants as A
 use Rattle.stream_model.specs.declared.record.ArrivalList.{ArrivalList}
@@ -30,11 +30,14 @@ use Rattle.check_laws.specs.Files.{source_files, sink_files, is_named, OwnFiles}
 use Rattle.file_adapters.specs.Source.{is_number_file, is_number_schema}
 use Rattle.file_adapters.specs.declared.sinks.Sink.{Sink}
 use Rattle.list_run.specs.Runs.{CanRun, RowsFit, AreStreams, rows_at}
-use Rattle.spl_driver.specs.Outcome.{Outcome, NotBuilt, Runs, has_fault, holds_numbers, rows_told, meant, with_graph, carried_out}
-use Rattle.spl_driver.specs.Answer.{Stands, OpenFailed, CreateFailed, NoCountChanged, SameFiles, ReadsFailed, IsOr, cause_of}
+use Rattle.spl_driver.specs.Outcome.{RequestOutcome, NotBuilt, Checks, Runs, has_fault, holds_numbers, rows_told, meant, with_graph, run_outcome}
+use Rattle.spl_driver.specs.Answer.{Answered, ByWords, CauseMeans, MayBe, OpenFailed, CreateFailed, NoCountChanged, SameFiles, ReadsFailed, Shown, cause_of}
+use Rattle.spl_driver.specs.Lines.{IsLine, IsToldOutcome}
+use Rattle.spl_driver.specs.declared.answer.Answer.{Answer}
 use Rattle.spl_driver.specs.declared.compiled.Compiled.{Compiled}
 use Rattle.spl_driver.specs.declared.compiled.Compiled.TheVariants as P
 use Rattle.command_line.specs.declared.request.Request.{Request}
+use Rattle.command_line.specs.declared.request.Request.TheVariants as R
 use Rattle.spl_driver.specs.declared.sources.OneSource.{OneSource}
 use Rattle.spl_driver.specs.declared.sources.OneSource.TheVariants as O
 use Rattle.spl_driver.specs.declared.sources.Sources.{Sources}
@@ -212,19 +215,24 @@ counts_from n (A.FileSink file ∷ parts) [] = []
 counts_from n (A.FileSink file ∷ parts) (k ∷ rows) = record { op = n; tuples = k } ∷ counts_from (suc n) parts rows
 counts_from n (_ ∷ parts) rows = counts_from (suc n) parts rows
 
--- what an accepted program comes to where it is run
-abbrev pub IsRunOf : CheckedGraph → Arrivals → Told → Outcome → Type 0
-IsRunOf c arrivals told result = result ≡ with_graph c told arrivals.lists (graph_of c)
+-- the outcome of an accepted program where it is run
+abbrev pub IsRunOf : CheckedGraph → Arrivals → Told → RequestOutcome → Type 0
+IsRunOf c arrivals told result = result ≡ run_outcome c told arrivals
 
-abbrev pub RunComes : CheckedGraph → Arrivals → Option Told → Outcome → Type 0
+abbrev pub RunComes : CheckedGraph → Arrivals → Option Told → RequestOutcome → Type 0
 RunComes c arrivals told result = IfSome told (λ t. IsRunOf c arrivals t result)
 
--- what an accepted program comes to by its request
-abbrev pub IsCarried : Request → CheckedGraph → Arrivals → Told → Outcome → Type 0
-IsCarried request c arrivals told result = result ≡ carried_out request c told arrivals.lists
+-- the outcome of an accepted program, by its request
+abbrev pub accepted_outcome : Request → CheckedGraph → Told → Arrivals → RequestOutcome
+accepted_outcome (R.Check program) c told arrivals = Checks c
+accepted_outcome (R.Run program options) c told arrivals = run_outcome c told arrivals
+accepted_outcome _ c told arrivals = NotBuilt
 
-abbrev pub CarriedComes : Request → CheckedGraph → Arrivals → Option Told → Outcome → Type 0
-CarriedComes request c arrivals told result = IfSome told (λ t. IsCarried request c arrivals t result)
+abbrev pub IsAcceptedOutcome : Request → CheckedGraph → Arrivals → Told → RequestOutcome → Type 0
+IsAcceptedOutcome request c arrivals told result = result ≡ accepted_outcome request c told arrivals
+
+abbrev pub IsToldAcceptedOutcome : Request → CheckedGraph → Arrivals → Option Told → RequestOutcome → Type 0
+IsToldAcceptedOutcome request c arrivals told result = IfSome told (λ t. IsAcceptedOutcome request c arrivals t result)
 
 -- ---- an answer
 
@@ -236,10 +244,10 @@ pub record CountsShow (cause : Cause) (opened created : List (List ℕ)) (old ne
   pub device : cause ≡ C.Device → OpenFailed opened old new ⊎ CreateFailed created old new
 
 -- and what the files do, at a shelf that tells them
-pub record FilesShow (Is : Outcome → Type 0) (created : List (List ℕ)) (ended : Ended) (counts now : PerName) (old new : Told) : Type 0 where
-  pub stands : Stands ended.cause Is ended old new
+pub record FilesShow (Is : RequestOutcome → Type 0) (created : List (List ℕ)) (ended : Ended) (counts now : PerName) (old new : Told) : Type 0 where
+  pub means : CauseMeans ended.cause Is ended old new
   pub others : (n : List ℕ) → is_named created n ≡ false → new.holds n ≡ old.holds n
-  pub last : ended.cause ≡ C.Device → (CreateFailed created counts now → ⊥) → SameFiles old new
+  pub last : ended.cause ≡ C.Device → SameFiles old new ⊎ CreateFailed created counts now
   pub reads : ReadsFailed counts now old
 
 -- a run with this fault, or none, ends with these counts, unless memory was wanting for them
@@ -249,3 +257,13 @@ EndsAs fault sinks ended = ((ended.cause ≡ cause_of fault) × (ended.counts �
 -- and this is its line
 abbrev pub TellsRun : CheckedGraph → Option Fault → Cause → List ℕ → Type 0
 TellsRun c fault cause line = (line ≡ status_text (Some c) cause) ⊎ (cause ≡ C.NoMemory)
+
+-- what is known of the answer to a request before its line is told, with what the shelf tells and counts before and after, and what it has lent
+pub record AnswersRequest (request : Option Request) (answer : Answer) (told now : Option Told) (counts later : PerName) (before after : ℕ) : Type 0 where
+  pub answered : WhereTold told now (Answered request answer.ended counts later ⊥)
+  pub shown : Shown answer.ended.cause request counts later ⊥
+  pub line : IfOk answer.line (IsLine answer.ended.cause (IsToldOutcome request told answer.ended.arrivals))
+  pub words : ByWords request answer.ended.cause counts later
+  pub kinds : MayBe request answer.ended.cause
+  pub lists : answer.ended.arrivals.lists ≡ []
+  pub lent : before < 2 ^ 64 - 256 → after ≡ before

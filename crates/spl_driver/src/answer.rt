@@ -4,16 +4,16 @@ ghost use Rattle.feed_pour.specs.Contents.{WhereTold};
 ghost use Rattle.run_report.specs.Texts.{status_text, check_text};
 ghost use Rattle.command_line.specs.Request.{file_names};
 ghost use Rattle.check_laws.specs.Files.{OwnFiles};
-ghost use Rattle.spl_driver.specs.Answer.{Answered, MayBe, Shown};
+ghost use Rattle.spl_driver.specs.Answer.{MayBe};
 ghost use Rattle.spl_driver.specs.Built.{is_built};
 ghost use Rattle.spl_driver.specs.Files.{opens, creates, built_parts, program_of};
-ghost use Rattle.spl_driver.specs.Lines.{Comes, IsLine};
-ghost use Rattle.spl_driver.specs.Steps.{IsCarried, CarriedComes, CountsShow, FilesShow};
+ghost use Rattle.spl_driver.specs.Lines.{IsLine};
+ghost use Rattle.spl_driver.specs.Steps.{AnswersRequest, IsAcceptedOutcome, IsToldAcceptedOutcome, CountsShow, FilesShow};
 
 use crate::built::is_built_graph;
 use crate::compiled::{Compiled, compile_file};
 use crate::ended::{Ended, uncounted_end};
-use crate::laws::request_law;
+use crate::laws::outcome_law;
 use crate::run::run;
 use command_line::{Request, file_names};
 use feed_pour::Shelf;
@@ -55,7 +55,7 @@ fn checked(alloc: Global, checked: &Checked) -> Answer
 }
 
 // What is done with an accepted program.
-fn carry_out<H: Shelf>(
+fn answer_accepted<H: Shelf>(
     alloc: Global,
     shelf: &mut H,
     request: &Request,
@@ -64,7 +64,7 @@ fn carry_out<H: Shelf>(
     requires built { is_built request.now ≡ true }
     requires own { OwnFiles (file_names request.now) accepted.now.parts }
     ensures files { WhereTold (H.told shelf.old) (H.told shelf.new)
-        (λ old new. FilesShow (IsCarried request.now accepted.now result.ended.arrivals old)
+        (λ old new. FilesShow (IsAcceptedOutcome request.now accepted.now result.ended.arrivals old)
         (creates (Some request.now) (built_parts accepted.now))
         result.ended (H.counts shelf.old) (H.counts shelf.new) old new) }
     ensures counts { CountsShow result.ended.cause
@@ -72,7 +72,7 @@ fn carry_out<H: Shelf>(
         (creates (Some request.now) (built_parts accepted.now))
         (H.counts shelf.old) (H.counts shelf.new) }
     ensures line { IfOk result.line (IsLine result.ended.cause
-        (CarriedComes request.now accepted.now result.ended.arrivals (H.told shelf.old))) }
+        (IsToldAcceptedOutcome request.now accepted.now result.ended.arrivals (H.told shelf.old))) }
     ensures kinds { MayBe (Some request.now) result.ended.cause }
     ensures lists { result.ended.arrivals.lists ≡ [] }
     ensures lent { H.lent shelf.old < 2 ^ 64 - 256 → H.lent shelf.new ≡ H.lent shelf.old }
@@ -101,22 +101,15 @@ fn answer_file<H: Shelf>(
     requires built { is_built request.now ≡ true }
     requires names { names.now ≡ file_names request.now }
     requires program { program_of request.now ≡ Some program.now }
-    ensures answered { WhereTold (H.told shelf.old) (H.told shelf.new)
-        (Answered (Some request.now) result.ended (H.counts shelf.old) (H.counts shelf.new) ⊥) }
-    ensures shown { Shown result.ended.cause (Some request.now) (H.counts shelf.old)
-        (H.counts shelf.new) ⊥ }
-    ensures line { IfOk result.line (IsLine result.ended.cause
-        (Comes (Some request.now) (H.told shelf.old) result.ended.arrivals)) }
-    ensures kinds { MayBe (Some request.now) result.ended.cause }
-    ensures lists { result.ended.arrivals.lists ≡ [] }
-    ensures lent { H.lent shelf.old < 2 ^ 64 - 256 → H.lent shelf.new ≡ H.lent shelf.old }
+    ensures { AnswersRequest (Some request.now) result (H.told shelf.old) (H.told shelf.new)
+        (H.counts shelf.old) (H.counts shelf.new) (H.lent shelf.old) (H.lent shelf.new) }
 {
-    request_law();
+    outcome_law();
     match compile_file(alloc, shelf, program, names) {
         Compiled::Refused(refusal) => plain(alloc, Cause::Refused(refusal)),
         Compiled::Device => plain(alloc, Cause::Device),
         Compiled::Memory => plain(alloc, Cause::NoMemory),
-        Compiled::Checked(accepted) => carry_out(alloc, shelf, request, &accepted),
+        Compiled::Checked(accepted) => answer_accepted(alloc, shelf, request, &accepted),
     }
 }
 
@@ -129,15 +122,8 @@ pub fn answer_program<H: Shelf>(
 ) -> Answer
     requires built { is_built request.now ≡ true }
     requires program { program_of request.now ≡ Some program.now }
-    ensures answered { WhereTold (H.told shelf.old) (H.told shelf.new)
-        (Answered (Some request.now) result.ended (H.counts shelf.old) (H.counts shelf.new) ⊥) }
-    ensures shown { Shown result.ended.cause (Some request.now) (H.counts shelf.old)
-        (H.counts shelf.new) ⊥ }
-    ensures line { IfOk result.line (IsLine result.ended.cause
-        (Comes (Some request.now) (H.told shelf.old) result.ended.arrivals)) }
-    ensures kinds { MayBe (Some request.now) result.ended.cause }
-    ensures lists { result.ended.arrivals.lists ≡ [] }
-    ensures lent { H.lent shelf.old < 2 ^ 64 - 256 → H.lent shelf.new ≡ H.lent shelf.old }
+    ensures { AnswersRequest (Some request.now) result (H.told shelf.old) (H.told shelf.new)
+        (H.counts shelf.old) (H.counts shelf.new) (H.lent shelf.old) (H.lent shelf.new) }
 {
     match file_names(alloc, request) {
         Ok(names) => answer_file(alloc, shelf, request, program, &names),

@@ -20,7 +20,7 @@ pub fn accepted_law()
 }
 
 /// Under an arrival record a request comes to one thing, and its program has one list of operators.
-pub fn request_law()
+pub fn outcome_law()
     ensures one { OneOutcomeLaw }
     ensures some { SomeOutcomeLaw }
     ensures one_parts { OnePartsLaw }

@@ -1,15 +1,16 @@
 //! The top call: from the words of the command line to the exit status.
-ghost use Rattle.std.specs.Prelude.{◌≡◌, ◌⊎◌, ◌<◌, ◌-◌, ◌^◌, [], IfOk, IfSome, Some, None};
+ghost use Rattle.std.specs.Prelude.{◌≡◌, ◌<◌, ◌-◌, ◌^◌, [], IfSome, Some};
 ghost use Rattle.feed_pour.specs.Counts.{Rose};
 ghost use Rattle.feed_pour.specs.Contents.{WhereTold};
 ghost use Rattle.command_line.specs.Request.{request_of};
 ghost use Rattle.spl_driver.specs.Answer.{Answered, Shown, NoCountChanged, ByWords, MayBe, status_of, IsComplete, IsRun};
-ghost use Rattle.spl_driver.specs.Lines.{Comes, IsLine, Said, ToldAs, PoursLine};
+ghost use Rattle.spl_driver.specs.Lines.{IsToldOutcome, Said, ToldAs, PoursLine};
+ghost use Rattle.spl_driver.specs.Steps.{AnswersRequest};
 
 use crate::answer::{Answer, answer_program, plain};
 use crate::built::is_plain;
 use crate::ended::{Ended, status};
-use crate::laws::request_law;
+use crate::laws::outcome_law;
 use crate::tell::say;
 use command_line::{Request, read_request};
 use feed_pour::{Gate, Pour, Shelf, Starter};
@@ -19,19 +20,10 @@ use std::alloc::Global;
 use std::sync::Wait;
 use std::thread::Threads;
 
-// Does what a request asks.
-fn carried<H: Shelf>(alloc: Global, shelf: &mut H, request: &Request) -> Answer
-    ensures answered { WhereTold (H.told shelf.old) (H.told shelf.new)
-        (Answered (Some request.now) result.ended (H.counts shelf.old) (H.counts shelf.new) ⊥) }
-    ensures shown { Shown result.ended.cause (Some request.now) (H.counts shelf.old)
-        (H.counts shelf.new) ⊥ }
-    ensures line { IfOk result.line (IsLine result.ended.cause
-        (Comes (Some request.now) (H.told shelf.old) result.ended.arrivals)) }
-    ensures words { ByWords (Some request.now) result.ended.cause (H.counts shelf.old)
-        (H.counts shelf.new) }
-    ensures kinds { MayBe (Some request.now) result.ended.cause }
-    ensures lists { result.ended.arrivals.lists ≡ [] }
-    ensures lent { H.lent shelf.old < 2 ^ 64 - 256 → H.lent shelf.new ≡ H.lent shelf.old }
+// Answers a request.
+fn answer_request<H: Shelf>(alloc: Global, shelf: &mut H, request: &Request) -> Answer
+    ensures { AnswersRequest (Some request.now) result (H.told shelf.old) (H.told shelf.new)
+        (H.counts shelf.old) (H.counts shelf.new) (H.lent shelf.old) (H.lent shelf.new) }
 {
     match request {
         Request::Check(program) => answer_program(alloc, shelf, request, program),
@@ -49,29 +41,20 @@ fn carried<H: Shelf>(alloc: Global, shelf: &mut H, request: &Request) -> Answer
     }
 }
 
-// Does what the words ask.
-fn answer<H: Shelf>(alloc: Global, words: &[String], shelf: &mut H) -> Answer
-    ensures answered { WhereTold (H.told shelf.old) (H.told shelf.new)
-        (Answered (request_of words.now) result.ended (H.counts shelf.old) (H.counts shelf.new) ⊥) }
-    ensures shown { Shown result.ended.cause (request_of words.now) (H.counts shelf.old)
-        (H.counts shelf.new) ⊥ }
-    ensures line { IfOk result.line (IsLine result.ended.cause
-        (Comes (request_of words.now) (H.told shelf.old) result.ended.arrivals)) }
-    ensures words { ByWords (request_of words.now) result.ended.cause (H.counts shelf.old)
-        (H.counts shelf.new) }
-    ensures kinds { MayBe (request_of words.now) result.ended.cause }
-    ensures lists { result.ended.arrivals.lists ≡ [] }
-    ensures lent { H.lent shelf.old < 2 ^ 64 - 256 → H.lent shelf.new ≡ H.lent shelf.old }
+// Answers what the words ask.
+fn answer_words<H: Shelf>(alloc: Global, words: &[String], shelf: &mut H) -> Answer
+    ensures { AnswersRequest (request_of words.now) result (H.told shelf.old) (H.told shelf.new)
+        (H.counts shelf.old) (H.counts shelf.new) (H.lent shelf.old) (H.lent shelf.new) }
 {
     match read_request(alloc, words) {
         Err(_) => plain(alloc, Cause::NoMemory),
         Ok(None) => plain(alloc, Cause::BadWords),
-        Ok(Some(request)) => carried(alloc, shelf, &request),
+        Ok(Some(request)) => answer_request(alloc, shelf, &request),
     }
 }
 
-// What becomes of a cause whose line is told, where there was memory for it.
-fn told<P: Pour>(cause: Cause, line: Result<Bytes, NoMemory>, out: &mut P) -> Cause
+// Pours the line of a cause, where there was memory for it, and returns the cause that the program ends with.
+fn pour_line<P: Pour>(cause: Cause, line: Result<Bytes, NoMemory>, out: &mut P) -> Cause
     ensures cause { ToldAs cause result (Rose (P.faults out.old) (P.faults out.new)) }
     ensures poured { PoursLine cause result line (P.poured out.old) (P.poured out.new)
         (Rose (P.faults out.old) (P.faults out.new)) }
@@ -83,7 +66,7 @@ fn told<P: Pour>(cause: Cause, line: Result<Bytes, NoMemory>, out: &mut P) -> Ca
     }
 }
 
-/// The program: it carries out what the words behind the program's name ask over the shelf, and
+/// The program: it carries out what the words after the program's name ask over the shelf, and
 /// tells on `out` in a line why it ended, or what it checked. It asks neither the starter nor the
 /// gate, and starts no thread.
 pub fn spl<W: Threads + Wait + Sync, H: Shelf, S: Starter, G: Gate, P: Pour>(
@@ -97,7 +80,7 @@ pub fn spl<W: Threads + Wait + Sync, H: Shelf, S: Starter, G: Gate, P: Pour>(
 ) -> Ended
     ensures status { result.status ≡ status_of result.cause }
 
-    // What each answer comes to, what the files hold behind it, and which device failed, where the shelf tells its files.
+    // What each answer means, what the files hold after it, and which device failed, where the shelf tells its files.
     ensures answered { WhereTold (H.told shelf.old) (H.told shelf.new)
         (Answered (request_of words.now) result (H.counts shelf.old) (H.counts shelf.new)
         (Rose (P.faults out.old) (P.faults out.new))) }
@@ -111,7 +94,7 @@ pub fn spl<W: Threads + Wait + Sync, H: Shelf, S: Starter, G: Gate, P: Pour>(
 
     // The line that was poured.
     ensures said { Said result.cause
-        (Comes (request_of words.now) (H.told shelf.old) result.arrivals) (H.counts shelf.old)
+        (IsToldOutcome (request_of words.now) (H.told shelf.old) result.arrivals) (H.counts shelf.old)
         (H.counts shelf.new) (P.poured out.old) (P.poured out.new)
         (Rose (P.faults out.old) (P.faults out.new)) }
 
@@ -128,20 +111,20 @@ pub fn spl<W: Threads + Wait + Sync, H: Shelf, S: Starter, G: Gate, P: Pour>(
     // A check ends with no fault, and is built.
     ensures kinds { MayBe (request_of words.now) result.cause }
 
-    // Where no device fails, what the request comes to is the answer, unless memory is wanting.
+    // Where no device fails, the outcome of the request is the answer, unless memory is wanting.
     ensures complete { IfSome (H.told shelf.old)
         (IsComplete (request_of words.now) result (H.counts shelf.old) (H.counts shelf.new)
         (Rose (P.faults out.old) (P.faults out.new))) }
 {
-    request_law();
-    let Answer { ended, line } = answer(alloc, words, shelf);
+    outcome_law();
+    let Answer { ended, line } = answer_words(alloc, words, shelf);
     let Ended {
         status: _,
         cause,
         arrivals,
         counts,
     } = ended;
-    let cause = told(cause, line, out);
+    let cause = pour_line(cause, line, out);
     Ended {
         status: status(&cause),
         cause,

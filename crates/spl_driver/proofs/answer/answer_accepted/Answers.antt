@@ -1,6 +1,6 @@
 use Rattle.std.proofs.Common.{sym, ◌∙◌}
 use Rattle.spl_driver.proofs.Carrying.{checked_files, checked_line, ran_files, ran_counts, unbuilt_files}
-use Rattle.spl_driver.proofs.answer.carry_out.Goals as goal
+use Rattle.spl_driver.proofs.answer.answer_accepted.Goals as goal
 
 pub returns-in-Check-clause-files : goal.returns-in-Check-clause-files
 returns-in-Check-clause-files g c = checked_files _ c.args.request.now c.in-Check.field-0 c.args.accepted.now c.checked.result.ended _ c.in-Check.is c.checked.ensures.cause

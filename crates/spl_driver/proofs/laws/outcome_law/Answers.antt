@@ -1,5 +1,5 @@
 use Rattle.spl_driver.proofs.Requests.{one_outcome, some_outcome, one_parts, some_parts}
-use Rattle.spl_driver.proofs.laws.request_law.Goals as goal
+use Rattle.spl_driver.proofs.laws.outcome_law.Goals as goal
 
 pub returns-clause-one : goal.returns-clause-one
 returns-clause-one c = one_outcome c.accepted_law.ensures.one

@@ -1,0 +1,22 @@
+use Rattle.std.proofs.Common.{◌≡◌, ◌∙◌, false, inl, inr, sym, ap}
+use Rattle.spl_driver.specs.Built.{is_built}
+use Rattle.spl_driver.proofs.PlainAnswers.{not_built_request}
+use Rattle.spl_driver.proofs.top.answer_request.Goals as goal
+
+pub returns-else-is_plain : goal.returns-else-is_plain
+returns-else-is_plain g c =
+    not_built_request _ c.args.request.now c.plain.result _ _ (ap is_built c.in-Run.is ∙ sym c.is_plain.ensures ∙ c.if-is_plain.false)
+    c.plain.ensures.cause c.plain.ensures.line c.plain.ensures.lists
+
+pub returns-in-Plan : goal.returns-in-Plan
+returns-in-Plan g c =
+    not_built_request _ c.args.request.now c.plain-in-Plan.result _ _ other c.plain-in-Plan.ensures.cause c.plain-in-Plan.ensures.line c.plain-in-Plan.ensures.lists
+  where
+    other : is_built c.args.request.now ≡ false
+    other = elim c.in-Plan.is [
+      | inl plan ↦ ap is_built plan.1
+      | inr others ↦ elim others [
+        | inl replay ↦ ap is_built replay.2
+        | inr more ↦ elim more [ inl simulate ↦ ap is_built simulate.4 | inr make ↦ ap is_built make.3 ]
+      ]
+    ]
