@@ -8,9 +8,10 @@ use Rattle.spl_tree.specs.declared.unit.Composite.{Composite}
 use Rattle.spl_tree.specs.declared.unit.Definition.{Definition}
 use Rattle.spl_tree.specs.declared.unit.Definition.TheVariants as D
 use Rattle.language_model.specs.Composites.{as_composite, composites}
-use Rattle.composite_tables.specs.declared.tables.Names.{Names}
+use Rattle.program_tables.specs.declared.names.Names.{Names}
 use Rattle.composite_tables.specs.declared.tables.Scope.{Scope}
-use Rattle.composite_tables.specs.Names.{StandFor, composite_names}
+use Rattle.program_tables.specs.Names.{HoldsNames}
+use Rattle.composite_tables.specs.Names.{composite_names}
 
 module _ (unit : List Definition) (i : ℕ) (d : Definition) (within : i < length unit) (here : d ≡ get_or unit i d) where
   composites_at : composites (take (i + 1) unit) ≡ composites (take i unit) ++ composites (d ∷ [])
@@ -31,10 +32,10 @@ module _ (unit : List Definition) (i : ℕ) (d : Definition) (within : i < lengt
     names_at = sym (ap (map (λ c. c.name.what)) composite_at ∙ map-append (λ c. c.name.what) (composites (take i unit)) (c ∷ []))
 
     pub name_at : (table added : Names) → table ≡ added → (name : List ℕ) → name ≡ c.name.what
-        → StandFor added (composite_names (take i unit) ++ name ∷ []) → StandFor table (composite_names (take (i + 1) unit))
+        → HoldsNames added (composite_names (take i unit) ++ name ∷ []) → HoldsNames table (composite_names (take (i + 1) unit))
     name_at table added same name own stand =
-        subst (λ t. StandFor t (composite_names (take (i + 1) unit))) (sym same)
-        (subst (StandFor added) (ap (λ n. composite_names (take i unit) ++ n ∷ []) own ∙ names_at) stand)
+        subst (λ t. HoldsNames t (composite_names (take (i + 1) unit))) (sym same)
+        (subst (HoldsNames added) (ap (λ n. composite_names (take i unit) ++ n ∷ []) own ∙ names_at) stand)
 
   pub none_at : ((c : Composite) → d ≡ D.Composite c → ⊥) → composites (take (i + 1) unit) ≡ composites (take i unit)
   none_at other = composites_at ∙ ap (λ cs. composites (take i unit) ++ cs) (none d other) ∙ append-nil (composites (take i unit))

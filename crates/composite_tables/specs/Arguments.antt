@@ -6,8 +6,8 @@ use Rattle.spl_tree.specs.declared.unit.Parameter.{Parameter}
 use Rattle.language_model.specs.Composites.{is_empty}
 use Rattle.language_model.specs.Declarations.{repeated_names}
 use Rattle.language_model.specs.Invoking.{is_argument}
-use Rattle.composite_tables.specs.declared.tables.Names.{Names}
-use Rattle.composite_tables.specs.Names.{StandFor}
+use Rattle.program_tables.specs.declared.names.Names.{Names}
+use Rattle.program_tables.specs.Names.{HoldsNames}
 
 abbrev pub argument_names : List Parameter → List (List ℕ)
 argument_names arguments = map (λ a. a.name.what) arguments
@@ -19,4 +19,4 @@ fit_once c arguments = list_all (is_argument c) arguments && is_empty (repeated_
 -- the names of the arguments are given, where they fit and none is given twice
 abbrev pub FitArguments : Composite → List Parameter → Bool → Names → Type 0
 FitArguments c arguments false given = fit_once c arguments ≡ false
-FitArguments c arguments true given = (fit_once c arguments ≡ true) × StandFor given (argument_names arguments)
+FitArguments c arguments true given = (fit_once c arguments ≡ true) × HoldsNames given (argument_names arguments)

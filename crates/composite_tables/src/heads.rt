@@ -2,10 +2,11 @@
 ghost use Rattle.std.specs.Prelude.{◌≡◌, ◌&&◌, ◌||◌, List, [], ℕ, IfOk, is_some};
 ghost use Rattle.std.specs.List.{list_all};
 ghost use Rattle.language_model.specs.Invoking.{is_among, stream_names, has_arguments_alone, fit_parameters, fits_head};
-ghost use Rattle.composite_tables.specs.Names.{StandFor};
+ghost use Rattle.program_tables.specs.Names.{HoldsNames};
 ghost use Rattle.composite_tables.specs.Arguments.{FitArguments};
 
-use crate::tables::{Names, Scope};
+use crate::tables::Scope;
+use program_tables::Names;
 use spl_tree::{Clauses, CompositeParameter, Invocation, Parameter};
 use spl_value::NoMemory;
 use std::alloc::Global;
@@ -17,7 +18,7 @@ fn fit_arguments<'u>(
     arguments: &'u [Parameter],
     given: &mut Names<'u>,
 ) -> Result<bool, NoMemory>
-    requires { StandFor given.old [] }
+    requires { HoldsNames given.old [] }
     ensures { IfOk result (λ fit. FitArguments head.now.composite.now arguments.now fit given.new) }
 {
     for argument in arguments {
@@ -32,7 +33,7 @@ fn fit_arguments<'u>(
 
 /// Whether each parameter has a default or is given.
 fn have_values(parameters: &[CompositeParameter], given: &Names<'_>) -> bool
-    ensures { (names : List (List ℕ)) → StandFor given.now names → result ≡ list_all (λ p. is_some p.default || is_among p.name.what names) parameters.now }
+    ensures { (names : List (List ℕ)) → HoldsNames given.now names → result ≡ list_all (λ p. is_some p.default || is_among p.name.what names) parameters.now }
 {
     for parameter in parameters {
         if parameter.default.is_none() && !given.has(parameter.name.what.as_slice()) {

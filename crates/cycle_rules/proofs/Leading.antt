@@ -3,8 +3,8 @@ use Rattle.std.proofs.Common.{◌≡◌, ◌<◌, ◌≤◌, ◌↔◌, ℕ, suc
 use Rattle.std.specs.Prelude.{slice_get}
 use Rattle.spl_tree.specs.declared.expression.Placed.{Placed}
 use Rattle.language_model.specs.Recursion.{Calls, IsCall, Leads, directly, through, IsBack, IsAcyclic, IsFirstRecursion}
-use Rattle.cycle_rules.specs.declared.place_set.PlaceSet.{PlaceSet}
-use Rattle.cycle_rules.specs.Standing.{Stands}
+use Rattle.place_sets.specs.declared.place_set.PlaceSet.{PlaceSet}
+use Rattle.place_sets.specs.Places.{HasPlace}
 use Rattle.cycle_rules.specs.Callers.{Lists, Reached, near, far, AreCallers}
 use Rattle.cycle_rules.specs.Taking.{Before, IsTaken}
 use Rattle.cycle_rules.specs.Backs.{BackBy, NoneBack, FirstBack, IsRecursionAt}
@@ -42,7 +42,7 @@ falls calls s h k i j e (through a m b c l) =
     let then_on = falls calls s h first.front m j first.is l in
     record { front = then_on.front; lower = let p = first.lower in let q = then_on.lower in omega arith; is = then_on.is }
 
-pub taken_not : (calls : Calls) (s : PlaceSet) → IsTaken calls s → (i : ℕ) → Stands s.places.items i → Leads calls i i → ⊥
+pub taken_not : (calls : Calls) (s : PlaceSet) → IsTaken calls s → (i : ℕ) → HasPlace s.places.items i → Leads calls i i → ⊥
 taken_not calls s h i st l =
     let b = falls calls s h st.at i i st.is l in
     let same : b.front ≡ st.at = h.set.once b.front st.at i b.is st.is in
@@ -52,7 +52,7 @@ taken_not calls s h i st l =
 -- ---- the first call that leads back
 
 module _ (calls : Calls) (callers : List (List ℕ)) (are : AreCallers calls callers) (place : ℕ) (below : place < length calls)
-    (leading : List ℕ) (tells : (i : ℕ) → Stands leading i ↔ Reached callers place i)
+    (leading : List ℕ) (tells : (i : ℕ) → HasPlace leading i ↔ Reached callers place i)
     (list : List (Placed ℕ)) (its : slice_get calls place ≡ Some list) where
   back_of : (c : Placed ℕ) → BackBy leading place c → IsBack calls place c
   back_of c (inl e) = inl e

@@ -1,4 +1,3 @@
-mod Adding
 mod CallTables
 mod Calling
 mod Cases
@@ -6,10 +5,7 @@ mod Flags
 mod Gets
 mod Leading
 mod Lists
-mod MentionLaws
 mod Noting
 mod Reaching
 mod Snoc
-mod StatementLaws
 mod Takings
-mod Widening

@@ -6,42 +6,26 @@ use Rattle.std.proofs.lemmas.Option.{slice_get-get_or}
 use Rattle.std.proofs.lemmas.Map.Steps.{length-le_from_distinct_below}
 use Rattle.std.proofs.lemmas.Map.Keys.{IsDistinct-from_apart}
 use Rattle.std.proofs.lemmas.Map.Views.{Contains-from_any}
-use Rattle.cycle_rules.specs.declared.place_set.PlaceSet.{PlaceSet}
-use Rattle.cycle_rules.specs.Standing.{Stands, IsSet, Widens}
+use Rattle.place_sets.specs.declared.place_set.PlaceSet.{PlaceSet}
+use Rattle.place_sets.specs.Places.{HasPlace, IsSet, Widens}
 use Rattle.cycle_rules.specs.Callers.{Lists, Reached, near, far}
-use Rattle.cycle_rules.proofs.Widening.{here}
+use Rattle.place_sets.proofs.Widening.{here}
+use Rattle.place_sets.proofs.Fitting.{within_marks}
 use Rattle.cycle_rules.proofs.Calling.{lt_split}
 use Rattle.spl_value.proofs.Lists.{get_below, get_within}
-
-pub within_marks : (s : PlaceSet) → IsSet s → (i : ℕ) → Stands s.places.items i → i < length s.marks.items
-within_marks s h i st = get_within s.marks.items i true (h.marked i st)
-
--- numbers below a bound, none twice, are no more than the bound
-pub no_more : (xs : List ℕ) (n : ℕ) → ((k m i : ℕ) → slice_get xs k ≡ Some i → slice_get xs m ≡ Some i → k ≡ m) → ((i : ℕ) → Stands xs i → i < n) → length xs ≤ n
-no_more xs n once within =
-    let apart : (i j d : ℕ) → i < j → j < length xs → eqb (get_or xs i d) (get_or xs j d) ≡ false =
-    λ i j d below last.
-    let at_i : slice_get xs i ≡ Some (get_or xs i d) = slice_get-get_or xs i d (omega arith) in
-    let at_j : slice_get xs j ≡ Some (get_or xs j d) = slice_get-get_or xs j d last in
-    ne_eqb _ _ (λ same. let k : i ≡ j = once i j (get_or xs i d) at_i (at_j ∙ ap Some (sym same)) in absurd (omega arith)) in
-    length-le_from_distinct_below xs n (IsDistinct-from_apart eqb xs apart)
-    (λ q any. let k = Contains-from_any {eq = eqb} eqb-true q xs any in within q (here xs k.0 q (slice_get-get_or xs k.0 q k.1 ∙ ap Some k.2)))
-
-pub places_fit : (s : PlaceSet) → IsSet s → length s.places.items ≤ length s.marks.items
-places_fit s h = no_more s.places.items (length s.marks.items) h.once (within_marks s h)
 
 -- the lists of the first so many that were found are found
 pub record Searched (lists : List (List ℕ)) (from : ℕ) (found : PlaceSet) (told : ℕ) : Type 0 where
   pub set : IsSet found
   pub size : length found.marks.items ≡ length lists
-  pub sound : (i : ℕ) → Stands found.places.items i → Reached lists from i
-  pub begun : (i : ℕ) → Lists lists from i → Stands found.places.items i
-  pub told_on : (k j i : ℕ) → k < told → slice_get found.places.items k ≡ Some j → Lists lists j i → Stands found.places.items i
+  pub sound : (i : ℕ) → HasPlace found.places.items i → Reached lists from i
+  pub begun : (i : ℕ) → Lists lists from i → HasPlace found.places.items i
+  pub told_on : (k j i : ℕ) → k < told → slice_get found.places.items k ≡ Some j → Lists lists j i → HasPlace found.places.items i
 
-same_list : (lists : List (List ℕ)) (at of : ℕ) (list : List ℕ) → slice_get lists at ≡ Some list → Lists lists at of → Stands list of
+same_list : (lists : List (List ℕ)) (at of : ℕ) (list : List ℕ) → slice_get lists at ≡ Some list → Lists lists at of → HasPlace list of
 same_list lists at of list e h =
     let same : h.list ≡ list = let p = h.at_place in cc in
-    subst (λ l. Stands l of) same h.stands
+    subst (λ l. HasPlace l of) same h.stands
 
 pub first_found : (lists : List (List ℕ)) (from : ℕ) (list : List ℕ) (s t : PlaceSet) → slice_get lists from ≡ Some list
     → s.places.items ≡ [] → length s.marks.items ≡ length lists → Widens s t list → Searched lists from t 0
@@ -85,14 +69,14 @@ more_found lists from s t n j list at_n at_j h w = record {
 }
 
 all_reached : (lists : List (List ℕ)) (from : ℕ) (s : PlaceSet) (n : ℕ) → length s.places.items ≤ n → Searched lists from s n
-    → (i : ℕ) → Reached lists from i → Stands s.places.items i
+    → (i : ℕ) → Reached lists from i → HasPlace s.places.items i
 all_reached lists from s n past h i (near i' l) = h.begun i l
 all_reached lists from s n past h i (far j i' r l) =
     let g = all_reached lists from s n past h j r in
     h.told_on g.at j i (omega (arith, get_within s.places.items g.at j g.is)) g.is l
 
 pub all_found : (lists : List (List ℕ)) (from : ℕ) (s : PlaceSet) (n : ℕ) → length s.places.items ≤ n → Searched lists from s n
-    → (i : ℕ) → Stands s.places.items i ↔ Reached lists from i
+    → (i : ℕ) → HasPlace s.places.items i ↔ Reached lists from i
 all_found lists from s n past h i = (h.sound i, all_reached lists from s n past h i)
 
 pub found_below : (lists : List (List ℕ)) (from : ℕ) (s : PlaceSet) (n k i : ℕ) → slice_get s.places.items k ≡ Some i → Searched lists from s n → i < length lists

@@ -10,21 +10,11 @@ use Rattle.spl_tree.specs.declared.unit.Definition.{Definition}
 use Rattle.language_model.specs.Mentions.{calls, called_at}
 use Rattle.language_model.specs.Composites.{as_function, as_composite}
 use Rattle.language_model.specs.Recursion.{function_caller, composite_caller, function_callers, composite_callers}
-use Rattle.cycle_rules.specs.declared.mentions.Mention.{Mention}
-use Rattle.cycle_rules.specs.declared.mentions.Mention.TheVariants as M
-use Rattle.cycle_rules.specs.Mentioned.{seen, mentioned, mentions_seen}
+use Rattle.program_tables.specs.declared.mentions.Mention.{Mention}
+use Rattle.program_tables.specs.declared.mentions.Mention.TheVariants as M
+use Rattle.program_tables.specs.Mentioned.{seen, mentioned, mentions_seen}
 use Rattle.cycle_rules.specs.Named.{name_seen}
-
-pub take_snoc : {A : Type 0} (n : ℕ) (xs : List A) (x : A) → slice_get xs n ≡ Some x → take (suc n) xs ≡ take n xs ++ x ∷ []
-take_snoc n [] x e = cc
-take_snoc zero (y ∷ ys) x e = let s : y ≡ x = cc in ap (λ z. z ∷ []) s
-take_snoc (suc n) (y ∷ ys) x e = ap (λ zs. y ∷ zs) (take_snoc n ys x e)
-
-pub map_snoc : {A B : Type 0} (f : A → B) (xs ys : List A) (x : A) → ys ≡ xs ++ x ∷ [] → map f ys ≡ map f xs ++ f x ∷ []
-map_snoc f xs ys x e = ap (map f) e ∙ map-append f xs (x ∷ [])
-
-pub filter_snoc : {A B : Type 0} (h : A → Option B) (xs ys : List A) (x : A) → ys ≡ xs ++ x ∷ [] → filter_map h ys ≡ filter_map h xs ++ filter_map h (x ∷ [])
-filter_snoc h xs ys x e = ap (filter_map h) e ∙ filter_map-append h xs (x ∷ [])
+use Rattle.program_tables.proofs.Snoc.{take_snoc, map_snoc, filter_snoc}
 
 pub calls_snoc : (n : ℕ) (ms : List (Placed Mention)) (m : Placed Mention) → slice_get ms n ≡ Some m
     → calls (mentions_seen (take (suc n) ms)) ≡ calls (mentions_seen (take n ms)) ++ calls (mentioned m ∷ [])

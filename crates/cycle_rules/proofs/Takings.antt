@@ -3,11 +3,11 @@ use Rattle.std.proofs.Common.{◌≡◌, ◌<◌, ◌≤◌, ◌⊎◌, ◌∙�
 use Rattle.std.specs.Prelude.{slice_get}
 use Rattle.spl_tree.specs.declared.expression.Placed.{Placed}
 use Rattle.language_model.specs.Recursion.{Calls, IsCall}
-use Rattle.cycle_rules.specs.declared.place_set.PlaceSet.{PlaceSet}
-use Rattle.cycle_rules.specs.Standing.{Stands, IsSet, Widens}
+use Rattle.place_sets.specs.declared.place_set.PlaceSet.{PlaceSet}
+use Rattle.place_sets.specs.Places.{HasPlace, IsSet, Widens}
 use Rattle.cycle_rules.specs.Callers.{Calling}
 use Rattle.cycle_rules.specs.Taking.{IsTaken, Misses, Lacks, Takes}
-use Rattle.cycle_rules.proofs.Widening.{here}
+use Rattle.place_sets.proofs.Widening.{here}
 use Rattle.cycle_rules.proofs.Calling.{calling_of, call_at}
 use Rattle.spl_value.proofs.Lists.{get_below, get_within, only_one, take_cases}
 
@@ -27,7 +27,7 @@ no_shorter xs ys kept =
     let n : length ys < length xs → ⊥ = λ h. let x = get_below xs (length ys) h in let b = get_within ys (length ys) x.0 (kept (length ys) x.0 x.1) in absurd (omega arith) in
     omega (arith, n)
 
-takes_nothing : (calls : Calls) (p : ℕ) (s : PlaceSet) → IsTaken calls s → ((i : ℕ) → i < length calls → p ≡ i → Stands s.places.items i ⊎ Misses calls s.places.items i)
+takes_nothing : (calls : Calls) (p : ℕ) (s : PlaceSet) → IsTaken calls s → ((i : ℕ) → i < length calls → p ≡ i → HasPlace s.places.items i ⊎ Misses calls s.places.items i)
     → Takes calls (p ∷ []) s s
 takes_nothing calls p s h can = record {
   now = h;
@@ -46,7 +46,7 @@ takes_not calls p list s h e l =
     takes_nothing calls p s h (λ i below same. inr (subst (λ m. Misses calls s.places.items m) same (record { callee = l.callee; call = call_at calls p l.callee list e l.calling; none = l.none })))
 
 pub takes_one : (calls : Calls) (p : ℕ) (list : List (Placed ℕ)) (s t : PlaceSet) → IsTaken calls s → slice_get calls p ≡ Some list
-    → ((to : ℕ) → Calling list to → Stands s.places.items to) → Widens s t (p ∷ []) → Takes calls (p ∷ []) s t
+    → ((to : ℕ) → Calling list to → HasPlace s.places.items to) → Widens s t (p ∷ []) → Takes calls (p ∷ []) s t
 takes_one calls p list s t h e ready w =
     let xs = s.places.items in
     let ys = t.places.items in
@@ -122,7 +122,7 @@ taken_none calls s h size empty = record {
 }
 
 pub settled_now : (calls : Calls) (s t : PlaceSet) (ps : List ℕ) → Takes calls ps s t → length t.places.items ≡ length s.places.items
-    → (i : ℕ) → i < length calls → Stands ps i → Stands t.places.items i ⊎ Misses calls t.places.items i
+    → (i : ℕ) → i < length calls → HasPlace ps i → HasPlace t.places.items i ⊎ Misses calls t.places.items i
 settled_now calls s t ps w same i below st = elim (w.settled same i below st) [
   | inl g ↦ inl (here t.places.items g.at i (w.kept g.at i g.is))
   | inr m ↦ inr (record {

@@ -2,10 +2,10 @@
 use Rattle.std.specs.Prelude.{◌≡◌, ◌<◌, ◌⊎◌, ℕ, Bool, true, false, List, slice_get, Some}
 use Rattle.spl_tree.specs.declared.expression.Placed.{Placed}
 use Rattle.language_model.specs.Recursion.{Calls, IsBack}
-use Rattle.cycle_rules.specs.Standing.{Stands}
+use Rattle.place_sets.specs.Places.{HasPlace}
 
 abbrev pub BackBy : List ℕ → ℕ → Placed ℕ → Type 0
-BackBy leading place call = (call.what ≡ place) ⊎ Stands leading call.what
+BackBy leading place call = (call.what ≡ place) ⊎ HasPlace leading call.what
 
 abbrev pub TellsBack : List ℕ → ℕ → Placed ℕ → Bool → Type 0
 TellsBack leading place call true = BackBy leading place call

@@ -2,13 +2,13 @@
 use Rattle.std.specs.Prelude.{◌≡◌, ◌<◌, ◌⊎◌, ℕ, List, slice_get, Some, length}
 use Rattle.spl_tree.specs.declared.expression.Placed.{Placed}
 use Rattle.language_model.specs.Recursion.{Calls, IsCall}
-use Rattle.cycle_rules.specs.Standing.{Stands}
+use Rattle.place_sets.specs.Places.{HasPlace}
 
 -- the list at that place has the other one
 pub record Lists (lists : List (List ℕ)) (at of : ℕ) : Type 0 where
   pub list : List ℕ
   pub at_place : slice_get lists at ≡ Some list
-  pub stands : Stands list of
+  pub stands : HasPlace list of
 
 -- what the list of a place has, and the lists of what is reached
 pub data Reached (lists : List (List ℕ)) (from : ℕ) : ℕ → Type 0 where

@@ -2,8 +2,8 @@
 use Rattle.std.specs.Prelude.{◌≡◌, ◌<◌, ◌≤◌, ◌⊎◌, ℕ, Bool, true, false, List, slice_get, Some, length}
 use Rattle.spl_tree.specs.declared.expression.Placed.{Placed}
 use Rattle.language_model.specs.Recursion.{Calls, IsCall}
-use Rattle.cycle_rules.specs.declared.place_set.PlaceSet.{PlaceSet}
-use Rattle.cycle_rules.specs.Standing.{Stands, IsSet}
+use Rattle.place_sets.specs.declared.place_set.PlaceSet.{PlaceSet}
+use Rattle.place_sets.specs.Places.{HasPlace, IsSet}
 use Rattle.cycle_rules.specs.Callers.{Calling}
 
 -- it stands in the list before that place
@@ -21,16 +21,16 @@ pub record IsTaken (calls : Calls) (taken : PlaceSet) : Type 0 where
 pub record Misses (calls : Calls) (places : List ℕ) (place : ℕ) : Type 0 where
   pub callee : ℕ
   pub call : IsCall calls place callee
-  pub none : Stands places callee → ⊥
+  pub none : HasPlace places callee → ⊥
 
 pub record Lacks (calls : List (Placed ℕ)) (places : List ℕ) : Type 0 where
   pub callee : ℕ
   pub calling : Calling calls callee
-  pub none : Stands places callee → ⊥
+  pub none : HasPlace places callee → ⊥
 
 -- all that the calls call is there, or one isn't
 abbrev pub Readies : List (Placed ℕ) → List ℕ → Bool → Type 0
-Readies calls places true = (to : ℕ) → Calling calls to → Stands places to
+Readies calls places true = (to : ℕ) → Calling calls to → HasPlace places to
 Readies calls places false = Lacks calls places
 
 -- those that were taken stay where they stood, and where none came each of these places was taken or can't be
@@ -38,5 +38,5 @@ pub record Takes (calls : Calls) (places : List ℕ) (old new : PlaceSet) : Type
   pub now : IsTaken calls new
   pub kept : (k i : ℕ) → slice_get old.places.items k ≡ Some i → slice_get new.places.items k ≡ Some i
   pub grows : length old.places.items ≤ length new.places.items
-  pub settled : length new.places.items ≡ length old.places.items → (i : ℕ) → i < length calls → Stands places i
-      → Stands old.places.items i ⊎ Misses calls old.places.items i
+  pub settled : length new.places.items ≡ length old.places.items → (i : ℕ) → i < length calls → HasPlace places i
+      → HasPlace old.places.items i ⊎ Misses calls old.places.items i

@@ -1,12 +1,12 @@
 //! Who reaches itself among callers that are numbers.
 ghost use Rattle.std.specs.Prelude.{◌≡◌, ◌<◌, ◌⊎◌, ◌∷◌, [], ◌^◌, ℕ, ◌↔◌, length, IfOk, OnOk, MatchOption};
 ghost use Rattle.language_model.specs.Recursion.{IsCall, Leads, IsAcyclic, IsFirstRecursion};
-ghost use Rattle.cycle_rules.specs.Standing.{Stands, IsSet};
+ghost use Rattle.place_sets.specs.Places.{HasPlace, IsSet};
 ghost use Rattle.cycle_rules.specs.Callers.{Lists, Reached, AreEmpty, AreCallers, Notes, NotesAll};
 ghost use Rattle.cycle_rules.specs.Taking.{Readies, IsTaken, Takes, Misses};
 ghost use Rattle.cycle_rules.specs.Backs.{TellsBack, NoneBack, FirstBack, IsRecursionAt};
 
-use crate::place_set::PlaceSet;
+use place_sets::PlaceSet;
 use spl_tree::Placed;
 use spl_value::{Items, NoMemory};
 use std::alloc::Global;
@@ -60,7 +60,7 @@ fn leading_to(alloc: Global, callers: &[Items<u32>], place: usize) -> Result<Pla
     requires place { place < length callers.now }
     requires within { (at of : ℕ) → Lists callers.now at of → of < length callers.now }
     ensures set { IfOk result (λ s. IsSet s) }
-    ensures leading { IfOk result (λ s. (i : ℕ) → Stands s.places.items i ↔ Reached callers.now place i) }
+    ensures leading { IfOk result (λ s. (i : ℕ) → HasPlace s.places.items i ↔ Reached callers.now place i) }
 {
     let mut found = PlaceSet::new(alloc, callers.len())?;
     add_leading(callers, place, &mut found)?;
@@ -73,7 +73,7 @@ fn add_leading(callers: &[Items<u32>], place: usize, found: &mut PlaceSet) -> Re
     requires within { (at of : ℕ) → Lists callers.now at of → of < length callers.now }
     requires empty { IsSet found.old × (length found.old.marks.items ≡ length callers.now) × (found.old.places.items ≡ []) }
     ensures set { OnOk result (IsSet found.new) }
-    ensures leading { OnOk result ((i : ℕ) → Stands found.new.places.items i ↔ Reached callers.now place i) }
+    ensures leading { OnOk result ((i : ℕ) → HasPlace found.new.places.items i ↔ Reached callers.now place i) }
 {
     found.add_all(callers[place].as_slice())?;
     let mut told = 0;
@@ -173,7 +173,7 @@ fn without_calls(alloc: Global, calls: &[Items<Placed<u32>>]) -> Result<Vec<u32>
 /// Adds each number below a bound.
 fn add_all_below(bound: usize, places: &mut Vec<u32>) -> Result<(), NoMemory>
     requires { bound < 2 ^ 32 }
-    ensures { OnOk result ((i : ℕ) → i < bound → Stands places.new.items i) }
+    ensures { OnOk result ((i : ℕ) → i < bound → HasPlace places.new.items i) }
 {
     for place in 0..bound {
         places.push(place as u32)?;
@@ -209,7 +209,7 @@ fn likely_order(
     callers: &[Items<u32>],
 ) -> Result<Vec<u32>, NoMemory>
     requires { length calls.now < 2 ^ 32 }
-    ensures { IfOk result (λ order. (i : ℕ) → i < length calls.now → Stands order.items i) }
+    ensures { IfOk result (λ order. (i : ℕ) → i < length calls.now → HasPlace order.items i) }
 {
     let mut order = without_calls(alloc, calls)?;
     add_acyclic(alloc, calls, callers, &mut order)?;
@@ -225,7 +225,7 @@ fn taken_callers(
 ) -> Result<PlaceSet, NoMemory>
     requires { length calls.now < 2 ^ 32 }
     ensures taken { IfOk result (λ taken. IsTaken calls.now taken) }
-    ensures others { IfOk result (λ taken. (i : ℕ) → i < length calls.now → Stands taken.places.items i ⊎ Misses calls.now taken.places.items i) }
+    ensures others { IfOk result (λ taken. (i : ℕ) → i < length calls.now → HasPlace taken.places.items i ⊎ Misses calls.now taken.places.items i) }
 {
     let places = likely_order(alloc, calls, callers)?;
     let mut taken = PlaceSet::new(alloc, calls.len())?;

@@ -4,11 +4,11 @@ ghost use Rattle.std.specs.HashMap as hash;
 ghost use Rattle.std.specs.Str.{bytes_eq};
 ghost use Rattle.language_model.specs.Mentions.{calls};
 ghost use Rattle.language_model.specs.Recursion.{function_caller, composite_caller, function_callers, composite_callers, calls_among, IsFirstIn, HasNoRecursion, IsRecursive, IsNotRecursive};
-ghost use Rattle.cycle_rules.specs.Mentioned.{mentions_seen};
+ghost use Rattle.program_tables.specs.Mentioned.{mentions_seen};
 ghost use Rattle.cycle_rules.specs.Named.{name_seen, caller_seen, callers_seen, place_from, found_place};
 
 use crate::calls;
-use crate::mentions::{Mention, of_body};
+use program_tables::{Mention, of_body};
 use spl_tree::{Composite, Definition, FunctionDefinition, Placed, Unit};
 use spl_value::{Items, Name, NoMemory};
 use std::alloc::Global;

@@ -4,10 +4,10 @@ ghost use Rattle.std.specs.List.{list_any};
 ghost use Rattle.std.specs.Option.{option_copied, option_map, option_to_list};
 ghost use Rattle.std.specs.Str.{bytes_eq};
 ghost use Rattle.language_model.specs.Declarations.{first_of, repeated};
-ghost use Rattle.language_model.specs.SinkFiles.{value_named, default_named, only_value, text_of, dollar_text, own_text, text_in, file_of, op_file, is_had, Text};
+ghost use Rattle.language_model.specs.SinkFiles.{text_of, dollar_text, own_text, text_in, file_of, op_file, is_had, Text};
 ghost use Rattle.duplicate_rules.specs.Seen.{form_text, text_seen, file_seen};
 
-use crate::sites::Sites;
+use program_tables::{SiteTable, default_named, value_named};
 use spl_tree::{
     CompositeParameter, Expansion, Expr, ExprKind, Op, OpKind, Parameter, Placed, Unit,
 };
@@ -29,7 +29,7 @@ pub fn same_file(
     ensures { IfOk result (λ found. found ≡ first_of (map (λ f. f.file)
         (repeated (is_had names.now) (flat_map (op_file unit.now expansions.now) ops.now)))) }
 {
-    let sites = Sites::new(alloc, unit, expansions)?;
+    let sites = SiteTable::new(alloc, unit, expansions)?;
     let mut files = Vec::new(alloc);
     let found = first_had(&sites, names, ops, &mut files)?;
     copied(alloc, found)
@@ -37,7 +37,7 @@ pub fn same_file(
 
 /// The first such file. The files that stand before it are added to those, of which there is none.
 fn first_had<'a>(
-    sites: &Sites<'a>,
+    sites: &SiteTable<'a>,
     names: &[Name],
     ops: &[Op],
     files: &mut Vec<UsedFile<'a>>,
@@ -104,7 +104,7 @@ fn is_shared(files: &[UsedFile], file: &UsedFile) -> bool
 }
 
 /// The file of an operator, where it is a source or sink that has one.
-fn file_of_op<'a>(sites: &Sites<'a>, op: &Op) -> Option<UsedFile<'a>>
+fn file_of_op<'a>(sites: &SiteTable<'a>, op: &Op) -> Option<UsedFile<'a>>
     ensures { option_to_list (option_map file_seen result) ≡ op_file sites.now.unit.now sites.now.expansions.now op.now }
 {
     if !matches!(op.kind, OpKind::FileSink | OpKind::FileSource) {
@@ -119,17 +119,17 @@ fn file_of_op<'a>(sites: &Sites<'a>, op: &Op) -> Option<UsedFile<'a>>
 }
 
 /// The text of its parameter `file`.
-fn file_of<'a>(sites: &Sites<'a>, op: &Op) -> Option<&'a [u8]>
+fn file_of<'a>(sites: &SiteTable<'a>, op: &Op) -> Option<&'a [u8]>
     ensures { option_copied result ≡ file_of sites.now.unit.now sites.now.expansions.now op.now }
 {
     let invocation = sites.invocation(op.site)?;
-    let value = value_of(invocation.clauses.parameters.as_slice(), b"file")?;
+    let value = value_named(invocation.clauses.parameters.as_slice(), b"file")?;
     text_of(sites, op.site.expansion, value)
 }
 
 /// The text that an expression stands for in the expansion of a number. An argument is meant where
 /// the composite is invoked, so this goes up through the expansions.
-fn text_of<'a>(sites: &Sites<'a>, number: u32, value: &'a Expr) -> Option<&'a [u8]>
+fn text_of<'a>(sites: &SiteTable<'a>, number: u32, value: &'a Expr) -> Option<&'a [u8]>
     ensures { option_copied result ≡ text_in (length sites.now.expansions.now) sites.now.unit.now sites.now.expansions.now number value.now }
 {
     let mut number = number;
@@ -159,7 +159,7 @@ enum ValueText<'a> {
 }
 
 /// What an expression in an expansion comes to.
-fn text_within<'a>(sites: &Sites<'a>, expansion: &Expansion, value: &'a Expr) -> ValueText<'a>
+fn text_within<'a>(sites: &SiteTable<'a>, expansion: &Expansion, value: &'a Expr) -> ValueText<'a>
     ensures { text_seen result ≡ own_text sites.now.unit.now sites.now.expansions.now expansion.now value.now }
 {
     match form_of(value) {
@@ -186,10 +186,10 @@ fn parameter_text<'a>(
     let mut left = heads.len();
     'defaults: while left > 0 {
         left -= 1;
-        if let Some(argument) = value_of(arguments, name) {
+        if let Some(argument) = value_named(arguments, name) {
             return ValueText::Argument(argument);
         }
-        let Some(default) = default_of(heads, name) else {
+        let Some(default) = default_named(heads, name) else {
             return ValueText::Nothing;
         };
         name = match form_of(default) {
@@ -216,37 +216,4 @@ fn form_of(value: &Expr) -> Form
         ExprKind::Dollar(name) => Form::Dollar(name.as_slice()),
         _ => Form::Other,
     }
-}
-
-/// The one value of the first parameter of the name.
-fn value_of<'a>(parameters: &'a [Parameter], name: &[u8]) -> Option<&'a Expr>
-    ensures { option_copied result ≡ value_named parameters.now name.now }
-{
-    for parameter in parameters {
-        if parameter.name.what.as_slice() == name {
-            return only(parameter.values.as_slice());
-        }
-    }
-    None
-}
-
-fn only(values: &[Expr]) -> Option<&Expr>
-    ensures { option_copied result ≡ only_value values.now }
-{
-    match values {
-        [value] => Some(value),
-        _ => None,
-    }
-}
-
-/// The default of the first parameter of the name.
-fn default_of<'a>(heads: &'a [CompositeParameter], name: &[u8]) -> Option<&'a Expr>
-    ensures { option_copied result ≡ default_named heads.now name.now }
-{
-    for head in heads {
-        if head.name.what.as_slice() == name {
-            return head.default.as_ref();
-        }
-    }
-    None
 }

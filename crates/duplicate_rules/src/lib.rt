@@ -4,7 +4,6 @@
 
 mod declarations;
 mod files;
-mod sites;
 
 pub use declarations::declared_twice;
 pub use files::same_file;

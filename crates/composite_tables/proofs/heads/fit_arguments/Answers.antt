@@ -1,7 +1,7 @@
 use Rattle.std.proofs.Common.{◌≡◌, [], ◌++◌, ◌∷◌, ◌∙◌, ◌+◌, true, ap, sym, subst, drop, take, eq-eqb}
 use Rattle.std.specs.Prelude.{◌&&◌, length}
 use Rattle.language_model.specs.Invoking.{is_argument, is_parameter, is_among}
-use Rattle.composite_tables.specs.Names.{StandFor}
+use Rattle.program_tables.specs.Names.{HoldsNames}
 use Rattle.composite_tables.specs.Arguments.{argument_names}
 use Rattle.composite_tables.proofs.Fitting.{fit_behind, fitting, names_at, rest_at, stand_at}
 use Rattle.composite_tables.proofs.heads.fit_arguments.Goals as goal
@@ -22,6 +22,6 @@ loop-argument-preserved c =
     let new = inv.1.among a.name.what ∙ ap (λ n. is_among n (argument_names (take i arguments))) (sym name) ∙ sym (c.has.ensures (argument_names (take i arguments)) inv.2) ∙ c.if-has.false in (
       a.name ∷ inv.0,
       stand_at arguments i a within here inv.0 inv.1,
-      subst (StandFor c.add.new.self) (ap (λ n. argument_names (take i arguments) ++ n ∷ []) name ∙ names_at arguments i a within here) (c.in_ok-add.ensures (argument_names (take i arguments)) inv.2),
+      subst (HoldsNames c.add.new.self) (ap (λ n. argument_names (take i arguments) ++ n ∷ []) name ∙ names_at arguments i a within here) (c.in_ok-add.ensures (argument_names (take i arguments)) inv.2),
       inv.3 ∙ ap (fit_behind composite inv.0) (rest_at arguments i a within here) ∙ fitting composite inv.0 a (drop (i + 1) arguments) argument new,
     )

@@ -2,11 +2,11 @@ use Rattle.std.proofs.Common.{◌≡◌, List, ℕ, drop}
 use Rattle.std.specs.Prelude.{◌||◌, is_some}
 use Rattle.std.specs.List.{list_all}
 use Rattle.language_model.specs.Invoking.{is_among}
-use Rattle.composite_tables.specs.Names.{StandFor}
+use Rattle.program_tables.specs.Names.{HoldsNames}
 use Rattle.composite_tables.proofs.heads.have_values.Given as goal
 
 abbrev pub invariant-loop-parameter : goal.invariant-loop-parameter
 invariant-loop-parameter l =
-    (names : List (List ℕ)) → StandFor l.given names
+    (names : List (List ℕ)) → HoldsNames l.given names
     → list_all (λ p. is_some p.default || is_among p.name.what names) l.parameters
     ≡ list_all (λ p. is_some p.default || is_among p.name.what names) (drop l.parameter-index l.parameters)

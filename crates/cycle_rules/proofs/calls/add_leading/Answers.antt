@@ -1,7 +1,8 @@
 use Rattle.std.proofs.Common.{◌≡◌, ◌∙◌, ◌<◌, add-one, Some, ap, sym, subst, arith, length}
 use Rattle.std.specs.Prelude.{slice_get}
 use Rattle.std.proofs.lemmas.Option.{slice_get-get_or}
-use Rattle.cycle_rules.proofs.Reaching.{first_found, more_found, all_found, found_below, places_fit}
+use Rattle.place_sets.proofs.Fitting.{places_fit}
+use Rattle.cycle_rules.proofs.Reaching.{first_found, more_found, all_found, found_below}
 use Rattle.cycle_rules.proofs.calls.add_leading.Goals as goal
 
 pub add_all-requires-clause-below : goal.add_all-requires-clause-below

@@ -1,6 +1,6 @@
 use Rattle.std.proofs.Common.{◌≡◌, length, arith, sym, subst}
-use Rattle.cycle_rules.specs.Standing.{Stands}
-use Rattle.cycle_rules.proofs.Reaching.{places_fit}
+use Rattle.place_sets.specs.Places.{HasPlace}
+use Rattle.place_sets.proofs.Fitting.{places_fit}
 use Rattle.cycle_rules.proofs.Takings.{settled_now}
 use Rattle.cycle_rules.proofs.calls.taken_callers.Goals as goal
 
@@ -10,7 +10,7 @@ returns-then-len-before-clause-others c =
     let t = c.take_ready.new.taken in
     let e = c.if-len-before.true in
     let same : length t.places.items ≡ length s.places.items = let a = c.len.ensures in let b = c.len-before.ensures in omega arith in
-    λ i below. settled_now c.args.calls.now s t c.as_slice.result.now c.in_ok-take_ready.ensures same i below (subst (λ xs. Stands xs i) (sym c.as_slice.ensures.value) (c.in_ok-places.ensures i below))
+    λ i below. settled_now c.args.calls.now s t c.as_slice.result.now c.in_ok-take_ready.ensures same i below (subst (λ xs. HasPlace xs i) (sym c.as_slice.ensures.value) (c.in_ok-places.ensures i below))
 
 pub passes-smaller : goal.passes-smaller
 passes-smaller c =

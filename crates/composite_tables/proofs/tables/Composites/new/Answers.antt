@@ -1,5 +1,6 @@
 use Rattle.std.proofs.Common.{ap, sym, subst, ◌∙◌, ◌+◌, map, take}
-use Rattle.composite_tables.specs.Names.{StandFor, composite_names}
+use Rattle.program_tables.specs.Names.{HoldsNames}
+use Rattle.composite_tables.specs.Names.{composite_names}
 use Rattle.composite_tables.proofs.Gathering.{scope_at, name_at, none_at}
 use Rattle.composite_tables.proofs.tables.Composites.new.Goals.{in-Composite+in_ok-scope_of+in_ok-push+in_ok-add, in_default}
 use Rattle.composite_tables.proofs.tables.Composites.new.Goals as goal
@@ -22,6 +23,6 @@ loop-definition-preserved c =
       | in_default w ↦
           let same = sym (none_at unit i d within here w.in_default.not-Composite) in (
             ap (λ v. map (λ s. s.composite.now) v.items) w.scopes-is ∙ inv.0 ∙ same,
-            subst (λ t. StandFor t (composite_names (take (i + 1) unit))) (sym w.names-is) (subst (λ cs. StandFor c.loop-definition.names (map (λ c. c.name.what) cs)) same inv.1),
+            subst (λ t. HoldsNames t (composite_names (take (i + 1) unit))) (sym w.names-is) (subst (λ cs. HoldsNames c.loop-definition.names (map (λ c. c.name.what) cs)) same inv.1),
           )
     ]

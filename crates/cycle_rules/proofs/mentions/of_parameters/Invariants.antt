@@ -1,7 +1,0 @@
-use Rattle.std.proofs.Common.{◌≡◌, ◌++◌, flat_map, take}
-use Rattle.language_model.specs.Mentions.{parameter_mentions}
-use Rattle.cycle_rules.specs.Mentioned.{mentions_seen}
-use Rattle.cycle_rules.proofs.mentions.of_parameters.Given as goal
-
-abbrev pub invariant-loop-parameter : goal.invariant-loop-parameter
-invariant-loop-parameter l = mentions_seen l.out.items ≡ mentions_seen l.fn.out.items ++ flat_map parameter_mentions (take l.parameter-index l.parameters)

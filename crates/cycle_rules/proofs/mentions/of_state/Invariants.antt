@@ -1,7 +1,0 @@
-use Rattle.std.proofs.Common.{◌≡◌, ◌++◌, flat_map, take}
-use Rattle.language_model.specs.Mentions.{declaration_mentions}
-use Rattle.cycle_rules.specs.Mentioned.{mentions_seen}
-use Rattle.cycle_rules.proofs.mentions.of_state.Given as goal
-
-abbrev pub invariant-loop-declaration : goal.invariant-loop-declaration
-invariant-loop-declaration l = mentions_seen l.out.items ≡ mentions_seen l.fn.out.items ++ flat_map declaration_mentions (take l.declaration-index l.state)

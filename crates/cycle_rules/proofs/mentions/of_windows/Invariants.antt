@@ -1,7 +1,0 @@
-use Rattle.std.proofs.Common.{◌≡◌, ◌++◌, flat_map, take}
-use Rattle.language_model.specs.Mentions.{window_mentions}
-use Rattle.cycle_rules.specs.Mentioned.{mentions_seen}
-use Rattle.cycle_rules.proofs.mentions.of_windows.Given as goal
-
-abbrev pub invariant-loop-window : goal.invariant-loop-window
-invariant-loop-window l = mentions_seen l.out.items ≡ mentions_seen l.fn.out.items ++ flat_map window_mentions (take l.window-index l.windows)

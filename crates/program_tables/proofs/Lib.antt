@@ -1,0 +1,6 @@
+mod Adding
+mod Growing
+mod MentionLaws
+mod Places
+pub mod Snoc
+mod StatementLaws
