@@ -17,7 +17,7 @@ use Rattle.command_line.specs.Commands.{command_of, is_of}
 use Rattle.command_line.specs.Options.{file_of, value_of, is_counts, at_most_one, read_by, number_within}
 use Rattle.command_line.specs.Request.{other_than, run_of, simulate_of, make_of, request_with, request_given}
 use Rattle.command_line.specs.RequestLaws.{AnyOrderLaw}
-use Rattle.command_line.specs.Steps.{with_front}
+use Rattle.command_line.specs.steps.Steps.{with_front}
 use Rattle.command_line.proofs.Reading.{in_front}
 
 -- ---- arguments are read one behind another

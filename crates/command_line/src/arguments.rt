@@ -23,7 +23,7 @@ pub(crate) enum Word {
 pub(crate) type Arguments = Items<Argument>;
 
 ghost use Rattle.command_line.specs.Arguments.{is_equals, is_plain, valued, option_of, word_of, arguments, texts};
-ghost use Rattle.command_line.specs.Steps.{begun};
+ghost use Rattle.command_line.specs.steps.Steps.{begun};
 
 // Whether a word may be a file name or a value.
 fn is_plain(word: &[u8]) -> bool

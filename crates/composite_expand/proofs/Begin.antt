@@ -10,8 +10,8 @@ use Rattle.language_model.specs.Scopes.{At}
 use Rattle.composite_expand.specs.declared.walk.Opened.{Opened}
 use Rattle.composite_expand.specs.declared.walk.Walk.{Walk}
 use Rattle.composite_tables.specs.Inputs.{Shows, InputsStand, AreKept}
-use Rattle.composite_expand.specs.Walking.{Frame, frame, Keeps, IsIdle, resumed}
-use Rattle.composite_expand.specs.Walks.{IsOn, Starts, IsExpanded}
+use Rattle.composite_expand.specs.steps.Walking.{Frame, frame, Keeps, IsIdle, resumed}
+use Rattle.composite_expand.specs.steps.Walks.{IsOn, Starts, IsExpanded}
 use Rattle.composite_expand.proofs.Keeping.{kept_main}
 use Rattle.composite_expand.proofs.Way.{done}
 

@@ -26,7 +26,7 @@ use Rattle.composite_tables.specs.declared.numbering.Numbered.{Numbered}
 use Rattle.composite_tables.specs.Inputs.{Shows, AreNested, InputsStand}
 use Rattle.composite_expand.specs.declared.walk.Walk.{Walk}
 use Rattle.composite_tables.specs.Numbered.{IsNumbered}
-use Rattle.composite_expand.specs.Walks.{IsExpanded, Starts, Refuses}
+use Rattle.composite_expand.specs.steps.Walks.{IsExpanded, Starts, Refuses}
 use Rattle.spl_value.proofs.Bools.{and_left, and_right}
 
 label_found : (ops : List Operation) (op : ℕ) (label : Placed (List ℕ)) → slice_get (map (λ (x : Operation). placed x.at x.label) ops) op ≡ Some label

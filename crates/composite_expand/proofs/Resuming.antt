@@ -12,7 +12,7 @@ use Rattle.language_model.specs.Expansion.{Made, Found, Inlined, Opened, Expands
 use Rattle.language_model.specs.Invoking.{Body, target_of, undeclared, fits_head}
 use Rattle.language_model.specs.Declarations.{first_of}
 use Rattle.language_model.specs.Scopes.{At}
-use Rattle.composite_expand.specs.Walking.{Frame, frame, rest_of, closed, resumed, Keeps, IsIdle}
+use Rattle.composite_expand.specs.steps.Walking.{Frame, frame, rest_of, closed, resumed, Keeps, IsIdle}
 
 after_after : {A B C : Type 0} (x : Found A) (f : A → Found B) (g : B → Found C) → after (after x f) g ≡ after x (λ a. after (f a) g)
 after_after (Ok x) f g = refl

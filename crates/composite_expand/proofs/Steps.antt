@@ -28,8 +28,8 @@ use Rattle.language_model.proofs.Inlining.{found}
 use Rattle.language_model.proofs.Nesting.{invoked_is_call}
 use Rattle.std.proofs.lemmas.Option.{slice_get_within, slice_get_read}
 use Rattle.std.proofs.lemmas.Bool.{eqb-true, lt-leb, le-leb, le-ltb, lt-ltb}
-use Rattle.composite_expand.specs.Walking.{Keeps, IsIdle}
-use Rattle.composite_expand.specs.Walks.{AreMarks, IsOn, Front, IsFurther, IsNew, IsAt, IsOver, OpensWith, GoesOn, work_left}
+use Rattle.composite_expand.specs.steps.Walking.{Keeps, IsIdle}
+use Rattle.composite_expand.specs.steps.Walks.{AreMarks, IsOn, Front, IsFurther, IsNew, IsAt, IsOver, OpensWith, GoesOn, work_left}
 use Rattle.composite_expand.proofs.Way.{Holds, front, refused, passed_over, added, ended, back, closed_grown, closed_idle, opened, is_deep}
 use Rattle.composite_expand.proofs.Work.{work_closed, work_further, work_opened}
 use Rattle.spl_value.proofs.Bools.{and_left as andb_left, and_right as andb_right}

@@ -22,8 +22,8 @@ use Rattle.language_model.specs.Scopes.{At}
 use Rattle.composite_expand.specs.declared.walk.Opened.{Opened}
 use Rattle.composite_expand.specs.declared.walk.Walk.{Walk}
 use Rattle.composite_tables.specs.Inputs.{Shows, AreNested, InputsStand}
-use Rattle.composite_expand.specs.Walking.{Frame, frame, closed, resumed, Keeps, IsIdle}
-use Rattle.composite_expand.specs.Walks.{IsFrame, IsAround, Tracks, place_of_frame, IsWay, IsIdleSoFar, Waits, AreIdle, AreMarks, StandsThere, IsOn, Front, IsFurther, IsNew}
+use Rattle.composite_expand.specs.steps.Walking.{Frame, frame, closed, resumed, Keeps, IsIdle}
+use Rattle.composite_expand.specs.steps.Walks.{IsFrame, IsAround, Tracks, place_of_frame, IsWay, IsIdleSoFar, Waits, AreIdle, AreMarks, StandsThere, IsOn, Front, IsFurther, IsNew}
 use Rattle.composite_expand.proofs.Resuming.{closes, goes_on, refuses, opens, idle_body, idle_more, keeps_grown, keeps_next}
 use Rattle.spl_value.proofs.Lists.{next_rest}
 

@@ -10,8 +10,8 @@ use Rattle.language_model.specs.Invoking.{Body, target_of}
 use Rattle.language_model.specs.Scopes.{At}
 use Rattle.composite_expand.specs.declared.walk.Opened.{Opened}
 use Rattle.composite_expand.specs.declared.walk.Walk.{Walk}
-use Rattle.composite_expand.specs.Walking.{Frame}
-use Rattle.composite_expand.specs.Walks.{Tracks, target_work, graph_work, body_work, opened_work, way_work, work_left, Front, IsFurther, IsNew}
+use Rattle.composite_expand.specs.steps.Walking.{Frame}
+use Rattle.composite_expand.specs.steps.Walks.{Tracks, target_work, graph_work, body_work, opened_work, way_work, work_left, Front, IsFurther, IsNew}
 use Rattle.spl_value.proofs.Lists.{next_rest}
 
 same_count : (unit : List Definition) (names : List ℕ) (os : List Opened) (fs : List Frame) → Tracks unit names os fs → length os ≡ length fs

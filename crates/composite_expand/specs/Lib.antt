@@ -1,5 +1,2 @@
 pub mod Expands
-pub mod Invocations
-pub mod Waiting
-pub mod Walking
-pub mod Walks
+pub mod steps

@@ -5,8 +5,8 @@ ghost use Rattle.language_model.specs.Flat.{flat_from};
 ghost use Rattle.language_model.specs.Scopes.{At};
 ghost use Rattle.spl_tree.specs.declared.unit.Composite.{Composite};
 ghost use Rattle.composite_expand.specs.Expands.{Expands, IsAnswer};
-ghost use Rattle.composite_expand.specs.Waiting.{IsFirstWaiting};
-ghost use Rattle.composite_expand.specs.Walks.{IsExpanded};
+ghost use Rattle.composite_expand.specs.steps.Waiting.{IsFirstWaiting};
+ghost use Rattle.composite_expand.specs.steps.Walks.{IsExpanded};
 ghost use Rattle.composite_tables.specs.Numbered.{IsNumbered};
 
 use crate::answer::ExpandAnswer;

@@ -4,7 +4,7 @@ ghost use Rattle.std.specs.Option.{option_copied};
 ghost use Rattle.language_model.specs.Declarations.{first_of};
 ghost use Rattle.language_model.specs.Invoking.{target_of, kind_named, undeclared};
 ghost use Rattle.language_model.specs.Mentions.{clause_mentions};
-ghost use Rattle.composite_expand.specs.Invocations.{seen, named, streams_read, undeclared_operator, undeclared_parameters, unreadable};
+ghost use Rattle.composite_expand.specs.steps.Invocations.{seen, named, streams_read, undeclared_operator, undeclared_parameters, unreadable};
 
 use composite_tables::{Composites, Scope};
 use program_tables::{Mention, of_invocation};

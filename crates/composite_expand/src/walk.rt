@@ -12,8 +12,8 @@ ghost use Rattle.language_model.specs.Expansion.{invocation_name, label_of as la
 ghost use Rattle.language_model.specs.Invoking.{Operator, Body as BodyOf, target_of, undeclared, fits_head as fits};
 ghost use Rattle.language_model.specs.Recursion.{HasNoRecursion, composite_callers};
 ghost use Rattle.language_model.specs.Scopes.{At, at_place};
-ghost use Rattle.composite_expand.specs.Walking.{IsIdle};
-ghost use Rattle.composite_expand.specs.Walks.{IsFurther, IsAt, IsOver, IsOn, IsGoing, OpensWith, GoesOn, Refuses, Starts, IsExpanded};
+ghost use Rattle.composite_expand.specs.steps.Walking.{IsIdle};
+ghost use Rattle.composite_expand.specs.steps.Walks.{IsFurther, IsAt, IsOver, IsOn, IsGoing, OpensWith, GoesOn, Refuses, Starts, IsExpanded};
 
 use crate::answer::ExpandAnswer;
 use crate::invoking::{Target, target_of, undeclared};

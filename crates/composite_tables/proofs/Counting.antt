@@ -18,7 +18,7 @@ use Rattle.composite_tables.specs.declared.made.Input.{Input}
 use Rattle.composite_tables.specs.declared.made.Taken.TheVariants as T
 use Rattle.composite_tables.specs.declared.inputs.Counted.{Counted}
 use Rattle.composite_tables.specs.Inputs.{AreInputs, StandsFor, IsTakenBefore, IsBody}
-use Rattle.composite_tables.specs.Reading.{Counts, PortsStand}
+use Rattle.composite_tables.specs.steps.Reading.{Counts, PortsStand}
 use Rattle.composite_tables.proofs.Extending.{input_before, stands_before}
 use Rattle.spl_value.proofs.Lists.{append_cases as at_or_last}
 

@@ -12,7 +12,7 @@ use Rattle.language_model.specs.Numbering.{site_at, graph_outputs, operator_at, 
 use Rattle.composite_tables.specs.declared.made.Body.{Body}
 use Rattle.composite_tables.specs.Inputs.{Shows, AreNested}
 use Rattle.composite_tables.specs.SiteTable.{Parts, parts_of, stream_there, row_of, row_at, filled, table_of}
-use Rattle.composite_tables.specs.StreamTable.{Table, stream_in}
+use Rattle.composite_tables.specs.steps.StreamTable.{Table, stream_in}
 use Rattle.composite_tables.proofs.Outputs.{and_then_same, followed, followed_same, stream_law}
 use Rattle.composite_tables.proofs.SiteTables.{composite_is, there_is}
 use Rattle.spl_value.proofs.Lists.{get_set_same as slice_get-set_same}

@@ -10,7 +10,7 @@ use Rattle.spl_tree.specs.declared.unit.Parameter.{Parameter}
 use Rattle.language_model.specs.Composites.{is_empty}
 use Rattle.language_model.specs.Declarations.{Name, is_same, repeated_after}
 use Rattle.language_model.specs.Invoking.{is_among, is_argument, has_value, fit_parameters}
-use Rattle.composite_tables.specs.Arguments.{argument_names, fit_once}
+use Rattle.composite_tables.specs.steps.Arguments.{argument_names, fit_once}
 use Rattle.spl_value.proofs.Bools.{and_false}
 
 abbrev pub again : List Name → List Parameter → List Name

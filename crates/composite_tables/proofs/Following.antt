@@ -19,7 +19,7 @@ use Rattle.composite_tables.specs.declared.made.Body.{Body}
 use Rattle.composite_tables.specs.declared.made.Input.{Input}
 use Rattle.composite_tables.specs.declared.sources.Reading.{Reading}
 use Rattle.composite_tables.specs.Inputs.{Shows, AreKept, IsBody}
-use Rattle.composite_tables.specs.Reading.{composite_at, list_left, list_read, most_names, names_in, size_read}
+use Rattle.composite_tables.specs.steps.Reading.{composite_at, list_left, list_read, most_names, names_in, size_read}
 use Rattle.spl_value.proofs.Lists.{at_most_sum as term_le, get_below as some_at}
 
 -- ---- what there is at a number

@@ -19,7 +19,7 @@ use Rattle.composite_tables.specs.declared.numbering.Numbered.{Numbered}
 use Rattle.composite_tables.specs.Inputs.{Shows, AreNested, InputsStand, StandsFor}
 use Rattle.composite_tables.specs.Numbered.{IsNumbered}
 use Rattle.composite_tables.specs.SiteTable.{parts_of, table_of}
-use Rattle.composite_tables.specs.StreamTable.{Table, stream_in, ops_in, row_in, input_in, expansion_in, expansions_in}
+use Rattle.composite_tables.specs.steps.StreamTable.{Table, stream_in, ops_in, row_in, input_in, expansion_in, expansions_in}
 use Rattle.composite_tables.proofs.Filling.{at_place, table_has}
 use Rattle.composite_tables.proofs.Outputs.{stream_law}
 use Rattle.composite_tables.proofs.SiteTables.{outputs_of, first_stream-append, outputs_more, none_past}

@@ -8,7 +8,7 @@ use Rattle.spl_tree.specs.declared.graph.Stream.{Stream}
 use Rattle.spl_tree.specs.declared.unit.Invocation.{Invocation}
 use Rattle.language_model.specs.declared.expansion.Operation.{Operation}
 use Rattle.language_model.specs.Numbering.{Output, numbers_from, outputs_from, streams_from}
-use Rattle.composite_tables.specs.StreamTable.{Table, op_in, ops_in}
+use Rattle.composite_tables.specs.steps.StreamTable.{Table, op_in, ops_in}
 
 pub numbers_more : (n k : ℕ) → numbers_from n (k + 1) ≡ numbers_from n k ++ (n + k) ∷ []
 numbers_more n k = ap (numbers_from n) (add-one k) ∙ more n k

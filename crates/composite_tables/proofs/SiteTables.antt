@@ -16,7 +16,7 @@ use Rattle.language_model.specs.Numbering.{is_site, operator_at, expansion_at, o
 use Rattle.composite_tables.specs.declared.made.Body.{Body}
 use Rattle.composite_tables.specs.Inputs.{Shows}
 use Rattle.composite_tables.specs.SiteTable.{Parts, parts_of, first_at, body_at, composite_of, output_of, first_or_output, stream_there}
-use Rattle.composite_tables.specs.StreamTable.{Table, stream_in}
+use Rattle.composite_tables.specs.steps.StreamTable.{Table, stream_in}
 use Rattle.composite_tables.proofs.Outputs.{and_then_same}
 
 abbrev pub outputs_of : List Operation → ℕ

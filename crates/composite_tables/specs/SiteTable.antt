@@ -11,7 +11,7 @@ use Rattle.language_model.specs.Expansion.{source}
 use Rattle.language_model.specs.Numbering.{is_site, site_at, output_place, graph_outputs}
 use Rattle.composite_tables.specs.declared.made.Body.{Body}
 use Rattle.composite_tables.specs.declared.numbering.sites.Sites.{Sites}
-use Rattle.composite_tables.specs.StreamTable.{Table, stream_in}
+use Rattle.composite_tables.specs.steps.StreamTable.{Table, stream_in}
 
 abbrev pub same_pair : ℕ × ℕ → ℕ × ℕ → Bool
 same_pair x y = (x.0 == y.0) && (x.1 == y.1)

@@ -3,7 +3,7 @@ ghost use Rattle.std.specs.Prelude.{◌≡◌, ◌&&◌, ◌||◌, List, [], ℕ
 ghost use Rattle.std.specs.List.{list_all};
 ghost use Rattle.language_model.specs.Invoking.{is_among, stream_names, has_arguments_alone, fit_parameters, fits_head};
 ghost use Rattle.program_tables.specs.Names.{HoldsNames};
-ghost use Rattle.composite_tables.specs.Arguments.{FitArguments};
+ghost use Rattle.composite_tables.specs.steps.Arguments.{FitArguments};
 
 use crate::tables::Scope;
 use program_tables::Names;

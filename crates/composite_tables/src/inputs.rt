@@ -3,7 +3,7 @@ ghost use Rattle.std.specs.Prelude.{◌≡◌, ◌+◌, ◌^◌, ℕ, suc, min, 
 ghost use Rattle.std.specs.List.{sum_by};
 ghost use Rattle.std.specs.Option.{option_or};
 ghost use Rattle.composite_tables.specs.Inputs.{AreInputs, StandsFor, IsBody};
-ghost use Rattle.composite_tables.specs.Reading.{Counts};
+ghost use Rattle.composite_tables.specs.steps.Reading.{Counts};
 ghost use Rattle.language_model.specs.Expansion.{Inlined, sources_of, port_names, ports_of};
 
 use crate::made::{Input, Taken};

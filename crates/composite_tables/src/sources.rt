@@ -2,7 +2,7 @@
 ghost use Rattle.std.specs.Prelude.{◌≡◌, ◌+◌, ◌^◌, ◌<◌, ◌≤◌, ◌++◌, ◌∷◌, ℕ, [], List, length, flat_map, IfOk, OnOk, MatchOption};
 ghost use Rattle.std.specs.Option.{option_map};
 ghost use Rattle.composite_tables.specs.Inputs.{StandsFor, AreKept};
-ghost use Rattle.composite_tables.specs.Reading.{composite_at, names_in, list_followed, list_left, most_names, size_followed, size_left};
+ghost use Rattle.composite_tables.specs.steps.Reading.{composite_at, names_in, list_followed, list_left, most_names, size_followed, size_left};
 ghost use Rattle.language_model.specs.Expansion.{Inlined, sources_of, ports_of};
 
 use crate::inputs::taken_by;

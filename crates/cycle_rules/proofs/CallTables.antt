@@ -9,7 +9,7 @@ use Rattle.language_model.specs.Scopes.{At, at_place, first_from}
 use Rattle.language_model.specs.Recursion as D
 use Rattle.language_model.specs.Recursion.{call_among, calls_among}
 use Rattle.cycle_rules.specs.declared.recursion.Caller.{Caller}
-use Rattle.cycle_rules.specs.Named.{caller_seen, callers_seen, place_from, found_place}
+use Rattle.cycle_rules.specs.steps.Named.{caller_seen, callers_seen, place_from, found_place}
 
 drop_step : {A : Type 0} (n : ℕ) (xs : List A) (x : A) → slice_get xs n ≡ Some x → drop n xs ≡ x ∷ drop (suc n) xs
 drop_step n [] x e = cc

@@ -5,7 +5,7 @@ use Rattle.std.specs.List.{Contains}
 use Rattle.std.proofs.lemmas.Option.{slice_get-get_or, get_or_from_slice_get}
 use Rattle.spl_tree.specs.declared.expression.Placed.{Placed}
 use Rattle.language_model.specs.Recursion.{Calls, IsCall}
-use Rattle.cycle_rules.specs.Callers.{Lists, AreEmpty, AreCallers, NotesAll, Calling}
+use Rattle.cycle_rules.specs.steps.Callers.{Lists, AreEmpty, AreCallers, NotesAll, Calling}
 use Rattle.spl_value.proofs.Lists.{append_cases, get_within}
 
 pub contains_at : {A : Type 0} (xs : List A) (k : ℕ) (x : A) → slice_get xs k ≡ Some x → Contains xs x

@@ -11,7 +11,7 @@ use Rattle.std.proofs.Math.Nat.{zero-add}
 use Rattle.spl_tree.specs.declared.graph.Op.{Op}
 use Rattle.spl_tree.specs.declared.graph.Stream.{Stream}
 use Rattle.language_model.specs.Taking.{is_taken, next_from, taken_on, first_untaken}
-use Rattle.cycle_rules.specs.Makers.{is_made, are_made, Adds, AreRows, covers_from, covers, covers_all, ready, first_ready}
+use Rattle.cycle_rules.specs.steps.Makers.{is_made, are_made, Adds, AreRows, covers_from, covers, covers_all, ready, first_ready}
 use Rattle.spl_value.proofs.Bools.{and_false, or_false, or_true}
 use Rattle.spl_value.proofs.Lists.{drop_at, take_at}
 

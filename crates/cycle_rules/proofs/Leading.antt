@@ -5,9 +5,9 @@ use Rattle.spl_tree.specs.declared.expression.Placed.{Placed}
 use Rattle.language_model.specs.Recursion.{Calls, IsCall, Leads, directly, through, IsBack, IsAcyclic, IsFirstRecursion}
 use Rattle.place_sets.specs.declared.place_set.PlaceSet.{PlaceSet}
 use Rattle.place_sets.specs.Places.{HasPlace}
-use Rattle.cycle_rules.specs.Callers.{Lists, Reached, near, far, AreCallers}
-use Rattle.cycle_rules.specs.Taking.{Before, IsTaken}
-use Rattle.cycle_rules.specs.Backs.{BackBy, NoneBack, FirstBack, IsRecursionAt}
+use Rattle.cycle_rules.specs.steps.Callers.{Lists, Reached, near, far, AreCallers}
+use Rattle.cycle_rules.specs.steps.Taking.{Before, IsTaken}
+use Rattle.cycle_rules.specs.steps.Backs.{BackBy, NoneBack, FirstBack, IsRecursionAt}
 use Rattle.cycle_rules.proofs.Calling.{calling_of, lt_split}
 use Rattle.spl_value.proofs.Lists.{get_within}
 

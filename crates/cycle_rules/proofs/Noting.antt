@@ -2,7 +2,7 @@
 use Rattle.std.proofs.Common.{◌≡◌, ◌<◌, ◌⊎◌, ◌∙◌, ℕ, suc, List, [], length, take, Some, refl, ap, sym, inl, inr, subst}
 use Rattle.std.specs.Prelude.{slice_get}
 use Rattle.spl_tree.specs.declared.expression.Placed.{Placed}
-use Rattle.cycle_rules.specs.Callers.{Lists, Notes, NotesAll, Calling}
+use Rattle.cycle_rules.specs.steps.Callers.{Lists, Notes, NotesAll, Calling}
 use Rattle.spl_value.proofs.Lists.{take_cases, take_last, take_more}
 
 pub calling_more : (n : ℕ) (cs : List (Placed ℕ)) (to : ℕ) → Calling (take n cs) to → Calling (take (suc n) cs) to

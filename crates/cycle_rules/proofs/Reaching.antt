@@ -8,7 +8,7 @@ use Rattle.std.proofs.lemmas.Map.Keys.{IsDistinct-from_apart}
 use Rattle.std.proofs.lemmas.Map.Views.{Contains-from_any}
 use Rattle.place_sets.specs.declared.place_set.PlaceSet.{PlaceSet}
 use Rattle.place_sets.specs.Places.{HasPlace, IsSet, Widens}
-use Rattle.cycle_rules.specs.Callers.{Lists, Reached, near, far}
+use Rattle.cycle_rules.specs.steps.Callers.{Lists, Reached, near, far}
 use Rattle.place_sets.proofs.Widening.{here}
 use Rattle.place_sets.proofs.Fitting.{within_marks}
 use Rattle.cycle_rules.proofs.Calling.{lt_split}

@@ -13,7 +13,7 @@ use Rattle.language_model.specs.Recursion.{function_caller, composite_caller, fu
 use Rattle.program_tables.specs.declared.mentions.Mention.{Mention}
 use Rattle.program_tables.specs.declared.mentions.Mention.TheVariants as M
 use Rattle.program_tables.specs.Mentioned.{seen, mentioned, mentions_seen}
-use Rattle.cycle_rules.specs.Named.{name_seen}
+use Rattle.cycle_rules.specs.steps.Named.{name_seen}
 use Rattle.program_tables.proofs.Snoc.{take_snoc, map_snoc, filter_snoc}
 
 pub calls_snoc : (n : ℕ) (ms : List (Placed Mention)) (m : Placed Mention) → slice_get ms n ≡ Some m

@@ -5,8 +5,8 @@ use Rattle.spl_tree.specs.declared.expression.Placed.{Placed}
 use Rattle.language_model.specs.Recursion.{Calls, IsCall}
 use Rattle.place_sets.specs.declared.place_set.PlaceSet.{PlaceSet}
 use Rattle.place_sets.specs.Places.{HasPlace, IsSet, Widens}
-use Rattle.cycle_rules.specs.Callers.{Calling}
-use Rattle.cycle_rules.specs.Taking.{IsTaken, Misses, Lacks, Takes}
+use Rattle.cycle_rules.specs.steps.Callers.{Calling}
+use Rattle.cycle_rules.specs.steps.Taking.{IsTaken, Misses, Lacks, Takes}
 use Rattle.place_sets.proofs.Widening.{here}
 use Rattle.cycle_rules.proofs.Calling.{calling_of, call_at}
 use Rattle.spl_value.proofs.Lists.{get_below, get_within, only_one, take_cases}

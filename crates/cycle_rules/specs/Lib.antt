@@ -1,5 +1,1 @@
-pub mod Backs
-pub mod Callers
-pub mod Makers
-pub mod Named
-pub mod Taking
+pub mod steps

@@ -2,9 +2,9 @@
 ghost use Rattle.std.specs.Prelude.{◌≡◌, ◌<◌, ◌⊎◌, ◌∷◌, [], ◌^◌, ℕ, ◌↔◌, length, IfOk, OnOk, MatchOption};
 ghost use Rattle.language_model.specs.Recursion.{IsCall, Leads, IsAcyclic, IsFirstRecursion};
 ghost use Rattle.place_sets.specs.Places.{HasPlace, IsSet};
-ghost use Rattle.cycle_rules.specs.Callers.{Lists, Reached, AreEmpty, AreCallers, Notes, NotesAll};
-ghost use Rattle.cycle_rules.specs.Taking.{Readies, IsTaken, Takes, Misses};
-ghost use Rattle.cycle_rules.specs.Backs.{TellsBack, NoneBack, FirstBack, IsRecursionAt};
+ghost use Rattle.cycle_rules.specs.steps.Callers.{Lists, Reached, AreEmpty, AreCallers, Notes, NotesAll};
+ghost use Rattle.cycle_rules.specs.steps.Taking.{Readies, IsTaken, Takes, Misses};
+ghost use Rattle.cycle_rules.specs.steps.Backs.{TellsBack, NoneBack, FirstBack, IsRecursionAt};
 
 use place_sets::PlaceSet;
 use spl_tree::Placed;

@@ -3,7 +3,7 @@ ghost use Rattle.std.specs.Prelude.{◌≡◌, ◌<◌, false, length, map, slic
 ghost use Rattle.std.specs.List.{concat};
 ghost use Rattle.std.specs.Option.{option_map};
 ghost use Rattle.language_model.specs.Taking.{taken, is_taken, first_untaken};
-ghost use Rattle.cycle_rules.specs.Makers.{covers_from, covers_all, Adds, AreMakers, AreRows, first_ready};
+ghost use Rattle.cycle_rules.specs.steps.Makers.{covers_from, covers_all, Adds, AreMakers, AreRows, first_ready};
 
 use spl_tree::{Op, Stream};
 use spl_value::{Ids, Items, NoMemory};

@@ -4,7 +4,7 @@ use Rattle.std.specs.Option.{option_map_or}
 use Rattle.std.proofs.Common.{refl, sym, ap, ◌∙◌, arith, lt-ltb, le-ltb, ltb-true, ltb-false}
 use Rattle.std.proofs.lemmas.Grind.{flat_map-append}
 use Rattle.language_model.specs.Declarations.{Name, Sets, repeated_names, first_in_text}
-use Rattle.duplicate_rules.specs.Earliest.{earlier, earliest, earliest_in}
+use Rattle.duplicate_rules.specs.steps.Earliest.{earlier, earliest, earliest_in}
 
 pub earliest-append : (best : Option Name) (xs ys : List Name) → earliest best (xs ++ ys) ≡ earliest (earliest best xs) ys
 earliest-append best [] ys = refl

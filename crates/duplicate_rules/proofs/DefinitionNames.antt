@@ -4,7 +4,7 @@ use Rattle.std.specs.List.{list_any}
 use Rattle.std.proofs.Common.{refl, ap}
 use Rattle.spl_tree.specs.declared.unit.Definition.{Definition}
 use Rattle.language_model.specs.Declarations.{Name, definition_name, is_same}
-use Rattle.duplicate_rules.specs.NamesBefore.{Has}
+use Rattle.duplicate_rules.specs.steps.NamesBefore.{Has}
 
 pub same_names : (n : Name) (before : List Definition) → list_any (λ e. is_same (definition_name e) n) before ≡ Has n (map definition_name before)
 same_names n [] = refl

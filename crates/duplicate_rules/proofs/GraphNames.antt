@@ -4,8 +4,8 @@ use Rattle.std.proofs.Common.{refl, sym, ap, ◌∙◌, append_assoc, append-nil
 use Rattle.std.proofs.lemmas.List.{drop_all, map-append}
 use Rattle.language_model.specs.Declarations.{Name, is_same, Declared, OutputPort, InputPort, MadeStream, Alias, is_declared}
 use Rattle.duplicate_rules.specs.declared.declarations.graphs.GraphName.{GraphName}
-use Rattle.duplicate_rules.specs.Graphs.{shown, outputs_of, others_of}
-use Rattle.duplicate_rules.specs.NamesBefore.{Has}
+use Rattle.duplicate_rules.specs.steps.Graphs.{shown, outputs_of, others_of}
+use Rattle.duplicate_rules.specs.steps.NamesBefore.{Has}
 use Rattle.spl_value.proofs.Lists.{drop_at as rest_at}
 
 pub or_false : (a b : Bool) → b ≡ false → (a || b) ≡ a

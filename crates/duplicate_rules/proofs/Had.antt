@@ -8,7 +8,7 @@ use Rattle.std.proofs.lemmas.List.Folds.{list_any-append}
 use Rattle.language_model.specs.Declarations.{is_same}
 use Rattle.language_model.specs.SinkFiles.{OpFile, is_had}
 use Rattle.duplicate_rules.specs.declared.files.UsedFile.{UsedFile}
-use Rattle.duplicate_rules.specs.Seen.{file_seen}
+use Rattle.duplicate_rules.specs.steps.Seen.{file_seen}
 use Rattle.spl_value.proofs.Lists.{any_map}
 
 -- ---- those before a file

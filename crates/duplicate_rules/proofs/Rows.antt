@@ -3,7 +3,7 @@ use Rattle.std.specs.Prelude.{◌≡◌, ℕ, ◌+◌, ◌<◌, ◌≤◌, List,
 use Rattle.std.proofs.Common.{sym, ap, ◌∙◌, get_or}
 use Rattle.std.proofs.lemmas.List.{drop_all}
 use Rattle.language_model.specs.Declarations.{Name, Sets}
-use Rattle.duplicate_rules.specs.Earliest.{earliest_in}
+use Rattle.duplicate_rules.specs.steps.Earliest.{earliest_in}
 use Rattle.duplicate_rules.proofs.Best.{earliest_in-append}
 use Rattle.spl_value.proofs.Lists.{drop_at as rest_at}
 

@@ -1,5 +1,2 @@
-pub mod Earliest
-pub mod Graphs
-pub mod NamesBefore
-pub mod Seen
 pub mod Variables
+pub mod steps

@@ -5,7 +5,7 @@ ghost use Rattle.std.specs.Option.{option_copied, option_map, option_to_list};
 ghost use Rattle.std.specs.Str.{bytes_eq};
 ghost use Rattle.language_model.specs.Declarations.{first_of, repeated};
 ghost use Rattle.language_model.specs.SinkFiles.{text_of, dollar_text, own_text, text_in, file_of, op_file, is_had, Text};
-ghost use Rattle.duplicate_rules.specs.Seen.{form_text, text_seen, file_seen};
+ghost use Rattle.duplicate_rules.specs.steps.Seen.{form_text, text_seen, file_seen};
 
 use program_tables::{SiteTable, default_named, value_named};
 use spl_tree::{

@@ -9,7 +9,7 @@ use Rattle.feed_pour.specs.Contents.{Told, WhereTold, TellsSame, Created, Emptie
 use Rattle.feed_pour.specs.declared.outside.PourAnswer.{PourAnswer}
 use Rattle.feed_pour.specs.declared.outside.PourAnswer.TheVariants as P
 use Rattle.file_adapters.specs.Sinks.{EmptyBefore, is_file}
-use Rattle.file_adapters.specs.Steps.{CreateCounted, CreateCause}
+use Rattle.file_adapters.specs.steps.Steps.{CreateCounted, CreateCause}
 use Rattle.file_adapters.specs.declared.sinks.Sink.{Sink}
 use Rattle.file_adapters.proofs.Files.{out_of_more, among_not, told_then, told_itself}
 use Rattle.spl_value.proofs.Lists.{same_or_not as one_or_other}

@@ -9,7 +9,7 @@ use Rattle.feed_pour.specs.Counts.{Counts, PerName, WritingCounted, Rose}
 use Rattle.feed_pour.specs.Contents.{Told, WhereTold, Finished, HeldAfter, failed_read}
 use Rattle.feed_pour.specs.declared.outside.Failed.{Failed}
 use Rattle.file_adapters.specs.Sinks.{AreDistinct, is_file}
-use Rattle.file_adapters.specs.Steps.{EachFinished, FinishCause, FinishCounted}
+use Rattle.file_adapters.specs.steps.Steps.{EachFinished, FinishCause, FinishCounted}
 use Rattle.file_adapters.specs.declared.sinks.Sink.{Sink}
 use Rattle.file_adapters.proofs.Files.{out_of_more, apart, later_out, told_then, told_itself}
 use Rattle.spl_value.proofs.Lists.{same_or_not as one_or_other}

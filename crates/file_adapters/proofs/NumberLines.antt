@@ -15,7 +15,7 @@ use Rattle.spl_value.specs.declared.types.SplType.TheViews.{out-SplType}
 use Rattle.spl_value.specs.declared.value.Value.TheVariants as V
 use Rattle.stream_model.specs.Rows.{Setting, Row, line_gives, too_long, checked_items}
 use Rattle.stream_model.proofs.PlainLines.{is_mark, is_comma, may_be_marked, no_bom, plain_records, one_field}
-use Rattle.file_adapters.specs.Lines.{number_row}
+use Rattle.file_adapters.specs.steps.Lines.{number_row}
 use Rattle.file_adapters.specs.Source.{are_few_digits, is_number_line, is_number_schema, level_is_int64}
 
 record FewDigits (bytes : List ℕ) : Type 0 where

@@ -21,7 +21,7 @@ use Rattle.stream_model.specs.Rows.{Setting, pieces, onto_first, items_from, row
 use Rattle.stream_model.proofs.RowsLaws.{some_pieces}
 use Rattle.stream_model.specs.Laws.{but_empty_last, lines}
 use Rattle.stream_model.specs.Stream.{TuplesFit}
-use Rattle.file_adapters.specs.Lines.{line_number, number_row, row_in_front, number_rows}
+use Rattle.file_adapters.specs.steps.Lines.{line_number, number_row, row_in_front, number_rows}
 use Rattle.file_adapters.specs.Source.{is_number_line, is_number_file, is_number_schema}
 use Rattle.file_adapters.proofs.NumberLines.{has_number, piece_row, int64_level}
 

@@ -7,7 +7,7 @@ use Rattle.feed_pour.specs.declared.outside.PourAnswer.{PourAnswer}
 use Rattle.feed_pour.specs.Contents.{PouredSoFar, AllPoured}
 use Rattle.stream_model.specs.Rows.{item_text, text_of}
 use Rattle.stream_model.proofs.PathLaws.{text_of-append}
-use Rattle.file_adapters.specs.Steps.{RowsPoured}
+use Rattle.file_adapters.specs.steps.Steps.{RowsPoured}
 
 -- the text of the rows before place i, of the row there, and of the rows behind it
 text_cut : (items : List Item) (i : ℕ) (x : Item) → i < length items → x ≡ get_or items i x

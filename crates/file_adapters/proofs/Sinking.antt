@@ -13,7 +13,7 @@ use Rattle.feed_pour.specs.declared.outside.Failed.{Failed}
 use Rattle.feed_pour.specs.declared.outside.PourAnswer.{PourAnswer}
 use Rattle.feed_pour.specs.declared.outside.PourAnswer.TheVariants as P
 use Rattle.file_adapters.specs.Sinks.{AreDistinct, EmptyBefore, FailedAs, HeldAfter, HoldFronts, HoldsFront, RoseAt, SinksCause, SinksCounted, SinksWritten, WritingFailed, is_file, sink_text}
-use Rattle.file_adapters.specs.Steps.{CreateCounted, EachFinished, EachPoured, FinishCounted, RowsPoured, WriteFault, sunk_of}
+use Rattle.file_adapters.specs.steps.Steps.{CreateCounted, EachFinished, EachPoured, FinishCounted, RowsPoured, WriteFault, sunk_of}
 use Rattle.file_adapters.specs.declared.sinks.Sink.{Sink}
 use Rattle.file_adapters.proofs.Files.{among_not, later_out, not_among}
 use Rattle.spl_value.proofs.Lists.{get_within as found_within}

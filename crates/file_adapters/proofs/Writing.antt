@@ -13,7 +13,7 @@ use Rattle.feed_pour.specs.Contents.{PouredSoFar, failed_write}
 use Rattle.feed_pour.specs.declared.outside.PourAnswer.{PourAnswer}
 use Rattle.feed_pour.specs.declared.outside.PourAnswer.TheVariants as P
 use Rattle.file_adapters.specs.Sinks.{sink_rows, sink_text, stream_at}
-use Rattle.file_adapters.specs.Steps.{RowsPoured, EachPoured, WriteFault}
+use Rattle.file_adapters.specs.steps.Steps.{RowsPoured, EachPoured, WriteFault}
 use Rattle.file_adapters.specs.declared.sinks.Sink.{Sink}
 
 -- into the pours before this place their texts were poured

@@ -1,4 +1,3 @@
 pub mod Source
-pub mod Lines
 pub mod Sinks
-pub mod Steps
+pub mod steps

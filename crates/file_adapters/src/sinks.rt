@@ -8,7 +8,7 @@ ghost use Rattle.stream_model.specs.Rows.{item_text, text_of};
 ghost use Rattle.stream_model.specs.Stream.{is_tuple};
 ghost use Rattle.spl_value.specs.declared.item.Item.TheVariants as I;
 ghost use Rattle.file_adapters.specs.Sinks.{AreDistinct, EmptyBefore, FailedAs, SinksCount, SinksCounted, SinksWritten, sink_rows, stream_at};
-ghost use Rattle.file_adapters.specs.Steps.{CreateCounted, CreatedCount, EachFinished, EachPoured, FinishCounted, RowsPoured, WriteFault, sunk_of};
+ghost use Rattle.file_adapters.specs.steps.Steps.{CreateCounted, CreatedCount, EachFinished, EachPoured, FinishCounted, RowsPoured, WriteFault, sunk_of};
 
 use crate::row::add_row;
 use feed_pour::{Failed, Opened, Pour, PourAnswer, Shelf, write_all};

@@ -6,7 +6,7 @@ ghost use Rattle.spl_value.specs.declared.types.SplType.{SplType};
 ghost use Rattle.stream_model.specs.Rows.{Setting, rows};
 ghost use Rattle.stream_model.specs.Laws.{lines};
 ghost use Rattle.stream_model.specs.Stream.{TuplesFit};
-ghost use Rattle.file_adapters.specs.Lines.{line_number, number_row, number_rows};
+ghost use Rattle.file_adapters.specs.steps.Lines.{line_number, number_row, number_rows};
 ghost use Rattle.file_adapters.specs.Source.{is_number_file, is_number_schema};
 
 use spl_value::{IntKind, Item, Items, NoMemory, Value, read_integer};

@@ -2,7 +2,7 @@
 ghost use Rattle.std.specs.Prelude.{◌≡◌, ◌<◌, ◌≤◌, ◌∷◌, length, true, IfOk};
 ghost use Rattle.spl_tree.specs.Tokens.{front};
 ghost use Rattle.spl_tree.specs.TokenLaws.{Fits};
-ghost use Rattle.spl_lexer.specs.Ahead.{front_of};
+ghost use Rattle.spl_lexer.specs.steps.Ahead.{front_of};
 
 use crate::bytes::{is_blank, is_digit, is_letter, is_quote, starts_with};
 use crate::lengths::{comment_length, line_length};

@@ -4,7 +4,7 @@ ghost use Rattle.std.specs.List.{prefix_len, list_all};
 ghost use Rattle.spl_value.specs.Decimal.{is_digit, digit_step};
 ghost use Rattle.spl_tree.specs.Bytes.{begins};
 ghost use Rattle.spl_tree.specs.Tokens.{front, number_kind, as_front};
-ghost use Rattle.spl_lexer.specs.Ahead.{front_of, suffix_ahead, width_ahead};
+ghost use Rattle.spl_lexer.specs.steps.Ahead.{front_of, suffix_ahead, width_ahead};
 
 use crate::bytes::starts_word_byte;
 use crate::front::Ahead;

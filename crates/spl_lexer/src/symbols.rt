@@ -1,7 +1,7 @@
 //! Symbols.
 ghost use Rattle.std.specs.Prelude.{◌≡◌, ◌<◌, ◌∷◌, [], length};
 ghost use Rattle.spl_tree.specs.Words.{symbol_of};
-ghost use Rattle.spl_lexer.specs.Ahead.{front_of, symbol_ahead, double_of};
+ghost use Rattle.spl_lexer.specs.steps.Ahead.{front_of, symbol_ahead, double_of};
 
 use crate::front::Ahead;
 use spl_tree::{LexicalError, Symbol, TokenKind};

@@ -2,7 +2,7 @@
 ghost use Rattle.std.specs.Prelude.{◌≡◌, ◌∷◌, ◌≤◌, length, true, IfOk};
 ghost use Rattle.spl_tree.specs.Bytes.{is_quote};
 ghost use Rattle.spl_tree.specs.Tokens.{front, unescaped, escape};
-ghost use Rattle.spl_lexer.specs.Ahead.{front_of, unescaped_of};
+ghost use Rattle.spl_lexer.specs.steps.Ahead.{front_of, unescaped_of};
 
 use crate::front::Ahead;
 use crate::lengths::text_length;

@@ -4,7 +4,7 @@ ghost use Rattle.std.specs.Str.{bytes_eq};
 ghost use Rattle.spl_tree.specs.Bytes.{is_letter, begins};
 ghost use Rattle.spl_tree.specs.Words.{keyword_word, keyword_of};
 ghost use Rattle.spl_tree.specs.Tokens.{front};
-ghost use Rattle.spl_lexer.specs.Ahead.{front_of};
+ghost use Rattle.spl_lexer.specs.steps.Ahead.{front_of};
 
 use crate::bytes::starts_letter;
 use crate::front::Ahead;

@@ -1,6 +1,6 @@
 //! Bodies with the numbers of the streams that their names stand for.
 ghost use Rattle.std.specs.Prelude.{◌≡◌, map, filter_map, IfOk};
-ghost use Rattle.composite_tables.specs.StreamTable.{row_in, input_in, expansion_in, expansions_in};
+ghost use Rattle.composite_tables.specs.steps.StreamTable.{row_in, input_in, expansion_in, expansions_in};
 
 use super::operators::stream_at;
 use super::sum_of;

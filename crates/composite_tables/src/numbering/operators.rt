@@ -1,7 +1,7 @@
 //! Operators with the numbers of their streams.
 ghost use Rattle.std.specs.Prelude.{◌≡◌, ◌+◌, ◌++◌, ◌∷◌, [], map, filter_map, IfOk, OnOk};
 ghost use Rattle.language_model.specs.Numbering.{numbers_from, streams_from};
-ghost use Rattle.composite_tables.specs.StreamTable.{stream_in, op_in, ops_in};
+ghost use Rattle.composite_tables.specs.steps.StreamTable.{stream_in, op_in, ops_in};
 
 use super::sum_of;
 use language_model::{Operation, Source};

@@ -2,7 +2,7 @@
 ghost use Rattle.std.specs.Prelude.{◌≡◌, IfOk};
 ghost use Rattle.std.specs.Option.{option_copied};
 ghost use Rattle.language_model.specs.Declarations.{definition_sets, logic_sets, variable_sets};
-ghost use Rattle.duplicate_rules.specs.Earliest.{earliest_in};
+ghost use Rattle.duplicate_rules.specs.steps.Earliest.{earliest_in};
 
 use super::names::{Repeated, earliest_repeated};
 use super::rows::{Encloses, earliest_within};

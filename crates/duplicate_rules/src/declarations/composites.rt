@@ -2,7 +2,7 @@
 ghost use Rattle.std.specs.Prelude.{◌≡◌, ◌++◌, IfOk, flat_map};
 ghost use Rattle.std.specs.Option.{option_copied};
 ghost use Rattle.language_model.specs.Declarations.{definition_sets, first_of, port_sets, repeated_in_composite, repeated_in_definition, type_sets};
-ghost use Rattle.duplicate_rules.specs.Earliest.{earliest_in};
+ghost use Rattle.duplicate_rules.specs.steps.Earliest.{earliest_in};
 
 use super::bodies::{earliest_in_function, earliest_in_logic};
 use super::graphs::repeated_in_graph;

@@ -3,7 +3,7 @@ ghost use Rattle.std.specs.Prelude.{◌≡◌, [], IfOk, is_some};
 ghost use Rattle.std.specs.Option.{option_copied};
 ghost use Rattle.language_model.specs.Declarations.{definition_name, first_of, is_built_in, repeated_definitions};
 ghost use Rattle.language_model.specs.Typing.{call_of};
-ghost use Rattle.duplicate_rules.specs.NamesBefore.{Hold};
+ghost use Rattle.duplicate_rules.specs.steps.NamesBefore.{Hold};
 
 use super::names::{NamesBefore, Repeated};
 use spl_tree::{CallName, Definition, Placed};

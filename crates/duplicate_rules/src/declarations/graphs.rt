@@ -2,7 +2,7 @@
 ghost use Rattle.std.specs.Prelude.{◌≡◌, [], ◌++◌, List, IfOk, OnOk, map, flat_map, not};
 ghost use Rattle.std.specs.Option.{option_copied};
 ghost use Rattle.language_model.specs.Declarations.{Declared, first_of, declared_name, is_declared, repeated, stand_before, head_names, invocation_names, graph_names, InputPort, OutputPort, MadeStream};
-ghost use Rattle.duplicate_rules.specs.Graphs.{Adds, AddsOther, AddsOutput, Stand, shown};
+ghost use Rattle.duplicate_rules.specs.steps.Graphs.{Adds, AddsOther, AddsOutput, Stand, shown};
 
 use super::names::{NamesBefore, Repeated};
 use spl_tree::{Composite, HeadPort, Invocation, OutputStream, Placed};

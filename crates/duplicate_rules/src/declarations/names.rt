@@ -2,8 +2,8 @@
 ghost use Rattle.std.specs.Prelude.{◌≡◌, IfOk, List, [], filter_map};
 ghost use Rattle.std.specs.Option.{option_copied};
 ghost use Rattle.language_model.specs.Declarations.{Name, first_of, repeated_names};
-ghost use Rattle.duplicate_rules.specs.Earliest.{earlier, earliest};
-ghost use Rattle.duplicate_rules.specs.NamesBefore.{Hold, Adds, Has, Passes};
+ghost use Rattle.duplicate_rules.specs.steps.Earliest.{earlier, earliest};
+ghost use Rattle.duplicate_rules.specs.steps.NamesBefore.{Hold, Adds, Has, Passes};
 
 use spl_tree::{Attribute, CompositeParameter, Declaration, Placed, TypeDefinition, TypeExpr};
 use spl_value::{Name, NoMemory};

@@ -1,7 +1,7 @@
 //! Rows whose parts have sets of names within them.
 ghost use Rattle.std.specs.Prelude.{◌≡◌, IfOk, flat_map};
 ghost use Rattle.std.specs.Option.{option_copied};
-ghost use Rattle.duplicate_rules.specs.Earliest.{earliest_in};
+ghost use Rattle.duplicate_rules.specs.steps.Earliest.{earliest_in};
 
 use super::names::Repeated;
 use spl_tree::Placed;

@@ -2,7 +2,7 @@
 ghost use Rattle.std.specs.Prelude.{◌≡◌, IfOk, flat_map};
 ghost use Rattle.std.specs.Option.{option_copied};
 ghost use Rattle.language_model.specs.Declarations.{block_sets, statement_scoped};
-ghost use Rattle.duplicate_rules.specs.Earliest.{earliest_in};
+ghost use Rattle.duplicate_rules.specs.steps.Earliest.{earliest_in};
 
 use super::names::{Declares, Repeated, earliest_repeated};
 use super::types::earliest_in_type;

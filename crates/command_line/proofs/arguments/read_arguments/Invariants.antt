@@ -1,6 +1,6 @@
 use Rattle.std.proofs.Common.{◌≡◌, ◌≤◌, ◌-◌, length, drop}
 use Rattle.command_line.specs.Arguments.{arguments, texts}
-use Rattle.command_line.specs.Steps.{with_front}
+use Rattle.command_line.specs.steps.Steps.{with_front}
 use Rattle.command_line.proofs.arguments.read_arguments.Given as goal
 
 abbrev pub invariant-loop-at : goal.invariant-loop-at

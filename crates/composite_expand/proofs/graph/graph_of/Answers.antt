@@ -10,7 +10,7 @@ use Rattle.language_model.specs.declared.expansion.Operation.{Operation}
 use Rattle.language_model.specs.Declarations.{first_of}
 use Rattle.language_model.specs.Flat.{files_had}
 use Rattle.language_model.specs.Taking.{taken, first_untaken}
-use Rattle.composite_expand.specs.Waiting.{IsFirstWaiting}
+use Rattle.composite_expand.specs.steps.Waiting.{IsFirstWaiting}
 use Rattle.composite_expand.proofs.Comes.{loops, same_files}
 use Rattle.composite_expand.proofs.graph.graph_of.Goals as goal
 

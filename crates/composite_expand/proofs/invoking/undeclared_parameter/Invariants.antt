@@ -1,7 +1,7 @@
 use Rattle.std.proofs.Common.{◌≡◌, drop}
 use Rattle.language_model.specs.Declarations.{first_of}
 use Rattle.language_model.specs.Mentions.{clause_mentions}
-use Rattle.composite_expand.specs.Invocations.{undeclared_parameters}
+use Rattle.composite_expand.specs.steps.Invocations.{undeclared_parameters}
 use Rattle.program_tables.specs.Mentioned.{mentions_seen}
 use Rattle.composite_expand.proofs.invoking.undeclared_parameter.Given as goal
 

@@ -1,6 +1,6 @@
 use Rattle.std.proofs.Common.{subst, sym}
 use Rattle.std.specs.Prelude.{reverse, ◌<◌}
-use Rattle.composite_expand.specs.Walks.{IsOn, work_left}
+use Rattle.composite_expand.specs.steps.Walks.{IsOn, work_left}
 use Rattle.composite_expand.proofs.Begin.{on_popped}
 use Rattle.composite_expand.proofs.walk.expand_main.Goals as goal
 use Rattle.spl_value.proofs.Lists.{reverse_more as reversed}

@@ -1,7 +1,7 @@
 use Rattle.std.specs.Prelude.{reverse}
 use Rattle.spl_tree.specs.declared.unit.Composite.{Composite}
 use Rattle.language_model.specs.Scopes.{At}
-use Rattle.composite_expand.specs.Walks.{IsOn, Starts, work_left}
+use Rattle.composite_expand.specs.steps.Walks.{IsOn, Starts, work_left}
 use Rattle.composite_expand.proofs.walk.expand_main.Given as goal
 
 abbrev pub invariant-bodies : goal.invariant-bodies

@@ -1,6 +1,6 @@
 use Rattle.std.proofs.Common.{◌∙◌, refl, sym, subst}
 use Rattle.language_model.specs.Scopes.{at_place}
-use Rattle.composite_expand.specs.Walks.{Refuses}
+use Rattle.composite_expand.specs.steps.Walks.{Refuses}
 use Rattle.composite_expand.proofs.Steps.{ports_refused, marked}
 use Rattle.composite_expand.proofs.walk.invoke.Goals as goal
 

@@ -1,8 +1,8 @@
 use Rattle.std.proofs.Common.{◌∙◌, sym, ap, subst}
 use Rattle.spl_tree.specs.Grammar.{placed}
 use Rattle.language_model.specs.Invoking.{target_of}
-use Rattle.composite_expand.specs.Invocations.{named}
-use Rattle.composite_expand.specs.Walks.{Refuses}
+use Rattle.composite_expand.specs.steps.Invocations.{named}
+use Rattle.composite_expand.specs.steps.Walks.{Refuses}
 use Rattle.composite_expand.proofs.Steps.{at_end, at_invocation, number_within, undeclared_refused}
 use Rattle.composite_expand.proofs.walk.step.Goals as goal
 

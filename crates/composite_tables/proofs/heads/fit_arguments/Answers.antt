@@ -2,7 +2,7 @@ use Rattle.std.proofs.Common.{◌≡◌, [], ◌++◌, ◌∷◌, ◌∙◌, ◌
 use Rattle.std.specs.Prelude.{◌&&◌, length}
 use Rattle.language_model.specs.Invoking.{is_argument, is_parameter, is_among}
 use Rattle.program_tables.specs.Names.{HoldsNames}
-use Rattle.composite_tables.specs.Arguments.{argument_names}
+use Rattle.composite_tables.specs.steps.Arguments.{argument_names}
 use Rattle.composite_tables.proofs.Fitting.{fit_behind, fitting, names_at, rest_at, stand_at}
 use Rattle.composite_tables.proofs.heads.fit_arguments.Goals as goal
 

@@ -1,7 +1,7 @@
 use Rattle.std.proofs.Common.{◌≡◌, List, take, drop}
 use Rattle.language_model.specs.Declarations.{Name}
 use Rattle.program_tables.specs.Names.{HoldsNames}
-use Rattle.composite_tables.specs.Arguments.{argument_names, fit_once}
+use Rattle.composite_tables.specs.steps.Arguments.{argument_names, fit_once}
 use Rattle.composite_tables.proofs.Fitting.{Stand, fit_behind}
 use Rattle.composite_tables.proofs.heads.fit_arguments.Given as goal
 

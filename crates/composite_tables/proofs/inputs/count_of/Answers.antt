@@ -1,7 +1,7 @@
 use Rattle.std.proofs.Common.{flat_map, subst, arith}
 use Rattle.std.proofs.lemmas.List.{take_all}
 use Rattle.language_model.specs.Expansion.{sources_of}
-use Rattle.composite_tables.specs.Reading.{Counts}
+use Rattle.composite_tables.specs.steps.Reading.{Counts}
 use Rattle.composite_tables.proofs.inputs.count_of.Goals as goal
 
 pub returns : goal.returns

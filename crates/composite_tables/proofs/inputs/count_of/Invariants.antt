@@ -1,7 +1,7 @@
 use Rattle.std.proofs.Common.{List, flat_map, take}
 use Rattle.language_model.specs.Expansion.{Inlined, sources_of}
 use Rattle.composite_tables.specs.Inputs.{IsBody}
-use Rattle.composite_tables.specs.Reading.{Counts}
+use Rattle.composite_tables.specs.steps.Reading.{Counts}
 use Rattle.composite_tables.proofs.inputs.count_of.Given as goal
 
 abbrev pub invariant-loop-name : goal.invariant-loop-name

@@ -1,6 +1,6 @@
 use Rattle.std.proofs.Common.{◌≡◌, ◌∙◌, ◌<◌, ◌+◌, ◌++◌, ◌∷◌, [], ap, get_or, refl, sym, subst, arith, length, length-append}
 use Rattle.std.proofs.lemmas.Option.{slice_get_read}
-use Rattle.composite_tables.specs.Reading.{PortsStand}
+use Rattle.composite_tables.specs.steps.Reading.{PortsStand}
 use Rattle.composite_tables.proofs.Counting.{opened, ports_next}
 use Rattle.composite_tables.proofs.inputs.inputs_of.Goals as goal
 

@@ -1,7 +1,7 @@
 use Rattle.std.proofs.Common.{◌≡◌, List, Some, length, slice_get}
 use Rattle.language_model.specs.Expansion.{Inlined}
 use Rattle.composite_tables.specs.Inputs.{IsBody}
-use Rattle.composite_tables.specs.Reading.{PortsStand}
+use Rattle.composite_tables.specs.steps.Reading.{PortsStand}
 use Rattle.composite_tables.proofs.inputs.inputs_of.Given as goal
 
 abbrev pub invariant-loop-place : goal.invariant-loop-place

@@ -1,7 +1,7 @@
 use Rattle.std.proofs.Common.{ap, ◌∙◌}
 use Rattle.language_model.specs.Numbering.{streams_from}
 use Rattle.composite_tables.specs.SiteTable.{parts_of, table_of}
-use Rattle.composite_tables.specs.StreamTable.{ops_in, expansions_in}
+use Rattle.composite_tables.specs.steps.StreamTable.{ops_in, expansions_in}
 use Rattle.composite_tables.proofs.NumberedParts.{all_is}
 use Rattle.composite_tables.proofs.numbering.number_streams.Goals as goal
 

@@ -1,6 +1,6 @@
 use Rattle.std.proofs.Common.{◌∙◌, ◌≤◌, ap, flat_map, sym, subst, length}
 use Rattle.language_model.specs.Expansion.{sources_of}
-use Rattle.composite_tables.specs.Reading.{most_names}
+use Rattle.composite_tables.specs.steps.Reading.{most_names}
 use Rattle.composite_tables.specs.Inputs.{list_taken}
 use Rattle.composite_tables.proofs.Following.{few_names, names_shown, names_smaller, one_smaller}
 use Rattle.composite_tables.proofs.sources.follow.Goals as goal

@@ -1,5 +1,5 @@
 use Rattle.std.proofs.Common.{◌++◌, ◌∙◌, ap, sym}
-use Rattle.composite_tables.specs.Reading.{list_left}
+use Rattle.composite_tables.specs.steps.Reading.{list_left}
 use Rattle.composite_tables.proofs.sources.sources_at.Goals as goal
 
 pub loop-reading-preserved : goal.loop-reading-preserved

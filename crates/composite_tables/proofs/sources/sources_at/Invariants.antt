@@ -1,7 +1,7 @@
 use Rattle.std.proofs.Common.{◌≡◌, ◌+◌, ◌++◌, List, flat_map}
 use Rattle.language_model.specs.Expansion.{Inlined, sources_of}
 use Rattle.composite_tables.specs.Inputs.{AreKept}
-use Rattle.composite_tables.specs.Reading.{list_left, most_names, size_left}
+use Rattle.composite_tables.specs.steps.Reading.{list_left, most_names, size_left}
 use Rattle.composite_tables.proofs.sources.sources_at.Given as goal
 
 abbrev pub invariant-loop-reading : goal.invariant-loop-reading

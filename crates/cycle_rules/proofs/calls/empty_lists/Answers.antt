@@ -1,5 +1,5 @@
 use Rattle.std.proofs.Common.{◌≡◌, ◌∙◌, ◌++◌, ◌∷◌, [], suc, add-one, ap, sym, subst}
-use Rattle.cycle_rules.specs.Callers.{AreEmpty}
+use Rattle.cycle_rules.specs.steps.Callers.{AreEmpty}
 use Rattle.cycle_rules.proofs.Calling.{empty_more}
 use Rattle.cycle_rules.proofs.calls.empty_lists.Goals as goal
 

@@ -1,4 +1,4 @@
-use Rattle.cycle_rules.specs.Callers.{AreEmpty}
+use Rattle.cycle_rules.specs.steps.Callers.{AreEmpty}
 use Rattle.cycle_rules.proofs.calls.empty_lists.Given as goal
 
 abbrev pub invariant-loop : goal.invariant-loop

@@ -1,7 +1,7 @@
 use Rattle.std.proofs.Common.{◌≡◌, ◌<◌, ℕ, Some}
 use Rattle.std.specs.Prelude.{slice_get}
 use Rattle.spl_tree.specs.declared.expression.Placed.{Placed}
-use Rattle.cycle_rules.specs.Backs.{BackBy}
+use Rattle.cycle_rules.specs.steps.Backs.{BackBy}
 use Rattle.cycle_rules.proofs.calls.first_back.Given as goal
 
 abbrev pub invariant-loop-call : goal.invariant-loop-call

@@ -1,5 +1,5 @@
 use Rattle.std.proofs.Common.{take}
-use Rattle.cycle_rules.specs.Callers.{NotesAll}
+use Rattle.cycle_rules.specs.steps.Callers.{NotesAll}
 use Rattle.cycle_rules.proofs.calls.note_all.Given as goal
 
 abbrev pub invariant-loop-call : goal.invariant-loop-call

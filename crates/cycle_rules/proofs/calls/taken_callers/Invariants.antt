@@ -1,5 +1,5 @@
 use Rattle.std.proofs.Common.{◌-◌, length}
-use Rattle.cycle_rules.specs.Taking.{IsTaken}
+use Rattle.cycle_rules.specs.steps.Taking.{IsTaken}
 use Rattle.cycle_rules.proofs.calls.taken_callers.Given as goal
 
 abbrev pub invariant-passes : goal.invariant-passes

@@ -1,6 +1,6 @@
 use Rattle.std.proofs.Common.{sym, ap, ◌∙◌, arith, ◌≡◌, length}
 use Rattle.std.specs.Prelude.{◌&&◌}
-use Rattle.cycle_rules.specs.Makers.{covers, are_made}
+use Rattle.cycle_rules.specs.steps.Makers.{covers, are_made}
 use Rattle.cycle_rules.proofs.Flags.{port_more, port_fails}
 use Rattle.cycle_rules.proofs.order.add_all_makers.Goals as goal
 

@@ -1,7 +1,7 @@
 use Rattle.std.proofs.Common.{◌≡◌, List, length, take}
 use Rattle.std.specs.Prelude.{Bool, ◌&&◌}
 use Rattle.std.specs.List.{concat}
-use Rattle.cycle_rules.specs.Makers.{covers, are_made}
+use Rattle.cycle_rules.specs.steps.Makers.{covers, are_made}
 use Rattle.cycle_rules.proofs.order.add_all_makers.Given as goal
 
 abbrev pub invariant-loop-port : goal.invariant-loop-port

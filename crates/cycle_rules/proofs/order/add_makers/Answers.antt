@@ -1,6 +1,6 @@
 use Rattle.std.proofs.Common.{arith}
 use Rattle.cycle_rules.proofs.Flags.{row_more, no_stream, no_maker}
-use Rattle.cycle_rules.specs.Makers.{covers}
+use Rattle.cycle_rules.specs.steps.Makers.{covers}
 use Rattle.cycle_rules.proofs.order.add_makers.Goals as goal
 
 pub returns-in_default : goal.returns-in_default

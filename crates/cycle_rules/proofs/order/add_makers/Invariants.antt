@@ -1,6 +1,6 @@
 use Rattle.std.proofs.Common.{◌≡◌, List, length, take}
 use Rattle.std.specs.Prelude.{Bool, ◌&&◌}
-use Rattle.cycle_rules.specs.Makers.{covers, are_made}
+use Rattle.cycle_rules.specs.steps.Makers.{covers, are_made}
 use Rattle.cycle_rules.proofs.order.add_makers.Given as goal
 
 abbrev pub invariant-loop-number : goal.invariant-loop-number

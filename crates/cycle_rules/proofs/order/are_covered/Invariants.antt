@@ -1,5 +1,5 @@
 use Rattle.std.proofs.Common.{◌≡◌, drop}
-use Rattle.cycle_rules.specs.Makers.{covers_from}
+use Rattle.cycle_rules.specs.steps.Makers.{covers_from}
 use Rattle.cycle_rules.proofs.order.are_covered.Given as goal
 
 abbrev pub invariant-loop-at : goal.invariant-loop-at

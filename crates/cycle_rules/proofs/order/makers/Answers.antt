@@ -1,6 +1,6 @@
 use Rattle.std.proofs.Common.{sym, ap, ◌∙◌, ◌≡◌, length, replicate, false}
 use Rattle.std.specs.Prelude.{◌&&◌}
-use Rattle.cycle_rules.specs.Makers.{covers}
+use Rattle.cycle_rules.specs.steps.Makers.{covers}
 use Rattle.cycle_rules.proofs.Flags.{row_is}
 use Rattle.cycle_rules.proofs.Lists.{rewritten}
 use Rattle.cycle_rules.proofs.order.makers.Goals as goal

@@ -1,5 +1,5 @@
 use Rattle.std.proofs.Common.{◌≡◌, drop, map}
-use Rattle.cycle_rules.specs.Makers.{covers_all, first_ready}
+use Rattle.cycle_rules.specs.steps.Makers.{covers_all, first_ready}
 use Rattle.cycle_rules.proofs.order.next_ready.Given as goal
 
 abbrev pub invariant-loop-place : goal.invariant-loop-place

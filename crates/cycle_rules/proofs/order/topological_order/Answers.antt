@@ -2,7 +2,7 @@ use Rattle.std.specs.Prelude.{◌≡◌, ◌<◌, ◌+◌, ◌∷◌, [], ◌++�
 use Rattle.std.proofs.Common.{sym, ap, ◌∙◌, arith, length-append}
 use Rattle.std.proofs.lemmas.List.{length-set}
 use Rattle.language_model.specs.Taking.{is_taken, next_from}
-use Rattle.cycle_rules.specs.Makers.{covers_all, first_ready}
+use Rattle.cycle_rules.specs.steps.Makers.{covers_all, first_ready}
 use Rattle.cycle_rules.proofs.Flags.{next_by_rows, taken_done, round_more, flags_more}
 use Rattle.cycle_rules.proofs.order.topological_order.Goals as goal
 

@@ -2,7 +2,7 @@ use Rattle.std.proofs.Common.{◌≡◌, map, take}
 use Rattle.std.specs.Prelude.{filter_map}
 use Rattle.std.specs.HashMap as hash
 use Rattle.std.specs.Str.{bytes_eq}
-use Rattle.cycle_rules.specs.Named.{callers_seen, found_place}
+use Rattle.cycle_rules.specs.steps.Named.{callers_seen, found_place}
 use Rattle.cycle_rules.proofs.recursion.add_calls.Given as goal
 
 abbrev pub invariant-loop-caller : goal.invariant-loop-caller

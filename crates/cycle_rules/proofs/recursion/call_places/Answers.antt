@@ -3,7 +3,7 @@ use Rattle.std.specs.Prelude.{slice_get, filter_map}
 use Rattle.std.specs.HashMap as hash
 use Rattle.std.specs.Str.{bytes_eq}
 use Rattle.std.proofs.lemmas.Option.{slice_get-get_or}
-use Rattle.cycle_rules.specs.Named.{name_seen, found_place}
+use Rattle.cycle_rules.specs.steps.Named.{name_seen, found_place}
 use Rattle.cycle_rules.proofs.Snoc.{names_snoc}
 use Rattle.cycle_rules.proofs.recursion.call_places.Goals as goal
 

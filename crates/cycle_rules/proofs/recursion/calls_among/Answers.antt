@@ -1,7 +1,7 @@
 use Rattle.std.proofs.Common.{◌∙◌}
 use Rattle.std.specs.HashMap as hash
 use Rattle.std.specs.Str.{bytes_eq}
-use Rattle.cycle_rules.specs.Named.{callers_seen}
+use Rattle.cycle_rules.specs.steps.Named.{callers_seen}
 use Rattle.cycle_rules.proofs.CallTables.{calls_by_table}
 use Rattle.cycle_rules.proofs.recursion.calls_among.Goals as goal
 

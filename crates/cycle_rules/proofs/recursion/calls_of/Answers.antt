@@ -1,7 +1,7 @@
 use Rattle.std.proofs.Common.{◌≡◌, ◌∙◌, add-one, Some, ap, sym, map}
 use Rattle.std.specs.Prelude.{slice_get}
 use Rattle.std.proofs.lemmas.Option.{slice_get-get_or}
-use Rattle.cycle_rules.specs.Named.{name_seen}
+use Rattle.cycle_rules.specs.steps.Named.{name_seen}
 use Rattle.cycle_rules.proofs.Snoc.{call_on, call_past}
 use Rattle.cycle_rules.proofs.recursion.calls_of.Goals.{in-Called+in_ok-push-in-Called, in-Dollar}
 use Rattle.cycle_rules.proofs.recursion.calls_of.Goals as goal

@@ -1,6 +1,6 @@
 use Rattle.std.proofs.Common.{◌≡◌, map, take}
 use Rattle.spl_tree.specs.Grammar.{placed}
-use Rattle.cycle_rules.specs.Named.{name_seen}
+use Rattle.cycle_rules.specs.steps.Named.{name_seen}
 use Rattle.cycle_rules.proofs.recursion.composite_caller.Given as goal
 
 abbrev pub invariant-loop-invocation : goal.invariant-loop-invocation

@@ -1,6 +1,6 @@
 use Rattle.std.proofs.Common.{◌≡◌, take}
 use Rattle.language_model.specs.Recursion.{composite_callers}
-use Rattle.cycle_rules.specs.Named.{callers_seen}
+use Rattle.cycle_rules.specs.steps.Named.{callers_seen}
 use Rattle.cycle_rules.proofs.recursion.composite_callers.Given as goal
 
 abbrev pub invariant-loop-definition : goal.invariant-loop-definition

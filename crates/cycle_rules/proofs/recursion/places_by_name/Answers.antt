@@ -4,7 +4,7 @@ use Rattle.std.specs.HashMap as hash
 use Rattle.std.specs.Str.{bytes_eq}
 use Rattle.std.proofs.lemmas.Option.{slice_get-get_or}
 use Rattle.std.proofs.lemmas.Map.Text.{hash_map_updates_str}
-use Rattle.cycle_rules.specs.Named.{callers_seen, place_from}
+use Rattle.cycle_rules.specs.steps.Named.{callers_seen, place_from}
 use Rattle.cycle_rules.proofs.CallTables.{table_more}
 use Rattle.cycle_rules.proofs.recursion.places_by_name.Goals as goal
 

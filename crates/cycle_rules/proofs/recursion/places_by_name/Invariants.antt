@@ -1,7 +1,7 @@
 use Rattle.std.proofs.Common.{◌≡◌, ℕ, List, drop}
 use Rattle.std.specs.HashMap as hash
 use Rattle.std.specs.Str.{bytes_eq}
-use Rattle.cycle_rules.specs.Named.{callers_seen, place_from}
+use Rattle.cycle_rules.specs.steps.Named.{callers_seen, place_from}
 use Rattle.cycle_rules.proofs.recursion.places_by_name.Given as goal
 
 abbrev pub invariant-loop-place : goal.invariant-loop-place

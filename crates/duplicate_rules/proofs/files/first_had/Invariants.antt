@@ -2,7 +2,7 @@ use Rattle.std.proofs.Common.{◌≡◌, map, reverse, drop, []}
 use Rattle.std.specs.Prelude.{flat_map}
 use Rattle.language_model.specs.Declarations.{first_of, repeated_after}
 use Rattle.language_model.specs.SinkFiles.{is_had, op_file}
-use Rattle.duplicate_rules.specs.Seen.{file_seen}
+use Rattle.duplicate_rules.specs.steps.Seen.{file_seen}
 use Rattle.duplicate_rules.proofs.files.first_had.Given as goal
 
 abbrev pub invariant-loop-op : goal.invariant-loop-op

@@ -2,7 +2,7 @@ use Rattle.std.proofs.Common.{◌≡◌, ◌+◌, ◌≤◌, length, take, drop}
 use Rattle.std.specs.List.{All}
 use Rattle.std.specs.Vec.Iter.{into_iter_items, into_iter_len}
 use Rattle.feed_pour.specs.Contents.{WhereTold}
-use Rattle.file_adapters.specs.Steps.{EachFinished, FinishCounted}
+use Rattle.file_adapters.specs.steps.Steps.{EachFinished, FinishCounted}
 use Rattle.file_adapters.proofs.Finishing.{NoFaults}
 use Rattle.file_adapters.proofs.sinks.finish_each.Given as goal
 

@@ -1,6 +1,6 @@
 use Rattle.std.proofs.Common.{◌≡◌, ◌++◌, length, List, Option, Some, None}
 use Rattle.spl_value.specs.declared.item.Item.{Item}
-use Rattle.file_adapters.specs.Lines.{number_rows}
+use Rattle.file_adapters.specs.steps.Lines.{number_rows}
 use Rattle.file_adapters.proofs.source.number_rows.Given as goal
 use Rattle.stream_model.specs.Laws.{lines}
 

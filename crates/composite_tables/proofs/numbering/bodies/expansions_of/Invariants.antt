@@ -1,5 +1,5 @@
 use Rattle.std.proofs.Common.{◌≡◌, ◌++◌, drop}
-use Rattle.composite_tables.specs.StreamTable.{expansions_in}
+use Rattle.composite_tables.specs.steps.StreamTable.{expansions_in}
 use Rattle.composite_tables.proofs.numbering.bodies.expansions_of.Given as goal
 
 abbrev pub invariant-loop-body : goal.invariant-loop-body

@@ -1,5 +1,5 @@
 use Rattle.std.proofs.Common.{◌≡◌, map, take}
-use Rattle.composite_tables.specs.StreamTable.{input_in}
+use Rattle.composite_tables.specs.steps.StreamTable.{input_in}
 use Rattle.composite_tables.proofs.numbering.bodies.inputs_in.Given as goal
 
 abbrev pub invariant-loop-input : goal.invariant-loop-input

@@ -1,5 +1,5 @@
 use Rattle.std.proofs.Common.{◌≡◌, ◌++◌}
-use Rattle.composite_tables.specs.StreamTable.{ops_in}
+use Rattle.composite_tables.specs.steps.StreamTable.{ops_in}
 use Rattle.composite_tables.proofs.numbering.operators.ops_of.Given as goal
 
 abbrev pub invariant-operations : goal.invariant-operations

@@ -2,7 +2,7 @@ use Rattle.std.proofs.Common.{◌≡◌, ◌+◌, ◌∷◌, Some, true, false, 
 use Rattle.std.specs.Prelude.{◌||◌}
 use Rattle.std.specs.List.{list_any}
 use Rattle.language_model.specs.Declarations.{definition_name, first_of, is_built_in, is_defined, is_same, repeated_after}
-use Rattle.duplicate_rules.specs.NamesBefore.{Has, Hold}
+use Rattle.duplicate_rules.specs.steps.NamesBefore.{Has, Hold}
 use Rattle.duplicate_rules.proofs.DefinitionNames.{same_names}
 use Rattle.duplicate_rules.proofs.NameRows.{is_taken, not_taken, passed, stopped}
 use Rattle.duplicate_rules.proofs.declarations.definitions.first_behind.Goals.{then-is_built_in-via-then-is_built_in, then-is_built_in-via-else-is_built_in+then-not-added}

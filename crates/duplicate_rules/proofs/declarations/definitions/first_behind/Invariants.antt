@@ -2,7 +2,7 @@ use Rattle.std.proofs.Common.{◌≡◌, drop, map}
 use Rattle.std.specs.Prelude.{List}
 use Rattle.spl_tree.specs.declared.unit.Definition.{Definition}
 use Rattle.language_model.specs.Declarations.{definition_name, first_of, is_defined, repeated_after, repeated_definitions}
-use Rattle.duplicate_rules.specs.NamesBefore.{Hold}
+use Rattle.duplicate_rules.specs.steps.NamesBefore.{Hold}
 use Rattle.duplicate_rules.proofs.declarations.definitions.first_behind.Given as goal
 
 abbrev pub invariant-loop-definition : goal.invariant-loop-definition

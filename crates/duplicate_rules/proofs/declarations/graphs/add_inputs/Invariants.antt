@@ -1,6 +1,6 @@
 use Rattle.std.proofs.Common.{◌≡◌, ◌++◌, drop, map}
 use Rattle.language_model.specs.Declarations.{InputPort}
-use Rattle.duplicate_rules.specs.Graphs.{shown}
+use Rattle.duplicate_rules.specs.steps.Graphs.{shown}
 use Rattle.duplicate_rules.proofs.declarations.graphs.add_inputs.Given as goal
 
 abbrev pub invariant-loop-port : goal.invariant-loop-port

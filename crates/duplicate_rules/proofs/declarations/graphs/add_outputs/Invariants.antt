@@ -1,6 +1,6 @@
 use Rattle.std.proofs.Common.{◌≡◌, ◌++◌, drop, map}
 use Rattle.language_model.specs.Declarations.{OutputPort}
-use Rattle.duplicate_rules.specs.Graphs.{shown}
+use Rattle.duplicate_rules.specs.steps.Graphs.{shown}
 use Rattle.duplicate_rules.proofs.declarations.graphs.add_outputs.Given as goal
 
 abbrev pub invariant-loop-port : goal.invariant-loop-port

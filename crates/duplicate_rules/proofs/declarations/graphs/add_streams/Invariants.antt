@@ -1,6 +1,6 @@
 use Rattle.std.proofs.Common.{◌≡◌, ◌++◌, drop, map}
 use Rattle.language_model.specs.Declarations.{MadeStream}
-use Rattle.duplicate_rules.specs.Graphs.{shown}
+use Rattle.duplicate_rules.specs.steps.Graphs.{shown}
 use Rattle.duplicate_rules.proofs.declarations.graphs.add_streams.Given as goal
 
 abbrev pub invariant-loop-stream : goal.invariant-loop-stream

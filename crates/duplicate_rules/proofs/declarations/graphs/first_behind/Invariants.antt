@@ -1,7 +1,7 @@
 use Rattle.std.proofs.Common.{◌≡◌, drop, map}
 use Rattle.std.specs.Prelude.{List}
 use Rattle.language_model.specs.Declarations.{Declared, declared_name, first_of, is_declared, repeated, repeated_after}
-use Rattle.duplicate_rules.specs.Graphs.{Stand, shown}
+use Rattle.duplicate_rules.specs.steps.Graphs.{Stand, shown}
 use Rattle.duplicate_rules.proofs.declarations.graphs.first_behind.Given as goal
 
 abbrev pub invariant-loop-next : goal.invariant-loop-next

@@ -2,8 +2,8 @@ use Rattle.std.proofs.Common.{◌+◌, Some, ap, sym, ◌∙◌, drop}
 use Rattle.std.specs.Prelude.{filter_map}
 use Rattle.std.specs.List.{cons_option}
 use Rattle.std.specs.Option.{option_copied}
-use Rattle.duplicate_rules.specs.Earliest.{earliest}
-use Rattle.duplicate_rules.specs.NamesBefore.{again}
+use Rattle.duplicate_rules.specs.steps.Earliest.{earliest}
+use Rattle.duplicate_rules.specs.steps.NamesBefore.{again}
 use Rattle.duplicate_rules.proofs.declarations.names.earliest_behind.Goals.{in-Some, in_default}
 use Rattle.duplicate_rules.proofs.declarations.names.earliest_behind.Goals as goal
 use Rattle.spl_value.proofs.Lists.{drop_at as rest_at}

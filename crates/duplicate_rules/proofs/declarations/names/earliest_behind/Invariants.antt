@@ -2,8 +2,8 @@ use Rattle.std.proofs.Common.{◌≡◌, drop}
 use Rattle.std.specs.Prelude.{List, filter_map}
 use Rattle.std.specs.Option.{option_copied}
 use Rattle.language_model.specs.Declarations.{Name, repeated_names}
-use Rattle.duplicate_rules.specs.Earliest.{earliest}
-use Rattle.duplicate_rules.specs.NamesBefore.{Hold, again}
+use Rattle.duplicate_rules.specs.steps.Earliest.{earliest}
+use Rattle.duplicate_rules.specs.steps.NamesBefore.{Hold, again}
 use Rattle.duplicate_rules.proofs.declarations.names.earliest_behind.Given as goal
 
 abbrev pub invariant-loop-part : goal.invariant-loop-part

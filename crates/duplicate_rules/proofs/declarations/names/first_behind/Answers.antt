@@ -3,7 +3,7 @@ use Rattle.std.specs.Prelude.{filter_map}
 use Rattle.std.specs.List.{cons_option}
 use Rattle.std.specs.Option.{option_copied}
 use Rattle.language_model.specs.Declarations.{first_of}
-use Rattle.duplicate_rules.specs.NamesBefore.{again}
+use Rattle.duplicate_rules.specs.steps.NamesBefore.{again}
 use Rattle.duplicate_rules.proofs.declarations.names.first_behind.Goals as goal
 use Rattle.spl_value.proofs.Lists.{drop_at as rest_at}
 

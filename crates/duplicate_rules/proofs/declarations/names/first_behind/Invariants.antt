@@ -1,7 +1,7 @@
 use Rattle.std.proofs.Common.{◌≡◌, drop}
 use Rattle.std.specs.Prelude.{List, filter_map}
 use Rattle.language_model.specs.Declarations.{Name, first_of, repeated_names}
-use Rattle.duplicate_rules.specs.NamesBefore.{Hold, again}
+use Rattle.duplicate_rules.specs.steps.NamesBefore.{Hold, again}
 use Rattle.duplicate_rules.proofs.declarations.names.first_behind.Given as goal
 
 abbrev pub invariant-loop-part : goal.invariant-loop-part

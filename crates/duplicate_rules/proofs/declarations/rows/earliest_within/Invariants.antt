@@ -1,7 +1,7 @@
 use Rattle.std.proofs.Common.{◌≡◌, drop}
 use Rattle.std.specs.Prelude.{flat_map}
 use Rattle.std.specs.Option.{option_copied}
-use Rattle.duplicate_rules.specs.Earliest.{earliest_in}
+use Rattle.duplicate_rules.specs.steps.Earliest.{earliest_in}
 use Rattle.duplicate_rules.proofs.declarations.rows.earliest_within.Given as goal
 
 abbrev pub invariant-loop-part : goal.invariant-loop-part

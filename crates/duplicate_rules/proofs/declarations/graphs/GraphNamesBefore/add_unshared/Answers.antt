@@ -1,8 +1,8 @@
 use Rattle.std.proofs.Common.{ap, sym, ◌∙◌}
 use Rattle.std.specs.Prelude.{not, ◌||◌}
 use Rattle.std.proofs.lemmas.Result.{IfOk-weaker}
-use Rattle.duplicate_rules.specs.Graphs.{outputs_of, others_of}
-use Rattle.duplicate_rules.specs.NamesBefore.{Has}
+use Rattle.duplicate_rules.specs.steps.Graphs.{outputs_of, others_of}
+use Rattle.duplicate_rules.specs.steps.NamesBefore.{Has}
 use Rattle.duplicate_rules.proofs.declarations.graphs.GraphNamesBefore.add_unshared.Goals as goal
 
 pub returns-then-has : goal.returns-then-has

@@ -1,7 +1,7 @@
 use Rattle.std.proofs.Common.{◌∷◌, ap, sym, ◌∙◌}
 use Rattle.std.specs.List.{cons_option}
 use Rattle.std.specs.Option.{option_copied}
-use Rattle.duplicate_rules.specs.NamesBefore.{Has, again}
+use Rattle.duplicate_rules.specs.steps.NamesBefore.{Has, again}
 use Rattle.duplicate_rules.proofs.NameRows.{passed_new, passed_old}
 use Rattle.duplicate_rules.proofs.declarations.names.NamesBefore.repeated.Goals.{then-added, else-added}
 use Rattle.duplicate_rules.proofs.declarations.names.NamesBefore.repeated.Goals as goal

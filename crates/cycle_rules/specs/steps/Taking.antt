@@ -4,7 +4,7 @@ use Rattle.spl_tree.specs.declared.expression.Placed.{Placed}
 use Rattle.language_model.specs.Recursion.{Calls, IsCall}
 use Rattle.place_sets.specs.declared.place_set.PlaceSet.{PlaceSet}
 use Rattle.place_sets.specs.Places.{HasPlace, IsSet}
-use Rattle.cycle_rules.specs.Callers.{Calling}
+use Rattle.cycle_rules.specs.steps.Callers.{Calling}
 
 -- it stands in the list before that place
 pub record Before (places : List ℕ) (at : ℕ) (place : ℕ) : Type 0 where

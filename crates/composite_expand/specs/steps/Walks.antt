@@ -17,7 +17,7 @@ use Rattle.composite_tables.specs.declared.made.Input.{Input}
 use Rattle.composite_expand.specs.declared.walk.Opened.{Opened}
 use Rattle.composite_expand.specs.declared.walk.Walk.{Walk}
 use Rattle.composite_tables.specs.Inputs.{Shows, AreNested, AreInputs, InputsStand}
-use Rattle.composite_expand.specs.Walking.{Frame, resumed, Keeps, IsIdle}
+use Rattle.composite_expand.specs.steps.Walking.{Frame, resumed, Keeps, IsIdle}
 
 -- ---- the bodies on the way
 

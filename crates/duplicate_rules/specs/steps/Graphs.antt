@@ -4,7 +4,7 @@ use Rattle.language_model.specs.Declarations.{Name, Declared, OutputPort, InputP
 use Rattle.duplicate_rules.specs.declared.declarations.graphs.GraphName.{GraphName}
 use Rattle.duplicate_rules.specs.declared.declarations.graphs.GraphName.TheVariants as G
 use Rattle.duplicate_rules.specs.declared.declarations.graphs.GraphNamesBefore.{GraphNamesBefore}
-use Rattle.duplicate_rules.specs.NamesBefore.{Has, Hold}
+use Rattle.duplicate_rules.specs.steps.NamesBefore.{Has, Hold}
 
 abbrev pub shown : GraphName → Declared
 shown (G.Output name) = OutputPort name.now

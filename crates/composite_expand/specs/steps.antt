@@ -1,0 +1,4 @@
+pub mod Invocations
+pub mod Waiting
+pub mod Walking
+pub mod Walks

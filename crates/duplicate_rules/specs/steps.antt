@@ -1,0 +1,4 @@
+pub mod Earliest
+pub mod Graphs
+pub mod NamesBefore
+pub mod Seen
