@@ -5,7 +5,7 @@ use Rattle.std.specs.List.{list_all}
 use Rattle.std.proofs.Math.Nat.{pow-succ', pow-le-pow_right, mul-le-mul_right}
 use Rattle.std.proofs.lemmas.Bool.Decides.{nat_tests}
 use Rattle.spl_value.specs.Decimal.{is_digit, digit_step, natural}
-use Rattle.command_line.specs.Options.{number, within, number_within}
+use Rattle.command_line.specs.Options.{spelled_number, within, number_within}
 
 -- each digit behind a number makes at least ten times as much of it
 fold_digits : (n : ℕ) (bytes : List ℕ) → n * 10 ^ length bytes ≤ fold digit_step n bytes
@@ -34,7 +34,7 @@ natural_large b bytes h lead =
     let first : 1 ≤ digit_step 0 b = one_to_nine b (list_all is_digit bytes) digits lead in
     omega (arith, pow-le-pow_right {n = 10} (lit< tt) h, mul-le-mul_right (10 ^ length bytes) first, fold_digits (digit_step 0 b) bytes))
 
-number_large : (text : List ℕ) → 18 < length text → IfSome (number text) (λ n. 10 ^ 18 ≤ n)
+number_large : (text : List ℕ) → 18 < length text → IfSome (spelled_number text) (λ n. 10 ^ 18 ≤ n)
 number_large [] h = absurd (omega arith)
 number_large (b ∷ []) h = absurd (omega arith)
 number_large (b ∷ c ∷ bytes) h =
@@ -45,4 +45,4 @@ within_large least most None h large = refl
 within_large least most (Some n) h large = grind (arith, nat_tests)
 
 pub number_within_long : (least most : ℕ) (text : List ℕ) → most < 2 ^ 32 → 18 < length text → number_within least most text ≡ None
-number_within_long least most text small long = within_large least most (number text) (omega arith) (number_large text long)
+number_within_long least most text small long = within_large least most (spelled_number text) (omega arith) (number_large text long)

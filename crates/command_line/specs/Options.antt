@@ -65,8 +65,8 @@ leads_with_zero (b ∷ []) = false
 leads_with_zero (b ∷ c ∷ bytes) = b == 48
 
 -- the number that 1 to 19 digits without a leading zero spell
-abbrev pub number : List ℕ → Option ℕ
-number text = if leads_with_zero text || nat_lt 19 (length text) then None else natural text
+abbrev pub spelled_number : List ℕ → Option ℕ
+spelled_number text = if leads_with_zero text || nat_lt 19 (length text) then None else natural text
 
 -- a number in these limits
 abbrev pub within : ℕ → ℕ → Option ℕ → Option ℕ
@@ -74,4 +74,4 @@ within least most None = None
 within least most (Some n) = if nat_le least n && nat_le n most then Some n else None
 
 abbrev pub number_within : ℕ → ℕ → List ℕ → Option ℕ
-number_within least most text = within least most (number text)
+number_within least most text = within least most (spelled_number text)
