@@ -31,7 +31,7 @@ and_true false = refl
 
 -- ---- which inputs are over
 
-over_stays : (e : Event) (h : List Event) (j : ℕ) → is_over h j ≡ true → is_over (e ∷ h) j ≡ true
+pub over_stays : (e : Event) (h : List Event) (j : ℕ) → is_over h j ≡ true → is_over (e ∷ h) j ≡ true
 over_stays e h j o = go ((e.input == j) && is_final e.item)
   where
     go : (b : Bool) → cond b true (is_over h j) ≡ true

@@ -12,6 +12,7 @@ use Rattle.stream_model.specs.Operators.{Operator, ports, port_at}
 use Rattle.stream_model.specs.PortEvents.{is_over, all_over, is_waiting, is_last}
 use Rattle.stream_model.specs.React.{Answer, Gives, Faults, body, ended, ended_by}
 use Rattle.stream_model.specs.Stages.{Stage, start, next, after}
+use Rattle.stream_model.proofs.ByPorts.{over_stays}
 use Rattle.stream_model.proofs.StageLaws.{stage_at, after-over}
 use Rattle.stream_model.specs.Meaning.{Lists, with_list, taking, arrive}
 use Rattle.stream_model.specs.Records.{names_inputs, finds_items, ends_at_last, is_whole, up_to_end, inputs_from, all_items, input_after_input}
@@ -78,20 +79,13 @@ arrive_from (suc n) i lists =
 abbrev Over : ℕ → List Event → Type 0
 Over i seen = (j : ℕ) → j < i → is_over seen j ≡ true
 
-stays_over : (e : Event) (seen : List Event) (j : ℕ) → is_over seen j ≡ true → is_over (e ∷ seen) j ≡ true
-stays_over e seen j h = go ((e.input == j) && is_final e.item)
-  where
-    go : (b : Bool) → cond b true (is_over seen j) ≡ true
-    go true = refl
-    go false = h
-
 over_more : (i : ℕ) (e : Event) (seen : List Event) → Over i seen → Over i (e ∷ seen)
-over_more i e seen over j l = stays_over e seen j (over j l)
+over_more i e seen over j l = over_stays e seen j (over j l)
 
 over_final : (i : ℕ) (seen : List Event) → Over i seen → Over (suc i) (came i I.Final ∷ seen)
 over_final i seen over j l = elim (cases_eq i j) [
   | inl p ↦ ap (λ b. cond (b && true) true (is_over seen j)) (eq-eqb i j p)
-  | inr n ↦ stays_over (came i I.Final) seen j (over j (omega (arith, l, n)))
+  | inr n ↦ over_stays (came i I.Final) seen j (over j (omega (arith, l, n)))
 ]
 
 all_over-from : (test : ℕ → Bool) (ps : List ℕ) (from : ℕ) (h : List Event) → ((j : ℕ) → from ≤ j → j < from + length ps → is_over h j ≡ true)

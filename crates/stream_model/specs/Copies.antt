@@ -18,6 +18,7 @@ use Rattle.language_model.specs.declared.checked.Collector.TheVariants as K
 use Rattle.language_model.specs.declared.checked.Handlers.{Handlers}
 use Rattle.language_model.specs.declared.checked.Part.{Part}
 use Rattle.language_model.specs.declared.checked.Part.TheVariants as A
+use Rattle.language_model.specs.Slots.{joined}
 use Rattle.stream_model.specs.Stream.{is_empty}
 
 -- ---- expressions
@@ -46,10 +47,6 @@ abbrev pub tuple_source : ℕ → Code Slot → Option ℕ
 tuple_source a code = level_source a (out-Code Slot code)
 
 -- ---- submits
-
-abbrev pub joined : {A : Type 0} → List (List A) → List A
-joined [] = []
-joined (xs ∷ xss) = xs ++ joined xss
 
 -- the expressions of the tuples that statements submit, in the order of the text
 abbrev pub level_submits : Statement-F (List (Code Slot)) → List (Code Slot)
