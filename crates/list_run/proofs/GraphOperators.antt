@@ -47,7 +47,7 @@ operator_from c from (op ∷ ops) (part ∷ parts) (suc n) o at =
     let number : suc from + n ≡ from + suc n = omega arith in
     record { op = rest.op; part = rest.part; there = rest.there; has = rest.has; same = rest.same ∙ ap (λ k. operator_with c k rest.op rest.part) number }
 
-operators_length : (c : CheckedGraph) (from : ℕ) (ops : List Op) (parts : List Part) → length parts ≡ length ops → length (operators_from c from ops parts) ≡ length ops
+pub operators_length : (c : CheckedGraph) (from : ℕ) (ops : List Op) (parts : List Part) → length parts ≡ length ops → length (operators_from c from ops parts) ≡ length ops
 operators_length c from [] parts l = refl
 operators_length c from (op ∷ ops) [] l = absurd (omega (arith, l))
 operators_length c from (op ∷ ops) (part ∷ parts) l =
@@ -102,7 +102,7 @@ one_stream schemas _ _ schema e (K.stream s streams first rest h hs) =
     let same : first ≡ schema = cc in
     (s, ap (λ ss. s ∷ ss) (no_streams_in schemas streams rest none hs), h ∙ ap (λ x. Some x) same)
 
-only_one : (streams : List ℕ) → 0 < length streams → length (streams ++ []) ≤ 1 → (t : ℕ) × (streams ≡ t ∷ [])
+pub only_one : (streams : List ℕ) → 0 < length streams → length (streams ++ []) ≤ 1 → (t : ℕ) × (streams ≡ t ∷ [])
 only_one [] some few = absurd (omega (arith, some))
 only_one (t ∷ []) some few = (t, refl)
 only_one (t ∷ s ∷ streams) some few = absurd (omega (arith, few))

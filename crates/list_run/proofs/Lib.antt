@@ -1,5 +1,5 @@
 mod Filtering
-mod GraphOperators
+pub mod GraphOperators
 mod Orders
 mod Made
 mod Streams

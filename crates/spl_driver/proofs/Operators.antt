@@ -14,17 +14,10 @@ use Rattle.stream_model.specs.Meaning.{Graph}
 use Rattle.stream_model.specs.Operators.{Operator}
 use Rattle.language_model.specs.StreamTypes.{Attributes}
 use Rattle.list_run.specs.Runs.{CanRun}
+use Rattle.list_run.proofs.GraphOperators.{operators_length, only_one}
 use Rattle.spl_driver.specs.Steps.{first_input}
 
 -- ---- the operators of the list
-
-operators_length : (c : CheckedGraph) (from : ℕ) (ops : List Op) (parts : List Part) → length parts ≡ length ops → length (operators_from c from ops parts) ≡ length ops
-operators_length c from [] parts l = refl
-operators_length c from (op ∷ ops) [] l = absurd (omega (arith, l))
-operators_length c from (op ∷ ops) (part ∷ parts) l =
-    let same : length parts ≡ length ops = omega (arith, l) in
-    let more = operators_length c (suc from) ops parts same in
-    omega (arith, more)
 
 -- the operator of an invocation and its clauses
 operator_from : (c : CheckedGraph) (from : ℕ) (ops : List Op) (parts : List Part) (n : ℕ) (op : Op) (part : Part) → slice_get ops n ≡ Some op → slice_get parts n ≡ Some part
@@ -61,11 +54,6 @@ operator_at c g e n op part there has =
 no_ports_in : (schemas : List Attributes) (ports : List (List ℕ)) (xs : List Attributes) → xs ≡ [] → PortsHave schemas ports xs → ports ≡ []
 no_ports_in schemas _ _ e K.no_ports = refl
 no_ports_in schemas _ _ e (K.one_port streams ports schema rest h hs) = absurd cc
-
-only_one : (streams : List ℕ) → 0 < length streams → length (streams ++ []) ≤ 1 → (t : ℕ) × (streams ≡ t ∷ [])
-only_one [] some few = absurd (omega (arith, some))
-only_one (t ∷ []) some few = (t, refl)
-only_one (t ∷ s ∷ streams) some few = absurd (omega (arith, few))
 
 one_port_in : (schemas : List Attributes) (ports : List (List ℕ)) (xs : List Attributes) (schema : Attributes) → xs ≡ schema ∷ [] → PortsHave schemas ports xs
     → length (concat ports) ≤ 1 → (t : ℕ) × (ports ≡ (t ∷ []) ∷ [])
