@@ -22,3 +22,4 @@ pub mod ByPorts
 pub mod KindBodies
 pub mod SomePlans
 pub mod Replying
+pub mod Stateless

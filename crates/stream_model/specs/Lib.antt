@@ -16,6 +16,7 @@ pub mod StateKinds
 pub mod Copies
 pub mod Selectivity
 pub mod Regions
+pub mod RegionLaws
 pub mod Laws
 pub mod PathLaws
 pub mod PortLaws

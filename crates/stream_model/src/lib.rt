@@ -20,7 +20,7 @@ pub use laws::{
     order_law, path_law, rows_law, rows_on_literals, text_on_literals,
 };
 pub use plan::{Gives, Merge, Plan, Region, StateKind};
-pub use plan_laws::{clauses_on_literals, plans_on_literals};
+pub use plan_laws::{clauses_on_literals, plans_on_literals, regions_law};
 pub use port_laws::ports_law;
 pub use react::React;
 pub use react_laws::{
