@@ -23,3 +23,4 @@ pub mod KindBodies
 pub mod SomePlans
 pub mod Replying
 pub mod Stateless
+pub mod Keyed

@@ -6,7 +6,7 @@ use Rattle.std.proofs.lemmas.Bool.{cond-true, cond-false, cases_eq, eq-eqb, ne_e
 use Rattle.std.proofs.lemmas.List.Folds.{list_all-append}
 use Rattle.spl_value.specs.declared.item.Item.{Item}
 use Rattle.spl_value.specs.declared.item.Item.TheVariants as I
-use Rattle.stream_model.specs.Stream.{Event, came, is_final, closes, is_closed, is_empty, IsPrefix}
+use Rattle.stream_model.specs.Stream.{Event, came, closes, is_closed, is_empty, IsPrefix}
 use Rattle.stream_model.specs.Inputs.{inputs_of}
 use Rattle.stream_model.specs.Operators.{Operator, ports, port_at}
 use Rattle.stream_model.specs.PortEvents.{is_over, all_over, is_waiting, is_last}

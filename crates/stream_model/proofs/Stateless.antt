@@ -70,7 +70,7 @@ same_makes (A.Union places) q op h k port x = refl
 same_makes (A.Custom handlers) q op h k port x =
     let none = none_mutable (has_mutable handlers) q in
     ap (λ (vars : List Value). followed (item_leaves op.functions handlers vars port x) (λ left turns. Done left.submits turns))
-        (state_kept op.functions handlers h none ∙ sym (state_kept op.functions handlers k none))
+    (state_kept op.functions handlers h none ∙ sym (state_kept op.functions handlers k none))
 same_makes (A.Aggregate window partition group collects) q op h k port x = absurd (keeps_some _ partition q)
 same_makes (A.Join left right condition made) q op h k port x = absurd (let no : K.Whole ≡ K.Stateless = q in cc)
 
@@ -90,5 +90,5 @@ same_reacts n part functions types s outs q h k (I.Bad f) = refl
 pub stateless_law : StatelessLaw
 stateless_law op s one q =
     let same : one_in op.number op.clauses op.functions op.types s op.outs ≡ op =
-        λ i. record { number = op.number; clauses = op.clauses; functions = op.functions; types = op.types; ins = sym one i; outs = op.outs } in
+    λ i. record { number = op.number; clauses = op.clauses; functions = op.functions; types = op.types; ins = sym one i; outs = op.outs } in
     subst IsStateless same (λ h k x live also. same_reacts op.number op.clauses op.functions op.types s op.outs q h k x)

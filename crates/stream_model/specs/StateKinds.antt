@@ -5,18 +5,9 @@ use Rattle.language_model.specs.declared.checked.Handlers.{Handlers}
 use Rattle.language_model.specs.declared.checked.Part.{Part}
 use Rattle.language_model.specs.declared.checked.Part.TheVariants as A
 use Rattle.language_model.specs.declared.checked.StateVariable.{StateVariable}
-use Rattle.language_model.specs.declared.checked.WindowRule.{WindowRule}
-use Rattle.language_model.specs.declared.checked.WindowRule.TheVariants as W
 use Rattle.stream_model.specs.declared.plan.StateKind.{StateKind}
 use Rattle.stream_model.specs.declared.plan.StateKind.TheVariants as K
-
--- a window whose contents window markers flush, so that a marker concerns all keys
-abbrev pub is_by_markers : WindowRule → Bool
-is_by_markers W.TumblingPunct = true
-is_by_markers (W.TumblingCount n) = false
-is_by_markers (W.TumblingDelta a limit) = false
-is_by_markers (W.SlidingCount n every) = false
-is_by_markers (W.SlidingDelta a limit every) = false
+use Rattle.stream_model.specs.Windows.{flushes_at_markers}
 
 -- a variable of the state may change
 abbrev pub has_mutable : Handlers → Bool
@@ -34,7 +25,7 @@ state_of (A.Split index) = K.Stateless
 state_of (A.Union places) = K.Stateless
 state_of (A.Custom handlers) = if has_mutable handlers then K.Whole else K.Stateless
 state_of (A.Aggregate window partition group collects) =
-    if window.partitioned && not (is_by_markers window.rule) then K.Keyed partition else K.Whole
+    if window.partitioned && not (flushes_at_markers window.rule) then K.Keyed partition else K.Whole
 
 -- a state is kept for each value of some attributes
 abbrev pub is_keyed : StateKind → Bool

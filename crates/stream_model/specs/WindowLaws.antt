@@ -11,7 +11,7 @@ use Rattle.language_model.specs.declared.checked.WindowRule.{WindowRule}
 use Rattle.language_model.specs.declared.checked.WindowRule.TheVariants as W
 use Rattle.stream_model.specs.Keys.{key_cmp, same_key}
 use Rattle.stream_model.specs.Stream.{is_empty}
-use Rattle.stream_model.specs.Windows.{WindowEvent, Insert, Mark, partition_key, window_events, tuples_with, has_come, in_order, is_start, last_start, integer_at, exceeds, content, Firing, Silent, Flushes, Triggers, flush_if, trigger_if, tuple_fires, flushed_behind, contents_of, fired_contents, fired_at}
+use Rattle.stream_model.specs.Windows.{flushes_at_markers, WindowEvent, Insert, Mark, partition_key, window_events, tuples_with, has_come, in_order, is_start, last_start, integer_at, exceeds, content, Firing, Silent, Flushes, Triggers, flush_if, trigger_if, tuple_fires, flushed_behind, contents_of, fired_contents, fired_at}
 
 -- the second list is the first with some more before it
 abbrev pub IsSuffix : {A : Type 0} → List A → List A → Type 0
@@ -125,14 +125,6 @@ PortLaw = (key : List Value → List Value) (k : List Value) (items : List Item)
 abbrev pub OneKeyLaw : Type 0
 OneKeyLaw = (policy : Policy) (places : List ℕ) (items : List Item) → policy.partitioned ≡ false →
     tuples_with [] (window_events (partition_key policy places) items) ≡ tuples_among items
-
--- window markers flush by this rule
-abbrev pub flushes_at_markers : WindowRule → Bool
-flushes_at_markers W.TumblingPunct = true
-flushes_at_markers (W.TumblingCount n) = false
-flushes_at_markers (W.TumblingDelta a limit) = false
-flushes_at_markers (W.SlidingCount n every) = false
-flushes_at_markers (W.SlidingDelta a limit every) = false
 
 -- the markers, and the tuples with a key
 abbrev pub with_key : List Value → List WindowEvent → List WindowEvent

@@ -10,7 +10,7 @@
 -- attribute that it doesn't have, or that is no integer, counts as 0. The checks of clauses see to it that the n of a tumbling
 -- window and the number of a trigger aren't 0.
 use Prim.Native.Nat.{suc}
-use Rattle.std.specs.Prelude.{ℕ, ℤ, pos, ◌-ℤ◌, ◌%◌, ◌==◌, Bool, true, not, ◌&&◌, List, [], ◌∷◌, ◌++◌, map, length, take, slice_get, int_lt, Option, Some, None, if◌then◌else◌}
+use Rattle.std.specs.Prelude.{ℕ, ℤ, pos, ◌-ℤ◌, ◌%◌, ◌==◌, Bool, true, false, not, ◌&&◌, List, [], ◌∷◌, ◌++◌, map, length, take, slice_get, int_lt, Option, Some, None, if◌then◌else◌}
 use Rattle.std.specs.List.{list_any}
 use Rattle.spl_value.specs.declared.item.Item.{Item}
 use Rattle.spl_value.specs.declared.item.Item.TheVariants as I
@@ -24,6 +24,16 @@ use Rattle.language_model.specs.declared.checked.WindowRule.{WindowRule}
 use Rattle.language_model.specs.declared.checked.WindowRule.TheVariants as W
 use Rattle.stream_model.specs.Stream.{is_empty}
 use Rattle.stream_model.specs.Keys.{same_key, each_key}
+
+-- ---- rules
+
+-- window markers flush by this rule
+abbrev pub flushes_at_markers : WindowRule → Bool
+flushes_at_markers W.TumblingPunct = true
+flushes_at_markers (W.TumblingCount n) = false
+flushes_at_markers (W.TumblingDelta a limit) = false
+flushes_at_markers (W.SlidingCount n every) = false
+flushes_at_markers (W.SlidingDelta a limit every) = false
 
 -- ---- histories
 

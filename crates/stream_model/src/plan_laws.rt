@@ -5,15 +5,18 @@ ghost use Rattle.stream_model.specs.declared.plan.Gives.TheVariants as G;
 ghost use Rattle.stream_model.specs.declared.plan.Merge.TheVariants as M;
 ghost use Rattle.stream_model.specs.declared.plan.StateKind.TheVariants as K;
 ghost use Rattle.stream_model.specs.Copies.{source_of, trace};
-ghost use Rattle.stream_model.specs.RegionLaws.{StatelessLaw};
+ghost use Rattle.stream_model.specs.RegionLaws.{KeyedLaw, StatelessLaw};
 ghost use Rattle.stream_model.specs.Regions.{IsPlan, chain_key, chain_merge, is_safe, ops_of};
 ghost use Rattle.stream_model.specs.Selectivity.{gives};
 ghost use Rattle.stream_model.specs.StateKinds.{state_of};
 ghost use Rattle.stream_model.specs.examples.SomeRegions.{by_second, changed_key, custom, either_way, one_region, only_positive, partitioned, same_marker, three, two, two_regions};
 
-/// What an event of an operator causes depends on the event alone, where its clauses keep no state.
+/// What an event of an operator causes depends on the event alone, where its clauses keep no state. Where they
+/// keep one for each key, what a tuple causes depends on the tuples with its key, and what a marker causes on
+/// itself.
 pub fn regions_law()
     ensures stateless { StatelessLaw }
+    ensures keyed { KeyedLaw }
 {}
 
 /// What the clauses of some operators say of their state, of copies, and of how many items their events

@@ -5,8 +5,7 @@ use Rattle.indexmap.specs.IndexMap.{get}
 use Rattle.indexmap.specs.IndexSet.{contains}
 use Rattle.spl_value.specs.declared.value.Value.{Value}
 use Rattle.language_model.specs.declared.checked.WindowRule.{WindowRule}
-use Rattle.stream_model.specs.Windows.{WindowEvent, tuples_with, relevant, has_come}
-use Rattle.stream_model.specs.WindowLaws.{flushes_at_markers}
+use Rattle.stream_model.specs.Windows.{WindowEvent, tuples_with, relevant, has_come, flushes_at_markers}
 use Rattle.window_policy.specs.declared.window.Window.{Window}
 use Rattle.window_policy.specs.Answers.{IsAllowed}
 use Rattle.window_policy.specs.steps.Parts.{At, equal_key, noted_or}

@@ -1,7 +1,6 @@
 //! What comes into a window, and what it holds.
 ghost use Rattle.std.specs.Prelude.{◌≡◌, ◌∷◌, [], IfOk, IfSome, IfNone, true, false};
-ghost use Rattle.stream_model.specs.Windows.{Insert, held, fires_behind, content as content_of, has_come, tuple_fires};
-ghost use Rattle.stream_model.specs.WindowLaws.{flushes_at_markers};
+ghost use Rattle.stream_model.specs.Windows.{Insert, held, fires_behind, content as content_of, has_come, tuple_fires, flushes_at_markers};
 ghost use Rattle.indexmap.specs.IndexSet.{contains};
 ghost use Rattle.window_policy.specs.Answers.{firing_of, IsAllowed};
 ghost use Rattle.window_policy.specs.Standing.{Stands};

@@ -3,8 +3,7 @@ use Rattle.std.specs.Prelude.{IsSome}
 use Rattle.std.specs.HashMap.{get}
 use Rattle.indexmap.specs.IndexSet.{contains}
 use Rattle.spl_value.specs.declared.value.Value.{Value}
-use Rattle.stream_model.specs.Windows.{tuples_with, relevant, held, fires_behind}
-use Rattle.stream_model.specs.WindowLaws.{flushes_at_markers}
+use Rattle.stream_model.specs.Windows.{tuples_with, relevant, held, fires_behind, flushes_at_markers}
 use Rattle.window_policy.specs.Answers.{IsAllowed, firing_of}
 use Rattle.window_policy.specs.steps.Parts.{Keeps, Notes, equal_key}
 use Rattle.window_policy.proofs.Parts.{Added}

@@ -3,8 +3,7 @@ use Rattle.indexmap.specs.IndexMap.{get}
 use Rattle.indexmap.specs.IndexSet.{contains}
 use Rattle.std.specs.Map.{lookup}
 use Rattle.spl_value.specs.declared.value.Value.{Value}
-use Rattle.stream_model.specs.Windows.{Mark, tuples_with, relevant}
-use Rattle.stream_model.specs.WindowLaws.{flushes_at_markers}
+use Rattle.stream_model.specs.Windows.{Mark, tuples_with, relevant, flushes_at_markers}
 use Rattle.window_policy.specs.steps.Parts.{At, equal_key, noted_or}
 use Rattle.window_policy.proofs.Marks.{flushes_all, nothing_counts}
 use Rattle.window_policy.proofs.window.Window.mark.Goals as goal
