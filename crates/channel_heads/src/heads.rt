@@ -92,7 +92,8 @@ fn closes(item: &Item) -> bool
 impl Heads {
     /// So many channels that have taken nothing. Nothing after this call takes memory.
     pub fn new(alloc: Global, width: usize) -> Result<Heads, NoMemory>
-        ensures { IfOk result (λ h. h ≡ new_held width) }
+        ensures new { IfOk result (λ h. h ≡ new_held width) }
+        ensures width { IfOk result (λ h. width_of h ≡ width) }
     {
         let heads = no_heads(alloc, width)?;
         let bounds = vec![in alloc; 0; width]?;

@@ -34,6 +34,7 @@ impl NumberMerger {
     /// A merger of so many channels, which has taken nothing. No later call takes memory.
     pub fn new(alloc: Global, width: u32) -> Result<NumberMerger, NoMemory>
         requires { (1 ≤ width) × (width ≤ 16) }
+        ensures width { IfOk result (λ m. width_of m.held ≡ width) }
         ensures new { IfOk result (λ m. m ≡ new_numbering width) }
         ensures stands { IfOk result (λ m. NumberStands width m (λ _. []) []) }
     {
@@ -53,6 +54,7 @@ impl NumberMerger {
     pub fn take(&mut self, channel: u32, packet: Packet)
         requires within { channel < width_of self.old.held }
         requires wants { wants_lem self.old.held channel ≡ true }
+        ensures width { width_of self.new.held ≡ width_of self.old.held }
         ensures takes { self.new ≡ record self.old { held = takes channel packet self.old.held } }
         ensures stands { (width : ℕ) (taken : ℕ → List Packet) (given : List Item) → NumberStands width self.old taken given
             → NumberStands width self.new (with_packet taken channel packet) given }
@@ -62,6 +64,7 @@ impl NumberMerger {
 
     /// The head with the next number. None comes exactly where no head has it.
     pub fn emit(&mut self) -> Option<Item>
+        ensures width { width_of self.new.held ≡ width_of self.old.held }
         ensures gives { MatchOption result
             (((c n : ℕ) (x : Item) → head_at self.old.held c ≡ Some (n, x) → n ≢ self.old.next) × (self.new ≡ self.old))
             (λ x. (c : ℕ) × (head_at self.old.held c ≡ Some (self.old.next, x)) × (self.new ≡ record { held = gives c x self.old.held; next = self.old.next + 1 })) }

@@ -38,6 +38,7 @@ impl TurnMerger {
     /// A merger of so many channels, which has taken nothing. No later call takes memory.
     pub fn new(alloc: Global, width: u32) -> Result<TurnMerger, NoMemory>
         requires { (1 ≤ width) × (width ≤ 16) }
+        ensures width { IfOk result (λ m. width_of m.held ≡ width) }
         ensures new { IfOk result (λ m. m ≡ new_turning width) }
         ensures stands { IfOk result (λ m. TurnStands width m (λ _. []) []) }
     {
@@ -57,6 +58,7 @@ impl TurnMerger {
     pub fn take(&mut self, channel: u32, packet: Packet)
         requires within { channel < width_of self.old.held }
         requires wants { wants_lem self.old.held channel ≡ true }
+        ensures width { width_of self.new.held ≡ width_of self.old.held }
         ensures takes { self.new ≡ record self.old { held = takes channel packet self.old.held } }
         ensures stands { (width : ℕ) (taken : ℕ → List Packet) (given : List Item) → TurnStands width self.old taken given
             → TurnStands width self.new (with_packet taken channel packet) given }
@@ -66,6 +68,7 @@ impl TurnMerger {
 
     /// The head of the channel whose turn it is. None comes exactly where that channel holds none.
     pub fn emit(&mut self) -> Option<Item>
+        ensures width { width_of self.new.held ≡ width_of self.old.held }
         ensures gives { MatchOption result ((head_at self.old.held self.old.turn ≡ None) × (self.new ≡ self.old))
             (λ x. (n : ℕ) × (head_at self.old.held self.old.turn ≡ Some (n, x)) × (self.new.held ≡ gives self.old.turn x self.old.held)) }
         ensures stands { (width : ℕ) (taken : ℕ → List Packet) (given : List Item) → TurnStands width self.old taken given

@@ -33,6 +33,7 @@ impl PulseMerger {
     /// A merger of so many channels, which has taken nothing. No later call takes memory.
     pub fn new(alloc: Global, width: u32) -> Result<PulseMerger, NoMemory>
         requires { (1 ≤ width) × (width ≤ 16) }
+        ensures width { IfOk result (λ m. width_of m ≡ width) }
         ensures new { IfOk result (λ m. m ≡ new_held width) }
         ensures stands { IfOk result (λ m. Stands ByPulses width m (λ _. []) []) }
     {
@@ -52,6 +53,7 @@ impl PulseMerger {
     pub fn take(&mut self, channel: u32, packet: Packet)
         requires within { channel < width_of self.old }
         requires wants { wants_lem self.old channel ≡ true }
+        ensures width { width_of self.new ≡ width_of self.old }
         ensures takes { self.new ≡ takes channel packet self.old }
         ensures stands { (width : ℕ) (taken : ℕ → List Packet) (given : List Item) → Stands ByPulses width self.old taken given
             → Stands ByPulses width self.new (with_packet taken channel packet) given }
@@ -62,6 +64,7 @@ impl PulseMerger {
     /// The head of the least number. None comes exactly where there is no head, or an item of a smaller number
     /// may still come on a channel without one.
     pub fn emit(&mut self) -> Option<Item>
+        ensures width { width_of self.new ≡ width_of self.old }
         ensures none { IsNone result ↔ IsHeldBack self.old }
         ensures gives { MatchOption result (self.new ≡ self.old)
             (λ x. (c n : ℕ) × (head_at self.old c ≡ Some (n, x)) × IsLeast self.old n × (self.new ≡ gives c x self.old)) }

@@ -6,4 +6,4 @@ use Rattle.pulse_rule.proofs.merger.PulseMerger.new.Goals as goal
 pub returns-clause-stands : goal.returns-clause-stands
 returns-clause-stands c =
     let positive : 0 < c.args.width = omega arith in
-    subst (λ (h : Held). Stands ByPulses c.args.width h (λ _. []) []) (sym c.in_ok-heads.ensures) (New positive)
+    subst (λ (h : Held). Stands ByPulses c.args.width h (λ _. []) []) (sym c.in_ok-heads.ensures.new) (New positive)
