@@ -17,7 +17,7 @@ use Rattle.command_line.specs.Request.{file_names}
 use Rattle.check_laws.specs.Files.{is_named}
 use Rattle.spl_driver.specs.Built.{is_built}
 use Rattle.spl_driver.specs.Files.{opens, creates, program_of, built_parts}
-use Rattle.spl_driver.specs.Outcome.{RequestOutcome, NoRequest, Refused, NotBuilt, Checks, Runs, has_fault, IsFound, IsOutcome, no_request, not_built, ArePartsIn, of_program}
+use Rattle.spl_driver.specs.Outcome.{RequestOutcome, NoRequest, Refused, NotBuilt, Checks, Runs, has_fault, IsOutcome, no_request, not_built, ArePartsIn, of_program}
 use Rattle.spl_driver.specs.Answer.{SameFiles, Begun, CauseMeans, OpenFailed, CreateFailed, FailedDevice, opening, creating, NoCountChanged, ReadsFailed, Answered, SomeRose, Shown, ByWords}
 use Rattle.spl_driver.specs.Lines.{IsToldOutcome, IsLine, IsLineOf}
 use Rattle.spl_driver.specs.RequestLaws.{OneOutcomeLaw, OnePartsLaw}

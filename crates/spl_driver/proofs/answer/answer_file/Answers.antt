@@ -1,4 +1,4 @@
-use Rattle.std.proofs.Common.{◌∙◌, arith, inl, refl}
+use Rattle.std.proofs.Common.{arith, inl, refl}
 use Rattle.run_report.specs.declared.cause.Cause.TheVariants as C
 use Rattle.spl_driver.proofs.PlainAnswers.{plain_request}
 use Rattle.spl_driver.proofs.Running.{begun_same}
