@@ -1,4 +1,2 @@
-pub mod NamePlaces
-pub mod NamesGrowing
 pub mod TypesGathered
 pub mod BodyTypes

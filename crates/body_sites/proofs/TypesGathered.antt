@@ -8,8 +8,9 @@ use Rattle.spl_tree.specs.declared.unit.Definition.{Definition}
 use Rattle.spl_tree.specs.declared.unit.Definition.TheVariants as D
 use Rattle.spl_tree.specs.declared.unit.TypeDefinition.{TypeDefinition}
 use Rattle.language_model.specs.TypeNames.{as_type, type_definitions}
-use Rattle.body_sites.specs.declared.names.Names.{Names}
-use Rattle.body_sites.specs.Names.{StandFor, type_names_of}
+use Rattle.program_tables.specs.declared.names.Names.{Names}
+use Rattle.program_tables.specs.Names.{HoldsNames}
+use Rattle.body_sites.specs.Names.{type_names_of}
 
 module _ (unit : List Definition) (i : ℕ) (d : Definition) (within : i < length unit) (here : d ≡ get_or unit i d) where
   types_at : type_definitions (take (i + 1) unit) ≡ type_definitions (take i unit) ++ type_definitions (d ∷ [])
@@ -24,10 +25,10 @@ module _ (unit : List Definition) (i : ℕ) (d : Definition) (within : i < lengt
     names_at = sym (ap type_names_of type_at ∙ map-append (λ d. d.name.what) (type_definitions (take i unit)) (t ∷ []))
 
     pub name_at : (table added : Names) → table ≡ added → (name : List ℕ) → name ≡ t.name.what
-        → StandFor added (type_names_of (type_definitions (take i unit)) ++ name ∷ []) → StandFor table (type_names_of (type_definitions (take (i + 1) unit)))
+        → HoldsNames added (type_names_of (type_definitions (take i unit)) ++ name ∷ []) → HoldsNames table (type_names_of (type_definitions (take (i + 1) unit)))
     name_at table added same name own stand =
-        subst (λ t. StandFor t (type_names_of (type_definitions (take (i + 1) unit)))) (sym same)
-        (subst (StandFor added) (ap (λ n. type_names_of (type_definitions (take i unit)) ++ n ∷ []) own ∙ names_at) stand)
+        subst (λ t. HoldsNames t (type_names_of (type_definitions (take (i + 1) unit)))) (sym same)
+        (subst (HoldsNames added) (ap (λ n. type_names_of (type_definitions (take i unit)) ++ n ∷ []) own ∙ names_at) stand)
 
   pub none_at : ((t : TypeDefinition) → d ≡ D.Type t → ⊥) → type_definitions (take (i + 1) unit) ≡ type_definitions (take i unit)
   none_at other = types_at ∙ ap (λ ts. type_definitions (take i unit) ++ ts) (none d other) ∙ append-nil (type_definitions (take i unit))

@@ -1,19 +1,6 @@
--- What a table of names stands for.
-use Rattle.std.specs.Prelude.{◌≡◌, ℕ, Bool, List, length, map}
-use Rattle.std.specs.Borrow.{Bor}
-use Rattle.std.specs.HashMap.{get}
-use Rattle.std.specs.Str.{bytes_eq}
+-- The names of types.
+use Rattle.std.specs.Prelude.{ℕ, List, map}
 use Rattle.spl_tree.specs.declared.unit.TypeDefinition.{TypeDefinition}
-use Rattle.language_model.specs.Expansion.{place_of}
-use Rattle.body_sites.specs.declared.names.Names.{Names}
-
-abbrev pub same_bytes : Bor (List ℕ) → Bor (List ℕ) → Bool
-same_bytes x y = bytes_eq x.now y.now
-
--- it has the first place of each name of the list, and no other name
-pub record StandFor (table : Names) (names : List (List ℕ)) : Type 0 where
-  pub count : table.count ≡ length names
-  pub places : (q : Bor (List ℕ)) → get same_bytes table.places q ≡ place_of q.now names
 
 abbrev pub type_names_of : List TypeDefinition → List (List ℕ)
 type_names_of definitions = map (λ d. d.name.what) definitions

@@ -1,4 +1,4 @@
-//! What stands at the places that operators and bodies come from.
+//! The composites and invocations that operators and bodies come from.
 ghost use Rattle.std.specs.Prelude.{◌≡◌, map, slice_get, IfOk};
 ghost use Rattle.std.specs.Option.{option_copied, option_map};
 ghost use Rattle.language_model.specs.Composites.{composites};
@@ -6,12 +6,14 @@ ghost use Rattle.language_model.specs.Invoking.{is_among};
 ghost use Rattle.language_model.specs.SinkFiles.{composite_of, invocation_at, arguments_of};
 ghost use Rattle.language_model.specs.TypeNames.{type_definitions};
 ghost use Rattle.body_sites.specs.Bodies.{body_at_sites, body_seen};
-ghost use Rattle.body_sites.specs.Names.{StandFor, type_names_of};
+ghost use Rattle.program_tables.specs.Names.{HoldsNames};
+ghost use Rattle.body_sites.specs.Names.{type_names_of};
 ghost use Rattle.body_sites.specs.SameBodies.{same_composites};
 ghost use Rattle.body_sites.specs.Sites.{MeansTypes};
 
 use crate::bodies::Body;
-use crate::names::{BodyNames, Names};
+use crate::names::BodyNames;
+use program_tables::{Names, SiteTable};
 use spl_tree::{Composite, Definition, Expansion, Invocation, Parameter, Site, Unit};
 use spl_value::NoMemory;
 use std::alloc::Global;
@@ -22,13 +24,17 @@ use written_types::{TypeScope, TypeTable};
 pub struct Sites<'a> {
     pub unit: &'a Unit,
     pub expansions: &'a [Expansion],
+    /// The same unit and expansions, in which sites are looked up.
+    table: SiteTable<'a>,
     /// The composites of the unit, by their places.
     bodies: Vec<BodyNames<'a>>,
     pub(crate) unit_types: TypeTable<'a>,
     unit_names: Names<'a>,
+    ghost table_unit: { table.unit.now ≡ unit.now },
+    ghost table_expansions: { table.expansions.now ≡ expansions.now },
     ghost all: { map (λ b. b.composite.now) bodies.items ≡ composites unit.now } by { same_composites _ _ },
     ghost unit_defined: { unit_types ≡ type_definitions unit.now },
-    ghost unit_named: { StandFor unit_names (type_names_of (type_definitions unit.now)) },
+    ghost unit_named: { HoldsNames unit_names (type_names_of (type_definitions unit.now)) },
 }
 
 impl<'a> Sites<'a> {
@@ -41,12 +47,14 @@ impl<'a> Sites<'a> {
         ensures unit { IfOk result (λ sites. sites.unit.now ≡ unit.now) }
         ensures expansions { IfOk result (λ sites. sites.expansions.now ≡ expansions.now) }
     {
+        let table = SiteTable::new(alloc, unit, expansions)?;
         let bodies = bodies_of(alloc, unit)?;
         let unit_types = TypeTable::of_unit(alloc, unit)?;
         let unit_names = type_names(alloc, unit)?;
         Ok(Sites {
             unit,
             expansions,
+            table,
             bodies,
             unit_types,
             unit_names,
@@ -109,28 +117,20 @@ impl<'a> Sites<'a> {
     pub fn invocation(&self, site: Site) -> Option<&'a Invocation>
         ensures { option_copied result ≡ invocation_at self.now.unit.now self.now.expansions.now site }
     {
-        let expansion = self.expansion(site.expansion)?;
-        let composite = self.composite(expansion)?;
-        composite.graph.get(site.invocation as usize)
+        self.table.invocation(site)
     }
 
     /// The arguments that an expansion has; the main one has none.
     pub fn arguments(&self, expansion: &Expansion) -> &'a [Parameter]
         ensures { result.now ≡ arguments_of self.now.unit.now self.now.expansions.now expansion.now }
     {
-        let Some(site) = expansion.site else {
-            return &[];
-        };
-        match self.invocation(site) {
-            Some(invocation) => invocation.clauses.parameters.as_slice(),
-            None => &[],
-        }
+        self.table.arguments(expansion)
     }
 }
 
 /// The names of the types of a unit.
 fn type_names(alloc: Global, unit: &Unit) -> Result<Names<'_>, NoMemory>
-    ensures { IfOk result (λ names. StandFor names (type_names_of (type_definitions unit.now))) }
+    ensures { IfOk result (λ names. HoldsNames names (type_names_of (type_definitions unit.now))) }
 {
     let mut names = Names::new(alloc);
     for definition in unit.as_slice() {

@@ -1,5 +1,4 @@
 mod Searching
-mod Widening
 mod Rows
 mod DefinedPlaces
 mod Circles

@@ -9,11 +9,12 @@ use Rattle.std.proofs.lemmas.List.{get_or_default}
 use Rattle.std.proofs.lemmas.Map.Steps.{length-le_from_distinct_below}
 use Rattle.std.proofs.lemmas.Map.Keys.{any_passes_from_place, IsDistinct-from_apart}
 use Rattle.std.proofs.lemmas.Map.Views.{Contains-from_any}
-use Rattle.written_types.specs.declared.place_set.PlaceSet.{PlaceSet}
+use Rattle.place_sets.specs.declared.place_set.PlaceSet.{PlaceSet}
 use Rattle.language_model.specs.Leading.{leads, leads_back}
-use Rattle.written_types.specs.Standing.{Stands, IsSet, Widens}
+use Rattle.place_sets.specs.Places.{HasPlace, IsSet, Widens}
 use Rattle.written_types.specs.Stepping.{steps_from, LeadsWithin}
-use Rattle.written_types.proofs.Widening.{here}
+use Rattle.place_sets.proofs.Widening.{here}
+use Rattle.place_sets.proofs.Fitting.{places_fit, within_marks}
 use Rattle.spl_value.proofs.Bools.{or_true as or_right}
 use Rattle.spl_value.proofs.Lists.{get_below}
 
@@ -22,7 +23,7 @@ use Rattle.spl_value.proofs.Lists.{get_below}
 -- one that passes
 record Passing (p : ℕ → Bool) (xs : List ℕ) : Type 0 where
   pub item : ℕ
-  pub stands : Stands xs item
+  pub stands : HasPlace xs item
   pub passes : p item ≡ true
 
 passing : (p : ℕ → Bool) (xs : List ℕ) → list_any p xs ≡ true → Passing p xs
@@ -36,19 +37,19 @@ passing p (x ∷ xs) any = elim (or_cases (p x) (list_any p xs) any) [
 
 module _ (steps : ℕ → List ℕ) where
   -- what leads on by the first step
-  by_step : (count from via to : ℕ) → Stands (steps from) via → ((via == to) || leads count steps via to) ≡ true → leads (suc count) steps from to ≡ true
+  by_step : (count from via to : ℕ) → HasPlace (steps from) via → ((via == to) || leads count steps via to) ≡ true → leads (suc count) steps from to ≡ true
   by_step count from via to st on = any_passes_from_place (λ n. (n == to) || leads count steps n to) (steps from) st.at via st.is on
 
-  pub one_step : (count from to : ℕ) → Stands (steps from) to → leads (suc count) steps from to ≡ true
+  pub one_step : (count from to : ℕ) → HasPlace (steps from) to → leads (suc count) steps from to ≡ true
   one_step count from to st = by_step count from to to st (ap (λ b. b || leads count steps to to) (eq-eqb to to refl))
 
-  then_leads : (count from via to : ℕ) → Stands (steps from) via → leads count steps via to ≡ true → leads (suc count) steps from to ≡ true
+  then_leads : (count from via to : ℕ) → HasPlace (steps from) via → leads count steps via to ≡ true → leads (suc count) steps from to ≡ true
   then_leads count from via to st on = by_step count from via to st (ap (λ b. (via == to) || b) on ∙ or_right (via == to))
 
   -- the first step of those that lead on
   record First (count from to : ℕ) : Type 0 where
     pub via : ℕ
-    pub stands : Stands (steps from) via
+    pub stands : HasPlace (steps from) via
     pub on : (via ≡ to) ⊎ (leads count steps via to ≡ true)
 
   first : (count from to : ℕ) → leads (suc count) steps from to ≡ true → First count from to
@@ -65,7 +66,7 @@ module _ (steps : ℕ → List ℕ) where
   one_more (suc count) from to l =
       let f = first count from to l in
       elim f.on [
-        | inl e ↦ one_step (suc count) from to (subst (λ n. Stands (steps from) n) e f.stands)
+        | inl e ↦ one_step (suc count) from to (subst (λ n. HasPlace (steps from) n) e f.stands)
         | inr h ↦ then_leads (suc count) from f.via to f.stands (one_more count f.via to h)
       ]
 
@@ -78,49 +79,30 @@ module _ (steps : ℕ → List ℕ) where
   ]
 
   -- one step behind the others
-  pub then_step : (count from via to : ℕ) → leads count steps from via ≡ true → Stands (steps via) to → leads (suc count) steps from to ≡ true
+  pub then_step : (count from via to : ℕ) → leads count steps from via ≡ true → HasPlace (steps via) to → leads (suc count) steps from to ≡ true
   then_step zero from via to l st = absurd cc
   then_step (suc count) from via to l st =
       let f = first count from via l in
       elim f.on [
-        | inl e ↦ then_leads (suc count) from f.via to f.stands (one_step count f.via to (subst (λ n. Stands (steps n) to) (sym e) st))
+        | inl e ↦ then_leads (suc count) from f.via to f.stands (one_step count f.via to (subst (λ n. HasPlace (steps n) to) (sym e) st))
         | inr h ↦ then_leads (suc count) from f.via to f.stands (then_step count f.via via to h st)
       ]
 
   -- what has all that its places lead to has all that is led to from there
-  pub stays : (places : List ℕ) → ((via to : ℕ) → Stands places via → Stands (steps via) to → Stands places to)
-      → (count from to : ℕ) → ((i : ℕ) → Stands (steps from) i → Stands places i) → leads count steps from to ≡ true → Stands places to
+  pub stays : (places : List ℕ) → ((via to : ℕ) → HasPlace places via → HasPlace (steps via) to → HasPlace places to)
+      → (count from to : ℕ) → ((i : ℕ) → HasPlace (steps from) i → HasPlace places i) → leads count steps from to ≡ true → HasPlace places to
   stays places closed zero from to begun l = absurd cc
   stays places closed (suc count) from to begun l =
       let f = first count from to l in
-      let there : Stands places f.via = begun f.via f.stands in
+      let there : HasPlace places f.via = begun f.via f.stands in
       elim f.on [
-        | inl e ↦ subst (λ n. Stands places n) e there
+        | inl e ↦ subst (λ n. HasPlace places n) e there
         | inr h ↦ stays places closed count f.via to (λ i st. closed f.via i there st) h
       ]
 
 -- what is read at a place of a list
 pub read_at : {A : Type 0} (xs : List A) (n : ℕ) (x y : A) → n < length xs → x ≡ get_or xs n x → y ≡ x → slice_get xs n ≡ Some y
 read_at xs n x y below at same = slice_get_read xs (length xs) n y refl below (same ∙ at ∙ get_or_default xs n x y below)
-
--- ---- how many are found
-
-within_marks : (s : PlaceSet) → IsSet s → (i : ℕ) → Stands s.places.items i → i < length s.marks.items
-within_marks s h i st = slice_get_within s.marks.items i true (h.marked i st)
-
--- numbers below a bound, none twice, are no more than the bound
-no_more : (xs : List ℕ) (n : ℕ) → ((k m i : ℕ) → slice_get xs k ≡ Some i → slice_get xs m ≡ Some i → k ≡ m) → ((i : ℕ) → Stands xs i → i < n) → length xs ≤ n
-no_more xs n once within =
-    let apart : (i j d : ℕ) → i < j → j < length xs → eqb (get_or xs i d) (get_or xs j d) ≡ false =
-    λ i j d below last.
-    let at_i : slice_get xs i ≡ Some (get_or xs i d) = slice_get-get_or xs i d (omega arith) in
-    let at_j : slice_get xs j ≡ Some (get_or xs j d) = slice_get-get_or xs j d last in
-    ne_eqb _ _ (λ same. let k : i ≡ j = once i j (get_or xs i d) at_i (at_j ∙ ap Some (sym same)) in absurd (omega arith)) in
-    length-le_from_distinct_below xs n (IsDistinct-from_apart eqb xs apart)
-    (λ q any. let k = Contains-from_any {eq = eqb} eqb-true q xs any in within q (here xs k.0 q (slice_get-get_or xs k.0 q k.1 ∙ ap Some k.2)))
-
-pub places_fit : (s : PlaceSet) → IsSet s → length s.places.items ≤ length s.marks.items
-places_fit s h = no_more s.places.items (length s.marks.items) h.once (within_marks s h)
 
 -- ---- the search
 
@@ -129,15 +111,15 @@ pub record Searched (next : List (List ℕ)) (from : ℕ) (found : PlaceSet) (to
   pub set : IsSet found
   pub size : length found.marks.items ≡ length next
   pub led : (k i : ℕ) → slice_get found.places.items k ≡ Some i → leads (suc k) (steps_from next) from i ≡ true
-  pub begun : (i : ℕ) → Stands (steps_from next from) i → Stands found.places.items i
-  pub told_on : (k via i : ℕ) → k < told → slice_get found.places.items k ≡ Some via → Stands (steps_from next via) i → Stands found.places.items i
+  pub begun : (i : ℕ) → HasPlace (steps_from next from) i → HasPlace found.places.items i
+  pub told_on : (k via i : ℕ) → k < told → slice_get found.places.items k ≡ Some via → HasPlace (steps_from next via) i → HasPlace found.places.items i
 
 module _ (next : List (List ℕ)) where
   row_of : (place : ℕ) (row : List ℕ) → slice_get next place ≡ Some row → steps_from next place ≡ row
   row_of place row e = get_or_from_slice_get next place row [] e
 
   -- each of a row has a row
-  pub row_within : LeadsWithin next → (place : ℕ) (row : List ℕ) → slice_get next place ≡ Some row → (i : ℕ) → Stands row i → i < length next
+  pub row_within : LeadsWithin next → (place : ℕ) (row : List ℕ) → slice_get next place ≡ Some row → (i : ℕ) → HasPlace row i → i < length next
   row_within within place row e i st =
       let below : place < length next = slice_get_within next place row e in
       let at : st.at < length row = slice_get_within row st.at i st.is in
@@ -156,9 +138,9 @@ module _ (next : List (List ℕ)) where
         size = w.size ∙ size;
         led = λ k i f. elim (w.only i (here t.places.items k i f)) [
           | inl h ↦ let g = h.is in absurd (omega (arith, slice_get_within s.places.items h.at i h.is, ap length empty))
-          | inr h ↦ at_most (steps_from next) 1 (suc k) from i (omega arith) (one_step (steps_from next) 0 from i (subst (λ r. Stands r i) (sym steps) h))
+          | inr h ↦ at_most (steps_from next) 1 (suc k) from i (omega arith) (one_step (steps_from next) 0 from i (subst (λ r. HasPlace r i) (sym steps) h))
         ];
-        begun = λ i st. w.came i (subst (λ r. Stands r i) steps st);
+        begun = λ i st. w.came i (subst (λ r. HasPlace r i) steps st);
         told_on = λ k via i below. absurd (omega arith);
       }
 
@@ -178,7 +160,7 @@ module _ (next : List (List ℕ)) where
         let same : x.0 ≡ i = cc in
         x.1 ∙ ap Some same
 
-    stays_found : (i : ℕ) → Stands s.places.items i → Stands t.places.items i
+    stays_found : (i : ℕ) → HasPlace s.places.items i → HasPlace t.places.items i
     stays_found i st = here t.places.items st.at i (w.kept st.at i st.is)
 
     led_behind : (k i : ℕ) → length s.places.items ≤ k → slice_get t.places.items k ≡ Some i → leads (suc k) (steps_from next) from i ≡ true
@@ -189,7 +171,7 @@ module _ (next : List (List ℕ)) where
       | inr st ↦
           let c = count in
           at_most (steps_from next) (suc (suc n)) (suc k) from i (omega arith)
-          (then_step (steps_from next) (suc n) from via i (searched.led n via at_n) (subst (λ r. Stands r i) (sym row_is) st))
+          (then_step (steps_from next) (suc n) from via i (searched.led n via at_n) (subst (λ r. HasPlace r i) (sym row_is) st))
     ]
 
     all_led : (k i : ℕ) → slice_get t.places.items k ≡ Some i → leads (suc k) (steps_from next) from i ≡ true
@@ -198,7 +180,7 @@ module _ (next : List (List ℕ)) where
       | inr behind ↦ led_behind k i behind e
     ]
 
-    all_told : (k j i : ℕ) → k < suc n → slice_get t.places.items k ≡ Some j → Stands (steps_from next j) i → Stands t.places.items i
+    all_told : (k j i : ℕ) → k < suc n → slice_get t.places.items k ≡ Some j → HasPlace (steps_from next j) i → HasPlace t.places.items i
     all_told k j i below e st =
         let c = count in
         let before : slice_get s.places.items k ≡ Some j = still k j (omega arith) e in
@@ -208,7 +190,7 @@ module _ (next : List (List ℕ)) where
               let same : k ≡ n = omega arith in
               let both : Some j ≡ Some via = sym before ∙ ap (λ m. slice_get s.places.items m) same ∙ at_n in
               let one : j ≡ via = cc in
-              w.came i (subst (λ r. Stands r i) row_is (subst (λ m. Stands (steps_from next m) i) one st))
+              w.came i (subst (λ r. HasPlace r i) row_is (subst (λ m. HasPlace (steps_from next m) i) one st))
         ]
 
     pub more_found : Searched next from t (suc n)

@@ -1,4 +1,3 @@
-pub mod Standing
 pub mod Stepping
 pub mod Definitions
 pub mod Circles

@@ -3,7 +3,7 @@ ghost use Rattle.std.specs.Prelude.{◌≡◌, length, IfOk};
 ghost use Rattle.language_model.specs.Leading.{leads_back};
 ghost use Rattle.written_types.specs.Stepping.{steps_from, LeadsWithin};
 
-use crate::place_set::PlaceSet;
+use place_sets::PlaceSet;
 use spl_value::{Items, NoMemory};
 use std::alloc::Global;
 

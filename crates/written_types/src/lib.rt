@@ -1,10 +1,9 @@
-//! What the types that a program writes stand for.
+//! What the types that a program writes mean.
 #![tactic(auto)]
 
 mod definitions;
 mod finding;
 mod leading;
-mod place_set;
 mod places;
 mod refusals;
 mod table;

@@ -1,6 +1,7 @@
 use Rattle.std.proofs.Common.{◌≡◌, ◌<◌, length, add-one, Some, refl, sym, subst, ltb-true, arith}
 use Rattle.std.specs.Prelude.{slice_get}
-use Rattle.written_types.proofs.Searching.{read_at, row_within, first_found, more_found, found_below, places_fit, is_found, tells}
+use Rattle.written_types.proofs.Searching.{read_at, row_within, first_found, more_found, found_below, is_found, tells}
+use Rattle.place_sets.proofs.Fitting.{places_fit}
 use Rattle.written_types.proofs.leading.leads_back.Goals as goal
 
 pub told-init : goal.told-init

@@ -1,6 +1,0 @@
-use Rattle.std.proofs.Common.{ap, ◌∙◌, is_some}
-use Rattle.body_sites.proofs.NamePlaces.{among_by_place}
-use Rattle.body_sites.proofs.names.Names.has.Goals as goal
-
-pub returns : goal.returns
-returns c = λ names stand. c.contains_key.ensures ∙ ap is_some (stand.places c.args.name) ∙ among_by_place c.args.name.now names
