@@ -14,7 +14,7 @@ use Rattle.language_model.specs.declared.answer.TypeAnswer.{TypeAnswer}
 use Rattle.language_model.specs.declared.answer.TypeAnswer.TheVariants.{Refused, Memory}
 use Rattle.language_model.specs.Finds.{Finds}
 use Rattle.body_sites.specs.Bodies.{body_seen}
-use Rattle.stream_rules.specs.Outside.{StandsOutside}
+use Rattle.stream_rules.specs.steps.Outside.{StandsOutside}
 use Rattle.stream_rules.specs.declared.origins.Origin.{Origin}
 use Rattle.language_model.proofs.FoundAnswers.{finds_by, stops}
 

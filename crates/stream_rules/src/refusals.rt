@@ -2,7 +2,7 @@
 ghost use Rattle.std.specs.Prelude.{Err, None};
 ghost use Rattle.language_model.specs.declared.answer.TypeAnswer.TheVariants.{Refused};
 ghost use Rattle.language_model.specs.Finds.{IsUnknown};
-ghost use Rattle.stream_rules.specs.Answers.{Copies};
+ghost use Rattle.stream_rules.specs.steps.Answers.{Copies};
 
 use language_model::{CheckError, CheckRefusal, TypeAnswer};
 use spl_value::{Items, Name};

@@ -5,7 +5,7 @@ ghost use Rattle.language_model.specs.Expansion.{place_of};
 ghost use Rattle.language_model.specs.Invoking.{stream_names};
 ghost use Rattle.language_model.specs.Finds.{Finds};
 ghost use Rattle.body_sites.specs.Bodies.{body_seen};
-ghost use Rattle.stream_rules.specs.Among.{Hold, graph_of, unit_of};
+ghost use Rattle.stream_rules.specs.steps.Among.{Hold, graph_of, unit_of};
 
 mod heads;
 

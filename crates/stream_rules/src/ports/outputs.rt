@@ -3,8 +3,8 @@ ghost use Rattle.std.specs.Prelude.{◌≡◌, length};
 ghost use Rattle.language_model.specs.StreamTypes.{outer_output, output_heads, outputs_attributes};
 ghost use Rattle.language_model.specs.Finds.{Finds};
 ghost use Rattle.body_sites.specs.Bodies.{body_seen};
-ghost use Rattle.stream_rules.specs.Outside.{StandsOutside, output_found};
-ghost use Rattle.stream_rules.specs.Among.{Hold, graph_of, unit_of};
+ghost use Rattle.stream_rules.specs.steps.Outside.{StandsOutside, output_found};
+ghost use Rattle.stream_rules.specs.steps.Among.{Hold, graph_of, unit_of};
 
 use super::standing::{Streams, attributes, port_stands_for, stands_for};
 use crate::origins::{Origin, output_at};

@@ -3,7 +3,7 @@ ghost use Rattle.std.specs.Prelude.{◌≡◌};
 ghost use Rattle.std.specs.Option.{option_copied};
 ghost use Rattle.language_model.specs.StreamTypes.{port_stands_for, shape_attributes, stands_for, stream_attributes};
 ghost use Rattle.language_model.specs.Finds.{Finds};
-ghost use Rattle.stream_rules.specs.Among.{Hold, graph_of, unit_of};
+ghost use Rattle.stream_rules.specs.steps.Among.{Hold, graph_of, unit_of};
 ghost use Rattle.body_sites.specs.Bodies.{body_seen};
 
 use crate::ports::same::same_attributes;

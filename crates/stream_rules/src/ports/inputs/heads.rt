@@ -3,8 +3,8 @@ ghost use Rattle.std.specs.Prelude.{◌≡◌, ◌≤◌, OnOk, IsTrue, length};
 ghost use Rattle.language_model.specs.StreamTypes.{each_name, input_heads, invoked_input};
 ghost use Rattle.language_model.specs.Finds.{Finds};
 ghost use Rattle.body_sites.specs.Bodies.{body_seen};
-ghost use Rattle.stream_rules.specs.Looked.{HavePassed, PassesAlso, has_looked, nothing_looked};
-ghost use Rattle.stream_rules.specs.Among.{Hold, graph_of, unit_of};
+ghost use Rattle.stream_rules.specs.steps.Looked.{HavePassed, PassesAlso, has_looked, nothing_looked};
+ghost use Rattle.stream_rules.specs.steps.Among.{Hold, graph_of, unit_of};
 
 use crate::ports::standing::{Streams, port_stands_for};
 use body_sites::Body;

@@ -2,7 +2,7 @@ use Rattle.std.proofs.Common.{Err, Ok, length, subst, sym}
 use Rattle.language_model.specs.StreamTypes.{Attributes, are_alike, each_name, input_heads, name_places}
 use Rattle.language_model.specs.Typing.{Found, after}
 use Rattle.language_model.specs.Finds.{Finds}
-use Rattle.stream_rules.specs.Among.{graph_of, unit_of}
+use Rattle.stream_rules.specs.steps.Among.{graph_of, unit_of}
 use Rattle.body_sites.specs.Bodies.{body_seen}
 use Rattle.stream_rules.proofs.AlikeStreams.{port_is}
 use Rattle.stream_rules.proofs.ports.inputs.port_attributes.Goals as goal

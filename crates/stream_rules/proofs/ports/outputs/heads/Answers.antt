@@ -1,5 +1,5 @@
 use Rattle.std.proofs.Common.{◌≡◌, suc, length, arith}
-use Rattle.stream_rules.specs.Among.{graph_of, unit_of}
+use Rattle.stream_rules.specs.steps.Among.{graph_of, unit_of}
 use Rattle.body_sites.specs.Bodies.{body_seen}
 use Rattle.stream_rules.proofs.PortHeads.{outside_fails, outside_first}
 use Rattle.stream_rules.proofs.ports.outputs.heads.Goals as goal

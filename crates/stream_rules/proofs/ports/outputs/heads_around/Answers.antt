@@ -1,5 +1,5 @@
 use Rattle.std.proofs.Common.{◌≡◌, suc, ◌∙◌, arith}
-use Rattle.stream_rules.specs.Among.{graph_of, unit_of}
+use Rattle.stream_rules.specs.steps.Among.{graph_of, unit_of}
 use Rattle.body_sites.specs.Bodies.{body_seen}
 use Rattle.stream_rules.proofs.PortHeads.{outwards_on}
 use Rattle.stream_rules.proofs.ports.outputs.heads_around.Goals as goal

@@ -1,7 +1,7 @@
 use Rattle.std.proofs.Common.{◌≡◌, drop}
 use Rattle.language_model.specs.StreamTypes.{outputs_attributes}
 use Rattle.language_model.specs.Finds.{with_front}
-use Rattle.stream_rules.specs.Among.{graph_of, unit_of}
+use Rattle.stream_rules.specs.steps.Among.{graph_of, unit_of}
 use Rattle.body_sites.specs.Bodies.{body_seen}
 use Rattle.stream_rules.proofs.ports.outputs.outputs_attributes.Given as goal
 

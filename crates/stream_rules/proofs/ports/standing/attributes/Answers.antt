@@ -1,4 +1,4 @@
-use Rattle.stream_rules.specs.Among.{graph_of, unit_of}
+use Rattle.stream_rules.specs.steps.Among.{graph_of, unit_of}
 use Rattle.stream_rules.proofs.ports.standing.attributes.Goals as goal
 
 pub returns : goal.returns

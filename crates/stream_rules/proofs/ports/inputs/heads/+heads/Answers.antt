@@ -2,7 +2,7 @@ use Rattle.std.proofs.Common.{◌≡◌, suc, Err, Option, ap, sym, subst, ◌�
 use Rattle.spl_tree.specs.declared.unit.HeadPort.{HeadPort}
 use Rattle.language_model.specs.StreamTypes.{port_stands_for}
 use Rattle.language_model.specs.Finds.{Finds}
-use Rattle.stream_rules.specs.Among.{graph_of, unit_of}
+use Rattle.stream_rules.specs.steps.Among.{graph_of, unit_of}
 use Rattle.body_sites.specs.Bodies.{body_seen}
 use Rattle.stream_rules.proofs.PortHeads.{head_on, head_stops, none_of}
 use Rattle.stream_rules.proofs.ports.inputs.heads.+heads.Goals as goal

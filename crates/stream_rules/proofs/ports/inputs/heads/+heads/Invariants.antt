@@ -1,8 +1,8 @@
 use Rattle.std.proofs.Common.{◌≡◌, ◌+◌, ◌*◌, drop}
 use Rattle.language_model.specs.StreamTypes.{each_name, input_heads}
-use Rattle.stream_rules.specs.Among.{graph_of, unit_of}
+use Rattle.stream_rules.specs.steps.Among.{graph_of, unit_of}
 use Rattle.body_sites.specs.Bodies.{body_seen}
-use Rattle.stream_rules.specs.Looked.{HavePassed}
+use Rattle.stream_rules.specs.steps.Looked.{HavePassed}
 use Rattle.stream_rules.proofs.ports.inputs.heads.+heads.Given as goal
 
 abbrev pub invariant-names_pass-loop-name : goal.invariant-names_pass-loop-name

@@ -1,6 +1,6 @@
 use Rattle.std.proofs.Common.{◌≡◌, Bool, true, false, refl, ◌∙◌}
 use Rattle.std.specs.Prelude.{◌==◌, ◌&&◌, ◌||◌, cond}
-use Rattle.stream_rules.specs.Looked.{has_looked}
+use Rattle.stream_rules.specs.steps.Looked.{has_looked}
 use Rattle.stream_rules.proofs.ports.inputs.heads.Looked.add.Goals as goal
 
 or_cond : (a b : Bool) → cond a true b ≡ (a || b)
