@@ -1,11 +1,6 @@
 -- What a search over lists has found.
-use Rattle.std.proofs.Common.{◌≡◌, ◌<◌, ◌≤◌, ◌↔◌, ◌∙◌, ℕ, suc, true, false, List, [], length, get_or, Some, ap, sym, inl, inr, subst, arith, ne_eqb, eqb-true}
-use Rattle.std.proofs.Math.Dec.{eqb}
+use Rattle.std.proofs.Common.{◌≡◌, ◌<◌, ◌≤◌, ◌↔◌, ◌∙◌, ℕ, suc, List, [], length, Some, ap, inl, inr, subst, arith}
 use Rattle.std.specs.Prelude.{slice_get}
-use Rattle.std.proofs.lemmas.Option.{slice_get-get_or}
-use Rattle.std.proofs.lemmas.Map.Steps.{length-le_from_distinct_below}
-use Rattle.std.proofs.lemmas.Map.Keys.{IsDistinct-from_apart}
-use Rattle.std.proofs.lemmas.Map.Views.{Contains-from_any}
 use Rattle.place_sets.specs.declared.place_set.PlaceSet.{PlaceSet}
 use Rattle.place_sets.specs.Places.{HasPlace, IsSet, Widens}
 use Rattle.cycle_rules.specs.steps.Callers.{Lists, Reached, near, far}

@@ -1,8 +1,7 @@
 -- Lists and what is made of them, an item longer.
-use Rattle.std.proofs.Common.{◌≡◌, ◌∙◌, ℕ, zero, suc, List, [], ◌∷◌, ◌++◌, take, Option, Some, ap, sym, map, append-nil}
+use Rattle.std.proofs.Common.{◌≡◌, ◌∙◌, ℕ, suc, List, [], ◌∷◌, ◌++◌, take, Option, Some, ap, sym, map, append-nil}
 use Rattle.std.specs.Prelude.{slice_get, filter_map}
 use Rattle.std.proofs.lemmas.List.{map-append}
-use Rattle.std.proofs.lemmas.List.Elements.{filter_map-append}
 use Rattle.spl_tree.specs.declared.expression.Placed.{Placed}
 use Rattle.std.specs.Borrow.{Bor}
 use Rattle.spl_tree.specs.Grammar.{placed}
