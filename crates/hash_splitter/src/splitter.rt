@@ -86,6 +86,7 @@ impl Splitter {
         ensures due { IsSome result ↔ (is_pulse_due self.old ≡ true) }
         ensures some { IfSome result (λ n. (n ≡ self.old.sent) × (self.new ≡ record self.old { pulsed = n })) }
         ensures none { IfNone result (self.new ≡ self.old) }
+        ensures kept { self.new ≡ record self.old { pulsed = self.new.pulsed } }
     {
         let n = self.sent;
         if self.pulses && n > 0 && n % PULSE_EVERY == 0 && self.pulsed != n {
