@@ -16,8 +16,8 @@ use Rattle.spl_tree.specs.UnitGrammar.{SpellsName, name, SpellsPublic, not_publi
 use Rattle.expr_parser.specs.Rules.{done, look, call, Took, RunsTo, Reads}
 use Rattle.expr_parser.specs.RuleLaws.{begins_with, line, runs_done, runs_call}
 use Rattle.expr_parser.specs.Lines.{is}
-use Rattle.unit_parser.specs.Lines.{rule, R, Name, is_word, expect, FunctionOf, Definitions, Namespace, Whole}
-use Rattle.unit_parser.proofs.CompleteParts.{no_word, takes, skips, expects, expects_word, only, row, row_front}
+use Rattle.statement_parser.specs.Lines.{rule, R, Name, is_word, expect, FunctionOf, Definitions, Namespace, Whole}
+use Rattle.statement_parser.proofs.CompleteParts.{no_word, takes, skips, expects, expects_word, only, row, row_front}
 use Rattle.unit_parser.proofs.CompleteTypes.{type_kinds, type_begins, a_type_reads, parameters_reads}
 use Rattle.unit_parser.proofs.CompleteStatements.{block_reads}
 use Rattle.unit_parser.proofs.CompleteComposites.{type_definition_reads, composite_reads}

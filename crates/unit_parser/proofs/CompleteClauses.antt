@@ -26,8 +26,8 @@ use Rattle.expr_parser.specs.RuleLaws.{begins_with, line, runs_done, runs_take, 
 use Rattle.expr_parser.specs.Lines.{is, is_name}
 use Rattle.expr_parser.proofs.TestLaws.{Stops}
 use Rattle.expr_parser.proofs.Complete.{spells_reads, elements_reads, items_reads, closes_parens}
-use Rattle.unit_parser.specs.Lines.{rule, R, is_word, word_kind, expect, Declare, Declarations, End, LogicClause, State, Handlers, WindowClause, Windows, WindowParts, ParameterClause, Parameters, OutputClause, Outputs, Assignments}
-use Rattle.unit_parser.proofs.CompleteParts.{Heads, no_word, no_symbol, no_name, word-itself, takes, skips, expects, only, embedded, ends, row, row_front, separated}
+use Rattle.statement_parser.specs.Lines.{rule, R, is_word, word_kind, expect, Declare, Declarations, End, LogicClause, State, Handlers, WindowClause, Windows, WindowParts, ParameterClause, Parameters, OutputClause, Outputs, Assignments}
+use Rattle.statement_parser.proofs.CompleteParts.{Heads, no_word, no_symbol, no_name, word-itself, takes, skips, expects, only, embedded, ends, row, row_front, separated}
 use Rattle.unit_parser.proofs.CompleteStatements.{declaration_kinds, declaration_begins, declaration_reads, block_reads}
 
 -- Clauses

@@ -16,8 +16,8 @@ use Rattle.spl_tree.specs.UnitGrammar.{Clause, SpellsTypeDefinition, type_defini
 use Rattle.expr_parser.specs.Rules.{done, look, call, Took, RunsTo, Reads}
 use Rattle.expr_parser.specs.RuleLaws.{begins_with, line, runs_done, runs_call}
 use Rattle.expr_parser.specs.Lines.{is, is_name}
-use Rattle.unit_parser.specs.Lines.{rule, R, Name, is_word, expect, expect_word, HeadPorts, Ports, Port, CompositeParameterClause, CompositeParameters, Default, parameter_with, TypeClause, ParameterClause, Types, GraphClause, CompositeOf, TypeOf}
-use Rattle.unit_parser.proofs.CompleteParts.{Heads, no_word, no_symbol, no_name, takes, skips, expects, expects_word, only, expression_reads, row, separated}
+use Rattle.statement_parser.specs.Lines.{rule, R, Name, is_word, expect, expect_word, HeadPorts, Ports, Port, CompositeParameterClause, CompositeParameters, Default, parameter_with, TypeClause, ParameterClause, Types, GraphClause, CompositeOf, TypeOf}
+use Rattle.statement_parser.proofs.CompleteParts.{Heads, no_word, no_symbol, no_name, takes, skips, expects, expects_word, only, expression_reads, row, separated}
 use Rattle.unit_parser.proofs.CompleteTypes.{type_reads, shape_reads}
 use Rattle.unit_parser.proofs.CompleteClauses.{one_of, clause_begins, clause_reads, parameter_clause_reads}
 use Rattle.unit_parser.proofs.CompleteInvocations.{graph_reads}

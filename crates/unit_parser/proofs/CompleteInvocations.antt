@@ -15,8 +15,8 @@ use Rattle.spl_tree.specs.UnitGrammar.{SpellsName, name, SpellsAlias, no_alias, 
 use Rattle.expr_parser.specs.Rules.{done, look, call, Took, RunsTo, Reads}
 use Rattle.expr_parser.specs.RuleLaws.{begins_with, line, runs_done, runs_call}
 use Rattle.expr_parser.specs.Lines.{is, name_kind}
-use Rattle.unit_parser.specs.Lines.{rule, Name, is_word, word_kind, expect, Alias, Stream, Streams, StreamHead, ListHead, Invoked, Inputs, MoreInputs, InputStreams, Graph}
-use Rattle.unit_parser.proofs.CompleteParts.{Heads, no_symbol, takes, skips, expects, expects_word, only, row, separated}
+use Rattle.statement_parser.specs.Lines.{rule, Name, is_word, word_kind, expect, Alias, Stream, Streams, StreamHead, ListHead, Invoked, Inputs, MoreInputs, InputStreams, Graph}
+use Rattle.statement_parser.proofs.CompleteParts.{Heads, no_symbol, takes, skips, expects, expects_word, only, row, separated}
 use Rattle.unit_parser.proofs.CompleteTypes.{shape_reads}
 use Rattle.unit_parser.proofs.CompleteClauses.{end_reads}
 

@@ -23,8 +23,8 @@ use Rattle.expr_parser.specs.Lines as expressions
 use Rattle.expr_parser.specs.Lines.{is, is_name, name_kind}
 use Rattle.expr_parser.proofs.TestLaws.{Stops, binds, opens_kind}
 use Rattle.expr_parser.proofs.Complete.{spells_opens, elements_reads, closes_parens, steps_reads, steps_end}
-use Rattle.unit_parser.specs.Lines.{rule, R, is_word, Name, Declare, Declared, Valued, Statement, Other, Begun, Statements, Block, declared, expect, expression, other_rule, arms_end}
-use Rattle.unit_parser.proofs.CompleteParts.{Heads, no_word, no_symbol, no_name, takes, skips, expects, expects_word, only, embedded, expression_reads}
+use Rattle.statement_parser.specs.Lines.{rule, R, is_word, Name, Declare, Declared, Valued, Statement, Other, Begun, Statements, Block, declared, expect, expression, other_rule, arms_end}
+use Rattle.statement_parser.proofs.CompleteParts.{Heads, no_word, no_symbol, no_name, takes, skips, expects, expects_word, only, embedded, expression_reads}
 use Rattle.unit_parser.proofs.CompleteTypes.{type_word, type_kinds, type_begins, type_reads, type_at, at_one}
 
 -- What statements begin with

@@ -16,8 +16,8 @@ use Rattle.spl_tree.specs.TypeGrammar.{TypeExpr, Shape, named, SpellsType, boole
 use Rattle.expr_parser.specs.Rules.{done, stop, Answer, Took, RunsTo, Reads}
 use Rattle.expr_parser.specs.RuleLaws.{line, runs_done, runs_call}
 use Rattle.spl_tree.specs.Phrases.{IsKeyword}
-use Rattle.unit_parser.specs.Lines.{rule, R, is_type, type_of, a_type, TypeExpression, ListType, MapType, TupleType, Attributes, MoreAttributes, Shaped, FunctionParameters}
-use Rattle.unit_parser.proofs.CompleteParts.{Heads, no_symbol, takes, skips, expects, only}
+use Rattle.statement_parser.specs.Lines.{rule, R, is_type, type_of, a_type, TypeExpression, ListType, MapType, TupleType, Attributes, MoreAttributes, Shaped, FunctionParameters}
+use Rattle.statement_parser.proofs.CompleteParts.{Heads, no_symbol, takes, skips, expects, only}
 
 -- What a type begins with
 

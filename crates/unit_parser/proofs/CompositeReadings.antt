@@ -14,9 +14,9 @@ use Rattle.expr_parser.proofs.Locality.{rest_of, shrinks}
 use Rattle.expr_parser.specs.RuleLaws.{begins_with, line, run_more, Settled}
 use Rattle.expr_parser.specs.Rules.{done, stop, look, call, Answer, Took, Refused, Spent, Reader, and_then, run, read, RunsTo, Reads}
 use Rattle.expr_parser.specs.Taken.{Taken, TakenAs}
-use Rattle.unit_parser.proofs.Readings.{last}
-use Rattle.unit_parser.specs.Gives.{Comes, Gives}
-use Rattle.unit_parser.specs.Lines.{Line, Value, Name, rule, R, expect, expect_name, name_at, HeadPorts, CompositeParameterClause, TypeClause, GraphClause, ParameterClause, TypeOf, Types, Shaped}
+use Rattle.statement_parser.proofs.Readings.{last}
+use Rattle.statement_parser.specs.Gives.{Comes, Gives}
+use Rattle.statement_parser.specs.Lines.{Line, Value, Name, rule, R, expect, expect_name, name_at, HeadPorts, CompositeParameterClause, TypeClause, GraphClause, ParameterClause, TypeOf, Types, Shaped}
 
 -- ---- lengths
 

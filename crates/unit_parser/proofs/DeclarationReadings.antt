@@ -6,7 +6,7 @@ use Rattle.spl_tree.specs.declared.token.Token.{Token}
 use Rattle.spl_tree.specs.StatementGrammar.{SpellsDeclaration, declaration}
 use Rattle.expr_parser.specs.Rules.{Took, Reads}
 use Rattle.expr_parser.proofs.Soundness.{Sound}
-use Rattle.unit_parser.specs.Lines.{Declare, rule}
+use Rattle.statement_parser.specs.Lines.{Declare, rule}
 use Rattle.unit_parser.proofs.Sound.{sound_line}
 
 some_tokens : {d : Declaration} {a : List Token} → SpellsDeclaration d a → 0 < length a

@@ -1,5 +1,5 @@
 -- What calls that read definitions answer.
-use Rattle.std.proofs.Common.{◌≡◌, ◌∙◌, ◌<◌, Bool, true, false, if◌then◌else◌, List, [], ◌∷◌, ◌++◌, length, Option, Some, Result, Ok, Err, refl, sym, ap, subst}
+use Rattle.std.proofs.Common.{◌≡◌, ◌∙◌, ◌<◌, ◌≤◌, arith, Bool, true, false, if◌then◌else◌, List, [], ◌∷◌, ◌++◌, length, Option, Some, None, Result, Ok, Err, refl, sym, ap, subst}
 use Rattle.std.specs.Prelude.{IsErrAnd}
 use Rattle.std.specs.Option.{is_some}
 use Rattle.std.specs.Borrow.{Bor}
@@ -10,6 +10,7 @@ use Rattle.spl_tree.specs.declared.symbol.Symbol.TheVariants as Y
 use Rattle.spl_tree.specs.declared.token.Token.{Token}
 use Rattle.spl_tree.specs.declared.token.TokenKind.{TokenKind}
 use Rattle.spl_tree.specs.declared.token.TokenKind.TheVariants as T
+use Rattle.spl_tree.specs.declared.unit.Composite.{Composite}
 use Rattle.spl_tree.specs.declared.unit.Definition.{Definition}
 use Rattle.spl_tree.specs.declared.unit.Definition.TheVariants as D
 use Rattle.spl_tree.specs.declared.unit.FunctionDefinition.{FunctionDefinition}
@@ -20,11 +21,11 @@ use Rattle.expr_parser.specs.Gives.{Passes}
 use Rattle.expr_parser.specs.Lines.{is}
 use Rattle.expr_parser.specs.RuleLaws.{line, begins_with}
 use Rattle.expr_parser.specs.Rules.{done, stop, look, call, Answer, Took, Refused, Spent, RunsTo, Reads}
-use Rattle.unit_parser.proofs.CompositeReadings.{bound, runs_bound, by_rule, spent, name_takes}
-use Rattle.unit_parser.proofs.Readings.{finished, skipped, passed, says_on, pass_fails}
-use Rattle.unit_parser.specs.Gives.{Answered, Comes, Gives}
-use Rattle.unit_parser.specs.GivesComposites.{PassesNames, DefinesOn, begins_type, word_begins_type, is_type_front}
-use Rattle.unit_parser.specs.Lines.{Name, rule, R, expect, a_type, is_word, word_kind, is_type, type_kind, TypeExpression, TypeOf, CompositeOf, FunctionOf, FunctionParameters, Block, Definitions, Namespace}
+use Rattle.unit_parser.proofs.CompositeReadings.{bound, runs_bound, by_rule, composite_named, spent, name_takes}
+use Rattle.statement_parser.proofs.Readings.{finished, skipped, passed, says_on, pass_fails}
+use Rattle.statement_parser.specs.Gives.{Answered, Comes, Gives}
+use Rattle.unit_parser.specs.GivesComposites.{Defines, DefinesOn, PassesNames, begins_type, function_behind, is_type_front, word_begins_type}
+use Rattle.statement_parser.specs.Lines.{Name, rule, R, expect, a_type, is_word, word_kind, is_type, type_kind, TypeExpression, TypeOf, CompositeOf, FunctionOf, FunctionParameters, Block, Definitions, Namespace}
 
 -- what is said of an error that `?` hands on
 pub exit : {B : Type 0} (P : Result B Stop → Type 0) (res : Result B Stop) (e : Stop) → IsErrAnd res (λ y. y ≡ e) → P (Err e) → P res
@@ -66,12 +67,6 @@ function_named result n =
 abbrev pub type_behind : List Definition → R (List Definition)
 type_behind xs = call TypeOf (λ x. call (Definitions (xs ++ D.Type x ∷ [])) done)
 
-abbrev pub composite_behind : List Definition → R (List Definition)
-composite_behind xs = call CompositeOf (λ x. call (Definitions (xs ++ D.Composite x ∷ [])) done)
-
-abbrev pub function_behind : Option TypeExpr → List Definition → R (List Definition)
-function_behind kind xs = call (FunctionOf kind) (λ x. call (Definitions (xs ++ D.Function x ∷ [])) done)
-
 -- a definition that comes to what a rule does that stops
 define_stop : (ts : List Token) (e : Stop) → ((xs : List Definition) → Gives (Definitions xs) ts (Err e)) → DefinesOn ts (Err e)
 define_stop ts (S.At rest) g = g
@@ -82,6 +77,28 @@ pub define_fails : (ts mid : List Token) (r : List Definition → R (List Defini
     → ((xs : List Definition) → Comes (r xs) mid (Err e)) → DefinesOn ts res
 define_fails ts mid r res e h on c =
     exit (DefinesOn ts) res e h (define_stop ts e (λ xs. says_on {P = RunsTo rule (r xs) mid} {Q = Reads rule (Definitions xs) ts} (on xs) (Err e) (c xs)))
+
+-- where a rule has one definition first, it stands among the definitions from some tokens before that on
+pub defines : (ts mid : List Token) (r : List Definition → R (List Definition)) (res : Answered (Option Definition)) → length mid ≤ length ts
+    → ((xs : List Definition) (o : Answer (List Definition)) → RunsTo rule (r xs) mid o → Reads rule (Definitions xs) ts o)
+    → Defines r mid res → DefinesOn ts res
+defines ts mid r (Ok (Some x, rest)) h on d = ((let lt = d.0 in omega arith), λ xs o q. on xs o (d.1 xs o q))
+defines ts mid r (Ok (None, rest)) h on d = absurd d
+defines ts mid r (Err (S.At rest)) h on d = λ xs. on xs (Refused rest.now) (d xs)
+defines ts mid r (Err S.Memory) h on d = tt
+
+-- a rule that stops has no definition first
+define_none : (ts : List Token) (r : List Definition → R (List Definition)) (e : Stop) → ((xs : List Definition) → Comes (r xs) ts (Err e)) → Defines r ts (Err e)
+define_none ts r (S.At rest) g = g
+define_none ts r S.Memory g = tt
+
+pub defines_none : (ts : List Token) (r : List Definition → R (List Definition)) (res : Answered (Option Definition)) (e : Stop) → IsErrAnd res (λ y. y ≡ e)
+    → ((xs : List Definition) → Comes (r xs) ts (Err e)) → Defines r ts res
+defines_none ts r res e h c = exit (Defines r ts) res e h (define_none ts r e c)
+
+pub composite_shrinks : {ts mid : List Token} {x : Composite} → Reads rule CompositeOf ts (Took x mid) → length mid < length ts
+unfolding rule
+composite_shrinks {ts} {mid} {x} r = name_takes composite_named ts mid x (by_rule tt r)
 
 pub function_shrinks : {kind : Option TypeExpr} {ts mid : List Token} {f : FunctionDefinition} → Reads rule (FunctionOf kind) ts (Took f mid) → length mid < length ts
 unfolding rule

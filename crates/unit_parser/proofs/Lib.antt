@@ -3,7 +3,6 @@ pub mod CompleteClauses
 pub mod CompleteComposites
 pub mod CompleteTypes
 pub mod CompleteInvocations
-pub mod CompleteParts
 pub mod Complete
 pub mod SoundSamples
 pub mod SoundInvocations
@@ -15,11 +14,8 @@ pub mod SoundTypes
 pub mod Sound
 pub mod SoundTests
 pub mod WholeUnits
-pub mod Readings
-pub mod TypeReadings
 pub mod DeclarationReadings
 pub mod Rows
-pub mod StatementReadings
 pub mod CompositeReadings
 pub mod DefinitionReadings
 pub mod OneAnswer

@@ -11,7 +11,7 @@ use Rattle.spl_tree.specs.Weights.{too_deep_from}
 use Rattle.expr_parser.specs.Rules.{Took, Refused, Reads}
 use Rattle.spl_tree.specs.Units.{place_of}
 use Rattle.spl_tree.specs.Fronts.{Longest, IsPhrase, IsUnexpected}
-use Rattle.unit_parser.specs.Lines.{Whole, rule}
+use Rattle.statement_parser.specs.Lines.{Whole, rule}
 use Rattle.spl_tree.specs.Units.{IsUnit, IsUnexpectedAt}
 use Rattle.unit_parser.proofs.WholeUnits.{exact_took, exact_refused}
 

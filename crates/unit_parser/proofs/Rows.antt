@@ -7,9 +7,9 @@ use Rattle.expr_parser.specs.declared.stop.Stop.{Stop}
 use Rattle.expr_parser.proofs.Locality.{rest_of, shrinks}
 use Rattle.expr_parser.specs.Rules.{Rule, done, call, Answer, Took, RunsTo, Reads}
 use Rattle.expr_parser.specs.Taken.{Taken, TakenAs}
-use Rattle.unit_parser.specs.Gives.{Answered, Comes, Gives}
-use Rattle.unit_parser.specs.Lines.{Line, Value, rule, R}
-use Rattle.unit_parser.proofs.Readings.{finished, last, says_on}
+use Rattle.statement_parser.specs.Gives.{Answered, Comes, Gives}
+use Rattle.statement_parser.specs.Lines.{Line, Value, rule, R}
+use Rattle.statement_parser.proofs.Readings.{finished, last, says_on}
 
 -- ---- lengths
 

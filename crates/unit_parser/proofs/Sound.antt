@@ -4,8 +4,8 @@ use Rattle.spl_tree.specs.declared.token.Token.{Token}
 use Rattle.spl_tree.specs.UnitGrammar.{SpellsUnit}
 use Rattle.expr_parser.specs.Rules.{read}
 use Rattle.expr_parser.proofs.Soundness.{Sound, sound as sound_lines}
-use Rattle.unit_parser.specs.Lines as lines
-use Rattle.unit_parser.specs.Lines.{Line, Whole, rule}
+use Rattle.statement_parser.specs.Lines as lines
+use Rattle.statement_parser.specs.Lines.{Line, Whole, rule}
 use Rattle.unit_parser.proofs.SoundPhrases.{Phrases}
 use Rattle.unit_parser.proofs.SoundSamples.{has}
 use Rattle.unit_parser.proofs.SoundRules.{Leads, LeadsTo}

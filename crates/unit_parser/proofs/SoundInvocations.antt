@@ -21,10 +21,10 @@ use Rattle.spl_tree.specs.Phrases.{IsKeyword, Row, none, Separated, Listed, empt
 use Rattle.spl_tree.specs.TypeGrammar.{Shape, SpellsShape}
 use Rattle.spl_tree.specs.StatementGrammar.{SpellsDeclaration, BeginsAt}
 use Rattle.spl_tree.specs.UnitGrammar as units
-use Rattle.spl_tree.specs.UnitGrammar.{SpellsName, SpellsAlias, SpellsParameter, parameter, Clause, no_clause, clause, PlacedClause, absent, placed_clause, SpellsStream, SpellsOutputStream, SpellsHead, SpellsInput, SpellsState, SpellsHandler, SpellsWindowPart, SpellsPortWindow, port_window, SpellsOutputAssignments, output_assignments, SpellsEnd, SpellsInvocation}
+use Rattle.spl_tree.specs.UnitGrammar.{SpellsName, SpellsAlias, SpellsParameter, parameter, no_clause, clause, absent, placed_clause, SpellsStream, SpellsOutputStream, SpellsHead, SpellsInput, SpellsState, SpellsWindowPart, SpellsPortWindow, port_window, SpellsOutputAssignments, output_assignments, SpellsEnd, SpellsInvocation}
 use Rattle.expr_parser.specs.Lines.{name_of}
-use Rattle.unit_parser.specs.Lines as lines
-use Rattle.unit_parser.specs.Lines.{Line, Value, Name, rule, name_at}
+use Rattle.statement_parser.specs.Lines as lines
+use Rattle.statement_parser.specs.Lines.{Name, rule, name_at}
 use Rattle.unit_parser.proofs.SoundPhrases.{Leading, Closed, closed, SpellsField, field, Phrases}
 use Rattle.unit_parser.proofs.SoundSamples.{listing_closed}
 use Rattle.unit_parser.proofs.SoundRules.{LeadsTo, ended, called, last, comes_symbol, comes_word, comes_name, may_symbol, may_word, may_name, row_more, lead_first, lead_next}

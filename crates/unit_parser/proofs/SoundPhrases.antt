@@ -18,7 +18,7 @@ use Rattle.expr_parser.specs.Lines as expressions
 use Rattle.expr_parser.specs.Lines.{selected}
 use Rattle.expr_parser.proofs.Sound as sound
 use Rattle.expr_parser.proofs.Soundness.{Phrase, After}
-use Rattle.unit_parser.specs.Lines.{Line, Value, Name, Expression, TypeExpression, ListType, MapType, TupleType, Attributes, MoreAttributes, Shaped, Declare, Declared, Valued, Declarations, Statement, Other, Begun, Arms, Statements, Block, Alias, Stream, Streams, StreamHead, ListHead, Invoked, Inputs, MoreInputs, InputStreams, End, LogicClause, State, Handlers, HandlerOf, WindowClause, Windows, WindowParts, PartArguments, ParameterClause, Parameters, OutputClause, Outputs, Assignments, CompositeOf, HeadPorts, Ports, Port, CompositeParameterClause, CompositeParameters, Default, TypeClause, Types, GraphClause, Graph, TypeOf, FunctionOf, FunctionParameters, Definitions, Namespace, Whole, parameter_with}
+use Rattle.statement_parser.specs.Lines.{Line, Value, Name, Expression, TypeExpression, ListType, MapType, TupleType, Attributes, MoreAttributes, Shaped, Declare, Declared, Valued, Declarations, Statement, Other, Begun, Arms, Statements, Block, Alias, Stream, Streams, StreamHead, ListHead, Invoked, Inputs, MoreInputs, InputStreams, End, LogicClause, State, Handlers, HandlerOf, WindowClause, Windows, WindowParts, PartArguments, ParameterClause, Parameters, OutputClause, Outputs, Assignments, CompositeOf, HeadPorts, Ports, Port, CompositeParameterClause, CompositeParameters, Default, TypeClause, Types, GraphClause, Graph, TypeOf, FunctionOf, FunctionParameters, Definitions, Namespace, Whole, parameter_with}
 
 -- Parts of phrases
 

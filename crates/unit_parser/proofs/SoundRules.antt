@@ -19,7 +19,7 @@ use Rattle.expr_parser.proofs.TestLaws.{is-true, is_name-true}
 use Rattle.expr_parser.proofs.Sound as expression_phrases
 use Rattle.expr_parser.proofs.Soundness as soundness
 use Rattle.expr_parser.proofs.Soundness.{Phrase, Behind, After, leads_some}
-use Rattle.unit_parser.specs.Lines.{Line, Value, R, is_word, type_of, is_dollar, dollar_at, is_assignment, assignment_at, lifted, expect, expect_word, a_type}
+use Rattle.statement_parser.specs.Lines.{Line, Value, R, is_word, type_of, is_dollar, dollar_at, is_assignment, assignment_at, lifted, expect, expect_word, a_type}
 use Rattle.unit_parser.proofs.SoundTests.{is_word-true, is_type-true, is_dollar-true, is_assignment-true}
 use Rattle.unit_parser.proofs.SoundPhrases.{Closed, closed, Rows, TakesSteps, ExpressionPhrases, Phrases}
 use Rattle.unit_parser.proofs.SoundSamples.{has, a_token, a_symbol, a_keyword, a_word}

@@ -18,15 +18,15 @@ use Rattle.spl_tree.specs.Phrases.{IsKeyword, none, first, empty}
 use Rattle.spl_tree.specs.TypeGrammar as types
 use Rattle.spl_tree.specs.TypeGrammar.{TypeExpr, Shape, SpellsType, SpellsShape, no_parameters}
 use Rattle.spl_tree.specs.StatementGrammar as statements
-use Rattle.spl_tree.specs.StatementGrammar.{Stmt, SpellsMutable, SpellsValue, SpellsDeclaration, declaration, SpellsStmt, SpellsArms, constant, no_value, no_statements, block_of, IsNoIf}
+use Rattle.spl_tree.specs.StatementGrammar.{Stmt, SpellsMutable, SpellsValue, SpellsDeclaration, declaration, SpellsStmt, constant, no_value, no_statements, block_of}
 use Rattle.spl_tree.specs.UnitGrammar as units
-use Rattle.spl_tree.specs.UnitGrammar.{SpellsName, SpellsOutputStream, SpellsHead, SpellsInput}
+use Rattle.spl_tree.specs.UnitGrammar.{SpellsName, SpellsOutputStream}
 use Rattle.expr_parser.specs.Lines as expression_lines
 use Rattle.spl_tree.specs.Fronts.{Starts}
 use Rattle.expr_parser.proofs.Sound as expressions
 use Rattle.expr_parser.proofs.Soundness.{Phrase}
-use Rattle.unit_parser.specs.Lines as lines
-use Rattle.unit_parser.specs.Lines.{Line, Name, declared, parameter_with}
+use Rattle.statement_parser.specs.Lines as lines
+use Rattle.statement_parser.specs.Lines.{Line, Name, declared, parameter_with}
 use Rattle.unit_parser.proofs.SoundPhrases.{Leading, Closed, closed, SpellsAttribute, attribute, field, ExpressionPhrases, Phrases, part_with}
 
 -- Tokens, and phrases of them

@@ -12,16 +12,16 @@ use Rattle.spl_tree.specs.declared.token.Token.{Token}
 use Rattle.spl_tree.specs.Grammar.{Expr, placed, Is, Names, Steps, no_steps, Spells}
 use Rattle.spl_tree.specs.Phrases.{IsKeyword, more}
 use Rattle.spl_tree.specs.TypeGrammar as types
-use Rattle.spl_tree.specs.TypeGrammar.{TypeExpr, SpellsType, named}
+use Rattle.spl_tree.specs.TypeGrammar.{TypeExpr, SpellsType}
 use Rattle.spl_tree.specs.StatementGrammar as statements
-use Rattle.spl_tree.specs.StatementGrammar.{Stmt, assignment_of, SpellsPlace, variable, taken, SpellsValue, no_value, SpellsMutable, constant, mutable, SpellsDeclaration, declaration, BeginsAt, begins, IsNoIf, SpellsStmt, SpellsArms, first_arm, next_arm, SpellsStmts, no_statements, more_statements, SpellsBlock, block_of}
+use Rattle.spl_tree.specs.StatementGrammar.{Stmt, assignment_of, SpellsPlace, variable, taken, no_value, SpellsMutable, constant, mutable, SpellsDeclaration, BeginsAt, begins, IsNoIf, SpellsStmt, SpellsArms, first_arm, next_arm, SpellsStmts, no_statements, more_statements, SpellsBlock, block_of}
 use Rattle.spl_tree.specs.UnitGrammar as units
 use Rattle.spl_tree.specs.UnitGrammar.{SpellsName}
 use Rattle.expr_parser.specs.Lines.{name_of, selected}
 use Rattle.expr_parser.proofs.Sound as sound
 use Rattle.expr_parser.proofs.Soundness.{After}
-use Rattle.unit_parser.specs.Lines as lines
-use Rattle.unit_parser.specs.Lines.{Name, rule, declared, arms_end}
+use Rattle.statement_parser.specs.Lines as lines
+use Rattle.statement_parser.specs.Lines.{Name, rule, arms_end}
 use Rattle.unit_parser.proofs.SoundPhrases.{Closed, closed, TakesSteps, SpellsEither, LeadingArm, Phrases}
 use Rattle.unit_parser.proofs.SoundSamples.{declaration_spells}
 use Rattle.unit_parser.proofs.SoundRules.{LeadsTo, weaker, ended, called, last, comes_symbol, comes_word, comes_name, comes_assignment, may_symbol, may_word, may_name, steps_none}

@@ -15,7 +15,7 @@ use Rattle.spl_tree.specs.Grammar.{placed}
 use Rattle.spl_tree.specs.Phrases.{IsKeyword}
 use Rattle.spl_tree.specs.TypeGrammar.{SpellsType, boolean, rstring, int, left_out, name}
 use Rattle.spl_tree.specs.StatementGrammar.{assignment_of}
-use Rattle.unit_parser.specs.Lines.{word_kind, is_word, keyword_type, type_kind, is_type, type_of, dollar_kind, is_dollar, is_assignment, assignment_at}
+use Rattle.statement_parser.specs.Lines.{word_kind, is_word, keyword_type, type_kind, is_type, type_of, dollar_kind, is_dollar, is_assignment, assignment_at}
 
 -- an option that has a value has the one that is taken of it
 unwrap_or-is_some : {A : Type 0} (o : Option A) (d : A) → is_some o ≡ true → o ≡ Some (unwrap_or o d)

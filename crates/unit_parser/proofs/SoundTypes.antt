@@ -16,8 +16,8 @@ use Rattle.expr_parser.specs.Rules.{done}
 use Rattle.expr_parser.specs.Lines as expressions
 use Rattle.expr_parser.specs.Lines.{name_of}
 use Rattle.expr_parser.proofs.Sound as sound
-use Rattle.unit_parser.specs.Lines as lines
-use Rattle.unit_parser.specs.Lines.{rule}
+use Rattle.statement_parser.specs.Lines as lines
+use Rattle.statement_parser.specs.Lines.{rule}
 use Rattle.unit_parser.proofs.SoundPhrases.{Leading, Closed, closed, SpellsAttribute, attribute, Phrases}
 use Rattle.unit_parser.proofs.SoundSamples.{has, listing_closed}
 use Rattle.unit_parser.proofs.SoundRules.{LeadsTo, leads_lifted, ended, called, last, stops, comes_symbol, comes_name, may_symbol, may_name, may_type}

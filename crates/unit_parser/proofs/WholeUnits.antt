@@ -6,7 +6,7 @@ use Rattle.spl_tree.specs.UnitGrammar.{SpellsUnit}
 use Rattle.expr_parser.specs.Rules.{Took, Refused, Reads}
 use Rattle.spl_tree.specs.Fronts.{IsPhrase, IsUnexpected}
 use Rattle.expr_parser.proofs.Exactness.{one, exact_phrase, exact_unexpected}
-use Rattle.unit_parser.specs.Lines.{Whole, rule}
+use Rattle.statement_parser.specs.Lines.{Whole, rule}
 use Rattle.unit_parser.proofs.Complete.{complete}
 use Rattle.unit_parser.proofs.Sound.{sound}
 

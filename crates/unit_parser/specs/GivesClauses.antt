@@ -8,8 +8,8 @@ use Rattle.spl_tree.specs.declared.unit.Handler.{Handler}
 use Rattle.spl_tree.specs.declared.unit.Invocation.{Invocation}
 use Rattle.expr_parser.specs.declared.stop.Stop.TheVariants as S
 use Rattle.expr_parser.specs.Rules.{done, call, Answer, Took, Refused, RunsTo, Reads}
-use Rattle.unit_parser.specs.Gives.{Answered}
-use Rattle.unit_parser.specs.Lines.{Handlers, HandlerOf, Graph, rule, R}
+use Rattle.statement_parser.specs.Gives.{Answered}
+use Rattle.statement_parser.specs.Lines.{Handlers, HandlerOf, Graph, rule, R}
 
 -- one more handler, behind its first word at a place, and more of them, behind some
 abbrev pub more_handlers : ℕ → HandledEvent → List (Placed Handler) → R (List (Placed Handler))

@@ -8,13 +8,15 @@ use Rattle.spl_tree.specs.declared.token.Token.{Token}
 use Rattle.spl_tree.specs.declared.token.TokenKind.{TokenKind}
 use Rattle.spl_tree.specs.declared.token.TokenKind.TheVariants as T
 use Rattle.spl_tree.specs.declared.unit.Definition.{Definition}
+use Rattle.spl_tree.specs.declared.unit.Definition.TheVariants as D
+use Rattle.spl_tree.specs.TypeGrammar.{TypeExpr}
 use Rattle.spl_tree.specs.declared.unit.HeadPort.{HeadPort}
 use Rattle.expr_parser.specs.declared.stop.Stop.{Stop}
 use Rattle.expr_parser.specs.declared.stop.Stop.TheVariants as S
 use Rattle.expr_parser.specs.Lines.{is}
-use Rattle.expr_parser.specs.Rules.{done, look, call, Answer, Took, Refused, Reads}
-use Rattle.unit_parser.specs.Gives.{Answered}
-use Rattle.unit_parser.specs.Lines.{rule, R, expect, expect_word, Ports, Definitions, Namespace}
+use Rattle.expr_parser.specs.Rules.{done, look, call, Answer, Took, Refused, RunsTo, Reads}
+use Rattle.statement_parser.specs.Gives.{Answered}
+use Rattle.statement_parser.specs.Lines.{rule, R, expect, expect_word, CompositeOf, Definitions, FunctionOf, Namespace, Ports}
 
 -- behind the first ports of a head: `;` and the ports behind that word, or none, and the closing parenthesis
 abbrev pub other_ports_rule : Keyword → R (List HeadPort)
@@ -57,3 +59,19 @@ abbrev pub DefinesOn : List Token → Answered (Option Definition) → Type 0
 DefinesOn ts (Ok found) = DefinitionFound ts found.0 found.1.now
 DefinesOn ts (Err (S.At rest)) = (xs : List Definition) → Reads rule (Definitions xs) ts (Refused rest.now)
 DefinesOn ts (Err S.Memory) = Unit {0}
+
+-- a composite, behind its first words, and then more definitions behind some
+abbrev pub composite_behind : List Definition → R (List Definition)
+composite_behind xs = call CompositeOf (λ x. call (Definitions (xs ++ D.Composite x ∷ [])) done)
+
+-- likewise a function, behind the type of its result
+abbrev pub function_behind : Option TypeExpr → List Definition → R (List Definition)
+function_behind kind xs = call (FunctionOf kind) (λ x. call (Definitions (xs ++ D.Function x ∷ [])) done)
+
+-- one definition comes first, whatever stands before it, as a rule has it that goes on with more
+abbrev pub Defines : (List Definition → R (List Definition)) → List Token → Answered (Option Definition) → Type 0
+Defines r ts (Ok (Some x, rest)) =
+    (length rest.now < length ts) × ((xs : List Definition) (o : Answer (List Definition)) → Reads rule (Definitions (xs ++ x ∷ [])) rest.now o → RunsTo rule (r xs) ts o)
+Defines r ts (Ok (None, rest)) = ⊥
+Defines r ts (Err (S.At rest)) = (xs : List Definition) → RunsTo rule (r xs) ts (Refused rest.now)
+Defines r ts (Err S.Memory) = Unit {0}

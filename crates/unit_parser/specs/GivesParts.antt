@@ -1,5 +1,5 @@
 -- What calls answer that read parts of a line, against parts of its rule.
-use Rattle.std.specs.Prelude.{ℕ, List, Option}
+use Rattle.std.specs.Prelude.{List, Option}
 use Rattle.spl_tree.specs.declared.expression.Placed.{Placed}
 use Rattle.spl_tree.specs.declared.keyword.Keyword.TheVariants as K
 use Rattle.spl_tree.specs.declared.shape.Attribute.{Attribute}
@@ -12,17 +12,9 @@ use Rattle.spl_tree.specs.declared.unit.OutputAssignments.{OutputAssignments}
 use Rattle.spl_tree.specs.declared.unit.Parameter.{Parameter}
 use Rattle.spl_tree.specs.declared.unit.PortWindow.{PortWindow}
 use Rattle.spl_tree.specs.declared.unit.TypeDefinition.{TypeDefinition}
-use Rattle.spl_tree.specs.Grammar.{Expr}
 use Rattle.spl_tree.specs.TypeGrammar.{TypeExpr}
 use Rattle.expr_parser.specs.Rules.{done, stop, look, call}
-use Rattle.unit_parser.specs.Lines.{Name, R, expect, expect_word, expect_name, expression, is_dollar, dollar_at, TypeExpression, Inputs, LogicClause, WindowClause, ParameterClause, OutputClause, CompositeParameterClause, Default, TypeClause, GraphClause, FunctionParameters}
-
--- the variable of a `for`, and what it goes over with the closing parenthesis
-abbrev pub for_variable : R (Attribute TypeExpr)
-for_variable = call TypeExpression (λ k. expect_name (λ n. done (record { kind = k; name = n })))
-
-abbrev pub gone_over : R Expr
-gone_over = expect_word K.In (expression (λ e. expect S.RightParen (done e)))
+use Rattle.statement_parser.specs.Lines.{Name, R, expect, expect_name, is_dollar, dollar_at, TypeExpression, Inputs, LogicClause, WindowClause, ParameterClause, OutputClause, CompositeParameterClause, Default, TypeClause, GraphClause, FunctionParameters}
 
 -- what is invoked, behind a head, and its inputs
 abbrev pub operator_and_inputs : R (Name × List InputPort)

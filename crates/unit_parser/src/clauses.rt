@@ -1,13 +1,11 @@
 //! The clauses of an invocation.
 ghost use Rattle.std.specs.Prelude.{[]};
-ghost use Rattle.unit_parser.specs.Gives.{Comes, Gives};
+ghost use Rattle.statement_parser.specs.Gives.{Comes, Gives};
 ghost use Rattle.unit_parser.specs.GivesClauses.{EventFirst};
 ghost use Rattle.unit_parser.specs.GivesParts.{logic_and_window, param_to_config, output_and_config};
-ghost use Rattle.unit_parser.specs.Lines as lines;
+ghost use Rattle.statement_parser.specs.Lines as lines;
 
-use crate::declarations::{declaration, declarations};
-use crate::first::word_first;
-use crate::statements::block;
+use crate::declarations::declarations;
 use expr_parser::{
     Taken, after, name_first, pass, pass_name, read_elements, read_expression, read_items,
 };
@@ -16,6 +14,7 @@ use spl_tree::{
     OutputAssignments, Parameter, Placed, PortWindow, Symbol, Token, WindowPart,
 };
 use spl_value::Items;
+use statement_parser::{block, declaration, word_first};
 use std::alloc::Global;
 
 /// `output` with its assignments, or nothing.

@@ -1,20 +1,19 @@
 //! Composites.
 ghost use Rattle.std.specs.Prelude.{[]};
-ghost use Rattle.unit_parser.specs.Gives.{Comes, Gives};
+ghost use Rattle.statement_parser.specs.Gives.{Comes, Gives};
 ghost use Rattle.unit_parser.specs.GivesComposites.{other_ports_rule};
 ghost use Rattle.unit_parser.specs.GivesParts.{composite_clauses, parameters_and_types, graph_and_config, composite_parameter};
-ghost use Rattle.unit_parser.specs.Lines as lines;
+ghost use Rattle.statement_parser.specs.Lines as lines;
 
 use crate::clauses::parameter_clause;
-use crate::first::{pass_dollar, pass_word, word_first};
 use crate::invocations::graph;
-use crate::types::{read_type, shape};
 use expr_parser::{Taken, after, name_first, pass, pass_name, read_expression};
 use spl_tree::{
     Composite, CompositeParameter, HeadPort, Invocation, Keyword, Parameter, Placed, Symbol, Token,
     TypeDefinition, TypeExpr,
 };
 use spl_value::{Items, Name};
+use statement_parser::{pass_dollar, pass_word, read_type, shape, word_first};
 use std::alloc::Global;
 
 /// The outputs and the inputs of a head.

@@ -1,70 +1,13 @@
-//! Declarations of variables.
-ghost use Rattle.std.specs.Prelude.{true, false, []};
-ghost use Rattle.unit_parser.specs.Gives.{Gives};
-ghost use Rattle.unit_parser.specs.Lines as lines;
+//! Declarations in a row.
+ghost use Rattle.std.specs.Prelude.{[]};
+ghost use Rattle.statement_parser.specs.Gives.{Gives};
+ghost use Rattle.statement_parser.specs.Lines as lines;
 
-use crate::first::word_first;
-use crate::types::read_type;
-use expr_parser::{Taken, after, pass, pass_name, read_expression};
-use spl_tree::{Declaration, Keyword, Placed, Symbol, Token, TypeExpr};
-use spl_value::{Items, Name};
+use expr_parser::{Taken, after};
+use spl_tree::{Declaration, Symbol, Token};
+use spl_value::Items;
+use statement_parser::declaration;
 use std::alloc::Global;
-
-/// A declaration.
-pub(crate) fn declaration<'t>(alloc: Global, ts: &'t [Token]) -> Taken<'t, Declaration>
-    ensures { Gives lines.Declare ts.now result }
-{
-    match word_first(ts, Keyword::Mutable) {
-        Some((_, behind)) => {
-            let (kind, behind) = read_type(alloc, behind)?;
-            declared(alloc, true, kind, behind)
-        }
-        None => {
-            let (kind, behind) = read_type(alloc, ts)?;
-            declared(alloc, false, kind, behind)
-        }
-    }
-}
-
-/// A declaration, behind its type.
-pub(crate) fn declared<'t>(
-    alloc: Global,
-    mutable: bool,
-    kind: TypeExpr,
-    ts: &'t [Token],
-) -> Taken<'t, Declaration>
-    ensures { Gives (lines.Declared mutable kind) ts.now result }
-{
-    let (name, behind) = pass_name(alloc, ts)?;
-    valued(alloc, mutable, kind, name, behind)
-}
-
-/// A declaration, behind its name.
-pub(crate) fn valued<'t>(
-    alloc: Global,
-    mutable: bool,
-    kind: TypeExpr,
-    name: Placed<Name>,
-    ts: &'t [Token],
-) -> Taken<'t, Declaration>
-    ensures { Gives (lines.Valued mutable kind name) ts.now result }
-{
-    let (value, behind) = match after(ts, Symbol::Assign) {
-        Some((_, behind)) => {
-            let (value, behind) = read_expression(alloc, behind)?;
-            (Some(value), behind)
-        }
-        None => (None, ts),
-    };
-    let behind = pass(behind, Symbol::Semicolon)?;
-    let declaration = Declaration {
-        mutable,
-        kind,
-        name,
-        value,
-    };
-    Ok((declaration, behind))
-}
 
 /// Declarations up to the closing brace.
 pub(crate) fn declarations<'t>(alloc: Global, ts: &'t [Token]) -> Taken<'t, Items<Declaration>>

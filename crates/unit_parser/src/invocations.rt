@@ -1,16 +1,15 @@
 //! Invocations of operators and composites.
 ghost use Rattle.std.specs.Prelude.{[]};
-ghost use Rattle.unit_parser.specs.Gives.{Comes, Gives};
+ghost use Rattle.statement_parser.specs.Gives.{Comes, Gives};
 ghost use Rattle.unit_parser.specs.GivesClauses.{InvocationsOn};
 ghost use Rattle.unit_parser.specs.GivesParts.{operator_and_inputs};
-ghost use Rattle.unit_parser.specs.Lines as lines;
+ghost use Rattle.statement_parser.specs.Lines as lines;
 
 use crate::clauses::end;
-use crate::first::{pass_word, word_first};
-use crate::types::shape;
 use expr_parser::{Stop, Taken, after, pass, pass_name};
 use spl_tree::{InputPort, Invocation, Keyword, OutputStream, Placed, Symbol, Token};
 use spl_value::{Items, Name};
+use statement_parser::{pass_word, shape, word_first};
 use std::alloc::Global;
 
 /// The streams that an invocation makes, and its alias.

@@ -4,13 +4,9 @@
 mod clauses;
 mod composites;
 mod declarations;
-mod first;
 mod invocations;
 mod laws;
 mod parse;
-mod simple;
-mod statements;
-mod types;
 mod units;
 
 pub use laws::units_law;

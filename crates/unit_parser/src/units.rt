@@ -1,21 +1,19 @@
 //! Units, and what they define.
 ghost use Rattle.std.specs.Prelude.{◌≡◌, []};
 ghost use Rattle.expr_parser.specs.RuleLaws.{begins_with};
-ghost use Rattle.unit_parser.specs.Gives.{Comes, Gives};
-ghost use Rattle.unit_parser.specs.GivesComposites.{PassesNames, DefinesOn, begins_type, is_type_front, word_begins_type};
+ghost use Rattle.statement_parser.specs.Gives.{Comes, Gives};
+ghost use Rattle.unit_parser.specs.GivesComposites.{Defines, DefinesOn, PassesNames, begins_type, composite_behind, function_behind, is_type_front, word_begins_type};
 ghost use Rattle.unit_parser.specs.GivesParts.{signature};
-ghost use Rattle.unit_parser.specs.Lines as lines;
+ghost use Rattle.statement_parser.specs.Lines as lines;
 
 use crate::composites::{composite, type_definition};
-use crate::first::{pass_word, word_first};
-use crate::statements::block;
-use crate::types::{function_parameters, read_type};
 use expr_parser::{Stop, Taken, after, pass, pass_name};
 use spl_tree::{
     Attributes, Definition, FunctionDefinition, Keyword, Placed, Symbol, Token, TokenKind,
     TypeExpr, Unit,
 };
 use spl_value::{Items, Name};
+use statement_parser::{block, function_parameters, pass_word, read_type, word_first};
 use std::alloc::Global;
 
 /// A unit.
@@ -71,22 +69,38 @@ fn definition<'t>(alloc: Global, ts: &'t [Token]) -> Taken<'t, Option<Definition
     }
     if let Some((_, behind)) = word_first(ts, Keyword::Public) {
         let behind = pass_word(behind, Keyword::Composite)?;
-        let (one, behind) = composite(alloc, behind)?;
-        return Ok((Some(Definition::Composite(one)), behind));
+        return composite_defined(alloc, behind);
     }
     if let Some((_, behind)) = word_first(ts, Keyword::Composite) {
-        let (one, behind) = composite(alloc, behind)?;
-        return Ok((Some(Definition::Composite(one)), behind));
+        return composite_defined(alloc, behind);
     }
     if let Some((_, behind)) = word_first(ts, Keyword::Void) {
-        let (one, behind) = function(alloc, None, behind)?;
-        return Ok((Some(Definition::Function(one)), behind));
+        return function_defined(alloc, None, behind);
     }
     if !type_begins(ts) {
         return Ok((None, ts));
     }
     let (kind, behind) = read_type(alloc, ts)?;
-    let (one, behind) = function(alloc, Some(kind), behind)?;
+    function_defined(alloc, Some(kind), behind)
+}
+
+/// A composite, behind its first words.
+fn composite_defined<'t>(alloc: Global, ts: &'t [Token]) -> Taken<'t, Option<Definition>>
+    ensures { Defines composite_behind ts.now result }
+{
+    let (one, behind) = composite(alloc, ts)?;
+    Ok((Some(Definition::Composite(one)), behind))
+}
+
+/// A function, behind the type of its result.
+fn function_defined<'t>(
+    alloc: Global,
+    kind: Option<TypeExpr>,
+    ts: &'t [Token],
+) -> Taken<'t, Option<Definition>>
+    ensures { Defines (function_behind kind) ts.now result }
+{
+    let (one, behind) = function(alloc, kind, ts)?;
     Ok((Some(Definition::Function(one)), behind))
 }
 

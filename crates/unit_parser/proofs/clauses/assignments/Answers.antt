@@ -4,9 +4,9 @@ use Rattle.spl_tree.specs.declared.symbol.Symbol.TheVariants as S
 use Rattle.spl_tree.specs.Grammar.{Expr}
 use Rattle.expr_parser.specs.Lines as expressions
 use Rattle.expr_parser.specs.Rules.{done, look, call, Took, Reads}
-use Rattle.unit_parser.specs.Lines.{Name, R, expect, expression}
-use Rattle.unit_parser.specs.Lines as lines
-use Rattle.unit_parser.proofs.Readings.{reads, taken, skipped, passed, name_passed, expression_read, last, fails, pass_fails, name_fails, expression_fails}
+use Rattle.statement_parser.specs.Lines.{Name, R, expect, expression}
+use Rattle.statement_parser.specs.Lines as lines
+use Rattle.statement_parser.proofs.Readings.{reads, taken, skipped, passed, name_passed, expression_read, last, fails, pass_fails, name_fails, expression_fails}
 use Rattle.unit_parser.proofs.Rows.{reads_shrinks, taken_shrinks, taken_as_shrinks, made}
 use Rattle.unit_parser.proofs.clauses.assignments.Goals as goal
 

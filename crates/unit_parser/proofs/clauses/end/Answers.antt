@@ -9,11 +9,11 @@ use Rattle.spl_tree.specs.declared.unit.PortWindow.{PortWindow}
 use Rattle.expr_parser.specs.Rules.{done, Answer, RunsTo, Reads}
 use Rattle.spl_tree.specs.declared.symbol.Symbol.TheVariants as S
 use Rattle.unit_parser.specs.GivesParts.{logic_and_window, param_to_config}
-use Rattle.unit_parser.specs.Lines as lines
-use Rattle.unit_parser.specs.Lines.{R, rule}
-use Rattle.unit_parser.proofs.Readings.{finished, reads, taken, skipped, passed, fails, pass_fails}
+use Rattle.statement_parser.specs.Lines as lines
+use Rattle.statement_parser.specs.Lines.{R, rule}
+use Rattle.statement_parser.proofs.Readings.{finished, reads, taken, skipped, passed, fails, pass_fails}
 use Rattle.unit_parser.proofs.Rows.{made}
-use Rattle.unit_parser.proofs.StatementReadings.{behind, part_read, part_fails}
+use Rattle.statement_parser.proofs.StatementReadings.{behind, part_read, part_fails}
 use Rattle.unit_parser.proofs.clauses.end.Goals as goal
 
 -- the rule behind the closing brace, and behind the windows

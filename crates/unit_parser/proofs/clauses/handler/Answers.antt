@@ -5,9 +5,9 @@ use Rattle.spl_tree.specs.declared.unit.Handler.{Handler}
 use Rattle.spl_tree.specs.declared.unit.HandledEvent.{HandledEvent}
 use Rattle.spl_tree.specs.Grammar.{placed}
 use Rattle.expr_parser.specs.Rules.{done, call}
-use Rattle.unit_parser.specs.Lines.{Name, R, expect}
-use Rattle.unit_parser.specs.Lines as lines
-use Rattle.unit_parser.proofs.Readings.{finished, reads, passed, name_passed, line_read, fails, pass_fails, name_fails, line_fails}
+use Rattle.statement_parser.specs.Lines.{Name, R, expect}
+use Rattle.statement_parser.specs.Lines as lines
+use Rattle.statement_parser.proofs.Readings.{finished, reads, passed, name_passed, line_read, fails, pass_fails, name_fails, line_fails}
 use Rattle.unit_parser.proofs.clauses.handler.Goals as goal
 
 -- behind the port of the event

@@ -1,7 +1,7 @@
 use Rattle.std.proofs.Common.{subst, arith, []}
 use Rattle.expr_parser.specs.Rules.{Reads}
-use Rattle.unit_parser.specs.Lines as lines
-use Rattle.unit_parser.proofs.Readings.{line_read, last, fails, line_fails}
+use Rattle.statement_parser.specs.Lines as lines
+use Rattle.statement_parser.proofs.Readings.{line_read, last, fails, line_fails}
 use Rattle.unit_parser.proofs.Rows.{reads_shrinks}
 use Rattle.unit_parser.proofs.clauses.handlers.Goals as goal
 

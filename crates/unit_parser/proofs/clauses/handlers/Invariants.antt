@@ -2,7 +2,7 @@ use Rattle.std.proofs.Common.{List, [], length}
 use Rattle.spl_tree.specs.declared.expression.Placed.{Placed}
 use Rattle.spl_tree.specs.declared.unit.Handler.{Handler}
 use Rattle.expr_parser.specs.Rules.{Answer, Reads}
-use Rattle.unit_parser.specs.Lines.{Handlers, rule}
+use Rattle.statement_parser.specs.Lines.{Handlers, rule}
 use Rattle.unit_parser.proofs.clauses.handlers.Given as goal
 
 abbrev pub invariant-handlers : goal.invariant-handlers

@@ -1,6 +1,6 @@
 use Rattle.std.proofs.Common.{[]}
-use Rattle.unit_parser.specs.Lines as lines
-use Rattle.unit_parser.proofs.Readings.{finished, reads, taken, skipped, line_read, fails, line_fails}
+use Rattle.statement_parser.specs.Lines as lines
+use Rattle.statement_parser.proofs.Readings.{finished, reads, taken, skipped, line_read, fails, line_fails}
 use Rattle.unit_parser.proofs.clauses.output.Goals as goal
 
 pub returns-in_default : goal.returns-in_default

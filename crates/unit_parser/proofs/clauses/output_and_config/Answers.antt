@@ -5,9 +5,9 @@ use Rattle.spl_tree.specs.declared.symbol.Symbol.TheVariants as S
 use Rattle.spl_tree.specs.declared.unit.OutputAssignments.{OutputAssignments}
 use Rattle.spl_tree.specs.declared.unit.Parameter.{Parameter}
 use Rattle.expr_parser.specs.Rules.{done, call}
-use Rattle.unit_parser.proofs.Readings.{finished, passed, line_read, rule_fails, pass_fails, line_fails}
+use Rattle.statement_parser.proofs.Readings.{finished, passed, line_read, rule_fails, pass_fails, line_fails}
 use Rattle.unit_parser.specs.GivesParts.{output_and_config}
-use Rattle.unit_parser.specs.Lines.{R, ParameterClause, OutputClause, expect}
+use Rattle.statement_parser.specs.Lines.{R, ParameterClause, OutputClause, expect}
 use Rattle.unit_parser.proofs.clauses.output_and_config.Goals as goal
 
 -- the rule behind `config`, and behind `output`

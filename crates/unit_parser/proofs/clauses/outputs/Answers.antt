@@ -3,9 +3,9 @@ use Rattle.spl_tree.specs.declared.symbol.Symbol.TheVariants as S
 use Rattle.spl_tree.specs.declared.unit.OutputAssignments.{OutputAssignments}
 use Rattle.expr_parser.specs.Lines.{is_name}
 use Rattle.expr_parser.specs.Rules.{done, call, Took, Reads}
-use Rattle.unit_parser.specs.Lines.{Name, R, expect, name_at}
-use Rattle.unit_parser.specs.Lines as lines
-use Rattle.unit_parser.proofs.Readings.{finished, reads, skipped, passed, taken_as, line_read, last, fails, pass_fails, line_fails}
+use Rattle.statement_parser.specs.Lines.{Name, R, expect, name_at}
+use Rattle.statement_parser.specs.Lines as lines
+use Rattle.statement_parser.proofs.Readings.{finished, reads, skipped, passed, taken_as, line_read, last, fails, pass_fails, line_fails}
 use Rattle.unit_parser.proofs.Rows.{reads_shrinks, taken_shrinks, taken_as_shrinks, none_says}
 use Rattle.unit_parser.proofs.clauses.outputs.Goals as goal
 

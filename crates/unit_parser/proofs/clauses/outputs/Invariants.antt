@@ -1,7 +1,7 @@
 use Rattle.std.proofs.Common.{List, [], length}
 use Rattle.spl_tree.specs.declared.unit.OutputAssignments.{OutputAssignments}
 use Rattle.expr_parser.specs.Rules.{Answer, Reads}
-use Rattle.unit_parser.specs.Lines.{Outputs, rule}
+use Rattle.statement_parser.specs.Lines.{Outputs, rule}
 use Rattle.unit_parser.proofs.clauses.outputs.Given as goal
 
 abbrev pub invariant-outputs : goal.invariant-outputs

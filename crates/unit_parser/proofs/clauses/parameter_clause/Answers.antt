@@ -1,6 +1,6 @@
 use Rattle.std.proofs.Common.{[]}
-use Rattle.unit_parser.specs.Lines as lines
-use Rattle.unit_parser.proofs.Readings.{reads, taken, skipped}
+use Rattle.statement_parser.specs.Lines as lines
+use Rattle.statement_parser.proofs.Readings.{reads, taken, skipped}
 use Rattle.unit_parser.proofs.Rows.{made, goes_as, comes_last}
 use Rattle.unit_parser.proofs.clauses.parameter_clause.Goals as goal
 

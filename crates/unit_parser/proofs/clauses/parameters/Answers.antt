@@ -4,9 +4,9 @@ use Rattle.spl_tree.specs.declared.unit.Parameter.{Parameter}
 use Rattle.expr_parser.specs.Lines.{is_name}
 use Rattle.expr_parser.specs.Lines as expressions
 use Rattle.expr_parser.specs.Rules.{done, call, Took, Reads}
-use Rattle.unit_parser.specs.Lines.{Name, R, expect, name_at}
-use Rattle.unit_parser.specs.Lines as lines
-use Rattle.unit_parser.proofs.Readings.{finished, reads, skipped, passed, taken_as, expression_read, last, fails, pass_fails, expression_fails}
+use Rattle.statement_parser.specs.Lines.{Name, R, expect, name_at}
+use Rattle.statement_parser.specs.Lines as lines
+use Rattle.statement_parser.proofs.Readings.{finished, reads, skipped, passed, taken_as, expression_read, last, fails, pass_fails, expression_fails}
 use Rattle.unit_parser.proofs.Rows.{reads_shrinks, taken_shrinks, taken_as_shrinks, none_says}
 use Rattle.unit_parser.proofs.clauses.parameters.Goals as goal
 

@@ -1,7 +1,7 @@
 use Rattle.std.proofs.Common.{List, [], length}
 use Rattle.spl_tree.specs.declared.unit.Parameter.{Parameter}
 use Rattle.expr_parser.specs.Rules.{Answer, Reads}
-use Rattle.unit_parser.specs.Lines.{Parameters, rule}
+use Rattle.statement_parser.specs.Lines.{Parameters, rule}
 use Rattle.unit_parser.proofs.clauses.parameters.Given as goal
 
 abbrev pub invariant-parameters : goal.invariant-parameters

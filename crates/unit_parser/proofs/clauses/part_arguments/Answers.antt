@@ -1,5 +1,5 @@
-use Rattle.unit_parser.proofs.Readings.{finished, reads, taken, skipped, expression_read, fails, expression_fails}
-use Rattle.unit_parser.specs.Lines as lines
+use Rattle.statement_parser.proofs.Readings.{finished, reads, taken, skipped, expression_read, fails, expression_fails}
+use Rattle.statement_parser.specs.Lines as lines
 use Rattle.unit_parser.proofs.clauses.part_arguments.Goals as goal
 
 pub returns-in_default : goal.returns-in_default

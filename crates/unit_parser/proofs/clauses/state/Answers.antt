@@ -1,7 +1,7 @@
 use Rattle.std.proofs.Common.{ap, [], ◌∷◌, ◌++◌, ◌∙◌}
 use Rattle.spl_tree.specs.declared.symbol.Symbol.TheVariants as S
-use Rattle.unit_parser.specs.Lines as lines
-use Rattle.unit_parser.proofs.Readings.{reads, taken, skipped, passed, line_read, fails, pass_fails, line_fails}
+use Rattle.statement_parser.specs.Lines as lines
+use Rattle.statement_parser.proofs.Readings.{reads, taken, skipped, passed, line_read, fails, pass_fails, line_fails}
 use Rattle.unit_parser.proofs.Rows.{made, goes_as, comes_last}
 use Rattle.unit_parser.proofs.clauses.state.Goals as goal
 

@@ -1,7 +1,7 @@
 use Rattle.std.proofs.Common.{List, [], length}
 use Rattle.spl_tree.specs.declared.unit.WindowPart.{WindowPart}
 use Rattle.expr_parser.specs.Rules.{Answer, Reads}
-use Rattle.unit_parser.specs.Lines.{WindowParts, rule}
+use Rattle.statement_parser.specs.Lines.{WindowParts, rule}
 use Rattle.unit_parser.proofs.clauses.window_parts.Given as goal
 
 abbrev pub invariant-parts : goal.invariant-parts

@@ -1,7 +1,7 @@
 use Rattle.std.proofs.Common.{List, [], length}
 use Rattle.spl_tree.specs.declared.unit.PortWindow.{PortWindow}
 use Rattle.expr_parser.specs.Rules.{Answer, Reads}
-use Rattle.unit_parser.specs.Lines.{Windows, rule}
+use Rattle.statement_parser.specs.Lines.{Windows, rule}
 use Rattle.unit_parser.proofs.clauses.windows.Given as goal
 
 abbrev pub invariant-windows : goal.invariant-windows

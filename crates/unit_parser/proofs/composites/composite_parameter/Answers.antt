@@ -2,9 +2,9 @@ use Rattle.spl_tree.specs.declared.symbol.Symbol.TheVariants as S
 use Rattle.spl_tree.specs.declared.unit.CompositeParameter.{CompositeParameter}
 use Rattle.spl_tree.specs.TypeGrammar.{TypeExpr}
 use Rattle.expr_parser.specs.Rules.{done, stop, look, call, RunsTo, Reads}
-use Rattle.unit_parser.proofs.Readings.{passed, dollar_passed, line_read, last, says_on, rule_fails, pass_fails, dollar_fails, line_fails}
+use Rattle.statement_parser.proofs.Readings.{passed, dollar_passed, line_read, last, says_on, rule_fails, pass_fails, dollar_fails, line_fails}
 use Rattle.unit_parser.specs.GivesParts.{composite_parameter}
-use Rattle.unit_parser.specs.Lines.{Name, R, TypeExpression, Default, expect, is_dollar, dollar_at, rule}
+use Rattle.statement_parser.specs.Lines.{Name, R, TypeExpression, Default, expect, is_dollar, dollar_at, rule}
 use Rattle.unit_parser.proofs.composites.composite_parameter.Goals as goal
 
 -- the rule behind the name, and behind the type

@@ -1,7 +1,7 @@
 use Rattle.spl_tree.specs.declared.symbol.Symbol.TheVariants as S
 use Rattle.expr_parser.specs.Lines as expressions
-use Rattle.unit_parser.proofs.Readings.{finished, reads, taken, skipped, passed, expression_read, fails, pass_fails, expression_fails}
-use Rattle.unit_parser.specs.Lines as lines
+use Rattle.statement_parser.proofs.Readings.{finished, reads, taken, skipped, passed, expression_read, fails, pass_fails, expression_fails}
+use Rattle.statement_parser.specs.Lines as lines
 use Rattle.unit_parser.proofs.composites.defaulted.Goals as goal
 
 pub returns-in_err-behind : goal.returns-in_err-behind

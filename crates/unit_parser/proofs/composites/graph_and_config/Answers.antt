@@ -4,9 +4,9 @@ use Rattle.spl_tree.specs.declared.keyword.Keyword.TheVariants as K
 use Rattle.spl_tree.specs.declared.symbol.Symbol.TheVariants as S
 use Rattle.spl_tree.specs.declared.unit.Invocation.{Invocation}
 use Rattle.spl_tree.specs.declared.unit.Parameter.{Parameter}
-use Rattle.unit_parser.proofs.Readings.{finished, passed, line_read, rule_fails, pass_fails, line_fails}
+use Rattle.statement_parser.proofs.Readings.{finished, passed, line_read, rule_fails, pass_fails, line_fails}
 use Rattle.unit_parser.specs.GivesParts.{graph_and_config}
-use Rattle.unit_parser.specs.Lines.{R, GraphClause, ParameterClause, expect}
+use Rattle.statement_parser.specs.Lines.{R, GraphClause, ParameterClause, expect}
 use Rattle.unit_parser.proofs.composites.graph_and_config.Goals as goal
 
 -- the rule behind `config`, and behind the graph

@@ -1,7 +1,7 @@
 use Rattle.std.proofs.Common.{[], sym, subst}
 use Rattle.expr_parser.specs.Rules.{Took, Reads}
-use Rattle.unit_parser.proofs.Readings.{finished, reads, taken, skipped, last, says_on}
-use Rattle.unit_parser.specs.Lines as lines
+use Rattle.statement_parser.proofs.Readings.{finished, reads, taken, skipped, last, says_on}
+use Rattle.statement_parser.specs.Lines as lines
 use Rattle.unit_parser.proofs.composites.graph_clause.Goals as goal
 
 pub returns-in-Some : goal.returns-in-Some

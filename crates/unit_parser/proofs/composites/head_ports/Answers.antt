@@ -1,10 +1,10 @@
 use Rattle.std.proofs.Common.{[], sym, subst}
 use Rattle.spl_tree.specs.declared.keyword.Keyword.TheVariants as K
 use Rattle.expr_parser.specs.Rules.{Took, Reads}
-use Rattle.unit_parser.proofs.Readings.{finished, reads, taken, skipped, word_passed, line_read, fails, word_fails, line_fails}
+use Rattle.statement_parser.proofs.Readings.{finished, reads, taken, skipped, word_passed, line_read, fails, word_fails, line_fails}
 use Rattle.unit_parser.proofs.CompositeReadings.{bound, runs_bound, bound_fails}
 use Rattle.unit_parser.specs.GivesComposites.{other_ports_rule}
-use Rattle.unit_parser.specs.Lines as lines
+use Rattle.statement_parser.specs.Lines as lines
 use Rattle.unit_parser.proofs.CompositeReadings.{outputs_first, inputs_first}
 use Rattle.unit_parser.proofs.composites.head_ports.Goals as goal
 

@@ -1,8 +1,8 @@
 use Rattle.std.proofs.Common.{Some, None}
 use Rattle.spl_tree.specs.declared.symbol.Symbol.TheVariants as S
-use Rattle.unit_parser.proofs.Readings.{finished, reads, taken, skipped, passed, name_passed, line_read, fails, pass_fails, name_fails, line_fails}
+use Rattle.statement_parser.proofs.Readings.{finished, reads, taken, skipped, passed, name_passed, line_read, fails, pass_fails, name_fails, line_fails}
 use Rattle.unit_parser.proofs.CompositeReadings.{port_named}
-use Rattle.unit_parser.specs.Lines as lines
+use Rattle.statement_parser.specs.Lines as lines
 use Rattle.unit_parser.proofs.composites.port.Goals as goal
 
 pub returns-in_err-name : goal.returns-in_err-name

@@ -1,8 +1,8 @@
 use Rattle.std.proofs.Common.{[], ◌∷◌, ◌++◌, sym, subst, arith}
 use Rattle.expr_parser.specs.Rules.{done, Took, RunsTo, Reads}
-use Rattle.unit_parser.proofs.Readings.{finished, reads, taken, skipped, line_read, last, fails, line_fails}
+use Rattle.statement_parser.proofs.Readings.{finished, reads, taken, skipped, line_read, last, fails, line_fails}
 use Rattle.unit_parser.proofs.CompositeReadings.{reads_shrinks, taken_shrinks}
-use Rattle.unit_parser.specs.Lines as lines
+use Rattle.statement_parser.specs.Lines as lines
 use Rattle.unit_parser.proofs.composites.ports.Goals as goal
 
 pub returns-in_err-one : goal.returns-in_err-one

@@ -1,7 +1,7 @@
 use Rattle.std.proofs.Common.{List, [], length}
 use Rattle.spl_tree.specs.declared.unit.HeadPort.{HeadPort}
 use Rattle.expr_parser.specs.Rules.{Answer, Reads}
-use Rattle.unit_parser.specs.Lines.{Ports, rule}
+use Rattle.statement_parser.specs.Lines.{Ports, rule}
 use Rattle.unit_parser.proofs.composites.ports.Given as goal
 
 abbrev pub invariant-ports : goal.invariant-ports

@@ -1,7 +1,7 @@
 use Rattle.spl_tree.specs.declared.symbol.Symbol.TheVariants as S
-use Rattle.unit_parser.proofs.Readings.{finished, reads, passed, name_passed, line_read, fails, pass_fails, name_fails, line_fails}
+use Rattle.statement_parser.proofs.Readings.{finished, reads, passed, name_passed, line_read, fails, pass_fails, name_fails, line_fails}
 use Rattle.unit_parser.proofs.CompositeReadings.{type_named}
-use Rattle.unit_parser.specs.Lines as lines
+use Rattle.statement_parser.specs.Lines as lines
 use Rattle.unit_parser.proofs.composites.type_definition.Goals as goal
 
 pub returns-in_err-name : goal.returns-in_err-name

@@ -1,8 +1,8 @@
 use Rattle.std.proofs.Common.{[], subst}
 use Rattle.expr_parser.specs.Rules.{Took, Reads}
-use Rattle.unit_parser.proofs.Readings.{finished, reads, skipped, fails}
+use Rattle.statement_parser.proofs.Readings.{finished, reads, skipped, fails}
 use Rattle.unit_parser.proofs.CompositeReadings.{bound, bound_fails, rule_comes, one_more}
-use Rattle.unit_parser.specs.Lines as lines
+use Rattle.statement_parser.specs.Lines as lines
 use Rattle.unit_parser.proofs.CompositeReadings.{more_types, taken_begins, type_shrinks, type_read}
 use Rattle.unit_parser.proofs.composites.types.Goals as goal
 

@@ -1,7 +1,7 @@
 use Rattle.std.proofs.Common.{List, [], length}
 use Rattle.spl_tree.specs.declared.unit.TypeDefinition.{TypeDefinition}
 use Rattle.expr_parser.specs.Rules.{Answer, Reads}
-use Rattle.unit_parser.specs.Lines.{Types, rule}
+use Rattle.statement_parser.specs.Lines.{Types, rule}
 use Rattle.unit_parser.proofs.composites.types.Given as goal
 
 abbrev pub invariant-types : goal.invariant-types

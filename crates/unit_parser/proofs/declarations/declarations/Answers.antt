@@ -1,8 +1,8 @@
 use Rattle.std.proofs.Common.{[], ◌∷◌, ◌++◌, subst, arith}
 use Rattle.expr_parser.specs.Rules.{call, done, Took, Reads}
-use Rattle.unit_parser.proofs.Readings.{finished, reads, taken, skipped, line_read, last, fails, line_fails}
+use Rattle.statement_parser.proofs.Readings.{finished, reads, taken, skipped, line_read, last, fails, line_fails}
 use Rattle.unit_parser.proofs.DeclarationReadings.{declaration_shrinks}
-use Rattle.unit_parser.specs.Lines.{Declare, Declarations, rule}
+use Rattle.statement_parser.specs.Lines.{Declare, Declarations, rule}
 use Rattle.unit_parser.proofs.declarations.declarations.Goals as goal
 
 pub returns-in-Some : goal.returns-in-Some

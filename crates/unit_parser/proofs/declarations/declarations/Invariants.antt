@@ -1,7 +1,7 @@
 use Rattle.std.proofs.Common.{List, [], length}
 use Rattle.spl_tree.specs.declared.statement.Declaration.{Declaration}
 use Rattle.expr_parser.specs.Rules.{Answer, Reads}
-use Rattle.unit_parser.specs.Lines.{Declarations, rule}
+use Rattle.statement_parser.specs.Lines.{Declarations, rule}
 use Rattle.unit_parser.proofs.declarations.declarations.Given as goal
 
 abbrev pub invariant-declarations : goal.invariant-declarations

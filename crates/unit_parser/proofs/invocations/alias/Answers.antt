@@ -1,7 +1,7 @@
 use Rattle.std.specs.Prelude.{Some}
 use Rattle.expr_parser.specs.Rules.{done}
-use Rattle.unit_parser.proofs.Readings.{finished, reads, taken, skipped, name_passed, fails, name_fails}
-use Rattle.unit_parser.specs.Lines as lines
+use Rattle.statement_parser.proofs.Readings.{finished, reads, taken, skipped, name_passed, fails, name_fails}
+use Rattle.statement_parser.specs.Lines as lines
 use Rattle.unit_parser.proofs.invocations.alias.Goals as goal
 
 pub returns-in_default : goal.returns-in_default

@@ -4,10 +4,10 @@ use Rattle.expr_parser.specs.declared.stop.Stop.{Stop}
 use Rattle.spl_tree.specs.declared.token.Token.{Token}
 use Rattle.spl_tree.specs.declared.unit.Invocation.{Invocation}
 use Rattle.expr_parser.specs.Rules.{Took, Reads}
-use Rattle.unit_parser.specs.Gives.{Gives}
+use Rattle.statement_parser.specs.Gives.{Gives}
 use Rattle.unit_parser.specs.GivesClauses.{InvocationFound, InvocationsOn}
-use Rattle.unit_parser.specs.Lines as lines
-use Rattle.unit_parser.proofs.Readings.{says_on}
+use Rattle.statement_parser.specs.Lines as lines
+use Rattle.statement_parser.proofs.Readings.{says_on}
 use Rattle.unit_parser.proofs.Rows.{handed_on}
 use Rattle.unit_parser.proofs.invocations.graph.Goals as goal
 

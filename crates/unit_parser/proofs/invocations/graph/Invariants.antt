@@ -1,7 +1,7 @@
 use Rattle.std.proofs.Common.{List, [], length}
 use Rattle.spl_tree.specs.declared.unit.Invocation.{Invocation}
 use Rattle.expr_parser.specs.Rules.{Answer, Reads}
-use Rattle.unit_parser.specs.Lines.{Graph, rule}
+use Rattle.statement_parser.specs.Lines.{Graph, rule}
 use Rattle.unit_parser.proofs.invocations.graph.Given as goal
 
 abbrev pub invariant-invocations : goal.invariant-invocations

@@ -2,9 +2,9 @@ use Rattle.std.proofs.Common.{List, subst, arith, [], ◌∷◌, ◌++◌}
 use Rattle.spl_tree.specs.declared.symbol.Symbol.TheVariants as S
 use Rattle.expr_parser.specs.Lines as expressions
 use Rattle.expr_parser.specs.Rules.{done, look, call, Took, Reads}
-use Rattle.unit_parser.specs.Lines.{Name, R}
-use Rattle.unit_parser.specs.Lines as lines
-use Rattle.unit_parser.proofs.Readings.{reads, taken, skipped, name_passed, last, fails, name_fails}
+use Rattle.statement_parser.specs.Lines.{Name, R}
+use Rattle.statement_parser.specs.Lines as lines
+use Rattle.statement_parser.proofs.Readings.{reads, taken, skipped, name_passed, last, fails, name_fails}
 use Rattle.unit_parser.proofs.Rows.{taken_shrinks, taken_as_shrinks, made}
 use Rattle.unit_parser.proofs.invocations.input_streams.Goals as goal
 

@@ -1,6 +1,6 @@
 use Rattle.std.proofs.Common.{List, [], length}
 use Rattle.expr_parser.specs.Rules.{Answer, Reads}
-use Rattle.unit_parser.specs.Lines.{InputStreams, Name, rule}
+use Rattle.statement_parser.specs.Lines.{InputStreams, Name, rule}
 use Rattle.unit_parser.proofs.invocations.input_streams.Given as goal
 
 abbrev pub invariant-streams : goal.invariant-streams

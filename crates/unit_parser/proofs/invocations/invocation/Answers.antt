@@ -6,11 +6,11 @@ use Rattle.spl_tree.specs.declared.unit.Invocation.{Invocation}
 use Rattle.spl_tree.specs.declared.unit.OutputStream.{OutputStream}
 use Rattle.std.specs.Prelude.{Option}
 use Rattle.expr_parser.specs.Rules.{done, call, Answer, Refused, Reads, RunsTo}
-use Rattle.unit_parser.specs.Gives.{Comes}
+use Rattle.statement_parser.specs.Gives.{Comes}
 use Rattle.unit_parser.specs.GivesClauses.{InvocationsOn}
-use Rattle.unit_parser.specs.Lines.{Name, R}
-use Rattle.unit_parser.specs.Lines as lines
-use Rattle.unit_parser.proofs.Readings.{finished, reads, taken, skipped, line_read, last, line_fails}
+use Rattle.statement_parser.specs.Lines.{Name, R}
+use Rattle.statement_parser.specs.Lines as lines
+use Rattle.statement_parser.proofs.Readings.{finished, reads, taken, skipped, line_read, last, line_fails}
 use Rattle.unit_parser.proofs.Rows.{reads_shrinks, taken_shrinks, handed_on}
 use Rattle.unit_parser.proofs.invocations.invocation.Goals as goal
 

@@ -3,9 +3,9 @@ use Rattle.spl_tree.specs.declared.keyword.Keyword.TheVariants as K
 use Rattle.spl_tree.specs.declared.unit.OutputStream.{OutputStream}
 use Rattle.std.specs.Prelude.{Option}
 use Rattle.expr_parser.specs.Rules.{done}
-use Rattle.unit_parser.specs.Lines.{Name, R}
-use Rattle.unit_parser.specs.Lines as lines
-use Rattle.unit_parser.proofs.Readings.{finished, reads, taken, skipped, word_passed, name_passed, line_read, fails, word_fails, name_fails, line_fails}
+use Rattle.statement_parser.specs.Lines.{Name, R}
+use Rattle.statement_parser.specs.Lines as lines
+use Rattle.statement_parser.proofs.Readings.{finished, reads, taken, skipped, word_passed, name_passed, line_read, fails, word_fails, name_fails, line_fails}
 use Rattle.unit_parser.proofs.Rows.{made}
 use Rattle.unit_parser.proofs.invocations.list_head.Goals as goal
 

@@ -1,7 +1,7 @@
 use Rattle.std.proofs.Common.{List, [], length}
 use Rattle.spl_tree.specs.declared.unit.InputPort.{InputPort}
 use Rattle.expr_parser.specs.Rules.{Answer, Reads}
-use Rattle.unit_parser.specs.Lines.{MoreInputs, rule}
+use Rattle.statement_parser.specs.Lines.{MoreInputs, rule}
 use Rattle.unit_parser.proofs.invocations.more_inputs.Given as goal
 
 abbrev pub invariant-inputs : goal.invariant-inputs

@@ -3,8 +3,8 @@ use Rattle.spl_tree.specs.declared.symbol.Symbol.TheVariants as S
 use Rattle.spl_tree.specs.declared.unit.InputPort.{InputPort}
 use Rattle.expr_parser.specs.Rules.{done, call}
 use Rattle.unit_parser.specs.GivesParts.{operator_and_inputs}
-use Rattle.unit_parser.specs.Lines.{Name, R, Inputs, expect, expect_name}
-use Rattle.unit_parser.proofs.Readings.{finished, passed, name_passed, line_read, rule_fails, pass_fails, name_fails, line_fails}
+use Rattle.statement_parser.specs.Lines.{Name, R, Inputs, expect, expect_name}
+use Rattle.statement_parser.proofs.Readings.{finished, passed, name_passed, line_read, rule_fails, pass_fails, name_fails, line_fails}
 use Rattle.unit_parser.proofs.invocations.operator_and_inputs.Goals as goal
 
 -- the rule behind the parenthesis, and behind the name

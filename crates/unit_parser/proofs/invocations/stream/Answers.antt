@@ -2,9 +2,9 @@ use Rattle.spl_tree.specs.declared.symbol.Symbol.TheVariants as S
 use Rattle.spl_tree.specs.declared.unit.OutputStream.{OutputStream}
 use Rattle.spl_tree.specs.TypeGrammar.{Shape}
 use Rattle.expr_parser.specs.Rules.{done}
-use Rattle.unit_parser.specs.Lines.{Name, R}
-use Rattle.unit_parser.specs.Lines as lines
-use Rattle.unit_parser.proofs.Readings.{finished, reads, passed, name_passed, line_read, fails, pass_fails, name_fails, line_fails}
+use Rattle.statement_parser.specs.Lines.{Name, R}
+use Rattle.statement_parser.specs.Lines as lines
+use Rattle.statement_parser.proofs.Readings.{finished, reads, passed, name_passed, line_read, fails, pass_fails, name_fails, line_fails}
 use Rattle.unit_parser.proofs.invocations.stream.Goals as goal
 
 -- behind the shape of a stream

@@ -1,6 +1,6 @@
 use Rattle.std.proofs.Common.{ap, [], ◌∷◌, ◌++◌, ◌∙◌}
-use Rattle.unit_parser.specs.Lines as lines
-use Rattle.unit_parser.proofs.Readings.{reads, line_read, fails, line_fails}
+use Rattle.statement_parser.specs.Lines as lines
+use Rattle.statement_parser.proofs.Readings.{reads, line_read, fails, line_fails}
 use Rattle.unit_parser.proofs.Rows.{made}
 use Rattle.unit_parser.proofs.invocations.stream_head.Goals as goal
 

@@ -2,8 +2,8 @@ use Rattle.std.proofs.Common.{subst, arith, []}
 use Rattle.spl_tree.specs.declared.keyword.Keyword.TheVariants as K
 use Rattle.spl_tree.specs.declared.symbol.Symbol.TheVariants as S
 use Rattle.expr_parser.specs.Rules.{Took, Reads}
-use Rattle.unit_parser.specs.Lines as lines
-use Rattle.unit_parser.proofs.Readings.{reads, taken, skipped, passed, word_passed, line_read, last, fails, pass_fails, word_fails, line_fails}
+use Rattle.statement_parser.specs.Lines as lines
+use Rattle.statement_parser.proofs.Readings.{reads, taken, skipped, passed, word_passed, line_read, last, fails, pass_fails, word_fails, line_fails}
 use Rattle.unit_parser.proofs.Rows.{reads_shrinks, taken_shrinks, made}
 use Rattle.unit_parser.proofs.invocations.streams.Goals as goal
 

@@ -1,7 +1,7 @@
 use Rattle.std.proofs.Common.{List, [], length}
 use Rattle.spl_tree.specs.declared.unit.OutputStream.{OutputStream}
 use Rattle.expr_parser.specs.Rules.{Answer, Reads}
-use Rattle.unit_parser.specs.Lines.{Streams, rule}
+use Rattle.statement_parser.specs.Lines.{Streams, rule}
 use Rattle.unit_parser.proofs.invocations.streams.Given as goal
 
 abbrev pub invariant-streams : goal.invariant-streams

@@ -1,9 +1,10 @@
 use Rattle.std.proofs.Common.{◌∙◌, Some, None, sym, arith}
 use Rattle.spl_tree.specs.declared.keyword.Keyword.TheVariants as K
-use Rattle.unit_parser.proofs.Readings.{reads, taken, skipped, word_passed, line_read, last, word_fails, line_fails}
+use Rattle.statement_parser.proofs.Readings.{reads, taken, skipped, word_passed, line_read, last, word_fails, line_fails}
 use Rattle.unit_parser.proofs.CompositeReadings.{reads_shrinks, taken_shrinks, bound, bound_fails, rule_comes}
-use Rattle.unit_parser.proofs.DefinitionReadings.{type_behind, composite_behind, function_behind, define_fails, function_shrinks, NoWord, no_more, typed, typed_read}
-use Rattle.unit_parser.specs.Lines as lines
+use Rattle.unit_parser.proofs.DefinitionReadings.{type_behind, define_fails, defines, NoWord, no_more, typed, typed_read}
+use Rattle.unit_parser.specs.GivesComposites.{composite_behind, function_behind}
+use Rattle.statement_parser.specs.Lines as lines
 use Rattle.unit_parser.proofs.units.definition.Goals as goal
 
 pub returns-in_err-one : goal.returns-in_err-one
@@ -27,47 +28,29 @@ returns-in_err-behind c =
     (λ xs o q. reads (skipped c.in_default.ensures (taken c.in-Some-word_first.ensures q)))
     (λ xs. word_fails _ K.Composite _ _ c.in_err-behind.ensures)
 
-pub returns-in_err-one-2 : goal.returns-in_err-one-2
-unfolding lines.rule
-returns-in_err-one-2 c =
-    define_fails c.args.ts.now c.in_ok-behind.behind.now composite_behind c.from_residual-in_err-one-2.result c.in_err-one-2.field-0.0 c.from_residual-in_err-one-2.ensures.1
-    (λ xs o q. reads (skipped c.in_default.ensures (taken c.in-Some-word_first.ensures (word_passed K.Composite c.in_ok-behind.ensures q))))
-    (λ xs. line_fails _ lines.CompositeOf _ _ c.in_err-one-2.ensures)
-
 pub returns-in-Some-word_first : goal.returns-in-Some-word_first
 unfolding lines.rule
-returns-in-Some-word_first c = (
-  (let one = taken_shrinks c.in-Some-word_first.ensures in let two = taken_shrinks c.in_ok-behind.ensures.1 in let three = reads_shrinks c.in_ok-one-2.ensures in omega arith),
-  λ xs o r. reads (skipped c.in_default.ensures (taken c.in-Some-word_first.ensures (word_passed K.Composite c.in_ok-behind.ensures (line_read c.in_ok-one-2.ensures (last r))))),
-)
-
-pub returns-in_err-one-3 : goal.returns-in_err-one-3
-unfolding lines.rule
-returns-in_err-one-3 c =
-    define_fails c.args.ts.now c.in-Some-word_first-2.behind.now composite_behind c.from_residual-in_err-one-3.result c.in_err-one-3.field-0.0 c.from_residual-in_err-one-3.ensures.1
-    (λ xs o q. reads (skipped c.in_default.ensures (skipped c.in_default-word_first.ensures (taken c.in-Some-word_first-2.ensures q))))
-    (λ xs. line_fails _ lines.CompositeOf _ _ c.in_err-one-3.ensures)
+returns-in-Some-word_first c =
+    defines c.args.ts.now c.in_ok-behind.behind.now composite_behind c.composite_defined.result
+    (let one = taken_shrinks c.in-Some-word_first.ensures in let two = taken_shrinks c.in_ok-behind.ensures.1 in omega arith)
+    (λ xs o q. reads (skipped c.in_default.ensures (taken c.in-Some-word_first.ensures (word_passed K.Composite c.in_ok-behind.ensures q))))
+    c.composite_defined.ensures
 
 pub returns-in-Some-word_first-2 : goal.returns-in-Some-word_first-2
 unfolding lines.rule
-returns-in-Some-word_first-2 c = (
-  (let one = taken_shrinks c.in-Some-word_first-2.ensures in let two = reads_shrinks c.in_ok-one-3.ensures in omega arith),
-  λ xs o r. reads (skipped c.in_default.ensures (skipped c.in_default-word_first.ensures (taken c.in-Some-word_first-2.ensures (line_read c.in_ok-one-3.ensures (last r))))),
-)
-
-pub returns-in_err-one-4 : goal.returns-in_err-one-4
-unfolding lines.rule
-returns-in_err-one-4 c =
-    define_fails c.args.ts.now c.in-Some-word_first-3.behind.now (function_behind None) c.from_residual-in_err-one-4.result c.in_err-one-4.field-0.0 c.from_residual-in_err-one-4.ensures.1
-    (λ xs o q. reads (skipped c.in_default.ensures (skipped c.in_default-word_first.ensures (skipped c.in_default-word_first-2.ensures (taken c.in-Some-word_first-3.ensures q)))))
-    (λ xs. line_fails _ (lines.FunctionOf None) _ _ c.in_err-one-4.ensures)
+returns-in-Some-word_first-2 c =
+    defines c.args.ts.now c.in-Some-word_first-2.behind.now composite_behind c.composite_defined-in-Some-word_first-2.result
+    (let one = taken_shrinks c.in-Some-word_first-2.ensures in omega arith)
+    (λ xs o q. reads (skipped c.in_default.ensures (skipped c.in_default-word_first.ensures (taken c.in-Some-word_first-2.ensures q))))
+    c.composite_defined-in-Some-word_first-2.ensures
 
 pub returns-in-Some-word_first-3 : goal.returns-in-Some-word_first-3
 unfolding lines.rule
-returns-in-Some-word_first-3 c = (
-  (let one = taken_shrinks c.in-Some-word_first-3.ensures in let two = reads_shrinks c.in_ok-one-4.ensures in omega arith),
-  λ xs o r. reads (skipped c.in_default.ensures (skipped c.in_default-word_first.ensures (skipped c.in_default-word_first-2.ensures (taken c.in-Some-word_first-3.ensures (line_read c.in_ok-one-4.ensures (last r)))))),
-)
+returns-in-Some-word_first-3 c =
+    defines c.args.ts.now c.in-Some-word_first-3.behind.now (function_behind None) c.function_defined.result
+    (let one = taken_shrinks c.in-Some-word_first-3.ensures in omega arith)
+    (λ xs o q. reads (skipped c.in_default.ensures (skipped c.in_default-word_first.ensures (skipped c.in_default-word_first-2.ensures (taken c.in-Some-word_first-3.ensures q)))))
+    c.function_defined.ensures
 
 pub returns-then-not-type_begins : goal.returns-then-not-type_begins
 returns-then-not-type_begins c =
@@ -91,18 +74,6 @@ returns-in_err-kind c =
     (λ xs. typed none xs (sym c.type_begins.ensures ∙ c.if-not-type_begins.false))
     (λ xs. bound_fails (λ k. function_behind (Some k) xs) (lines.rule lines.TypeExpression) _ _ (rule_comes lines.TypeExpression _ _ c.in_err-kind.ensures))
 
-pub returns-in_err-one-5 : goal.returns-in_err-one-5
-returns-in_err-one-5 c =
-    let none : NoWord c.args.ts.now = record {
-      no_type = c.in_default.ensures;
-      no_public = c.in_default-word_first.ensures;
-      no_composite = c.in_default-word_first-2.ensures;
-      no_void = c.in_default-word_first-3.ensures;
-    } in
-    define_fails c.args.ts.now c.in_ok-kind.behind.now (function_behind (Some c.in_ok-kind.kind)) c.from_residual-in_err-one-5.result c.in_err-one-5.field-0.0 c.from_residual-in_err-one-5.ensures.1
-    (λ xs. typed_read none xs (sym c.type_begins.ensures ∙ c.if-not-type_begins.false) c.in_ok-kind.ensures)
-    (λ xs. line_fails _ (lines.FunctionOf (Some c.in_ok-kind.kind)) _ _ c.in_err-one-5.ensures)
-
 pub returns : goal.returns
 returns c =
     let none : NoWord c.args.ts.now = record {
@@ -110,7 +81,8 @@ returns c =
       no_public = c.in_default-word_first.ensures;
       no_composite = c.in_default-word_first-2.ensures;
       no_void = c.in_default-word_first-3.ensures;
-    } in (
-      (let one = reads_shrinks c.in_ok-kind.ensures in let two = function_shrinks c.in_ok-one-5.ensures in omega arith),
-      λ xs o r. typed_read none xs (sym c.type_begins.ensures ∙ c.if-not-type_begins.false) c.in_ok-kind.ensures o (line_read c.in_ok-one-5.ensures (last r)),
-    )
+    } in
+    defines c.args.ts.now c.in_ok-kind.behind.now (function_behind (Some c.in_ok-kind.kind)) c.function_defined-2.result
+    (reads_shrinks c.in_ok-kind.ensures)
+    (λ xs. typed_read none xs (sym c.type_begins.ensures ∙ c.if-not-type_begins.false) c.in_ok-kind.ensures)
+    c.function_defined-2.ensures

@@ -1,7 +1,7 @@
 use Rattle.std.proofs.Common.{List, [], length}
 use Rattle.spl_tree.specs.declared.unit.Definition.{Definition}
 use Rattle.expr_parser.specs.Rules.{Answer, Reads}
-use Rattle.unit_parser.specs.Lines.{Definitions, rule}
+use Rattle.statement_parser.specs.Lines.{Definitions, rule}
 use Rattle.unit_parser.proofs.units.definitions.Given as goal
 
 abbrev pub invariant-definitions : goal.invariant-definitions

@@ -3,11 +3,11 @@ use Rattle.expr_parser.specs.Rules.{done, call}
 use Rattle.spl_tree.specs.declared.shape.Attribute.{Attribute}
 use Rattle.spl_tree.specs.declared.unit.FunctionDefinition.{FunctionDefinition}
 use Rattle.spl_tree.specs.TypeGrammar.{TypeExpr}
-use Rattle.unit_parser.proofs.Readings.{finished, reads, line_read, fails, line_fails}
-use Rattle.unit_parser.proofs.StatementReadings.{part_read, part_fails}
+use Rattle.statement_parser.proofs.Readings.{finished, reads, line_read, fails, line_fails}
+use Rattle.statement_parser.proofs.StatementReadings.{part_read, part_fails}
 use Rattle.unit_parser.specs.GivesParts.{signature}
-use Rattle.unit_parser.specs.Lines as lines
-use Rattle.unit_parser.specs.Lines.{Name, R}
+use Rattle.statement_parser.specs.Lines as lines
+use Rattle.statement_parser.specs.Lines.{Name, R}
 use Rattle.unit_parser.proofs.units.function.Goals as goal
 
 -- the rule behind the name and the parameters

@@ -1,6 +1,6 @@
-use Rattle.unit_parser.proofs.Readings.{reads, taken, skipped, name_passed, last, name_fails}
+use Rattle.statement_parser.proofs.Readings.{reads, taken, skipped, name_passed, last, name_fails}
 use Rattle.unit_parser.proofs.DefinitionReadings.{namespace_named, names_fail, names_end}
-use Rattle.unit_parser.specs.Lines as lines
+use Rattle.statement_parser.specs.Lines as lines
 use Rattle.unit_parser.proofs.units.namespace.Goals as goal
 
 pub returns-in_err-behind : goal.returns-in_err-behind

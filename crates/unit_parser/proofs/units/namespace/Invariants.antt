@@ -1,6 +1,6 @@
 use Rattle.std.proofs.Common.{length}
 use Rattle.expr_parser.specs.Rules.{Answer, Reads}
-use Rattle.unit_parser.specs.Lines.{Namespace, rule}
+use Rattle.statement_parser.specs.Lines.{Namespace, rule}
 use Rattle.unit_parser.proofs.units.namespace.Given as goal
 
 abbrev pub invariant-names : goal.invariant-names

@@ -3,9 +3,9 @@ use Rattle.expr_parser.specs.Rules.{done, call}
 use Rattle.spl_tree.specs.declared.shape.Attribute.{Attribute}
 use Rattle.spl_tree.specs.declared.symbol.Symbol.TheVariants as S
 use Rattle.spl_tree.specs.TypeGrammar.{TypeExpr}
-use Rattle.unit_parser.proofs.Readings.{finished, passed, name_passed, line_read, rule_fails, pass_fails, name_fails, line_fails}
+use Rattle.statement_parser.proofs.Readings.{finished, passed, name_passed, line_read, rule_fails, pass_fails, name_fails, line_fails}
 use Rattle.unit_parser.specs.GivesParts.{signature}
-use Rattle.unit_parser.specs.Lines.{Name, R, FunctionParameters, expect}
+use Rattle.statement_parser.specs.Lines.{Name, R, FunctionParameters, expect}
 use Rattle.unit_parser.proofs.units.signature.Goals as goal
 
 -- the rule behind the parenthesis, and behind the name

@@ -3,10 +3,10 @@ use Rattle.spl_tree.specs.declared.keyword.Keyword.TheVariants as K
 use Rattle.spl_tree.specs.declared.token.Token.{Token}
 use Rattle.spl_tree.specs.declared.unit.Definition.{Definition}
 use Rattle.expr_parser.specs.Rules.{call, done, look, Answer, RunsTo, Reads}
-use Rattle.unit_parser.proofs.Readings.{reads, taken, skipped, line_read, last, says_on, fails, line_fails}
+use Rattle.statement_parser.proofs.Readings.{reads, taken, skipped, line_read, last, says_on, fails, line_fails}
 use Rattle.unit_parser.proofs.DefinitionReadings.{names_stopped}
-use Rattle.unit_parser.specs.Lines as lines
-use Rattle.unit_parser.specs.Lines.{rule, is_word}
+use Rattle.statement_parser.specs.Lines as lines
+use Rattle.statement_parser.specs.Lines.{rule, is_word}
 use Rattle.unit_parser.proofs.units.unit.Goals as goal
 
 unit_read : {ts : List Token} {o : Answer (List Definition)}

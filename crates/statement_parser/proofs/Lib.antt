@@ -1,0 +1,4 @@
+pub mod CompleteParts
+pub mod Readings
+pub mod TypeReadings
+pub mod StatementReadings

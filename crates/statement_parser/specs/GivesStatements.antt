@@ -1,0 +1,49 @@
+-- What the reader of statements answers, against the rules.
+use Rattle.std.specs.Prelude.{◌≡◌, ℕ, Bool, true, false, List, [], Option, Some, None}
+use Rattle.std.specs.Borrow.{Bor}
+use Rattle.spl_tree.specs.declared.expression.ExprKind.TheVariants as X
+use Rattle.spl_tree.specs.declared.keyword.Keyword.TheVariants as K
+use Rattle.spl_tree.specs.declared.shape.Attribute.{Attribute}
+use Rattle.spl_tree.specs.declared.statement.StmtKind.TheVariants as Z
+use Rattle.spl_tree.specs.declared.symbol.Symbol.TheVariants as S
+use Rattle.spl_tree.specs.declared.token.Token.{Token}
+use Rattle.spl_tree.specs.Grammar.{Expr, placed}
+use Rattle.spl_tree.specs.StatementGrammar.{Stmt}
+use Rattle.spl_tree.specs.TypeGrammar.{TypeExpr}
+use Rattle.expr_parser.specs.Lines as expressions
+use Rattle.expr_parser.specs.Lines.{is}
+use Rattle.expr_parser.specs.RuleLaws.{begins_with}
+use Rattle.expr_parser.specs.Rules.{done, stop, look, call}
+use Rattle.expr_parser.specs.Taken.{Taken}
+use Rattle.statement_parser.specs.Lines.{R, Expression, TypeExpression, expect, expect_name, expect_word, expression, is_word, is_assignment, assignment_at, condition_rule, for_head_rule}
+
+-- a condition in parentheses by itself
+abbrev pub condition : R Expr
+condition = condition_rule done
+
+-- the variable of a `for` and what it goes over, by themselves
+abbrev pub for_head : R (Attribute TypeExpr × Expr)
+for_head = for_head_rule (λ v e. done (v, e))
+
+-- the variable of a `for`, and what it goes over with the closing parenthesis
+abbrev pub for_variable : R (Attribute TypeExpr)
+for_variable = call TypeExpression (λ k. expect_name (λ n. done (record { kind = k; name = n })))
+
+abbrev pub gone_over : R Expr
+gone_over = expect_word K.In (expression (λ e. expect S.RightParen (done e)))
+
+-- a call behind the parenthesis, as a statement at a place
+abbrev pub called_rule : ℕ → List ℕ → R Stmt
+called_rule at n =
+    call (Expression (expressions.Elements S.RightParen)) (λ es. expect S.Semicolon (done (placed at (Z.Call (placed at (X.Call n es))))))
+
+-- an assignment behind the name of its place
+abbrev pub assigned_rule : ℕ → List ℕ → R Stmt
+assigned_rule at n =
+    call (Expression (expressions.Steps (placed at (X.Name n)) [])) (λ p.
+    look is_assignment (λ t. expression (λ e. expect S.Semicolon (done (placed at (Z.Assign p (assignment_at t) e))))) stop)
+
+-- an `else` comes first, behind a statement that is closed, with these tokens behind it; or none does there
+abbrev pub ElseBehind : Bool → List Token → Option (Bor (List Token)) → Type 0
+ElseBehind closed ts (Some rest) = (closed ≡ true) × ((t : Token) × Taken (is_word K.Else) ts t rest.now)
+ElseBehind closed ts None = closed ≡ true → begins_with (is_word K.Else) ts ≡ false

@@ -1,0 +1,227 @@
+//! Parts of statements, and statements without statements in them.
+ghost use Rattle.std.specs.Prelude.{[]};
+ghost use Rattle.expr_parser.specs.Gives.{Answers};
+ghost use Rattle.expr_parser.specs.Lines as expressions;
+ghost use Rattle.expr_parser.specs.Rules.{done};
+ghost use Rattle.spl_tree.specs.declared.expression.ExprKind.TheVariants as X;
+ghost use Rattle.spl_tree.specs.declared.statement.StmtKind.TheVariants as Z;
+ghost use Rattle.spl_tree.specs.Grammar.{placed};
+ghost use Rattle.statement_parser.specs.Gives.{Gives, Comes};
+ghost use Rattle.statement_parser.specs.GivesStatements as statements;
+ghost use Rattle.statement_parser.specs.Lines as lines;
+
+use crate::declarations::{declared, valued};
+use crate::first::{assignment_first, pass_word, word_first};
+use crate::types::read_type;
+use expr_parser::{
+    Stop, Taken, after, name_first, pass, pass_name, read_elements, read_expression, read_steps,
+};
+use spl_tree::{
+    Attribute, Expr, ExprKind, Keyword, Placed, Stmt, StmtKind, Symbol, Token, TypeExpr, TypeKind,
+};
+use spl_value::{Items, Name};
+use std::alloc::Global;
+
+/// A condition in parentheses.
+pub(crate) fn condition<'t>(alloc: Global, ts: &'t [Token]) -> Taken<'t, Expr>
+    ensures { Comes statements.condition ts.now result }
+{
+    let behind = pass(ts, Symbol::LeftParen)?;
+    let (condition, behind) = read_expression(alloc, behind)?;
+    let behind = pass(behind, Symbol::RightParen)?;
+    Ok((condition, behind))
+}
+
+/// The tokens behind an `else` that comes first, where one can belong to the `if` whose last statement
+/// stands before it: an `else` that could belong to that statement itself was taken with it.
+pub(crate) fn else_first(closed: bool, ts: &[Token]) -> Option<&[Token]>
+    ensures { statements.ElseBehind closed ts.now result }
+{
+    if !closed {
+        return None;
+    }
+    let (_, behind) = word_first(ts, Keyword::Else)?;
+    Some(behind)
+}
+
+/// The variable of a `for` and what it goes over, in parentheses.
+pub(crate) fn for_head<'t>(alloc: Global, ts: &'t [Token]) -> Taken<'t, (Attribute<TypeExpr>, Expr)>
+    ensures { Comes statements.for_head ts.now result }
+{
+    let behind = pass(ts, Symbol::LeftParen)?;
+    let (variable, behind) = for_variable(alloc, behind)?;
+    let (over, behind) = gone_over(alloc, behind)?;
+    Ok(((variable, over), behind))
+}
+
+/// The variable of a `for`: a type with a name.
+fn for_variable<'t>(alloc: Global, ts: &'t [Token]) -> Taken<'t, Attribute<TypeExpr>>
+    ensures { Comes statements.for_variable ts.now result }
+{
+    let (kind, behind) = read_type(alloc, ts)?;
+    let (name, behind) = pass_name(alloc, behind)?;
+    Ok((Attribute { kind, name }, behind))
+}
+
+/// What a `for` goes over, behind its variable, and the closing parenthesis.
+fn gone_over<'t>(alloc: Global, ts: &'t [Token]) -> Taken<'t, Expr>
+    ensures { Comes statements.gone_over ts.now result }
+{
+    let behind = pass_word(ts, Keyword::In)?;
+    let (over, behind) = read_expression(alloc, behind)?;
+    let behind = pass(behind, Symbol::RightParen)?;
+    Ok((over, behind))
+}
+
+/// The statement of that kind at a place, with whether it is closed.
+pub(crate) fn statement_at<'t>(
+    alloc: Global,
+    at: u32,
+    what: StmtKind,
+    closed: bool,
+    ts: &'t [Token],
+) -> Taken<'t, (Stmt, bool)>
+    ensures { Comes (done (placed at what, closed)) ts.now result }
+{
+    let statement = Placed::boxed(alloc, at, what)?;
+    Ok(((statement, closed), ts))
+}
+
+/// A statement with no statement in it.
+pub(crate) fn simple_statement<'t>(alloc: Global, ts: &'t [Token]) -> Taken<'t, (Stmt, bool)>
+    ensures { Comes lines.simple_rule ts.now result }
+{
+    if let Some((word, behind)) = word_first(ts, Keyword::Break) {
+        return broken(alloc, word.start, behind);
+    }
+    if let Some((word, behind)) = word_first(ts, Keyword::Continue) {
+        return continued(alloc, word.start, behind);
+    }
+    if let Some((word, behind)) = word_first(ts, Keyword::Return) {
+        return returned(alloc, word.start, behind);
+    }
+    if let Some((word, behind)) = word_first(ts, Keyword::Submit) {
+        return submitted(alloc, word.start, behind);
+    }
+    if let Some((word, behind)) = word_first(ts, Keyword::Mutable) {
+        return mutable_variable(alloc, word.start, behind);
+    }
+    match name_first(ts) {
+        Some((token, name, behind)) => {
+            let name = Items::from_slice(alloc, name.as_slice())?;
+            let (statement, behind) = begun(alloc, token.start, name, behind)?;
+            Ok(((statement, true), behind))
+        }
+        None => variable(alloc, ts),
+    }
+}
+
+/// A `break`, behind its word.
+fn broken<'t>(alloc: Global, at: u32, ts: &'t [Token]) -> Taken<'t, (Stmt, bool)>
+    ensures { Comes (lines.ended_rule at Z.Break) ts.now result }
+{
+    let behind = pass(ts, Symbol::Semicolon)?;
+    statement_at(alloc, at, StmtKind::Break, true, behind)
+}
+
+/// A `continue`, behind its word.
+fn continued<'t>(alloc: Global, at: u32, ts: &'t [Token]) -> Taken<'t, (Stmt, bool)>
+    ensures { Comes (lines.ended_rule at Z.Continue) ts.now result }
+{
+    let behind = pass(ts, Symbol::Semicolon)?;
+    statement_at(alloc, at, StmtKind::Continue, true, behind)
+}
+
+/// A `return`, behind its word.
+fn returned<'t>(alloc: Global, at: u32, ts: &'t [Token]) -> Taken<'t, (Stmt, bool)>
+    ensures { Comes (lines.returned_rule at) ts.now result }
+{
+    if let Some((_, behind)) = after(ts, Symbol::Semicolon) {
+        return statement_at(alloc, at, StmtKind::Return(None), true, behind);
+    }
+    let (value, behind) = read_expression(alloc, ts)?;
+    let behind = pass(behind, Symbol::Semicolon)?;
+    statement_at(alloc, at, StmtKind::Return(Some(value)), true, behind)
+}
+
+/// A `submit`, behind its word.
+fn submitted<'t>(alloc: Global, at: u32, ts: &'t [Token]) -> Taken<'t, (Stmt, bool)>
+    ensures { Comes (lines.submitted_rule at) ts.now result }
+{
+    let behind = pass(ts, Symbol::LeftParen)?;
+    let (value, behind) = read_expression(alloc, behind)?;
+    let behind = pass(behind, Symbol::Comma)?;
+    let (stream, behind) = pass_name(alloc, behind)?;
+    let behind = pass(behind, Symbol::RightParen)?;
+    let behind = pass(behind, Symbol::Semicolon)?;
+    statement_at(alloc, at, StmtKind::Submit(value, stream), true, behind)
+}
+
+/// A declaration as a statement, behind its `mutable`.
+fn mutable_variable<'t>(alloc: Global, at: u32, ts: &'t [Token]) -> Taken<'t, (Stmt, bool)>
+    ensures { Comes (lines.mutable_rule at) ts.now result }
+{
+    let (kind, behind) = read_type(alloc, ts)?;
+    let (declaration, behind) = declared(alloc, true, kind, behind)?;
+    statement_at(alloc, at, StmtKind::Declare(declaration), true, behind)
+}
+
+/// A declaration as a statement, without `mutable`.
+fn variable<'t>(alloc: Global, ts: &'t [Token]) -> Taken<'t, (Stmt, bool)>
+    ensures { Comes lines.variable_rule ts.now result }
+{
+    let (kind, behind) = read_type(alloc, ts)?;
+    let at = kind.at;
+    let (declaration, behind) = declared(alloc, false, kind, behind)?;
+    statement_at(alloc, at, StmtKind::Declare(declaration), true, behind)
+}
+
+/// A statement behind the name with which it begins: a declaration, a call or an assignment.
+fn begun<'t>(alloc: Global, at: u32, name: Name, ts: &'t [Token]) -> Taken<'t, Stmt>
+    ensures { Gives (lines.Begun at name) ts.now result }
+{
+    if name_first(ts).is_some() {
+        let (variable, behind) = pass_name(alloc, ts)?;
+        let kind = Placed::boxed(alloc, at, TypeKind::Name(name))?;
+        let (declaration, behind) = valued(alloc, false, kind, variable, behind)?;
+        let statement = Placed::boxed(alloc, at, StmtKind::Declare(declaration))?;
+        return Ok((statement, behind));
+    }
+    match after(ts, Symbol::LeftParen) {
+        Some((_, behind)) => called(alloc, at, name, behind),
+        None => assigned(alloc, at, name, ts),
+    }
+}
+
+/// A call as a statement, behind its parenthesis.
+fn called<'t>(alloc: Global, at: u32, name: Name, ts: &'t [Token]) -> Taken<'t, Stmt>
+    ensures { Comes (statements.called_rule at name) ts.now result }
+{
+    let (arguments, behind) = read_elements(alloc, Symbol::RightParen, ts)?;
+    let behind = pass(behind, Symbol::Semicolon)?;
+    let call = Placed::boxed(alloc, at, ExprKind::Call(name, arguments))?;
+    let statement = Placed::boxed(alloc, at, StmtKind::Call(call))?;
+    Ok((statement, behind))
+}
+
+/// A place, behind the name with which it begins.
+fn place<'t>(alloc: Global, at: u32, name: Name, ts: &'t [Token]) -> Taken<'t, Expr>
+    ensures { Answers (expressions.Steps (placed at (X.Name name)) []) ts.now result }
+{
+    let base = Placed::boxed(alloc, at, ExprKind::Name(name))?;
+    read_steps(alloc, base, ts)
+}
+
+/// An assignment, behind the name of its place.
+fn assigned<'t>(alloc: Global, at: u32, name: Name, ts: &'t [Token]) -> Taken<'t, Stmt>
+    ensures { Comes (statements.assigned_rule at name) ts.now result }
+{
+    let (place, behind) = place(alloc, at, name, ts)?;
+    let Some((operator, behind)) = assignment_first(behind) else {
+        return Err(Stop::At(behind));
+    };
+    let (value, behind) = read_expression(alloc, behind)?;
+    let behind = pass(behind, Symbol::Semicolon)?;
+    let statement = Placed::boxed(alloc, at, StmtKind::Assign(place, operator, value))?;
+    Ok((statement, behind))
+}

@@ -1,0 +1,13 @@
+use Rattle.statement_parser.proofs.Readings.{last, line_fails, line_read}
+use Rattle.statement_parser.specs.Lines as lines
+use Rattle.unit_parser.specs.GivesComposites.{composite_behind}
+use Rattle.unit_parser.proofs.DefinitionReadings.{composite_shrinks, defines_none}
+use Rattle.unit_parser.proofs.units.composite_defined.Goals as goal
+
+pub returns-in_err-one : goal.returns-in_err-one
+returns-in_err-one c =
+    defines_none c.args.ts.now composite_behind c.from_residual.result c.in_err-one.field-0.0 c.from_residual.ensures.1
+    (λ xs. line_fails _ lines.CompositeOf _ _ c.in_err-one.ensures)
+
+pub returns : goal.returns
+returns c = (composite_shrinks c.in_ok-one.ensures, λ xs o r. line_read c.in_ok-one.ensures (last r))
