@@ -18,42 +18,12 @@ use Rattle.language_model.specs.Keeping.{Keeps, StreamsHave, PortsHave, PartFits
 use Rattle.stream_model.specs.Laws.{IsNumbered}
 use Rattle.stream_model.specs.Meaning.{Graph}
 use Rattle.stream_model.specs.Operators.{Operator, connections}
+use Rattle.stream_model.proofs.CheckedOperators.{OperatorAt, operator_from, operators_length}
 use Rattle.language_model.specs.StreamTypes.{Attributes}
 use Rattle.language_model.specs.WorldFits.{FunctionsFit}
 use Rattle.list_run.specs.Fitting.{FitsSchema}
 use Rattle.list_run.specs.Runs.{CanRun, is_run}
 use Rattle.spl_value.proofs.Lists.{get_below as there_is}
-
--- ---- the operators of the list
-
--- an operator of the list is one of the graph with its clauses
-pub record OperatorAt (c : CheckedGraph) (from : ℕ) (ops : List Op) (parts : List Part) (n : ℕ) (o : Operator) : Type 0 where
-  pub op : Op
-  pub part : Part
-  pub there : slice_get ops n ≡ Some op
-  pub has : slice_get parts n ≡ Some part
-  pub same : o ≡ operator_with c (from + n) op part
-
-operator_from : (c : CheckedGraph) (from : ℕ) (ops : List Op) (parts : List Part) (n : ℕ) (o : Operator) → slice_get (operators_from c from ops parts) n ≡ Some o
-    → OperatorAt c from ops parts n o
-operator_from c from [] parts n o at = absurd cc
-operator_from c from (op ∷ ops) [] n o at = absurd cc
-operator_from c from (op ∷ ops) (part ∷ parts) zero o at =
-    let same : o ≡ operator_with c from op part = cc in
-    let number : from ≡ from + 0 = omega arith in
-    record { op = op; part = part; there = refl; has = refl; same = same ∙ ap (λ k. operator_with c k op part) number }
-operator_from c from (op ∷ ops) (part ∷ parts) (suc n) o at =
-    let rest = operator_from c (suc from) ops parts n o at in
-    let number : suc from + n ≡ from + suc n = omega arith in
-    record { op = rest.op; part = rest.part; there = rest.there; has = rest.has; same = rest.same ∙ ap (λ k. operator_with c k rest.op rest.part) number }
-
-pub operators_length : (c : CheckedGraph) (from : ℕ) (ops : List Op) (parts : List Part) → length parts ≡ length ops → length (operators_from c from ops parts) ≡ length ops
-operators_length c from [] parts l = refl
-operators_length c from (op ∷ ops) [] l = absurd (omega (arith, l))
-operators_length c from (op ∷ ops) (part ∷ parts) l =
-    let same : length parts ≡ length ops = omega (arith, l) in
-    let more = operators_length c (suc from) ops parts same in
-    omega (arith, more)
 
 -- ---- the graph
 

@@ -14,7 +14,8 @@ use Rattle.stream_model.specs.Meaning.{Graph}
 use Rattle.stream_model.specs.Operators.{Operator}
 use Rattle.language_model.specs.StreamTypes.{Attributes}
 use Rattle.list_run.specs.Runs.{CanRun}
-use Rattle.list_run.proofs.GraphOperators.{operators_length, only_one}
+use Rattle.stream_model.proofs.CheckedOperators.{operators_length}
+use Rattle.list_run.proofs.GraphOperators.{only_one}
 use Rattle.spl_driver.specs.Steps.{first_input}
 
 -- ---- the operators of the list

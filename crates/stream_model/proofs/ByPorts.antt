@@ -140,7 +140,7 @@ port_there ((s ∷ streams) ∷ ins) k (suc p) some lt =
     (length (s ∷ streams) + r.0, slice_get-past k (s ∷ streams) (ports_from (suc k) ins) r.0 (length (s ∷ streams) + r.0) refl ∙ r.1 ∙ ap (λ n. Some n) e)
 
 -- the port of an input in range
-input_port : (op : Operator) (i : ℕ) → nat_lt i (length (ports op)) ≡ true
+pub input_port : (op : Operator) (i : ℕ) → nat_lt i (length (ports op)) ≡ true
     → (slice_get (ports op) i ≡ Some (port_at (ports op) i)) × (port_at (ports op) i < length op.ins)
 input_port op i named =
     let lt : i < length (ports op) = ltb-true i (length (ports op)) named in

@@ -24,3 +24,12 @@ pub mod SomePlans
 pub mod Replying
 pub mod Stateless
 pub mod Keyed
+pub mod FittingCodes
+pub mod SimpleFits
+pub mod CustomFits
+pub mod ContentMembers
+pub mod JoinFits
+pub mod FittingEvents
+pub mod AggregateFits
+pub mod CheckedOperators
+pub mod GroupTuples

@@ -8,6 +8,7 @@ pub mod Joins
 pub mod React
 pub mod Stages
 pub mod Replies
+pub mod Fitting
 pub mod Meaning
 pub mod Ends
 pub mod Fields
