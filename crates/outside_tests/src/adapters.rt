@@ -3,8 +3,8 @@ ghost use Rattle.std.specs.Prelude.{map, IfOk};
 ghost use Rattle.file_adapters.specs.Sinks.{AreDistinct};
 
 use crate::shown::{add_faults, add_held, numbers};
-use feed_pour::MemoryShelf;
 use file_adapters::{Sink, Sunk, number_stream, write_sinks};
+use memory_files::MemoryShelf;
 use spl_value::{Item, Items, Name, Value, Values};
 use std::alloc::{AllocError, Global};
 use std::test::Fail;

@@ -1,9 +1,10 @@
 //! Feeds and pours alone, and who starts.
 use crate::shown::{fives, numbers};
 use feed_pour::{
-    AllStart, Failed, Feed, Gate, MemoryFeed, MemoryPour, NotThese, OpenGate, PlainFeed, PlainPour,
-    Pour, PourAnswer, ReadAll, Starter, StdoutPour, read_all, write_all,
+    AllStart, Failed, Feed, Gate, NotThese, OpenGate, Pour, PourAnswer, ReadAll, Starter,
+    StdoutPour, read_all, write_all,
 };
+use memory_files::{MemoryFeed, MemoryPour, PlainFeed, PlainPour};
 use spl_value::Items;
 use std::alloc::{AllocError, Global};
 use std::io;

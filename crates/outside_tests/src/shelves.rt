@@ -9,7 +9,8 @@
 //! | `holds` | what the file holds |
 //! | `faults` | those of opening, creating, reading and writing |
 use crate::shown::{add_faults, add_held, fives, numbers};
-use feed_pour::{Fetched, MemoryShelf, Opened, PlainShelf, Pour, Shelf, fetch, write_all};
+use feed_pour::{Fetched, Opened, Pour, Shelf, fetch, write_all};
+use memory_files::{MemoryShelf, PlainShelf};
 use spl_value::{Bytes, Name};
 use std::alloc::{AllocError, Global};
 use std::test::Fail;

@@ -8,7 +8,8 @@
 //! | `$ run p.spl` | the words, where others are asked than those of the table; they stand last |
 use crate::shelf::{File, files_of, out_of, shelf_of};
 use crate::shown::shown;
-use feed_pour::{AllStart, MemoryShelf, OpenGate};
+use feed_pour::{AllStart, OpenGate};
+use memory_files::MemoryShelf;
 use spl_driver::{Ended, spl};
 use spl_value::{Boxed, Bytes};
 use std::alloc::{AllocError, Global};

@@ -1,7 +1,7 @@
 //! The files of a row, and the calls that fail.
 use crate::generated::held_of;
 use crate::programs::program_of;
-use feed_pour::{MemoryPour, MemoryShelf};
+use memory_files::{MemoryPour, MemoryShelf};
 use spl_value::{Bytes, Items, NoMemory};
 use std::alloc::{AllocError, Global};
 use test_texts::words::{bytes, cut};

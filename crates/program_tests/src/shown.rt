@@ -11,7 +11,7 @@
 //! | `; a record` | an arrival record, or counts of channels |
 use crate::ask::Seen;
 use crate::shelf::File;
-use feed_pour::MemoryShelf;
+use memory_files::MemoryShelf;
 use spl_driver::Ended;
 use std::alloc::{AllocError, Global};
 use test_texts::signs::with_signs;

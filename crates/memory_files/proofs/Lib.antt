@@ -1,0 +1,4 @@
+pub mod Placing
+pub mod Failing
+pub mod Finishing
+pub mod Cutting

@@ -1,0 +1,8 @@
+-- What a shelf in memory without faults keeps.
+use Rattle.std.specs.Prelude.{ℕ, List, Option}
+use Rattle.feed_pour.specs.Table.{under}
+use Rattle.memory_files.specs.declared.plain.PlainShelf.{PlainShelf}
+
+-- what each name holds, where it holds anything
+abbrev pub plain_files : PlainShelf → List ℕ → Option (List ℕ)
+plain_files shelf = under shelf.files.items
