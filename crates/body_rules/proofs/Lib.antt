@@ -7,3 +7,5 @@ mod StatementLeads
 mod Submitting
 mod Stopping
 mod Signing
+pub mod HandlersFound
+mod PutBack

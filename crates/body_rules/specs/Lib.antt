@@ -2,3 +2,4 @@ pub mod Settings
 pub mod Leads
 pub mod Signatures
 pub mod Choices
+pub mod Handling

@@ -1,6 +1,6 @@
 -- What is known of the graph of a unit, and how what is found of it goes together.
 use Rattle.std.specs.Prelude.{◌≡◌, ℕ, List, length, Ok, Err}
-use Rattle.std.proofs.Common.{refl, sym, ap, ◌∙◌}
+use Rattle.std.proofs.Common.{refl, ap, ◌∙◌}
 use Rattle.spl_tree.specs.declared.body.Function.{Function}
 use Rattle.spl_tree.specs.declared.graph.Graph.{Graph}
 use Rattle.spl_tree.specs.declared.unit.Composite.{Composite}

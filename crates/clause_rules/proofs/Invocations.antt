@@ -1,7 +1,7 @@
 -- What the checks of an operator find, by what its calls answer.
-use Rattle.std.specs.Prelude.{◌≡◌, ℕ, zero, suc, List, [], ◌∷◌, map, length, Option, Some, None, Result, Ok, Err, slice_get}
+use Rattle.std.specs.Prelude.{◌≡◌, ℕ, suc, List, [], ◌∷◌, map, length, Option, Some, None, Ok, Err, slice_get}
 use Rattle.std.specs.Option.{option_and_then, option_map, option_map_or}
-use Rattle.std.proofs.Common.{refl, sym, ap, subst, ◌∙◌}
+use Rattle.std.proofs.Common.{refl, sym, ap, ◌∙◌}
 use Rattle.std.proofs.lemmas.Option.{same_Some}
 use Rattle.spl_tree.specs.declared.graph.Expansion.{Expansion}
 use Rattle.spl_tree.specs.declared.graph.Graph.{Graph}
@@ -21,7 +21,7 @@ use Rattle.language_model.specs.FunctionTyping.{unit_scope}
 use Rattle.language_model.specs.Literals.{followed}
 use Rattle.language_model.specs.Parameters.{Tables, table_at}
 use Rattle.language_model.specs.SinkFiles.{composite_of}
-use Rattle.language_model.specs.StreamTypes.{Attributes, Body, Passes, body_at, outputs_attributes, passed, stream_attributes, output_heads, ports_attributes}
+use Rattle.language_model.specs.StreamTypes.{Attributes, Body, body_at, outputs_attributes, passed, stream_attributes, output_heads, ports_attributes}
 use Rattle.language_model.specs.TypeNames.{Types, composite_types}
 use Rattle.language_model.specs.Typing.{Found, after, mismatch}
 use Rattle.clause_rules.specs.Operators.{named}

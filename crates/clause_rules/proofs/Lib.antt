@@ -3,3 +3,4 @@ pub mod Tables
 pub mod Invocations
 pub mod Streams
 pub mod Graphs
+mod LogicFound

@@ -1,5 +1,5 @@
 -- Ports by what has their names, with their attributes.
-use Rattle.std.specs.Prelude.{◌≡◌, ℕ, List, [], ◌∷◌, ◌++◌, map, length, Option, Some, None, slice_get}
+use Rattle.std.specs.Prelude.{◌≡◌, ℕ, List, [], ◌∷◌, ◌++◌, length, Option, Some, None, slice_get}
 use Rattle.std.proofs.Common.{refl, sym, ap, ◌∙◌, append-nil}
 use Rattle.language_model.specs.declared.scope.Port.{Port}
 use Rattle.language_model.specs.StreamTypes.{Attributes}

@@ -1,7 +1,6 @@
 -- Tables of `$` parameters from which one is taken and put back.
-use Rattle.std.specs.Prelude.{◌≡◌, ◌≤◌, ℕ, zero, suc, List, [], ◌∷◌, length, slice_set, None, slice_get}
-use Rattle.std.proofs.Common.{refl, sym, ap, ◌∙◌}
-use Rattle.language_model.specs.declared.scope.Dollar.{Dollar}
+use Rattle.std.specs.Prelude.{◌≡◌, ℕ, zero, suc, [], ◌∷◌, slice_set}
+use Rattle.std.proofs.Common.{refl, ap}
 use Rattle.language_model.specs.Parameters.{Tables, table_at}
 
 pub put_back : (tables : Tables) (n : ℕ) → slice_set (slice_set tables n []) n (table_at tables n) ≡ tables

@@ -4,27 +4,24 @@ use Rattle.std.specs.Borrow.{Bor}
 use Rattle.std.specs.List.{list_all}
 use Rattle.spl_tree.specs.declared.code.Code.{Code}
 use Rattle.spl_tree.specs.declared.code.Slot.{Slot}
-use Rattle.spl_tree.specs.declared.graph.Op.{Op}
-use Rattle.spl_tree.specs.declared.unit.Clauses.{Clauses}
 use Rattle.spl_tree.specs.declared.unit.OutputAssignments.{OutputAssignments}
 use Rattle.language_model.specs.declared.checked.Collected.{Collected}
 use Rattle.language_model.specs.declared.scope.CheckError.TheVariants as E
 use Rattle.language_model.specs.declared.scope.Port.{Port}
 use Rattle.language_model.specs.declared.scope.Scope.{Scope}
-use Rattle.language_model.specs.Checking.{first_of, has_text_form, is_partitioned, parameters_checked, windows_checked}
+use Rattle.language_model.specs.Checking.{first_of, has_text_form}
 use Rattle.language_model.specs.Checking as checking
-use Rattle.language_model.specs.Literals.{number_literal}
 use Rattle.language_model.specs.LogicTyping.{Surroundings}
 use Rattle.language_model.specs.OutputTyping.{groups_typing, tuple_typing}
 use Rattle.language_model.specs.ParameterTyping.{Site}
 use Rattle.language_model.specs.StreamTypes.{Attributes, Passes, passed}
-use Rattle.language_model.specs.Typing.{Found, after, refused}
-use Rattle.parameter_rules.specs.Sites.{followed_in}
-use Rattle.parameter_rules.specs.declared.literals.follow.Follow.{Follow}
+use Rattle.language_model.specs.Typing.{Found, refused}
+use Rattle.literal_sites.specs.Sites.{followed_in}
+use Rattle.literal_sites.specs.declared.follow.Follow.{Follow}
 use Rattle.language_model.specs.declared.answer.TypeAnswer.{TypeAnswer}
 use Rattle.clause_rules.specs.declared.parts.Around.{Around}
 use Rattle.clause_rules.specs.declared.parts.Checks.{Checks}
-use Rattle.logic_rules.specs.Handling.{surroundings}
+use Rattle.clause_rules.specs.Logic.{surroundings}
 
 abbrev pub around_seen : Around → Scope → Surroundings
 around_seen around scope = surroundings around.types scope around.outputs.now

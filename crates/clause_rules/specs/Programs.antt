@@ -1,5 +1,5 @@
 -- What is found of the operators of a graph, by what a call is given.
-use Rattle.std.specs.Prelude.{◌≡◌, ℕ, List, [], length, Ok, Some, slice_get}
+use Rattle.std.specs.Prelude.{◌≡◌, ℕ, List, length, Ok, Some, slice_get}
 use Rattle.spl_tree.specs.declared.graph.Graph.{Graph}
 use Rattle.spl_tree.specs.declared.graph.Op.{Op}
 use Rattle.spl_tree.specs.declared.unit.Definition.{Definition}
@@ -10,7 +10,6 @@ use Rattle.language_model.specs.Checking.{clauses_checked, each_stream, operator
 use Rattle.language_model.specs.FlatLaws.{IsInvoked}
 use Rattle.language_model.specs.Literals.{followed}
 use Rattle.language_model.specs.Numbering.{numbers_from}
-use Rattle.language_model.specs.ParameterTyping.{Site}
 use Rattle.language_model.specs.Parameters.{dollar_tables}
 use Rattle.language_model.specs.StreamTypes.{Body, body_at}
 use Rattle.language_model.specs.Typing.{Found as Finding, after}

@@ -14,7 +14,7 @@ use body_sites::Sites;
 use check_laws::keeps_law;
 use dollar_rules::dollar_tables;
 use language_model::{Checked, Part, TypeAnswer, flat_law};
-use parameter_rules::CompositeTable;
+use literal_sites::CompositeTable;
 use spl_tree::{Graph, Unit};
 use spl_value::{Items, Schema};
 use std::alloc::Global;

@@ -2,6 +2,7 @@
 #![tactic(auto)]
 
 mod checking;
+mod logic;
 mod operators;
 mod parts;
 mod ports;

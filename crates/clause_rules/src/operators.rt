@@ -4,7 +4,7 @@ ghost use Rattle.language_model.specs.Checking.{clauses_checked, is_partitioned,
 ghost use Rattle.language_model.specs.FlatLaws.{IsInvoked};
 ghost use Rattle.language_model.specs.FunctionTyping.{unit_scope};
 ghost use Rattle.language_model.specs.Parameters.{table_at};
-ghost use Rattle.parameter_rules.specs.Sites.{site_seen};
+ghost use Rattle.literal_sites.specs.Sites.{site_seen};
 ghost use Rattle.body_sites.specs.Bodies.{body_seen};
 ghost use Rattle.stream_rules.specs.Streams.{IsTableOf};
 ghost use Rattle.language_model.specs.Finds.{Finds};
@@ -15,14 +15,14 @@ use crate::parts::{Around, Checks, output_rows, part_of};
 use crate::ports::{config_checked, outputs_of, ports_checked, ports_of};
 use body_sites::{Body, Sites};
 use language_model::{CheckError, Dollar, Given, Part, Policy, Scope, TypeAnswer, refused};
-use parameter_rules::{
-    CompositeTable, ExpressionSite, Follow, is_partitioned, parameters_of, windows_of,
-};
+use literal_sites::{CompositeTable, ExpressionSite, Follow};
+use parameter_rules::parameters_of;
 use spl_tree::{Clauses, Graph, Invocation, Op, Parameter};
 use spl_value::Items;
 use std::alloc::Global;
 use std::mem::replace;
 use stream_rules::{StreamTable, port_types};
+use window_rules::{is_partitioned, windows_of};
 
 /// A graph with what is found once for all of its operators.
 #[derive(Clone, Copy)]

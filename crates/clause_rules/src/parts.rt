@@ -10,11 +10,11 @@ ghost use Rattle.language_model.specs.Typing.{after};
 ghost use Rattle.language_model.specs.Finds.{Finds};
 ghost use Rattle.clause_rules.specs.Operators.{around_seen, checks_seen, groups_at, rows_of_schemas, rows_seen, tuple_at};
 
+use crate::logic::logic_of;
 use language_model::{
     CheckError, Collected, Given, Part, Policy, Port, Position, Scope, TypeAnswer, refused,
     refused_name,
 };
-use logic_rules::logic_of;
 use output_rules::{groups_of, places_of, tuple_of};
 use parameter_rules::{position_given, strict_given, take_code, take_file, take_places};
 use spl_tree::{Clauses, Code, Logic, OpKind, OutputAssignments, Placed, Slot};

@@ -55,3 +55,5 @@ pub mod KeptInvocations
 mod StmtInduction
 mod BodyFitting
 mod BodyReturning
+mod LastNamed
+pub mod CodeWeights

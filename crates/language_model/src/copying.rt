@@ -8,7 +8,7 @@ use crate::code_lists::{
 };
 use crate::scope::{CheckRefusal, Typed};
 use spl_tree::{BinaryCode, BuiltIn, Code, Slot, Taking, UnaryCode};
-use spl_value::{Boxed, Items, NoMemory, Value, copy_type, copy_value};
+use spl_value::{Boxed, Items, NoMemory, SplType, Value, copy_type, copy_value};
 use std::alloc::Global;
 
 /// A code in a box.
@@ -100,6 +100,7 @@ fn literal(alloc: Global, value: &Value) -> Result<Boxed<Code<Slot>>, NoMemory>
 
 /// A copy of a code.
 #[cycle(copy)]
+#[tactic(auto, using(crate::proofs::CodeWeights::weight_laws))]
 fn copy_code(alloc: Global, code: &Code<Slot>) -> Result<Boxed<Code<Slot>>, NoMemory>
     ensures { IfOk result (λ copy. copy ≡ code.now) }
 {
@@ -109,32 +110,85 @@ fn copy_code(alloc: Global, code: &Code<Slot>) -> Result<Boxed<Code<Slot>>, NoMe
         Code::List(elements) => list(alloc, copy_codes(alloc, elements.as_slice())?),
         Code::Map(entries) => map(alloc, copy_entries(alloc, entries.as_slice())?),
         Code::Tuple(fields) => tuple(alloc, copy_fields(alloc, fields.as_slice())?),
-        Code::Select(base, takings) => {
-            let base = copy_code(alloc, base.get())?;
-            select(alloc, base, copy_takings(alloc, takings.as_slice())?)
-        }
+        Code::Select(base, takings) => copy_select(alloc, base.get(), takings.as_slice()),
         Code::Unary(operators, operand) => {
-            let operand = copy_code(alloc, operand.get())?;
-            unary(alloc, operators.as_slice(), operand)
+            copy_unary(alloc, operators.as_slice(), operand.get())
         }
         Code::Binary(operator, left, right) => {
-            let left = copy_code(alloc, left.get())?;
-            binary(alloc, *operator, left, copy_code(alloc, right.get())?)
+            copy_binary(alloc, *operator, left.get(), right.get())
         }
         Code::Conditional(condition, first, second) => {
-            let condition = copy_code(alloc, condition.get())?;
-            let first = copy_code(alloc, first.get())?;
-            conditional(alloc, condition, first, copy_code(alloc, second.get())?)
+            copy_conditional(alloc, condition.get(), first.get(), second.get())
         }
-        Code::BuiltIn(name, arguments) => {
-            built_in(alloc, *name, copy_codes(alloc, arguments.as_slice())?)
-        }
+        Code::BuiltIn(name, arguments) => copy_built_in(alloc, *name, arguments.as_slice()),
         Code::Call(place, arguments) => {
             call(alloc, *place, copy_codes(alloc, arguments.as_slice())?)
         }
         Code::IsMarker(marker) => in_box(alloc, Code::IsMarker(*marker)),
         Code::IsNotMarker(marker) => in_box(alloc, Code::IsNotMarker(*marker)),
     }
+}
+
+#[cycle(copy)]
+fn copy_select(
+    alloc: Global,
+    base: &Code<Slot>,
+    takings: &[Taking<Code<Slot>>],
+) -> Result<Boxed<Code<Slot>>, NoMemory>
+    ensures { IfOk result (λ copy. copy ≡ C.Select base.now takings.now) }
+{
+    let base = copy_code(alloc, base)?;
+    select(alloc, base, copy_takings(alloc, takings)?)
+}
+
+#[cycle(copy)]
+fn copy_unary(
+    alloc: Global,
+    operators: &[UnaryCode],
+    operand: &Code<Slot>,
+) -> Result<Boxed<Code<Slot>>, NoMemory>
+    ensures { IfOk result (λ copy. copy ≡ C.Unary operators.now operand.now) }
+{
+    let operand = copy_code(alloc, operand)?;
+    unary(alloc, operators, operand)
+}
+
+#[cycle(copy)]
+fn copy_binary(
+    alloc: Global,
+    operator: BinaryCode,
+    left: &Code<Slot>,
+    right: &Code<Slot>,
+) -> Result<Boxed<Code<Slot>>, NoMemory>
+    ensures { IfOk result (λ copy. copy ≡ C.Binary operator left.now right.now) }
+{
+    let left = copy_code(alloc, left)?;
+    binary(alloc, operator, left, copy_code(alloc, right)?)
+}
+
+#[cycle(copy)]
+fn copy_conditional(
+    alloc: Global,
+    condition: &Code<Slot>,
+    first: &Code<Slot>,
+    second: &Code<Slot>,
+) -> Result<Boxed<Code<Slot>>, NoMemory>
+    ensures { IfOk result (λ copy. copy ≡ C.Conditional condition.now first.now second.now) }
+{
+    let condition = copy_code(alloc, condition)?;
+    let first = copy_code(alloc, first)?;
+    conditional(alloc, condition, first, copy_code(alloc, second)?)
+}
+
+#[cycle(copy)]
+fn copy_built_in(
+    alloc: Global,
+    call: BuiltIn,
+    arguments: &[Code<Slot>],
+) -> Result<Boxed<Code<Slot>>, NoMemory>
+    ensures { IfOk result (λ copy. copy ≡ C.BuiltIn call arguments.now) }
+{
+    built_in(alloc, call, copy_codes(alloc, arguments)?)
 }
 
 #[cycle(copy)]
@@ -195,12 +249,19 @@ fn copy_takings(alloc: Global, takings: &[Taking<Code<Slot>>]) -> Result<Takings
     Ok(copied)
 }
 
+/// A copy of a type, in a box.
+pub fn boxed_copy(alloc: Global, kind: &SplType) -> Result<Boxed<SplType>, NoMemory>
+    ensures { IfOk result (λ copy. copy ≡ kind.now) }
+{
+    let copy = copy_type(alloc, kind)?;
+    Ok(Boxed::new(alloc, copy)?)
+}
+
 /// A copy of a type and a code.
 pub fn copy_typed(alloc: Global, typed: &Typed) -> Result<Typed, NoMemory>
     ensures { IfOk result (λ copy. copy ≡ typed.now) }
 {
-    let kind = copy_type(alloc, typed.kind.get())?;
-    let kind = Boxed::new(alloc, kind)?;
+    let kind = boxed_copy(alloc, typed.kind.get())?;
     let code = copy_code(alloc, typed.code.get())?;
     Ok(Typed { kind, code })
 }

@@ -12,6 +12,7 @@ mod env;
 mod expansion;
 mod flow;
 mod laws;
+mod named;
 mod outs;
 mod scope;
 
@@ -28,7 +29,7 @@ pub use code_lists::{
     Codes, EntryCodes, FieldCodes, Takings, push_code, push_element, push_entry, push_field,
     push_key,
 };
-pub use copying::{copy_refusal, copy_typed};
+pub use copying::{boxed_copy, copy_refusal, copy_typed};
 pub use env::{Env, Tuples};
 pub use expansion::{ExpansionRefusal, Operation, Source};
 pub use flow::Flow;
@@ -36,6 +37,9 @@ pub use laws::{
     changes_law, dollars_law, dollars_on_literals, evaluation_law, flat_law, graphs_on_literals,
     names_on_literals, places_law, renaming_law, slots_on_literals, statements_law, typing_law,
     value_law,
+};
+pub use named::{
+    attribute_named, dollar_named, function_named, port_named, unresolved_named, variable_named,
 };
 pub use outs::{Output, Outs};
 pub use scope::{

@@ -8,7 +8,7 @@ use Rattle.spl_tree.specs.declared.unit.HandledEvent.TheVariants as H
 use Rattle.language_model.specs.declared.checked.Handled.{Handled}
 use Rattle.language_model.specs.declared.checked.StateVariable.{StateVariable}
 use Rattle.language_model.specs.LogicTyping.{handler_of, handlers_on, is_event}
-use Rattle.logic_rules.specs.Handling.{made_of}
+use Rattle.logic_rules.specs.ByPorts.{made_of}
 use Rattle.spl_value.proofs.Bools.{and_false as false_behind}
 
 -- ---- ports without handlers

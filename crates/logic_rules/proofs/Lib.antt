@@ -1,8 +1,5 @@
-pub mod CodeWeights
 pub mod PlainLaws
 pub mod StateValueLaws
-pub mod Lists
 pub mod FoundRows
 pub mod StateTyping
 pub mod ByPorts
-pub mod HandlersFound

@@ -1,6 +1,10 @@
-//! The rules of types and clauses of operators.
+//! The state of a Custom, and its handlers by their ports.
 #![tactic(auto)]
 
-mod logic;
+mod by_port;
+mod plain_codes;
+mod state;
+mod state_values;
 
-pub use logic::logic_of;
+pub use by_port::by_ports;
+pub use state::{state_in, variables_of};

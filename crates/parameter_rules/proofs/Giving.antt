@@ -19,7 +19,7 @@ use Rattle.language_model.specs.Typing.{Found, after, mismatch}
 use Rattle.parameter_rules.specs.declared.parameters.roles.Role as C
 use Rattle.parameter_rules.specs.declared.parameters.roles.Role.TheVariants as R
 use Rattle.parameter_rules.specs.Roles.{role_seen}
-use Rattle.parameter_rules.proofs.Answering.{IsRow}
+use Rattle.literal_sites.proofs.Answering.{IsRow}
 use Rattle.spl_value.proofs.Lists.{drop_at}
 
 -- a parameter of another role than attributes has one value

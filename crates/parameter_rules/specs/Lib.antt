@@ -1,5 +1,2 @@
-pub mod Following
 pub mod Roles
-pub mod Sites
 pub mod Taking
-pub mod Windows

@@ -4,18 +4,18 @@ ghost use Rattle.std.specs.List.{list_any};
 ghost use Rattle.std.specs.Str.{bytes_eq};
 ghost use Rattle.language_model.specs.Checking.{parameters_checked};
 ghost use Rattle.language_model.specs.ParameterTyping.{parameter_typing, parameters_typing, role_of};
-ghost use Rattle.language_model.specs.Finds.{Finds};
-ghost use Rattle.parameter_rules.specs.Sites.{site_seen};
+ghost use Rattle.language_model.specs.declared.scope.CheckError.TheVariants as E;
+ghost use Rattle.language_model.specs.Finds.{Finds, IsRefused};
+ghost use Rattle.literal_sites.specs.Sites.{site_seen};
 
 mod given;
 mod keys;
 mod roles;
 mod values;
 
-use crate::literals::ExpressionSite;
-use crate::literals::refusals::{extra, missing_parameter};
 pub use given::{position_given, strict_given, take_code, take_file, take_places};
-use language_model::{Given, TypeAnswer};
+use language_model::{CheckError, Given, TypeAnswer, refused_name};
+use literal_sites::{ExpressionSite, extra};
 use roles::{missing, role_of};
 use spl_tree::{OpKind, Parameter};
 use spl_value::Items;
@@ -44,6 +44,13 @@ pub fn parameters_of(
         Some(name) => Err(missing_parameter(alloc, at, name)),
         None => Ok(given),
     }
+}
+
+/// A parameter that is needed and that isn't given.
+fn missing_parameter(alloc: Global, at: u32, name: &[u8]) -> TypeAnswer
+    ensures { IsRefused E.MissingParameter at name.now result }
+{
+    refused_name(alloc, CheckError::MissingParameter, at, name)
 }
 
 /// Parameters in the order of the text.

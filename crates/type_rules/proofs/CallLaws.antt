@@ -21,7 +21,8 @@ use Rattle.language_model.specs.declared.scope.Typed.{Typed}
 use Rattle.language_model.specs.Scopes.{At, unresolved_of}
 use Rattle.language_model.specs.StatementTyping.{function_statement}
 use Rattle.language_model.specs.Typing.{Found, OnFirst, Part, after, arguments_typed, built_in_typed, changed_typed, first_typed, function_typed, if_mutable, int32, is_mutable, level_changed, level_first, mismatch, not_callable, part_typed, refused, typed, value_given, wrong_call}
-use Rattle.type_rules.specs.Calls.{Asked, asked, asked_by_change, change_asked, first_for, function_found, given, row_for, value_asked}
+use Rattle.call_rules.specs.Calls.{Asked, asked, asked_by_change, change_asked, first_for, given, row_for, value_asked}
+use Rattle.name_rules.specs.Functions.{function_found}
 use Rattle.language_model.specs.Finds.{with_front}
 use Rattle.type_rules.proofs.Steps.{after_each}
 use Rattle.language_model.proofs.FoundAnswers.{after_after}

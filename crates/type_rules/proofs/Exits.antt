@@ -1,5 +1,5 @@
--- What operators and calls come to, by what the calls in them came to.
-use Rattle.std.specs.Prelude.{◌≡◌, ℕ, Bool, true, false, if◌then◌else◌, List, Option, Some, None, Ok}
+-- What operators between two operands come to, by what the operands came to.
+use Rattle.std.specs.Prelude.{◌≡◌, Option, Some, None}
 use Rattle.std.proofs.Common.{refl}
 use Rattle.spl_value.specs.declared.types.SplType.{SplType}
 use Rattle.spl_value.specs.declared.types.SplType.TheViews.{out-SplType}
@@ -8,13 +8,10 @@ use Rattle.spl_tree.specs.declared.expression.BinaryOperator.{BinaryOperator}
 use Rattle.spl_tree.specs.declared.expression.BinaryOperator.TheVariants as B
 use Rattle.spl_tree.specs.declared.code.BinaryCode.{BinaryCode}
 use Rattle.language_model.specs.declared.scope.Scope.{Scope}
-use Rattle.language_model.specs.declared.scope.CheckError.TheVariants as E
 use Rattle.language_model.specs.declared.scope.Typed.{Typed}
-use Rattle.language_model.specs.Typing.{Found, Part, part_typed, binary_typed, operands_typed, level_operator, after, if_mutable, is_mutable, refused}
-use Rattle.type_rules.specs.Operands.{left_or, operation_given, right_for, same_given}
+use Rattle.language_model.specs.Typing.{Found, Part, part_typed, binary_typed, operands_typed, level_operator, after}
+use Rattle.call_rules.specs.Operands.{left_or, operation_given, right_for, same_given}
 use Rattle.type_rules.proofs.Steps.{after_each}
-
--- ---- operators between two operands
 
 abbrev pub with_right : Scope → BinaryOperator → Placed Part → Placed Part → Typed → Found Typed
 with_right scope op l r x = after (right_for l.at op x.kind) (λ w. after (part_typed r scope w) (λ y. operation_given l.at r.at x y op))
@@ -27,15 +24,3 @@ by_operator scope l r x (Some op) = refl
 pub binary_law : (scope : Scope) (op : BinaryOperator) (l r : Placed Part) → binary_typed scope op l r ≡ after (part_typed l scope None) (with_right scope op l r)
 binary_law scope B.In l r = refl
 binary_law scope op l r = after_each (part_typed l scope None) _ _ (λ x. by_operator scope l r x (level_operator op (out-SplType x.kind)))
-
--- ---- what is changed
-
-if_named : {A : Type 0} (at : ℕ) (scope : Scope) (e : Placed Part) (found : Found A) (b : Bool)
-    → (if b then found else refused E.NotMutable e.at None) ≡ after (if b then Ok (tt {0}) else refused E.NotMutable e.at None) (λ u. found)
-if_named at scope e found true = refl
-if_named at scope e found false = refl
-
-pub if_changed : {A : Type 0} (at : ℕ) (scope : Scope) (e : Placed Part) (root : Option (List ℕ)) (found : Found A)
-    → if_mutable at scope e root found ≡ after (if_mutable at scope e root (Ok (tt {0}))) (λ u. found)
-if_changed at scope e None found = refl
-if_changed at scope e (Some name) found = if_named at scope e found (is_mutable scope name)

@@ -1,11 +1,8 @@
-mod Rows
-mod Wanting
-mod Prefixes
 mod Steps
 mod Loops
 mod Exits
 mod LiteralLaws
 mod CallLaws
-mod CallNames
 mod Weights
 mod PlacesFound
+mod WantedForms

@@ -19,8 +19,8 @@ use Rattle.language_model.specs.Typing.{Anything, Another, Found, Part, This, Wa
 use Rattle.language_model.specs.TypingLaws.{entry_parts, field_part, field_parts, parted, parts}
 use Rattle.language_model.specs.declared.answer.TypeAnswer.{TypeAnswer}
 use Rattle.language_model.specs.Finds.{Finds}
-use Rattle.type_rules.specs.Kinds.{if_wanted, schema_for}
-use Rattle.type_rules.specs.LiteralAnswers.{attribute_for, field_for, list_given, map_given, with_own}
+use Rattle.name_rules.specs.Wanted.{if_wanted, schema_for}
+use Rattle.name_rules.specs.LiteralAnswers.{attribute_for, field_for, list_given, map_given, with_own}
 use Rattle.type_rules.proofs.Steps.{after_each}
 use Rattle.language_model.proofs.FoundAnswers.{after_after, finds_by, goes, stops}
 use Rattle.spl_value.proofs.Lists.{drop_at}

@@ -19,8 +19,8 @@ use Rattle.language_model.specs.Typing.{Found, after, typing, typed, level_step,
 use Rattle.language_model.specs.TypingLaws.{parts, step_part, step_parts}
 use Rattle.language_model.specs.declared.answer.TypeAnswer.{TypeAnswer}
 use Rattle.language_model.specs.Finds.{Finds, with_front}
-use Rattle.type_rules.specs.Kinds.{index_for}
-use Rattle.type_rules.specs.Takings.{Taken, behind, index_taken, member_taken}
+use Rattle.name_rules.specs.Wanted.{index_for}
+use Rattle.name_rules.specs.Takings.{Taken, behind, index_taken, member_taken}
 use Rattle.language_model.proofs.FoundAnswers.{after_after, finds_by, stops}
 use Rattle.spl_value.proofs.Lists.{drop_at}
 

@@ -6,10 +6,8 @@ ghost use Rattle.language_model.specs.StatementTyping.{level_variable, level_pla
 ghost use Rattle.language_model.specs.Finds.{Finds};
 ghost use Rattle.type_rules.specs.Places.{with_kind};
 
-use crate::answer::not_mutable;
-use crate::boxing::release;
-use crate::calls::may_change;
 use crate::rules::type_of;
+use call_rules::{may_change, not_mutable};
 use language_model::{Scope, Takings, TypeAnswer, Typed};
 use spl_tree::{Code, Expr, Place, Slot};
 use spl_value::{Boxed, Items, SplType};
@@ -27,6 +25,9 @@ fn variable_read(code: Boxed<Code<Slot>>, takings: Takings) -> Option<Place>
         _ => None,
     }
 }
+
+/// Lets go of a code.
+fn release(_code: Code<Slot>) {}
 
 /// The place that a code reads, where it is one of a variable.
 fn place_read(alloc: Global, code: Boxed<Code<Slot>>) -> Option<Place>
@@ -63,7 +64,7 @@ pub(crate) fn place_given(
 
 /// The place that an expression is, with the type of what it holds. It has to be one that may be
 /// changed.
-#[tactic(auto, using(crate::proofs::Exits::if_changed))]
+#[tactic(auto, using(call_rules::proofs::Changing::if_changed))]
 pub(crate) fn place_of(
     alloc: Global,
     scope: &Scope,

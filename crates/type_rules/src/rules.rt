@@ -8,23 +8,17 @@ ghost use Rattle.language_model.specs.Typing.{typing, typed, part, list_typed, w
 ghost use Rattle.language_model.specs.TypingLaws.{parted, parts, entry_parts, field_parts, step_parts};
 ghost use Rattle.language_model.specs.Finds.{Finds, with_front};
 
-use crate::boxing::{kind_in, kinds_in, truth};
-use crate::calls::{
-    argument_row, behind_first, call_named, called, first_wanted, function_given, given,
+use call_rules::{
+    argument_row, asks, behind_first, branch_wanted, call_named, first_wanted, given, marker,
+    marker_test, operation_of, prefixed, required, right_wanted, truth,
 };
-use crate::forms::{asks, marker, marker_test, port_member};
-use crate::kinds::{
-    as_wanted, element_wanted, field_wanted, index_wanted, pair_wanted, schema_wanted,
-};
-use crate::literals::{
-    add_code, add_field, list_given, map_given, tuple_given, with_element, with_entry,
-};
-use crate::making::{
-    chosen, literal, number_typed, of_port, select, take_index, take_member, text,
-};
-use crate::names::{dollar_typed, name_typed};
-use crate::operators::{branch_wanted, operation_of, prefixed, right_wanted};
 use language_model::{Codes, Scope, TypeAnswer, Typed};
+use name_rules::{
+    add_code, add_field, called, chosen, dollar_typed, element_wanted, field_wanted,
+    function_given, index_wanted, kind_in, kinds_in, list_given, literal, map_given, name_typed,
+    number_typed, of_port, pair_wanted, port_member, schema_wanted, select, take_index,
+    take_member, text, tuple_given, with_element, with_entry,
+};
 use spl_tree::{BinaryOperator, CallName, Expr, ExprKind, Field, Step};
 use spl_value::{Items, SplType, Value};
 use std::alloc::Global;
@@ -58,38 +52,45 @@ fn type_at(
     ensures { Finds (typing scope.now expr.now (option_copied wanted.entry)) result }
 {
     let at = expr.at;
-    let found = match expr.what.get() {
-        ExprKind::Group(inner) => return type_at(alloc, scope, inner, wanted),
-        ExprKind::List(elements) => {
-            return list(alloc, scope, at, elements.as_slice(), wanted);
-        }
-        ExprKind::Map(entries) => return map(alloc, scope, at, entries.as_slice(), wanted),
-        ExprKind::Tuple(fields) => return tuple(alloc, scope, at, fields.as_slice(), wanted),
+    match expr.what.get() {
+        ExprKind::Group(inner) => type_at(alloc, scope, inner, wanted),
+        ExprKind::List(elements) => list(alloc, scope, at, elements.as_slice(), wanted),
+        ExprKind::Map(entries) => map(alloc, scope, at, entries.as_slice(), wanted),
+        ExprKind::Tuple(fields) => tuple(alloc, scope, at, fields.as_slice(), wanted),
         ExprKind::Conditional(condition, first, second) => {
             let test = type_at(alloc, scope, condition, Some(&SplType::Bool))?;
             let one = type_at(alloc, scope, first, wanted)?;
             let wanted = branch_wanted(wanted, one.kind.get());
             let other = type_at(alloc, scope, second, wanted)?;
-            return chosen(alloc, test, one, other);
+            chosen(alloc, test, one, other)
         }
-        ExprKind::Name(name) => name_typed(alloc, scope, at, name.as_slice()),
-        ExprKind::Dollar(name) => dollar_typed(alloc, scope, at, name.as_slice()),
-        ExprKind::Number(number) => number_typed(alloc, at, *number),
-        ExprKind::Text(bytes) => text(alloc, bytes),
-        ExprKind::Bool(b) => literal(alloc, SplType::Bool, Value::Bool(*b)),
+        ExprKind::Name(name) => {
+            required(at, wanted, name_typed(alloc, scope, at, name.as_slice()))
+        }
+        ExprKind::Dollar(name) => {
+            required(at, wanted, dollar_typed(alloc, scope, at, name.as_slice()))
+        }
+        ExprKind::Number(number) => required(at, wanted, number_typed(alloc, at, *number)),
+        ExprKind::Text(bytes) => required(at, wanted, text(alloc, bytes)),
+        ExprKind::Bool(b) => {
+            required(at, wanted, literal(alloc, SplType::Bool, Value::Bool(*b)))
+        }
         ExprKind::Call(name, arguments) => {
-            call(alloc, scope, at, name.as_slice(), arguments.as_slice())
+            let found = call(alloc, scope, at, name.as_slice(), arguments.as_slice());
+            required(at, wanted, found)
         }
-        ExprKind::Select(base, steps) => selection(alloc, scope, base, steps.as_slice()),
+        ExprKind::Select(base, steps) => {
+            required(at, wanted, selection(alloc, scope, base, steps.as_slice()))
+        }
         ExprKind::Unary(prefixes, operand) => {
-            let typed = type_at(alloc, scope, operand, None)?;
-            prefixed(alloc, prefixes.as_slice(), operand.at, typed)
+            let typed = type_at(alloc, scope, operand, None);
+            let found = prefixed(alloc, prefixes.as_slice(), operand.at, typed);
+            required(at, wanted, found)
         }
         ExprKind::Binary(operator, left, right) => {
-            operation(alloc, scope, *operator, left, right)
+            required(at, wanted, operation(alloc, scope, *operator, left, right))
         }
-    };
-    as_wanted(at, wanted, found?)
+    }
 }
 
 /// A list. Its elements have to be of the wanted type, or else of that of the first one.

@@ -8,16 +8,22 @@ ghost use Rattle.language_model.specs.StatementTyping.{assignment_typing, compou
 ghost use Rattle.language_model.specs.Finds.{Finds};
 ghost use Rattle.type_rules.specs.Places.{only};
 
-use crate::calls::{argument_count, call_named, called, change_asked};
-use crate::kinds::as_wanted;
-use crate::making::code_of;
-use crate::operators::{binary, operator_on};
 use crate::places::{place_given, place_of};
 use crate::rules::{arguments, call, type_of};
+use call_rules::{argument_count, as_wanted, binary, call_named, change_asked, operator_on};
 use language_model::{Codes, Scope, TypeAnswer, Typed, mismatch, narrow, wrong_call};
+use name_rules::called;
 use spl_tree::{BinaryOperator, CallName, Change, Code, Expr, ExprKind, Place, Slot, Statement};
 use spl_value::{Boxed, Items, SplType};
 use std::alloc::Global;
+
+/// The code alone.
+fn code_of(typed: Typed) -> Code<Slot>
+    ensures { result ≡ typed.code }
+{
+    let Typed { code, .. } = typed;
+    code.into_inner()
+}
 
 /// The statement `place = value;` in a scope.
 ///

@@ -1,29 +1,15 @@
 //! Submits.
-ghost use Rattle.std.specs.Prelude.{◌≡◌};
-ghost use Rattle.std.specs.Str.{bytes_eq};
 ghost use Rattle.language_model.specs.BodyTyping.{submit_typing, submitted};
-ghost use Rattle.language_model.specs.Scopes.{first_from};
 ghost use Rattle.body_rules.specs.Settings.{purpose_meant, setting_meant};
-ghost use Rattle.language_model.specs.Finds.{Finds, Points};
+ghost use Rattle.language_model.specs.Finds.{Finds};
 
 use super::{BodyPurpose, BodySetting};
-use language_model::{Port, Scope, TypeAnswer, narrow, unknown, wrong_call};
+use call_rules::marker;
+use language_model::{Scope, TypeAnswer, narrow, port_named, unknown, wrong_call};
 use spl_tree::{Expr, Marker, Placed, Statement};
 use spl_value::{Boxed, Name, Schema, SplType, copy_schema};
 use std::alloc::Global;
-use type_rules::{marker, type_of};
-
-/// The first port of the name, with its place.
-fn port_named<'u>(ports: &'u [Port], name: &[u8]) -> Option<(usize, &'u Port)>
-    ensures { Points (first_from (λ p. bytes_eq p.name name.now) 0 ports.now) result }
-{
-    for (at, port) in ports.iter().enumerate() {
-        if port.name.as_slice() == name {
-            return Some((at, port));
-        }
-    }
-    None
-}
+use type_rules::type_of;
 
 /// `submit`, which stands in handlers alone.
 pub(super) fn submitted(

@@ -6,8 +6,7 @@ ghost use Rattle.language_model.specs.ParameterTyping.{first_schema, key_of, key
 ghost use Rattle.language_model.specs.Finds.{Finds};
 
 use super::values::word_of;
-use crate::literals::attributes::attribute;
-use language_model::{Port, TypeAnswer, mismatch, narrow, unknown};
+use language_model::{Port, TypeAnswer, attribute_named, mismatch, narrow, unknown};
 use spl_tree::Expr;
 use spl_value::{Attribute, Items, Places, SplType};
 use std::alloc::Global;
@@ -62,7 +61,7 @@ fn key_of(
     let Some(name) = word_of(value) else {
         return Err(mismatch(value.at));
     };
-    let Some((place, found)) = attribute(schema, name) else {
+    let Some((place, found)) = attribute_named(schema, name) else {
         return Err(unknown(alloc, value.at, name));
     };
     if !is_key(&found.kind) {

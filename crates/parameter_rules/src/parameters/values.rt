@@ -5,12 +5,13 @@ ghost use Rattle.spl_value.specs.declared.types.SplType.TheViews.{out-SplType};
 ghost use Rattle.language_model.specs.ParameterTyping.{format_of, level_index, one_value, parsing_of, position_of, single_value, value_typing, word_of};
 ghost use Rattle.language_model.specs.Finds.{Finds};
 ghost use Rattle.parameter_rules.specs.Roles.{role_seen};
-ghost use Rattle.parameter_rules.specs.Sites.{site_seen};
+ghost use Rattle.literal_sites.specs.Sites.{site_seen};
 
 use super::keys::{first_schema, some_keys};
 use super::roles::Role;
-use crate::literals::{ExpressionSite, file_name};
+use crate::files::file_name;
 use language_model::{ParameterValue, Position, TypeAnswer, Typed, mismatch};
+use literal_sites::ExpressionSite;
 use spl_tree::{Code, Expr, ExprKind, Parameter, Slot};
 use spl_value::{Boxed, SplType};
 use std::alloc::Global;

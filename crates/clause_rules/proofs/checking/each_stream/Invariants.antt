@@ -1,4 +1,4 @@
-use Rattle.std.proofs.Common.{◌≡◌, ◌-◌, length}
+use Rattle.std.proofs.Common.{◌≡◌, ◌-◌}
 use Rattle.language_model.specs.Checking.{each_stream}
 use Rattle.language_model.specs.Numbering.{numbers_from}
 use Rattle.language_model.specs.Finds.{with_front}

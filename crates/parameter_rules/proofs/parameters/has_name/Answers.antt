@@ -1,5 +1,5 @@
 use Rattle.std.specs.Str.{bytes_eq}
-use Rattle.parameter_rules.proofs.Lists.{any_key}
+use Rattle.literal_sites.proofs.Lists.{any_key}
 use Rattle.parameter_rules.proofs.parameters.has_name.Goals as goal
 
 pub loop-parameter-init : goal.loop-parameter-init

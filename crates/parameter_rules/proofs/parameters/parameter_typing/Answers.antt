@@ -7,8 +7,8 @@ use Rattle.language_model.specs.declared.scope.CheckError.TheVariants as E
 use Rattle.language_model.specs.ParameterTyping.{role_of, value_typing}
 use Rattle.language_model.specs.Typing.{after, refused}
 use Rattle.parameter_rules.specs.Roles.{role_seen}
-use Rattle.parameter_rules.specs.Sites.{site_seen}
-use Rattle.parameter_rules.proofs.Answering.{fails, refuses}
+use Rattle.literal_sites.specs.Sites.{site_seen}
+use Rattle.literal_sites.proofs.Answering.{fails, refuses}
 use Rattle.parameter_rules.proofs.Giving.{parameter_once, parameter_twice}
 use Rattle.parameter_rules.proofs.parameters.parameter_typing.Goals as goal
 use Rattle.language_model.proofs.FoundAnswers.{finds_by, stops}

@@ -2,10 +2,10 @@ use Rattle.std.specs.Prelude.{map, reverse, drop, ◌+◌, Err}
 use Rattle.std.proofs.Common.{ap, sym, ◌∙◌}
 use Rattle.language_model.specs.ParameterTyping.{parameters_typing}
 use Rattle.language_model.specs.Finds.{with_front}
-use Rattle.parameter_rules.specs.Sites.{site_seen}
-use Rattle.parameter_rules.proofs.Answering.{fails, row_on, row_stops}
+use Rattle.literal_sites.specs.Sites.{site_seen}
+use Rattle.literal_sites.proofs.Answering.{fails, row_on, row_stops}
 use Rattle.parameter_rules.proofs.Giving.{parameter_behind, parameters_row}
-use Rattle.parameter_rules.proofs.Lists.{keys_more}
+use Rattle.literal_sites.proofs.Lists.{keys_more}
 use Rattle.parameter_rules.proofs.parameters.parameters_typing.Goals as goal
 use Rattle.language_model.proofs.FoundAnswers.{finds_by}
 

@@ -1,7 +1,7 @@
 use Rattle.std.proofs.Common.{◌≡◌, map, reverse, drop, []}
 use Rattle.language_model.specs.ParameterTyping.{parameters_typing}
 use Rattle.language_model.specs.Finds.{with_front}
-use Rattle.parameter_rules.specs.Sites.{site_seen}
+use Rattle.literal_sites.specs.Sites.{site_seen}
 use Rattle.parameter_rules.proofs.parameters.parameters_typing.Given as goal
 
 abbrev pub invariant-loop-parameter : goal.invariant-loop-parameter

@@ -8,6 +8,9 @@ use Rattle.type_rules.proofs.Weights.{weight, expr_weight, weights, entry_weight
 use Rattle.type_rules.proofs.rules.+types.Goals.{arguments-then-arguments-test+else-at-arguments, arguments-else-arguments-test, taken-in-Member+in_ok-kind-in-Member, taken-in-Index+in_ok-index_wanted-in-Index+in_ok-typed-in-Index+in_ok-kind-in-Index}
 use Rattle.type_rules.proofs.rules.+types.Goals as goal
 use Rattle.language_model.proofs.FoundAnswers.{fails, finds_by}
+use Rattle.language_model.proofs.TypingLaws as laws
+use Rattle.spl_tree.specs.declared.expression.ExprKind.TheVariants as V
+use Rattle.type_rules.proofs.WantedForms.{by_form}
 
 pub list-loop-element-preserved : goal.list-loop-element-preserved
 list-loop-element-preserved t c =
@@ -130,8 +133,8 @@ pub type_at-call-found-requires : goal.type_at-call-found-requires
 type_at-call-found-requires t c =
     (let w = ap weight (sym c.get.ensures ∙ c.in-Call.is) ∙ call_weight c.in-Call.name c.in-Call.arguments in let e = ap weights c.as_slice-in-Call-2.ensures in omega arith, tt)
 
-pub type_at-selection-found-requires : goal.type_at-selection-found-requires
-type_at-selection-found-requires t c = (
+pub type_at-selection-requires : goal.type_at-selection-requires
+type_at-selection-requires t c = (
   let w = ap weight (sym c.get.ensures ∙ c.in-Select.is) ∙ select_weight c.in-Select.base c.in-Select.steps in
       let e = ap step_weights c.as_slice-in-Select.ensures in omega arith,
   tt,
@@ -144,3 +147,66 @@ built_in-type_at-requires t c =
 pub built_in-arguments-requires : goal.built_in-arguments-requires
 built_in-arguments-requires t c =
     (let q = ap weights c.in_ok-first.ensures.row in omega arith, tt)
+
+pub type_at-returns-in-Name : goal.type_at-returns-in-Name
+type_at-returns-in-Name t c =
+    let at = c.args.expr.now.at in
+    let scope = c.args.scope.now in
+    let w = option_copied c.args.wanted in
+    by_form c.args.expr.now.what _ at scope w (sym c.get.ensures ∙ c.in-Name.is ∙ (λ i. V.Name (sym c.as_slice-in-Name.ensures i))) _ (laws.name_typed c.as_slice-in-Name.result.now at scope w) _ _ c.required.ensures c.name_typed.ensures
+
+pub type_at-returns-in-Dollar : goal.type_at-returns-in-Dollar
+type_at-returns-in-Dollar t c =
+    let at = c.args.expr.now.at in
+    let scope = c.args.scope.now in
+    let w = option_copied c.args.wanted in
+    by_form c.args.expr.now.what _ at scope w (sym c.get.ensures ∙ c.in-Dollar.is ∙ (λ i. V.Dollar (sym c.as_slice-in-Dollar.ensures i))) _ (laws.dollar_typed c.as_slice-in-Dollar.result.now at scope w) _ _ c.required-in-Dollar.ensures c.dollar_typed.ensures
+
+pub type_at-returns-in-Number : goal.type_at-returns-in-Number
+type_at-returns-in-Number t c =
+    let at = c.args.expr.now.at in
+    let scope = c.args.scope.now in
+    let w = option_copied c.args.wanted in
+    by_form c.args.expr.now.what _ at scope w (sym c.get.ensures ∙ c.in-Number.is) _ (laws.number_typed c.in-Number.number at scope w) _ _ c.required-in-Number.ensures c.number_typed.ensures
+
+pub type_at-returns-in-Text : goal.type_at-returns-in-Text
+type_at-returns-in-Text t c =
+    let at = c.args.expr.now.at in
+    let scope = c.args.scope.now in
+    let w = option_copied c.args.wanted in
+    by_form c.args.expr.now.what _ at scope w (sym c.get.ensures ∙ c.in-Text.is) _ (laws.text_typed c.in-Text.bytes at scope w) _ _ c.required-in-Text.ensures c.text.ensures
+
+pub type_at-returns-in-Bool : goal.type_at-returns-in-Bool
+type_at-returns-in-Bool t c =
+    let at = c.args.expr.now.at in
+    let scope = c.args.scope.now in
+    let w = option_copied c.args.wanted in
+    by_form c.args.expr.now.what _ at scope w (sym c.get.ensures ∙ c.in-Bool.is) _ (laws.bool_typed c.in-Bool.b at scope w) _ _ c.required-in-Bool.ensures c.literal.ensures
+
+pub type_at-returns-in-Call : goal.type_at-returns-in-Call
+type_at-returns-in-Call t c =
+    let at = c.args.expr.now.at in
+    let scope = c.args.scope.now in
+    let w = option_copied c.args.wanted in
+    by_form c.args.expr.now.what _ at scope w (sym c.get.ensures ∙ c.in-Call.is ∙ (λ i. V.Call (sym c.as_slice-in-Call.ensures i) (sym c.as_slice-in-Call-2.ensures i))) _ (laws.call_typed c.as_slice-in-Call.result.now c.as_slice-in-Call-2.result.now at scope w) _ _ c.required-in-Call.ensures c.call-found.ensures
+
+pub type_at-returns-in-Select : goal.type_at-returns-in-Select
+type_at-returns-in-Select t c =
+    let at = c.args.expr.now.at in
+    let scope = c.args.scope.now in
+    let w = option_copied c.args.wanted in
+    by_form c.args.expr.now.what _ at scope w (sym c.get.ensures ∙ c.in-Select.is ∙ (λ i. V.Select c.in-Select.base (sym c.as_slice-in-Select.ensures i))) _ (laws.select_typed c.in-Select.base c.as_slice-in-Select.result.now at scope w) _ _ c.required-in-Select.ensures c.selection.ensures
+
+pub type_at-returns-in-Unary : goal.type_at-returns-in-Unary
+type_at-returns-in-Unary t c =
+    let at = c.args.expr.now.at in
+    let scope = c.args.scope.now in
+    let w = option_copied c.args.wanted in
+    by_form c.args.expr.now.what _ at scope w (sym c.get.ensures ∙ c.in-Unary.is ∙ (λ i. V.Unary (sym c.as_slice-in-Unary.ensures i) c.in-Unary.operand)) _ (laws.unary_typed c.as_slice-in-Unary.result.now c.in-Unary.operand at scope w) _ _ c.required-in-Unary.ensures (c.prefixed-found.ensures _ c.type_at-typed.ensures)
+
+pub type_at-returns-in-Binary : goal.type_at-returns-in-Binary
+type_at-returns-in-Binary t c =
+    let at = c.args.expr.now.at in
+    let scope = c.args.scope.now in
+    let w = option_copied c.args.wanted in
+    by_form c.args.expr.now.what _ at scope w (sym c.get.ensures ∙ c.in-Binary.is) _ (laws.binary_typed c.in-Binary.operator c.in-Binary.left c.in-Binary.right at scope w) _ _ c.required-in-Binary.ensures c.operation.ensures

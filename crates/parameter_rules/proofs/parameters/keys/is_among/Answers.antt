@@ -1,6 +1,6 @@
 use Rattle.std.specs.Prelude.{◌==◌}
 use Rattle.std.proofs.Common.{sym, ◌∙◌}
-use Rattle.parameter_rules.proofs.Lists.{any_reverse}
+use Rattle.literal_sites.proofs.Lists.{any_reverse}
 use Rattle.parameter_rules.proofs.parameters.keys.is_among.Goals as goal
 
 pub returns : goal.returns

@@ -2,7 +2,7 @@ use Rattle.std.specs.Prelude.{reverse, drop, ◌+◌, Err}
 use Rattle.std.proofs.Common.{ap, sym, ◌∙◌}
 use Rattle.language_model.specs.ParameterTyping.{keys_typing}
 use Rattle.language_model.specs.Finds.{with_front}
-use Rattle.parameter_rules.proofs.Answering.{fails, row_on, row_stops}
+use Rattle.literal_sites.proofs.Answering.{fails, row_on, row_stops}
 use Rattle.parameter_rules.proofs.Giving.{key_behind, keys_row}
 use Rattle.parameter_rules.proofs.parameters.keys.keys_typing.Goals as goal
 use Rattle.language_model.proofs.FoundAnswers.{finds_by}

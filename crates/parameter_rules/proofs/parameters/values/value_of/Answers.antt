@@ -1,7 +1,7 @@
 use Rattle.std.proofs.Common.{ap, sym, ◌∙◌}
 use Rattle.language_model.specs.ParameterTyping.{one_value, single_value}
 use Rattle.parameter_rules.specs.Roles.{role_seen}
-use Rattle.parameter_rules.specs.Sites.{site_seen}
+use Rattle.literal_sites.specs.Sites.{site_seen}
 use Rattle.parameter_rules.proofs.Giving.{other_value}
 use Rattle.parameter_rules.proofs.parameters.values.value_of.Goals as goal
 use Rattle.language_model.proofs.FoundAnswers.{finds_by}

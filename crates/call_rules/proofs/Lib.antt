@@ -1,0 +1,5 @@
+pub mod Changing
+mod Emptiness
+mod Wanting
+mod Prefixes
+mod CallNames

@@ -1,0 +1,4 @@
+pub mod Kinds
+pub mod Operands
+pub mod Calls
+pub mod CallNames

@@ -1,0 +1,13 @@
+use Rattle.std.specs.Prelude.{◌-◌}
+use Rattle.std.proofs.Common.{ap, ◌∙◌}
+use Rattle.language_model.specs.Literals.{Outside}
+use Rattle.literal_sites.proofs.Following.{follow_step, outside}
+use Rattle.literal_sites.proofs.follow.Follow.behind.Goals as goal
+
+pub expansions-preserved : goal.expansions-preserved
+expansions-preserved c =
+    let f = c.args.self.now in
+    c.expansions.invariant
+    ∙ follow_step f.composites.now.unit.now f.expansions.now c.expansions.left c.expansions.number c.expansions.expr.now c.in_ok-expansion.expansion.now
+    (Outside c.in-Outside.argument.now) c.expansions-test.true c.in_ok-expansion.ensures c.in-Outside.ensures
+    ∙ ap (λ site. outside f.composites.now.unit.now f.expansions.now (c.expansions.left - 1) site c.in-Outside.argument.now) c.in_ok-site.was

@@ -1,0 +1,22 @@
+-- Where the expressions of an operator stand, by what a call is given.
+use Rattle.std.specs.Prelude.{Option}
+use Rattle.spl_tree.specs.Grammar.{Expr}
+use Rattle.language_model.specs.Literals.{followed, number_literal}
+use Rattle.language_model.specs.ParameterTyping.{Site}
+use Rattle.language_model.specs.Policies.{Numbers}
+use Rattle.literal_sites.specs.declared.site.ExpressionSite.{ExpressionSite}
+use Rattle.literal_sites.specs.declared.follow.Follow.{Follow}
+
+-- what is behind `$` parameters in the body of an expansion
+abbrev pub followed_in : Follow → Expr → Option Expr
+followed_in f = followed f.composites.now.unit.now f.expansions.now f.number
+
+abbrev pub behind_at : ExpressionSite → Expr → Option Expr
+behind_at site = followed_in site.follow
+
+abbrev pub site_seen : ExpressionSite → Site
+site_seen site = record { scope = site.scope.now; follow = behind_at site }
+
+-- the number literals that expressions there stand for
+abbrev pub numbers_at : ExpressionSite → Numbers
+numbers_at site = number_literal site.scope.now (behind_at site)

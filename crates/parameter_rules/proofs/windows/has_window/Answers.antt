@@ -1,6 +1,0 @@
-use Rattle.std.specs.Prelude.{◌==◌}
-use Rattle.parameter_rules.proofs.Lists.{any_key}
-use Rattle.parameter_rules.proofs.windows.has_window.Goals as goal
-
-pub loop-port-init : goal.loop-port-init
-loop-port-init c = any_key (λ n. n == c.args.place) (λ x. x.0) c.args.found.now

@@ -1,9 +1,0 @@
--- What calls answer on what is behind `$` parameters, as the definitions see it.
-use Rattle.language_model.specs.Literals as L
-use Rattle.parameter_rules.specs.declared.literals.follow.Behind.{Behind}
-use Rattle.parameter_rules.specs.declared.literals.follow.Behind.TheVariants as B
-
-abbrev pub behind_seen : Behind → L.Behind
-behind_seen (B.Here e) = L.Here e.now
-behind_seen (B.Outside e) = L.Outside e.now
-behind_seen B.Nowhere = L.Nowhere

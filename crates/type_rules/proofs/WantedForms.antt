@@ -1,0 +1,14 @@
+-- What is found of an expression by its form, and then has to be of the wanted type.
+use Rattle.std.specs.Prelude.{◌≡◌, ℕ, Result}
+use Rattle.std.proofs.Common.{ap, ◌∙◌}
+use Rattle.spl_tree.specs.declared.expression.ExprKind.{ExprKind}
+use Rattle.language_model.specs.declared.answer.TypeAnswer.{TypeAnswer}
+use Rattle.language_model.specs.declared.scope.Scope.{Scope}
+use Rattle.language_model.specs.declared.scope.Typed.{Typed}
+use Rattle.language_model.specs.Typing.{Found, Wanted, after, as_wanted, part}
+use Rattle.language_model.specs.Finds.{Finds}
+use Rattle.language_model.proofs.FoundAnswers.{finds_by}
+
+pub by_form : (k x : ExprKind) (at : ℕ) (scope : Scope) (w : Wanted) → k ≡ x → (o : Found Typed) → (part x).found at scope w ≡ after o (as_wanted at w)
+    → (found r : Result Typed TypeAnswer) → ((o : Found Typed) → Finds o found → Finds (after o (as_wanted at w)) r) → Finds o found → Finds ((part k).found at scope w) r
+by_form k x at scope w is o form found r wanted f = finds_by _ _ r (ap (λ k. (part k).found at scope w) is ∙ form) (wanted o f)

@@ -1,9 +1,0 @@
-use Rattle.std.proofs.Common.{◌≡◌, drop}
-use Rattle.std.specs.Option.{option_map}
-use Rattle.std.specs.Str.{bytes_eq}
-use Rattle.language_model.specs.Scopes.{first_from, dollar_of}
-use Rattle.type_rules.proofs.names.dollar.Given as goal
-
-abbrev pub invariant-loop-at : goal.invariant-loop-at
-invariant-loop-at l =
-    dollar_of l.scope.dollars l.name ≡ option_map (λ d. d.what.found) (first_from (λ d. bytes_eq d.name l.name) l.at (drop l.at l.scope.dollars))

@@ -1,0 +1,217 @@
+//! When a window fires, and what it holds then, as its parts say.
+ghost use Rattle.std.specs.Prelude.{◌≡◌, None};
+ghost use Rattle.language_model.specs.declared.answer.TypeAnswer.TheVariants.{Refused};
+ghost use Rattle.language_model.specs.declared.scope.CheckError.TheVariants as E;
+ghost use Rattle.language_model.specs.Policies.{aggregate_rule, are_no_arguments, bad_window, is_word, join_rule, measured, nothing_behind, punctuated, sliding_alone, sliding_with_trigger, trigger, tumbling};
+ghost use Rattle.language_model.specs.Finds.{Finds};
+ghost use Rattle.literal_sites.specs.Sites.{numbers_at};
+ghost use Rattle.window_rules.specs.Windows.{counted, differing, slides_by, tumbles_by};
+
+use super::measures::{Measure, is_named, measure_of, only_count};
+use language_model::{CheckError, TypeAnswer, WindowRule, refused};
+use literal_sites::ExpressionSite;
+use spl_tree::WindowPart;
+use spl_value::Attribute;
+use std::alloc::Global;
+
+/// A window, or a part of one, that the operator doesn't have.
+pub(super) fn bad_window(at: u32) -> TypeAnswer
+    ensures { result ≡ Refused (record { error = E.BadWindow; at = at; name = None }) }
+{
+    refused(CheckError::BadWindow, at)
+}
+
+/// The rule of an Aggregate's window, whose port is named at a place.
+pub(super) fn aggregate_rule(
+    alloc: Global,
+    site: &ExpressionSite,
+    schema: &[Attribute],
+    at: u32,
+    parts: &[WindowPart],
+) -> Result<WindowRule, TypeAnswer>
+    ensures { Finds (aggregate_rule (numbers_at site.now) schema.now at parts.now) result }
+{
+    let Some((part, rest)) = parts.split_first() else {
+        return Err(bad_window(at));
+    };
+    if is_word(part, b"tumbling") {
+        tumbling(alloc, site, schema, at, rest)
+    } else if is_word(part, b"sliding") {
+        sliding_with_trigger(alloc, site, schema, at, rest)
+    } else {
+        Err(bad_window(part.name.at))
+    }
+}
+
+/// The rule of a Join's window.
+pub(super) fn join_rule(
+    alloc: Global,
+    site: &ExpressionSite,
+    schema: &[Attribute],
+    at: u32,
+    parts: &[WindowPart],
+) -> Result<WindowRule, TypeAnswer>
+    ensures { Finds (join_rule (numbers_at site.now) schema.now at parts.now) result }
+{
+    let Some((part, rest)) = parts.split_first() else {
+        return Err(bad_window(at));
+    };
+    if is_word(part, b"sliding") {
+        sliding_alone(alloc, site, schema, at, rest)
+    } else {
+        Err(bad_window(part.name.at))
+    }
+}
+
+/// Whether a part is that word, without parentheses.
+pub(super) fn is_word(part: &WindowPart, name: &[u8]) -> bool
+    ensures { result ≡ is_word name.now part.now }
+{
+    is_named(part, name) && part.arguments.is_none()
+}
+
+/// The rule behind `tumbling`.
+fn tumbling(
+    alloc: Global,
+    site: &ExpressionSite,
+    schema: &[Attribute],
+    at: u32,
+    parts: &[WindowPart],
+) -> Result<WindowRule, TypeAnswer>
+    ensures { Finds (tumbling (numbers_at site.now) schema.now at parts.now) result }
+{
+    let Some((part, rest)) = parts.split_first() else {
+        return Err(bad_window(at));
+    };
+    let rule = match measure_of(alloc, site, 1, schema, part)? {
+        Some(measure) => tumbling_by(measure),
+        None => punctuated(part)?,
+    };
+    last(rule, rest)
+}
+
+fn tumbling_by(measure: Measure) -> WindowRule
+    ensures { result ≡ tumbles_by measure }
+{
+    match measure {
+        Measure::Count(count) => WindowRule::TumblingCount(count),
+        Measure::Delta { attribute, limit } => WindowRule::TumblingDelta {
+            attr: attribute,
+            limit,
+        },
+    }
+}
+
+/// `punct()`
+fn punctuated(part: &WindowPart) -> Result<WindowRule, TypeAnswer>
+    ensures { Finds (punctuated part.now) result }
+{
+    if is_named(part, b"punct") && has_no_arguments(part) {
+        Ok(WindowRule::TumblingPunct)
+    } else {
+        Err(bad_window(part.name.at))
+    }
+}
+
+/// Whether a part has parentheses with nothing in them.
+fn has_no_arguments(part: &WindowPart) -> bool
+    ensures { result ≡ are_no_arguments part.now.arguments }
+{
+    match &part.arguments {
+        Some(arguments) => arguments.as_slice().is_empty(),
+        None => false,
+    }
+}
+
+/// A value behind whose part no other one stands.
+fn last<T: Copy>(value: T, rest: &[WindowPart]) -> Result<T, TypeAnswer>
+    ensures { Finds (nothing_behind value rest.now) result }
+{
+    match rest.first() {
+        Some(part) => Err(bad_window(part.name.at)),
+        None => Ok(value),
+    }
+}
+
+/// The rule behind the `sliding` of an Aggregate: what it keeps, and the count that fires.
+fn sliding_with_trigger(
+    alloc: Global,
+    site: &ExpressionSite,
+    schema: &[Attribute],
+    at: u32,
+    parts: &[WindowPart],
+) -> Result<WindowRule, TypeAnswer>
+    ensures { Finds (sliding_with_trigger (numbers_at site.now) schema.now at parts.now) result }
+{
+    let Some((part, rest)) = parts.split_first() else {
+        return Err(bad_window(at));
+    };
+    let measure = sliding_measure(alloc, site, 1, schema, part)?;
+    let every = trigger(alloc, site, at, rest)?;
+    Ok(sliding_by(measure, Some(every)))
+}
+
+/// The rule behind the `sliding` of a Join, which every tuple fires.
+fn sliding_alone(
+    alloc: Global,
+    site: &ExpressionSite,
+    schema: &[Attribute],
+    at: u32,
+    parts: &[WindowPart],
+) -> Result<WindowRule, TypeAnswer>
+    ensures { Finds (sliding_alone (numbers_at site.now) schema.now at parts.now) result }
+{
+    let Some((part, rest)) = parts.split_first() else {
+        return Err(bad_window(at));
+    };
+    let measure = sliding_measure(alloc, site, 0, schema, part)?;
+    last(sliding_by(measure, None), rest)
+}
+
+/// What a window that slides keeps.
+fn sliding_measure(
+    alloc: Global,
+    site: &ExpressionSite,
+    least: u64,
+    schema: &[Attribute],
+    part: &WindowPart,
+) -> Result<Measure, TypeAnswer>
+    ensures { Finds (measured (numbers_at site.now) least schema.now counted differing (bad_window part.now.name.at) part.now) result }
+{
+    match measure_of(alloc, site, least, schema, part)? {
+        Some(measure) => Ok(measure),
+        None => Err(bad_window(part.name.at)),
+    }
+}
+
+fn sliding_by(measure: Measure, every: Option<u64>) -> WindowRule
+    ensures { result ≡ slides_by measure every }
+{
+    match measure {
+        Measure::Count(keep) => WindowRule::SlidingCount { keep, every },
+        Measure::Delta { attribute, limit } => WindowRule::SlidingDelta {
+            attr: attribute,
+            limit,
+            every,
+        },
+    }
+}
+
+/// The count of tuples that fires: the one part behind what slides.
+fn trigger(
+    alloc: Global,
+    site: &ExpressionSite,
+    at: u32,
+    parts: &[WindowPart],
+) -> Result<u64, TypeAnswer>
+    ensures { Finds (trigger (numbers_at site.now) at parts.now) result }
+{
+    let Some((part, rest)) = parts.split_first() else {
+        return Err(bad_window(at));
+    };
+    if !is_named(part, b"count") {
+        return Err(bad_window(part.name.at));
+    }
+    let every = only_count(alloc, site, 1, part)?;
+    last(every, rest)
+}
