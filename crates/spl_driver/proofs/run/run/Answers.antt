@@ -1,7 +1,11 @@
 use Rattle.std.proofs.Common.{Option, None}
 use Rattle.file_adapters.specs.declared.sinks.Sunk.TheVariants as S
-use Rattle.spl_driver.proofs.Running.{begun_same, device_files, wanting_files, sunk_files, sunk_counts, distinct_for, lent_behind, run_line}
+use Rattle.spl_driver.proofs.Running.{begun_same, device_files, not_built_files, wanting_files, sunk_files, sunk_counts, distinct_for, lent_behind, run_line}
 use Rattle.spl_driver.proofs.run.run.Goals as goal
+
+pub returns-in-NotBuilt-clause-files : goal.returns-in-NotBuilt-clause-files
+returns-in-NotBuilt-clause-files g c =
+    not_built_files _ _ c.args.checked.now _ c.plain.result.ended _ _ c.plain.ensures.cause c.in-NotBuilt.ensures.made c.in-NotBuilt.ensures.told c.in-NotBuilt.ensures.cause
 
 pub returns-in-Device-clause-files : goal.returns-in-Device-clause-files
 returns-in-Device-clause-files g c =
