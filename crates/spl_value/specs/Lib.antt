@@ -4,6 +4,7 @@ pub mod Order
 pub mod Pairs
 pub mod PairsLends
 pub mod Lends
+pub mod Reserved
 pub mod Decimal
 pub mod Near
 pub mod Script

@@ -1,6 +1,6 @@
-ghost use Rattle.std.specs.Prelude.{◌≡◌, [], ◌∷◌, ◌++◌, ◌<◌, ◌≤◌, length, slice_get, slice_set, remove, ◌↔◌, IsTrue, IfOk, MatchOption, OnOk, OnErr, OnSome};
+ghost use Rattle.std.specs.Prelude.{◌≡◌, [], ◌∷◌, ◌++◌, ◌<◌, ◌≤◌, length, slice_get, slice_set, remove, take, ◌↔◌, IsTrue, IfOk, MatchOption, OnOk, OnErr, OnSome};
 ghost use Rattle.std.specs.Option.{option_copied};
-ghost use Rattle.std.specs.List.{insert};
+ghost use Rattle.std.specs.List.{insert, swap};
 
 use std::alloc::{AllocError, Global};
 use std::cmp::Ordering;
@@ -36,7 +36,7 @@ impl<T> Items<T> {
         }
     }
 
-    /// An empty list with room for `capacity` elements, so that so many pushes take no memory.
+    /// An empty list with room for `capacity` items. `Reserved` is a list whose room contracts see.
     pub fn with_capacity(alloc: Global, capacity: usize) -> Result<Items<T>, AllocError>
         ensures { IfOk result (λ it. it ≡ []) }
     {
@@ -106,6 +106,31 @@ impl<T> Items<T> {
         self.items.pop()
     }
 
+    /// Makes room for so many more items.
+    pub fn reserve(&mut self, additional: usize) -> Result<(), AllocError>
+        ensures { self.new ≡ self.old }
+    {
+        self.items.reserve(additional)
+    }
+
+    /// Exchanges the items at two places.
+    pub fn swap(&mut self, first: usize, second: usize)
+        requires first_within { first < length self.old }
+        requires second_within { second < length self.old }
+        ensures { self.new ≡ swap self.old first second }
+    {
+        self.items.swap(first, second);
+    }
+
+    /// Takes out all behind the first `count` items. The room that the list has stays.
+    pub fn truncate(&mut self, count: usize)
+    where
+        T: Drop,
+        ensures { self.new ≡ take count self.old }
+    {
+        self.items.truncate(count);
+    }
+
     /// Takes every item out. The room that the list has stays.
     pub fn clear(&mut self)
     where
@@ -128,6 +153,14 @@ impl<T: Copy> Items<T> {
     {
         let items = Vec::from_slice(alloc, items)?;
         Ok(Items { items })
+    }
+
+    /// Copies the items of `more` to the end.
+    pub fn extend_from_slice(&mut self, more: &[T]) -> Result<(), AllocError>
+        ensures ok { OnOk result (self.new ≡ self.old ++ more.now) }
+        ensures err { OnErr result (self.new ≡ self.old) }
+    {
+        self.items.extend_from_slice(more)
     }
 }
 

@@ -11,6 +11,7 @@ mod key;
 mod memory;
 mod packet;
 mod pairs;
+mod reserved;
 mod routing;
 mod types;
 mod value;
@@ -26,6 +27,7 @@ pub use key::{fnv, hash_key, key_law, key_on_literals};
 pub use memory::NoMemory;
 pub use packet::Packet;
 pub use pairs::pairs_law;
+pub use reserved::Reserved;
 pub use routing::Routing;
 pub use types::{
     Attribute, Bytes, Ids, Inputs, IntKind, Name, Named, Places, Schema, SplType, copy_schema,

@@ -1,6 +1,6 @@
 ghost use Rattle.std.specs.Prelude.{◌≡◌, IfOk};
 
-use crate::{Bytes, Items, NoMemory};
+use crate::{Bytes, Items, NoMemory, Reserved};
 use std::alloc::Global;
 
 /// A value of the language. An integer stands as its number, whatever its kind.
@@ -44,22 +44,22 @@ pub fn copy_value(alloc: Global, v: &Value) -> Result<Value, NoMemory>
 pub fn copy_values(alloc: Global, values: &[Value]) -> Result<Values, NoMemory>
     ensures { IfOk result (λ ws. ws ≡ values.now) }
 {
-    let mut copied = Items::new(alloc);
+    let mut copied = Reserved::with_capacity(alloc, values.len())?;
     for value in values {
-        copied.push(copy_value(alloc, value)?)?;
+        copied.push(copy_value(alloc, value)?);
     }
-    Ok(copied)
+    Ok(copied.into_items())
 }
 
 #[cycle(copy)]
 fn copy_pairs(alloc: Global, pairs: &[(Value, Value)]) -> Result<Pairs, NoMemory>
     ensures { IfOk result (λ ws. ws ≡ pairs.now) }
 {
-    let mut copied = Items::new(alloc);
+    let mut copied = Reserved::with_capacity(alloc, pairs.len())?;
     for pair in pairs {
         let key = copy_value(alloc, &pair.0)?;
         let held = copy_value(alloc, &pair.1)?;
-        copied.push((key, held))?;
+        copied.push((key, held));
     }
-    Ok(copied)
+    Ok(copied.into_items())
 }
