@@ -61,9 +61,11 @@ fn add_left(out: &mut Text, values: &[Value], submits: &Outs, turns: u32) {
     if submits.is_empty() {
         out.add("none");
     }
-    for (at, output) in submits.as_slice().iter().enumerate() {
-        out.add_between(at, ", ");
-        add_output(out, output);
+    for at in 0..submits.len() {
+        if let Some(output) = submits.get(at) {
+            out.add_between(at, ", ");
+            add_output(out, output);
+        }
     }
     out.add_place(" | ", turns);
 }
@@ -119,7 +121,7 @@ fn run(
 {
     let mut env = env;
     let mut left = turns;
-    let mut submits = Items::new(alloc);
+    let mut submits = Outs::new(alloc);
     match run_body(alloc, functions, body, &mut env, &mut left, &mut submits) {
         Ran::Done => {
             add_left(out, env.vars.as_slice(), &submits, left);

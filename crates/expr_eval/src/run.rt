@@ -425,7 +425,7 @@ pub(crate) fn run_function<'e>(
         vars: values,
         punct: None,
     };
-    let mut submits = Items::new(context.alloc);
+    let mut submits = Outs::new(context.alloc);
     let program = Program {
         alloc: context.alloc,
         functions: &*context.functions,
