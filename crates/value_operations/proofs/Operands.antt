@@ -1,8 +1,8 @@
 -- What the types of operands tell of them, and that an operator in front gives a value of its type.
-use Rattle.std.specs.Prelude.{◌≡◌, ℕ, ℤ, negsuc, neg_ℤ, ◌-ℤ◌, Bool, true, not, IsTrue, List}
+use Rattle.std.specs.Prelude.{◌≡◌, ◌≢◌, ℕ, ℤ, negsuc, neg_ℤ, ◌-ℤ◌, Bool, true, not, IsTrue, List}
 use Rattle.std.specs.Fmt.{signed_decimal}
 use Rattle.std.specs.Int.{w128}
-use Rattle.std.proofs.Common.{sym, ap, subst, ◌∙◌, to_z, of_z}
+use Rattle.std.proofs.Common.{refl, sym, ap, subst, ◌∙◌, to_z, of_z}
 use Rattle.spl_value.specs.declared.types.IntKind.{IntKind}
 use Rattle.spl_value.specs.declared.types.SplType.{SplType}
 use Rattle.spl_value.specs.declared.types.SplType.TheVariants as S
@@ -26,7 +26,7 @@ use Rattle.spl_tree.specs.declared.code.UnaryCode.TheVariants as U
 use Rattle.language_model.specs.CodeFits as F
 use Rattle.language_model.specs.CodeFits.{UnaryGives, BinaryGives}
 use Rattle.language_model.specs.Operators.{bool_text, level_unary, unary_of}
-use Rattle.value_operations.specs.Fitting.{FitBinary, FitsUnary}
+use Rattle.value_operations.specs.Fitting.{FitBinary, FitRelation, FitsUnary}
 use Rattle.value_operations.proofs.Parts.{pairs_of}
 use Rattle.value_operations.proofs.Sizes.{kept_in_128}
 
@@ -41,6 +41,26 @@ module _ (v w : Value) where
     where
       of_types : (t u r : SplType) → BinaryGives (D.Integers op k) t u r → OfType t v → OfType u w → OfType (S.Int k) v × OfType (S.Int k) w
       of_types _ _ _ (F.integers op k) f g = (f, g)
+
+  pub both_operands : (op : BinaryCode) → FitRelation op v w → FitBinary op v w
+  both_operands op h = (h.0, h.1, S.Bool, h.2, h.3, h.4, h.5, h.6)
+
+  -- an operator of values that gives neither an integer nor a text asks whether something is so
+  pub relation : (op : BinaryCode) → FitBinary op v w → ((o : IntegerOperator) (k : IntKind) → op ≡ D.Integers o k → ⊥) → (op ≡ D.Join → ⊥) → FitRelation op v w
+  relation op h no_integers no_join = of_types op h.0 h.1 h.2 h.3 h.4 h.5 h.6 h.7 no_integers no_join
+    where
+      of_types : (op : BinaryCode) (t u r : SplType) → BinaryGives op t u r → OfType t v → OfType u w → (op ≢ D.And) → (op ≢ D.Or)
+          → ((o : IntegerOperator) (k : IntKind) → op ≡ D.Integers o k → ⊥) → (op ≡ D.Join → ⊥) → FitRelation op v w
+      of_types _ _ _ _ (F.integers o k) f g a b m n = absurd (m o k refl)
+      of_types _ _ _ _ F.joins f g a b m n = absurd (n refl)
+      of_types _ _ _ _ (F.orders_integers o k) f g a b m n = (S.Int k, S.Int k, F.orders_integers o k, f, g, a, b)
+      of_types _ _ _ _ (F.orders_texts o) f g a b m n = (S.Text, S.Text, F.orders_texts o, f, g, a, b)
+      of_types _ _ _ _ (F.equals t) f g a b m n = (t, t, F.equals t, f, g, a, b)
+      of_types _ _ _ _ (F.differs t) f g a b m n = (t, t, F.differs t, f, g, a, b)
+      of_types _ _ _ _ F.both f g a b m n = absurd (a refl)
+      of_types _ _ _ _ F.either f g a b m n = absurd (b refl)
+      of_types _ _ _ _ (F.in_list t) f g a b m n = (t, S.List t, F.in_list t, f, g, a, b)
+      of_types _ _ _ _ (F.in_map k t) f g a b m n = (k, S.Map k t, F.in_map k t, f, g, a, b)
 
   pub text_operands : FitBinary D.Join v w → OfType S.Text v × OfType S.Text w
   text_operands h = of_types h.0 h.1 h.2 h.3 h.4 h.5

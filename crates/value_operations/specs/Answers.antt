@@ -1,13 +1,18 @@
 -- What a call answers, against what an evaluation comes to. Of want of memory nothing is said.
-use Rattle.std.specs.Prelude.{◌≡◌, ℕ, suc, Option, Some, Result, Ok, Err}
+use Rattle.std.specs.Prelude.{◌≡◌, ℕ, suc, Bool, List, Option, Some, Result, Ok, Err}
 use Rattle.spl_value.specs.declared.item.Evaluated.{Evaluated}
 use Rattle.spl_value.specs.declared.item.Evaluated.TheVariants as E
 use Rattle.spl_value.specs.declared.item.FaultKind.TheVariants as K
 use Rattle.spl_value.specs.declared.value.Value.{Value}
 use Rattle.spl_value.specs.Calls.{CallOutcome, Gives, Faults}
-use Rattle.language_model.specs.Outcomes.{Outcome, Done, Faulted}
+use Rattle.language_model.specs.Operators.{truth_of}
+use Rattle.language_model.specs.Outcomes.{Outcome, Done, Faulted, followed, need}
 use Rattle.value_operations.specs.declared.held.Held.{Held}
 use Rattle.value_operations.specs.declared.held.Held.TheVariants as H
+use Rattle.value_operations.specs.declared.answers.Made.{Made}
+use Rattle.value_operations.specs.declared.answers.Made.TheVariants as M
+use Rattle.value_operations.specs.declared.answers.Truth.{Truth}
+use Rattle.value_operations.specs.declared.answers.Truth.TheVariants as R
 use Rattle.value_operations.specs.declared.stop.Stop.{Stop}
 use Rattle.value_operations.specs.declared.stop.Stop.TheVariants as S
 
@@ -61,3 +66,19 @@ ReadsHeld read (Err stop) = stop ≡ S.Memory
 abbrev pub Makes : {A : Type 0} → Option A → Result A Stop → Type 0
 Makes made (Ok x) = made ≡ Some x
 Makes made (Err stop) = stop ≡ S.Memory
+
+-- the truth of what an evaluation comes to
+abbrev pub as_truth : Outcome Value → Outcome Bool
+as_truth outcome = followed outcome (λ v turns. need (truth_of v) (λ b. Done b turns))
+
+-- the truth of the outcome, or its fault
+abbrev pub IsSo : Outcome Bool → Truth → ℕ → Type 0
+IsSo outcome (R.Is b) turns = outcome ≡ Done b turns
+IsSo outcome (R.Bad kind) turns = outcome ≡ Faulted kind
+IsSo outcome R.Memory turns = Unit {0}
+
+-- the tuple of the outcome, or its fault
+abbrev pub IsMadeAs : Outcome (List Value) → Made → ℕ → Type 0
+IsMadeAs outcome (M.Tuple vs) turns = outcome ≡ Done vs turns
+IsMadeAs outcome (M.Bad kind) turns = outcome ≡ Faulted kind
+IsMadeAs outcome M.Memory turns = Unit {0}

@@ -14,7 +14,7 @@ ghost use Rattle.language_model.specs.Evaluation.{unaries_of};
 ghost use Rattle.language_model.specs.Outcomes.{Outcome, followed, settled};
 ghost use Rattle.value_operations.specs.declared.held.Held.{Held};
 ghost use Rattle.value_operations.specs.Answers.{Settles, SettlesHeld, AnswersHeld, held};
-ghost use Rattle.value_operations.specs.Fitting.{FitBinary, FitsUnary, FitsUnaries};
+ghost use Rattle.value_operations.specs.Fitting.{FitBinary, FitRelation, FitsUnary, FitsUnaries};
 
 use crate::held::{Held, owned};
 use crate::integers::on_integers;
@@ -47,19 +47,30 @@ fn binary_of(
     requires { FitBinary operator left.now right.now }
     ensures { Settles (binary_of operator left.now right.now) result }
 {
-    let truth = match operator {
+    match operator {
         BinaryCode::Integers(operator, kind) => {
-            return on_integers(operator, kind, number(left), number(right));
+            on_integers(operator, kind, number(left), number(right))
         }
-        BinaryCode::Join => return join(alloc, left, right),
+        BinaryCode::Join => join(alloc, left, right),
+        _ => Ok(Value::Bool(are_related(operator, left, right))),
+    }
+}
+
+/// Whether two values are in the relation that an operator asks for.
+pub fn are_related(operator: BinaryCode, left: &Value, right: &Value) -> bool
+    requires { FitRelation operator left.now right.now }
+    ensures { binary_of operator left.now right.now ≡ boolean result }
+{
+    match operator {
         BinaryCode::Order(operator) => in_order(operator, order(left, right)),
         BinaryCode::Equal => same(left, right),
         BinaryCode::NotEqual => !same(left, right),
         BinaryCode::InList => is_in(left, right),
         BinaryCode::InMap => has_key(right, left),
-        BinaryCode::And | BinaryCode::Or => unreachable!(),
-    };
-    Ok(Value::Bool(truth))
+        BinaryCode::Integers(_, _) | BinaryCode::Join | BinaryCode::And | BinaryCode::Or => {
+            unreachable!()
+        }
+    }
 }
 
 /// Two texts, joined.

@@ -1,11 +1,11 @@
 //! What names, markers and fields stand for.
-ghost use Rattle.std.specs.Prelude.{◌≡◌, IsTrue, IfOk, Some, length, take};
+ghost use Rattle.std.specs.Prelude.{◌≡◌, IsTrue, IfOk, MatchOption, Some, length};
 ghost use Rattle.spl_value.specs.declared.types.SplType.TheVariants as T;
 ghost use Rattle.spl_value.specs.Values.{fits};
 ghost use Rattle.language_model.specs.Evaluation.{slot_value, same_marker, tuple_of};
 ghost use Rattle.language_model.specs.Operators.{truth_of};
 ghost use Rattle.value_operations.specs.Answers.{Entered, ReadsHeld, Makes};
-ghost use Rattle.value_operations.specs.Fitting.{HasSlot, HasMarker, HaveEachPlace};
+ghost use Rattle.value_operations.specs.Fitting.{HasSlot, HasMarker, HaveEachPlace, IsPort};
 
 use crate::held::Held;
 use crate::stop::Stop;
@@ -14,22 +14,44 @@ use spl_tree::{Marker, Slot};
 use spl_value::{FaultKind, Items, Value, Values, copy_values};
 use std::alloc::{AllocError, Global};
 
+/// The value that a variable or an attribute stands for, where it stands. That of a port stands nowhere.
+pub fn standing_value(env: &Env, slot: Slot) -> Option<&Value>
+    requires { HasSlot env.now slot }
+    ensures { MatchOption result (IsPort slot) (λ v. slot_value env.now slot ≡ Some v.now) }
+{
+    match slot {
+        Slot::Variable(place) => Some(&env.vars.as_slice()[place as usize]),
+        Slot::Attribute { port, attribute } => {
+            let tuple = &env.inputs.as_slice()[port as usize];
+            Some(&tuple.as_slice()[attribute as usize])
+        }
+        Slot::Port(_) => None,
+    }
+}
+
 /// The value that a name stands for. The tuple of a port is a copy.
 pub fn slot_value(alloc: Global, env: &Env, slot: Slot) -> Result<Held<'_>, Stop>
     requires { HasSlot env.now slot }
     ensures { ReadsHeld (slot_value env.now slot) result }
 {
-    match slot {
-        Slot::Variable(place) => Ok(Held::Lent(&env.vars.as_slice()[place as usize])),
-        Slot::Attribute { port, attribute } => {
-            let tuple = &env.inputs.as_slice()[port as usize];
-            Ok(Held::Lent(&tuple.as_slice()[attribute as usize]))
-        }
-        Slot::Port(port) => {
-            let tuple = &env.inputs.as_slice()[port as usize];
-            Ok(Held::Own(Value::Tuple(copy_values(alloc, tuple.as_slice())?)))
-        }
+    match standing_value(env, slot) {
+        Some(value) => Ok(Held::Lent(value)),
+        None => port_value(alloc, env, slot),
     }
+}
+
+/// A copy of the tuple of a port.
+#[inline(never)]
+fn port_value<'e>(alloc: Global, env: &'e Env, slot: Slot) -> Result<Held<'e>, Stop>
+    requires slot { HasSlot env.now slot }
+    requires port { IsPort slot }
+    ensures { ReadsHeld (slot_value env.now slot) result }
+{
+    let Slot::Port(port) = slot else {
+        unreachable!()
+    };
+    let tuple = &env.inputs.as_slice()[port as usize];
+    Ok(Held::Own(Value::Tuple(copy_values(alloc, tuple.as_slice())?)))
 }
 
 /// Whether the marker that came is this one.
@@ -88,13 +110,4 @@ fn blanks(alloc: Global, count: usize) -> Result<Values, AllocError>
         values.push(Value::Bool(false))?;
     }
     Ok(values)
-}
-
-/// Takes out all behind the first `count` values.
-pub fn truncate(values: &mut Values, count: usize)
-    ensures { values.new ≡ take count values.old }
-{
-    'values: while values.len() > count {
-        values.pop();
-    }
 }

@@ -1,8 +1,7 @@
-use Rattle.std.proofs.Common.{◌<◌, List, Some, length, sym, ap, subst, ◌∙◌}
+use Rattle.std.proofs.Common.{◌<◌, List, length, sym, subst}
 use Rattle.spl_value.specs.declared.value.Value.{Value}
-use Rattle.spl_value.specs.declared.value.Value.TheVariants as V
-use Rattle.value_operations.proofs.Standing.{variable_read, port_within, port_read, attribute_within, attribute_read}
-use Rattle.value_operations.proofs.slots.slot_value.Goals as goal
+use Rattle.value_operations.proofs.Standing.{variable_read, attribute_within, attribute_read}
+use Rattle.value_operations.proofs.slots.standing_value.Goals as goal
 
 pub returns-in-Variable : goal.returns-in-Variable
 returns-in-Variable c =
@@ -20,14 +19,3 @@ returns-in-Attribute c =
     attribute_read c.args.env.now c.args.slot c.requires c.as_slice-in-Attribute.result.now c.in-Attribute.port c.in-Attribute.attribute
     c.index-as_slice-port.result c.as_slice-in-Attribute-2.result.now c.index-as_slice-attribute.result
     c.in-Attribute.is c.as_slice-in-Attribute.ensures c.index-as_slice-port.is c.as_slice-in-Attribute-2.ensures c.index-as_slice-attribute.is
-
-pub bounds-as_slice-port-in-Port : goal.bounds-as_slice-port-in-Port
-bounds-as_slice-port-in-Port c =
-    subst (λ (tuples : List (List Value)). c.in-Port.port < length tuples) (sym c.as_slice-in-Port.ensures)
-    (port_within c.args.env.now c.args.slot c.requires c.in-Port.port c.in-Port.is)
-
-pub returns-in_ok-copy_values-in-Port : goal.returns-in_ok-copy_values-in-Port
-returns-in_ok-copy_values-in-Port c =
-    port_read c.args.env.now c.args.slot c.requires c.as_slice-in-Port.result.now c.in-Port.port c.index-as_slice-port-in-Port.result
-    c.in-Port.is c.as_slice-in-Port.ensures c.index-as_slice-port-in-Port.is
-    ∙ ap (λ (ws : List Value). Some (V.Tuple ws)) (sym (c.in_ok-copy_values-in-Port.ensures ∙ c.as_slice-in-Port-2.ensures))

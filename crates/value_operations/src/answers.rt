@@ -1,0 +1,19 @@
+use spl_value::{FaultKind, Values};
+
+/// Whether a condition holds.
+#[derive(Clone, Copy, Debug, PartialEq, Eq)]
+pub enum Truth {
+    Is(bool),
+    Bad(FaultKind),
+    /// There was no memory, or no room for a deeper code.
+    Memory,
+}
+
+/// What a code of a tuple came to.
+#[derive(Debug, PartialEq, Eq, Drop)]
+pub enum Made {
+    Tuple(Values),
+    Bad(FaultKind),
+    /// There was no memory, or no room for a deeper code.
+    Memory,
+}
