@@ -58,7 +58,7 @@ module _ (functions : List Function) (env : Env) (op : BinaryCode) (x y : Code S
 
 -- where both operands are evaluated
 module _ {N : Type 0} (op : BinaryCode) (m n : Meaning N) (w : World N) (turns : ℕ) (no_and : op ≡ D.And → ⊥) (no_or : op ≡ D.Or → ⊥) where
-  both_evaluated : binary op m n w turns ≡ followed (m w turns) (λ u turns. followed (n w turns) (λ v turns. settled (binary_of op u v) turns))
+  pub both_evaluated : binary op m n w turns ≡ followed (m w turns) (λ u turns. followed (n w turns) (λ v turns. settled (binary_of op u v) turns))
   both_evaluated = go op no_and no_or
     where
       go : (op : BinaryCode) → (op ≡ D.And → ⊥) → (op ≡ D.Or → ⊥) → binary op m n w turns ≡ followed (m w turns) (λ u turns. followed (n w turns) (λ v turns. settled (binary_of op u v) turns))

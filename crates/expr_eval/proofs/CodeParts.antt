@@ -101,6 +101,9 @@ module _ (functions : List Function) (env : Env) where
     part : (x : Code Slot) (t : SplType) → CodeFits h.1.scope x t → Fits functions x env t
     part x t f = in_scope code x h.0 t h.1 f
 
+    pub literal_fits : (v : Value) → code ≡ C.Literal v → IsTrue (fits h.0 v)
+    literal_fits v is = parts_of (O.Literal v) (ap (out-Code Slot) is ∙ C.outs-Literal v)
+
     pub has_slot : (s : Slot) → code ≡ C.Name s → HasSlot env s
     has_slot s is = (h.1.scope, h.0, parts_of (O.Name s) (ap (out-Code Slot) is ∙ C.outs-Name s), h.1.env_fits)
 

@@ -15,3 +15,4 @@ mod StatementParts
 mod StepParts
 mod StepValues
 mod ValueTypes
+mod Truths

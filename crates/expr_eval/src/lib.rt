@@ -6,8 +6,11 @@ mod evaluate;
 mod flow;
 mod run;
 mod statements;
+mod truth;
 mod variables;
 
 pub use evaluate::{DEEPEST, eval};
 pub use language_model::{Env, Tuples};
 pub use run::{Ran, run_body};
+pub use truth::holds;
+pub use value_operations::{Made, Truth};

@@ -20,7 +20,7 @@ use language_model::{Env, Flow, Outs, evaluation_law, statements_law};
 use spl_tree::{Body, Change, Code, Functions, Place, Slot, Statement, Taking};
 use spl_value::{FaultKind, Items, Value, Values};
 use std::alloc::Global;
-use value_operations::{Held, Stop, elements, enter, take_step, truncate};
+use value_operations::{Held, Stop, elements, enter, take_step};
 
 /// How the run of a body ended.
 #[derive(Clone, Copy, Debug, PartialEq, Eq)]
@@ -186,7 +186,7 @@ fn run_scoped<'p>(
 {
     let count = env.vars.len();
     let flow = run_row(program, room, row, env, turns, submits)?;
-    truncate(&mut env.vars, count);
+    env.vars.truncate(count);
     Ok(flow)
 }
 
@@ -284,7 +284,7 @@ fn run_turn<'p>(
     let count = env.vars.len();
     env.vars.push(value)?;
     let flow = run_row(program, room, row, env, turns, submits)?;
-    truncate(&mut env.vars, count);
+    env.vars.truncate(count);
     Ok(flow)
 }
 
