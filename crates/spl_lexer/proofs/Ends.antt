@@ -4,7 +4,7 @@ use Rattle.std.proofs.lemmas.List.{at_drop_more}
 use Rattle.std.specs.Option.{option_map}
 use Rattle.spl_tree.specs.Bytes.{begins}
 use Rattle.spl_tree.specs.Tokens.{comment_length}
-use Rattle.spl_lexer.specs.steps.Ahead.{text_length}
+use Rattle.spl_lexer.specs.steps.Scanning.{text_length}
 
 -- how many bytes there are up to the end of a comment, by whether a star stands before them
 abbrev pub close_behind : Bool → List ℕ → Option ℕ

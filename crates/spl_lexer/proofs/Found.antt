@@ -13,7 +13,7 @@ use Rattle.spl_tree.specs.declared.token.LexicalError.TheVariants as E
 use Rattle.spl_tree.specs.TokenLaws.{Fits}
 use Rattle.spl_tree.proofs.TokenLaws.{front_fits}
 use Rattle.spl_tree.proofs.GapLaws.{take-prefix_len}
-use Rattle.spl_lexer.specs.steps.Ahead.{suffix_ahead, text_length, text_ahead, symbol_ahead, double_of}
+use Rattle.spl_lexer.specs.steps.Scanning.{suffix_ahead, text_length, text_ahead, symbol_ahead, double_of}
 use Rattle.spl_lexer.proofs.Fronts.{blank_front, line_front, word_front, number_front, text_front, symbol_front}
 
 -- the word at the front, by the keyword that it may be

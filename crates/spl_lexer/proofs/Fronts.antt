@@ -15,7 +15,7 @@ use Rattle.spl_tree.specs.Bytes.{is_blank, is_letter, is_word_byte, is_quote, be
 use Rattle.spl_tree.specs.Words.{symbol_of, keyword_of}
 use Rattle.spl_tree.specs.Tokens.{Take, Pass, Refuse, front, as_front, is_formed, kind_of, longest_front, word_kind, number_kind, symbol_kind, digits, suffix, suffix_kind, comment_length, comment_front}
 use Rattle.spl_tree.proofs.FrontLaws.{longest_front-is}
-use Rattle.spl_lexer.specs.steps.Ahead.{text_length, suffix_ahead, text_ahead, symbol_ahead, single_ahead, double_of}
+use Rattle.spl_lexer.specs.steps.Scanning.{text_length, suffix_ahead, text_ahead, symbol_ahead, single_ahead, double_of}
 use Rattle.spl_lexer.proofs.Longest.{IsDense, dense, front_at, front_token, front_none}
 use Rattle.spl_lexer.proofs.Reach.{list_all-take, prefix_len-first, word_first, is_word-take, is_word-none, suffix-take, digits-take, IsLongest, suffix_ahead-longest, is_length, text_length_within, ends_text-take, between_quotes-take, symbol_beyond_two, symbol_beyond_one, double_of-some}
 

@@ -13,7 +13,7 @@ use Rattle.spl_tree.specs.declared.symbol.Symbol.{Symbol}
 use Rattle.spl_tree.specs.Bytes.{is_letter, is_word_byte, begins}
 use Rattle.spl_tree.specs.Words.{symbol_of, symbols, symbol_text}
 use Rattle.spl_tree.specs.Tokens.{is_word, digits, suffix, suffix_kind, width_kind, signed_kind, unsigned_kind, ends_text, between_quotes}
-use Rattle.spl_lexer.specs.steps.Ahead.{text_length, width_ahead, suffix_ahead, one_more, double_of}
+use Rattle.spl_lexer.specs.steps.Scanning.{text_length, width_ahead, suffix_ahead, one_more, double_of}
 
 -- Fronts that pass a test
 

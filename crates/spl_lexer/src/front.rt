@@ -2,7 +2,7 @@
 ghost use Rattle.std.specs.Prelude.{◌≡◌, ◌<◌, ◌≤◌, ◌∷◌, length, true, IfOk};
 ghost use Rattle.spl_tree.specs.Tokens.{front};
 ghost use Rattle.spl_tree.specs.TokenLaws.{Fits};
-ghost use Rattle.spl_lexer.specs.steps.Ahead.{front_of};
+ghost use Rattle.spl_lexer.specs.steps.Scanning.{front_of};
 
 use crate::bytes::{is_blank, is_digit, is_letter, is_quote, starts_with};
 use crate::lengths::{comment_length, line_length};
@@ -16,7 +16,7 @@ use std::alloc::Global;
 
 /// What stands at the front of bytes, with lengths and places in bytes from the front on.
 #[derive(Drop)]
-pub(crate) enum Ahead {
+pub(crate) enum Scanned {
     /// A token of so many bytes.
     Token(TokenKind, usize),
     /// So many bytes that separate tokens.
@@ -27,7 +27,7 @@ pub(crate) enum Ahead {
 
 /// What stands at the front of bytes, which aren't empty.
 #[tactic(auto, using(crate::proofs::Found::fits_found))]
-pub(crate) fn front(alloc: Global, bytes: &[u8]) -> Result<Ahead, NoMemory>
+pub(crate) fn front(alloc: Global, bytes: &[u8]) -> Result<Scanned, NoMemory>
     requires { 0 < length bytes.now }
     ensures value { IfOk result (λ ahead. front_of ahead ≡ front bytes.now) }
     ensures fits { IfOk result (λ ahead. Fits (length bytes.now) (front_of ahead)) }
@@ -37,13 +37,13 @@ pub(crate) fn front(alloc: Global, bytes: &[u8]) -> Result<Ahead, NoMemory>
 }
 
 #[tactic(auto, using(crate::proofs::Found::blank_found, crate::proofs::Found::comment_found))]
-fn by_first_byte(alloc: Global, bytes: &[u8]) -> Result<Ahead, NoMemory>
+fn by_first_byte(alloc: Global, bytes: &[u8]) -> Result<Scanned, NoMemory>
     requires { 0 < length bytes.now }
     ensures { IfOk result (λ ahead. front_of ahead ≡ front bytes.now) }
 {
     let b = bytes[0];
     if is_blank(b) {
-        return Ok(Ahead::Gap(1));
+        return Ok(Scanned::Gap(1));
     }
     if is_letter(b) {
         return word(alloc, bytes);
@@ -59,7 +59,7 @@ fn by_first_byte(alloc: Global, bytes: &[u8]) -> Result<Ahead, NoMemory>
         return text(alloc, b, rest);
     }
     if b == b'/' && starts_with(rest, b'/') {
-        return Ok(Ahead::Gap(line_length(&rest[1..]) + 2));
+        return Ok(Scanned::Gap(line_length(&rest[1..]) + 2));
     }
     if b == b'/' && starts_with(rest, b'*') {
         return Ok(comment(&rest[1..]));
@@ -69,11 +69,11 @@ fn by_first_byte(alloc: Global, bytes: &[u8]) -> Result<Ahead, NoMemory>
 
 // Behind `/*`.
 #[tactic(auto, using(crate::proofs::Fronts::comment_is))]
-fn comment(bytes: &[u8]) -> Ahead
+fn comment(bytes: &[u8]) -> Scanned
     ensures { front_of result ≡ front (47 ∷ 42 ∷ bytes.now) }
 {
     match comment_length(bytes) {
-        Some(n) => Ahead::Gap(n + 2),
-        None => Ahead::Refused(LexicalError::OpenComment, 0),
+        Some(n) => Scanned::Gap(n + 2),
+        None => Scanned::Refused(LexicalError::OpenComment, 0),
     }
 }

@@ -4,7 +4,7 @@ ghost use Rattle.std.specs.List.{prefix_len};
 ghost use Rattle.spl_value.specs.Decimal.{is_digit};
 ghost use Rattle.spl_tree.specs.Bytes.{is_word_byte};
 ghost use Rattle.spl_tree.specs.Tokens.{comment_length};
-ghost use Rattle.spl_lexer.specs.steps.Ahead.{text_length};
+ghost use Rattle.spl_lexer.specs.steps.Scanning.{text_length};
 
 use crate::bytes::{is_digit, is_word_byte};
 

@@ -4,10 +4,10 @@ ghost use Rattle.std.specs.List.{prefix_len, list_all};
 ghost use Rattle.spl_value.specs.Decimal.{is_digit, digit_step};
 ghost use Rattle.spl_tree.specs.Bytes.{begins};
 ghost use Rattle.spl_tree.specs.Tokens.{front, number_kind, as_front};
-ghost use Rattle.spl_lexer.specs.steps.Ahead.{front_of, suffix_ahead, width_ahead};
+ghost use Rattle.spl_lexer.specs.steps.Scanning.{front_of, suffix_ahead, width_ahead};
 
 use crate::bytes::starts_word_byte;
-use crate::front::Ahead;
+use crate::front::Scanned;
 use crate::lengths::digit_length;
 use spl_tree::{LexicalError, Number, TokenKind};
 use spl_value::{IntKind, read_integer};
@@ -57,26 +57,26 @@ fn suffix(bytes: &[u8]) -> (IntKind, usize)
 }
 
 // The number of the kind that digits spell, of so many bytes with its suffix.
-fn of_kind(kind: IntKind, digits: &[u8], end: usize) -> Ahead
+fn of_kind(kind: IntKind, digits: &[u8], end: usize) -> Scanned
     requires some { 0 < length digits.now }
     requires all { list_all is_digit digits.now ≡ true }
     ensures { front_of result ≡ as_front end (number_kind (fold digit_step 0 digits.now) (Some kind)) }
 {
     match read_integer(kind, digits) {
-        Some(value) => Ahead::Token(
+        Some(value) => Scanned::Token(
             TokenKind::Number(Number {
                 kind,
                 value: value as u64,
             }),
             end,
         ),
-        None => Ahead::Refused(LexicalError::BadNumber, 0),
+        None => Scanned::Refused(LexicalError::BadNumber, 0),
     }
 }
 
 /// The number at the front, which a digit begins.
 #[tactic(auto, using(crate::proofs::Found::digits_found))]
-pub(crate) fn number(bytes: &[u8]) -> Ahead
+pub(crate) fn number(bytes: &[u8]) -> Scanned
     requires { begins is_digit bytes.now ≡ true }
     ensures { front_of result ≡ front bytes.now }
 {
@@ -84,7 +84,7 @@ pub(crate) fn number(bytes: &[u8]) -> Ahead
     let (kind, letters) = suffix(&bytes[digits..]);
     let end = digits + letters;
     if starts_word_byte(&bytes[end..]) {
-        return Ahead::Refused(LexicalError::BadNumber, 0);
+        return Scanned::Refused(LexicalError::BadNumber, 0);
     }
     of_kind(kind, &bytes[..digits], end)
 }

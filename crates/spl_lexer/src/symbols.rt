@@ -1,9 +1,9 @@
 //! Symbols.
 ghost use Rattle.std.specs.Prelude.{◌≡◌, ◌<◌, ◌∷◌, [], length};
 ghost use Rattle.spl_tree.specs.Words.{symbol_of};
-ghost use Rattle.spl_lexer.specs.steps.Ahead.{front_of, symbol_ahead, double_of};
+ghost use Rattle.spl_lexer.specs.steps.Scanning.{front_of, symbol_ahead, double_of};
 
-use crate::front::Ahead;
+use crate::front::Scanned;
 use spl_tree::{LexicalError, Symbol, TokenKind};
 
 // The symbol of one byte.
@@ -60,17 +60,17 @@ fn double(b: u8, c: u8) -> Option<Symbol>
 }
 
 /// The symbol at the front, where nothing else can stand there.
-pub(crate) fn symbol(bytes: &[u8]) -> Ahead
+pub(crate) fn symbol(bytes: &[u8]) -> Scanned
     requires { 0 < length bytes.now }
     ensures { front_of result ≡ symbol_ahead bytes.now (double_of bytes.now) }
 {
     if let [b, c, ..] = bytes
         && let Some(symbol) = double(*b, *c)
     {
-        return Ahead::Token(TokenKind::Symbol(symbol), 2);
+        return Scanned::Token(TokenKind::Symbol(symbol), 2);
     }
     match single(bytes[0]) {
-        Some(symbol) => Ahead::Token(TokenKind::Symbol(symbol), 1),
-        None => Ahead::Refused(LexicalError::BadByte, 0),
+        Some(symbol) => Scanned::Token(TokenKind::Symbol(symbol), 1),
+        None => Scanned::Refused(LexicalError::BadByte, 0),
     }
 }

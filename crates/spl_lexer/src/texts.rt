@@ -2,9 +2,9 @@
 ghost use Rattle.std.specs.Prelude.{◌≡◌, ◌∷◌, ◌≤◌, length, true, IfOk};
 ghost use Rattle.spl_tree.specs.Bytes.{is_quote};
 ghost use Rattle.spl_tree.specs.Tokens.{front, unescaped, escape};
-ghost use Rattle.spl_lexer.specs.steps.Ahead.{front_of, unescaped_of};
+ghost use Rattle.spl_lexer.specs.steps.Scanning.{front_of, unescaped_of};
 
-use crate::front::Ahead;
+use crate::front::Scanned;
 use crate::lengths::text_length;
 use spl_tree::{LexicalError, TokenKind};
 use spl_value::{Bytes, Items, NoMemory};
@@ -60,15 +60,15 @@ fn unescape(alloc: Global, bytes: &[u8]) -> Result<Unescaped, NoMemory>
 
 /// The text behind this quote.
 #[tactic(auto, using(crate::proofs::Found::open_found))]
-pub(crate) fn text(alloc: Global, quote: u8, bytes: &[u8]) -> Result<Ahead, NoMemory>
+pub(crate) fn text(alloc: Global, quote: u8, bytes: &[u8]) -> Result<Scanned, NoMemory>
     requires { is_quote quote ≡ true }
     ensures { IfOk result (λ ahead. front_of ahead ≡ front (quote ∷ bytes.now)) }
 {
     let Some(length) = text_length(quote, bytes) else {
-        return Ok(Ahead::Refused(LexicalError::OpenText, 0));
+        return Ok(Scanned::Refused(LexicalError::OpenText, 0));
     };
     match unescape(alloc, &bytes[..length - 1])? {
-        Unescaped::Bytes(text) => Ok(Ahead::Token(TokenKind::Text(text), length + 1)),
-        Unescaped::BadEscape(at) => Ok(Ahead::Refused(LexicalError::BadByte, at)),
+        Unescaped::Bytes(text) => Ok(Scanned::Token(TokenKind::Text(text), length + 1)),
+        Unescaped::BadEscape(at) => Ok(Scanned::Refused(LexicalError::BadByte, at)),
     }
 }

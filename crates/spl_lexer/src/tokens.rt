@@ -4,7 +4,7 @@ ghost use Rattle.spl_tree.specs.Tokens.{tokens};
 ghost use Rattle.spl_lexer.specs.Answer.{Refuses};
 
 use crate::LexAnswer;
-use crate::front::{Ahead, front};
+use crate::front::{Scanned, front};
 use spl_tree::{LexicalError, MOST_BYTES, Token, Tokens};
 use spl_value::Items;
 use std::alloc::Global;
@@ -23,7 +23,7 @@ pub fn lex(alloc: Global, bytes: &[u8]) -> Result<Tokens, LexAnswer>
     let mut at = 0;
     while at < bytes.len() {
         match front(alloc, &bytes[at..])? {
-            Ahead::Token(kind, length) => {
+            Scanned::Token(kind, length) => {
                 let end = at + length;
                 list.push(Token {
                     kind,
@@ -32,8 +32,8 @@ pub fn lex(alloc: Global, bytes: &[u8]) -> Result<Tokens, LexAnswer>
                 })?;
                 at = end;
             }
-            Ahead::Gap(length) => at += length,
-            Ahead::Refused(error, behind) => {
+            Scanned::Gap(length) => at += length,
+            Scanned::Refused(error, behind) => {
                 return Err(LexAnswer::Refused(error, (at + behind) as u32));
             }
         }

@@ -1,6 +1,6 @@
 use Rattle.std.proofs.Common.{◌≡◌, ◌+◌, drop, false}
 use Rattle.std.specs.Option.{option_map}
-use Rattle.spl_lexer.specs.steps.Ahead.{text_length}
+use Rattle.spl_lexer.specs.steps.Scanning.{text_length}
 use Rattle.spl_lexer.proofs.lengths.text_length.Given as goal
 
 abbrev pub invariant-loop-i : goal.invariant-loop-i

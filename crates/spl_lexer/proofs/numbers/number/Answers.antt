@@ -1,7 +1,7 @@
 use Rattle.std.proofs.Common.{◌∙◌, ◌+◌, sym, ap}
 use Rattle.std.proofs.lemmas.List.{take_rest}
 use Rattle.spl_tree.specs.Bytes.{is_word_byte, begins}
-use Rattle.spl_lexer.specs.steps.Ahead.{suffix_ahead}
+use Rattle.spl_lexer.specs.steps.Scanning.{suffix_ahead}
 use Rattle.spl_lexer.proofs.Found.{run_on_found, number_found}
 use Rattle.spl_lexer.proofs.numbers.number.Goals as goal
 

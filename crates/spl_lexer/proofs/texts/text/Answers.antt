@@ -1,5 +1,5 @@
 use Rattle.std.proofs.Common.{◌∙◌, Ok, Err, sym, ap}
-use Rattle.spl_lexer.specs.steps.Ahead.{unescaped_of}
+use Rattle.spl_lexer.specs.steps.Scanning.{unescaped_of}
 use Rattle.spl_lexer.proofs.Found.{text_found}
 use Rattle.spl_lexer.proofs.texts.text.Goals as goal
 

@@ -2,7 +2,7 @@ use Rattle.std.proofs.Common.{◌≡◌, ◌∙◌, ◌+◌, ◌<◌, length, dr
 use Rattle.std.proofs.lemmas.List.{take_rest}
 use Rattle.spl_tree.specs.Tokens.{Take, Pass, front, tokens_from, with_front}
 use Rattle.spl_tree.proofs.TokenLaws.{take_step, pass_step}
-use Rattle.spl_lexer.specs.steps.Ahead.{front_of}
+use Rattle.spl_lexer.specs.steps.Scanning.{front_of}
 use Rattle.spl_lexer.proofs.tokens.lex.Goals as goal
 
 pub loop-at-preserved-in-Token : goal.loop-at-preserved-in-Token

@@ -7,13 +7,13 @@ use Rattle.spl_tree.specs.declared.token.TokenKind.TheVariants as T
 use Rattle.spl_tree.specs.declared.token.LexicalError.TheVariants as E
 use Rattle.spl_tree.specs.Words.{symbol_of}
 use Rattle.spl_tree.specs.Tokens.{Front, Take, Pass, Refuse, as_front, text_kind, unescaped}
-use Rattle.spl_lexer.specs.declared.front.Ahead.{Ahead}
-use Rattle.spl_lexer.specs.declared.front.Ahead.TheVariants as A
+use Rattle.spl_lexer.specs.declared.front.Scanned.{Scanned}
+use Rattle.spl_lexer.specs.declared.front.Scanned.TheVariants as A
 use Rattle.spl_lexer.specs.declared.texts.Unescaped.{Unescaped}
 use Rattle.spl_lexer.specs.declared.texts.Unescaped.TheVariants as U
 
 -- what the lexer found, as the definition's front
-abbrev pub front_of : Ahead → Front
+abbrev pub front_of : Scanned → Front
 front_of (A.Token k n) = Take k n
 front_of (A.Gap n) = Pass n
 front_of (A.Refused e at) = Refuse e at
