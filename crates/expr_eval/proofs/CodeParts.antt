@@ -1,6 +1,7 @@
 -- What the parts of a code that fits fit.
-use Rattle.std.specs.Prelude.{◌≡◌, ℕ, zero, suc, IsTrue, List, length, Some, slice_get}
+use Rattle.std.specs.Prelude.{◌≡◌, ◌<◌, ℕ, zero, suc, IsTrue, List, length, Some, slice_get}
 use Rattle.std.proofs.Common.{sym, ap, ◌∙◌, subst}
+use Rattle.std.proofs.lemmas.Option.{slice_get_within}
 use Rattle.spl_value.specs.declared.types.Named.{Named}
 use Rattle.spl_value.specs.declared.types.SplType.{SplType}
 use Rattle.spl_value.specs.declared.types.SplType.TheVariants as S
@@ -26,6 +27,7 @@ use Rattle.language_model.specs.CodeFits.{CodeFits, SlotFits, ElementsFit, Pairs
 use Rattle.language_model.specs.WorldFits.{Fits}
 use Rattle.value_operations.specs.Fitting.{HasSlot, HasMarker}
 use Rattle.expr_eval.specs.Fitting.{IsFit, AreFit, PairsAreFit, FieldsAreFit, FitTakings}
+use Rattle.expr_eval.proofs.Placing.{PlacesBelow, as_many, place_below}
 
 -- what the parts of an open code fit where the code fits at the type
 abbrev Parts : Scope → Code-F Slot (Code Slot) → SplType → Type 0
@@ -88,6 +90,10 @@ module _ (scope : Scope) where
   fields_at _ _ (F.field j x fs schema a at g h) zero f e =
       (a.kind, subst (λ (f : ℕ × Code Slot). CodeFits scope f.1 a.kind) (let s : (j, x) ≡ f = cc in s) g)
   fields_at _ _ (F.field j x fs schema a at g h) (suc i) f e = fields_at fs schema h i f e
+
+  places_within : (fs : List (ℕ × Code Slot)) (schema : List (Named SplType)) → FieldsFit scope fs schema → PlacesBelow (length schema) fs
+  places_within _ _ (F.no_fields schema) = tt
+  places_within _ _ (F.field j x fs schema a at g h) = (slice_get_within schema j a at, places_within fs schema h)
 
 module _ (functions : List Function) (env : Env) where
   -- another code that fits the same scope
@@ -169,6 +175,13 @@ module _ (functions : List Function) (env : Env) where
     tuple_parts fs is =
         let p : Parts h.1.scope (O.Tuple fs) h.0 = parts_of (O.Tuple fs) (ap (out-Code Slot) is ∙ C.outs-Tuple fs) in
         (p.0, part (C.Tuple fs) (S.Tuple p.0) (F.tuple fs p.0 p.1 p.2), p.2)
+
+    -- each field has a place in a tuple of as many attributes
+    pub field_places : (fs : List (ℕ × Code Slot)) → code ≡ C.Tuple fs → (i : ℕ) (f : ℕ × Code Slot) → slice_get fs i ≡ Some f → f.0 < length fs
+    field_places fs is i f e =
+        let p : Parts h.1.scope (O.Tuple fs) h.0 = parts_of (O.Tuple fs) (ap (out-Code Slot) is ∙ C.outs-Tuple fs) in
+        let below = places_within h.1.scope fs p.0 p.1 in
+        subst (λ (n : ℕ). f.0 < n) (sym (as_many (length p.0) fs p.2 below)) (place_below (length p.0) fs below i f e)
 
     pub built_in_parts : (call : BuiltIn) (xs : List (Code Slot)) → code ≡ C.BuiltIn call xs
         → (ts : List SplType) × ArgumentsFit h.1.scope xs ts × BuiltInGives call ts h.0

@@ -1,8 +1,9 @@
 -- What a code of each form comes to, by what its parts came to.
-use Rattle.std.specs.Prelude.{◌≡◌, ℕ, Bool, true, false, not, if◌then◌else◌, List, Some, Result, IsErrAnd}
-use Rattle.std.proofs.Common.{sym, ap, ◌∙◌}
+use Rattle.std.specs.Prelude.{◌≡◌, ℕ, Bool, true, false, not, if◌then◌else◌, List, Option, None, Some, Result, IsErrAnd}
+use Rattle.std.proofs.Common.{refl, sym, ap, ◌∙◌}
 use Rattle.spl_value.specs.declared.value.Value.{Value}
 use Rattle.spl_value.specs.declared.value.Value.TheVariants as V
+use Rattle.spl_value.specs.declared.value.Value.TheViews.{out-Value}
 use Rattle.spl_tree.specs.declared.code.BinaryCode.{BinaryCode}
 use Rattle.spl_tree.specs.declared.code.BuiltIn.{BuiltIn}
 use Rattle.spl_tree.specs.declared.code.Code.{Code}
@@ -14,11 +15,12 @@ use Rattle.spl_tree.specs.declared.code.UnaryCode.{UnaryCode}
 use Rattle.language_model.specs.Evaluation.{World, Calls, map_of, tuple_of, unaries_of, binary, same_marker, code_value}
 use Rattle.language_model.specs.EvaluationLaws.{values_of, pair_values, field_values, takings_value, truth_value, literal_is, name_is, list_is, map_is, tuple_is, select_is, unary_is, binary_is, conditional_is, built_in_is, call_is, is_marker_is, is_not_marker_is}
 use Rattle.language_model.specs.Operators.{built_in_of}
+use Rattle.language_model.specs.Statements.{level_tuple}
 use Rattle.language_model.specs.Outcomes.{Outcome, Done, followed, need, settled, enter}
 use Rattle.value_operations.specs.Answers.{StopsAs, AnswersHeld, ReadsHeld}
 use Rattle.value_operations.specs.declared.held.Held.{Held}
 use Rattle.value_operations.specs.declared.stop.Stop.{Stop}
-use Rattle.value_operations.proofs.Following.{followed_followed, followed_stops, stops_by, stops_held, answers_held_by, read_answers}
+use Rattle.value_operations.proofs.Following.{followed_done, followed_followed, followed_stops, stops_by, stops_held, answers_held_by, read_answers}
 
 module _ (calls : Calls) (w : World Slot) (code : Code Slot) (turns : ℕ) where
   abbrev comes : Outcome Value
@@ -108,13 +110,30 @@ module _ (calls : Calls) (w : World Slot) (code : Code Slot) (turns : ℕ) where
     tuple_form : comes ≡ followed (field_values calls fs w turns) (λ gs turns. need (tuple_of gs) (λ vs. Done (V.Tuple vs) turns))
     tuple_form = form (C.Tuple fs) _ is (tuple_is calls fs w turns)
 
-    pub tuple_stops : (r : Result Held Stop) (left : ℕ) (s : Stop) → IsErrAnd r (λ y. y ≡ s) → StopsAs (field_values calls fs w turns) s → AnswersHeld comes r left
-    tuple_stops r left s h f =
-        handed _ r left s tuple_form h (followed_stops (field_values calls fs w turns) (λ gs turns. need (tuple_of gs) (λ vs. Done (V.Tuple vs) turns)) s f)
+    need_followed : (o : Option (List Value)) (left : ℕ)
+        → followed (need o (λ vs. Done vs left)) (λ vs left. Done (V.Tuple vs) left) ≡ need o (λ vs. Done (V.Tuple vs) left)
+    need_followed None left = refl
+    need_followed (Some vs) left = refl
 
-    pub tuple_done : (gs : List (ℕ × Value)) (left : ℕ) → field_values calls fs w turns ≡ Done gs left → (vs : List Value) → tuple_of gs ≡ Some vs → comes ≡ Done (V.Tuple vs) left
-    tuple_done gs left d vs e =
-        tuple_form ∙ ap (λ o. followed o (λ gs turns. need (tuple_of gs) (λ vs. Done (V.Tuple vs) turns))) d ∙ ap (λ o. need o (λ vs. Done (V.Tuple vs) left)) e
+    -- the tuple is made of the fields
+    tuple_made : comes ≡ followed (followed (field_values calls fs w turns) (λ gs left. need (tuple_of gs) (λ vs. Done vs left))) (λ vs left. Done (V.Tuple vs) left)
+    tuple_made =
+        tuple_form ∙ (λ i. followed (field_values calls fs w turns) (λ gs left. sym (need_followed (tuple_of gs) left) i))
+        ∙ sym (followed_followed (field_values calls fs w turns) (λ gs left. need (tuple_of gs) (λ vs. Done vs left)) (λ vs left. Done (V.Tuple vs) left))
+
+    pub tuple_answers : (r : Result Held Stop) (left : ℕ)
+        → AnswersHeld (followed (followed (field_values calls fs w turns) (λ gs left. need (tuple_of gs) (λ vs. Done vs left))) (λ vs left. Done (V.Tuple vs) left)) r left
+        → AnswersHeld comes r left
+    tuple_answers r left h = answers_held_by comes _ r left tuple_made h
+
+    -- the values of the tuple
+    pub tuple_values_are : followed comes (λ v left. need (level_tuple (out-Value v)) (λ vs. Done vs left))
+        ≡ followed (field_values calls fs w turns) (λ gs left. need (tuple_of gs) (λ vs. Done vs left))
+    tuple_values_are =
+        ap (λ o. followed o (λ v left. need (level_tuple (out-Value v)) (λ vs. Done vs left))) tuple_made
+        ∙ followed_followed (followed (field_values calls fs w turns) (λ gs left. need (tuple_of gs) (λ vs. Done vs left))) (λ vs left. Done (V.Tuple vs) left) (λ v left. need (level_tuple (out-Value v)) (λ vs. Done vs left))
+        ∙ (λ i. followed (followed (field_values calls fs w turns) (λ gs left. need (tuple_of gs) (λ vs. Done vs left))) (λ vs left. need (level_tuple (V.outs-Tuple vs i)) (λ vs. Done vs left)))
+        ∙ followed_done (followed (field_values calls fs w turns) (λ gs left. need (tuple_of gs) (λ vs. Done vs left)))
 
   module _ (call : BuiltIn) (xs : List (Code Slot)) (is : code ≡ C.BuiltIn call xs) where
     built_in_form : comes ≡ followed (values_of calls xs w turns) (λ vs turns. settled (built_in_of call vs) turns)

@@ -16,3 +16,5 @@ mod StepParts
 mod StepValues
 mod ValueTypes
 mod Truths
+mod Placing
+mod PlacedFields

@@ -12,7 +12,8 @@ use Rattle.spl_value.specs.declared.types.SplType.{SplType}
 use Rattle.spl_value.specs.declared.types.SplType.TheVariants as S
 use Rattle.spl_value.specs.declared.value.Value.{Value}
 use Rattle.spl_value.specs.declared.value.Value.TheVariants as V
-use Rattle.spl_value.proofs.FitsLaws.{fits_tuple}
+use Rattle.spl_value.specs.declared.value.Value.TheViews.{out-Value}
+use Rattle.spl_value.proofs.FitsLaws.{fits_tuple, tuple_from_fits}
 use Rattle.spl_value.specs.Values.{fits, tuple_fits}
 use Rattle.spl_tree.specs.declared.code.Code.{Code}
 use Rattle.spl_tree.specs.declared.code.Code.TheVariants as C
@@ -30,11 +31,13 @@ use Rattle.language_model.specs.CodeFits.{CodeFits, ArgumentsFit, StepsLead, One
 use Rattle.language_model.specs.Evaluation.{Calls, World, code_value, world_of, taken, field_at, tuple_from, tuple_of}
 use Rattle.language_model.specs.Functions.{calls_of}
 use Rattle.language_model.specs.EvaluationLaws.{values_of, field_values, taking_meaning, takings_value, literal_is, select_is, tuple_is}
+use Rattle.language_model.specs.Statements.{level_tuple}
 use Rattle.language_model.specs.Outcomes.{Outcome, Done, Faulted, Stuck, followed, need}
 use Rattle.language_model.specs.ValueLaws.{NeverStuckLaw}
 use Rattle.language_model.specs.WorldFits.{EnvFits, FunctionsFit, Fits, ComesTo}
-use Rattle.value_operations.specs.Fitting.{FitBinary, FitsUnaries, FitBuiltIn, HaveEachPlace}
+use Rattle.value_operations.specs.Fitting.{FitBinary, FitsUnaries, FitBuiltIn}
 use Rattle.expr_eval.specs.Fitting.{IsFit, FitCall, FitTakings}
+use Rattle.expr_eval.proofs.Placing.{HaveEachPlace}
 use Rattle.expr_eval.proofs.CodeParts.{select_parts, unary_parts, binary_parts, tuple_parts, built_in_parts, call_parts}
 
 -- what led to an answer
@@ -90,6 +93,12 @@ module _ (law : NeverStuckLaw) (functions : List Function) (env : Env) (depth : 
   pub of_type : (x : Code Slot) (t : SplType) → Fits functions x env t → (turns left : ℕ) (v : Value) → code_value calls x world turns ≡ Done v left → IsTrue (fits t v)
   of_type x t f turns left v e = subst (ComesTo t) e (law functions x env t f depth turns)
 
+  pub gives_tuple : (x : Code Slot) (schema : List (Named SplType)) → Fits functions x env (S.Tuple schema) → (turns left : ℕ) (v : Value) → code_value calls x world turns ≡ Done v left
+      → level_tuple (out-Value v) ≡ None → ⊥
+  gives_tuple x schema f turns left v d e =
+      let vs = tuple_from_fits schema v (of_type x (S.Tuple schema) f turns left v d) in
+      let is : level_tuple (out-Value v) ≡ Some vs.0 = ap level_tuple (ap out-Value vs.1 ∙ V.outs-Tuple vs.0) in cc
+
   -- in a scope that fits
   module _ (scope : Scope) (env_fits : EnvFits scope env) (functions_fit : FunctionsFit scope.functions functions) where
     fit : (x : Code Slot) (t : SplType) → CodeFits scope x t → Fits functions x env t
@@ -121,6 +130,14 @@ module _ (law : NeverStuckLaw) (functions : List Function) (env : Env) (depth : 
       let others = done_followed (field_values calls fs world first.1) (λ gs turns. Done ((f.0, first.0) ∷ gs) turns) gs left first.3 in
       let s : (f.0, first.0) ∷ others.0 ≡ gs = cc (others.3) in
       ap (how_often i) (sym s) ∙ ap (λ n. cond (f.0 == i) (1 + n) n) (same_places fs first.1 others.1 others.0 others.2 i)
+
+  pub as_long : (fs : List (ℕ × Code Slot)) (turns left : ℕ) (gs : List (ℕ × Value)) → field_values calls fs world turns ≡ Done gs left → length gs ≡ length fs
+  as_long [] turns left gs e = let s : [] ≡ gs = cc in ap length (sym s)
+  as_long (f ∷ fs) turns left gs e =
+      let first = done_followed (code_value calls f.1 world turns) (λ v turns. followed (field_values calls fs world turns) (λ gs turns. Done ((f.0, v) ∷ gs) turns)) gs left e in
+      let others = done_followed (field_values calls fs world first.1) (λ gs turns. Done ((f.0, first.0) ∷ gs) turns) gs left first.3 in
+      let s : (f.0, first.0) ∷ others.0 ≡ gs = cc (others.3) in
+      ap length (sym s) ∙ ap suc (as_long fs first.1 others.1 others.0 others.2)
 
   pub each_place : (fs : List (ℕ × Code Slot)) (schema : List (Named SplType)) → Fits functions (C.Tuple fs) env (S.Tuple schema) → OneEach (length schema) fs
       → (turns left : ℕ) (gs : List (ℕ × Value)) → field_values calls fs world turns ≡ Done gs left → HaveEachPlace gs

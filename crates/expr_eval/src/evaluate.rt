@@ -2,25 +2,25 @@
 ghost use Rattle.std.specs.Prelude.{◌≡◌, ◌∷◌, []};
 ghost use Rattle.spl_value.specs.declared.types.SplType.TheVariants as T;
 ghost use Rattle.spl_tree.specs.declared.code.Code.TheVariants as C;
-ghost use Rattle.language_model.specs.Outcomes.{Done, followed, settled, enter};
+ghost use Rattle.language_model.specs.Outcomes.{Done, followed, need, settled, enter};
 ghost use Rattle.language_model.specs.Operators.{built_in_of};
-ghost use Rattle.language_model.specs.Evaluation.{code_value, world_of, binary, taken, map_of};
+ghost use Rattle.language_model.specs.Evaluation.{code_value, world_of, binary, taken, map_of, tuple_of};
 ghost use Rattle.language_model.specs.Functions.{calls_of, value};
 ghost use Rattle.language_model.specs.EvaluationLaws.{values_of, pair_values, field_values, taking_meaning, takings_value, truth_value};
 ghost use Rattle.language_model.specs.WorldFits.{Fits};
 ghost use Rattle.value_operations.specs.Answers.{Answers, AnswersHeld, Evaluates, held};
-ghost use Rattle.expr_eval.specs.Fitting.{IsFit, AreFit, PairsAreFit, FieldsAreFit, FitTakings, FitCall};
+ghost use Rattle.expr_eval.specs.Fitting.{IsFit, AreFit, PairsAreFit, FitTakings, FitCall};
 
 use crate::context::Context;
 use crate::run::run_function;
 use language_model::{Env, evaluation_law};
-use spl_tree::{BinaryCode, BuiltIn, Code, Functions, Slot, Taking};
+use spl_tree::{BinaryCode, BuiltIn, Code, Functions, Slot, Taking, UnaryCode};
 use spl_value::{Evaluated, Items, Pairs, Value, Values};
 use std::alloc::Global;
 use value_operations::{
-    Held, Stop, call_with_one, call_with_three, call_with_two, element_at, evaluated, is_marker,
-    list_value, map_value, member, operator_with, owned, slot_value, stopped, truth_of, tuple_of,
-    unaries_of, value_at,
+    Held, Stop, blanks, call_with_one, call_with_three, call_with_two, element_at, evaluated,
+    is_marker, list_value, map_value, member, operator_with, owned, slot_value, stopped, truth_of,
+    tuple_value, unaries_of, value_at,
 };
 
 /// How many codes and statements may stand inside one another, those of called functions too, since
@@ -62,7 +62,6 @@ pub(crate) fn eval_at<'e>(
     requires { IsFit context.now.functions.now code.now context.now.env.now }
     ensures { AnswersHeld (code_value (calls_of context.now.functions.now context.now.depth) code.now (world_of context.now.env.now) turns.old) result turns.new }
 {
-    evaluation_law();
     let Some(room) = room.checked_sub(1) else {
         return Err(Stop::Memory);
     };
@@ -70,40 +69,169 @@ pub(crate) fn eval_at<'e>(
         Code::Literal(value) => Ok(Held::Lent(value)),
         Code::Name(slot) => slot_value(context.alloc, context.env, *slot),
         Code::Select(base, takings) => {
-            let first = eval_at(context, room, base.get(), turns)?;
-            taken_all(context, room, takings.as_slice(), first, turns)
+            select(context, room, base.get(), takings.as_slice(), turns)
         }
         Code::Unary(operators, operand) => {
-            let operand = eval_at(context, room, operand.get(), turns)?;
-            unaries_of(context.alloc, operators.as_slice(), operand)
+            unary(context, room, operators.as_slice(), operand.get(), turns)
         }
         Code::Binary(operator, left, right) => {
             binary(context, room, *operator, left.get(), right.get(), turns)
         }
         Code::Conditional(condition, first, second) => {
-            if is_true(context, room, condition.get(), turns)? {
-                eval_at(context, room, first.get(), turns)
-            } else {
-                eval_at(context, room, second.get(), turns)
-            }
+            conditional(
+                context,
+                room,
+                condition.get(),
+                first.get(),
+                second.get(),
+                turns,
+            )
         }
-        Code::List(codes) => { list_value(eval_all(context, room, codes.as_slice(), turns)) }
-        Code::Map(pairs) => { map_value(eval_pairs(context, room, pairs.as_slice(), turns)) }
-        Code::Tuple(fields) => {
-            let fields = eval_fields(context, room, fields.as_slice(), turns)?;
-            let values = tuple_of(context.alloc, fields)?;
-            Ok(Held::Own(Value::Tuple(values)))
-        }
-        Code::BuiltIn(call, codes) => {
-            owned(built_in(context, room, *call, codes.as_slice(), turns))
-        }
-        Code::Call(place, codes) => {
-            let values = eval_all(context, room, codes.as_slice(), turns)?;
-            owned(call(context, room, *place, values, turns))
-        }
+        Code::List(codes) => list(context, room, codes.as_slice(), turns),
+        Code::Map(pairs) => map(context, room, pairs.as_slice(), turns),
+        Code::Tuple(fields) => tuple(context, room, fields.as_slice(), turns),
+        Code::BuiltIn(call, codes) => built_in(context, room, *call, codes.as_slice(), turns),
+        Code::Call(place, codes) => call(context, room, *place, codes.as_slice(), turns),
         Code::IsMarker(marker) => Ok(Held::Own(Value::Bool(is_marker(context.env, *marker)))),
         Code::IsNotMarker(marker) => Ok(Held::Own(Value::Bool(!is_marker(context.env, *marker)))),
     }
+}
+
+/// What is taken of the value of a code.
+#[inline(never)]
+#[cycle(eval)]
+fn select<'e>(
+    context: &Context<'e>,
+    room: u32,
+    base: &'e Code<Slot>,
+    takings: &'e [Taking<Code<Slot>>],
+    turns: &mut u32,
+) -> Result<Held<'e>, Stop>
+    requires { IsFit context.now.functions.now (C.Select base.now takings.now) context.now.env.now }
+    ensures { AnswersHeld (code_value (calls_of context.now.functions.now context.now.depth) (C.Select base.now takings.now) (world_of context.now.env.now) turns.old) result turns.new }
+{
+    evaluation_law();
+    let first = eval_at(context, room, base, turns)?;
+    taken_all(context, room, takings, first, turns)
+}
+
+/// Operators and casts in front of an operand.
+#[inline(never)]
+#[cycle(eval)]
+fn unary<'e>(
+    context: &Context<'e>,
+    room: u32,
+    operators: &'e [UnaryCode],
+    operand: &'e Code<Slot>,
+    turns: &mut u32,
+) -> Result<Held<'e>, Stop>
+    requires { IsFit context.now.functions.now (C.Unary operators.now operand.now) context.now.env.now }
+    ensures { AnswersHeld (code_value (calls_of context.now.functions.now context.now.depth) (C.Unary operators.now operand.now) (world_of context.now.env.now) turns.old) result turns.new }
+{
+    evaluation_law();
+    let operand = eval_at(context, room, operand, turns)?;
+    unaries_of(context.alloc, operators, operand)
+}
+
+/// The first of two codes where a condition is true, or else the second.
+#[inline(never)]
+#[cycle(eval)]
+fn conditional<'e>(
+    context: &Context<'e>,
+    room: u32,
+    condition: &'e Code<Slot>,
+    first: &'e Code<Slot>,
+    second: &'e Code<Slot>,
+    turns: &mut u32,
+) -> Result<Held<'e>, Stop>
+    requires { IsFit context.now.functions.now (C.Conditional condition.now first.now second.now) context.now.env.now }
+    ensures { AnswersHeld (code_value (calls_of context.now.functions.now context.now.depth) (C.Conditional condition.now first.now second.now) (world_of context.now.env.now) turns.old) result turns.new }
+{
+    if is_true(context, room, condition, turns)? {
+        eval_at(context, room, first, turns)
+    } else {
+        eval_at(context, room, second, turns)
+    }
+}
+
+/// The list of the values of codes.
+#[inline(never)]
+#[cycle(eval)]
+fn list<'e>(
+    context: &Context<'e>,
+    room: u32,
+    codes: &'e [Code<Slot>],
+    turns: &mut u32,
+) -> Result<Held<'e>, Stop>
+    requires { IsFit context.now.functions.now (C.List codes.now) context.now.env.now }
+    ensures { AnswersHeld (code_value (calls_of context.now.functions.now context.now.depth) (C.List codes.now) (world_of context.now.env.now) turns.old) result turns.new }
+{
+    list_value(eval_all(context, room, codes, turns))
+}
+
+/// The map of the values of pairs.
+#[inline(never)]
+#[cycle(eval)]
+fn map<'e>(
+    context: &Context<'e>,
+    room: u32,
+    pairs: &'e [(Code<Slot>, Code<Slot>)],
+    turns: &mut u32,
+) -> Result<Held<'e>, Stop>
+    requires { IsFit context.now.functions.now (C.Map pairs.now) context.now.env.now }
+    ensures { AnswersHeld (code_value (calls_of context.now.functions.now context.now.depth) (C.Map pairs.now) (world_of context.now.env.now) turns.old) result turns.new }
+{
+    map_value(eval_pairs(context, room, pairs, turns))
+}
+
+/// The tuple of the values of fields.
+#[inline(never)]
+#[cycle(eval)]
+fn tuple<'e>(
+    context: &Context<'e>,
+    room: u32,
+    fields: &'e [(u32, Code<Slot>)],
+    turns: &mut u32,
+) -> Result<Held<'e>, Stop>
+    requires { IsFit context.now.functions.now (C.Tuple fields.now) context.now.env.now }
+    ensures { AnswersHeld (code_value (calls_of context.now.functions.now context.now.depth) (C.Tuple fields.now) (world_of context.now.env.now) turns.old) result turns.new }
+{
+    let list = Items::new(context.alloc);
+    tuple_value(eval_fields(context, room, list, fields, turns))
+}
+
+/// What a call that the language has built in gives.
+#[inline(never)]
+#[cycle(eval)]
+fn built_in<'e>(
+    context: &Context<'e>,
+    room: u32,
+    call: BuiltIn,
+    codes: &'e [Code<Slot>],
+    turns: &mut u32,
+) -> Result<Held<'e>, Stop>
+    requires { IsFit context.now.functions.now (C.BuiltIn call codes.now) context.now.env.now }
+    ensures { AnswersHeld (code_value (calls_of context.now.functions.now context.now.depth) (C.BuiltIn call codes.now) (world_of context.now.env.now) turns.old) result turns.new }
+{
+    owned(value_of_built_in(context, room, call, codes, turns))
+}
+
+/// What a function gives for the values of codes.
+#[inline(never)]
+#[cycle(eval)]
+fn call<'e>(
+    context: &Context<'e>,
+    room: u32,
+    place: u32,
+    codes: &'e [Code<Slot>],
+    turns: &mut u32,
+) -> Result<Held<'e>, Stop>
+    requires { IsFit context.now.functions.now (C.Call place codes.now) context.now.env.now }
+    ensures { AnswersHeld (code_value (calls_of context.now.functions.now context.now.depth) (C.Call place codes.now) (world_of context.now.env.now) turns.old) result turns.new }
+{
+    evaluation_law();
+    let values = eval_all(context, room, codes, turns)?;
+    owned(value_of_call(context, room, place, values, turns))
 }
 
 /// The value of a code, as one of its own.
@@ -160,21 +288,24 @@ fn eval_pairs<'e>(
     Ok(map)
 }
 
-/// The values of fields with their places, in the order of the text.
+/// The tuple of the values of fields, which are evaluated in the order of the text, in the room of a list
+/// whose values are let go of.
 #[cycle(eval)]
-fn eval_fields<'e>(
+pub(crate) fn eval_fields<'e>(
     context: &Context<'e>,
     room: u32,
+    list: Values,
     fields: &'e [(u32, Code<Slot>)],
     turns: &mut u32,
-) -> Result<Items<(u32, Value)>, Stop>
-    requires { FieldsAreFit context.now.functions.now fields.now context.now.env.now }
-    ensures { Answers (field_values (calls_of context.now.functions.now context.now.depth) fields.now (world_of context.now.env.now) turns.old) result turns.new }
+) -> Result<Values, Stop>
+    requires { IsFit context.now.functions.now (C.Tuple fields.now) context.now.env.now }
+    ensures { Answers (followed (field_values (calls_of context.now.functions.now context.now.depth) fields.now (world_of context.now.env.now) turns.old) (λ gs left. need (tuple_of gs) (λ vs. Done vs left))) result turns.new }
 {
-    let mut values = Items::new(context.alloc);
+    evaluation_law();
+    let mut values = blanks(list, fields.len())?;
     for field in fields {
         let value = own_value(context, room, &field.1, turns)?;
-        values.push((field.0, value))?;
+        values.set(field.0 as usize, value);
     }
     Ok(values)
 }
@@ -242,6 +373,7 @@ pub(crate) fn is_true<'e>(
 }
 
 /// An operator between two operands. `&&` and `||` evaluate the right one only where it counts.
+#[inline(never)]
 #[cycle(eval)]
 fn binary<'e>(
     context: &Context<'e>,
@@ -278,7 +410,7 @@ fn binary<'e>(
 
 /// A call that the language has built in. Its arguments are read where they stand.
 #[cycle(eval)]
-fn built_in<'e>(
+fn value_of_built_in<'e>(
     context: &Context<'e>,
     room: u32,
     call: BuiltIn,
@@ -315,7 +447,7 @@ fn built_in<'e>(
 
 /// What a function gives for arguments. The call takes a turn.
 #[cycle(eval)]
-fn call<'e>(
+fn value_of_call<'e>(
     context: &Context<'e>,
     room: u32,
     place: u32,

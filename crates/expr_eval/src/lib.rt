@@ -7,10 +7,12 @@ mod flow;
 mod run;
 mod statements;
 mod truth;
+mod tuple;
 mod variables;
 
 pub use evaluate::{DEEPEST, eval};
 pub use language_model::{Env, Tuples};
 pub use run::{Ran, run_body};
 pub use truth::holds;
+pub use tuple::tuple_into;
 pub use value_operations::{Made, Truth};

@@ -1,5 +1,6 @@
 //! What statements do, by a call for each form of statement.
 ghost use Rattle.std.specs.Prelude.{◌≡◌, ◌∷◌, [], List, Some, slice_get};
+ghost use Rattle.spl_tree.specs.declared.body.Statement.TheVariants as S;
 ghost use Rattle.language_model.specs.declared.outs.Output.{Output};
 ghost use Rattle.language_model.specs.Functions.{bodies_of, runs};
 ghost use Rattle.language_model.specs.Outcomes.{enter};
@@ -113,9 +114,7 @@ fn run_statement<'p>(
             next_follows_value(eval_at(&in_env!(program, env), room, code, turns))
         }
         Statement::Call(place, codes) => {
-            let context = in_env!(program, env);
-            let values = eval_all(&context, room, codes.as_slice(), turns)?;
-            next_follows_call(run_function(&context, room, *place, values, turns))
+            run_call(program, room, *place, codes.as_slice(), env, turns)
         }
         Statement::If(arms, other) => run_if(
             program,
@@ -130,9 +129,7 @@ fn run_statement<'p>(
             run_while(program, room, code, row.as_slice(), env, turns, submits)
         }
         Statement::For(code, row) => {
-            let held = eval_at(&in_env!(program, env), room, code, turns)?;
-            let values = elements(program.alloc, held)?;
-            run_over(program, room, values, row.as_slice(), env, turns, submits)
+            run_for(program, room, code, row.as_slice(), env, turns, submits)
         }
         Statement::Break => Ok(Flow::Broken),
         Statement::Continue => Ok(Flow::Continued),
@@ -146,6 +143,46 @@ fn run_statement<'p>(
         }
         Statement::SubmitWindow(port) => submit_window(*port, submits),
     }
+}
+
+/// A call of a function, whose result isn't used.
+#[cycle(eval)]
+fn run_call<'p>(
+    program: &Program<'p>,
+    room: u32,
+    place: u32,
+    codes: &'p [Code<Slot>],
+    env: &Env,
+    turns: &mut u32,
+) -> Result<Flow, Stop>
+    requires { StatementIsFit program.now.functions.now (S.Call place codes.now) env.now }
+    ensures { (submits : List Output) → Leads (statement_acts (bodies_of program.now.functions.now program.now.depth) (S.Call place codes.now) (state env.now submits) turns.old) result (state env.now submits) turns.new }
+{
+    evaluation_law();
+    let context = in_env!(program, env);
+    let values = eval_all(&context, room, codes, turns)?;
+    next_follows_call(run_function(&context, room, place, values, turns))
+}
+
+/// A loop over the elements of a list, or the keys of a map.
+#[cycle(eval)]
+#[tactic(auto, using(language_model::specs::StatementLaws::statement_laws))]
+fn run_for<'p>(
+    program: &Program<'p>,
+    room: u32,
+    code: &'p Code<Slot>,
+    row: &'p [Statement],
+    env: &mut Env,
+    turns: &mut u32,
+    submits: &mut Outs,
+) -> Result<Flow, Stop>
+    requires { StatementIsFit program.now.functions.now (S.For code.now row.now) env.old }
+    ensures { Leads (statement_acts (bodies_of program.now.functions.now program.now.depth) (S.For code.now row.now) (state env.old submits.old) turns.old) result (state env.new submits.new) turns.new }
+{
+    evaluation_law();
+    let held = eval_at(&in_env!(program, env), room, code, turns)?;
+    let values = elements(program.alloc, held)?;
+    run_over(program, room, values, row, env, turns, submits)
 }
 
 /// Statements one after another, until one of them ends the row.

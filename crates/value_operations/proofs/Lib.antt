@@ -8,7 +8,6 @@ mod Operands
 mod Operating
 mod Parts
 mod PlaceSteps
-mod Placing
 mod Sizes
 mod Standing
 mod Unaries

@@ -1,7 +1,6 @@
 -- What operators, calls and names ask of values and environments: that they are of types which the rules allow.
-use Rattle.std.specs.Prelude.{◌≡◌, ◌≢◌, ◌<◌, ◌==◌, ℕ, IsTrue, List, length, Some}
+use Rattle.std.specs.Prelude.{◌≡◌, ◌≢◌, ℕ, IsTrue, List, Some}
 use Rattle.std.specs.Cmp.Lexicographic.{pointwise}
-use Rattle.std.specs.List.{count_by}
 use Rattle.spl_value.specs.declared.types.SplType.{SplType}
 use Rattle.spl_value.specs.declared.types.SplType.TheVariants as T
 use Rattle.spl_value.specs.declared.value.Value.{Value}
@@ -48,7 +47,3 @@ IsPort slot = (port : ℕ) × (slot ≡ L.Port port)
 -- a marker came
 abbrev pub HasMarker : Env → Type 0
 HasMarker env = (m : Marker) × (env.punct ≡ Some m)
-
--- each place of the tuple has one field
-abbrev pub HaveEachPlace : List (ℕ × Value) → Type 0
-HaveEachPlace fields = (i : ℕ) → i < length fields → count_by (λ f. f.0 == i) fields ≡ 1

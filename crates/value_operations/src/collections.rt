@@ -1,8 +1,10 @@
 //! What a loop goes over, and what is submitted.
-ghost use Rattle.std.specs.Prelude.{◌≡◌, None, Some, map, IfOk};
+ghost use Rattle.std.specs.Prelude.{◌≡◌, ℕ, None, Some, Ok, map, IfOk};
+ghost use Rattle.spl_value.specs.declared.value.Value.{Value};
 ghost use Rattle.spl_value.specs.declared.value.Value.TheViews.{out-Value};
 ghost use Rattle.language_model.specs.Statements.{level_elements, level_tuple};
-ghost use Rattle.value_operations.specs.Answers.{Makes, held};
+ghost use Rattle.language_model.specs.Outcomes.{Outcome, Done, followed, need};
+ghost use Rattle.value_operations.specs.Answers.{Answers, Makes, held};
 
 use crate::held::Held;
 use crate::stop::Stop;
@@ -76,5 +78,17 @@ pub fn tuple_values(value: Value) -> Values
     match value {
         Value::Tuple(values) => values,
         _ => unreachable!(),
+    }
+}
+
+/// The values of a tuple, where an evaluation came to one.
+pub fn values_of_tuple(tuple: Result<Value, Stop>) -> Result<Values, Stop>
+    requires { (v : Value) → tuple ≡ Ok v → level_tuple (out-Value v) ≡ None → ⊥ }
+    ensures { (outcome : Outcome Value) (turns : ℕ) → Answers outcome tuple turns
+        → Answers (followed outcome (λ v left. need (level_tuple (out-Value v)) (λ vs. Done vs left))) result turns }
+{
+    match tuple {
+        Ok(value) => Ok(tuple_values(value)),
+        Err(stop) => Err(stop),
     }
 }

@@ -75,6 +75,17 @@ pub fn list_value<'e>(values: Result<Values, Stop>) -> Result<Held<'e>, Stop>
     }
 }
 
+/// The tuple of values that were made.
+pub fn tuple_value<'e>(values: Result<Values, Stop>) -> Result<Held<'e>, Stop>
+    ensures { (outcome : Outcome (List Value)) (turns : ℕ) → Answers outcome values turns
+        → AnswersHeld (followed outcome (λ vs left. Done (V.Tuple vs) left)) result turns }
+{
+    match values {
+        Ok(values) => Ok(Held::Own(Value::Tuple(values))),
+        Err(stop) => Err(stop),
+    }
+}
+
 /// The map of pairs that were made.
 pub fn map_value<'e>(pairs: Result<Pairs, Stop>) -> Result<Held<'e>, Stop>
     ensures { (outcome : Outcome (List (Value × Value))) (turns : ℕ) → Answers outcome pairs turns

@@ -2,16 +2,16 @@
 ghost use Rattle.std.specs.Prelude.{◌≡◌, IsTrue, IfOk, MatchOption, Some, length};
 ghost use Rattle.spl_value.specs.declared.types.SplType.TheVariants as T;
 ghost use Rattle.spl_value.specs.Values.{fits};
-ghost use Rattle.language_model.specs.Evaluation.{slot_value, same_marker, tuple_of};
+ghost use Rattle.language_model.specs.Evaluation.{slot_value, same_marker};
 ghost use Rattle.language_model.specs.Operators.{truth_of};
-ghost use Rattle.value_operations.specs.Answers.{Entered, ReadsHeld, Makes};
-ghost use Rattle.value_operations.specs.Fitting.{HasSlot, HasMarker, HaveEachPlace, IsPort};
+ghost use Rattle.value_operations.specs.Answers.{Entered, ReadsHeld};
+ghost use Rattle.value_operations.specs.Fitting.{HasSlot, HasMarker, IsPort};
 
 use crate::held::Held;
 use crate::stop::Stop;
 use language_model::Env;
 use spl_tree::{Marker, Slot};
-use spl_value::{FaultKind, Items, Value, Values, copy_values};
+use spl_value::{FaultKind, Reserved, Value, Values, copy_values};
 use std::alloc::{AllocError, Global};
 
 /// The value that a variable or an attribute stands for, where it stands. That of a port stands nowhere.
@@ -89,25 +89,13 @@ pub fn enter(turns: &mut u32) -> Result<(), Stop>
     }
 }
 
-/// The tuple of fields, each with its place.
-pub fn tuple_of(alloc: Global, fields: Items<(u32, Value)>) -> Result<Values, Stop>
-    requires { HaveEachPlace fields }
-    ensures { Makes (tuple_of fields) result }
-{
-    let mut values = blanks(alloc, fields.len())?;
-    'fields: for (place, value) in fields.into_vec() {
-        values.set(place as usize, value);
-    }
-    Ok(values)
-}
-
-/// So many values, each of which is to be replaced.
-fn blanks(alloc: Global, count: usize) -> Result<Values, AllocError>
+/// So many values, each of which is to be replaced, in the room of a list whose values are let go of.
+pub fn blanks(list: Values, count: usize) -> Result<Values, AllocError>
     ensures { IfOk result (λ values. length values ≡ count) }
 {
-    let mut values = Items::with_capacity(alloc, count)?;
+    let mut values = Reserved::within(list, count)?;
     'values: for _ in 0..count {
-        values.push(Value::Bool(false))?;
+        values.push(Value::Bool(false));
     }
-    Ok(values)
+    Ok(values.into_items())
 }

@@ -1,12 +1,19 @@
 use Rattle.expr_eval.proofs.Binary.{and_left, left_is_fit, on_left, or_left, right_is_fit}
 use Rattle.expr_eval.proofs.BuiltIns.{are_three, are_two, called_stopped, called_stops, first_of_three_stops, first_of_two_stops, is_one, one_to_three, one_value, second_of_three_stops, three_values, two_values, with_one, with_three, with_two}
 use Rattle.expr_eval.proofs.CodeParts.{built_in_is_fit, call_is_fit, conditional_parts, has_marker, has_other_marker, has_slot, list_is_fit, map_is_fit, select_parts, tuple_is_fit, unary_parts}
-use Rattle.value_operations.proofs.Following.{answers_by, answers_held_by, memory_held, stops, stops_by, stops_held}
+use Rattle.value_operations.proofs.Following.{answers_by, answers_held_by, stops, stops_by, stops_held}
+use Rattle.expr_eval.proofs.PlacedFields.{placed_done, placed_on, placed_start, placed_stops}
+use Rattle.std.proofs.lemmas.List.{length-set}
+use Rattle.std.proofs.Common.{ℕ}
+use Rattle.expr_eval.specs.Running.{StatementIsFit}
+use Rattle.language_model.specs.Statements.{statement_acts}
+use Rattle.expr_eval.proofs.CodeParts.{field_places}
+use Rattle.expr_eval.proofs.ValueTypes.{as_long}
 use Rattle.expr_eval.proofs.Leading.{leads_by, stops_leading}
-use Rattle.expr_eval.proofs.Forms.{arguments_stop, binary_answers, built_in_answers, call_answers, conditional_stops, first_answers, list_answers, literal_done, map_answers, marker_done, name_answers, other_marker_done, second_answers, select_answers, select_stops, tuple_done, tuple_stops, unary_answers, unary_stops}
+use Rattle.expr_eval.proofs.Forms.{arguments_stop, binary_answers, built_in_answers, call_answers, conditional_stops, first_answers, list_answers, literal_done, map_answers, marker_done, name_answers, other_marker_done, second_answers, select_answers, select_stops, tuple_answers, unary_answers, unary_stops}
 use Rattle.expr_eval.proofs.LoopParts.{arm_passed, arm_taken, arms_stop, over_on, row_ends, row_on, row_stops, while_ends, while_no_turns, while_on, while_stops, while_stops_in_turn}
 use Rattle.expr_eval.proofs.RowParts.{condition_of_arm, loop_after_turn, other_arms, other_turns, rest_of_row, row_of_arm, row_of_turn, statement_is_fit, turn_is_fit}
-use Rattle.expr_eval.proofs.Rows.{fields_on, fields_past, fields_start, fields_stop, pairs_on, pairs_past, pairs_start, pairs_stop_at_key, pairs_stop_at_value, takings_on, takings_past, takings_stop, values_on, values_past, values_start, values_stop}
+use Rattle.expr_eval.proofs.Rows.{pairs_on, pairs_past, pairs_start, pairs_stop_at_key, pairs_stop_at_value, takings_on, takings_past, takings_stop, values_on, values_past, values_start, values_stop}
 use Rattle.expr_eval.proofs.StepParts.{first_is_fit, has_elements, has_keys, has_member, index_is_fit, key_is_fit, others_are_fit}
 use Rattle.expr_eval.proofs.ValueTypes.{binary_of_operands, built_in_of_arguments, call_of_arguments, of_type, places_of_fields, takings_of_base, unaries_of_operand}
 use Rattle.value_operations.specs.Answers.{Answers, AnswersHeld, held}
@@ -46,37 +53,17 @@ pub evaluate::eval_at-returns-in-Name : goal.evaluate::eval_at-returns-in-Name
 evaluate::eval_at-returns-in-Name t c =
     name_answers (calls_of c.args.context.now.functions.now c.args.context.now.depth) (world_of c.args.context.now.env.now) c.args.code.now c.args.turns.now c.in-Name.slot c.in-Name.is c.slot_value.result c.slot_value.ensures
 
-pub evaluate::eval_at-eval_at-requires : goal.evaluate::eval_at-eval_at-requires
-evaluate::eval_at-eval_at-requires t c =
-    (omega (arith, c.in-Some.ensures.0, c.in-Some.ensures.1), (let p = select_parts c.args.context.now.functions.now c.args.context.now.env.now c.args.code.now c.requires c.get.result.now c.in-Select.takings (c.in-Select.is ∙ (λ i. C.Select (sym c.get.ensures i) c.in-Select.takings)) in (p.0, p.1)))
+pub evaluate::eval_at-select-requires : goal.evaluate::eval_at-select-requires
+evaluate::eval_at-select-requires t c = (omega (arith, c.in-Some.ensures.0, c.in-Some.ensures.1), subst (λ x. IsFit c.args.context.now.functions.now x c.args.context.now.env.now) (c.in-Select.is ∙ (λ i. C.Select (sym c.get.ensures i) (sym c.as_slice.ensures i))) c.requires)
 
-pub evaluate::eval_at-returns-in_err-first-in-Select : goal.evaluate::eval_at-returns-in_err-first-in-Select
-evaluate::eval_at-returns-in_err-first-in-Select t c =
-    select_stops (calls_of c.args.context.now.functions.now c.args.context.now.depth) (world_of c.args.context.now.env.now) c.args.code.now c.args.turns.now c.get.result.now c.in-Select.takings (c.in-Select.is ∙ (λ i. C.Select (sym c.get.ensures i) c.in-Select.takings)) _ _ _ c.from_residual.ensures.1 c.in_err-first-in-Select.ensures
+pub evaluate::eval_at-returns-in-Select : goal.evaluate::eval_at-returns-in-Select
+evaluate::eval_at-returns-in-Select t c = answers_held_by _ _ _ _ (ap (λ x. code_value (calls_of c.args.context.now.functions.now c.args.context.now.depth) x (world_of c.args.context.now.env.now) c.args.turns.now) (c.in-Select.is ∙ (λ i. C.Select (sym c.get.ensures i) (sym c.as_slice.ensures i)))) c.select.ensures
 
-pub evaluate::eval_at-taken_all-requires : goal.evaluate::eval_at-taken_all-requires
-evaluate::eval_at-taken_all-requires t c =
-    (omega (arith, c.in-Some.ensures.0, c.in-Some.ensures.1), takings_of_base c.evaluation_law.ensures.never_stuck c.args.context.now.functions.now c.args.context.now.env.now c.args.context.now.depth c.args.code.now c.requires c.get.result.now c.as_slice.result.now (c.in-Select.is ∙ (λ i. C.Select (sym c.get.ensures i) (sym c.as_slice.ensures i))) c.args.turns.now _ _ c.in_ok-first-in-Select.ensures)
+pub evaluate::eval_at-unary-requires : goal.evaluate::eval_at-unary-requires
+evaluate::eval_at-unary-requires t c = (omega (arith, c.in-Some.ensures.0, c.in-Some.ensures.1), subst (λ x. IsFit c.args.context.now.functions.now x c.args.context.now.env.now) (c.in-Unary.is ∙ (λ i. C.Unary (sym c.as_slice-in-Unary.ensures i) (sym c.get-in-Unary.ensures i))) c.requires)
 
-pub evaluate::eval_at-returns-in_ok-first-in-Select : goal.evaluate::eval_at-returns-in_ok-first-in-Select
-evaluate::eval_at-returns-in_ok-first-in-Select t c =
-    select_answers (calls_of c.args.context.now.functions.now c.args.context.now.depth) (world_of c.args.context.now.env.now) c.args.code.now c.args.turns.now c.get.result.now c.as_slice.result.now (c.in-Select.is ∙ (λ i. C.Select (sym c.get.ensures i) (sym c.as_slice.ensures i))) _ _ c.in_ok-first-in-Select.ensures _ _ c.taken_all.ensures
-
-pub evaluate::eval_at-eval_at-requires-in-Unary : goal.evaluate::eval_at-eval_at-requires-in-Unary
-evaluate::eval_at-eval_at-requires-in-Unary t c =
-    (omega (arith, c.in-Some.ensures.0, c.in-Some.ensures.1), (let p = unary_parts c.args.context.now.functions.now c.args.context.now.env.now c.args.code.now c.requires c.in-Unary.operators c.get-in-Unary.result.now (c.in-Unary.is ∙ (λ i. C.Unary c.in-Unary.operators (sym c.get-in-Unary.ensures i))) in (p.0, p.1)))
-
-pub evaluate::eval_at-returns-in_err-operand-in-Unary : goal.evaluate::eval_at-returns-in_err-operand-in-Unary
-evaluate::eval_at-returns-in_err-operand-in-Unary t c =
-    unary_stops (calls_of c.args.context.now.functions.now c.args.context.now.depth) (world_of c.args.context.now.env.now) c.args.code.now c.args.turns.now c.in-Unary.operators c.get-in-Unary.result.now (c.in-Unary.is ∙ (λ i. C.Unary c.in-Unary.operators (sym c.get-in-Unary.ensures i))) _ _ _ c.from_residual-in_err-operand-in-Unary.ensures.1 c.in_err-operand-in-Unary.ensures
-
-pub evaluate::eval_at-unaries_of-requires : goal.evaluate::eval_at-unaries_of-requires
-evaluate::eval_at-unaries_of-requires t c =
-    unaries_of_operand c.evaluation_law.ensures.never_stuck c.args.context.now.functions.now c.args.context.now.env.now c.args.context.now.depth c.args.code.now c.requires c.as_slice-in-Unary.result.now c.get-in-Unary.result.now (c.in-Unary.is ∙ (λ i. C.Unary (sym c.as_slice-in-Unary.ensures i) (sym c.get-in-Unary.ensures i))) c.args.turns.now _ _ c.in_ok-operand-in-Unary.ensures
-
-pub evaluate::eval_at-returns-in_ok-operand-in-Unary : goal.evaluate::eval_at-returns-in_ok-operand-in-Unary
-evaluate::eval_at-returns-in_ok-operand-in-Unary t c =
-    unary_answers (calls_of c.args.context.now.functions.now c.args.context.now.depth) (world_of c.args.context.now.env.now) c.args.code.now c.args.turns.now c.as_slice-in-Unary.result.now c.get-in-Unary.result.now (c.in-Unary.is ∙ (λ i. C.Unary (sym c.as_slice-in-Unary.ensures i) (sym c.get-in-Unary.ensures i))) _ _ c.in_ok-operand-in-Unary.ensures _ (c.unaries_of.ensures _)
+pub evaluate::eval_at-returns-in-Unary : goal.evaluate::eval_at-returns-in-Unary
+evaluate::eval_at-returns-in-Unary t c = answers_held_by _ _ _ _ (ap (λ x. code_value (calls_of c.args.context.now.functions.now c.args.context.now.depth) x (world_of c.args.context.now.env.now) c.args.turns.now) (c.in-Unary.is ∙ (λ i. C.Unary (sym c.as_slice-in-Unary.ensures i) (sym c.get-in-Unary.ensures i)))) c.unary.ensures
 
 pub evaluate::eval_at-binary-requires : goal.evaluate::eval_at-binary-requires
 evaluate::eval_at-binary-requires t c =
@@ -86,89 +73,137 @@ pub evaluate::eval_at-returns-in-Binary : goal.evaluate::eval_at-returns-in-Bina
 evaluate::eval_at-returns-in-Binary t c =
     binary_answers (calls_of c.args.context.now.functions.now c.args.context.now.depth) (world_of c.args.context.now.env.now) c.args.code.now c.args.turns.now c.in-Binary.operator c.get-in-Binary.result.now c.get-in-Binary-2.result.now (c.in-Binary.is ∙ (λ i. C.Binary c.in-Binary.operator (sym c.get-in-Binary.ensures i) (sym c.get-in-Binary-2.ensures i))) _ _ c.binary.ensures
 
-pub evaluate::eval_at-is_true-requires : goal.evaluate::eval_at-is_true-requires
-evaluate::eval_at-is_true-requires t c =
-    (omega (arith, c.in-Some.ensures.0, c.in-Some.ensures.1), (conditional_parts c.args.context.now.functions.now c.args.context.now.env.now c.args.code.now c.requires c.get-in-Conditional.result.now c.in-Conditional.first c.in-Conditional.second (c.in-Conditional.is ∙ (λ i. C.Conditional (sym c.get-in-Conditional.ensures i) c.in-Conditional.first c.in-Conditional.second))).0)
+pub evaluate::eval_at-conditional-requires : goal.evaluate::eval_at-conditional-requires
+evaluate::eval_at-conditional-requires t c = (omega (arith, c.in-Some.ensures.0, c.in-Some.ensures.1), subst (λ x. IsFit c.args.context.now.functions.now x c.args.context.now.env.now) (c.in-Conditional.is ∙ (λ i. C.Conditional (sym c.get-in-Conditional.ensures i) (sym c.get-in-Conditional-2.ensures i) (sym c.get-in-Conditional-3.ensures i))) c.requires)
 
-pub evaluate::eval_at-returns-in_err-is_true-in-Conditional : goal.evaluate::eval_at-returns-in_err-is_true-in-Conditional
-evaluate::eval_at-returns-in_err-is_true-in-Conditional t c =
-    conditional_stops (calls_of c.args.context.now.functions.now c.args.context.now.depth) (world_of c.args.context.now.env.now) c.args.code.now c.args.turns.now c.get-in-Conditional.result.now c.in-Conditional.first c.in-Conditional.second (c.in-Conditional.is ∙ (λ i. C.Conditional (sym c.get-in-Conditional.ensures i) c.in-Conditional.first c.in-Conditional.second)) _ _ _ c.from_residual-in_err-is_true-in-Conditional.ensures.1 c.in_err-is_true-in-Conditional.ensures
+pub evaluate::eval_at-returns-in-Conditional : goal.evaluate::eval_at-returns-in-Conditional
+evaluate::eval_at-returns-in-Conditional t c = answers_held_by _ _ _ _ (ap (λ x. code_value (calls_of c.args.context.now.functions.now c.args.context.now.depth) x (world_of c.args.context.now.env.now) c.args.turns.now) (c.in-Conditional.is ∙ (λ i. C.Conditional (sym c.get-in-Conditional.ensures i) (sym c.get-in-Conditional-2.ensures i) (sym c.get-in-Conditional-3.ensures i)))) c.conditional.ensures
 
-pub evaluate::eval_at-eval_at-requires-then-branch : goal.evaluate::eval_at-eval_at-requires-then-branch
-evaluate::eval_at-eval_at-requires-then-branch t c =
-    (omega (arith, c.in-Some.ensures.0, c.in-Some.ensures.1), (conditional_parts c.args.context.now.functions.now c.args.context.now.env.now c.args.code.now c.requires c.get-in-Conditional.result.now c.get-then-branch.result.now c.in-Conditional.second (c.in-Conditional.is ∙ (λ i. C.Conditional (sym c.get-in-Conditional.ensures i) (sym c.get-then-branch.ensures i) c.in-Conditional.second))).1)
-
-pub evaluate::eval_at-eval_at-requires-else-branch : goal.evaluate::eval_at-eval_at-requires-else-branch
-evaluate::eval_at-eval_at-requires-else-branch t c =
-    (omega (arith, c.in-Some.ensures.0, c.in-Some.ensures.1), (conditional_parts c.args.context.now.functions.now c.args.context.now.env.now c.args.code.now c.requires c.get-in-Conditional.result.now c.in-Conditional.first c.get-else-branch.result.now (c.in-Conditional.is ∙ (λ i. C.Conditional (sym c.get-in-Conditional.ensures i) c.in-Conditional.first (sym c.get-else-branch.ensures i)))).2)
-
-pub evaluate::eval_at-returns-then-branch : goal.evaluate::eval_at-returns-then-branch
-evaluate::eval_at-returns-then-branch t c =
-    first_answers (calls_of c.args.context.now.functions.now c.args.context.now.depth) (world_of c.args.context.now.env.now) c.args.code.now c.args.turns.now c.get-in-Conditional.result.now c.get-then-branch.result.now c.in-Conditional.second (c.in-Conditional.is ∙ (λ i. C.Conditional (sym c.get-in-Conditional.ensures i) (sym c.get-then-branch.ensures i) c.in-Conditional.second)) _ _ c.in_ok-is_true-in-Conditional.ensures c.if-branch.true _ _ c.eval_at-then-branch.ensures
-
-pub evaluate::eval_at-returns-else-branch : goal.evaluate::eval_at-returns-else-branch
-evaluate::eval_at-returns-else-branch t c =
-    second_answers (calls_of c.args.context.now.functions.now c.args.context.now.depth) (world_of c.args.context.now.env.now) c.args.code.now c.args.turns.now c.get-in-Conditional.result.now c.in-Conditional.first c.get-else-branch.result.now (c.in-Conditional.is ∙ (λ i. C.Conditional (sym c.get-in-Conditional.ensures i) c.in-Conditional.first (sym c.get-else-branch.ensures i))) _ _ c.in_ok-is_true-in-Conditional.ensures c.if-branch.false _ _ c.eval_at-else-branch.ensures
-
-pub evaluate::eval_at-eval_all-requires : goal.evaluate::eval_at-eval_all-requires
-evaluate::eval_at-eval_all-requires t c =
-    (omega (arith, c.in-Some.ensures.0, c.in-Some.ensures.1), list_is_fit c.args.context.now.functions.now c.args.context.now.env.now c.args.code.now c.requires c.as_slice-in-List.result.now (c.in-List.is ∙ (λ i. C.List (sym c.as_slice-in-List.ensures i))))
-
-pub evaluate::eval_at-eval_pairs-requires : goal.evaluate::eval_at-eval_pairs-requires
-evaluate::eval_at-eval_pairs-requires t c =
-    (omega (arith, c.in-Some.ensures.0, c.in-Some.ensures.1), map_is_fit c.args.context.now.functions.now c.args.context.now.env.now c.args.code.now c.requires c.as_slice-in-Map.result.now (c.in-Map.is ∙ (λ i. C.Map (sym c.as_slice-in-Map.ensures i))))
-
-pub evaluate::eval_at-eval_fields-requires : goal.evaluate::eval_at-eval_fields-requires
-evaluate::eval_at-eval_fields-requires t c =
-    (omega (arith, c.in-Some.ensures.0, c.in-Some.ensures.1), tuple_is_fit c.args.context.now.functions.now c.args.context.now.env.now c.args.code.now c.requires c.as_slice-in-Tuple.result.now (c.in-Tuple.is ∙ (λ i. C.Tuple (sym c.as_slice-in-Tuple.ensures i))))
-
-pub evaluate::eval_at-returns-in_err-fields-in-Tuple : goal.evaluate::eval_at-returns-in_err-fields-in-Tuple
-evaluate::eval_at-returns-in_err-fields-in-Tuple t c =
-    tuple_stops (calls_of c.args.context.now.functions.now c.args.context.now.depth) (world_of c.args.context.now.env.now) c.args.code.now c.args.turns.now c.as_slice-in-Tuple.result.now (c.in-Tuple.is ∙ (λ i. C.Tuple (sym c.as_slice-in-Tuple.ensures i))) _ _ _ c.from_residual-in_err-fields-in-Tuple.ensures.1 c.in_err-fields-in-Tuple.ensures
-
-pub evaluate::eval_at-tuple_of-requires : goal.evaluate::eval_at-tuple_of-requires
-evaluate::eval_at-tuple_of-requires t c =
-    places_of_fields c.evaluation_law.ensures.never_stuck c.args.context.now.functions.now c.args.context.now.env.now c.args.context.now.depth c.args.code.now c.requires c.as_slice-in-Tuple.result.now (c.in-Tuple.is ∙ (λ i. C.Tuple (sym c.as_slice-in-Tuple.ensures i))) c.args.turns.now _ _ c.in_ok-fields-in-Tuple.ensures
-
-pub evaluate::eval_at-returns-in_err-values-in-Tuple : goal.evaluate::eval_at-returns-in_err-values-in-Tuple
-evaluate::eval_at-returns-in_err-values-in-Tuple t c =
-    memory_held (code_value (calls_of c.args.context.now.functions.now c.args.context.now.depth) c.args.code.now (world_of c.args.context.now.env.now) c.args.turns.now) _ _ _ c.from_residual-in_err-values-in-Tuple.ensures.1 c.in_err-values-in-Tuple.ensures
-
-pub evaluate::eval_at-returns-in_ok-values-in-Tuple : goal.evaluate::eval_at-returns-in_ok-values-in-Tuple
-evaluate::eval_at-returns-in_ok-values-in-Tuple t c =
-    tuple_done (calls_of c.args.context.now.functions.now c.args.context.now.depth) (world_of c.args.context.now.env.now) c.args.code.now c.args.turns.now c.as_slice-in-Tuple.result.now (c.in-Tuple.is ∙ (λ i. C.Tuple (sym c.as_slice-in-Tuple.ensures i))) _ _ c.in_ok-fields-in-Tuple.ensures _ c.in_ok-values-in-Tuple.ensures
-
-pub evaluate::eval_at-built_in-requires : goal.evaluate::eval_at-built_in-requires
-evaluate::eval_at-built_in-requires t c =
-    (omega (arith, c.in-Some.ensures.0, c.in-Some.ensures.1), subst (λ x. IsFit c.args.context.now.functions.now x c.args.context.now.env.now) (c.in-BuiltIn.is ∙ (λ i. C.BuiltIn c.in-BuiltIn.call (sym c.as_slice-in-BuiltIn.ensures i))) c.requires)
-
-pub evaluate::eval_at-eval_all-requires-in-Call : goal.evaluate::eval_at-eval_all-requires-in-Call
-evaluate::eval_at-eval_all-requires-in-Call t c =
-    (omega (arith, c.in-Some.ensures.0, c.in-Some.ensures.1), call_is_fit c.args.context.now.functions.now c.args.context.now.env.now c.args.code.now c.requires c.in-Call.place c.as_slice-in-Call.result.now (c.in-Call.is ∙ (λ i. C.Call c.in-Call.place (sym c.as_slice-in-Call.ensures i))))
-
-pub evaluate::eval_at-returns-in_err-values-in-Call : goal.evaluate::eval_at-returns-in_err-values-in-Call
-evaluate::eval_at-returns-in_err-values-in-Call t c =
-    arguments_stop (calls_of c.args.context.now.functions.now c.args.context.now.depth) (world_of c.args.context.now.env.now) c.args.code.now c.args.turns.now c.in-Call.place c.as_slice-in-Call.result.now (c.in-Call.is ∙ (λ i. C.Call c.in-Call.place (sym c.as_slice-in-Call.ensures i))) _ _ _ c.from_residual-in_err-values-in-Call.ensures.1 c.in_err-values-in-Call.ensures
-
-pub evaluate::eval_at-call-requires : goal.evaluate::eval_at-call-requires
-evaluate::eval_at-call-requires t c =
-    (omega (arith, c.in-Some.ensures.0, c.in-Some.ensures.1), call_of_arguments c.evaluation_law.ensures.never_stuck c.args.context.now.functions.now c.args.context.now.env.now c.args.context.now.depth c.args.code.now c.requires c.in-Call.place c.as_slice-in-Call.result.now (c.in-Call.is ∙ (λ i. C.Call c.in-Call.place (sym c.as_slice-in-Call.ensures i))) c.args.turns.now _ _ c.in_ok-values-in-Call.ensures)
+pub evaluate::eval_at-list-requires : goal.evaluate::eval_at-list-requires
+evaluate::eval_at-list-requires t c = (omega (arith, c.in-Some.ensures.0, c.in-Some.ensures.1), subst (λ x. IsFit c.args.context.now.functions.now x c.args.context.now.env.now) (c.in-List.is ∙ (λ i. C.List (sym c.as_slice-in-List.ensures i))) c.requires)
 
 pub evaluate::eval_at-returns-in-List : goal.evaluate::eval_at-returns-in-List
-evaluate::eval_at-returns-in-List t c =
-    list_answers (calls_of c.args.context.now.functions.now c.args.context.now.depth) (world_of c.args.context.now.env.now) c.args.code.now c.args.turns.now c.as_slice-in-List.result.now (c.in-List.is ∙ (λ i. C.List (sym c.as_slice-in-List.ensures i))) _ _ (c.list_value.ensures _ _ c.eval_all.ensures)
+evaluate::eval_at-returns-in-List t c = answers_held_by _ _ _ _ (ap (λ x. code_value (calls_of c.args.context.now.functions.now c.args.context.now.depth) x (world_of c.args.context.now.env.now) c.args.turns.now) (c.in-List.is ∙ (λ i. C.List (sym c.as_slice-in-List.ensures i)))) c.list.ensures
+
+pub evaluate::eval_at-map-requires : goal.evaluate::eval_at-map-requires
+evaluate::eval_at-map-requires t c = (omega (arith, c.in-Some.ensures.0, c.in-Some.ensures.1), subst (λ x. IsFit c.args.context.now.functions.now x c.args.context.now.env.now) (c.in-Map.is ∙ (λ i. C.Map (sym c.as_slice-in-Map.ensures i))) c.requires)
 
 pub evaluate::eval_at-returns-in-Map : goal.evaluate::eval_at-returns-in-Map
-evaluate::eval_at-returns-in-Map t c =
-    map_answers (calls_of c.args.context.now.functions.now c.args.context.now.depth) (world_of c.args.context.now.env.now) c.args.code.now c.args.turns.now c.as_slice-in-Map.result.now (c.in-Map.is ∙ (λ i. C.Map (sym c.as_slice-in-Map.ensures i))) _ _ (c.map_value.ensures _ _ c.eval_pairs.ensures)
+evaluate::eval_at-returns-in-Map t c = answers_held_by _ _ _ _ (ap (λ x. code_value (calls_of c.args.context.now.functions.now c.args.context.now.depth) x (world_of c.args.context.now.env.now) c.args.turns.now) (c.in-Map.is ∙ (λ i. C.Map (sym c.as_slice-in-Map.ensures i)))) c.map.ensures
+
+pub evaluate::eval_at-tuple-requires : goal.evaluate::eval_at-tuple-requires
+evaluate::eval_at-tuple-requires t c = (omega (arith, c.in-Some.ensures.0, c.in-Some.ensures.1), subst (λ x. IsFit c.args.context.now.functions.now x c.args.context.now.env.now) (c.in-Tuple.is ∙ (λ i. C.Tuple (sym c.as_slice-in-Tuple.ensures i))) c.requires)
+
+pub evaluate::eval_at-returns-in-Tuple : goal.evaluate::eval_at-returns-in-Tuple
+evaluate::eval_at-returns-in-Tuple t c = answers_held_by _ _ _ _ (ap (λ x. code_value (calls_of c.args.context.now.functions.now c.args.context.now.depth) x (world_of c.args.context.now.env.now) c.args.turns.now) (c.in-Tuple.is ∙ (λ i. C.Tuple (sym c.as_slice-in-Tuple.ensures i)))) c.tuple.ensures
+
+pub evaluate::eval_at-built_in-requires : goal.evaluate::eval_at-built_in-requires
+evaluate::eval_at-built_in-requires t c = (omega (arith, c.in-Some.ensures.0, c.in-Some.ensures.1), subst (λ x. IsFit c.args.context.now.functions.now x c.args.context.now.env.now) (c.in-BuiltIn.is ∙ (λ i. C.BuiltIn c.in-BuiltIn.call (sym c.as_slice-in-BuiltIn.ensures i))) c.requires)
 
 pub evaluate::eval_at-returns-in-BuiltIn : goal.evaluate::eval_at-returns-in-BuiltIn
-evaluate::eval_at-returns-in-BuiltIn t c =
-    built_in_answers (calls_of c.args.context.now.functions.now c.args.context.now.depth) (world_of c.args.context.now.env.now) c.args.code.now c.args.turns.now c.in-BuiltIn.call c.as_slice-in-BuiltIn.result.now (c.in-BuiltIn.is ∙ (λ i. C.BuiltIn c.in-BuiltIn.call (sym c.as_slice-in-BuiltIn.ensures i))) _ _ (c.owned.ensures.answered _ _ c.built_in.ensures)
+evaluate::eval_at-returns-in-BuiltIn t c = answers_held_by _ _ _ _ (ap (λ x. code_value (calls_of c.args.context.now.functions.now c.args.context.now.depth) x (world_of c.args.context.now.env.now) c.args.turns.now) (c.in-BuiltIn.is ∙ (λ i. C.BuiltIn c.in-BuiltIn.call (sym c.as_slice-in-BuiltIn.ensures i)))) c.built_in.ensures
 
-pub evaluate::eval_at-returns-in_ok-values-in-Call : goal.evaluate::eval_at-returns-in_ok-values-in-Call
-evaluate::eval_at-returns-in_ok-values-in-Call t c =
-    call_answers (calls_of c.args.context.now.functions.now c.args.context.now.depth) (world_of c.args.context.now.env.now) c.args.code.now c.args.turns.now c.in-Call.place c.as_slice-in-Call.result.now (c.in-Call.is ∙ (λ i. C.Call c.in-Call.place (sym c.as_slice-in-Call.ensures i))) _ _ c.in_ok-values-in-Call.ensures _ _ (c.owned-in-Call.ensures.answered _ _ c.call.ensures)
+pub evaluate::eval_at-call-requires : goal.evaluate::eval_at-call-requires
+evaluate::eval_at-call-requires t c = (omega (arith, c.in-Some.ensures.0, c.in-Some.ensures.1), subst (λ x. IsFit c.args.context.now.functions.now x c.args.context.now.env.now) (c.in-Call.is ∙ (λ i. C.Call c.in-Call.place (sym c.as_slice-in-Call.ensures i))) c.requires)
+
+pub evaluate::eval_at-returns-in-Call : goal.evaluate::eval_at-returns-in-Call
+evaluate::eval_at-returns-in-Call t c = answers_held_by _ _ _ _ (ap (λ x. code_value (calls_of c.args.context.now.functions.now c.args.context.now.depth) x (world_of c.args.context.now.env.now) c.args.turns.now) (c.in-Call.is ∙ (λ i. C.Call c.in-Call.place (sym c.as_slice-in-Call.ensures i)))) c.call.ensures
+
+pub evaluate::select-eval_at-requires : goal.evaluate::select-eval_at-requires
+evaluate::select-eval_at-requires t c =
+    (omega arith, (let p = select_parts c.args.context.now.functions.now c.args.context.now.env.now (C.Select c.args.base.now c.args.takings.now) c.requires c.args.base.now c.args.takings.now refl in (p.0, p.1)))
+
+pub evaluate::select-returns-in_err-first : goal.evaluate::select-returns-in_err-first
+evaluate::select-returns-in_err-first t c =
+    select_stops (calls_of c.args.context.now.functions.now c.args.context.now.depth) (world_of c.args.context.now.env.now) (C.Select c.args.base.now c.args.takings.now) c.args.turns.now c.args.base.now c.args.takings.now refl _ _ _ c.from_residual.ensures.1 c.in_err-first.ensures
+
+pub evaluate::select-taken_all-requires : goal.evaluate::select-taken_all-requires
+evaluate::select-taken_all-requires t c =
+    (omega arith, takings_of_base c.evaluation_law.ensures.never_stuck c.args.context.now.functions.now c.args.context.now.env.now c.args.context.now.depth (C.Select c.args.base.now c.args.takings.now) c.requires c.args.base.now c.args.takings.now refl c.args.turns.now _ _ c.in_ok-first.ensures)
+
+pub evaluate::select-returns : goal.evaluate::select-returns
+evaluate::select-returns t c =
+    select_answers (calls_of c.args.context.now.functions.now c.args.context.now.depth) (world_of c.args.context.now.env.now) (C.Select c.args.base.now c.args.takings.now) c.args.turns.now c.args.base.now c.args.takings.now refl _ _ c.in_ok-first.ensures _ _ c.taken_all.ensures
+
+pub evaluate::unary-eval_at-requires : goal.evaluate::unary-eval_at-requires
+evaluate::unary-eval_at-requires t c =
+    (omega arith, (let p = unary_parts c.args.context.now.functions.now c.args.context.now.env.now (C.Unary c.args.operators.now c.args.operand.now) c.requires c.args.operators.now c.args.operand.now refl in (p.0, p.1)))
+
+pub evaluate::unary-returns-in_err-operand : goal.evaluate::unary-returns-in_err-operand
+evaluate::unary-returns-in_err-operand t c =
+    unary_stops (calls_of c.args.context.now.functions.now c.args.context.now.depth) (world_of c.args.context.now.env.now) (C.Unary c.args.operators.now c.args.operand.now) c.args.turns.now c.args.operators.now c.args.operand.now refl _ _ _ c.from_residual.ensures.1 c.in_err-operand.ensures
+
+pub evaluate::unary-unaries_of-requires : goal.evaluate::unary-unaries_of-requires
+evaluate::unary-unaries_of-requires t c =
+    unaries_of_operand c.evaluation_law.ensures.never_stuck c.args.context.now.functions.now c.args.context.now.env.now c.args.context.now.depth (C.Unary c.args.operators.now c.args.operand.now) c.requires c.args.operators.now c.args.operand.now refl c.args.turns.now _ _ c.in_ok-operand.ensures
+
+pub evaluate::unary-returns : goal.evaluate::unary-returns
+evaluate::unary-returns t c =
+    unary_answers (calls_of c.args.context.now.functions.now c.args.context.now.depth) (world_of c.args.context.now.env.now) (C.Unary c.args.operators.now c.args.operand.now) c.args.turns.now c.args.operators.now c.args.operand.now refl _ _ c.in_ok-operand.ensures _ (c.unaries_of.ensures _)
+
+pub evaluate::conditional-is_true-requires : goal.evaluate::conditional-is_true-requires
+evaluate::conditional-is_true-requires t c =
+    (omega arith, (conditional_parts c.args.context.now.functions.now c.args.context.now.env.now (C.Conditional c.args.condition.now c.args.first.now c.args.second.now) c.requires c.args.condition.now c.args.first.now c.args.second.now refl).0)
+
+pub evaluate::conditional-returns-in_err-is_true : goal.evaluate::conditional-returns-in_err-is_true
+evaluate::conditional-returns-in_err-is_true t c =
+    conditional_stops (calls_of c.args.context.now.functions.now c.args.context.now.depth) (world_of c.args.context.now.env.now) (C.Conditional c.args.condition.now c.args.first.now c.args.second.now) c.args.turns.now c.args.condition.now c.args.first.now c.args.second.now refl _ _ _ c.from_residual.ensures.1 c.in_err-is_true.ensures
+
+pub evaluate::conditional-eval_at-requires : goal.evaluate::conditional-eval_at-requires
+evaluate::conditional-eval_at-requires t c =
+    (omega arith, (conditional_parts c.args.context.now.functions.now c.args.context.now.env.now (C.Conditional c.args.condition.now c.args.first.now c.args.second.now) c.requires c.args.condition.now c.args.first.now c.args.second.now refl).1)
+
+pub evaluate::conditional-eval_at-requires-else-branch : goal.evaluate::conditional-eval_at-requires-else-branch
+evaluate::conditional-eval_at-requires-else-branch t c =
+    (omega arith, (conditional_parts c.args.context.now.functions.now c.args.context.now.env.now (C.Conditional c.args.condition.now c.args.first.now c.args.second.now) c.requires c.args.condition.now c.args.first.now c.args.second.now refl).2)
+
+pub evaluate::conditional-returns-then-branch : goal.evaluate::conditional-returns-then-branch
+evaluate::conditional-returns-then-branch t c =
+    first_answers (calls_of c.args.context.now.functions.now c.args.context.now.depth) (world_of c.args.context.now.env.now) (C.Conditional c.args.condition.now c.args.first.now c.args.second.now) c.args.turns.now c.args.condition.now c.args.first.now c.args.second.now refl _ _ c.in_ok-is_true.ensures c.if-branch.true _ _ c.eval_at.ensures
+
+pub evaluate::conditional-returns-else-branch : goal.evaluate::conditional-returns-else-branch
+evaluate::conditional-returns-else-branch t c =
+    second_answers (calls_of c.args.context.now.functions.now c.args.context.now.depth) (world_of c.args.context.now.env.now) (C.Conditional c.args.condition.now c.args.first.now c.args.second.now) c.args.turns.now c.args.condition.now c.args.first.now c.args.second.now refl _ _ c.in_ok-is_true.ensures c.if-branch.false _ _ c.eval_at-else-branch.ensures
+
+pub evaluate::list-eval_all-requires : goal.evaluate::list-eval_all-requires
+evaluate::list-eval_all-requires t c =
+    (omega arith, list_is_fit c.args.context.now.functions.now c.args.context.now.env.now (C.List c.args.codes.now) c.requires c.args.codes.now refl)
+
+pub evaluate::list-returns : goal.evaluate::list-returns
+evaluate::list-returns t c =
+    list_answers (calls_of c.args.context.now.functions.now c.args.context.now.depth) (world_of c.args.context.now.env.now) (C.List c.args.codes.now) c.args.turns.now c.args.codes.now refl _ _ (c.list_value.ensures _ _ c.eval_all.ensures)
+
+pub evaluate::map-eval_pairs-requires : goal.evaluate::map-eval_pairs-requires
+evaluate::map-eval_pairs-requires t c =
+    (omega arith, map_is_fit c.args.context.now.functions.now c.args.context.now.env.now (C.Map c.args.pairs.now) c.requires c.args.pairs.now refl)
+
+pub evaluate::map-returns : goal.evaluate::map-returns
+evaluate::map-returns t c =
+    map_answers (calls_of c.args.context.now.functions.now c.args.context.now.depth) (world_of c.args.context.now.env.now) (C.Map c.args.pairs.now) c.args.turns.now c.args.pairs.now refl _ _ (c.map_value.ensures _ _ c.eval_pairs.ensures)
+
+pub evaluate::tuple-returns : goal.evaluate::tuple-returns
+evaluate::tuple-returns t c =
+    tuple_answers (calls_of c.args.context.now.functions.now c.args.context.now.depth) (world_of c.args.context.now.env.now) (C.Tuple c.args.fields.now) c.args.turns.now c.args.fields.now refl _ _ (c.tuple_value.ensures _ _ c.eval_fields.ensures)
+
+pub evaluate::built_in-returns : goal.evaluate::built_in-returns
+evaluate::built_in-returns t c =
+    built_in_answers (calls_of c.args.context.now.functions.now c.args.context.now.depth) (world_of c.args.context.now.env.now) (C.BuiltIn c.args.call c.args.codes.now) c.args.turns.now c.args.call c.args.codes.now refl _ _ (c.owned.ensures.answered _ _ c.value_of_built_in.ensures)
+
+pub evaluate::call-eval_all-requires : goal.evaluate::call-eval_all-requires
+evaluate::call-eval_all-requires t c =
+    (omega arith, call_is_fit c.args.context.now.functions.now c.args.context.now.env.now (C.Call c.args.place c.args.codes.now) c.requires c.args.place c.args.codes.now refl)
+
+pub evaluate::call-returns-in_err-values : goal.evaluate::call-returns-in_err-values
+evaluate::call-returns-in_err-values t c =
+    arguments_stop (calls_of c.args.context.now.functions.now c.args.context.now.depth) (world_of c.args.context.now.env.now) (C.Call c.args.place c.args.codes.now) c.args.turns.now c.args.place c.args.codes.now refl _ _ _ c.from_residual.ensures.1 c.in_err-values.ensures
+
+pub evaluate::call-value_of_call-requires : goal.evaluate::call-value_of_call-requires
+evaluate::call-value_of_call-requires t c =
+    (omega arith, call_of_arguments c.evaluation_law.ensures.never_stuck c.args.context.now.functions.now c.args.context.now.env.now c.args.context.now.depth (C.Call c.args.place c.args.codes.now) c.requires c.args.place c.args.codes.now refl c.args.turns.now _ _ c.in_ok-values.ensures)
+
+pub evaluate::call-returns : goal.evaluate::call-returns
+evaluate::call-returns t c =
+    call_answers (calls_of c.args.context.now.functions.now c.args.context.now.depth) (world_of c.args.context.now.env.now) (C.Call c.args.place c.args.codes.now) c.args.turns.now c.args.place c.args.codes.now refl _ _ c.in_ok-values.ensures _ _ (c.owned.ensures.answered _ _ c.value_of_call.ensures)
 
 pub evaluate::eval_at-is_marker-requires : goal.evaluate::eval_at-is_marker-requires
 evaluate::eval_at-is_marker-requires t c =
@@ -258,32 +293,38 @@ evaluate::eval_pairs-returns-in_err-value t c =
     c.pair-item.result c.loop-pair-test.true c.pair-item.is _ _ _ c.in_ok-key.ensures c.in_err-value.ensures))
 
 pub evaluate::eval_fields-loop-field-init : goal.evaluate::eval_fields-loop-field-init
-evaluate::eval_fields-loop-field-init t c = fields_start (calls_of c.args.context.now.functions.now c.args.context.now.depth) (world_of c.args.context.now.env.now) c.args.fields.now c.new-values.result c.args.turns.now c.new-values.ensures
+evaluate::eval_fields-loop-field-init t c =
+    record { made = placed_start (calls_of c.args.context.now.functions.now c.args.context.now.depth) (world_of c.args.context.now.env.now) c.args.fields.now c.in_ok-values.values c.args.turns.now; long = c.in_ok-values.ensures }
 
 pub evaluate::eval_fields-own_value-requires : goal.evaluate::eval_fields-own_value-requires
-evaluate::eval_fields-own_value-requires t c = (
-  omega arith,
-  c.requires c.loop-field.field-index c.field-item.result
-      (slice_get_read c.args.fields.now (length c.args.fields.now) c.loop-field.field-index c.field-item.result refl c.loop-field-test.true c.field-item.is),
-)
+evaluate::eval_fields-own_value-requires t c =
+    (omega arith, tuple_is_fit c.args.context.now.functions.now c.args.context.now.env.now (C.Tuple c.args.fields.now) c.requires c.args.fields.now refl c.loop-field.field-index c.field-item.result (slice_get_read c.args.fields.now (length c.args.fields.now) c.loop-field.field-index c.field-item.result refl c.loop-field-test.true c.field-item.is))
+
+pub evaluate::eval_fields-set-requires : goal.evaluate::eval_fields-set-requires
+evaluate::eval_fields-set-requires t c =
+    let at : c.field-item.result.0 < length c.args.fields.now = field_places c.args.context.now.functions.now c.args.context.now.env.now (C.Tuple c.args.fields.now) c.requires c.args.fields.now refl c.loop-field.field-index c.field-item.result (slice_get_read c.args.fields.now (length c.args.fields.now) c.loop-field.field-index c.field-item.result refl c.loop-field-test.true c.field-item.is) in
+    subst (λ (n : ℕ). c.field-item.result.0 < n) (sym c.loop-field.invariant.long) at
 
 pub evaluate::eval_fields-loop-field-preserved : goal.evaluate::eval_fields-loop-field-preserved
 evaluate::eval_fields-loop-field-preserved t c =
-    c.loop-field.invariant
-    ∙ fields_on (calls_of c.args.context.now.functions.now c.args.context.now.depth) (world_of c.args.context.now.env.now) c.args.fields.now c.loop-field.field-index c.loop-field.values c.loop-field.turns
-    c.field-item.result c.loop-field-test.true c.field-item.is _ _ _ c.in_ok-value.ensures c.in_ok-push.ensures.ok
-
-pub evaluate::eval_fields-returns : goal.evaluate::eval_fields-returns
-evaluate::eval_fields-returns t c =
-    c.loop-field.invariant
-    ∙ fields_past (calls_of c.args.context.now.functions.now c.args.context.now.depth) (world_of c.args.context.now.env.now) c.args.fields.now c.loop-field.field-index c.loop-field.values c.loop-field.turns c.loop-field-test.false
+    record {
+      made = placed_on (calls_of c.args.context.now.functions.now c.args.context.now.depth) (world_of c.args.context.now.env.now) c.args.fields.now c.in_ok-values.values c.args.turns.now c.loop-field.field-index c.loop-field.values c.loop-field.turns c.loop-field.invariant.made
+          c.field-item.result c.loop-field-test.true c.field-item.is _ _ _ c.in_ok-value.ensures c.set.ensures;
+      long = ap length c.set.ensures ∙ length-set c.loop-field.values c.field-item.result.0 _ ∙ c.loop-field.invariant.long;
+    }
 
 pub evaluate::eval_fields-returns-in_err-value : goal.evaluate::eval_fields-returns-in_err-value
 evaluate::eval_fields-returns-in_err-value t c =
-    stops _ _ _ _ c.from_residual.ensures.1
-    (stops_by _ _ _ c.loop-field.invariant
-    (fields_stop (calls_of c.args.context.now.functions.now c.args.context.now.depth) (world_of c.args.context.now.env.now) c.args.fields.now c.loop-field.field-index c.loop-field.values c.loop-field.turns
-    c.field-item.result c.loop-field-test.true c.field-item.is _ c.in_err-value.ensures))
+    stops _ _ _ _ c.from_residual-in_err-value.ensures.1
+    (placed_stops (calls_of c.args.context.now.functions.now c.args.context.now.depth) (world_of c.args.context.now.env.now) c.args.fields.now c.in_ok-values.values c.args.turns.now c.loop-field.field-index c.loop-field.values c.loop-field.turns c.loop-field.invariant.made
+    c.field-item.result c.loop-field-test.true c.field-item.is _ c.in_err-value.ensures)
+
+pub evaluate::eval_fields-returns : goal.evaluate::eval_fields-returns
+evaluate::eval_fields-returns t c =
+    placed_done (calls_of c.args.context.now.functions.now c.args.context.now.depth) (world_of c.args.context.now.env.now) c.args.fields.now c.in_ok-values.values c.args.turns.now c.loop-field.field-index c.loop-field.values c.loop-field.turns c.loop-field.invariant.made
+    c.loop-field-test.false c.in_ok-values.ensures
+    (λ gs left d. as_long c.evaluation_law.ensures.never_stuck c.args.context.now.functions.now c.args.context.now.env.now c.args.context.now.depth c.args.fields.now c.args.turns.now left gs d)
+    (λ gs left d. places_of_fields c.evaluation_law.ensures.never_stuck c.args.context.now.functions.now c.args.context.now.env.now c.args.context.now.depth (C.Tuple c.args.fields.now) c.requires c.args.fields.now refl c.args.turns.now left gs d)
 
 pub evaluate::taken_all-loop-taking-init : goal.evaluate::taken_all-loop-taking-init
 evaluate::taken_all-loop-taking-init t c = record { comes = refl; others = c.requires }
@@ -389,104 +430,104 @@ evaluate::binary-returns-in_ok-left-in_default t c =
     (world_of c.args.context.now.env.now) c.args.turns.now c.in_default.not-And c.in_default.not-Or _ _ c.in_ok-left-in_default.ensures)
     (c.operator_with.ensures _ _ c.eval_at-right.ensures)
 
-pub evaluate::built_in-eval_at-first-requires : goal.evaluate::built_in-eval_at-first-requires
-evaluate::built_in-eval_at-first-requires t c = (
+pub evaluate::value_of_built_in-eval_at-first-requires : goal.evaluate::value_of_built_in-eval_at-first-requires
+evaluate::value_of_built_in-eval_at-first-requires t c = (
   omega arith,
   let within : 0 < length c.args.codes.now = omega arith in
       built_in_is_fit c.args.context.now.functions.now c.args.context.now.env.now (C.BuiltIn c.args.call c.args.codes.now) c.requires c.args.call c.args.codes.now refl 0 c.first-item.result
       (slice_get_read c.args.codes.now (length c.args.codes.now) 0 c.first-item.result refl within c.first-item.is),
 )
 
-pub evaluate::built_in-call_with_one-requires : goal.evaluate::built_in-call_with_one-requires
-evaluate::built_in-call_with_one-requires t c = λ h is.
+pub evaluate::value_of_built_in-call_with_one-requires : goal.evaluate::value_of_built_in-call_with_one-requires
+evaluate::value_of_built_in-call_with_one-requires t c = λ h is.
     built_in_of_arguments c.evaluation_law.ensures.never_stuck c.args.context.now.functions.now c.args.context.now.env.now c.args.context.now.depth (C.BuiltIn c.args.call c.args.codes.now) c.requires c.args.call c.args.codes.now refl c.args.turns.now _ _
     (one_value (calls_of c.args.context.now.functions.now c.args.context.now.depth) (world_of c.args.context.now.env.now) c.args.codes.now c.args.turns.now c.first-item.result (is_one c.args.codes.now c.first-item.result c.in-len1.len_at_least c.in-len1.len_below c.first-item.is) _ _ (subst (λ r. AnswersHeld (code_value (calls_of c.args.context.now.functions.now c.args.context.now.depth) c.first-item.result (world_of c.args.context.now.env.now) c.args.turns.now) r c.eval_at-first.new.turns) is c.eval_at-first.ensures))
 
-pub evaluate::built_in-returns-in-len1 : goal.evaluate::built_in-returns-in-len1
-evaluate::built_in-returns-in-len1 t c =
+pub evaluate::value_of_built_in-returns-in-len1 : goal.evaluate::value_of_built_in-returns-in-len1
+evaluate::value_of_built_in-returns-in-len1 t c =
     answers_by _ _ _ _
     (with_one (calls_of c.args.context.now.functions.now c.args.context.now.depth) (world_of c.args.context.now.env.now) c.args.call c.args.codes.now c.args.turns.now c.first-item.result (is_one c.args.codes.now c.first-item.result c.in-len1.len_at_least c.in-len1.len_below c.first-item.is))
     (c.call_with_one.ensures _ _ c.eval_at-first.ensures)
 
-pub evaluate::built_in-eval_at-requires : goal.evaluate::built_in-eval_at-requires
-evaluate::built_in-eval_at-requires t c = (
+pub evaluate::value_of_built_in-eval_at-requires : goal.evaluate::value_of_built_in-eval_at-requires
+evaluate::value_of_built_in-eval_at-requires t c = (
   omega arith,
   let within : 0 < length c.args.codes.now = omega arith in
       built_in_is_fit c.args.context.now.functions.now c.args.context.now.env.now (C.BuiltIn c.args.call c.args.codes.now) c.requires c.args.call c.args.codes.now refl 0 c.first-item-then-codes-lt3.result
       (slice_get_read c.args.codes.now (length c.args.codes.now) 0 c.first-item-then-codes-lt3.result refl within c.first-item-then-codes-lt3.is),
 )
 
-pub evaluate::built_in-eval_at-second-requires : goal.evaluate::built_in-eval_at-second-requires
-evaluate::built_in-eval_at-second-requires t c = (
+pub evaluate::value_of_built_in-eval_at-second-requires : goal.evaluate::value_of_built_in-eval_at-second-requires
+evaluate::value_of_built_in-eval_at-second-requires t c = (
   omega arith,
   let within : 1 < length c.args.codes.now = omega arith in
       built_in_is_fit c.args.context.now.functions.now c.args.context.now.env.now (C.BuiltIn c.args.call c.args.codes.now) c.requires c.args.call c.args.codes.now refl 1 c.second-item.result
       (slice_get_read c.args.codes.now (length c.args.codes.now) 1 c.second-item.result refl within c.second-item.is),
 )
 
-pub evaluate::built_in-returns-in_err-first-in-len2 : goal.evaluate::built_in-returns-in_err-first-in-len2
-evaluate::built_in-returns-in_err-first-in-len2 t c =
+pub evaluate::value_of_built_in-returns-in_err-first-in-len2 : goal.evaluate::value_of_built_in-returns-in_err-first-in-len2
+evaluate::value_of_built_in-returns-in_err-first-in-len2 t c =
     called_stops (calls_of c.args.context.now.functions.now c.args.context.now.depth) (world_of c.args.context.now.env.now) c.args.call c.args.codes.now c.args.turns.now _ _ _ c.from_residual.ensures.1
     (first_of_two_stops (calls_of c.args.context.now.functions.now c.args.context.now.depth) (world_of c.args.context.now.env.now) c.args.codes.now c.args.turns.now c.first-item-then-codes-lt3.result c.second-item.result (are_two c.args.codes.now c.first-item-then-codes-lt3.result c.second-item.result c.in-len2.len_at_least c.in-len2.len_below c.first-item-then-codes-lt3.is c.second-item.is) _ c.in_err-first-in-len2.ensures)
 
-pub evaluate::built_in-call_with_two-requires : goal.evaluate::built_in-call_with_two-requires
-evaluate::built_in-call_with_two-requires t c = λ h is.
+pub evaluate::value_of_built_in-call_with_two-requires : goal.evaluate::value_of_built_in-call_with_two-requires
+evaluate::value_of_built_in-call_with_two-requires t c = λ h is.
     built_in_of_arguments c.evaluation_law.ensures.never_stuck c.args.context.now.functions.now c.args.context.now.env.now c.args.context.now.depth (C.BuiltIn c.args.call c.args.codes.now) c.requires c.args.call c.args.codes.now refl c.args.turns.now _ _
     (two_values (calls_of c.args.context.now.functions.now c.args.context.now.depth) (world_of c.args.context.now.env.now) c.args.codes.now c.args.turns.now c.first-item-then-codes-lt3.result c.second-item.result (are_two c.args.codes.now c.first-item-then-codes-lt3.result c.second-item.result c.in-len2.len_at_least c.in-len2.len_below c.first-item-then-codes-lt3.is c.second-item.is) _ _ c.in_ok-first-in-len2.ensures _ _ (subst (λ r. AnswersHeld (code_value (calls_of c.args.context.now.functions.now c.args.context.now.depth) c.second-item.result (world_of c.args.context.now.env.now) c.eval_at.new.turns) r c.eval_at-second.new.turns) is c.eval_at-second.ensures))
 
-pub evaluate::built_in-returns-in_ok-first-in-len2 : goal.evaluate::built_in-returns-in_ok-first-in-len2
-evaluate::built_in-returns-in_ok-first-in-len2 t c =
+pub evaluate::value_of_built_in-returns-in_ok-first-in-len2 : goal.evaluate::value_of_built_in-returns-in_ok-first-in-len2
+evaluate::value_of_built_in-returns-in_ok-first-in-len2 t c =
     answers_by _ _ _ _
     (with_two (calls_of c.args.context.now.functions.now c.args.context.now.depth) (world_of c.args.context.now.env.now) c.args.call c.args.codes.now c.args.turns.now c.first-item-then-codes-lt3.result c.second-item.result (are_two c.args.codes.now c.first-item-then-codes-lt3.result c.second-item.result c.in-len2.len_at_least c.in-len2.len_below c.first-item-then-codes-lt3.is c.second-item.is) _ _ c.in_ok-first-in-len2.ensures)
     (c.call_with_two.ensures _ _ c.eval_at-second.ensures)
 
-pub evaluate::built_in-eval_at-requires-in-len3 : goal.evaluate::built_in-eval_at-requires-in-len3
-evaluate::built_in-eval_at-requires-in-len3 t c = (
+pub evaluate::value_of_built_in-eval_at-requires-in-len3 : goal.evaluate::value_of_built_in-eval_at-requires-in-len3
+evaluate::value_of_built_in-eval_at-requires-in-len3 t c = (
   omega arith,
   let within : 0 < length c.args.codes.now = omega arith in
       built_in_is_fit c.args.context.now.functions.now c.args.context.now.env.now (C.BuiltIn c.args.call c.args.codes.now) c.requires c.args.call c.args.codes.now refl 0 c.first-item-then-codes-lt4.result
       (slice_get_read c.args.codes.now (length c.args.codes.now) 0 c.first-item-then-codes-lt4.result refl within c.first-item-then-codes-lt4.is),
 )
 
-pub evaluate::built_in-eval_at-requires-in-len3-2 : goal.evaluate::built_in-eval_at-requires-in-len3-2
-evaluate::built_in-eval_at-requires-in-len3-2 t c = (
+pub evaluate::value_of_built_in-eval_at-requires-in-len3-2 : goal.evaluate::value_of_built_in-eval_at-requires-in-len3-2
+evaluate::value_of_built_in-eval_at-requires-in-len3-2 t c = (
   omega arith,
   let within : 1 < length c.args.codes.now = omega arith in
       built_in_is_fit c.args.context.now.functions.now c.args.context.now.env.now (C.BuiltIn c.args.call c.args.codes.now) c.requires c.args.call c.args.codes.now refl 1 c.second-item-then-codes-lt4.result
       (slice_get_read c.args.codes.now (length c.args.codes.now) 1 c.second-item-then-codes-lt4.result refl within c.second-item-then-codes-lt4.is),
 )
 
-pub evaluate::built_in-eval_at-third-requires : goal.evaluate::built_in-eval_at-third-requires
-evaluate::built_in-eval_at-third-requires t c = (
+pub evaluate::value_of_built_in-eval_at-third-requires : goal.evaluate::value_of_built_in-eval_at-third-requires
+evaluate::value_of_built_in-eval_at-third-requires t c = (
   omega arith,
   let within : 2 < length c.args.codes.now = omega arith in
       built_in_is_fit c.args.context.now.functions.now c.args.context.now.env.now (C.BuiltIn c.args.call c.args.codes.now) c.requires c.args.call c.args.codes.now refl 2 c.third-item.result
       (slice_get_read c.args.codes.now (length c.args.codes.now) 2 c.third-item.result refl within c.third-item.is),
 )
 
-pub evaluate::built_in-returns-in_err-first-in-len3 : goal.evaluate::built_in-returns-in_err-first-in-len3
-evaluate::built_in-returns-in_err-first-in-len3 t c =
+pub evaluate::value_of_built_in-returns-in_err-first-in-len3 : goal.evaluate::value_of_built_in-returns-in_err-first-in-len3
+evaluate::value_of_built_in-returns-in_err-first-in-len3 t c =
     called_stops (calls_of c.args.context.now.functions.now c.args.context.now.depth) (world_of c.args.context.now.env.now) c.args.call c.args.codes.now c.args.turns.now _ _ _ c.from_residual-in_err-first-in-len3.ensures.1
     (first_of_three_stops (calls_of c.args.context.now.functions.now c.args.context.now.depth) (world_of c.args.context.now.env.now) c.args.codes.now c.args.turns.now c.first-item-then-codes-lt4.result c.second-item-then-codes-lt4.result c.third-item.result (are_three c.args.codes.now c.first-item-then-codes-lt4.result c.second-item-then-codes-lt4.result c.third-item.result c.in-len3.len_at_least c.in-len3.len_below c.first-item-then-codes-lt4.is c.second-item-then-codes-lt4.is c.third-item.is) _ c.in_err-first-in-len3.ensures)
 
-pub evaluate::built_in-call_with_three-requires : goal.evaluate::built_in-call_with_three-requires
-evaluate::built_in-call_with_three-requires t c = λ h is.
+pub evaluate::value_of_built_in-call_with_three-requires : goal.evaluate::value_of_built_in-call_with_three-requires
+evaluate::value_of_built_in-call_with_three-requires t c = λ h is.
     built_in_of_arguments c.evaluation_law.ensures.never_stuck c.args.context.now.functions.now c.args.context.now.env.now c.args.context.now.depth (C.BuiltIn c.args.call c.args.codes.now) c.requires c.args.call c.args.codes.now refl c.args.turns.now _ _
     (three_values (calls_of c.args.context.now.functions.now c.args.context.now.depth) (world_of c.args.context.now.env.now) c.args.codes.now c.args.turns.now c.first-item-then-codes-lt4.result c.second-item-then-codes-lt4.result c.third-item.result (are_three c.args.codes.now c.first-item-then-codes-lt4.result c.second-item-then-codes-lt4.result c.third-item.result c.in-len3.len_at_least c.in-len3.len_below c.first-item-then-codes-lt4.is c.second-item-then-codes-lt4.is c.third-item.is) _ _ c.in_ok-first-in-len3.ensures _ _ c.in-Ok.ensures _ _ (subst (λ r. AnswersHeld (code_value (calls_of c.args.context.now.functions.now c.args.context.now.depth) c.third-item.result (world_of c.args.context.now.env.now) c.eval_at-in-len3-2.new.turns) r c.eval_at-third.new.turns) is c.eval_at-third.ensures))
 
-pub evaluate::built_in-returns-in-Ok : goal.evaluate::built_in-returns-in-Ok
-evaluate::built_in-returns-in-Ok t c =
+pub evaluate::value_of_built_in-returns-in-Ok : goal.evaluate::value_of_built_in-returns-in-Ok
+evaluate::value_of_built_in-returns-in-Ok t c =
     answers_by _ _ _ _
     (with_three (calls_of c.args.context.now.functions.now c.args.context.now.depth) (world_of c.args.context.now.env.now) c.args.call c.args.codes.now c.args.turns.now c.first-item-then-codes-lt4.result c.second-item-then-codes-lt4.result c.third-item.result (are_three c.args.codes.now c.first-item-then-codes-lt4.result c.second-item-then-codes-lt4.result c.third-item.result c.in-len3.len_at_least c.in-len3.len_below c.first-item-then-codes-lt4.is c.second-item-then-codes-lt4.is c.third-item.is) _ _ c.in_ok-first-in-len3.ensures _ _ c.in-Ok.ensures)
     (c.call_with_three.ensures _ _ c.eval_at-third.ensures)
 
-pub evaluate::built_in-returns-in-Err : goal.evaluate::built_in-returns-in-Err
-evaluate::built_in-returns-in-Err t c =
+pub evaluate::value_of_built_in-returns-in-Err : goal.evaluate::value_of_built_in-returns-in-Err
+evaluate::value_of_built_in-returns-in-Err t c =
     called_stopped (calls_of c.args.context.now.functions.now c.args.context.now.depth) (world_of c.args.context.now.env.now) c.args.call c.args.codes.now c.args.turns.now _ _ c.in-Err.stop c.stopped.ensures
     (second_of_three_stops (calls_of c.args.context.now.functions.now c.args.context.now.depth) (world_of c.args.context.now.env.now) c.args.codes.now c.args.turns.now c.first-item-then-codes-lt4.result c.second-item-then-codes-lt4.result c.third-item.result (are_three c.args.codes.now c.first-item-then-codes-lt4.result c.second-item-then-codes-lt4.result c.third-item.result c.in-len3.len_at_least c.in-len3.len_below c.first-item-then-codes-lt4.is c.second-item-then-codes-lt4.is c.third-item.is) _ _ c.in_ok-first-in-len3.ensures _ c.in-Err.ensures)
 
-pub evaluate::built_in-unreachable-requires : goal.evaluate::built_in-unreachable-requires
-evaluate::built_in-unreachable-requires t c =
+pub evaluate::value_of_built_in-unreachable-requires : goal.evaluate::value_of_built_in-unreachable-requires
+evaluate::value_of_built_in-unreachable-requires t c =
     let few = one_to_three c.args.context.now.functions.now c.args.context.now.env.now c.args.call c.args.codes.now c.requires in
     grind (arith, few.0, few.1)
 
@@ -591,40 +632,60 @@ run::run_function-returns t c =
     ap (λ turns. enter turns (λ turns. bodies_of c.args.context.now.functions.now c.args.context.now.depth c.args.place c.args.values turns)) c.in_ok-enter.ensures
     ∙ body_done c.args.context.now.functions.now c.args.place c.args.values c.requires c.in-Some.function.now (sym c.in-Some.ensures.value) c.args.context.now.depth c.enter.new.turns c.if-context-eq0.false c.as_slice-row.result.now c.as_slice-row.ensures c.new.result c.new.ensures c.new-submits.result c.new-submits.ensures _ _ _ c.in_ok-flow.ensures c.returned_by.ensures
 
-pub evaluate::call-run_function-requires : goal.evaluate::call-run_function-requires
-evaluate::call-run_function-requires t c = (omega arith, called_is_fit c.args.context.now.functions.now c.args.place c.args.values c.requires)
+pub evaluate::value_of_call-run_function-requires : goal.evaluate::value_of_call-run_function-requires
+evaluate::value_of_call-run_function-requires t c = (omega arith, called_is_fit c.args.context.now.functions.now c.args.place c.args.values c.requires)
 
-pub evaluate::call-unreachable-requires : goal.evaluate::call-unreachable-requires
-evaluate::call-unreachable-requires t c =
+pub evaluate::value_of_call-unreachable-requires : goal.evaluate::value_of_call-unreachable-requires
+evaluate::value_of_call-unreachable-requires t c =
     result_there c.args.context.now.functions.now c.args.place c.args.values c.requires c.evaluation_law.ensures.bodies c.args.context.now.depth c.args.turns.now _ _ c.in_ok-value.ensures c.in-None.is
 
-pub evaluate::call-returns-in_err-value : goal.evaluate::call-returns-in_err-value
-evaluate::call-returns-in_err-value t c =
+pub evaluate::value_of_call-returns-in_err-value : goal.evaluate::value_of_call-returns-in_err-value
+evaluate::value_of_call-returns-in_err-value t c =
     stops _ _ _ _ c.from_residual.ensures.1 (value_stops c.args.context.now.functions.now c.args.place c.args.values c.args.context.now.depth c.args.turns.now _ c.in_err-value.ensures)
 
-pub evaluate::call-returns : goal.evaluate::call-returns
-evaluate::call-returns t c =
+pub evaluate::value_of_call-returns : goal.evaluate::value_of_call-returns
+evaluate::value_of_call-returns t c =
     value_done c.args.context.now.functions.now c.args.place c.args.values c.args.context.now.depth c.args.turns.now _ _ _ c.in_ok-value.ensures c.in-Some.is
 
-pub run::run_statement-eval_all-requires : goal.run::run_statement-eval_all-requires
-run::run_statement-eval_all-requires t c =
-    (omega (arith, c.in-Some.ensures.0, c.in-Some.ensures.1), arguments_are_fit c.args.program.now.functions.now c.args.statement.now c.args.env.now c.requires c.in-Call.place c.as_slice-in-Call.result.now (c.in-Call.is ∙ (λ i. S.Call c.in-Call.place (sym c.as_slice-in-Call.ensures i))))
+pub run::run_statement-run_call-requires : goal.run::run_statement-run_call-requires
+run::run_statement-run_call-requires t c =
+    (omega (arith, c.in-Some.ensures.0, c.in-Some.ensures.1), subst (λ x. StatementIsFit c.args.program.now.functions.now x c.args.env.now) (c.in-Call.is ∙ (λ i. S.Call c.in-Call.place (sym c.as_slice-in-Call.ensures i))) c.requires)
 
-pub run::run_statement-returns-in_err-values-in-Call : goal.run::run_statement-returns-in_err-values-in-Call
-run::run_statement-returns-in_err-values-in-Call t c =
-    arguments_stopped (bodies_of c.args.program.now.functions.now c.args.program.now.depth) c.args.statement.now (state c.args.env.now c.args.submits.now) c.args.turns.now c.in-Call.place c.as_slice-in-Call.result.now (c.in-Call.is ∙ (λ i. S.Call c.in-Call.place (sym c.as_slice-in-Call.ensures i))) _ _ _ _ c.from_residual.ensures.1 c.in_err-values-in-Call.ensures
+pub run::run_statement-returns-in-Call : goal.run::run_statement-returns-in-Call
+run::run_statement-returns-in-Call t c =
+    leads_by _ _ _ _ _ (ap (λ x. statement_acts (bodies_of c.args.program.now.functions.now c.args.program.now.depth) x (state c.args.env.now c.args.submits.now) c.args.turns.now) (c.in-Call.is ∙ (λ i. S.Call c.in-Call.place (sym c.as_slice-in-Call.ensures i)))) (c.run_call.ensures c.args.submits.now)
 
-pub run::run_statement-run_function-requires : goal.run::run_statement-run_function-requires
-run::run_statement-run_function-requires t c =
-    (omega (arith, c.in-Some.ensures.0, c.in-Some.ensures.1), function_is_fit c.args.program.now.functions.now c.args.statement.now c.args.env.now c.requires c.in-Call.place c.as_slice-in-Call.result.now (c.in-Call.is ∙ (λ i. S.Call c.in-Call.place (sym c.as_slice-in-Call.ensures i))) c.evaluation_law.ensures.never_stuck c.args.program.now.depth c.args.turns.now _ _ c.in_ok-values-in-Call.ensures)
+pub run::run_statement-run_for-requires : goal.run::run_statement-run_for-requires
+run::run_statement-run_for-requires t c =
+    (omega (arith, c.in-Some.ensures.0, c.in-Some.ensures.1), subst (λ x. StatementIsFit c.args.program.now.functions.now x c.args.env.now) (c.in-For.is ∙ (λ i. S.For c.in-For.code (sym c.as_slice-in-For.ensures i))) c.requires)
 
-pub run::run_statement-elements-requires : goal.run::run_statement-elements-requires
-run::run_statement-elements-requires t c =
-    has_loop_values c.args.program.now.functions.now c.args.statement.now c.args.env.now c.requires c.in-For.code c.in-For.row c.in-For.is c.evaluation_law.ensures.never_stuck c.args.program.now.depth c.args.turns.now _ _ c.in_ok-held-in-For.ensures
+pub run::run_statement-returns-in-For : goal.run::run_statement-returns-in-For
+run::run_statement-returns-in-For t c =
+    leads_by _ _ _ _ _ (ap (λ x. statement_acts (bodies_of c.args.program.now.functions.now c.args.program.now.depth) x (state c.args.env.now c.args.submits.now) c.args.turns.now) (c.in-For.is ∙ (λ i. S.For c.in-For.code (sym c.as_slice-in-For.ensures i)))) c.run_for.ensures
 
-pub run::run_statement-run_over-requires : goal.run::run_statement-run_over-requires
-run::run_statement-run_over-requires t c =
-    (omega (arith, c.in-Some.ensures.0, c.in-Some.ensures.1), over_is_fit c.args.program.now.functions.now c.args.statement.now c.args.env.now c.requires c.in-For.code c.as_slice-in-For.result.now (c.in-For.is ∙ (λ i. S.For c.in-For.code (sym c.as_slice-in-For.ensures i))) c.evaluation_law.ensures.never_stuck c.args.program.now.depth c.args.turns.now _ _ c.in_ok-held-in-For.ensures _ c.in_ok-values-in-For.ensures)
+pub run::run_call-eval_all-requires : goal.run::run_call-eval_all-requires
+run::run_call-eval_all-requires t c =
+    (omega arith, arguments_are_fit c.args.program.now.functions.now (S.Call c.args.place c.args.codes.now) c.args.env.now c.requires c.args.place c.args.codes.now refl)
+
+pub run::run_call-returns-in_err-values : goal.run::run_call-returns-in_err-values
+run::run_call-returns-in_err-values t c =
+    λ submits. arguments_stopped (bodies_of c.args.program.now.functions.now c.args.program.now.depth) (S.Call c.args.place c.args.codes.now) (state c.args.env.now submits) c.args.turns.now c.args.place c.args.codes.now refl _ _ _ _ c.from_residual.ensures.1 c.in_err-values.ensures
+
+pub run::run_call-run_function-requires : goal.run::run_call-run_function-requires
+run::run_call-run_function-requires t c =
+    (omega arith, function_is_fit c.args.program.now.functions.now (S.Call c.args.place c.args.codes.now) c.args.env.now c.requires c.args.place c.args.codes.now refl c.evaluation_law.ensures.never_stuck c.args.program.now.depth c.args.turns.now _ _ c.in_ok-values.ensures)
+
+pub run::run_call-returns : goal.run::run_call-returns
+run::run_call-returns t c =
+    λ submits. function_leads (bodies_of c.args.program.now.functions.now c.args.program.now.depth) (S.Call c.args.place c.args.codes.now) (state c.args.env.now submits) c.args.turns.now c.args.place c.args.codes.now refl _ _ c.in_ok-values.ensures _ _ _ (c.next_follows_call.ensures _ (state c.args.env.now submits) _ c.run_function.ensures)
+
+pub run::run_for-elements-requires : goal.run::run_for-elements-requires
+run::run_for-elements-requires t c =
+    has_loop_values c.args.program.now.functions.now (S.For c.args.code.now c.args.row.now) c.args.env.now c.requires c.args.code.now c.args.row.now refl c.evaluation_law.ensures.never_stuck c.args.program.now.depth c.args.turns.now _ _ c.in_ok-held.ensures
+
+pub run::run_for-run_over-requires : goal.run::run_for-run_over-requires
+run::run_for-run_over-requires t c =
+    (omega arith, over_is_fit c.args.program.now.functions.now (S.For c.args.code.now c.args.row.now) c.args.env.now c.requires c.args.code.now c.args.row.now refl c.evaluation_law.ensures.never_stuck c.args.program.now.depth c.args.turns.now _ _ c.in_ok-held.ensures _ c.in_ok-values.ensures)
 
 pub run::run_statement-returns-in-If : goal.run::run_statement-returns-in-If
 run::run_statement-returns-in-If t c =
@@ -649,10 +710,6 @@ run::run_statement-returns-in-Change t c =
 pub run::run_statement-returns-in-Evaluate : goal.run::run_statement-returns-in-Evaluate
 run::run_statement-returns-in-Evaluate t c =
     evaluate_leads (bodies_of c.args.program.now.functions.now c.args.program.now.depth) c.args.statement.now (state c.args.env.now c.args.submits.now) c.args.turns.now c.in-Evaluate.code c.in-Evaluate.is _ _ _ (c.next_follows_value.ensures _ (state c.args.env.now c.args.submits.now) _ c.eval_at.ensures)
-
-pub run::run_statement-returns-in_ok-values-in-Call : goal.run::run_statement-returns-in_ok-values-in-Call
-run::run_statement-returns-in_ok-values-in-Call t c =
-    function_leads (bodies_of c.args.program.now.functions.now c.args.program.now.depth) c.args.statement.now (state c.args.env.now c.args.submits.now) c.args.turns.now c.in-Call.place c.as_slice-in-Call.result.now (c.in-Call.is ∙ (λ i. S.Call c.in-Call.place (sym c.as_slice-in-Call.ensures i))) _ _ c.in_ok-values-in-Call.ensures _ _ _ (c.next_follows_call.ensures _ (state c.args.env.now c.args.submits.now) _ c.run_function.ensures)
 
 pub run::run_statement-returns-in-Some-result : goal.run::run_statement-returns-in-Some-result
 run::run_statement-returns-in-Some-result t c =

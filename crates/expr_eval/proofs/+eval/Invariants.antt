@@ -1,12 +1,13 @@
-use Rattle.expr_eval.proofs.Rows.{fields_from, pairs_from, takings_from, values_from}
+use Rattle.expr_eval.proofs.PlacedFields.{IsPlaced}
+use Rattle.expr_eval.proofs.Rows.{pairs_from, takings_from, values_from}
 use Rattle.value_operations.specs.Answers.{held}
 use Rattle.expr_eval.specs.Fitting.{FitTakings}
 use Rattle.spl_value.specs.Pairs.{are_pairs}
-use Rattle.std.proofs.Common.{drop, ◌*◌, ◌+◌, ◌≡◌}
+use Rattle.std.proofs.Common.{drop, length, ◌*◌, ◌+◌, ◌≡◌}
 use Rattle.std.specs.Prelude.{IsTrue}
 use Rattle.language_model.specs.Evaluation.{map_of, world_of}
 use Rattle.language_model.specs.Functions.{bodies_of, calls_of}
-use Rattle.language_model.specs.EvaluationLaws.{field_values, pair_values, takings_value, values_of}
+use Rattle.language_model.specs.EvaluationLaws.{pair_values, takings_value, values_of}
 use Rattle.language_model.specs.Outcomes.{Done, followed}
 use Rattle.language_model.specs.Statements.{step_values, steps_taken}
 use Rattle.expr_eval.proofs.StepValues.{steps_from, taken_from, StepsFrom}
@@ -47,11 +48,11 @@ decreases-evaluate::is_true l = 6 * l.room + 1
 abbrev pub decreases-evaluate::binary : goal.decreases-evaluate::binary
 decreases-evaluate::binary l = 6 * l.room + 2
 
-abbrev pub decreases-evaluate::built_in : goal.decreases-evaluate::built_in
-decreases-evaluate::built_in l = 6 * l.room + 1
+abbrev pub decreases-evaluate::value_of_built_in : goal.decreases-evaluate::value_of_built_in
+decreases-evaluate::value_of_built_in l = 6 * l.room + 1
 
-abbrev pub decreases-evaluate::call : goal.decreases-evaluate::call
-decreases-evaluate::call l = 6 * l.room + 4
+abbrev pub decreases-evaluate::value_of_call : goal.decreases-evaluate::value_of_call
+decreases-evaluate::value_of_call l = 6 * l.room + 4
 
 abbrev pub decreases-run::run_function : goal.decreases-run::run_function
 decreases-run::run_function l = 6 * l.room + 3
@@ -92,6 +93,36 @@ decreases-run::change_values l = 6 * l.room + 4
 abbrev pub decreases-run::run_change : goal.decreases-run::run_change
 decreases-run::run_change l = 6 * l.room + 5
 
+abbrev pub decreases-evaluate::select : goal.decreases-evaluate::select
+decreases-evaluate::select l = 6 * l.room + 3
+
+abbrev pub decreases-evaluate::unary : goal.decreases-evaluate::unary
+decreases-evaluate::unary l = 6 * l.room + 1
+
+abbrev pub decreases-evaluate::conditional : goal.decreases-evaluate::conditional
+decreases-evaluate::conditional l = 6 * l.room + 2
+
+abbrev pub decreases-evaluate::list : goal.decreases-evaluate::list
+decreases-evaluate::list l = 6 * l.room + 3
+
+abbrev pub decreases-evaluate::map : goal.decreases-evaluate::map
+decreases-evaluate::map l = 6 * l.room + 3
+
+abbrev pub decreases-evaluate::tuple : goal.decreases-evaluate::tuple
+decreases-evaluate::tuple l = 6 * l.room + 3
+
+abbrev pub decreases-evaluate::built_in : goal.decreases-evaluate::built_in
+decreases-evaluate::built_in l = 6 * l.room + 2
+
+abbrev pub decreases-evaluate::call : goal.decreases-evaluate::call
+decreases-evaluate::call l = 6 * l.room + 5
+
+abbrev pub decreases-run::run_call : goal.decreases-run::run_call
+decreases-run::run_call l = 6 * l.room + 4
+
+abbrev pub decreases-run::run_for : goal.decreases-run::run_for
+decreases-run::run_for l = 6 * l.room + 4
+
 -- ---- loops
 
 abbrev pub invariant-evaluate::eval_all-loop-code : goal.invariant-evaluate::eval_all-loop-code
@@ -107,9 +138,10 @@ invariant-evaluate::eval_pairs-loop-pair l = record {
 }
 
 abbrev pub invariant-evaluate::eval_fields-loop-field : goal.invariant-evaluate::eval_fields-loop-field
-invariant-evaluate::eval_fields-loop-field l =
-    field_values (calls_of l.context.functions.now l.context.depth) l.fields (world_of l.context.env.now) l.fn.turns
-    ≡ fields_from (calls_of l.context.functions.now l.context.depth) (world_of l.context.env.now) l.fields l.field-index l.values l.turns
+invariant-evaluate::eval_fields-loop-field l = record {
+  made : IsPlaced (calls_of l.context.functions.now l.context.depth) (world_of l.context.env.now) l.fields l.initial.values l.fn.turns l.field-index l.values l.turns;
+  long : length l.values ≡ length l.fields;
+}
 
 abbrev pub invariant-evaluate::taken_all-loop-taking : goal.invariant-evaluate::taken_all-loop-taking
 invariant-evaluate::taken_all-loop-taking l = record {

@@ -1,14 +1,17 @@
 -- Values put at their places, each place once, make the tuple.
-use Rattle.std.specs.Prelude.{◌≡◌, ◌+◌, ◌<◌, ◌≤◌, ◌==◌, ℕ, zero, suc, nat_lt, true, false, cond, List, [], ◌∷◌, length, Some, slice_get, slice_set}
-use Rattle.std.specs.List.{AllByRecursion}
+use Rattle.std.specs.Prelude.{◌≡◌, ◌+◌, ◌<◌, ◌≤◌, ◌==◌, ℕ, zero, suc, nat_lt, true, false, cond, List, [], ◌∷◌, ◌++◌, length, Some, slice_get, slice_set}
+use Rattle.std.specs.List.{AllByRecursion, count_by}
 use Rattle.std.specs.Option.{option_map, option_and_then}
 use Rattle.std.proofs.Common.{refl, sym, ap, subst, ◌∙◌, arith}
-use Rattle.std.proofs.lemmas.Bool.{eqb-true, eqb-false, ltb-true, le-ltb}
+use Rattle.std.proofs.lemmas.Bool.{eqb-true, eqb-false, le-ltb, lt-ltb}
 use Rattle.std.proofs.lemmas.List.{length-set}
 use Rattle.std.proofs.lemmas.List.Recursion.{is_count_by}
 use Rattle.spl_value.specs.declared.value.Value.{Value}
 use Rattle.language_model.specs.Evaluation.{field_at, tuple_from, tuple_of}
-use Rattle.value_operations.specs.Fitting.{HaveEachPlace}
+
+-- each place of the tuple has one field
+abbrev pub HaveEachPlace : List (ℕ × Value) → Type 0
+HaveEachPlace fields = (i : ℕ) → i < length fields → count_by (λ f. f.0 == i) fields ≡ 1
 
 -- each value is put at its place, one after another
 abbrev pub placed : List (ℕ × Value) → List Value → List Value
@@ -16,16 +19,16 @@ placed [] vs = vs
 placed (f ∷ fs) vs = placed fs (slice_set vs f.0 f.1)
 
 -- each place is below that
-abbrev pub PlacesBelow : ℕ → List (ℕ × Value) → Type 0
+abbrev pub PlacesBelow : {A : Type 0} → ℕ → List (ℕ × A) → Type 0
 PlacesBelow n fs = AllByRecursion (λ f. f.0 < n) fs
 
 -- ---- how often there is a place, and how many places are below a number
 
-how_often : ℕ → List (ℕ × Value) → ℕ
+how_often : {A : Type 0} → ℕ → List (ℕ × A) → ℕ
 how_often i [] = 0
 how_often i (f ∷ fs) = cond (f.0 == i) (1 + how_often i fs) (how_often i fs)
 
-how_many_below : ℕ → List (ℕ × Value) → ℕ
+how_many_below : {A : Type 0} → ℕ → List (ℕ × A) → ℕ
 how_many_below n [] = 0
 how_many_below n (f ∷ fs) = cond (nat_lt f.0 n) (1 + how_many_below n fs) (how_many_below n fs)
 
@@ -33,19 +36,19 @@ once_each : (fs : List (ℕ × Value)) → HaveEachPlace fs → (i : ℕ) → i 
 unfolding how_often
 once_each fs h i lt = is_count_by (how_often i) (λ f. f.0 == i) refl (λ f gs. refl) fs ∙ h i lt
 
-none_below : (fs : List (ℕ × Value)) → how_many_below 0 fs ≡ 0
+none_below : {A : Type 0} (fs : List (ℕ × A)) → how_many_below 0 fs ≡ 0
 unfolding how_many_below
 none_below [] = refl
 none_below (f ∷ fs) = rw (le-ltb f.0 0 (omega arith)) (none_below fs)
 
-one_more : (n : ℕ) (fs : List (ℕ × Value)) → how_many_below (suc n) fs ≡ how_many_below n fs + how_often n fs
+one_more : {A : Type 0} (n : ℕ) (fs : List (ℕ × A)) → how_many_below (suc n) fs ≡ how_many_below n fs + how_often n fs
 unfolding how_many_below how_often
 one_more n [] = refl
 one_more n (f ∷ fs) =
     let rest : how_many_below (suc n) fs ≡ how_many_below n fs + how_often n fs = one_more n fs in
     grind arith
 
-below_are : (n : ℕ) (fs : List (ℕ × Value)) → ((i : ℕ) → i < n → how_often i fs ≡ 1) → how_many_below n fs ≡ n
+below_are : {A : Type 0} (n : ℕ) (fs : List (ℕ × A)) → ((i : ℕ) → i < n → how_often i fs ≡ 1) → how_many_below n fs ≡ n
 below_are zero fs once = none_below fs
 below_are (suc n) fs once =
     let rest : how_many_below n fs ≡ n = below_are n fs (λ i lt. once i (omega arith)) in
@@ -53,24 +56,28 @@ below_are (suc n) fs once =
     let more = one_more n fs in
     omega arith
 
-at_most : (n : ℕ) (fs : List (ℕ × Value)) → how_many_below n fs ≤ length fs
+at_most : {A : Type 0} (n : ℕ) (fs : List (ℕ × A)) → how_many_below n fs ≤ length fs
 unfolding how_many_below
 at_most n [] = omega arith
 at_most n (f ∷ fs) = let rest : how_many_below n fs ≤ length fs = at_most n fs in grind arith
 
-all_below : (n : ℕ) (fs : List (ℕ × Value)) → how_many_below n fs ≡ length fs → PlacesBelow n fs
+all_counted : {A : Type 0} (n : ℕ) (fs : List (ℕ × A)) → PlacesBelow n fs → how_many_below n fs ≡ length fs
 unfolding how_many_below
-all_below n [] e = tt
-all_below n (f ∷ fs) e =
-    let most = at_most n fs in
-    elim (nat_lt f.0 n) as (λ b. nat_lt f.0 n ≡ b → cond b (1 + how_many_below n fs) (how_many_below n fs) ≡ suc (length fs) → PlacesBelow n (f ∷ fs)) [
-      | true ↦ λ is e. (ltb-true f.0 n is, all_below n fs (omega arith))
-      | false ↦ λ is e. absurd (omega arith)
-    ] refl e
+all_counted n [] h = refl
+all_counted n (f ∷ fs) h = rw (lt-ltb f.0 n h.0) (ap (λ m. 1 + m) (all_counted n fs h.1) ∙ (let more : 1 + length fs ≡ suc (length fs) = omega arith in more))
 
--- each place is one of the tuple's
-pub places_within : (fs : List (ℕ × Value)) → HaveEachPlace fs → PlacesBelow (length fs) fs
-places_within fs h = all_below (length fs) fs (below_are (length fs) fs (once_each fs h))
+once_counted : {A : Type 0} (i : ℕ) (fs : List (ℕ × A)) → count_by (λ (f : ℕ × A). f.0 == i) fs ≡ 1 → how_often i fs ≡ 1
+unfolding how_often
+once_counted {A} i fs h = is_count_by (λ (fs : List (ℕ × A)). how_often i fs) (λ (f : ℕ × A). f.0 == i) refl (λ f gs. refl) fs ∙ h
+
+-- fields of which each of n places has one, and that have no others, are n
+pub as_many : {A : Type 0} (n : ℕ) (fs : List (ℕ × A)) → ((i : ℕ) → i < n → count_by (λ (f : ℕ × A). f.0 == i) fs ≡ 1) → PlacesBelow n fs → length fs ≡ n
+as_many n fs once h = sym (all_counted n fs h) ∙ below_are n fs (λ i lt. once_counted i fs (once i lt))
+
+pub place_below : {A : Type 0} (n : ℕ) (fs : List (ℕ × A)) → PlacesBelow n fs → (i : ℕ) (f : ℕ × A) → slice_get fs i ≡ Some f → f.0 < n
+place_below n [] h i f e = absurd cc
+place_below n (g ∷ fs) h zero f e = let same : g ≡ f = cc in subst (λ (g : ℕ × _). g.0 < n) same h.0
+place_below n (g ∷ fs) h (suc i) f e = place_below n fs h.1 i f e
 
 -- ---- what is at a place
 
@@ -106,7 +113,7 @@ placed_once (f ∷ fs) vs i once lt =
       | false ↦ λ e once. placed_once fs (slice_set vs f.0 f.1) i once (rw (length-set vs f.0 f.1) lt)
     ] refl once
 
-placed_length : (fs : List (ℕ × Value)) (vs : List Value) → length (placed fs vs) ≡ length vs
+pub placed_length : (fs : List (ℕ × Value)) (vs : List Value) → length (placed fs vs) ≡ length vs
 placed_length [] vs = refl
 placed_length (f ∷ fs) vs = placed_length fs (slice_set vs f.0 f.1) ∙ length-set vs f.0 f.1
 
@@ -132,18 +139,6 @@ tuple_placed fs vs h long = from_places fs 0 (length fs) (placed fs vs) (placed_
 
 -- ---- one field after another
 
-pub first_place : (fs rest : List (ℕ × Value)) (f : ℕ × Value) (n : ℕ) → fs ≡ f ∷ rest → PlacesBelow n fs → f.0 < n
-first_place fs rest f n e h = let all = subst (PlacesBelow n) e h in all.0
-
-pub places_next : (fs rest : List (ℕ × Value)) (f : ℕ × Value) (vs ws : List Value) → fs ≡ f ∷ rest → ws ≡ slice_set vs f.0 f.1 → PlacesBelow (length vs) fs
-    → (placed fs vs ≡ placed rest ws) × PlacesBelow (length ws) rest
-places_next fs rest f vs ws e set h =
-    let all = subst (PlacesBelow (length vs)) e h in
-    let long : length vs ≡ length ws = sym (ap length set ∙ length-set vs f.0 f.1) in (
-      ap (λ (gs : List (ℕ × Value)). placed gs vs) e ∙ ap (placed rest) (sym set),
-      subst (λ (n : ℕ). PlacesBelow n rest) long all.1,
-    )
-
-pub none_left : (fs : List (ℕ × Value)) → length fs ≡ 0 → fs ≡ []
-none_left [] e = refl
-none_left (f ∷ fs) e = absurd (omega arith)
+pub placed_more : (fs : List (ℕ × Value)) (f : ℕ × Value) (vs : List Value) → placed (fs ++ f ∷ []) vs ≡ slice_set (placed fs vs) f.0 f.1
+placed_more [] f vs = refl
+placed_more (g ∷ fs) f vs = placed_more fs f (slice_set vs g.0 g.1)
