@@ -1,0 +1,80 @@
+ghost use Rattle.std.specs.Prelude.{◌≡◌, ◌<◌, length, slice_get, IfOk};
+ghost use Rattle.stream_model.specs.declared.plan.StateKind.TheVariants as K;
+ghost use Rattle.stream_model.specs.CheckedMeaning.{graph_of};
+ghost use Rattle.stream_model.specs.Meaning.{Graph};
+ghost use Rattle.stream_model.specs.Operators.{Operator};
+ghost use Rattle.stream_model.specs.StateKinds.{has_mutable, state_of};
+ghost use Rattle.stream_model.specs.Windows.{flushes_at_markers};
+
+use language_model::{Checked, Handlers, Part, WindowRule};
+use spl_value::{Items, NoMemory, Places};
+use std::alloc::Global;
+use stream_model::StateKind;
+
+/// What kind of state the operator with this number keeps from event to event, by its clauses alone.
+/// Memory is taken for the places of a key.
+pub fn state_of(alloc: Global, checked: &Checked, op: u32) -> Result<StateKind, NoMemory>
+    requires number { op < length checked.now.parts }
+    ensures kind { (g : Graph) (o : Operator) → graph_of checked.now ≡ g → slice_get g.ops op ≡ Some o
+        → IfOk result (λ kind. kind ≡ state_of o.clauses) }
+{
+    match checked.parts.get(op as usize) {
+        Some(part) => state_by(alloc, part),
+        None => unreachable!(),
+    }
+}
+
+/// The same by these clauses.
+fn state_by(alloc: Global, part: &Part) -> Result<StateKind, NoMemory>
+    ensures { IfOk result (λ kind. kind ≡ state_of part.now) }
+{
+    match part {
+        Part::FileSource { .. } | Part::FileSink { .. } | Part::Join { .. } => Ok(StateKind::Whole),
+        Part::Filter { .. }
+        | Part::Functor { .. }
+        | Part::Punctor { .. }
+        | Part::Split { .. }
+        | Part::Union { .. } => Ok(StateKind::Stateless),
+        Part::Custom { handlers } => {
+            if has_mutable(handlers) {
+                Ok(StateKind::Whole)
+            } else {
+                Ok(StateKind::Stateless)
+            }
+        }
+        Part::Aggregate {
+            window,
+            partition,
+            ..
+        } => {
+            if window.partitioned && !flushes_at_markers(window.rule) {
+                keyed(alloc, partition)
+            } else {
+                Ok(StateKind::Whole)
+            }
+        }
+    }
+}
+
+fn keyed(alloc: Global, places: &Places) -> Result<StateKind, NoMemory>
+    ensures { IfOk result (λ kind. kind ≡ K.Keyed places.now) }
+{
+    Ok(StateKind::Keyed(Items::from_slice(alloc, places.as_slice())?))
+}
+
+fn has_mutable(handlers: &Handlers) -> bool
+    ensures { result ≡ has_mutable handlers.now }
+{
+    for x in handlers.state.as_slice() {
+        if x.variable.mutable {
+            return true;
+        }
+    }
+    false
+}
+
+fn flushes_at_markers(rule: WindowRule) -> bool
+    ensures { result ≡ flushes_at_markers rule }
+{
+    matches!(rule, WindowRule::TumblingPunct)
+}
