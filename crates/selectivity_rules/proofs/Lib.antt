@@ -1,0 +1,5 @@
+pub mod Capping
+pub mod CountedClasses
+pub mod CountLoops
+pub mod IntervalForms
+pub mod StatementWeights
