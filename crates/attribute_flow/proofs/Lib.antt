@@ -3,3 +3,10 @@ pub mod SubmitForms
 pub mod StatementWeights
 pub mod Agreeing
 pub mod Chaining
+pub mod AggregateCopies
+pub mod CodeValues
+pub mod CustomCopies
+pub mod KeepingSubmits
+pub mod Reacting
+pub mod TupleFields
+pub mod KindCopies

@@ -4,6 +4,8 @@
 mod agreement;
 mod codes;
 mod flow;
+mod laws;
 mod submits;
 
 pub use flow::{source_of, trace};
+pub use laws::copies_law;
