@@ -1,1 +1,3 @@
+pub mod ClassLaws
+pub mod SubmitLaws
 pub mod steps

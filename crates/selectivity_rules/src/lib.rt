@@ -4,5 +4,7 @@
 mod classes;
 mod counts;
 mod interval;
+mod laws;
 
 pub use classes::gives;
+pub use laws::classes_law;
