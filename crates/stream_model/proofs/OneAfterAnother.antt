@@ -22,7 +22,7 @@ use Rattle.stream_model.proofs.Records.{takes_entries, length-inputs_of}
 -- ---- the events
 
 -- of n inputs one after the other, from input i on
-abbrev events_from : Lists → ℕ → ℕ → List Event
+abbrev pub events_from : Lists → ℕ → ℕ → List Event
 events_from lists i zero = []
 events_from lists i (suc n) = map (came i) (lists i) ++ events_from lists (suc i) n
 
@@ -62,7 +62,7 @@ inputs-same (suc n) i f g same =
     let rest : inputs_from f (suc i) n ≡ inputs_from g (suc i) n = inputs-same n (suc i) f g (λ j l. same j (omega (arith, l))) in
     λ k. map (λ (x : Item). i) (here k) ++ rest k
 
-arrive_from : (n i : ℕ) (lists : Lists) → arrive lists (inputs_from lists i n) ≡ events_from lists i n
+pub arrive_from : (n i : ℕ) (lists : Lists) → arrive lists (inputs_from lists i n) ≡ events_from lists i n
 arrive_from zero i lists = refl
 arrive_from (suc n) i lists =
     let left : Lists = with_list lists i [] in
@@ -76,7 +76,7 @@ arrive_from (suc n) i lists =
 -- ---- inputs whose final marker has come
 
 -- on each input before i
-abbrev Over : ℕ → List Event → Type 0
+abbrev pub Over : ℕ → List Event → Type 0
 Over i seen = (j : ℕ) → j < i → is_over seen j ≡ true
 
 over_more : (i : ℕ) (e : Event) (seen : List Event) → Over i seen → Over i (e ∷ seen)
@@ -159,7 +159,7 @@ earlier_closes op i more rest I.Final seen c over = behind (is_some (ended op se
     behind true rest = over_before op (came i I.Final ∷ seen) more
     behind false rest = rest
 
-all_end : (op : Operator) (lists : Lists) → ((j : ℕ) → j < length (ports op) → is_closed (lists j) ≡ true) → (n i : ℕ) (seen : List Event) → i + suc n ≡ length (ports op)
+pub all_end : (op : Operator) (lists : Lists) → ((j : ℕ) → j < length (ports op) → is_closed (lists j) ≡ true) → (n i : ℕ) (seen : List Event) → i + suc n ≡ length (ports op)
     → Over i seen → (after (stage_at op seen false) (events_from lists i (suc n))).over ≡ true
 all_end op lists closed zero i seen at over =
     closes_input op i [] (last_closes op i [] (omega (arith, at))) (lists i) seen (closed i (omega (arith, at))) over

@@ -30,4 +30,5 @@ pub mod Groups
 pub mod GroupLaws
 pub mod Records
 pub mod RecordLaws
+pub mod Arrivals
 pub mod examples

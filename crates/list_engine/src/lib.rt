@@ -1,0 +1,15 @@
+//! The run of a checked graph on one thread, stream by stream.
+#![tactic(auto)]
+
+mod arrivals;
+mod ends;
+mod gather;
+mod laws;
+mod operator;
+mod place;
+mod readers;
+mod run;
+mod state;
+
+pub use laws::engine_law;
+pub use run::{Run, run_lists};
