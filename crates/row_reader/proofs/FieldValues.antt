@@ -1,0 +1,128 @@
+-- Values of fields behind others.
+use Rattle.std.specs.Prelude.{◌&&◌, ◌-◌, ◌^◌, ◌≤◌, IsTrue, codes, if◌then◌else◌, negsuc, option_map, pos, unsigned_abs}
+use Rattle.std.specs.Int.{w128}
+use Rattle.std.proofs.Common.{◌≡◌, ◌∙◌, ◌++◌, ◌∷◌, [], ℕ, ℤ, Bool, true, false, List, map, Option, Some, None, refl, sym, ap, subst, inl, inr, arith, lit≤, of_z, to_z}
+use Rattle.std.specs.Str.{bytes_eq}
+use Rattle.std.proofs.lemmas.Bool.{cases_Bool, ltb-true}
+use Rattle.std.proofs.lemmas.Int.{fits_signed_from_abs, to_z-of_z}
+use Rattle.spl_value.specs.Decimal.{in_kind, integer_of, number}
+use Rattle.spl_value.specs.Values.{fits, kind_holds, modulus, top, tuple_fits}
+use Rattle.spl_value.proofs.FitsLaws.{fits_bool, fits_int, fits_text}
+use Rattle.spl_value.specs.declared.types.IntKind.{IntKind}
+use Rattle.spl_value.specs.declared.types.IntKind.TheVariants.{I8, I16, I32, I64, U8, U16, U32, U64}
+use Rattle.spl_value.specs.declared.types.SplType.{SplType}
+use Rattle.spl_value.specs.declared.types.SplType.TheVariants as T
+use Rattle.spl_value.specs.declared.value.Value.{Value}
+use Rattle.spl_value.specs.declared.value.Value.TheVariants as V
+use Rattle.stream_model.specs.Fields.{field_value, in_front, tuple_of}
+use Rattle.row_reader.specs.declared.columns.Column.{Column}
+use Rattle.row_reader.specs.declared.columns.Column.TheVariants as C
+use Rattle.row_reader.specs.steps.Adding.{Added}
+use Rattle.row_reader.specs.Columns.{attributes, type_of}
+
+field_int : (k : IntKind) (field : List ℕ) → field_value (T.Int k) field ≡ option_map V.Int (integer_of k field)
+field_int k field = rw (T.outs-Int k) refl
+
+field_bool : (field : List ℕ) (b : Bool) → bytes_eq field (codes "true") ≡ b → field_value T.Bool field ≡ (if b then Some (V.Bool true) else if bytes_eq field (codes "false") then Some (V.Bool false) else None)
+field_bool field b e = rw (T.outs-Bool, e) refl
+
+field_text : (field : List ℕ) → field_value T.Text field ≡ Some (V.Text field)
+field_text field = rw T.outs-Text refl
+
+added_none : (v : Option Value) (old new : List Value) → v ≡ None → Added v false old new
+added_none v old new e = rw e refl
+
+added_some : (v : Option Value) (w : Value) (old new : List Value) → v ≡ Some w → new ≡ old ++ w ∷ [] → Added v true old new
+added_some v w old new e n = rw e (refl, n)
+
+pub no_integer : (k : IntKind) (field : List ℕ) (old new : List Value) → None ≡ integer_of k field → Added (field_value (T.Int k) field) false old new
+no_integer k field old new e = added_none (field_value (T.Int k) field) old new (field_int k field ∙ ap (option_map V.Int) (sym e))
+
+pub an_integer : (k : IntKind) (field : List ℕ) (n : ℤ) (old new : List Value) → Some n ≡ integer_of k field → new ≡ old ++ V.Int n ∷ [] → Added (field_value (T.Int k) field) true old new
+an_integer k field n old new e h = added_some (field_value (T.Int k) field) (V.Int n) old new (field_int k field ∙ ap (option_map V.Int) (sym e)) h
+
+pub a_text : (field text : List ℕ) (old new : List Value) → text ≡ field → new ≡ old ++ V.Text text ∷ [] → Added (field_value T.Text field) true old new
+a_text field text old new e h = added_some (field_value T.Text field) (V.Text text) old new (field_text field ∙ ap (λ t. Some (V.Text t)) (sym e)) h
+
+pub a_true : (field : List ℕ) (old new : List Value) → bytes_eq field (codes "true") ≡ true → new ≡ old ++ V.Bool true ∷ [] → Added (field_value T.Bool field) true old new
+a_true field old new e h = added_some (field_value T.Bool field) (V.Bool true) old new (field_bool field true e) h
+
+pub a_false : (field : List ℕ) (old new : List Value) → bytes_eq field (codes "true") ≡ false → bytes_eq field (codes "false") ≡ true → new ≡ old ++ V.Bool false ∷ []
+    → Added (field_value T.Bool field) true old new
+a_false field old new e f h = added_some (field_value T.Bool field) (V.Bool false) old new (field_bool field false e ∙ rw f refl) h
+
+pub no_truth : (field : List ℕ) (old new : List Value) → bytes_eq field (codes "true") ≡ false → bytes_eq field (codes "false") ≡ false → Added (field_value T.Bool field) false old new
+no_truth field old new e f = added_none (field_value T.Bool field) old new (field_bool field false e ∙ rw f refl)
+
+-- ---- the numbers of the kinds
+
+pub in_kind_holds : (k : IntKind) (m : Option ℤ) (n : ℤ) → Some n ≡ in_kind k m → IsTrue (kind_holds k n)
+in_kind_holds k None n e = absurd (cc e)
+in_kind_holds k (Some m) n e = elim (cases_Bool (kind_holds k m)) [
+  | inl holds ↦ let h : Some n ≡ Some m = e ∙ rw holds refl in let same : n ≡ m = cc h in ap (kind_holds k) same ∙ holds
+  | inr not ↦ absurd (let h : Some n ≡ None = e ∙ rw not refl in cc h)
+]
+
+widths : (k : IntKind) → (top k ≤ 2 ^ 64) × (modulus k - top k ≤ 2 ^ 64)
+widths I8 = (lit≤ tt, lit≤ tt)
+widths I16 = (lit≤ tt, lit≤ tt)
+widths I32 = (lit≤ tt, lit≤ tt)
+widths I64 = (lit≤ tt, lit≤ tt)
+widths U8 = (lit≤ tt, lit≤ tt)
+widths U16 = (lit≤ tt, lit≤ tt)
+widths U32 = (lit≤ tt, lit≤ tt)
+widths U64 = (lit≤ tt, lit≤ tt)
+
+small : (k : IntKind) (n : ℤ) → IsTrue (kind_holds k n) → unsigned_abs n ≤ 2 ^ 64
+small k (pos n) h = let w = widths k in let lt = ltb-true n (top k) h in omega arith
+small k (negsuc n) h = let w = widths k in let lt = ltb-true n (modulus k - top k) h in omega arith
+
+pub kept : (k : IntKind) (field : List ℕ) (n : ℤ) → Some n ≡ integer_of k field → to_z w128 (of_z w128 n) ≡ n
+kept k field n e = let s = small k n (in_kind_holds k (number field) n e) in to_z-of_z w128 n (fits_signed_from_abs w128 n (omega arith))
+
+-- ---- a row's values fit its columns
+
+column_fits : (c : Column) (field : List ℕ) (v : Value) → field_value (type_of c) field ≡ Some v → IsTrue (fits (type_of c) v)
+column_fits (C.Int k) field v e = by_number (integer_of k field) refl (sym e ∙ field_int k field) where
+  by_number : (r : Option ℤ) → integer_of k field ≡ r → Some v ≡ option_map V.Int (integer_of k field) → IsTrue (fits (T.Int k) v)
+  by_number None h g = absurd (let z = rw h at g in cc z)
+  by_number (Some n) h g =
+      let is : Some v ≡ Some (V.Int n) = g ∙ ap (option_map V.Int) h in
+      let same : v ≡ V.Int n = cc is in
+      subst (λ z. IsTrue (fits (T.Int k) z)) (sym same) (fits_int k n ∙ in_kind_holds k (number field) n (sym h))
+column_fits C.Bool field v e = elim (cases_Bool (bytes_eq field (codes "true"))) [
+  | inl word ↦
+      let is : Some v ≡ Some (V.Bool true) = sym e ∙ field_bool field true word in
+      let same : v ≡ V.Bool true = cc is in
+      subst (λ z. IsTrue (fits T.Bool z)) (sym same) (fits_bool true)
+  | inr other ↦ elim (cases_Bool (bytes_eq field (codes "false"))) [
+    | inl word ↦
+        let is : Some v ≡ Some (V.Bool false) = sym e ∙ field_bool field false other ∙ rw word refl in
+        let same : v ≡ V.Bool false = cc is in
+        subst (λ z. IsTrue (fits T.Bool z)) (sym same) (fits_bool false)
+    | inr neither ↦ absurd (let is : Some v ≡ None = sym e ∙ field_bool field false other ∙ rw neither refl in cc is)
+  ]
+]
+column_fits C.Text field v e =
+    let is : Some v ≡ Some (V.Text field) = sym e ∙ field_text field in
+    let same : v ≡ V.Text field = cc is in
+    subst (λ z. IsTrue (fits T.Text z)) (sym same) (fits_text field)
+
+-- the tuple of fields that fit
+pub row_fits : (columns : List Column) (fields : List (List ℕ)) (values : List Value) → tuple_of (attributes columns) fields ≡ Some values → IsTrue (tuple_fits (attributes columns) values)
+row_fits [] [] values e = let is : [] ≡ values = cc e in subst (λ z. IsTrue (tuple_fits [] z)) is refl
+row_fits [] (field ∷ fields) values e = absurd (cc e)
+row_fits (c ∷ columns) [] values e = absurd (cc e)
+row_fits (c ∷ columns) (field ∷ fields) values e =
+    by_value (field_value (type_of c) field) (tuple_of (attributes columns) fields) values (λ v h. column_fits c field v h) (λ vs h. row_fits columns fields vs h) e
+  where
+    both : (a b : Bool) → IsTrue a → IsTrue b → (a && b) ≡ true
+    both a b h g = rw (h, g) refl
+
+    by_value : (v : Option Value) (vs : Option (List Value)) (values : List Value) → ((w : Value) → v ≡ Some w → IsTrue (fits (type_of c) w))
+        → ((ws : List Value) → vs ≡ Some ws → IsTrue (tuple_fits (attributes columns) ws)) → in_front v vs ≡ Some values → IsTrue (tuple_fits (attributes (c ∷ columns)) values)
+    by_value None vs values f g h = absurd (cc h)
+    by_value (Some v) None values f g h = absurd (cc h)
+    by_value (Some v) (Some vs) values f g h =
+        let same : v ∷ vs ≡ values = cc h in
+        subst (λ z. IsTrue (tuple_fits (attributes (c ∷ columns)) z)) same (both (fits (type_of c) v) (tuple_fits (attributes columns) vs) (f v refl) (g vs refl))

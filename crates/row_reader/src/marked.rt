@@ -1,0 +1,248 @@
+//! A line with a quote, a carriage return or a byte order mark, read as `csv` reads it.
+ghost use Rattle.std.specs.Prelude.{◌≡◌, ◌≤◌, ◌<◌, ◌+◌, ◌==◌, ◌&&◌, nat_lt, min, [], ℕ, List, true, false, drop, length, slice_index, IfOk};
+ghost use Rattle.csv.specs.Machine.{next_record};
+ghost use Rattle.csv.specs.Reading.{default_config, records, strip_bom};
+ghost use Rattle.csv.specs.declared.parser.State.TheVariants as st;
+ghost use Rattle.stream_model.specs.Rows.{line_gives, of_records};
+ghost use Rattle.row_reader.specs.Columns.{attributes, type_of};
+ghost use Rattle.row_reader.specs.steps.Marked.{IsRun, MarkedField, StopsAt, first_record, given_of};
+
+use crate::columns::{Column, Spare, add_field};
+use crate::find::find;
+use spl_value::{NoMemory, Values};
+
+/// What a line gives. The values of a row stand beside it.
+#[derive(Clone, Copy, Debug, PartialEq, Eq)]
+pub enum LineGives {
+    Row,
+    Nothing,
+    Bad,
+}
+
+fn begins_marked(line: &[u8]) -> bool
+    ensures { result ≡ Rattle.row_reader.specs.steps.Marked.begins_marked line.now }
+{
+    line.len() >= 3 && (line[0] == 0xEF && (line[1] == 0xBB && line[2] == 0xBF))
+}
+
+/// The line behind a byte order mark.
+fn behind_mark(line: &[u8]) -> &[u8]
+    ensures { result.now ≡ strip_bom line.now }
+{
+    if begins_marked(line) {
+        &line[3..]
+    } else {
+        line
+    }
+}
+
+fn is_end(b: u8) -> bool
+    ensures { result ≡ Rattle.row_reader.specs.steps.Marked.is_end b }
+{
+    b == b'\r' || b == b'\n'
+}
+
+fn is_stop(b: u8) -> bool
+    ensures { result ≡ Rattle.row_reader.specs.steps.Marked.is_stop b }
+{
+    b == b',' || is_end(b)
+}
+
+/// The first place from here on that has no carriage return and no line feed.
+fn behind_ends(text: &[u8], from: usize) -> usize
+    requires { from ≤ length text.now }
+    ensures within { result ≤ length text.now }
+    ensures same { first_record (drop result text.now) ≡ first_record (drop from text.now) }
+    ensures stop { result < length text.now → Rattle.row_reader.specs.steps.Marked.is_end (slice_index text.now result) ≡ false }
+{
+    let mut at = from;
+    'ends: while at < text.len() {
+        if !is_end(text[at]) {
+            return at;
+        }
+        at += 1;
+    }
+    at
+}
+
+/// The first place from here on where a field ends that isn't in quotes.
+fn run_end(text: &[u8], from: usize) -> usize
+    requires { from ≤ length text.now }
+    ensures run { IsRun text.now from result }
+    ensures stop { StopsAt text.now result }
+{
+    let mut at = from;
+    'run: while at < text.len() {
+        if is_stop(text[at]) {
+            return at;
+        }
+        at += 1;
+    }
+    at
+}
+
+/// Adds what stands in quotes that are opened in front of this place, and answers the place behind
+/// it.
+fn add_quoted(field: &mut Vec<u8>, text: &[u8], from: usize) -> Result<usize, NoMemory>
+    requires { from ≤ length text.now }
+    ensures within { IfOk result (λ end. end ≤ length text.now) }
+    ensures read { IfOk result (λ end. (fields : List (List ℕ))
+        → next_record default_config st.InQuoted fields field.old.items (drop from text.now)
+        ≡ next_record default_config st.InField fields field.new.items (drop end text.now)) }
+{
+    let mut at = from;
+    'runs: while at < text.len() {
+        let Some(before) = find(b'"', &text[at..]) else {
+            field.extend_from_slice(&text[at..])?;
+            return Ok(text.len());
+        };
+        field.extend_from_slice(&text[at..at + before])?;
+        at += before + 1;
+        if at < text.len() && text[at] == b'"' {
+            field.push(b'"')?;
+            at += 1;
+        } else {
+            return Ok(at);
+        }
+    }
+    Ok(at)
+}
+
+/// Adds the value of a field that begins with a quote.
+fn add_quoted_field(
+    values: &mut Values,
+    spare: &mut Spare,
+    field: &mut Vec<u8>,
+    column: Column,
+    text: &[u8],
+    at: usize,
+) -> Result<Option<usize>, NoMemory>
+    requires within { at < length text.now }
+    requires quote { slice_index text.now at ≡ 34 }
+    ensures { IfOk result (MarkedField (type_of column) text.now at values.old values.new) }
+{
+    field.clear();
+    let closed = add_quoted(field, text, at + 1)?;
+    let end = run_end(text, closed);
+    field.extend_from_slice(&text[closed..end])?;
+    if add_field(values, spare, column, field.as_slice())? {
+        Ok(Some(end))
+    } else {
+        Ok(None)
+    }
+}
+
+/// Adds the value of a field that doesn't begin with a quote.
+fn add_bare_field(
+    values: &mut Values,
+    spare: &mut Spare,
+    column: Column,
+    text: &[u8],
+    at: usize,
+) -> Result<Option<usize>, NoMemory>
+    requires within { at ≤ length text.now }
+    requires bare { at < length text.now → slice_index text.now at ≡ 34 → ⊥ }
+    ensures { IfOk result (MarkedField (type_of column) text.now at values.old values.new) }
+{
+    let end = run_end(text, at);
+    if add_field(values, spare, column, &text[at..end])? {
+        Ok(Some(end))
+    } else {
+        Ok(None)
+    }
+}
+
+/// Adds the value of the field that begins here, where it fits the column, and answers where it
+/// ends.
+fn add_marked_field(
+    values: &mut Values,
+    spare: &mut Spare,
+    field: &mut Vec<u8>,
+    column: Column,
+    text: &[u8],
+    at: usize,
+) -> Result<Option<usize>, NoMemory>
+    requires { at ≤ length text.now }
+    ensures { IfOk result (MarkedField (type_of column) text.now at values.old values.new) }
+{
+    if at < text.len() && text[at] == b'"' {
+        add_quoted_field(values, spare, field, column, text, at)
+    } else {
+        add_bare_field(values, spare, column, text, at)
+    }
+}
+
+/// Whether a comma stands here.
+fn is_comma_at(text: &[u8], at: usize) -> bool
+    ensures { result ≡ (nat_lt at (length text.now) && (slice_index text.now at == 44)) }
+{
+    at < text.len() && text[at] == b','
+}
+
+/// The next place, or the end.
+fn next_place(text: &[u8], at: usize) -> usize
+    ensures { result ≡ min (at + 1) (length text.now) }
+{
+    if at < text.len() { at + 1 } else { text.len() }
+}
+
+/// Reads the first record of a text, which begins here, as the fields of a row, and looks for a
+/// second one behind it.
+fn read_record(
+    values: &mut Values,
+    spare: &mut Spare,
+    field: &mut Vec<u8>,
+    columns: &[Column],
+    text: &[u8],
+    from: usize,
+) -> Result<LineGives, NoMemory>
+    requires none { values.old ≡ [] }
+    requires within { from < length text.now }
+    requires starts { first_record text.now
+        ≡ next_record default_config st.StartField [] [] (drop from text.now) }
+    ensures { IfOk result (λ given. of_records (attributes columns.now)
+        (records default_config text.now) ≡ given_of given values.new) }
+{
+    let mut at = from;
+    let mut more = true;
+    'columns: for column in columns {
+        if !more {
+            return Ok(LineGives::Bad);
+        }
+        match add_marked_field(values, spare, field, *column, text, at)? {
+            None => return Ok(LineGives::Bad),
+            Some(end) => {
+                more = is_comma_at(text, end);
+                at = next_place(text, end);
+            }
+        }
+    }
+    if more {
+        return Ok(LineGives::Bad);
+    }
+    if behind_ends(text, at) < text.len() {
+        return Ok(LineGives::Bad);
+    }
+    Ok(LineGives::Row)
+}
+
+/// Reads any line. The values and the field are empty before it.
+pub(crate) fn read_marked(
+    values: &mut Values,
+    spare: &mut Spare,
+    field: &mut Vec<u8>,
+    columns: &[Column],
+    line: &[u8],
+) -> Result<LineGives, NoMemory>
+    requires none { values.old ≡ [] }
+    ensures { IfOk result (λ given. line_gives (attributes columns.now) line.now
+        ≡ given_of given values.new) }
+{
+    let text = behind_mark(line);
+    let from = behind_ends(text, 0);
+    if from < text.len() {
+        read_record(values, spare, field, columns, text, from)
+    } else {
+        Ok(LineGives::Nothing)
+    }
+}

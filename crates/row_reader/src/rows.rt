@@ -1,0 +1,449 @@
+//! A source's stream, one item at a time.
+ghost use Rattle.std.specs.Prelude.{◌≡◌, ◌≤◌, ◌<◌, ◌+◌, ◌-◌, ◌++◌, ◌^◌, ◌==◌, [], true, false, length, take, drop, map, IfOk, IfSome, OnOk, OnErr, MatchOption, None, Some, Option};
+ghost use Rattle.std.specs.List.{list_any};
+ghost use Rattle.spl_value.specs.Script.{Script, End};
+ghost use Rattle.spl_value.specs.declared.item.Item.TheVariants as I;
+ghost use Rattle.feed_pour.specs.Counts.{Counted};
+ghost use Rattle.feed_pour.specs.Contents.{PieceGiven, failed_read};
+ghost use Rattle.language_model.specs.Checking.{has_text_form};
+ghost use Rattle.stream_model.specs.Rows.{Setting, line_gives, rows, source_fault, too_long};
+ghost use Rattle.stream_model.specs.Stream.{closes};
+ghost use Rattle.row_reader.specs.declared.rows.Stage.TheVariants as S;
+ghost use Rattle.row_reader.specs.Columns.{attributes};
+ghost use Rattle.row_reader.specs.steps.Finding.{IsFirstAt};
+ghost use Rattle.row_reader.specs.steps.Lines.{as_given};
+
+use crate::columns::{Spare, columns_of};
+use crate::find::find;
+use crate::lines::{Given, Lines};
+use feed_pour::{Failed, Feed};
+use spl_value::{Fault, FaultKind, Item, NoMemory, Schema, Values};
+use std::alloc::Global;
+
+const PIECE: usize = 8192;
+
+/// What a source gives next.
+#[derive(Clone, Copy, Debug, PartialEq, Eq)]
+pub enum Stage {
+    /// What its bytes give.
+    Reading,
+    /// The window marker.
+    Ended,
+    /// The final marker.
+    Marked,
+    /// Nothing.
+    Done,
+}
+
+/// The rows of a source's file as its stream: a tuple for each row, and behind the last one a window
+/// marker and the final marker, or a fault in their place.
+#[derive(Drop)]
+pub struct Rows {
+    lines: Lines,
+    op: u32,
+    strict: bool,
+    limit: u64,
+    // The bytes that were read last, and which of them aren't given yet.
+    piece: Vec<u8>,
+    at: usize,
+    filled: usize,
+    // The front of a line that reaches past its piece.
+    carry: Vec<u8>,
+    // The number of the line, and how many bytes of the limit are left before it.
+    line: u64,
+    left: u64,
+    stage: Stage,
+    ghost whole: { length piece.items ≡ 8192 },
+    ghost within: { at ≤ filled },
+    ghost inside: { filled ≤ 8192 },
+    ghost held: { length carry.items + (filled - at) ≤ left + 8192 },
+    ghost counted: { line + left ≤ 2 ^ 40 + 1 },
+    ghost unbroken: { list_any (λ b. b == 10) carry.items ≡ false },
+}
+
+/// The fault of a line that is too long.
+fn long_fault(len: usize, size: usize, left: u64) -> Option<FaultKind>
+    ensures { result ≡ too_long len size left }
+{
+    if 65536 < len && 65536 <= left {
+        Some(FaultKind::LongRow)
+    } else if left < size as u64 {
+        Some(FaultKind::LongFile)
+    } else {
+        None
+    }
+}
+
+fn length_of(bytes: &Vec<u8>) -> usize
+    ensures { result ≡ length bytes.now.items }
+{
+    bytes.as_slice().len()
+}
+
+/// What a line gives whose first bytes are in `carry` and whose others are at `from..to`.
+fn read_ended(
+    lines: &mut Lines,
+    carry: &mut Vec<u8>,
+    piece: &Vec<u8>,
+    from: usize,
+    to: usize,
+) -> Result<Given, NoMemory>
+    requires start { from ≤ to }
+    requires end { to ≤ length piece.now.items }
+    ensures given { IfOk result (λ given. as_given given
+        ≡ line_gives (attributes lines.old.columns.items)
+        (carry.old.items ++ take (to - from) (drop from piece.now.items))) }
+    ensures columns { lines.new.columns.items ≡ lines.old.columns.items }
+    ensures cleared { carry.new.items ≡ [] }
+{
+    let ended = &piece[from..to];
+    if carry.is_empty() {
+        return lines.read(ended);
+    }
+    read_carried(lines, carry, ended)
+}
+
+/// What a line gives whose first bytes are in `carry`.
+#[cold]
+#[inline(never)]
+fn read_carried(lines: &mut Lines, carry: &mut Vec<u8>, ended: &[u8]) -> Result<Given, NoMemory>
+    ensures given { IfOk result (λ given. as_given given
+        ≡ line_gives (attributes lines.old.columns.items) (carry.old.items ++ ended.now)) }
+    ensures columns { lines.new.columns.items ≡ lines.old.columns.items }
+    ensures cleared { carry.new.items ≡ [] }
+{
+    if carry.extend_from_slice(ended).is_err() {
+        carry.clear();
+        return Err(NoMemory);
+    }
+    let given = lines.read(carry.as_slice());
+    carry.clear();
+    given
+}
+
+/// Adds the bytes at `from..to`.
+fn keep(carry: &mut Vec<u8>, piece: &Vec<u8>, from: usize, to: usize) -> Result<(), NoMemory>
+    requires start { from ≤ to }
+    requires end { to ≤ length piece.now.items }
+    ensures ok { OnOk result
+        (carry.new.items ≡ carry.old.items ++ take (to - from) (drop from piece.now.items)) }
+    ensures err { OnErr result (carry.new.items ≡ carry.old.items) }
+{
+    carry.extend_from_slice(&piece[from..to])?;
+    Ok(())
+}
+
+/// Where the first line feed of the bytes at `from..to` stands, counted from `from`.
+fn feed_at(piece: &Vec<u8>, from: usize, to: usize) -> Option<usize>
+    requires start { from ≤ to }
+    requires end { to ≤ length piece.now.items }
+    ensures { MatchOption result
+        (list_any (λ b. b == 10) (take (to - from) (drop from piece.now.items)) ≡ false)
+        (IsFirstAt 10 (take (to - from) (drop from piece.now.items))) }
+{
+    find(b'\n', &piece[from..to])
+}
+
+impl Rows {
+    ghost use Rattle.row_reader.specs.Reading.{Gives, IsFor, ItemHas, failed_next, is_over, is_read_fault, most_left, setting, setting_of, to_come};
+    ghost use Rattle.row_reader.specs.steps.Steps.{GaveItem, IsBehind, IsEnd, IsKept, IsLast, IsMark, IsRead, IsStop, Moves, Stepped, failed_step, placed};
+
+    /// A source that has read nothing. Its schema has integers, booleans and texts.
+    pub fn new(
+        alloc: Global,
+        schema: &Schema,
+        strict: bool,
+        op: u32,
+        limit: u64,
+    ) -> Result<Rows, NoMemory>
+        requires limit { limit ≤ 2 ^ 40 }
+        requires form { has_text_form schema.now ≡ true }
+        ensures made { IfOk result (λ r. IsFor r (setting op schema.now strict limit)) }
+        ensures coming { IfOk result (λ r. (s : Script) → to_come r (Some s)
+            ≡ Some (rows (setting op schema.now strict limit) s.bytes s.ending)) }
+        ensures open { IfOk result (λ r. is_over r ≡ false) }
+    {
+        let columns = columns_of(alloc, schema.as_slice())?;
+        let texts = Vec::with_capacity(alloc, columns.len())?;
+        let piece = vec![in alloc; 0u8; PIECE]?;
+        Ok(Rows {
+            lines: Lines {
+                columns,
+                spare: Spare {
+                    alloc,
+                    list: None,
+                    texts,
+                },
+                field: Vec::new(alloc),
+            },
+            op,
+            strict,
+            limit,
+            piece,
+            at: 0,
+            filled: 0,
+            carry: Vec::new(alloc),
+            line: 1,
+            left: limit,
+            stage: Stage::Reading,
+        })
+    }
+
+    /// Ends the stream with a fault at this line.
+    #[cold]
+    #[inline(never)]
+    fn stop(&mut self, kind: FaultKind, line: u64) -> Item
+        ensures item { result ≡ source_fault (setting_of self.old) kind line }
+        ensures done { IsStop self.old self.new }
+    {
+        self.stage = Stage::Done;
+        Item::Bad(Fault {
+            op: self.op,
+            kind,
+            line,
+        })
+    }
+
+    /// Reads the line whose line feed stands `i` bytes further on, and passes it.
+    #[inline]
+    fn take_line(&mut self, i: usize) -> Result<Given, NoMemory>
+        requires end { IsFirstAt 10 (take (self.old.filled - self.old.at)
+            (drop self.old.at self.old.piece.items)) i }
+        requires short { too_long (length self.old.carry.items + i)
+            (length self.old.carry.items + i + 1) self.old.left ≡ None }
+        ensures given { IfOk result (λ given. as_given given
+            ≡ line_gives (attributes self.old.lines.columns.items) (self.old.carry.items
+            ++ take (self.old.at + i - self.old.at) (drop self.old.at self.old.piece.items))) }
+        ensures behind { IfOk result (λ _.
+            IsBehind self.old self.new (length self.old.carry.items + i) i) }
+    {
+        let len = length_of(&self.carry) + i;
+        let from = self.at;
+        let given = read_ended(
+            &mut self.lines,
+            &mut self.carry,
+            &self.piece,
+            from,
+            from + i,
+        )?;
+        self.line += 1;
+        self.left -= (len + 1) as u64;
+        self.at = from + i + 1;
+        Ok(given)
+    }
+
+    /// Gives the line whose line feed stands `i` bytes further on.
+    fn end_line(&mut self, i: usize) -> Result<Option<Item>, NoMemory>
+        requires reading { self.old.stage ≡ S.Reading }
+        requires end { IsFirstAt 10 (take (self.old.filled - self.old.at)
+            (drop self.old.at self.old.piece.items)) i }
+        ensures step { IfOk result (Stepped self.old self.new) }
+        ensures coming { IfOk result (λ o. (s : Option Script)
+            → Moves (to_come self.old s) o (to_come self.new s)) }
+        ensures whole { failed_step result ≡ false }
+    {
+        let line = self.line;
+        let len = length_of(&self.carry) + i;
+        if let Some(kind) = long_fault(len, len + 1, self.left) {
+            return Ok(Some(self.stop(kind, line)));
+        }
+        match self.take_line(i)? {
+            Given::Row(values) => Ok(Some(Item::Tuple(values))),
+            Given::Nothing => Ok(None),
+            Given::Bad => {
+                if self.strict {
+                    Ok(Some(self.stop(FaultKind::BadRow, line)))
+                } else {
+                    Ok(None)
+                }
+            }
+        }
+    }
+
+    /// Keeps the bytes that are held, so that the piece is free.
+    fn keep_held(&mut self) -> Result<(), NoMemory>
+        requires none { list_any (λ b. b == 10) (take (self.old.filled - self.old.at)
+            (drop self.old.at self.old.piece.items)) ≡ false }
+        ensures { OnOk result (IsKept self.old self.new) }
+    {
+        keep(&mut self.carry, &self.piece, self.at, self.filled)?;
+        self.at = 0;
+        self.filled = 0;
+        Ok(())
+    }
+
+    /// Reads into the free piece.
+    fn read_piece<F: Feed>(&mut self, feed: &mut F) -> Result<usize, Failed>
+        requires empty { self.old.filled ≡ 0 }
+        requires room { length self.old.carry.items ≤ self.old.left }
+        ensures read { IsRead self.old self.new (placed result) }
+        ensures piece { PieceGiven (F.script feed.old) (F.script feed.new) result
+            self.new.piece.items }
+        ensures cause { Counted (failed_read result) (F.faults feed.old) (F.faults feed.new) }
+    {
+        let read = feed.read(self.piece.as_mut_slice())?;
+        self.at = 0;
+        self.filled = read;
+        Ok(read)
+    }
+
+    /// Gives the window marker.
+    fn mark(&mut self) -> Item
+        ensures item { result ≡ I.Window }
+        ensures marked { IsMark self.old self.new }
+    {
+        self.stage = Stage::Marked;
+        Item::Window
+    }
+
+    /// Reads the line that is kept.
+    fn read_last(&mut self) -> Result<Given, NoMemory>
+        ensures given { IfOk result (λ given. as_given given
+            ≡ line_gives (attributes self.old.lines.columns.items) self.old.carry.items) }
+        ensures same { IfOk result (λ _. IsLast self.old self.new) }
+    {
+        self.lines.read(self.carry.as_slice())
+    }
+
+    /// No more lines come.
+    fn end(&mut self)
+        ensures { IsEnd self.old self.new }
+    {
+        self.stage = Stage::Ended;
+    }
+
+    /// Gives the last line, or the window marker where it gives nothing.
+    fn finish(&mut self) -> Result<Item, NoMemory>
+        requires reading { self.old.stage ≡ S.Reading }
+        requires empty { self.old.filled ≡ 0 }
+        requires short { too_long (length self.old.carry.items) (length self.old.carry.items)
+            self.old.left ≡ None }
+        ensures step { IfOk result (GaveItem self.old self.new) }
+        ensures coming { IfOk result (λ item. (s after : Option Script)
+            → IfSome s (λ s. s ≡ record { bytes = []; ending = End })
+            → Gives (to_come self.old s) item (to_come self.new after)) }
+        ensures whole { failed_next result ≡ false }
+    {
+        let line = self.line;
+        if length_of(&self.carry) == 0 {
+            return Ok(self.mark());
+        }
+        match self.read_last()? {
+            Given::Row(values) => {
+                self.end();
+                Ok(Item::Tuple(values))
+            }
+            Given::Nothing => Ok(self.mark()),
+            Given::Bad => {
+                if self.strict {
+                    Ok(self.stop(FaultKind::BadRow, line))
+                } else {
+                    Ok(self.mark())
+                }
+            }
+        }
+    }
+
+    /// Reads the next piece.
+    #[inline(never)]
+    fn fill<F: Feed>(&mut self, feed: &mut F) -> Result<Option<Item>, NoMemory>
+        requires reading { self.old.stage ≡ S.Reading }
+        requires none { list_any (λ b. b == 10) (take (self.old.filled - self.old.at)
+            (drop self.old.at self.old.piece.items)) ≡ false }
+        ensures step { IfOk result (Stepped self.old self.new) }
+        ensures coming { IfOk result (λ o. Moves (to_come self.old (F.script feed.old)) o
+            (to_come self.new (F.script feed.new))) }
+        ensures cause { Counted (failed_step result) (F.faults feed.old) (F.faults feed.new) }
+    {
+        self.keep_held()?;
+        let line = self.line;
+        let len = length_of(&self.carry);
+        if let Some(kind) = long_fault(len, len, self.left) {
+            return Ok(Some(self.stop(kind, line)));
+        }
+        match self.read_piece(feed) {
+            Ok(0) => Ok(Some(self.finish()?)),
+            Ok(_) => Ok(None),
+            Err(_) => Ok(Some(self.stop(FaultKind::ReadFailed, line))),
+        }
+    }
+
+    /// Gives the next line of the piece, or reads the next piece.
+    fn step<F: Feed>(&mut self, feed: &mut F) -> Result<Option<Item>, NoMemory>
+        requires { self.old.stage ≡ S.Reading }
+        ensures step { IfOk result (Stepped self.old self.new) }
+        ensures coming { IfOk result (λ o. Moves (to_come self.old (F.script feed.old)) o
+            (to_come self.new (F.script feed.new))) }
+        ensures cause { Counted (failed_step result) (F.faults feed.old) (F.faults feed.new) }
+    {
+        match feed_at(&self.piece, self.at, self.filled) {
+            Some(i) => self.end_line(i),
+            None => self.fill(feed),
+        }
+    }
+
+    /// Reads on to the next item.
+    fn read_on<F: Feed>(&mut self, feed: &mut F) -> Result<Item, NoMemory>
+        requires { self.old.stage ≡ S.Reading }
+        ensures step { IfOk result (GaveItem self.old self.new) }
+        ensures coming { IfOk result (λ item. Gives (to_come self.old (F.script feed.old)) item
+            (to_come self.new (F.script feed.new))) }
+        ensures cause { Counted (failed_next result) (F.faults feed.old) (F.faults feed.new) }
+    {
+        'steps: loop {
+            if let Some(item) = self.step(feed)? {
+                return Ok(item);
+            }
+        }
+    }
+
+    /// Gives the final marker.
+    fn close(&mut self) -> Item
+        ensures item { result ≡ I.Final }
+        ensures done { IsStop self.old self.new }
+    {
+        self.stage = Stage::Done;
+        Item::Final
+    }
+
+    /// The next item, as `Rows::next` gives it.
+    fn next_item<F: Feed>(&mut self, feed: &mut F) -> Result<Item, NoMemory>
+        requires { is_over self.old ≡ false }
+        ensures step { IfOk result (GaveItem self.old self.new) }
+        ensures coming { IfOk result (λ item. Gives (to_come self.old (F.script feed.old)) item
+            (to_come self.new (F.script feed.new))) }
+        ensures cause { Counted (failed_next result) (F.faults feed.old) (F.faults feed.new) }
+    {
+        match self.stage {
+            Stage::Reading => self.read_on(feed),
+            Stage::Ended => Ok(self.mark()),
+            Stage::Marked => Ok(self.close()),
+            Stage::Done => unreachable!(),
+        }
+    }
+
+    /// The next item. The feed is the one whose bytes were read so far. An `Err` leaves the source
+    /// spent.
+    pub fn next<F: Feed>(&mut self, feed: &mut F) -> Result<Item, NoMemory>
+        requires { is_over self.old ≡ false }
+        ensures coming { IfOk result (λ item. Gives (to_come self.old (F.script feed.old)) item
+            (to_come self.new (F.script feed.new))) }
+        ensures over { IfOk result (λ item. is_over self.new ≡ closes item) }
+        ensures has { IfOk result (λ item. (o : Setting) → IsFor self.old o → ItemHas o item) }
+        ensures kept { IfOk result (λ _. (o : Setting) → IsFor self.old o → IsFor self.new o) }
+        ensures fewer { IfOk result (λ _. most_left self.new < most_left self.old) }
+        ensures cause { Counted (failed_next result) (F.faults feed.old) (F.faults feed.new) }
+    {
+        self.next_item(feed)
+    }
+
+    /// Hands a tuple's list back, to be filled again, with the room of its texts.
+    pub fn give_back(&mut self, values: Values)
+        ensures coming { (s : Option Script) → to_come self.new s ≡ to_come self.old s }
+        ensures over { is_over self.new ≡ is_over self.old }
+        ensures left { most_left self.new ≡ most_left self.old }
+        ensures kept { (o : Setting) → IsFor self.old o → IsFor self.new o }
+    {
+        self.lines.give_back(values);
+    }
+}
