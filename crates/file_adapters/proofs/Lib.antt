@@ -4,7 +4,6 @@ pub mod Finishing
 pub mod FirstLine
 pub mod NumberLines
 pub mod NumberRows
-pub mod RowSteps
 pub mod SinkSteps
 pub mod Sinking
 pub mod Writing

@@ -2,9 +2,10 @@
 //! several sinks' files.
 #![tactic(auto)]
 
-mod row;
 mod sinks;
 mod source;
 
+pub use row_reader::{Rows, read_rows};
+pub use row_writer::{PutAnswer, RowWriter, write_rows};
 pub use sinks::{Sink, Sunk, write_sinks};
 pub use source::number_stream;

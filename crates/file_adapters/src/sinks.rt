@@ -10,8 +10,8 @@ ghost use Rattle.spl_value.specs.declared.item.Item.TheVariants as I;
 ghost use Rattle.file_adapters.specs.Sinks.{AreDistinct, EmptyBefore, FailedAs, SinksCount, SinksCounted, SinksWritten, sink_rows, stream_at};
 ghost use Rattle.file_adapters.specs.steps.Steps.{CreateCounted, CreatedCount, EachFinished, EachPoured, FinishCounted, RowsPoured, WriteFault, sunk_of};
 
-use crate::row::add_row;
 use feed_pour::{Failed, Opened, Pour, PourAnswer, Shelf, write_all};
+use row_writer::add_row;
 use spl_value::{Item, Items, Name, Values};
 use std::alloc::Global;
 
