@@ -1,0 +1,2 @@
+pub mod PortReplies
+pub mod Bodies

@@ -1,0 +1,64 @@
+//! What checked operators reply.
+ghost use Rattle.std.specs.Prelude.{◌≡◌, ◌<◌, Some, length, slice_get};
+ghost use Rattle.stream_model.specs.CheckedMeaning.{graph_of, operator_with};
+ghost use Rattle.stream_model.specs.Fitting.{IsFitting};
+ghost use Rattle.stream_model.specs.PathLaws.{fault_by};
+ghost use Rattle.port_reacts.specs.Bodies.{EndsBy};
+
+use crate::checked_operator::CheckedOperator;
+use crate::replies::on_each_port;
+use language_model::Checked;
+use spl_value::{Fault, FaultKind, Item};
+use std::alloc::Global;
+use stream_model::{Reply, fits_law};
+
+impl<'c> CheckedOperator<'c> {
+    /// The operator of the graph with this number. There is one.
+    pub fn new(checked: &'c Checked, number: u32) -> CheckedOperator<'c>
+        requires { number < length checked.now.graph.ops }
+        ensures checked { result.checked.now ≡ checked.now }
+        ensures number { result.number ≡ number }
+        ensures op { slice_get checked.now.graph.ops number ≡ Some result.op.now }
+        ensures part { slice_get checked.now.parts number ≡ Some result.part.now }
+        ensures in_graph { slice_get (graph_of checked.now).ops number
+            ≡ Some (operator_with checked.now number result.op.now result.part.now) }
+        ensures fitting { IsFitting (operator_with checked.now number result.op.now result.part.now) }
+    {
+        fits_law();
+        let at = number as usize;
+        let Some(op) = checked.graph.ops.get(at) else {
+            unreachable!()
+        };
+        let Some(part) = checked.parts.get(at) else {
+            unreachable!()
+        };
+        CheckedOperator {
+            checked,
+            number,
+            op,
+            part,
+        }
+    }
+
+    /// The end of the operator by a fault, which goes to each of its output ports.
+    pub fn ended_by(&self, alloc: Global, fault: Fault) -> Reply
+        ensures { EndsBy (length self.now.op.now.outs) fault result }
+    {
+        match on_each_port(alloc, self.op.outs.len(), &Item::Bad(fault)) {
+            Ok(outs) => Reply::Ended(outs, Some(fault)),
+            Err(_) => Reply::Memory,
+        }
+    }
+
+    /// The end of the operator by a fault of its own.
+    pub fn faulted(&self, alloc: Global, kind: FaultKind) -> Reply
+        ensures { EndsBy (length self.now.op.now.outs) (fault_by self.now.number kind) result }
+    {
+        let fault = Fault {
+            op: self.number,
+            kind,
+            line: 0,
+        };
+        self.ended_by(alloc, fault)
+    }
+}

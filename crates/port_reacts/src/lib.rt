@@ -1,0 +1,11 @@
+//! Operators by their ports: what an operator answers where the connections of its ports are counted
+//! apart from it.
+#![tactic(auto)]
+
+mod checked_operator;
+mod on_port;
+mod replies;
+
+pub use checked_operator::CheckedOperator;
+pub use on_port::OnPort;
+pub use replies::{MOST_TURNS, given_first, given_none, on_each_port};
