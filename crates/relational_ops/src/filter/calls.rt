@@ -1,0 +1,110 @@
+//! The calls of a Filter.
+ghost use Rattle.std.specs.Prelude.{◌≡◌, ◌<◌, [], Option, Some, IfOk, length, slice_get};
+ghost use Rattle.spl_value.specs.declared.item.Item.TheVariants as I;
+ghost use Rattle.spl_tree.specs.declared.code.Code.{Code};
+ghost use Rattle.spl_tree.specs.declared.code.Slot.{Slot};
+ghost use Rattle.language_model.specs.declared.checked.Part.TheVariants as A;
+ghost use Rattle.stream_model.specs.Bodies.{at_tuple, filter_body};
+ghost use Rattle.stream_model.specs.CheckedMeaning.{graph_of, operator_with};
+ghost use Rattle.stream_model.specs.React.{answer};
+ghost use Rattle.port_reacts.specs.Bodies.{RepliesTo, RepliesToItem};
+ghost use Rattle.relational_ops.specs.Idle.{idle};
+ghost use Rattle.relational_ops.specs.Fitting.{PassesFit, WhereTuple};
+
+use crate::filter::Filter;
+use crate::judging::{Judged, idle_env, judge};
+use language_model::{Checked, Env, Part};
+use port_reacts::{CheckedOperator, OnPort, given_first, given_none};
+use spl_tree::{Code, Functions, Slot};
+use spl_value::{Item, NoMemory, Values};
+use std::alloc::Global;
+use stream_model::{Reply, fits_law};
+
+/// A tuple passes where the condition holds for it.
+fn on_tuple(
+    alloc: Global,
+    at: &CheckedOperator<'_>,
+    functions: &Functions,
+    condition: &Option<Code<Slot>>,
+    env: &mut Env,
+    values: Values,
+) -> Reply
+    requires fit { PassesFit functions.now condition.now (at_tuple values) }
+    requires idle { env.old ≡ idle }
+    ensures replies { RepliesTo at.now.number (length at.now.op.now.outs)
+        (answer (filter_body functions.now condition.now (I.Tuple values))) result }
+    ensures idle { env.new ≡ env.old }
+{
+    let Some(condition) = condition else {
+        return given_first(alloc, Item::Tuple(values));
+    };
+    match judge(alloc, functions, condition, env, values) {
+        Judged::Held(true, values) => given_first(alloc, Item::Tuple(values)),
+        Judged::Held(false, _) => given_none(alloc),
+        Judged::Faulted(kind) => at.faulted(alloc, kind),
+        Judged::Memory => Reply::Memory,
+    }
+}
+
+/// What an item causes.
+fn on_item(
+    alloc: Global,
+    at: &CheckedOperator<'_>,
+    functions: &Functions,
+    condition: &Option<Code<Slot>>,
+    env: &mut Env,
+    item: Item,
+) -> Reply
+    requires fit { WhereTuple (λ vs. PassesFit functions.now condition.now (at_tuple vs)) item }
+    requires idle { env.old ≡ idle }
+    ensures replies { RepliesToItem at.now.number (length at.now.op.now.outs)
+        (answer (filter_body functions.now condition.now item)) item result }
+    ensures idle { env.new ≡ env.old }
+{
+    match item {
+        Item::Tuple(values) => on_tuple(alloc, at, functions, condition, env, values),
+        Item::Window => given_first(alloc, Item::Window),
+        Item::Final => given_none(alloc),
+        Item::Bad(fault) => at.ended_by(alloc, fault),
+    }
+}
+
+impl<'c> OnPort for Filter<'c> {
+    ghost spec = { λ s. operator_with s.at.checked.now s.at.number s.at.op.now s.at.part.now };
+
+    ghost stands = { λ s h. (s.at.part.now ≡ A.Filter s.condition.now) × (s.env ≡ idle) };
+
+    fn on_port(&mut self, port: u32, item: Item) -> Reply {
+        fits_law();
+        let checked = self.at.checked;
+        on_item(
+            self.alloc,
+            &self.at,
+            &checked.functions,
+            self.condition,
+            &mut self.env,
+            item,
+        )
+    }
+}
+
+impl<'c> Filter<'c> {
+    /// The Filter with this number. There is one.
+    pub fn new(alloc: Global, checked: &'c Checked, op: u32) -> Result<Filter<'c>, NoMemory>
+        requires there { op < length checked.now.graph.ops }
+        requires kind { (condition : Option (Code Slot)) × (slice_get checked.now.parts op ≡ Some (A.Filter condition)) }
+        ensures is { IfOk result (λ filter. slice_get (graph_of checked.now).ops op ≡ Some (⟦<Filter<'c> as OnPort>⟧.spec filter)) }
+        ensures begins { IfOk result (λ filter. ⟦<Filter<'c> as OnPort>⟧.stands filter []) }
+    {
+        let at = CheckedOperator::new(checked, op);
+        let Part::Filter { condition } = at.part else {
+            unreachable!()
+        };
+        Ok(Filter {
+            alloc,
+            at,
+            condition,
+            env: idle_env(alloc)?,
+        })
+    }
+}

@@ -1,0 +1,117 @@
+//! The calls of a Functor.
+ghost use Rattle.std.specs.Prelude.{◌≡◌, ◌<◌, [], Option, Some, IfOk, length, slice_get};
+ghost use Rattle.spl_value.specs.declared.item.Item.TheVariants as I;
+ghost use Rattle.spl_tree.specs.declared.code.Code.{Code};
+ghost use Rattle.spl_tree.specs.declared.code.Slot.{Slot};
+ghost use Rattle.language_model.specs.declared.checked.Part.TheVariants as A;
+ghost use Rattle.stream_model.specs.Bodies.{at_tuple, functor_body};
+ghost use Rattle.stream_model.specs.CheckedMeaning.{graph_of, operator_with};
+ghost use Rattle.stream_model.specs.React.{answer};
+ghost use Rattle.port_reacts.specs.Bodies.{RepliesTo, RepliesToItem};
+ghost use Rattle.relational_ops.specs.Idle.{idle};
+ghost use Rattle.relational_ops.specs.Fitting.{MakingFits, WhereTuple};
+
+use crate::functor::Functor;
+use crate::functor::making::{Mapped, map_tuple};
+use crate::judging::idle_env;
+use language_model::{Checked, Env, Part};
+use port_reacts::{CheckedOperator, OnPort, given_first, given_none};
+use spl_tree::{Code, Functions, Slot};
+use spl_value::{Item, NoMemory, Values};
+use std::alloc::Global;
+use stream_model::{Reply, fits_law};
+
+/// A tuple is made of one where the condition holds for it.
+fn on_tuple(
+    alloc: Global,
+    at: &CheckedOperator<'_>,
+    functions: &Functions,
+    condition: &Option<Code<Slot>>,
+    output: &Code<Slot>,
+    env: &mut Env,
+    values: Values,
+) -> Reply
+    requires fit { MakingFits functions.now condition.now output.now (at_tuple values) }
+    requires idle { env.old ≡ idle }
+    ensures replies { RepliesTo at.now.number (length at.now.op.now.outs)
+        (answer (functor_body functions.now condition.now output.now (I.Tuple values))) result }
+    ensures idle { env.new ≡ env.old }
+{
+    if env.inputs.push(values).is_err() {
+        return Reply::Memory;
+    }
+    let mapped = map_tuple(alloc, functions, condition, output, env);
+    env.inputs.clear();
+    match mapped {
+        Mapped::To(values) => given_first(alloc, Item::Tuple(values)),
+        Mapped::Dropped => given_none(alloc),
+        Mapped::Faulted(kind) => at.faulted(alloc, kind),
+        Mapped::Memory => Reply::Memory,
+    }
+}
+
+/// What an item causes.
+fn on_item(
+    alloc: Global,
+    at: &CheckedOperator<'_>,
+    functions: &Functions,
+    condition: &Option<Code<Slot>>,
+    output: &Code<Slot>,
+    env: &mut Env,
+    item: Item,
+) -> Reply
+    requires fit { WhereTuple (λ vs. MakingFits functions.now condition.now output.now (at_tuple vs)) item }
+    requires idle { env.old ≡ idle }
+    ensures replies { RepliesToItem at.now.number (length at.now.op.now.outs)
+        (answer (functor_body functions.now condition.now output.now item)) item result }
+    ensures idle { env.new ≡ env.old }
+{
+    match item {
+        Item::Tuple(values) => on_tuple(alloc, at, functions, condition, output, env, values),
+        Item::Window => given_first(alloc, Item::Window),
+        Item::Final => given_none(alloc),
+        Item::Bad(fault) => at.ended_by(alloc, fault),
+    }
+}
+
+impl<'c> OnPort for Functor<'c> {
+    ghost spec = { λ s. operator_with s.at.checked.now s.at.number s.at.op.now s.at.part.now };
+
+    ghost stands = { λ s h. (s.at.part.now ≡ A.Functor s.condition.now s.output.now) × (s.env ≡ idle) };
+
+    fn on_port(&mut self, port: u32, item: Item) -> Reply {
+        fits_law();
+        let checked = self.at.checked;
+        on_item(
+            self.alloc,
+            &self.at,
+            &checked.functions,
+            self.condition,
+            self.output,
+            &mut self.env,
+            item,
+        )
+    }
+}
+
+impl<'c> Functor<'c> {
+    /// The Functor with this number. There is one.
+    pub fn new(alloc: Global, checked: &'c Checked, op: u32) -> Result<Functor<'c>, NoMemory>
+        requires there { op < length checked.now.graph.ops }
+        requires kind { (condition : Option (Code Slot)) × (output : Code Slot) × (slice_get checked.now.parts op ≡ Some (A.Functor condition output)) }
+        ensures is { IfOk result (λ functor. slice_get (graph_of checked.now).ops op ≡ Some (⟦<Functor<'c> as OnPort>⟧.spec functor)) }
+        ensures begins { IfOk result (λ functor. ⟦<Functor<'c> as OnPort>⟧.stands functor []) }
+    {
+        let at = CheckedOperator::new(checked, op);
+        let Part::Functor { condition, output } = at.part else {
+            unreachable!()
+        };
+        Ok(Functor {
+            alloc,
+            at,
+            condition,
+            output,
+            env: idle_env(alloc)?,
+        })
+    }
+}

@@ -1,0 +1,94 @@
+//! The tuple that a Functor makes of one that came.
+ghost use Rattle.std.specs.Prelude.{◌≡◌};
+ghost use Rattle.spl_value.specs.declared.types.SplType.TheVariants as T;
+ghost use Rattle.language_model.specs.StreamTypes.{Attributes};
+ghost use Rattle.language_model.specs.WorldFits.{Fits};
+ghost use Rattle.stream_model.specs.Bodies.{made_where, most_turns, passes, tuple_by};
+ghost use Rattle.relational_ops.specs.Fitting.{PassesFit};
+ghost use Rattle.relational_ops.specs.steps.Evaluating.{IsMade, IsTruth};
+ghost use Rattle.relational_ops.specs.steps.Making.{MakesAs};
+
+use crate::evaluation::{Made, Truth, holds, tuple_into};
+use language_model::Env;
+use port_reacts::MOST_TURNS;
+use spl_tree::{Code, Functions, Slot};
+use spl_value::{FaultKind, Items, Values};
+use std::alloc::Global;
+
+/// What a Functor makes of a tuple.
+#[derive(Drop)]
+pub(crate) enum Mapped {
+    To(Values),
+    /// The condition doesn't hold.
+    Dropped,
+    Faulted(FaultKind),
+    /// There was no memory.
+    Memory,
+}
+
+/// Whether a condition holds, as an absent one does.
+fn passes(
+    alloc: Global,
+    functions: &Functions,
+    condition: &Option<Code<Slot>>,
+    env: &Env,
+    turns: &mut u32,
+) -> Truth
+    requires { PassesFit functions.now condition.now env.now }
+    ensures { IsTruth (passes functions.now condition.now env.now turns.old) result turns.new }
+{
+    match condition {
+        Some(condition) => holds(alloc, functions, condition, env, turns),
+        None => Truth::Is(true),
+    }
+}
+
+/// How many values the tuple of a code has.
+fn width(code: &Code<Slot>) -> usize {
+    match code {
+        Code::Tuple(fields) => fields.len(),
+        _ => 0,
+    }
+}
+
+/// The tuple of the code, made in a list of its length.
+fn made(
+    alloc: Global,
+    functions: &Functions,
+    output: &Code<Slot>,
+    env: &Env,
+    turns: &mut u32,
+) -> Made
+    requires { (schema : Attributes) × Fits functions.now output.now env.now (T.Tuple schema) }
+    ensures { IsMade (tuple_by functions.now output.now env.now turns.old) result turns.new }
+{
+    match Items::with_capacity(alloc, width(output)) {
+        Ok(room) => tuple_into(alloc, functions, output, env, turns, room),
+        Err(_) => Made::Memory,
+    }
+}
+
+/// What is made where the tuple has come: first the condition is evaluated, and then the output.
+pub(crate) fn map_tuple(
+    alloc: Global,
+    functions: &Functions,
+    condition: &Option<Code<Slot>>,
+    output: &Code<Slot>,
+    env: &Env,
+) -> Mapped
+    requires condition { PassesFit functions.now condition.now env.now }
+    requires output { (schema : Attributes) × Fits functions.now output.now env.now (T.Tuple schema) }
+    ensures { MakesAs (made_where functions.now condition.now output.now env.now most_turns) result }
+{
+    let mut turns = MOST_TURNS;
+    match passes(alloc, functions, condition, env, &mut turns) {
+        Truth::Is(true) => match made(alloc, functions, output, env, &mut turns) {
+            Made::Tuple(values) => Mapped::To(values),
+            Made::Bad(kind) => Mapped::Faulted(kind),
+            Made::Memory => Mapped::Memory,
+        },
+        Truth::Is(false) => Mapped::Dropped,
+        Truth::Bad(kind) => Mapped::Faulted(kind),
+        Truth::Memory => Mapped::Memory,
+    }
+}

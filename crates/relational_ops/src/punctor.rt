@@ -1,0 +1,19 @@
+//! The operator Punctor.
+mod calls;
+
+use language_model::{Env, Position};
+use port_reacts::CheckedOperator;
+use spl_tree::{Code, Slot};
+use std::alloc::Global;
+
+/// A Punctor: it passes tuples and window markers, and adds a window marker before or after each tuple
+/// for which its condition holds.
+#[derive(Drop)]
+pub struct Punctor<'c> {
+    pub(crate) alloc: Global,
+    pub(crate) at: CheckedOperator<'c>,
+    pub(crate) condition: &'c Code<Slot>,
+    pub(crate) position: Position,
+    /// It has no tuple between events.
+    pub(crate) env: Env,
+}

@@ -1,0 +1,18 @@
+//! The operator Split.
+mod calls;
+mod picking;
+
+use language_model::Env;
+use port_reacts::CheckedOperator;
+use spl_tree::{Code, Slot};
+use std::alloc::Global;
+
+/// A Split: it gives each tuple on the output port that its index picks, and window markers on each.
+#[derive(Drop)]
+pub struct Split<'c> {
+    pub(crate) alloc: Global,
+    pub(crate) at: CheckedOperator<'c>,
+    pub(crate) index: &'c Code<Slot>,
+    /// It has no tuple between events.
+    pub(crate) env: Env,
+}
