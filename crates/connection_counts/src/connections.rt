@@ -1,0 +1,26 @@
+//! The connections of an operator's ports.
+mod calls;
+
+use spl_value::Items;
+
+/// The connections of an operator's input ports, with a count of those that haven't ended.
+#[derive(Drop)]
+pub struct Connections {
+    /// The port of each input.
+    pub ports: Items<u32>,
+    /// How many connections of each port are open.
+    pub open: Items<usize>,
+    /// How many are open in all.
+    pub left: usize,
+}
+
+/// What the end of a connection ends besides.
+#[derive(Clone, Copy, Debug, PartialEq, Eq)]
+pub enum Closing {
+    /// Nothing: another connection of the port is open.
+    Waiting,
+    /// The port.
+    Port,
+    /// The last port that was open.
+    Operator,
+}
