@@ -1,7 +1,7 @@
 -- Whom the fault of a run names.
-use Rattle.std.proofs.Common.{◌≡◌, ℕ, zero, suc, ◌+◌, ◌<◌, ◌≤◌, ◌==◌, Bool, true, false, cond, if◌then◌else◌, List, [], ◌∷◌, ◌++◌, refl, sym, ap, subst, ◌∙◌, map, length, reverse, slice_get, Option, Some, None, is_some, position, inl, inr, arith}
-use Rattle.std.specs.Prelude.{⊤, ◌⊎◌}
-use Rattle.std.specs.List.{concat, cons_option, filter_map, list_any}
+use Rattle.std.proofs.Common.{◌≡◌, ℕ, zero, suc, ◌<◌, ◌==◌, Bool, true, false, cond, if◌then◌else◌, List, [], ◌∷◌, ◌++◌, refl, sym, ap, subst, ◌∙◌, map, length, reverse, slice_get, Option, Some, None, is_some, position, inl, inr, arith}
+use Rattle.std.specs.Prelude.{⊤}
+use Rattle.std.specs.List.{cons_option, filter_map, list_any}
 use Rattle.std.specs.Option.{option_and_then, option_map_or, option_or}
 use Rattle.std.proofs.lemmas.Bool.{or_parts}
 use Rattle.std.proofs.lemmas.List.{reverse-append}
@@ -12,16 +12,13 @@ use Rattle.spl_value.specs.declared.item.Item.TheVariants as I
 use Rattle.language_model.specs.declared.checked.Part.{Part}
 use Rattle.language_model.specs.declared.checked.Part.TheVariants as A
 use Rattle.language_model.specs.declared.outs.Output.{Output}
-use Rattle.language_model.specs.CheckedGraph.{CheckedGraph}
-use Rattle.language_model.specs.Keeping.{Keeps}
 use Rattle.stream_model.specs.Bodies.{on_each, output}
-use Rattle.stream_model.specs.CheckedMeaning.{graph_of}
-use Rattle.stream_model.specs.Ends.{end_fault, end_from, fault_of, first_fault, is_read, operator_fault, run_fault, stream_fault, unread_fault}
-use Rattle.stream_model.specs.Meaning.{Graph, Lists, Entries, Meaning, arrive, events_at, events_of, in_topo, lists_at, made_by, makes, meaning, streams_of, taking, with_list}
+use Rattle.stream_model.specs.Ends.{end_fault, end_from, fault_of, first_fault, is_read, operator_fault, stream_fault, unread_fault}
+use Rattle.stream_model.specs.Meaning.{Lists, Entries, Meaning, arrive, events_at, events_of, in_topo, lists_at, made_by, makes, meaning, streams_of, taking, with_list}
 use Rattle.stream_model.specs.Operators.{Operator, connections}
 use Rattle.stream_model.specs.PortEvents.{is_last, is_waiting}
 use Rattle.stream_model.specs.React.{Answer, Gives, Faults, answered, body, ended, own_fault, react}
-use Rattle.stream_model.specs.Stages.{Stage, gives_all, next, on_port, out, start}
+use Rattle.stream_model.specs.Stages.{gives_all, next, on_port, out, start}
 use Rattle.stream_model.specs.Stream.{Event, came, closes, is_fault}
 use Rattle.stream_model.proofs.Closings.{end_item_law}
 use Rattle.stream_model.proofs.Graphs.{events_law}

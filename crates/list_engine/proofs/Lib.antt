@@ -18,3 +18,4 @@ pub mod Looping
 pub mod Running
 pub mod Sinks
 pub mod FaultNames
+pub mod Chained

@@ -1,5 +1,5 @@
 -- What a sink gives its writer.
-use Rattle.std.proofs.Common.{◌≡◌, ℕ, zero, suc, ◌+◌, ◌==◌, ◌&&◌, Bool, true, false, cond, if◌then◌else◌, List, [], ◌∷◌, ◌++◌, refl, sym, ap, subst, ◌∙◌, length, slice_get, Some, is_some, arith}
+use Rattle.std.proofs.Common.{◌≡◌, ℕ, ◌+◌, ◌==◌, Bool, true, false, cond, if◌then◌else◌, List, [], ◌∷◌, ◌++◌, refl, sym, ap, subst, ◌∙◌, length, is_some, arith}
 use Rattle.std.specs.List.{count_by, list_all}
 use Rattle.std.proofs.lemmas.Bool.{and_from, and_parts}
 use Rattle.std.proofs.lemmas.List.{nil_from_length}
@@ -7,18 +7,13 @@ use Rattle.std.proofs.lemmas.List.Folds.{list_all-append}
 use Rattle.std.proofs.lemmas.List.Sums.{sum_by-cons}
 use Rattle.spl_value.specs.declared.item.Item.{Item}
 use Rattle.spl_value.specs.declared.item.Item.TheVariants as I
-use Rattle.language_model.specs.declared.checked.Part.{Part}
 use Rattle.language_model.specs.declared.checked.Part.TheVariants as A
 use Rattle.language_model.specs.declared.outs.Output.{Output}
-use Rattle.language_model.specs.CheckedGraph.{CheckedGraph}
-use Rattle.language_model.specs.Keeping.{Keeps}
-use Rattle.language_model.specs.Outcomes.{Done, Faulted, Stuck}
-use Rattle.stream_model.specs.Bodies.{Makes, on_each, sink_body}
-use Rattle.stream_model.specs.CheckedMeaning.{graph_of}
+use Rattle.stream_model.specs.Bodies.{on_each, sink_body}
 use Rattle.stream_model.specs.Operators.{Operator, port_at, ports}
 use Rattle.stream_model.specs.PortEvents.{is_last, is_waiting, port_events}
 use Rattle.stream_model.specs.React.{Answer, Gives, Faults, answer, answered, body, ended, makes_by, own_fault, react}
-use Rattle.stream_model.specs.Stages.{Stage, gives, gives_all, next, on_port, out, start}
+use Rattle.stream_model.specs.Stages.{gives_all, next, on_port, out, start}
 use Rattle.stream_model.specs.Stream.{Event, is_fault, is_tuple}
 use Rattle.list_engine.specs.RunLaws.{SinkLaw}
 use Rattle.list_engine.proofs.GraphOperators.{operator_at}

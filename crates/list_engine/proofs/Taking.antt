@@ -1,6 +1,6 @@
 -- What an operator has given after one event more.
 use Rattle.std.proofs.Common.{◌≡◌, ℕ, suc, ◌<◌, ◌≤◌, Bool, true, false, cond, if◌then◌else◌, List, [], ◌∷◌, ◌++◌, append_assoc, append-nil, map, refl, sym, ap, subst, ◌∙◌, length, reverse, slice_get, Option, Some, None, is_some, inl, inr, arith}
-use Rattle.std.specs.Prelude.{slice_set, ◌⊎◌}
+use Rattle.std.specs.Prelude.{slice_set, ◌⊎◌, IfOk, Result, Ok, Err}
 use Rattle.std.proofs.lemmas.Bool.{cases_eq, eq-eqb, ne_eqb}
 use Rattle.std.proofs.lemmas.List.{reverse-append}
 use Rattle.std.proofs.lemmas.Option.{slice_get_within}
@@ -199,3 +199,8 @@ module _ {S : Type 0} (spec : S → Operator) (stands : S → List Event → Typ
 pub still_live : (standing : Standing) → ((fault : Option Fault) → standing ≡ Ended fault → ⊥) → standing ≡ Live
 still_live Live h = refl
 still_live (Ended fault) h = absurd (h fault refl)
+
+-- what follows of what holds where there was memory
+pub ok_then : {T E : Type 0} → (P Q : Type 0) (r : Result T E) → (P → Q) → IfOk r (λ x. P) → IfOk r (λ x. Q)
+ok_then P Q (Ok x) f h = f h
+ok_then P Q (Err e) f h = tt

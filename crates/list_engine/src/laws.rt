@@ -1,4 +1,10 @@
 //! What holds of runs.
+ghost use Rattle.std.specs.Prelude.{◌≡◌, []};
+ghost use Rattle.language_model.specs.Keeping.{Keeps};
+ghost use Rattle.stream_model.specs.CheckedMeaning.{graph_of};
+ghost use Rattle.stream_model.specs.Operators.{Operator};
+ghost use Rattle.list_engine.specs.Runs.{AreOperators, RowsFit};
+ghost use Rattle.list_engine.specs.examples.Chain.{chain, chain_graph, chain_operators, chain_rows};
 ghost use Rattle.list_engine.specs.RunLaws.{OrderedLaw, SinkLaw, FaultNamesLaw};
 
 /// The graph of operators of a checked graph is ordered, and its operators are numbered by their places, so
@@ -8,4 +14,13 @@ pub fn engine_law()
     ensures ordered { OrderedLaw }
     ensures sinks { SinkLaw }
     ensures fault_names { FaultNamesLaw }
+{}
+
+/// A worked graph, of a source, two filters and two sinks, keeps what a checked graph has to keep. Its
+/// operators are fresh, and its source has rows that fit.
+pub fn runs_on_literals()
+    ensures keeps { Keeps chain }
+    ensures graph { graph_of chain ≡ chain_graph }
+    ensures operators { AreOperators (λ (o : Operator). o) (λ o h. h ≡ []) chain_graph chain_operators }
+    ensures rows { RowsFit chain_graph chain_rows }
 {}

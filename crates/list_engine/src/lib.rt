@@ -11,5 +11,5 @@ mod readers;
 mod run;
 mod state;
 
-pub use laws::engine_law;
+pub use laws::{engine_law, runs_on_literals};
 pub use run::{Run, run_lists};

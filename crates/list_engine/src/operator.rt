@@ -37,14 +37,28 @@ fn add_output(output: Output, outs: &mut Items<Items<Item>>) -> Result<(), NoMem
     Ok(())
 }
 
+/// Adds items, each on its port.
+fn add_all(outputs: Items<Output>, outs: &mut Items<Items<Item>>) -> Result<(), NoMemory>
+    ensures { IfOk result (λ _. Adds outputs outs.old outs.new) }
+{
+    for output in outputs.into_vec() {
+        add_output(output, outs)?;
+    }
+    Ok(())
+}
+
 /// Adds what an event causes, each item on its port.
 fn add_outputs(caused: Outs, outs: &mut Items<Items<Item>>) -> Result<(), NoMemory>
     ensures { IfOk result (λ _. Adds caused outs.old outs.new) }
 {
-    for output in caused.into_vec() {
-        add_output(output, outs)?;
+    let (first, rest) = caused.into_parts();
+    match first {
+        None => add_all(rest, outs),
+        Some(output) => {
+            add_output(output, outs)?;
+            add_all(rest, outs)
+        }
     }
-    Ok(())
 }
 
 /// Records the input of an event, where that is wanted.

@@ -1,16 +1,13 @@
-use Rattle.std.proofs.Common.{◌∙◌, ap, sym, ◌++◌, ◌∷◌, [], append_assoc, arith, length}
-use Rattle.std.specs.Vec.Iter.{into_iter_items}
-use Rattle.list_engine.proofs.Taking.{adds_more}
+use Rattle.std.proofs.Common.{◌∙◌, [], ◌∷◌, ◌++◌, ap, sym, subst}
+use Rattle.std.specs.Option.{option_to_list}
+use Rattle.list_engine.specs.steps.Taking.{Adds}
+use Rattle.list_engine.proofs.Taking.{adds_more, ok_then}
 use Rattle.list_engine.proofs.operator.add_outputs.Goals as goal
 
-pub loop-output-preserved : goal.loop-output-preserved
-loop-output-preserved c =
-    let before = c.loop-output.invariant.0 in
-    let step = c.in-Some.ensures.steps in (
-      (
-        before.0 ++ c.in-Some.output ∷ [],
-        before.1 ∙ ap (λ xs. before.0 ++ xs) step.0 ∙ sym (append_assoc before.0 (c.in-Some.output ∷ []) (into_iter_items c.next.new.self)),
-        adds_more before.0 (c.in-Some.output ∷ []) c.args.outs.now c.loop-output.outs c.add_output.new.outs before.2 c.in_ok-add_output.ensures,
-      ),
-      (let was = c.loop-output.invariant.1 in let one = ap length step.0 in let less = step.1 in omega (arith, was, one, less)),
-    )
+pub returns-in_ok-add_output-in-Some : goal.returns-in_ok-add_output-in-Some
+returns-in_ok-add_output-in-Some c =
+    let rest = c.into_parts-first.result.1 in
+    ok_then (Adds rest c.add_output.new.outs c.add_all-in-Some.new.outs) (Adds c.args.caused c.args.outs.now c.add_all-in-Some.new.outs) c.add_all-in-Some.result
+    (λ added. subst (λ outputs. Adds outputs c.args.outs.now c.add_all-in-Some.new.outs) (ap (λ first. option_to_list first ++ rest) (sym c.in-Some.is) ∙ c.into_parts-first.ensures.all)
+    (adds_more (c.in-Some.output ∷ []) rest c.args.outs.now c.add_output.new.outs c.add_all-in-Some.new.outs c.in_ok-add_output-in-Some.ensures added))
+    c.add_all-in-Some.ensures
