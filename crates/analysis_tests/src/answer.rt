@@ -1,0 +1,167 @@
+//! What the analyses say of programs.
+ghost use Rattle.std.specs.Prelude.{◌≡◌, ◌<◌, ◌≤◌, length, IfOk};
+ghost use Rattle.stream_model.specs.CheckedMeaning.{graph_of};
+ghost use Rattle.stream_model.specs.Meaning.{Graph};
+ghost use Rattle.attribute_flow.specs.Chains.{AreNumbers};
+ghost use Rattle.analysis_tests.specs.Below.{AreBelow};
+
+use crate::shells::SHELLS;
+use attribute_flow::{source_of, trace};
+use clause_rules::check;
+use composite_expand::expand;
+use language_model::Checked;
+use selectivity_rules::gives;
+use spl_lexer::lex;
+use spl_tree::{Tokens, Unit};
+use spl_value::{Ids, Items};
+use state_analysis::state_of;
+use std::alloc::{AllocError, Global};
+use stream_model::{Gives, StateKind};
+use test_texts::rows::Answers;
+use test_texts::shells::program;
+use unit_parser::parse_unit;
+
+/// What is asked of a program.
+#[derive(Clone, Copy)]
+pub(crate) enum Asked {
+    /// The class, the state and the sources of its last operator: `One; Keyed 0 2; 0 -`.
+    Operator,
+    /// The sources along the chain of its operators but the first: `0 -`.
+    Chain,
+}
+
+impl Answers for Asked {
+    fn answer(&self, alloc: Global, text: &str) -> Result<String, AllocError> {
+        let program = program(alloc, SHELLS, text)?;
+        answered(alloc, program.as_str().as_bytes(), *self)
+    }
+}
+
+fn class_text(class: Gives) -> &'static str {
+    match class {
+        Gives::One => "One;",
+        Gives::AtMostOne => "AtMostOne;",
+        Gives::Many => "Many;",
+    }
+}
+
+fn add_state(text: &mut String, state: &StateKind) -> Result<(), AllocError> {
+    match state {
+        StateKind::Stateless => text.push_str(" Stateless;"),
+        StateKind::Whole => text.push_str(" Whole;"),
+        StateKind::Keyed(places) => {
+            text.push_str(" Keyed")?;
+            for place in places.as_slice() {
+                write!(text, " {place}")?;
+            }
+            text.push_str(";")
+        }
+    }
+}
+
+fn add_source(text: &mut String, source: Option<u32>) -> Result<(), AllocError> {
+    match source {
+        Some(place) => write!(text, " {place}"),
+        None => text.push_str(" -"),
+    }
+}
+
+/// How many attributes the first output of an operator has.
+fn width_of(checked: &Checked, op: u32) -> u32 {
+    let Some(op) = checked.graph.ops.get(op as usize) else {
+        return 0;
+    };
+    let Some(stream) = op.outs.get(0) else {
+        return 0;
+    };
+    match checked.schemas.get(*stream as usize) {
+        Some(schema) => u32::try_from(schema.len()).unwrap_or(0),
+        None => 0,
+    }
+}
+
+fn operator_text(alloc: Global, checked: &Checked, op: u32) -> Result<String, AllocError>
+    requires { op < length checked.now.parts }
+{
+    let mut text = class_text(gives(checked, op)).to_string(alloc)?;
+    match state_of(alloc, checked, op) {
+        Ok(state) => add_state(&mut text, &state)?,
+        Err(_) => text.push_str(" memory;")?,
+    }
+    for attribute in 0..width_of(checked, op) {
+        add_source(&mut text, source_of(checked, op, attribute))?;
+    }
+    Ok(text)
+}
+
+fn chain_text(
+    alloc: Global,
+    checked: &Checked,
+    chain: &Ids,
+    width: u32,
+) -> Result<String, AllocError>
+    requires { (g : Graph) → graph_of checked.now ≡ g → AreNumbers g chain.now }
+{
+    let mut text = "chain".to_string(alloc)?;
+    for attribute in 0..width {
+        add_source(&mut text, trace(checked, chain, attribute))?;
+    }
+    Ok(text)
+}
+
+/// The numbers from 1 to below that one.
+fn numbers_below(alloc: Global, count: u32) -> Result<Ids, AllocError>
+    ensures { IfOk result (λ chain. AreBelow count chain) }
+{
+    let mut numbers = Vec::new(alloc);
+    for number in 1..count {
+        numbers.push(number)?;
+    }
+    Ok(Items::from_vec(numbers))
+}
+
+fn shown(alloc: Global, checked: &Checked, asked: Asked) -> Result<String, AllocError> {
+    let Ok(count) = u32::try_from(checked.parts.len()) else {
+        return "many operators".to_string(alloc);
+    };
+    let Some(last) = count.checked_sub(1) else {
+        return "no operator".to_string(alloc);
+    };
+    match asked {
+        Asked::Operator => operator_text(alloc, checked, last),
+        Asked::Chain => {
+            let chain = numbers_below(alloc, count)?;
+            chain_text(alloc, checked, &chain, width_of(checked, last))
+        }
+    }
+}
+
+fn expanded(alloc: Global, unit: &Unit, asked: Asked) -> Result<String, AllocError> {
+    let names = Items::new(alloc);
+    let Ok(graph) = expand(alloc, unit, &names) else {
+        return "no graph".to_string(alloc);
+    };
+    match check(alloc, unit, graph) {
+        Ok(checked) => shown(alloc, &checked, asked),
+        Err(_) => "refused".to_string(alloc),
+    }
+}
+
+fn parsed(alloc: Global, tokens: &Tokens, asked: Asked) -> Result<String, AllocError>
+    requires { length tokens.now.list ≤ 1048576 }
+{
+    match parse_unit(alloc, tokens) {
+        Ok(unit) => expanded(alloc, &unit, asked),
+        Err(_) => "no tree".to_string(alloc),
+    }
+}
+
+fn answered(alloc: Global, program: &[u8], asked: Asked) -> Result<String, AllocError> {
+    let Ok(tokens) = lex(alloc, program) else {
+        return "no tokens".to_string(alloc);
+    };
+    if tokens.list.len() > 1_048_576 {
+        return "too many tokens".to_string(alloc);
+    }
+    parsed(alloc, &tokens, asked)
+}

@@ -1,0 +1,10 @@
+//! What operators keep, copy and cause by their clauses, against answers that were worked out by hand from
+//! the rules.
+#![tactic(auto)]
+
+#[cfg(test)]
+mod answer;
+#[cfg(test)]
+mod shells;
+#[cfg(test)]
+mod tables;
