@@ -1,0 +1,19 @@
+//! The operator Custom.
+mod calls;
+mod first;
+mod running;
+
+use language_model::{Env, Handlers};
+use port_reacts::CheckedOperator;
+use std::alloc::Global;
+
+/// A Custom: it runs the body of a port for each tuple on the port, and another for window markers and
+/// for the end of the port, and gives what these submit. Its state is its variables.
+#[derive(Drop)]
+pub struct Custom<'c> {
+    pub(crate) alloc: Global,
+    pub(crate) at: CheckedOperator<'c>,
+    pub(crate) handlers: &'c Handlers,
+    /// The variables of the state. It has neither tuple nor marker between events.
+    pub(crate) env: Env,
+}

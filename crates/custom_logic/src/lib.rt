@@ -1,0 +1,6 @@
+//! The operator Custom, whose state is its variables.
+#![tactic(auto)]
+
+mod custom;
+
+pub use custom::Custom;
