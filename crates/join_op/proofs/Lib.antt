@@ -1,0 +1,6 @@
+pub mod Answering
+pub mod Comings
+pub mod Contents
+pub mod Joining
+pub mod PairEnvs
+pub mod PairSteps

@@ -1,0 +1,4 @@
+pub mod Fitting
+pub mod Pairs
+pub mod Sides
+pub mod steps

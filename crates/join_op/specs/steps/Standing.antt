@@ -1,0 +1,20 @@
+-- What an item leaves in a window and in the environment of pairs.
+use Rattle.std.specs.Prelude.{⊤, List, [], ◌∷◌}
+use Rattle.spl_value.specs.declared.item.Item.{Item}
+use Rattle.spl_value.specs.declared.item.Item.TheVariants as I
+use Rattle.stream_model.specs.declared.reply.Reply.{Reply}
+use Rattle.stream_model.specs.declared.reply.Reply.TheVariants as R
+use Rattle.stream_model.specs.Windows.{WindowEvent, Insert, Mark}
+
+-- the operator goes on with this
+abbrev pub WhereOut : Reply → Type 0 → Type 0
+WhereOut (R.Out outs) p = p
+WhereOut (R.Ended outs fault) p = ⊤
+WhereOut R.Memory p = ⊤
+
+-- an item comes into a window with one key
+abbrev pub behind : Item → List WindowEvent → List WindowEvent
+behind (I.Tuple t) h = Insert [] t ∷ h
+behind I.Window h = Mark ∷ h
+behind I.Final h = h
+behind (I.Bad f) h = h
