@@ -13,3 +13,5 @@ mod reports;
 mod shelves;
 #[cfg(test)]
 mod shown;
+#[cfg(test)]
+mod source_rows;
