@@ -1,6 +1,6 @@
 -- Lines cut at their commas.
 use Rattle.std.specs.Prelude.{not}
-use Rattle.std.proofs.Common.{◌≡◌, ◌==◌, ◌++◌, ◌∷◌, ◌∙◌, ◌+◌, ◌-◌, ◌<◌, ◌≤◌, [], ℕ, zero, suc, List, Bool, true, false, Option, Some, None, refl, sym, ap, subst, inl, inr, take, drop, length, length-drop, get_or, slice_index, append_assoc, drop-cons, add-one, arith, map}
+use Rattle.std.proofs.Common.{◌≡◌, ◌==◌, ◌++◌, ◌∷◌, ◌∙◌, ◌+◌, ◌-◌, ◌<◌, ◌≤◌, [], ℕ, zero, suc, List, Bool, true, false, Option, Some, None, refl, sym, ap, subst, take, drop, length, length-drop, get_or, append_assoc, drop-cons, add-one, arith}
 use Rattle.std.specs.List.{list_any}
 use Rattle.std.proofs.lemmas.List.{append-nil, drop_all, take-append-drop, take_all, length-map}
 use Rattle.std.proofs.lemmas.List.Folds.{list_any-append, list_any_more}
@@ -9,7 +9,7 @@ use Rattle.spl_value.specs.declared.types.Named.{Named}
 use Rattle.spl_value.specs.declared.types.SplType.{SplType}
 use Rattle.spl_value.specs.declared.value.Value.{Value}
 use Rattle.stream_model.specs.Fields.{field_value, in_front, tuple_of}
-use Rattle.stream_model.specs.Rows.{Given, Row, Bad, fitting, line_gives}
+use Rattle.stream_model.specs.Rows.{Row, fitting, line_gives}
 use Rattle.stream_model.proofs.PlainLines.{is_mark, split, may_be_marked, plain_line}
 use Rattle.row_reader.specs.declared.columns.Column.{Column}
 use Rattle.row_reader.specs.steps.Adding.{Added}

@@ -1,7 +1,7 @@
 -- Values of fields behind others.
 use Rattle.std.specs.Prelude.{◌&&◌, ◌-◌, ◌^◌, ◌≤◌, IsTrue, codes, if◌then◌else◌, negsuc, option_map, pos, unsigned_abs}
 use Rattle.std.specs.Int.{w128}
-use Rattle.std.proofs.Common.{◌≡◌, ◌∙◌, ◌++◌, ◌∷◌, [], ℕ, ℤ, Bool, true, false, List, map, Option, Some, None, refl, sym, ap, subst, inl, inr, arith, lit≤, of_z, to_z}
+use Rattle.std.proofs.Common.{◌≡◌, ◌∙◌, ◌++◌, ◌∷◌, [], ℕ, ℤ, Bool, true, false, List, Option, Some, None, refl, sym, ap, subst, inl, inr, arith, lit≤, of_z, to_z}
 use Rattle.std.specs.Str.{bytes_eq}
 use Rattle.std.proofs.lemmas.Bool.{cases_Bool, ltb-true}
 use Rattle.std.proofs.lemmas.Int.{fits_signed_from_abs, to_z-of_z}
@@ -10,7 +10,6 @@ use Rattle.spl_value.specs.Values.{fits, kind_holds, modulus, top, tuple_fits}
 use Rattle.spl_value.proofs.FitsLaws.{fits_bool, fits_int, fits_text}
 use Rattle.spl_value.specs.declared.types.IntKind.{IntKind}
 use Rattle.spl_value.specs.declared.types.IntKind.TheVariants.{I8, I16, I32, I64, U8, U16, U32, U64}
-use Rattle.spl_value.specs.declared.types.SplType.{SplType}
 use Rattle.spl_value.specs.declared.types.SplType.TheVariants as T
 use Rattle.spl_value.specs.declared.value.Value.{Value}
 use Rattle.spl_value.specs.declared.value.Value.TheVariants as V

@@ -1,5 +1,5 @@
 -- The items that a source gave so far.
-use Rattle.std.proofs.Common.{◌≡◌, ◌++◌, ◌∷◌, ◌∙◌, [], ℕ, List, Bool, true, false, Option, Some, None, refl, sym, ap, subst, append_assoc, arith, get_or, length, ◌<◌}
+use Rattle.std.proofs.Common.{◌≡◌, ◌++◌, ◌∷◌, ◌∙◌, [], List, Bool, true, false, Option, Some, None, refl, sym, ap, subst, append_assoc, arith, get_or, length}
 use Rattle.std.specs.Prelude.{IfSome, ◌||◌, if◌then◌else◌, ⊤}
 use Rattle.std.specs.List.{All, list_any}
 use Rattle.std.proofs.lemmas.List.{append-nil}
@@ -8,12 +8,12 @@ use Rattle.std.proofs.lemmas.List.Elements.{All-head, All-push, All-tail}
 use Rattle.spl_value.specs.Script.{Script}
 use Rattle.spl_value.specs.declared.item.Item.{Item}
 use Rattle.spl_value.specs.declared.item.Item.TheVariants as I
-use Rattle.stream_model.specs.Rows.{Setting, rows}
+use Rattle.stream_model.specs.Rows.{Setting}
 use Rattle.stream_model.specs.Stream.{TuplesFit, any_closes, closes, is_closed, is_empty}
 use Rattle.row_reader.specs.declared.rows.Rows.{Rows}
 use Rattle.row_reader.specs.declared.rows.Stage.{Stage}
 use Rattle.row_reader.specs.declared.rows.Stage.TheVariants as S
-use Rattle.row_reader.specs.Reading.{Gives, ItemHas, NamesOperator, by_stage, is_done, is_over, is_read_fault, to_come}
+use Rattle.row_reader.specs.Reading.{Gives, ItemHas, NamesOperator, is_done, is_over, is_read_fault, to_come}
 
 -- these items were given of what was to come, and the rest is to come
 abbrev pub Gathered : Option (List Item) → List Item → Option (List Item) → Type 0

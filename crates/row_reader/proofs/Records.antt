@@ -1,6 +1,6 @@
 -- The first record of a text, and what a line gives by it.
-use Rattle.std.specs.Prelude.{◌&&◌, ◌||◌, if◌then◌else◌, min, nat_le, nat_lt, ⊤}
-use Rattle.std.proofs.Common.{◌≡◌, ◌==◌, ◌++◌, ◌∷◌, ◌∙◌, ◌+◌, ◌-◌, ◌<◌, ◌≤◌, ◌⊎◌, [], ℕ, zero, suc, List, Bool, true, false, Option, Some, None, refl, sym, ap, subst, inl, inr, take, drop, length, get_or, slice_index, append_assoc, drop-cons, add-one, get_or-drop, length-drop, arith}
+use Rattle.std.specs.Prelude.{◌&&◌, if◌then◌else◌, min, nat_le, nat_lt, ⊤}
+use Rattle.std.proofs.Common.{◌≡◌, ◌==◌, ◌++◌, ◌∷◌, ◌∙◌, ◌+◌, ◌-◌, ◌<◌, ◌≤◌, ◌⊎◌, [], ℕ, suc, List, Bool, true, false, Option, Some, None, refl, sym, ap, subst, inl, inr, take, drop, length, get_or, slice_index, append_assoc, drop-cons, add-one, get_or-drop, length-drop, arith}
 use Rattle.std.specs.List.{list_any}
 use Rattle.std.proofs.lemmas.List.{append-nil, drop-drop, drop_all, take-append-drop, take_more}
 use Rattle.std.proofs.lemmas.Bool.{and_parts, cases_Bool, eqb-true, le-leb, le-ltb, lt-ltb, ltb-false, ltb-true, ne_eqb, or_parts}
@@ -16,7 +16,7 @@ use Rattle.spl_value.specs.declared.types.Named.{Named}
 use Rattle.spl_value.specs.declared.types.SplType.{SplType}
 use Rattle.spl_value.specs.declared.value.Value.{Value}
 use Rattle.stream_model.specs.Fields.{field_value, in_front, tuple_of}
-use Rattle.stream_model.specs.Rows.{Given, Row, Nothing, Bad, fitting, of_records}
+use Rattle.stream_model.specs.Rows.{Row, Nothing, Bad, fitting, of_records}
 use Rattle.row_reader.specs.declared.columns.Column.{Column}
 use Rattle.row_reader.specs.declared.columns.Column.TheVariants as C
 use Rattle.row_reader.specs.steps.Adding.{Added}

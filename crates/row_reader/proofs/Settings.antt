@@ -1,7 +1,7 @@
 -- A source made for a schema reads the columns of its types.
-use Rattle.std.specs.Prelude.{◌&&◌, IsTrue, if◌then◌else◌}
-use Rattle.std.proofs.Common.{◌≡◌, ◌++◌, ◌∷◌, ◌∙◌, ◌+◌, ◌-◌, [], ℕ, List, Bool, Option, Some, None, drop, map, length, take, refl, sym, ap, subst}
-use Rattle.spl_value.specs.Script.{Ending, End, Failed, Script}
+use Rattle.std.specs.Prelude.{◌&&◌, if◌then◌else◌}
+use Rattle.std.proofs.Common.{◌≡◌, ◌++◌, ◌∷◌, ◌∙◌, ◌+◌, ◌-◌, [], ℕ, List, Bool, Option, Some, None, drop, map, length, take, refl, sym, ap}
+use Rattle.spl_value.specs.Script.{Ending, End, Failed}
 use Rattle.spl_value.specs.Values.{fits, tuple_fits}
 use Rattle.spl_value.specs.declared.item.Item.{Item}
 use Rattle.spl_value.specs.declared.item.Item.TheVariants as I
@@ -9,18 +9,15 @@ use Rattle.spl_value.specs.declared.item.FaultKind.{FaultKind}
 use Rattle.spl_value.specs.declared.item.FaultKind.TheVariants as K
 use Rattle.spl_value.specs.declared.types.Named.{Named}
 use Rattle.spl_value.specs.declared.types.SplType.{SplType}
-use Rattle.spl_value.specs.declared.types.SplType.TheVariants as T
 use Rattle.spl_value.specs.declared.value.Value.{Value}
-use Rattle.spl_value.specs.declared.value.Value.TheVariants as V
 use Rattle.spl_value.proofs.FitsLaws.{fits_tuple}
 use Rattle.csv.specs.Reading.{default_config, records, strip_bom}
 use Rattle.stream_model.specs.Fields.{field_value, in_front, tuple_of}
-use Rattle.stream_model.specs.Rows.{Bad, Given, Nothing, Row, Setting, checked_items, closing, cut_short, fitting, items_from, last_items, line_gives, line_items, of_records, pieces, source_fault, too_long}
+use Rattle.stream_model.specs.Rows.{Bad, Given, Nothing, Row, Setting, checked_items, closing, cut_short, fitting, items_from, last_items, line_gives, line_items, of_records, pieces, too_long}
 use Rattle.row_reader.specs.declared.columns.Column.{Column}
 use Rattle.row_reader.specs.declared.rows.Rows.{Rows}
-use Rattle.row_reader.specs.Columns.{attribute, attributes, type_of}
+use Rattle.row_reader.specs.Columns.{attributes, type_of}
 use Rattle.row_reader.specs.Reading.{IsFor, ItemHas, setting, setting_of}
-use Rattle.row_reader.specs.steps.Steps.{GaveItem}
 
 abbrev pub kinds : List (Named SplType) → List SplType
 kinds schema = map (λ a. a.kind) schema

@@ -1,34 +1,31 @@
 -- Steps of reading a source.
 use Rattle.std.specs.Prelude.{IfSome, IsTrue, option_map}
-use Rattle.std.proofs.Common.{◌≡◌, ◌==◌, ◌++◌, ◌∷◌, ◌∙◌, ◌≤◌, ◌<◌, ◌+◌, ◌-◌, [], ℕ, List, Bool, Option, Some, None, Ok, Err, refl, sym, ap, subst, true, false, length, take, drop, length-take, append_assoc, arith}
-use Rattle.std.specs.List.{list_any}
+use Rattle.std.proofs.Common.{◌≡◌, ◌++◌, ◌∷◌, ◌∙◌, ◌≤◌, ◌<◌, ◌+◌, ◌-◌, [], ℕ, List, Option, Some, None, Ok, Err, refl, sym, ap, subst, true, false, length, take, drop, length-take, append_assoc, arith}
 use Rattle.std.proofs.lemmas.List.{append-nil}
-use Rattle.spl_value.specs.Script.{Ending, End, Failed, Script}
-use Rattle.spl_value.specs.Values.{fits, tuple_fits}
+use Rattle.spl_value.specs.Script.{End, Failed, Script}
+use Rattle.spl_value.specs.Values.{tuple_fits}
 use Rattle.spl_value.specs.declared.item.Item.{Item}
 use Rattle.spl_value.specs.declared.item.Item.TheVariants as I
 use Rattle.spl_value.specs.declared.item.FaultKind.{FaultKind}
 use Rattle.spl_value.specs.declared.item.FaultKind.TheVariants as K
-use Rattle.spl_value.specs.declared.types.SplType.TheVariants as T
 use Rattle.spl_value.specs.declared.value.Value.{Value}
-use Rattle.spl_value.specs.declared.value.Value.TheVariants as V
 use Rattle.spl_value.proofs.FitsLaws.{fits_tuple}
 use Rattle.csv.specs.Reading.{default_config, records, strip_bom}
-use Rattle.feed_pour.specs.Contents.{Gave, PieceGiven}
+use Rattle.feed_pour.specs.Contents.{PieceGiven}
 use Rattle.feed_pour.specs.declared.outside.Failed as F
 use Rattle.stream_model.specs.Fields.{tuple_of}
-use Rattle.stream_model.specs.Rows.{Bad, Given, Nothing, Row, Setting, checked_items, closing, fitting, items_from, last_items, line_gives, line_items, of_records, pieces, source_fault, too_long}
+use Rattle.stream_model.specs.Rows.{Bad, Given, Row, checked_items, closing, fitting, items_from, last_items, line_gives, line_items, of_records, pieces, source_fault, too_long}
 use Rattle.stream_model.specs.Stream.{closes}
 use Rattle.row_reader.specs.declared.columns.Column.{Column}
 use Rattle.row_reader.specs.declared.rows.Rows.{Rows}
 use Rattle.row_reader.specs.declared.rows.Stage.{Stage}
 use Rattle.row_reader.specs.declared.rows.Stage.TheVariants as S
 use Rattle.row_reader.specs.Columns.{attributes}
-use Rattle.row_reader.specs.Reading.{Gives, ItemHas, by_stage, held, is_done, is_over, most_at, most_left, setting, setting_of, to_come, unread}
+use Rattle.row_reader.specs.Reading.{Gives, ItemHas, by_stage, held, is_done, setting_of, to_come, unread}
 use Rattle.row_reader.specs.steps.Finding.{IsFirstAt}
-use Rattle.row_reader.specs.steps.Steps.{GaveItem, GaveNone, IsBehind, IsKept, IsRead, Moves, Stays, held_size, work}
+use Rattle.row_reader.specs.steps.Steps.{GaveItem, GaveNone, IsBehind, IsKept, IsRead, Moves, Stays}
 use Rattle.row_reader.proofs.FieldValues.{row_fits}
-use Rattle.row_reader.proofs.Moves.{come_line, cut_part, fits_left, is_feed, last_empty, last_some, last_step, long_step, no_bytes}
+use Rattle.row_reader.proofs.Moves.{come_line, cut_part, fits_left, last_empty, last_some, last_step, long_step, no_bytes}
 
 -- ---- what is to come
 

@@ -1,5 +1,5 @@
 -- A line as `csv` reads it, field by field.
-use Rattle.std.specs.Prelude.{◌≡◌, ◌≤◌, ◌<◌, ◌-◌, ◌==◌, ◌&&◌, ◌||◌, nat_le, ◌++◌, Bool, true, false, ℕ, List, [], ◌∷◌, length, take, drop, slice_index, Option, Some, None}
+use Rattle.std.specs.Prelude.{◌≡◌, ◌≤◌, ◌<◌, ◌-◌, ◌==◌, ◌&&◌, ◌||◌, nat_le, ◌++◌, Bool, true, ℕ, List, [], ◌∷◌, length, take, drop, slice_index, Option, Some, None}
 use Rattle.csv.specs.Machine.{Read, Runs, next_record}
 use Rattle.csv.specs.Reading.{default_config, is_bom}
 use Rattle.csv.specs.declared.parser.State.TheVariants as st

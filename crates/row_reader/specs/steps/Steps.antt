@@ -1,5 +1,5 @@
 -- A step of reading a source, which gives an item or none.
-use Rattle.std.specs.Prelude.{◌≡◌, ◌<◌, ◌≤◌, ◌+◌, ◌-◌, ◌++◌, ⊤, ℕ, Bool, true, false, List, [], length, take, drop, Option, Some, None, Result, Ok, Err}
+use Rattle.std.specs.Prelude.{◌≡◌, ◌<◌, ◌≤◌, ◌+◌, ◌-◌, ◌++◌, ⊤, ℕ, Bool, false, List, [], length, take, drop, Option, Some, None, Result, Ok, Err}
 use Rattle.spl_value.specs.declared.item.Item.{Item}
 use Rattle.spl_value.specs.declared.memory.NoMemory.{NoMemory}
 use Rattle.feed_pour.specs.declared.outside.Failed.{Failed}

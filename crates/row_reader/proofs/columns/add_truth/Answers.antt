@@ -1,4 +1,4 @@
-use Rattle.std.proofs.Common.{sym, ap, ◌∙◌}
+use Rattle.std.proofs.Common.{sym, ◌∙◌}
 use Rattle.row_reader.proofs.FieldValues.{a_true, a_false, no_truth}
 use Rattle.row_reader.proofs.columns.add_truth.Goals as goal
 

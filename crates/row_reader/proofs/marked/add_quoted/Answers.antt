@@ -1,4 +1,4 @@
-use Rattle.std.proofs.Common.{sym, arith, ◌≤◌, length}
+use Rattle.std.proofs.Common.{arith}
 use Rattle.row_reader.proofs.Records.{closed_at, doubled_at, never_closed, open_at_end}
 use Rattle.row_reader.proofs.marked.add_quoted.Goals as goal
 use Rattle.row_reader.proofs.marked.add_quoted.Goals.{else-at-text-via-then-at-text+else-text-at-eq34, else-at-text-via-else-at-text}

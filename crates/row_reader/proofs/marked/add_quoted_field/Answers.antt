@@ -1,4 +1,4 @@
-use Rattle.std.proofs.Common.{sym, ap, ◌∙◌, ◌++◌, arith}
+use Rattle.std.proofs.Common.{◌∙◌}
 use Rattle.row_reader.specs.Columns.{type_of}
 use Rattle.row_reader.proofs.Records.{fit_of, misfit_of, quoted_field_ends}
 use Rattle.row_reader.proofs.marked.add_quoted_field.Goals as goal

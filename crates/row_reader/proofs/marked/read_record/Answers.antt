@@ -1,4 +1,4 @@
-use Rattle.std.proofs.Common.{sym, ◌∙◌, arith}
+use Rattle.std.proofs.Common.{arith}
 use Rattle.row_reader.specs.Columns.{attributes}
 use Rattle.row_reader.proofs.Records.{field_misfit, more_follow, no_field_yet, none_follow, record_more, too_few, too_many}
 use Rattle.row_reader.proofs.marked.read_record.Goals as goal

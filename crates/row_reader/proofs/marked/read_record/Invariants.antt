@@ -1,4 +1,4 @@
-use Rattle.std.proofs.Common.{◌≡◌, ◌≤◌, length}
+use Rattle.std.proofs.Common.{◌≤◌, length}
 use Rattle.row_reader.specs.Columns.{attributes}
 use Rattle.row_reader.proofs.Records.{RecordSoFar}
 use Rattle.row_reader.proofs.marked.read_record.Given as goal

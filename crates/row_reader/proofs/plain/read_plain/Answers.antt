@@ -1,4 +1,4 @@
-use Rattle.std.proofs.Common.{sym, ap, ◌≤◌, ◌∙◌, ◌+◌, arith, length, ℕ}
+use Rattle.std.proofs.Common.{ap, ◌+◌, arith}
 use Rattle.row_reader.specs.Columns.{attributes}
 use Rattle.row_reader.proofs.Cutting.{all_read, columns_all, next_field, last_field, tail_short}
 use Rattle.row_reader.proofs.plain.read_plain.Goals as goal

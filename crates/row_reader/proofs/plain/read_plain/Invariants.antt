@@ -1,4 +1,4 @@
-use Rattle.std.proofs.Common.{◌≡◌, ◌≤◌, true, length}
+use Rattle.std.proofs.Common.{◌≤◌, length}
 use Rattle.row_reader.specs.Columns.{attributes}
 use Rattle.row_reader.proofs.Cutting.{ReadSoFar}
 use Rattle.row_reader.proofs.plain.read_plain.Given as goal

@@ -1,4 +1,4 @@
-use Rattle.std.proofs.Common.{sym, ap, refl, ◌∙◌, ◌≡◌}
+use Rattle.std.proofs.Common.{sym, ap, ◌∙◌, ◌≡◌}
 use Rattle.spl_value.specs.declared.item.FaultKind.TheVariants as K
 use Rattle.stream_model.specs.Rows.{source_fault}
 use Rattle.row_reader.specs.Reading.{to_come}
