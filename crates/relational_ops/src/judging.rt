@@ -6,7 +6,7 @@ ghost use Rattle.stream_model.specs.Bodies.{at_tuple, holds, most_turns};
 ghost use Rattle.relational_ops.specs.Idle.{idle};
 ghost use Rattle.relational_ops.specs.steps.Judging.{JudgedAs};
 
-use crate::evaluation::{Truth, holds};
+use expr_eval::{Truth, holds};
 use language_model::Env;
 use port_reacts::MOST_TURNS;
 use spl_tree::{Code, Functions, Slot};

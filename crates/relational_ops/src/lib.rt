@@ -1,7 +1,6 @@
 //! Operators with one input port that look at each item alone: Filter, Functor, Punctor and Split.
 #![tactic(auto)]
 
-mod evaluation;
 mod filter;
 mod functor;
 mod judging;

@@ -5,10 +5,10 @@ ghost use Rattle.language_model.specs.StreamTypes.{Attributes};
 ghost use Rattle.language_model.specs.WorldFits.{Fits};
 ghost use Rattle.stream_model.specs.Bodies.{made_where, most_turns, passes, tuple_by};
 ghost use Rattle.relational_ops.specs.Fitting.{PassesFit};
-ghost use Rattle.relational_ops.specs.steps.Evaluating.{IsMade, IsTruth};
+ghost use Rattle.value_operations.specs.Answers.{IsMadeAs, IsSo};
 ghost use Rattle.relational_ops.specs.steps.Making.{MakesAs};
 
-use crate::evaluation::{Made, Truth, holds, tuple_into};
+use expr_eval::{Made, Truth, holds, tuple_into};
 use language_model::Env;
 use port_reacts::MOST_TURNS;
 use spl_tree::{Code, Functions, Slot};
@@ -35,7 +35,7 @@ fn passes(
     turns: &mut u32,
 ) -> Truth
     requires { PassesFit functions.now condition.now env.now }
-    ensures { IsTruth (passes functions.now condition.now env.now turns.old) result turns.new }
+    ensures { IsSo (passes functions.now condition.now env.now turns.old) result turns.new }
 {
     match condition {
         Some(condition) => holds(alloc, functions, condition, env, turns),
@@ -60,7 +60,7 @@ fn made(
     turns: &mut u32,
 ) -> Made
     requires { (schema : Attributes) × Fits functions.now output.now env.now (T.Tuple schema) }
-    ensures { IsMade (tuple_by functions.now output.now env.now turns.old) result turns.new }
+    ensures { IsMadeAs (tuple_by functions.now output.now env.now turns.old) result turns.new }
 {
     match Items::with_capacity(alloc, width(output)) {
         Ok(room) => tuple_into(alloc, functions, output, env, turns, room),
