@@ -1,0 +1,17 @@
+use Rattle.std.proofs.Common.{ap}
+use Rattle.stream_model.specs.CheckedMeaning.{operator_with}
+use Rattle.stream_model.specs.React.{answer, makes_by}
+use Rattle.port_reacts.proofs.Replying.{outs_fit, replies_by}
+use Rattle.op_kit.proofs.sink.calls.SinkOnPort.on_port.Goals as goal
+
+pub returns-clause-replies : goal.returns-clause-replies
+returns-clause-replies c h stands may =
+    let s = c.args.self.now in
+    let op = operator_with s.at.checked.now s.at.number s.at.op.now s.at.part.now in
+    replies_by op h c.args.port c.args.item c.on_item.result _ (ap (λ part. answer (makes_by part op h c.args.port c.args.item)) stands.1) c.on_item.ensures
+
+pub returns-clause-fits : goal.returns-clause-fits
+returns-clause-fits c =
+    let s = c.args.self.now in
+    outs_fit (operator_with s.at.checked.now s.at.number s.at.op.now s.at.part.now) c.requires.0 c.args.port c.args.item c.on_item.result c.fits_law.ensures.makes c.requires.2
+    (returns-clause-replies c c.requires.0 c.requires.1 c.requires.2)
