@@ -11,9 +11,11 @@ use Rattle.spl_tree.specs.Grammar.{Expr}
 use Rattle.language_model.specs.declared.checked.Given.{Given}
 use Rattle.language_model.specs.declared.checked.ParameterValue.{ParameterValue}
 use Rattle.language_model.specs.declared.checked.ParameterValue.TheVariants as V
+use Rattle.language_model.specs.declared.kinds.Role.{Role}
+use Rattle.language_model.specs.declared.kinds.Role.TheVariants as R
 use Rattle.language_model.specs.Checking.{as_file, file_given, if_given, parameters_checked}
 use Rattle.language_model.specs.Literals.{file_typing}
-use Rattle.language_model.specs.ParameterTyping.{AsFile, Role, Site, extra, missing, needed, one_value, parameter_typing, parameters_typing, role_of, single_value, value_given, value_typing}
+use Rattle.language_model.specs.ParameterTyping.{Site, extra, missing, needed, one_value, parameter_typing, parameters_typing, role_of, single_value, value_given, value_typing}
 use Rattle.language_model.specs.SinkFiles.{only_value, value_named}
 use Rattle.language_model.specs.Typing.{after, mismatch}
 use Rattle.check_laws.proofs.FoundSteps.{after_gives, same_Ok}
@@ -38,13 +40,13 @@ record OneFile (site : Site) (es : List Expr) (value : ParameterValue) : Type 0 
   typed : file_typing site.scope site.follow expr ≡ Ok file
   is : value ≡ V.File file
 
-one_file : (site : Site) (at : ℕ) (es : List Expr) (value : ParameterValue) → one_value at (single_value site AsFile) es ≡ Ok value → OneFile site es value
+one_file : (site : Site) (at : ℕ) (es : List Expr) (value : ParameterValue) → one_value at (single_value site R.File) es ≡ Ok value → OneFile site es value
 one_file site at [] value e = absurd cc
 one_file site at (d ∷ []) value e =
     let x = after_gives (file_typing site.scope site.follow d) (λ bytes. Ok (V.File bytes)) value e in
     record { expr = d; file = x.0; alone = refl; typed = x.1; is = sym (same_Ok x.2) }
 one_file site at (d ∷ c ∷ es) value e =
-    let x = after_gives (single_value site AsFile d) (λ v. mismatch c.at) value e in absurd cc
+    let x = after_gives (single_value site R.File d) (λ v. mismatch c.at) value e in absurd cc
 
 -- what was found for a parameter: its name, and a value
 record Typed (site : Site) (p : Parameter) (role : Role) (g : Given) : Type 0 where
@@ -75,7 +77,7 @@ given_name site before p (Some role) g e = (one_typed site before p role g e).na
 abbrev NameFiled : Site → List Parameter → List ℕ → Option ParameterValue → Type 0
 NameFiled site ps name o = (value : ParameterValue) → o ≡ Some value → Filed site ps name value
 
-filed : (site : Site) (kind : OpKind) (partitioned : Bool) (name : List ℕ) → role_of kind partitioned name ≡ Some AsFile
+filed : (site : Site) (kind : OpKind) (partitioned : Bool) (name : List ℕ) → role_of kind partitioned name ≡ Some R.File
     → (before : List (List ℕ)) (ps : List Parameter) (given : List Given) → parameters_typing site kind partitioned before ps ≡ Ok given
     → NameFiled site ps name (value_given given name)
 filed site kind partitioned name role before [] given e value at =
@@ -96,8 +98,8 @@ filed site kind partitioned name role before (p ∷ ps) given e value at =
         → OneFile site p.values g.value
     here g found same =
         let equal : p.name.what ≡ name = (bytes_decides p.name.what name).0 same in
-        let as_role : role_of kind partitioned p.name.what ≡ Some AsFile = ap (role_of kind partitioned) equal ∙ role in
-        let typed = one_typed site before p AsFile g (subst (λ o. parameter_typing site before p o ≡ Ok g) as_role found) in
+        let as_role : role_of kind partitioned p.name.what ≡ Some R.File = ap (role_of kind partitioned) equal ∙ role in
+        let typed = one_typed site before p R.File g (subst (λ o. parameter_typing site before p o ≡ Ok g) as_role found) in
         one_file site p.name.at p.values g.value typed.typed
 
     by_name : (g : Given) (gs : List Given) → parameter_typing site before p (role_of kind partitioned p.name.what) ≡ Ok g
@@ -158,7 +160,7 @@ of_value site ps given value there f =
     record { expr = f.expr; there = f.there; typed = f.typed ∙ ap (λ (b : List ℕ). Ok b) (sym is) }
 
 pub has_file : (site : Site) (kind : OpKind) (partitioned : Bool) (at : ℕ) (ps : List Parameter) (given : List Given)
-    → role_of kind partitioned file_name ≡ Some AsFile → needed kind partitioned ≡ file_name ∷ []
+    → role_of kind partitioned file_name ≡ Some R.File → needed kind partitioned ≡ file_name ∷ []
     → parameters_checked site kind partitioned at ps ≡ Ok given → HasFile site ps (file_given given)
 has_file site kind partitioned at ps given role needs e =
     let x = after_gives (parameters_typing site kind partitioned [] ps) (λ found. if_given at (missing found (needed kind partitioned)) found) given e in

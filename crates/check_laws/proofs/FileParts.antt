@@ -18,12 +18,13 @@ use Rattle.spl_tree.specs.Grammar.{placed}
 use Rattle.language_model.specs.declared.checked.Part.{Part}
 use Rattle.language_model.specs.declared.checked.Part.TheVariants as A
 use Rattle.language_model.specs.declared.checked.Policy.{Policy}
+use Rattle.language_model.specs.declared.kinds.Role.TheVariants as R
 use Rattle.language_model.specs.declared.scope.Port.{Port}
-use Rattle.language_model.specs.Checking.{Checks, aggregated, body_checked, clauses_checked, code_given, config_checked, file_given, first_of, invocation_checked, is_partitioned, joined, no_logic, operator_checked, operators_checked, operator_scope, output_rows, parameters_checked, part_of, places_given, plain, port_types, ports_checked, ports_of, position_given, rows_checked, site_of, strict_given, surroundings, there, tuple_of, windows_checked}
+use Rattle.language_model.specs.Checking.{Checks, aggregated, body_checked, clauses_checked, code_given, config_checked, file_given, first_of, invocation_checked, is_partitioned, joined, logic_checked, operator_checked, operators_checked, operator_scope, output_rows, parameters_checked, part_of, places_given, plain, port_types, ports_checked, ports_of, position_given, rows_checked, site_of, strict_given, surroundings, there, tuple_of, windows_checked}
 use Rattle.language_model.specs.Literals.{file_typing, followed, number_literal}
 use Rattle.language_model.specs.LogicTyping.{Surroundings, logic_typing}
 use Rattle.language_model.specs.OutputTyping.{groups_typing, inputs_typing}
-use Rattle.language_model.specs.ParameterTyping.{AsFile, Site, needed, role_of}
+use Rattle.language_model.specs.ParameterTyping.{Site, needed, role_of}
 use Rattle.language_model.specs.Parameters.{Tables}
 use Rattle.language_model.specs.SinkFiles.{OpFile, composite_of, file_of, invocation_at, is_sink, is_source, op_file, text_in, value_named}
 use Rattle.language_model.specs.StreamTypes.{Body, body_at}
@@ -58,8 +59,8 @@ SameFile at kind found part = map bare (kind_file at kind found) ≡ part_file p
 
 module _ (site : Site) (clauses : Clauses) (found : Option (List ℕ)) (finds : (file : List ℕ) → HasFile site clauses.parameters file → found ≡ Some file)
     (at : ℕ) where
-  plain_file : (kind : OpKind) (part : Part) → SameFile at kind found part → Gives (SameFile at kind found) (plain clauses part)
-  plain_file kind part same = gives_then (SameFile at kind found) (no_logic clauses.logic) _ (λ u is. same)
+  plain_file : (kind : OpKind) (part : Part) → SameFile at kind found part → Gives (SameFile at kind found) (plain kind clauses part)
+  plain_file kind part same = gives_then (SameFile at kind found) (logic_checked kind clauses.logic) _ (λ u is. same)
 
   aggregated_file : (x : Checks) (rows : List OutputAssignments) (windows : List Policy) → Gives (SameFile at O.Aggregate found) (aggregated x clauses rows windows)
   aggregated_file x rows [] = tt
@@ -74,7 +75,7 @@ module _ (site : Site) (clauses : Clauses) (found : Option (List ℕ)) (finds : 
       gives_then (SameFile at O.Join found) (tuple_of x rows) _ (λ output is.
       plain_file O.Join (A.Join left right (code_given x.given (codes "match")) output) refl)
 
-  file_given_is : (kind : OpKind) (partitioned : Bool) (x : Checks) → role_of kind partitioned (codes "file") ≡ Some AsFile → needed kind partitioned ≡ codes "file" ∷ []
+  file_given_is : (kind : OpKind) (partitioned : Bool) (x : Checks) → role_of kind partitioned (codes "file") ≡ Some R.File → needed kind partitioned ≡ codes "file" ∷ []
       → parameters_checked site kind partitioned at clauses.parameters ≡ Ok x.given → found ≡ Some (file_given x.given)
   file_given_is kind partitioned x role needs given = finds (file_given x.given) (has_file site kind partitioned at clauses.parameters x.given role needs given)
 
@@ -83,12 +84,12 @@ module _ (site : Site) (clauses : Clauses) (found : Option (List ℕ)) (finds : 
   kind_has_file O.FileSource partitioned x rows given =
       let same : SameFile at O.FileSource found (A.FileSource (file_given x.given) (strict_given x.given)) =
       ap (λ o. map bare (kind_file at O.FileSource o)) (file_given_is O.FileSource partitioned x refl refl given) in
-      gives_then (SameFile at O.FileSource found) (no_logic clauses.logic) _ (λ u none.
+      gives_then (SameFile at O.FileSource found) (logic_checked O.FileSource clauses.logic) _ (λ u none.
       gives_then (SameFile at O.FileSource found) (rows_checked x x.around.schemas) _ (λ v text. same))
   kind_has_file O.FileSink partitioned x rows given =
       let same : SameFile at O.FileSink found (A.FileSink (file_given x.given)) =
       ap (λ o. map bare (kind_file at O.FileSink o)) (file_given_is O.FileSink partitioned x refl refl given) in
-      gives_then (SameFile at O.FileSink found) (no_logic clauses.logic) _ (λ u none.
+      gives_then (SameFile at O.FileSink found) (logic_checked O.FileSink clauses.logic) _ (λ u none.
       gives_then (SameFile at O.FileSink found) (rows_checked x (map (λ p. p.schema) x.around.scope.ports)) _ (λ v text. same))
   kind_has_file O.Filter partitioned x rows given = plain_file O.Filter (A.Filter (code_given x.given (codes "filter"))) refl
   kind_has_file O.Functor partitioned x rows given =

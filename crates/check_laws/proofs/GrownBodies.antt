@@ -16,7 +16,8 @@ use Rattle.language_model.specs.declared.expansion.Operation.{Operation}
 use Rattle.language_model.specs.Composites.{composite_named, composites}
 use Rattle.language_model.specs.Declarations.{first_of}
 use Rattle.language_model.specs.Expansion.{Expands, Found, Inlined, Made, Opened, after, expanded, expanded_graph, expanded_invocation, expanded_main, expanded_target, if_declared, if_grown, if_within, inlined, is_within, main_body, opened_in, operation, ports_of, with_expansion, with_operation}
-use Rattle.language_model.specs.Invoking.{Body, Nothing, Operator, Target, body_or_operator, fits_head, kind_named, operator_or_nothing, target_of, undeclared}
+use Rattle.language_model.specs.Kinds.{kind_named}
+use Rattle.language_model.specs.Invoking.{Body, Nothing, Operator, Target, body_or_operator, fits_head, operator_or_nothing, target_of, undeclared}
 use Rattle.language_model.specs.Scopes.{At}
 use Rattle.language_model.proofs.Standing as F
 use Rattle.language_model.proofs.Standing.{first_stands}

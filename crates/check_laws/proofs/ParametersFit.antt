@@ -24,13 +24,15 @@ use Rattle.language_model.specs.declared.checked.Given.{Given}
 use Rattle.language_model.specs.declared.checked.ParameterValue.{ParameterValue}
 use Rattle.language_model.specs.declared.checked.ParameterValue.TheVariants as V
 use Rattle.language_model.specs.declared.checked.Position.TheVariants as P
+use Rattle.language_model.specs.declared.kinds.Role.{Role}
+use Rattle.language_model.specs.declared.kinds.Role.TheVariants as R
 use Rattle.language_model.specs.declared.scope.Scope.{Scope}
 use Rattle.language_model.specs.Checking.{as_code, as_file, as_places, there, if_given, parameters_checked}
 use Rattle.language_model.specs.CodeFits.{CodeFits}
 use Rattle.language_model.specs.FitLaws.{DollarsFit}
 use Rattle.language_model.specs.Keeping.{ConditionFits, KeysFit, Once}
 use Rattle.language_model.specs.Literals.{file_or_mismatch, file_typing, is_file_name, level_file, level_text, text_at}
-use Rattle.language_model.specs.ParameterTyping.{Role, AsFile, AsFormat, AsParsing, AsCondition, AsPosition, AsIndex, AsAttributes, Site, extra, first_schema, format_of, key_at, key_of, keys_typing, level_index, level_key, missing, needed, one_value, parameter_typing, parameters_typing, parsing_of, position_of, role_of, single_value, some_keys, value_given, value_typing, word_of}
+use Rattle.language_model.specs.ParameterTyping.{Site, extra, first_schema, format_of, key_at, key_of, keys_typing, level_index, level_key, missing, needed, one_value, parameter_typing, parameters_typing, parsing_of, position_of, role_of, single_value, some_keys, value_given, value_typing, word_of}
 use Rattle.language_model.specs.Scopes.{At, attribute_of}
 use Rattle.language_model.proofs.Standing.{Bears, attribute_there}
 use Rattle.language_model.specs.Typing.{after, mismatch, typing}
@@ -151,50 +153,50 @@ some_fit at schema (e ∷ es) =
 
 -- the value of a parameter
 abbrev pub ValueFits : Scope → Role → ParameterValue → Type 0
-ValueFits scope AsFile (V.File bytes) = IsTrue (is_file_name bytes)
-ValueFits scope AsFormat V.Format = Unit {0}
-ValueFits scope AsParsing (V.Strict strict) = Unit {0}
-ValueFits scope AsPosition (V.Position position) = Unit {0}
-ValueFits scope AsCondition (V.Code code) = CodeFits scope code S.Bool
-ValueFits scope AsIndex (V.Code code) = (kind : IntKind) × CodeFits scope code (S.Int kind)
-ValueFits scope AsAttributes (V.Places places) = SomeKeys (first_schema scope.ports) places
+ValueFits scope R.File (V.File bytes) = IsTrue (is_file_name bytes)
+ValueFits scope R.Format V.Format = Unit {0}
+ValueFits scope R.Parsing (V.Strict strict) = Unit {0}
+ValueFits scope R.Position (V.Position position) = Unit {0}
+ValueFits scope R.Condition (V.Code code) = CodeFits scope code S.Bool
+ValueFits scope R.Index (V.Code code) = (kind : IntKind) × CodeFits scope code (S.Int kind)
+ValueFits scope R.Attributes (V.Places places) = SomeKeys (first_schema scope.ports) places
 ValueFits scope _ _ = ⊥
 
-format_fits : (scope : Scope) (at : ℕ) (o : Option (List ℕ)) → Gives (ValueFits scope AsFormat) (format_of at o)
+format_fits : (scope : Scope) (at : ℕ) (o : Option (List ℕ)) → Gives (ValueFits scope R.Format) (format_of at o)
 format_fits scope at None = tt
-format_fits scope at (Some word) = gives_if (ValueFits scope AsFormat) (bytes_eq word (codes "csv")) (Ok V.Format) (mismatch at) (λ is. tt) (λ other. tt)
+format_fits scope at (Some word) = gives_if (ValueFits scope R.Format) (bytes_eq word (codes "csv")) (Ok V.Format) (mismatch at) (λ is. tt) (λ other. tt)
 
-parsing_fits : (scope : Scope) (at : ℕ) (o : Option (List ℕ)) → Gives (ValueFits scope AsParsing) (parsing_of at o)
+parsing_fits : (scope : Scope) (at : ℕ) (o : Option (List ℕ)) → Gives (ValueFits scope R.Parsing) (parsing_of at o)
 parsing_fits scope at None = tt
 parsing_fits scope at (Some word) =
-    gives_if (ValueFits scope AsParsing) (bytes_eq word (codes "strict")) (Ok (V.Strict true))
+    gives_if (ValueFits scope R.Parsing) (bytes_eq word (codes "strict")) (Ok (V.Strict true))
     (if bytes_eq word (codes "permissive") then Ok (V.Strict false) else mismatch at) (λ is. tt) (λ other.
-    gives_if (ValueFits scope AsParsing) (bytes_eq word (codes "permissive")) (Ok (V.Strict false)) (mismatch at) (λ is. tt) (λ last. tt))
+    gives_if (ValueFits scope R.Parsing) (bytes_eq word (codes "permissive")) (Ok (V.Strict false)) (mismatch at) (λ is. tt) (λ last. tt))
 
-position_fits : (scope : Scope) (at : ℕ) (o : Option (List ℕ)) → Gives (ValueFits scope AsPosition) (position_of at o)
+position_fits : (scope : Scope) (at : ℕ) (o : Option (List ℕ)) → Gives (ValueFits scope R.Position) (position_of at o)
 position_fits scope at None = tt
 position_fits scope at (Some word) =
-    gives_if (ValueFits scope AsPosition) (bytes_eq word (codes "before")) (Ok (V.Position P.Before))
+    gives_if (ValueFits scope R.Position) (bytes_eq word (codes "before")) (Ok (V.Position P.Before))
     (if bytes_eq word (codes "after") then Ok (V.Position P.After) else mismatch at) (λ is. tt) (λ other.
-    gives_if (ValueFits scope AsPosition) (bytes_eq word (codes "after")) (Ok (V.Position P.After)) (mismatch at) (λ is. tt) (λ last. tt))
+    gives_if (ValueFits scope R.Position) (bytes_eq word (codes "after")) (Ok (V.Position P.After)) (mismatch at) (λ is. tt) (λ last. tt))
 
 index_fits : (scope : Scope) (at : ℕ) (code : Code Slot) (t : SplType) (x : SplType-F SplType) → out-SplType t ≡ x → CodeFits scope code t
-    → Gives (ValueFits scope AsIndex) (level_index at code x)
+    → Gives (ValueFits scope R.Index) (level_index at code x)
 index_fits scope at code t (T.Int kind) is h = (kind, subst (CodeFits scope code) (rolled t (T.Int kind) (S.Int kind) is (S.rolls-Int kind)) h)
 index_fits scope at code t _ is h = tt
 
 single_fits : TypingGives → (site : Site) → DollarsFit site.scope.dollars → (role : Role) (e : Expr) → Gives (ValueFits site.scope role) (single_value site role e)
-single_fits laws site fine AsFile e =
-    gives_after IsName (ValueFits site.scope AsFile) (file_typing site.scope site.follow e) _ (file_fits site.scope site.follow e) (λ bytes h. h)
-single_fits laws site fine AsFormat e = format_fits site.scope e.at (word_of e)
-single_fits laws site fine AsParsing e = parsing_fits site.scope e.at (word_of e)
-single_fits laws site fine AsPosition e = position_fits site.scope e.at (word_of e)
-single_fits laws site fine AsCondition e =
-    gives_then (ValueFits site.scope AsCondition) (typing site.scope e (Some S.Bool)) _ (λ t is. wanted_fits laws site.scope fine e S.Bool t is)
-single_fits laws site fine AsIndex e =
-    gives_then (ValueFits site.scope AsIndex) (typing site.scope e None) _ (λ t is.
+single_fits laws site fine R.File e =
+    gives_after IsName (ValueFits site.scope R.File) (file_typing site.scope site.follow e) _ (file_fits site.scope site.follow e) (λ bytes h. h)
+single_fits laws site fine R.Format e = format_fits site.scope e.at (word_of e)
+single_fits laws site fine R.Parsing e = parsing_fits site.scope e.at (word_of e)
+single_fits laws site fine R.Position e = position_fits site.scope e.at (word_of e)
+single_fits laws site fine R.Condition e =
+    gives_then (ValueFits site.scope R.Condition) (typing site.scope e (Some S.Bool)) _ (λ t is. wanted_fits laws site.scope fine e S.Bool t is)
+single_fits laws site fine R.Index e =
+    gives_then (ValueFits site.scope R.Index) (typing site.scope e None) _ (λ t is.
     index_fits site.scope e.at t.code t.kind (out-SplType t.kind) refl (typed_fits laws site.scope fine e t is))
-single_fits laws site fine AsAttributes e = tt
+single_fits laws site fine R.Attributes e = tt
 
 one_fits : (scope : Scope) (role : Role) (site : Site) (at : ℕ) (es : List Expr) → ((e : Expr) → Gives (ValueFits scope role) (single_value site role e))
     → Gives (ValueFits scope role) (one_value at (single_value site role) es)
@@ -203,8 +205,8 @@ one_fits scope role site at (e ∷ []) h = h e
 one_fits scope role site at (e ∷ d ∷ es) h = gives_then (ValueFits scope role) (single_value site role e) _ (λ x is. tt)
 
 value_fits : TypingGives → (site : Site) → DollarsFit site.scope.dollars → (p : Parameter) (role : Role) → Gives (ValueFits site.scope role) (value_typing site p role)
-value_fits laws site fine p AsAttributes =
-    gives_after (SomeKeys (first_schema site.scope.ports)) (ValueFits site.scope AsAttributes) (some_keys p.name.at (first_schema site.scope.ports) p.values) _
+value_fits laws site fine p R.Attributes =
+    gives_after (SomeKeys (first_schema site.scope.ports)) (ValueFits site.scope R.Attributes) (some_keys p.name.at (first_schema site.scope.ports) p.values) _
     (some_fit p.name.at (first_schema site.scope.ports) p.values) (λ places keys. keys)
 value_fits laws site fine p role = one_fits site.scope role site p.name.at p.values (single_fits laws site fine role)
 
@@ -284,23 +286,23 @@ as_role scope kind partitioned given name role all is value e =
     let same : found.0 ≡ role = cc in
     subst (λ r. ValueFits scope r value) same found.2
 
-pub condition_given : (scope : Scope) (o : Option ParameterValue) → AsRole scope AsCondition o → ConditionFits scope (as_code o)
+pub condition_given : (scope : Scope) (o : Option ParameterValue) → AsRole scope R.Condition o → ConditionFits scope (as_code o)
 condition_given scope None h = tt
 condition_given scope (Some (V.Code code)) h = h (V.Code code) refl
 condition_given scope (Some value) h = tt
 
-pub condition_there : (scope : Scope) (at : ℕ) (o : Option ParameterValue) → AsRole scope AsCondition o → Gives (λ code. CodeFits scope code S.Bool) (there at (as_code o))
+pub condition_there : (scope : Scope) (at : ℕ) (o : Option ParameterValue) → AsRole scope R.Condition o → Gives (λ code. CodeFits scope code S.Bool) (there at (as_code o))
 condition_there scope at None h = tt
 condition_there scope at (Some (V.Code code)) h = h (V.Code code) refl
 condition_there scope at (Some value) h = tt
 
-pub index_there : (scope : Scope) (at : ℕ) (o : Option ParameterValue) → AsRole scope AsIndex o
+pub index_there : (scope : Scope) (at : ℕ) (o : Option ParameterValue) → AsRole scope R.Index o
     → Gives (λ code. (kind : IntKind) × CodeFits scope code (S.Int kind)) (there at (as_code o))
 index_there scope at None h = tt
 index_there scope at (Some (V.Code code)) h = h (V.Code code) refl
 index_there scope at (Some value) h = tt
 
-pub places_there : (scope : Scope) (o : Option ParameterValue) → AsRole scope AsAttributes o → KeysFit (first_schema scope.ports) (as_places o)
+pub places_there : (scope : Scope) (o : Option ParameterValue) → AsRole scope R.Attributes o → KeysFit (first_schema scope.ports) (as_places o)
 places_there scope None h = (no_keys (first_schema scope.ports) []).fit
 places_there scope (Some (V.Places places)) h = (h (V.Places places) refl).0
 places_there scope (Some value) h = (no_keys (first_schema scope.ports) []).fit
@@ -323,20 +325,20 @@ given_there given name none =
       | false ↦ λ lacks e. absurd cc
     ] refl none
 
-file_in : (scope : Scope) (o : Option ParameterValue) (value : ParameterValue) → o ≡ Some value → ValueFits scope AsFile value → IsTrue (is_file_name (as_file o))
+file_in : (scope : Scope) (o : Option ParameterValue) (value : ParameterValue) → o ≡ Some value → ValueFits scope R.File value → IsTrue (is_file_name (as_file o))
 file_in scope o (V.File bytes) e h = subst (λ v. IsTrue (is_file_name (as_file v))) (sym e) h
 file_in scope o _ e h = absurd h
 
-pub file_there : (scope : Scope) (given : List Given) (name : List ℕ) → AsRole scope AsFile (value_given given name) → missing given (name ∷ []) ≡ None
+pub file_there : (scope : Scope) (given : List Given) (name : List ℕ) → AsRole scope R.File (value_given given name) → missing given (name ∷ []) ≡ None
     → IsTrue (is_file_name (as_file (value_given given name)))
 file_there scope given name h none =
     let found = given_there given name none in file_in scope (value_given given name) found.0 found.1 (h found.0 found.1)
 
-some_in : (scope : Scope) (o : Option ParameterValue) (value : ParameterValue) → o ≡ Some value → ValueFits scope AsAttributes value → 0 < length (as_places o)
+some_in : (scope : Scope) (o : Option ParameterValue) (value : ParameterValue) → o ≡ Some value → ValueFits scope R.Attributes value → 0 < length (as_places o)
 some_in scope o (V.Places places) e h = subst (λ v. 0 < length (as_places v)) (sym e) h.1
 some_in scope o _ e h = absurd h
 
-pub some_there : (scope : Scope) (given : List Given) (name : List ℕ) → AsRole scope AsAttributes (value_given given name) → missing given (name ∷ []) ≡ None
+pub some_there : (scope : Scope) (given : List Given) (name : List ℕ) → AsRole scope R.Attributes (value_given given name) → missing given (name ∷ []) ≡ None
     → 0 < length (as_places (value_given given name))
 some_there scope given name h none =
     let found = given_there given name none in some_in scope (value_given given name) found.0 found.1 (h found.0 found.1)

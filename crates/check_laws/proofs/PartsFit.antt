@@ -1,9 +1,9 @@
 -- The clauses of an operator that are accepted fit its ports, one kind of operator after another.
-use Rattle.std.specs.Prelude.{◌≡◌, ◌↔◌, ◌==◌, ◌<◌, ℕ, zero, suc, Bool, true, false, IsTrue, List, [], ◌∷◌, map, length, Option, Some, None, Ok, slice_get, if◌then◌else◌, codes}
+use Rattle.std.specs.Prelude.{◌≡◌, ◌↔◌, ◌==◌, ◌<◌, ℕ, zero, suc, nat_le, Bool, true, false, IsTrue, List, [], ◌∷◌, map, length, Option, Some, None, Ok, slice_get, if◌then◌else◌, codes}
 use Rattle.std.specs.List.{list_all}
 use Rattle.std.specs.Cmp.{first_so, second_so}
 use Rattle.std.proofs.Common.{refl, sym, ap, subst, ◌∙◌, arith}
-use Rattle.std.proofs.lemmas.Bool.{eqb-true}
+use Rattle.std.proofs.lemmas.Bool.{leb-true}
 use Rattle.std.proofs.lemmas.List.{length-map}
 use Rattle.spl_value.specs.declared.types.IntKind.{IntKind}
 use Rattle.spl_value.specs.declared.types.SplType.TheVariants as S
@@ -20,18 +20,22 @@ use Rattle.language_model.specs.declared.checked.ParameterValue.{ParameterValue}
 use Rattle.language_model.specs.declared.checked.Part.{Part}
 use Rattle.language_model.specs.declared.checked.Part.TheVariants as A
 use Rattle.language_model.specs.declared.checked.Policy.{Policy}
+use Rattle.language_model.specs.declared.kinds.Role.{Role}
+use Rattle.language_model.specs.declared.kinds.Role.TheVariants as R
+use Rattle.language_model.specs.declared.kinds.WindowForm.TheVariants as W
 use Rattle.language_model.specs.declared.scope.CheckError.TheVariants as E
 use Rattle.language_model.specs.declared.scope.Port.{Port}
 use Rattle.language_model.specs.declared.scope.Scope.{Scope}
-use Rattle.language_model.specs.Checking.{Checks, aggregated, are_passed, as_places, between, clauses_checked, code_given, config_checked, file_given, first_of, file_sink, file_source, fit_ports, functor, has_text_form, is_partitioned, joined, no_logic, output_rows, outputs_checked, parameters_checked, part_of, passes_on, places_given, plain, position_given, punctor, rows_checked, split, strict_given, there, tuple_of, union, windows_checked}
+use Rattle.language_model.specs.Checking.{Checks, aggregated, are_passed, as_places, clauses_checked, code_given, config_checked, file_given, first_of, file_sink, file_source, fit_ports, functor, has_text_form, is_partitioned, joined, logic_checked, output_rows, outputs_checked, parameters_checked, part_of, places_given, plain, position_given, punctor, rows_checked, split, strict_given, there, tuple_of, union, windows_checked}
 use Rattle.language_model.specs.CodeFits.{CodeFits}
 use Rattle.language_model.specs.FitLaws.{DollarsFit}
 use Rattle.language_model.specs.Keeping as F
 use Rattle.language_model.specs.Keeping.{ConditionFits, GroupsFit, HandlersFit, KeysFit, PartFits}
+use Rattle.language_model.specs.Kinds.{exactly, is_within, rules_of}
 use Rattle.language_model.specs.Literals.{number_literal}
 use Rattle.language_model.specs.LogicTyping.{Surroundings, logic_typing}
 use Rattle.language_model.specs.OutputTyping.{groups_typing, inputs_typing}
-use Rattle.language_model.specs.ParameterTyping.{AsAttributes, AsCondition, AsFile, AsIndex, Role, Site, first_schema, role_of, value_given}
+use Rattle.language_model.specs.ParameterTyping.{Site, first_schema, role_of, value_given}
 use Rattle.language_model.specs.StreamTypes.{Attributes, passed, same_attributes}
 use Rattle.language_model.specs.Typing.{after, mismatch, refused}
 use Rattle.check_laws.specs.PartsLaw.{PartsLaw}
@@ -47,15 +51,21 @@ schemas_of ports = map (λ p. p.schema) ports
 
 -- ---- how many
 
-empty : {A : Type 0} (xs : List A) → IsTrue (length xs == 0) → xs ≡ []
-empty [] e = refl
-empty (x ∷ xs) e = absurd (omega (arith, eqb-true (length (x ∷ xs)) 0 e))
+as_many : (n m : ℕ) → IsTrue (is_within (exactly n) m) → m ≡ n
+as_many n m e = omega (arith, leb-true n m (first_so (nat_le n m) (nat_le m n) e), leb-true m n (second_so (nat_le n m) (nat_le m n) e))
 
-two : {A : Type 0} (xs : List A) → IsTrue (length xs == 2) → (x : A) × (y : A) × (xs ≡ x ∷ y ∷ [])
+empty : {A : Type 0} (xs : List A) → IsTrue (is_within (exactly 0) (length xs)) → xs ≡ []
+empty [] e = refl
+empty (x ∷ xs) e = absurd (omega (arith, as_many 0 (length (x ∷ xs)) e))
+
+one : {A : Type 0} (xs : List A) → IsTrue (is_within (exactly 1) (length xs)) → (x : A) × (xs ≡ x ∷ [])
+one xs e = lone xs (subst (λ n. IsTrue (n == 1)) (sym (as_many 1 (length xs) e)) refl)
+
+two : {A : Type 0} (xs : List A) → IsTrue (is_within (exactly 2) (length xs)) → (x : A) × (y : A) × (xs ≡ x ∷ y ∷ [])
 two [] e = absurd cc
-two (x ∷ []) e = absurd (omega (arith, eqb-true (length (x ∷ [])) 2 e))
+two (x ∷ []) e = absurd (omega (arith, as_many 2 (length (x ∷ [])) e))
 two (x ∷ y ∷ []) e = (x, y, refl)
-two (x ∷ y ∷ z ∷ xs) e = absurd (omega (arith, eqb-true (length (x ∷ y ∷ z ∷ xs)) 2 e))
+two (x ∷ y ∷ z ∷ xs) e = absurd (omega (arith, as_many 2 (length (x ∷ y ∷ z ∷ xs)) e))
 
 -- ---- outputs of the input's type
 
@@ -77,8 +87,8 @@ all_passed input (o ∷ os) (schema ∷ outs) long e k own at =
 
 -- ---- without logic
 
-plain_fits : (Q : Part → Type 0) (clauses : Clauses) (part : Part) → Q part → Gives Q (plain clauses part)
-plain_fits Q clauses part h = gives_then Q (no_logic clauses.logic) _ (λ u is. h)
+plain_fits : (Q : Part → Type 0) (kind : OpKind) (clauses : Clauses) (part : Part) → Q part → Gives Q (plain kind clauses part)
+plain_fits Q kind clauses part h = gives_then Q (logic_checked kind clauses.logic) _ (λ u is. h)
 
 -- ---- the rows of files
 
@@ -93,13 +103,13 @@ one_text_form schemas schema is h = first_so (has_text_form schema) true (subst 
 
 -- ---- keys of an Aggregate
 
-group_role : (partitioned : Bool) → role_of O.Aggregate partitioned (codes "groupBy") ≡ Some AsAttributes
+group_role : (partitioned : Bool) → role_of O.Aggregate partitioned (codes "groupBy") ≡ Some R.Attributes
 group_role true = refl
 group_role false = refl
 
 partition_role : (scope : Scope) (partitioned : Bool) (given : List Given) → AllFit scope O.Aggregate partitioned given
-    → AsRole scope AsAttributes (value_given given (codes "partitionBy"))
-partition_role scope true given all = as_role scope O.Aggregate true given (codes "partitionBy") AsAttributes all refl
+    → AsRole scope R.Attributes (value_given given (codes "partitionBy"))
+partition_role scope true given all = as_role scope O.Aggregate true given (codes "partitionBy") R.Attributes all refl
 partition_role scope false given all = λ value e. let none : None ≡ Some (all (codes "partitionBy") value e).0 = (all (codes "partitionBy") value e).1 in absurd cc
 
 no_places : (o : Option ParameterValue) → ((value : ParameterValue) → o ≡ Some value → ⊥) → as_places o ≡ []
@@ -131,6 +141,14 @@ module _ (laws : TypingGives) (x : Checks) (bare : x.around.scope.vars ≡ []) (
   abbrev FitPorts : OpKind → Type 0
   FitPorts kind = IsTrue (fit_ports kind (length x.around.scope.ports) (length x.around.schemas))
 
+  inputs_within : (kind : OpKind) → FitPorts kind → IsTrue (is_within (rules_of kind).inputs (length x.around.scope.ports))
+  inputs_within kind count =
+      first_so (is_within (rules_of kind).inputs (length x.around.scope.ports)) (is_within (rules_of kind).outputs (length x.around.schemas)) count
+
+  outputs_within : (kind : OpKind) → FitPorts kind → IsTrue (is_within (rules_of kind).outputs (length x.around.schemas))
+  outputs_within kind count =
+      second_so (is_within (rules_of kind).inputs (length x.around.scope.ports)) (is_within (rules_of kind).outputs (length x.around.schemas)) count
+
   abbrev Passing : OpKind → Type 0
   Passing kind = (os : List OutputStream) × (length os ≡ length x.around.schemas) × (outputs_checked kind os x.around.schemas (schemas_of x.around.scope.ports) ≡ passed)
 
@@ -148,9 +166,9 @@ module _ (laws : TypingGives) (x : Checks) (bare : x.around.scope.vars ≡ []) (
       → AsRole x.around.scope role (value_given x.given name)
   has_role kind params name role is = as_role x.around.scope kind (is_partitioned x.windows) x.given name role params.all is
 
-  condition_fits : (kind : OpKind) → Parameters kind → (name : List ℕ) → role_of kind (is_partitioned x.windows) name ≡ Some AsCondition
+  condition_fits : (kind : OpKind) → Parameters kind → (name : List ℕ) → role_of kind (is_partitioned x.windows) name ≡ Some R.Condition
       → ConditionFits x.around.scope (code_given x.given name)
-  condition_fits kind params name is = condition_given x.around.scope (value_given x.given name) (has_role kind params name AsCondition is)
+  condition_fits kind params name is = condition_given x.around.scope (value_given x.given name) (has_role kind params name R.Condition is)
 
   -- the tuple that is made for the one output
   tuple_for : (schema : Attributes) (rows : List OutputAssignments) → x.around.schemas ≡ schema ∷ [] → Gives (TupleFits x.around.scope schema) (tuple_of x rows)
@@ -160,82 +178,82 @@ module _ (laws : TypingGives) (x : Checks) (bare : x.around.scope.vars ≡ []) (
 
   source_fits : (clauses : Clauses) → FitPorts O.FileSource → Parameters O.FileSource → Gives (Fit O.FileSource) (file_source x clauses)
   source_fits clauses count params =
-      let none = empty x.around.scope.ports (first_so (length x.around.scope.ports == 0) (length x.around.schemas == 1) count) in
-      let one = lone x.around.schemas (second_so (length x.around.scope.ports == 0) (length x.around.schemas == 1) count) in
-      gives_then (Fit O.FileSource) (no_logic clauses.logic) _ (λ u bare.
+      let none = empty x.around.scope.ports (inputs_within O.FileSource count) in
+      let single = one x.around.schemas (outputs_within O.FileSource count) in
+      gives_then (Fit O.FileSource) (logic_checked O.FileSource clauses.logic) _ (λ u bare.
       gives_after (HaveTextForms x.around.schemas) (Fit O.FileSource) (rows_checked x x.around.schemas) _ (rows_fit x x.around.schemas) (λ v text.
-      at_ports O.FileSource (A.FileSource (file_given x.given) (strict_given x.given)) [] (one.0 ∷ []) none one.1
-      (F.file_source (file_given x.given) (strict_given x.given) one.0
-      (file_there x.around.scope x.given (codes "file") (has_role O.FileSource params (codes "file") AsFile refl) params.there)
-      (one_text_form x.around.schemas one.0 one.1 text))))
+      at_ports O.FileSource (A.FileSource (file_given x.given) (strict_given x.given)) [] (single.0 ∷ []) none single.1
+      (F.file_source (file_given x.given) (strict_given x.given) single.0
+      (file_there x.around.scope x.given (codes "file") (has_role O.FileSource params (codes "file") R.File refl) params.there)
+      (one_text_form x.around.schemas single.0 single.1 text))))
 
   sink_fits : (clauses : Clauses) → FitPorts O.FileSink → Parameters O.FileSink → Gives (Fit O.FileSink) (file_sink x clauses)
   sink_fits clauses count params =
-      let one = lone x.around.scope.ports (first_so (length x.around.scope.ports == 1) (length x.around.schemas == 0) count) in
-      let none = empty x.around.schemas (second_so (length x.around.scope.ports == 1) (length x.around.schemas == 0) count) in
-      gives_then (Fit O.FileSink) (no_logic clauses.logic) _ (λ u bare.
+      let single = one x.around.scope.ports (inputs_within O.FileSink count) in
+      let none = empty x.around.schemas (outputs_within O.FileSink count) in
+      gives_then (Fit O.FileSink) (logic_checked O.FileSink clauses.logic) _ (λ u bare.
       gives_after (HaveTextForms (schemas_of x.around.scope.ports)) (Fit O.FileSink) (rows_checked x (schemas_of x.around.scope.ports)) _ (rows_fit x (schemas_of x.around.scope.ports)) (λ v text.
-      at_ports O.FileSink (A.FileSink (file_given x.given)) (one.0 ∷ []) [] one.1 none
-      (F.file_sink (file_given x.given) one.0.schema
-      (file_there x.around.scope x.given (codes "file") (has_role O.FileSink params (codes "file") AsFile refl) params.there)
-      (one_text_form (schemas_of x.around.scope.ports) one.0.schema (ap schemas_of one.1) text))))
+      at_ports O.FileSink (A.FileSink (file_given x.given)) (single.0 ∷ []) [] single.1 none
+      (F.file_sink (file_given x.given) single.0.schema
+      (file_there x.around.scope x.given (codes "file") (has_role O.FileSink params (codes "file") R.File refl) params.there)
+      (one_text_form (schemas_of x.around.scope.ports) single.0.schema (ap schemas_of single.1) text))))
 
   -- where tuples are passed on, the outputs have the input's attributes
-  passed_on : (kind : OpKind) → passes_on kind ≡ true → Passing kind → (port : Port) → x.around.scope.ports ≡ port ∷ []
+  passed_on : (kind : OpKind) → (rules_of kind).passes_on ≡ true → Passing kind → (port : Port) → x.around.scope.ports ≡ port ∷ []
       → (k : ℕ) (own : Attributes) → slice_get x.around.schemas k ≡ Some own → own ≡ port.schema
   passed_on kind on passing port is =
       all_passed port.schema passing.0 x.around.schemas passing.1
       (subst (λ b. (if b then are_passed port.schema passing.0 x.around.schemas else passed) ≡ passed) on
       (subst (λ ports. outputs_checked kind passing.0 x.around.schemas (schemas_of ports) ≡ passed) is passing.2))
 
-  filter_fits : (clauses : Clauses) → FitPorts O.Filter → Passing O.Filter → Parameters O.Filter → Gives (Fit O.Filter) (plain clauses (A.Filter (code_given x.given (codes "filter"))))
+  filter_fits : (clauses : Clauses) → FitPorts O.Filter → Passing O.Filter → Parameters O.Filter → Gives (Fit O.Filter) (plain O.Filter clauses (A.Filter (code_given x.given (codes "filter"))))
   filter_fits clauses count passing params =
-      let input = lone x.around.scope.ports (first_so (length x.around.scope.ports == 1) (length x.around.schemas == 1) count) in
-      let output = lone x.around.schemas (second_so (length x.around.scope.ports == 1) (length x.around.schemas == 1) count) in
+      let input = one x.around.scope.ports (inputs_within O.Filter count) in
+      let output = one x.around.schemas (outputs_within O.Filter count) in
       let same = passed_on O.Filter refl passing input.0 input.1 0 output.0 (ap (λ (s : List Attributes). slice_get s 0) output.1) in
-      plain_fits (Fit O.Filter) clauses (A.Filter (code_given x.given (codes "filter")))
+      plain_fits (Fit O.Filter) O.Filter clauses (A.Filter (code_given x.given (codes "filter")))
       (at_ports O.Filter (A.Filter (code_given x.given (codes "filter"))) (input.0 ∷ []) (input.0.schema ∷ []) input.1 (output.1 ∙ ap (λ (s : Attributes). s ∷ []) same)
       (F.filter (code_given x.given (codes "filter")) input.0.schema (condition_fits O.Filter params (codes "filter") refl)))
 
   functor_fits : (clauses : Clauses) (rows : List OutputAssignments) → FitPorts O.Functor → Parameters O.Functor → Gives (Fit O.Functor) (functor x clauses rows)
   functor_fits clauses rows count params =
-      let input = lone x.around.scope.ports (first_so (length x.around.scope.ports == 1) (length x.around.schemas == 1) count) in
-      let output = lone x.around.schemas (second_so (length x.around.scope.ports == 1) (length x.around.schemas == 1) count) in
+      let input = one x.around.scope.ports (inputs_within O.Functor count) in
+      let output = one x.around.schemas (outputs_within O.Functor count) in
       let condition = code_given x.given (codes "filter") in
       gives_after (TupleFits x.around.scope output.0) (Fit O.Functor) (tuple_of x rows) _ (tuple_for output.0 rows output.1) (λ code tuple.
-      plain_fits (Fit O.Functor) clauses (A.Functor condition code)
+      plain_fits (Fit O.Functor) O.Functor clauses (A.Functor condition code)
       (subst (λ c. Fit O.Functor (A.Functor condition c)) (sym tuple.is)
       (at_ports O.Functor (A.Functor condition (C.Tuple tuple.fields)) (input.0 ∷ []) (output.0 ∷ []) input.1 output.1
       (F.functor condition tuple.fields input.0.schema output.0 (condition_fits O.Functor params (codes "filter") refl) tuple.fit tuple.once))))
 
   punctor_fits : (clauses : Clauses) → FitPorts O.Punctor → Passing O.Punctor → Parameters O.Punctor → Gives (Fit O.Punctor) (punctor x clauses)
   punctor_fits clauses count passing params =
-      let input = lone x.around.scope.ports (first_so (length x.around.scope.ports == 1) (length x.around.schemas == 1) count) in
-      let output = lone x.around.schemas (second_so (length x.around.scope.ports == 1) (length x.around.schemas == 1) count) in
+      let input = one x.around.scope.ports (inputs_within O.Punctor count) in
+      let output = one x.around.schemas (outputs_within O.Punctor count) in
       let same = passed_on O.Punctor refl passing input.0 input.1 0 output.0 (ap (λ (s : List Attributes). slice_get s 0) output.1) in
       gives_after (λ code. CodeFits x.around.scope code S.Bool) (Fit O.Punctor) (there x.at (code_given x.given (codes "punctuation"))) _
-      (condition_there x.around.scope x.at (value_given x.given (codes "punctuation")) (has_role O.Punctor params (codes "punctuation") AsCondition refl)) (λ condition fit.
+      (condition_there x.around.scope x.at (value_given x.given (codes "punctuation")) (has_role O.Punctor params (codes "punctuation") R.Condition refl)) (λ condition fit.
       gives_then (Fit O.Punctor) (there x.at (position_given x.given)) _ (λ position is.
-      plain_fits (Fit O.Punctor) clauses (A.Punctor condition position)
+      plain_fits (Fit O.Punctor) O.Punctor clauses (A.Punctor condition position)
       (at_ports O.Punctor (A.Punctor condition position) (input.0 ∷ []) (input.0.schema ∷ []) input.1 (output.1 ∙ ap (λ (s : Attributes). s ∷ []) same)
       (F.punctor condition position input.0.schema fit))))
 
   split_fits : (clauses : Clauses) → FitPorts O.Split → Passing O.Split → Parameters O.Split → Gives (Fit O.Split) (split x clauses)
   split_fits clauses count passing params =
-      let input = lone x.around.scope.ports (first_so (length x.around.scope.ports == 1) (between 1 16 (length x.around.schemas)) count) in
+      let input = one x.around.scope.ports (inputs_within O.Split count) in
       gives_after (λ code. (kind : IntKind) × CodeFits x.around.scope code (S.Int kind)) (Fit O.Split) (there x.at (code_given x.given (codes "index"))) _
-      (index_there x.around.scope x.at (value_given x.given (codes "index")) (has_role O.Split params (codes "index") AsIndex refl)) (λ index fit.
-      plain_fits (Fit O.Split) clauses (A.Split index)
+      (index_there x.around.scope x.at (value_given x.given (codes "index")) (has_role O.Split params (codes "index") R.Index refl)) (λ index fit.
+      plain_fits (Fit O.Split) O.Split clauses (A.Split index)
       (at_ports O.Split (A.Split index) (input.0 ∷ []) x.around.schemas input.1 refl
       (F.split index fit.0 input.0.schema x.around.schemas fit.1 (passed_on O.Split refl passing input.0 input.1))))
 
   union_fits : (clauses : Clauses) → FitPorts O.Union → Gives (Fit O.Union) (union x clauses)
   union_fits clauses count =
-      let output = lone x.around.schemas (second_so (between 1 16 (length x.around.scope.ports)) (length x.around.schemas == 1) count) in
+      let output = one x.around.schemas (outputs_within O.Union count) in
       gives_after (InputsFit output.0 x.around.scope.ports) (Fit O.Union) (inputs_typing x.at (first_of x.around.schemas) x.around.scope.ports) _
       (subst (λ s. Gives (InputsFit s x.around.scope.ports) (inputs_typing x.at (first_of x.around.schemas) x.around.scope.ports)) (ap first_of output.1)
       (inputs_fit x.at (first_of x.around.schemas) x.around.scope.ports)) (λ places fit.
-      plain_fits (Fit O.Union) clauses (A.Union places)
+      plain_fits (Fit O.Union) O.Union clauses (A.Union places)
       (at_ports O.Union (A.Union places) x.around.scope.ports (output.0 ∷ []) refl output.1
       (F.union places (schemas_of x.around.scope.ports) output.0 (fit.count ∙ sym (length-map x.around.scope.ports (λ p. p.schema))) fit.fit)))
 
@@ -245,18 +263,18 @@ module _ (laws : TypingGives) (x : Checks) (bare : x.around.scope.vars ≡ []) (
       F.custom handlers (schemas_of x.around.scope.ports) x.around.schemas fit)
 
   -- the keys of an Aggregate's only port
-  keys_fit : (port : Port) → x.around.scope.ports ≡ port ∷ [] → (name : List ℕ) → AsRole x.around.scope AsAttributes (value_given x.given name)
+  keys_fit : (port : Port) → x.around.scope.ports ≡ port ∷ [] → (name : List ℕ) → AsRole x.around.scope R.Attributes (value_given x.given name)
       → KeysFit port.schema (places_given x.given name)
   keys_fit port is name h =
       subst (λ s. KeysFit s (places_given x.given name)) (ap first_schema is) (places_there x.around.scope (value_given x.given name) h)
 
   aggregated_fits : (clauses : Clauses) (rows : List OutputAssignments) → FitPorts O.Aggregate → Parameters O.Aggregate → (windows : List Policy) → x.windows ≡ windows
-      → Along O.Aggregate x.around.scope.ports windows → Gives (Fit O.Aggregate) (aggregated x clauses rows windows)
+      → Along W.Aggregate x.around.scope.ports windows → Gives (Fit O.Aggregate) (aggregated x clauses rows windows)
   aggregated_fits clauses rows count params [] are along = tt
   aggregated_fits clauses rows count params (window ∷ windows) are along =
-      let input = lone x.around.scope.ports (first_so (length x.around.scope.ports == 1) (length x.around.schemas == 1) count) in
-      let output = lone x.around.schemas (second_so (length x.around.scope.ports == 1) (length x.around.schemas == 1) count) in
-      let on_port : Along O.Aggregate (input.0 ∷ []) (window ∷ windows) = subst (λ ports. Along O.Aggregate ports (window ∷ windows)) input.1 along in
+      let input = one x.around.scope.ports (inputs_within O.Aggregate count) in
+      let output = one x.around.schemas (outputs_within O.Aggregate count) in
+      let on_port : Along W.Aggregate (input.0 ∷ []) (window ∷ windows) = subst (λ ports. Along W.Aggregate ports (window ∷ windows)) input.1 along in
       let partitioned : is_partitioned x.windows ≡ window.partitioned = ap is_partitioned are in
       let partition = places_given x.given (codes "partitionBy") in
       let group = places_given x.given (codes "groupBy") in
@@ -264,31 +282,31 @@ module _ (laws : TypingGives) (x : Checks) (bare : x.around.scope.vars ≡ []) (
       (groups_typing x.around.scope x.at (first_of x.around.schemas) (first_of x.around.outputs) rows) _
       (subst (λ s. Gives (GroupsFit x.around.scope s) (groups_typing x.around.scope x.at (first_of x.around.schemas) (first_of x.around.outputs) rows)) (ap first_of output.1)
       (groups_fit laws x.around.scope bare fine x.at (first_of x.around.schemas) (first_of x.around.outputs) rows)) (λ groups fit.
-      plain_fits (Fit O.Aggregate) clauses (A.Aggregate window partition group groups)
+      plain_fits (Fit O.Aggregate) O.Aggregate clauses (A.Aggregate window partition group groups)
       (at_ports O.Aggregate (A.Aggregate window partition group groups) (input.0 ∷ []) (output.0 ∷ []) input.1 output.1
       (F.aggregate window partition group groups input.0.schema output.0 on_port.0
       (keys_fit input.0 input.1 (codes "partitionBy") (partition_role x.around.scope (is_partitioned x.windows) x.given params.all))
       (subst (λ b. IsTrue b ↔ (0 < length partition)) partitioned (some_partition x.around.scope (is_partitioned x.windows) x.given params))
-      (keys_fit input.0 input.1 (codes "groupBy") (has_role O.Aggregate params (codes "groupBy") AsAttributes (group_role (is_partitioned x.windows))))
+      (keys_fit input.0 input.1 (codes "groupBy") (has_role O.Aggregate params (codes "groupBy") R.Attributes (group_role (is_partitioned x.windows))))
       fit)))
 
   joined_fits : (clauses : Clauses) (rows : List OutputAssignments) → FitPorts O.Join → Parameters O.Join → (windows : List Policy)
-      → Along O.Join x.around.scope.ports windows → Gives (Fit O.Join) (joined x clauses rows windows)
+      → Along W.Join x.around.scope.ports windows → Gives (Fit O.Join) (joined x clauses rows windows)
   joined_fits clauses rows count params [] along = tt
   joined_fits clauses rows count params (left ∷ []) along = tt
   joined_fits clauses rows count params (left ∷ right ∷ windows) along =
-      let inputs = two x.around.scope.ports (first_so (length x.around.scope.ports == 2) (length x.around.schemas == 1) count) in
-      let output = lone x.around.schemas (second_so (length x.around.scope.ports == 2) (length x.around.schemas == 1) count) in
-      let on_ports : Along O.Join (inputs.0 ∷ inputs.1 ∷ []) (left ∷ right ∷ windows) = subst (λ ports. Along O.Join ports (left ∷ right ∷ windows)) inputs.2 along in
+      let inputs = two x.around.scope.ports (inputs_within O.Join count) in
+      let output = one x.around.schemas (outputs_within O.Join count) in
+      let on_ports : Along W.Join (inputs.0 ∷ inputs.1 ∷ []) (left ∷ right ∷ windows) = subst (λ ports. Along W.Join ports (left ∷ right ∷ windows)) inputs.2 along in
       let condition = code_given x.given (codes "match") in
       gives_after (TupleFits x.around.scope output.0) (Fit O.Join) (tuple_of x rows) _ (tuple_for output.0 rows output.1) (λ code tuple.
-      plain_fits (Fit O.Join) clauses (A.Join left right condition code)
+      plain_fits (Fit O.Join) O.Join clauses (A.Join left right condition code)
       (subst (λ c. Fit O.Join (A.Join left right condition c)) (sym tuple.is)
       (at_ports O.Join (A.Join left right condition (C.Tuple tuple.fields)) (inputs.0 ∷ inputs.1 ∷ []) (output.0 ∷ []) inputs.2 output.1
       (F.join left right condition tuple.fields inputs.0.schema inputs.1.schema output.0 on_ports.0.0 on_ports.1.0.0 on_ports.0.1 on_ports.1.0.1
       (condition_fits O.Join params (codes "match") refl) tuple.fit tuple.once))))
 
-  pub part_fits : (clauses : Clauses) (rows : List OutputAssignments) (kind : OpKind) → FitPorts kind → Passing kind → WindowsFit kind x.around.scope.ports x.windows
+  pub part_fits : (clauses : Clauses) (rows : List OutputAssignments) (kind : OpKind) → FitPorts kind → Passing kind → WindowsFit (rules_of kind).window x.around.scope.ports x.windows
       → Parameters kind → Gives (Fit kind) (part_of x clauses rows kind)
   part_fits clauses rows O.FileSource count passing windows params = source_fits clauses count params
   part_fits clauses rows O.FileSink count passing windows params = sink_fits clauses count params
@@ -298,8 +316,8 @@ module _ (laws : TypingGives) (x : Checks) (bare : x.around.scope.vars ≡ []) (
   part_fits clauses rows O.Split count passing windows params = split_fits clauses count passing params
   part_fits clauses rows O.Union count passing windows params = union_fits clauses count
   part_fits clauses rows O.Custom count passing windows params = custom_fits clauses
-  part_fits clauses rows O.Aggregate count passing windows params = aggregated_fits clauses rows count params x.windows refl (windows refl)
-  part_fits clauses rows O.Join count passing windows params = joined_fits clauses rows count params x.windows (windows refl)
+  part_fits clauses rows O.Aggregate count passing windows params = aggregated_fits clauses rows count params x.windows refl windows
+  part_fits clauses rows O.Join count passing windows params = joined_fits clauses rows count params x.windows windows
 
 -- ---- the clauses
 
@@ -315,8 +333,8 @@ clauses_fit laws follow op around clauses bare fine count os long outs =
     let site = in_scope around.scope follow in
     let Q : Part → Type 0 = PartFits around.scope op.kind (schemas_of around.scope.ports) around.schemas in
     gives_then Q (config_checked clauses.config) _ (λ u none.
-    gives_after (WindowsFit op.kind around.scope.ports) Q (windows_checked op.kind (number_literal around.scope follow) op.at around.scope.ports clauses.window) _
-    (windows_fit op.kind (number_literal around.scope follow) op.at around.scope.ports clauses.window) (λ windows fit_windows.
+    gives_after (WindowsFit (rules_of op.kind).window around.scope.ports) Q (windows_checked op.kind (number_literal around.scope follow) op.at around.scope.ports clauses.window) _
+    (windows_fit (rules_of op.kind).window (number_literal around.scope follow) op.at around.scope.ports clauses.window) (λ windows fit_windows.
     gives_after (ParametersFit around.scope op.kind (is_partitioned windows)) Q (parameters_checked site op.kind (is_partitioned windows) op.at clauses.parameters) _
     (parameters_fit laws site fine op.kind (is_partitioned windows) op.at clauses.parameters) (λ given params.
     gives_then Q (output_rows op.kind clauses.output) _ (λ rows is.

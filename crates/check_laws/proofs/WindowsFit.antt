@@ -20,17 +20,17 @@ use Rattle.spl_tree.specs.declared.expression.ExprKind.TheOpen as X
 use Rattle.spl_tree.specs.declared.expression.ExprKind.TheOpen.{ExprKind-F}
 use Rattle.spl_tree.specs.declared.expression.ExprKind.TheViews.{out-ExprKind}
 use Rattle.spl_tree.specs.declared.expression.Placed.{Placed}
-use Rattle.spl_tree.specs.declared.graph.OpKind.{OpKind}
-use Rattle.spl_tree.specs.declared.graph.OpKind.TheVariants as O
 use Rattle.spl_tree.specs.declared.token.Number.{Number}
 use Rattle.spl_tree.specs.declared.unit.PortWindow.{PortWindow}
 use Rattle.spl_tree.specs.declared.unit.WindowPart.{WindowPart}
 use Rattle.spl_tree.specs.Grammar.{Expr}
 use Rattle.language_model.specs.declared.checked.Policy.{Policy}
 use Rattle.language_model.specs.declared.checked.WindowRule.TheVariants as W
+use Rattle.language_model.specs.declared.kinds.WindowForm.{WindowForm}
+use Rattle.language_model.specs.declared.kinds.WindowForm.TheVariants as M
 use Rattle.language_model.specs.declared.scope.CheckError.TheVariants as C
 use Rattle.language_model.specs.declared.scope.Port.{Port}
-use Rattle.language_model.specs.Checking.{each_window, has_windows, policy_of, windows_checked}
+use Rattle.language_model.specs.Checking.{each_window, policy_of, windows_of_form}
 use Rattle.language_model.specs.Keeping as F
 use Rattle.language_model.specs.Keeping.{AggregateWindow, DeltaFits, IsCount, JoinWindow}
 use Rattle.language_model.specs.Policies.{Delta, IntegerAttribute, Numbers, Sliding, aggregate_policy, aggregate_rule, are_no_arguments, as_count, as_integer, as_limit, bad_window, count_of, delta_of, has_name, is_word, join_rule, level_attribute, level_integer, limited, measured, most_tuples, nothing_behind, only_count, partitioned_or_not, punctuated, sliding_alone, sliding_rule, sliding_with_trigger, trigger, tumbling, window_at, window_of, windows_typing}
@@ -39,7 +39,7 @@ use Rattle.language_model.proofs.Standing.{Bears, attribute_there, Stands, first
 use Rattle.language_model.specs.StreamTypes.{Attributes}
 use Rattle.language_model.specs.Typing.{Found, after, refused, same_types}
 use Rattle.check_laws.proofs.Accepting.{gives_if, rolled}
-use Rattle.language_model.proofs.FoundAnswers.{Gives, gives_after, gives_on, gives_then}
+use Rattle.language_model.proofs.FoundAnswers.{Gives, gives_after, gives_then}
 
 -- ---- counts
 
@@ -191,10 +191,10 @@ join_fits numbers schema at (p ∷ ps) =
     gives_if (JoinWindow schema) (is_word (codes "sliding") p) (sliding_alone numbers schema at ps) (bad_window p.name.at)
     (λ is. untriggered_fits numbers schema at ps) (λ other. tt)
 
--- a policy of an operator of the kind, for a port
-abbrev pub PolicyFits : OpKind → Port → Policy → Type 0
-PolicyFits O.Join port policy = JoinWindow port.schema policy.rule × (policy.partitioned ≡ false)
-PolicyFits _ port policy = AggregateWindow port.schema policy.rule
+-- a policy of a form, for a port
+abbrev pub PolicyFits : WindowForm → Port → Policy → Type 0
+PolicyFits M.Aggregate port policy = AggregateWindow port.schema policy.rule
+PolicyFits M.Join port policy = JoinWindow port.schema policy.rule × (policy.partitioned ≡ false)
 
 aggregate_policy_fits : (numbers : Numbers) (port : Port) (w : PortWindow)
     → Gives (λ policy. AggregateWindow port.schema policy.rule) (aggregate_policy numbers port w)
@@ -203,94 +203,81 @@ aggregate_policy_fits numbers port w =
     (aggregate_rule numbers port.schema w.port.at (partitioned_or_not w.parts).others) _
     (aggregate_fits numbers port.schema w.port.at (partitioned_or_not w.parts).others) (λ rule h. h)
 
-policy_fits : (kind : OpKind) (numbers : Numbers) (port : Port) (w : PortWindow) → Gives (PolicyFits kind port) (policy_of kind numbers port w)
-policy_fits O.Join numbers port w =
-    gives_after (JoinWindow port.schema) (PolicyFits O.Join port) (join_rule numbers port.schema w.port.at w.parts) _
+policy_fits : (form : WindowForm) (numbers : Numbers) (port : Port) (w : PortWindow) → Gives (PolicyFits form port) (policy_of form numbers port w)
+policy_fits M.Aggregate numbers port w = aggregate_policy_fits numbers port w
+policy_fits M.Join numbers port w =
+    gives_after (JoinWindow port.schema) (PolicyFits M.Join port) (join_rule numbers port.schema w.port.at w.parts) _
     (join_fits numbers port.schema w.port.at w.parts) (λ rule h. (h, refl))
-policy_fits O.FileSource numbers port w = aggregate_policy_fits numbers port w
-policy_fits O.FileSink numbers port w = aggregate_policy_fits numbers port w
-policy_fits O.Filter numbers port w = aggregate_policy_fits numbers port w
-policy_fits O.Functor numbers port w = aggregate_policy_fits numbers port w
-policy_fits O.Punctor numbers port w = aggregate_policy_fits numbers port w
-policy_fits O.Split numbers port w = aggregate_policy_fits numbers port w
-policy_fits O.Union numbers port w = aggregate_policy_fits numbers port w
-policy_fits O.Custom numbers port w = aggregate_policy_fits numbers port w
-policy_fits O.Aggregate numbers port w = aggregate_policy_fits numbers port w
 
 -- ---- the clause
 
 -- a window of one of the ports
-abbrev OnPort : OpKind → List Port → ℕ × Policy → Type 0
-OnPort kind ports x = (port : Port) × (slice_get ports x.0 ≡ Some port) × PolicyFits kind port x.1
+abbrev OnPort : WindowForm → List Port → ℕ × Policy → Type 0
+OnPort form ports x = (port : Port) × (slice_get ports x.0 ≡ Some port) × PolicyFits form port x.1
 
-one_window : (kind : OpKind) (numbers : Numbers) (ports : List Port) (given : List ℕ) (w : PortWindow) (p : Port → Bool) (o : Option (At Port))
-    → Stands p ports 0 o → Gives (OnPort kind ports) (window_of (policy_of kind numbers) given w o)
-one_window kind numbers ports given w p None h = tt
-one_window kind numbers ports given w p (Some port) h =
-    gives_if (OnPort kind ports) (list_any (λ n. n == port.place) given) (refused C.ExtraParameter w.port.at (Some (codes "window")))
-    (after (policy_of kind numbers port.what w) (λ x. Ok (port.place, x))) (λ twice. tt) (λ first.
+one_window : (form : WindowForm) (numbers : Numbers) (ports : List Port) (given : List ℕ) (w : PortWindow) (p : Port → Bool) (o : Option (At Port))
+    → Stands p ports 0 o → Gives (OnPort form ports) (window_of (policy_of form numbers) given w o)
+one_window form numbers ports given w p None h = tt
+one_window form numbers ports given w p (Some port) h =
+    gives_if (OnPort form ports) (list_any (λ n. n == port.place) given) (refused C.ExtraParameter w.port.at (Some (codes "window")))
+    (after (policy_of form numbers port.what w) (λ x. Ok (port.place, x))) (λ twice. tt) (λ first.
     let place : port.place ≡ h.0 = omega (arith, h.1) in
-    gives_after (PolicyFits kind port.what) (OnPort kind ports) (policy_of kind numbers port.what w) _ (policy_fits kind numbers port.what w) (λ policy fit.
+    gives_after (PolicyFits form port.what) (OnPort form ports) (policy_of form numbers port.what w) _ (policy_fits form numbers port.what w) (λ policy fit.
     (port.what, ap (slice_get ports) place ∙ h.2, fit)))
 
-clause_fits : (kind : OpKind) (numbers : Numbers) (ports : List Port) (given : List ℕ) (ws : List PortWindow)
-    → Gives (AllByRecursion (OnPort kind ports)) (windows_typing (policy_of kind numbers) ports given ws)
-clause_fits kind numbers ports given [] = tt
-clause_fits kind numbers ports given (w ∷ ws) =
-    gives_after (OnPort kind ports) (AllByRecursion (OnPort kind ports))
-    (window_of (policy_of kind numbers) given w (first_from (λ p. bytes_eq p.name w.port.what) 0 ports)) _
-    (one_window kind numbers ports given w (λ p. bytes_eq p.name w.port.what) (first_from (λ p. bytes_eq p.name w.port.what) 0 ports)
+clause_fits : (form : WindowForm) (numbers : Numbers) (ports : List Port) (given : List ℕ) (ws : List PortWindow)
+    → Gives (AllByRecursion (OnPort form ports)) (windows_typing (policy_of form numbers) ports given ws)
+clause_fits form numbers ports given [] = tt
+clause_fits form numbers ports given (w ∷ ws) =
+    gives_after (OnPort form ports) (AllByRecursion (OnPort form ports))
+    (window_of (policy_of form numbers) given w (first_from (λ p. bytes_eq p.name w.port.what) 0 ports)) _
+    (one_window form numbers ports given w (λ p. bytes_eq p.name w.port.what) (first_from (λ p. bytes_eq p.name w.port.what) 0 ports)
     (first_stands (λ p. bytes_eq p.name w.port.what) ports 0)) (λ x on.
-    gives_after (AllByRecursion (OnPort kind ports)) (AllByRecursion (OnPort kind ports)) (windows_typing (policy_of kind numbers) ports (x.0 ∷ given) ws) _
-    (clause_fits kind numbers ports (x.0 ∷ given) ws) (λ xs rest. (on, rest)))
+    gives_after (AllByRecursion (OnPort form ports)) (AllByRecursion (OnPort form ports)) (windows_typing (policy_of form numbers) ports (x.0 ∷ given) ws) _
+    (clause_fits form numbers ports (x.0 ∷ given) ws) (λ xs rest. (on, rest)))
 
 -- the window of a port
-abbrev OfPort : OpKind → List Port → ℕ → Policy → Type 0
-OfPort kind ports k policy = (port : Port) → slice_get ports k ≡ Some port → PolicyFits kind port policy
+abbrev OfPort : WindowForm → List Port → ℕ → Policy → Type 0
+OfPort form ports k policy = (port : Port) → slice_get ports k ≡ Some port → PolicyFits form port policy
 
-window_fits : (kind : OpKind) (ports : List Port) (at k : ℕ) (xs : List (ℕ × Policy)) → AllByRecursion (OnPort kind ports) xs → Gives (OfPort kind ports k) (window_at at k xs)
-window_fits kind ports at k [] h = tt
-window_fits kind ports at k (x ∷ xs) h =
-    gives_if (OfPort kind ports k) (x.0 == k) (Ok x.1) (window_at at k xs) (λ same port there.
+window_fits : (form : WindowForm) (ports : List Port) (at k : ℕ) (xs : List (ℕ × Policy)) → AllByRecursion (OnPort form ports) xs → Gives (OfPort form ports k) (window_at at k xs)
+window_fits form ports at k [] h = tt
+window_fits form ports at k (x ∷ xs) h =
+    gives_if (OfPort form ports k) (x.0 == k) (Ok x.1) (window_at at k xs) (λ same port there.
     let place : x.0 ≡ k = eqb-true x.0 k same in
     let equal : Some h.0.0 ≡ Some port = sym h.0.1 ∙ ap (slice_get ports) place ∙ there in
     let port_is : h.0.0 ≡ port = cc in
-    subst (λ p. PolicyFits kind p x.1) port_is h.0.2)
-    (λ other. window_fits kind ports at k xs h.1)
+    subst (λ p. PolicyFits form p x.1) port_is h.0.2)
+    (λ other. window_fits form ports at k xs h.1)
 
 -- one for each port
-abbrev pub Along : OpKind → List Port → List Policy → Type 0
-Along kind [] [] = Unit {0}
-Along kind (p ∷ ps) (w ∷ ws) = PolicyFits kind p w × Along kind ps ws
-Along kind _ _ = ⊥
+abbrev pub Along : WindowForm → List Port → List Policy → Type 0
+Along form [] [] = Unit {0}
+Along form (p ∷ ps) (w ∷ ws) = PolicyFits form p w × Along form ps ws
+Along form _ _ = ⊥
 
-each_fits : (kind : OpKind) (ports : List Port) (at : ℕ) (xs : List (ℕ × Policy)) → AllByRecursion (OnPort kind ports) xs → (k : ℕ) (ps : List Port)
-    → ((j : ℕ) → slice_get ports (k + j) ≡ slice_get ps j) → Gives (Along kind ps) (each_window at xs k ps)
-each_fits kind ports at xs h k [] tail = tt
-each_fits kind ports at xs h k (p ∷ ps) tail =
-    gives_after (OfPort kind ports k) (Along kind (p ∷ ps)) (window_at at k xs) _ (window_fits kind ports at k xs h) (λ policy of.
-    gives_after (Along kind ps) (Along kind (p ∷ ps)) (each_window at xs (suc k) ps) _
-    (each_fits kind ports at xs h (suc k) ps (λ j. let same : suc k + j ≡ k + suc j = omega arith in ap (slice_get ports) same ∙ tail (suc j))) (λ rest along.
+each_fits : (form : WindowForm) (ports : List Port) (at : ℕ) (xs : List (ℕ × Policy)) → AllByRecursion (OnPort form ports) xs → (k : ℕ) (ps : List Port)
+    → ((j : ℕ) → slice_get ports (k + j) ≡ slice_get ps j) → Gives (Along form ps) (each_window at xs k ps)
+each_fits form ports at xs h k [] tail = tt
+each_fits form ports at xs h k (p ∷ ps) tail =
+    gives_after (OfPort form ports k) (Along form (p ∷ ps)) (window_at at k xs) _ (window_fits form ports at k xs h) (λ policy of.
+    gives_after (Along form ps) (Along form (p ∷ ps)) (each_window at xs (suc k) ps) _
+    (each_fits form ports at xs h (suc k) ps (λ j. let same : suc k + j ≡ k + suc j = omega arith in ap (slice_get ports) same ∙ tail (suc j))) (λ rest along.
     (of p (let same : k ≡ k + 0 = omega arith in ap (slice_get ports) same ∙ tail 0), along)))
 
--- the windows of an operator that has some
-abbrev pub WindowsFit : OpKind → List Port → List Policy → Type 0
-WindowsFit kind ports windows = has_windows kind ≡ true → Along kind ports windows
+-- the windows of an operator, where it has some
+abbrev pub WindowsFit : Option WindowForm → List Port → List Policy → Type 0
+WindowsFit None ports windows = Unit {0}
+WindowsFit (Some form) ports windows = Along form ports windows
 
-from_start : (kind : OpKind) (ports : List Port) (at : ℕ) (xs : List (ℕ × Policy)) → AllByRecursion (OnPort kind ports) xs → Gives (Along kind ports) (each_window at xs 0 ports)
-from_start kind ports at xs h = each_fits kind ports at xs h 0 ports (λ j. let same : 0 + j ≡ j = omega arith in ap (slice_get ports) same)
+from_start : (form : WindowForm) (ports : List Port) (at : ℕ) (xs : List (ℕ × Policy)) → AllByRecursion (OnPort form ports) xs → Gives (Along form ports) (each_window at xs 0 ports)
+from_start form ports at xs h = each_fits form ports at xs h 0 ports (λ j. let same : 0 + j ≡ j = omega arith in ap (slice_get ports) same)
 
-pub windows_fit : (kind : OpKind) (numbers : Numbers) (at : ℕ) (ports : List Port) (o : Option (Placed (List PortWindow)))
-    → Gives (WindowsFit kind ports) (windows_checked kind numbers at ports o)
-windows_fit kind numbers at ports None =
-    gives_if (WindowsFit kind ports) (has_windows kind) (each_window at [] 0 ports) (Ok [])
-    (λ has. gives_on (Along kind ports) (WindowsFit kind ports) (each_window at [] 0 ports) (from_start kind ports at [] tt) (λ windows along some. along))
-    (λ none some. absurd cc)
-windows_fit kind numbers at ports (Some w) =
-    gives_if (WindowsFit kind ports) (has_windows kind)
-    (after (windows_typing (policy_of kind numbers) ports [] w.what) (λ windows. each_window at windows 0 ports))
-    (refused C.ExtraParameter w.at (Some (codes "window")))
-    (λ has. gives_after (AllByRecursion (OnPort kind ports)) (WindowsFit kind ports) (windows_typing (policy_of kind numbers) ports [] w.what) _
-    (clause_fits kind numbers ports [] w.what) (λ xs all.
-    gives_on (Along kind ports) (WindowsFit kind ports) (each_window at xs 0 ports) (from_start kind ports at xs all) (λ windows along some. along)))
-    (λ none. tt)
+pub windows_fit : (form : Option WindowForm) (numbers : Numbers) (at : ℕ) (ports : List Port) (o : Option (Placed (List PortWindow)))
+    → Gives (WindowsFit form ports) (windows_of_form form numbers at ports o)
+windows_fit None numbers at ports None = tt
+windows_fit None numbers at ports (Some w) = tt
+windows_fit (Some form) numbers at ports None = from_start form ports at [] tt
+windows_fit (Some form) numbers at ports (Some w) =
+    gives_after (AllByRecursion (OnPort form ports)) (Along form ports) (windows_typing (policy_of form numbers) ports [] w.what) _
+    (clause_fits form numbers ports [] w.what) (λ xs all. from_start form ports at xs all)

@@ -3,8 +3,9 @@ ghost use Rattle.std.specs.Prelude.{◌≡◌, [], false, map, codes, IfOk, Ok};
 ghost use Rattle.std.specs.List.{list_all};
 ghost use Rattle.std.specs.Option.{option_copied};
 ghost use Rattle.spl_value.specs.declared.types.SplType.TheViews.{out-SplType};
+ghost use Rattle.spl_tree.specs.declared.graph.OpKind.TheVariants as O;
 ghost use Rattle.language_model.specs.declared.checked.Part.TheVariants as A;
-ghost use Rattle.language_model.specs.Checking.{code_given, file_sink, file_source, aggregated, functor, has_output, has_text_form, joined, level_text_form, no_logic, output_rows, part_of, places_given, plain, position_given, punctor, split, there, union};
+ghost use Rattle.language_model.specs.Checking.{code_given, file_sink, file_source, aggregated, functor, has_text_form, joined, level_text_form, logic_checked, output_rows, part_of, places_given, plain, position_given, punctor, split, there, union};
 ghost use Rattle.language_model.specs.LogicTyping.{logic_typing};
 ghost use Rattle.language_model.specs.Typing.{after};
 ghost use Rattle.language_model.specs.Finds.{Finds};
@@ -13,7 +14,7 @@ ghost use Rattle.clause_rules.specs.Operators.{around_seen, checks_seen, groups_
 use crate::logic::logic_of;
 use language_model::{
     CheckError, Collected, Given, Part, Policy, Port, Position, Scope, TypeAnswer, refused,
-    refused_name,
+    refused_name, rules_of,
 };
 use output_rules::{groups_of, places_of, tuple_of};
 use parameter_rules::{position_given, strict_given, take_code, take_file, take_places};
@@ -38,12 +39,6 @@ pub(crate) struct Checks {
     pub(crate) given: Items<Given>,
 }
 
-fn has_output(kind: OpKind) -> bool
-    ensures { result ≡ has_output kind }
-{
-    matches!(kind, OpKind::Functor | OpKind::Aggregate | OpKind::Join)
-}
-
 /// The rows of the output clause. An operator that has none is refused at the clause's word.
 pub(crate) fn output_rows(
     alloc: Global,
@@ -54,34 +49,45 @@ pub(crate) fn output_rows(
 {
     match clause {
         None => Ok(&[]),
-        Some(clause) if has_output(kind) => Ok(clause.what.as_slice()),
+        Some(clause) if rules_of(kind).output.is_some() => Ok(clause.what.as_slice()),
         Some(clause) => Err(refused_name(alloc, CheckError::ExtraParameter, clause.at, b"output")),
     }
 }
 
-/// Refuses the logic of an operator that isn't a Custom.
-fn no_logic(alloc: Global, logic: Option<&Placed<Logic>>) -> Result<(), TypeAnswer>
-    ensures { Finds (no_logic (option_copied logic.entry)) result }
+/// Refuses the logic of an operator that has none.
+fn logic_checked(
+    alloc: Global,
+    kind: OpKind,
+    logic: Option<&Placed<Logic>>,
+) -> Result<(), TypeAnswer>
+    ensures { Finds (logic_checked kind (option_copied logic.entry)) result }
 {
     match logic {
-        None => Ok(()),
-        Some(logic) => Err(refused_name(alloc, CheckError::LeftOut, logic.at, b"logic")),
+        Some(logic) if !rules_of(kind).logic => {
+            Err(refused_name(alloc, CheckError::LeftOut, logic.at, b"logic"))
+        }
+        _ => Ok(()),
     }
 }
 
-/// What is found of an operator without logic.
-fn without_logic<T: Drop>(alloc: Global, clauses: &Clauses, found: T) -> Result<T, TypeAnswer>
-    ensures { Finds (after (no_logic clauses.now.logic) (λ _. Ok found)) result }
+/// What is found of an operator whose logic isn't looked at any more.
+fn without_logic<T: Drop>(
+    alloc: Global,
+    kind: OpKind,
+    clauses: &Clauses,
+    found: T,
+) -> Result<T, TypeAnswer>
+    ensures { Finds (after (logic_checked kind clauses.now.logic) (λ _. Ok found)) result }
 {
-    no_logic(alloc, clauses.logic.as_ref())?;
+    logic_checked(alloc, kind, clauses.logic.as_ref())?;
     Ok(found)
 }
 
-/// A part of an operator without logic.
-fn plain(alloc: Global, clauses: &Clauses, part: Part) -> Result<Part, TypeAnswer>
-    ensures { Finds (plain clauses.now part) result }
+/// A part of an operator whose logic isn't looked at any more.
+fn plain(alloc: Global, kind: OpKind, clauses: &Clauses, part: Part) -> Result<Part, TypeAnswer>
+    ensures { Finds (plain kind clauses.now part) result }
 {
-    without_logic(alloc, clauses, part)
+    without_logic(alloc, kind, clauses, part)
 }
 
 fn has_field(kind: &SplType) -> bool
@@ -122,7 +128,7 @@ fn file_source(
 ) -> Result<Part, TypeAnswer>
     ensures { Finds (file_source (checks_seen around.now scope.now checks) clauses.now) result }
 {
-    no_logic(alloc, clauses.logic.as_ref())?;
+    logic_checked(alloc, OpKind::FileSource, clauses.logic.as_ref())?;
     rows_checked(checks.at, around.outputs)?;
     let mut given = checks.given;
     let strict = strict_given(given.as_slice());
@@ -139,7 +145,7 @@ fn file_sink(
 ) -> Result<Part, TypeAnswer>
     ensures { Finds (file_sink (checks_seen around.now scope.now checks) clauses.now) result }
 {
-    no_logic(alloc, clauses.logic.as_ref())?;
+    logic_checked(alloc, OpKind::FileSink, clauses.logic.as_ref())?;
     rows_checked(checks.at, scope.ports.as_slice())?;
     let mut given = checks.given;
     let file = take_file(alloc, &mut given);
@@ -147,11 +153,11 @@ fn file_sink(
 }
 
 fn filter(alloc: Global, checks: Checks, clauses: &Clauses) -> Result<Part, TypeAnswer>
-    ensures { Finds (plain clauses.now (A.Filter (code_given checks.given (codes "filter")))) result }
+    ensures { Finds (plain O.Filter clauses.now (A.Filter (code_given checks.given (codes "filter")))) result }
 {
     let mut given = checks.given;
     let condition = take_code(&mut given, b"filter");
-    plain(alloc, clauses, Part::Filter { condition })
+    plain(alloc, OpKind::Filter, clauses, Part::Filter { condition })
 }
 
 /// The output of a Functor or a Join, as the code of a tuple.
@@ -206,7 +212,12 @@ fn functor(
     let output = tuple(alloc, around, scope, checks.at, rows)?;
     let mut given = checks.given;
     let condition = take_code(&mut given, b"filter");
-    plain(alloc, clauses, Part::Functor { condition, output })
+    plain(
+        alloc,
+        OpKind::Functor,
+        clauses,
+        Part::Functor { condition, output },
+    )
 }
 
 /// The condition of a Punctor, and where it puts its markers.
@@ -233,6 +244,7 @@ fn punctor(
     let position = there(checks.at, position)?;
     plain(
         alloc,
+        OpKind::Punctor,
         clauses,
         Part::Punctor {
             condition,
@@ -252,7 +264,7 @@ fn split(
 {
     let mut given = checks.given;
     let index = there(checks.at, take_code(&mut given, b"index"))?;
-    plain(alloc, clauses, Part::Split { index })
+    plain(alloc, OpKind::Split, clauses, Part::Split { index })
 }
 
 fn union(
@@ -269,7 +281,7 @@ fn union(
         None => &[],
     };
     let places = places_of(alloc, checks.at, schema, scope.ports.as_slice())?;
-    plain(alloc, clauses, Part::Union { places })
+    plain(alloc, OpKind::Union, clauses, Part::Union { places })
 }
 
 /// The output of an Aggregate.
@@ -320,6 +332,7 @@ fn aggregate(
     let (partition, group) = keys_of(alloc, checks.given);
     plain(
         alloc,
+        OpKind::Aggregate,
         clauses,
         Part::Aggregate {
             window,
@@ -349,6 +362,7 @@ fn join(
     let condition = take_code(&mut given, b"match");
     plain(
         alloc,
+        OpKind::Join,
         clauses,
         Part::Join {
             left,

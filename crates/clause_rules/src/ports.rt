@@ -2,28 +2,26 @@
 ghost use Rattle.std.specs.Prelude.{◌≡◌, IfOk};
 ghost use Rattle.language_model.specs.Checking.{config_checked, fit_ports, port_name, ports_checked};
 ghost use Rattle.language_model.specs.Finds.{Finds};
+ghost use Rattle.language_model.specs.Kinds.{is_within};
 ghost use Rattle.clause_rules.specs.Operators.{named};
 
-use language_model::{CheckError, Port, TypeAnswer, refused, refused_name};
+use language_model::{CheckError, Port, PortBounds, TypeAnswer, refused, refused_name, rules_of};
 use spl_tree::{InputPort, Invocation, Op, OpKind, OutputStream, Parameter};
 use spl_value::{Items, Name, NoMemory, Schema};
 use std::alloc::Global;
+
+fn is_within(bounds: PortBounds, count: usize) -> bool
+    ensures { result ≡ is_within bounds count }
+{
+    bounds.least <= count && count <= bounds.most
+}
 
 /// Whether an operator of the kind may have so many inputs and outputs.
 fn may_have(kind: OpKind, ins: usize, outs: usize) -> bool
     ensures { result ≡ fit_ports kind ins outs }
 {
-    match kind {
-        OpKind::FileSource => ins == 0 && outs == 1,
-        OpKind::FileSink => ins == 1 && outs == 0,
-        OpKind::Filter | OpKind::Functor | OpKind::Punctor | OpKind::Aggregate => {
-            ins == 1 && outs == 1
-        }
-        OpKind::Split => ins == 1 && (1 <= outs && outs <= 16),
-        OpKind::Union => (1 <= ins && ins <= 16) && outs == 1,
-        OpKind::Custom => (1 <= ins && ins <= 16) && outs <= 16,
-        OpKind::Join => ins == 2 && outs == 1,
-    }
+    let rules = rules_of(kind);
+    is_within(rules.inputs, ins) && is_within(rules.outputs, outs)
 }
 
 /// Refuses a number of ports that the operator doesn't have, at its invocation.

@@ -5,3 +5,4 @@ mod Resuming
 mod Steps
 mod Way
 mod Work
+mod Firsts

@@ -2,11 +2,12 @@
 ghost use Rattle.std.specs.Prelude.{◌≡◌, ◌++◌, IfOk, flat_map};
 ghost use Rattle.std.specs.Option.{option_copied};
 ghost use Rattle.language_model.specs.Declarations.{first_of};
-ghost use Rattle.language_model.specs.Invoking.{target_of, kind_named, undeclared};
+ghost use Rattle.language_model.specs.Invoking.{target_of, undeclared};
 ghost use Rattle.language_model.specs.Mentions.{clause_mentions};
 ghost use Rattle.composite_expand.specs.steps.Invocations.{seen, named, streams_read, undeclared_operator, undeclared_parameters, unreadable};
 
 use composite_tables::{Composites, Scope};
+use language_model::kind_named;
 use program_tables::{Mention, of_invocation};
 use spl_tree::{Clauses, InputPort, Invocation, OpKind, Placed};
 use spl_value::{Name, NoMemory};
@@ -19,35 +20,6 @@ pub(crate) enum Target<'c, 'u> {
     /// A composite, with its place.
     Body(u32, &'c Scope<'u>),
     Nothing,
-}
-
-/// The operator of this name that the language has.
-fn kind_named(name: &[u8]) -> Option<OpKind>
-    ensures { result ≡ kind_named name.now }
-{
-    if name == b"FileSource".as_slice() {
-        Some(OpKind::FileSource)
-    } else if name == b"FileSink".as_slice() {
-        Some(OpKind::FileSink)
-    } else if name == b"Filter".as_slice() {
-        Some(OpKind::Filter)
-    } else if name == b"Functor".as_slice() {
-        Some(OpKind::Functor)
-    } else if name == b"Punctor".as_slice() {
-        Some(OpKind::Punctor)
-    } else if name == b"Split".as_slice() {
-        Some(OpKind::Split)
-    } else if name == b"Union".as_slice() {
-        Some(OpKind::Union)
-    } else if name == b"Custom".as_slice() {
-        Some(OpKind::Custom)
-    } else if name == b"Aggregate".as_slice() {
-        Some(OpKind::Aggregate)
-    } else if name == b"Join".as_slice() {
-        Some(OpKind::Join)
-    } else {
-        None
-    }
 }
 
 /// What is invoked by a name: a composite of the unit, or else an operator.

@@ -7,10 +7,9 @@ ghost use Rattle.language_model.specs.Declarations.{first_of, repeated};
 ghost use Rattle.language_model.specs.SinkFiles.{text_of, dollar_text, own_text, text_in, file_of, op_file, is_had, Text};
 ghost use Rattle.duplicate_rules.specs.steps.Seen.{form_text, text_seen, file_seen};
 
+use language_model::rules_of;
 use program_tables::{SiteTable, default_named, value_named};
-use spl_tree::{
-    CompositeParameter, Expansion, Expr, ExprKind, Op, OpKind, Parameter, Placed, Unit,
-};
+use spl_tree::{CompositeParameter, Expansion, Expr, ExprKind, Op, Parameter, Placed, Unit};
 use spl_value::{Items, Name, NoMemory};
 use std::alloc::Global;
 
@@ -107,12 +106,14 @@ fn is_shared(files: &[UsedFile], file: &UsedFile) -> bool
 fn file_of_op<'a>(sites: &SiteTable<'a>, op: &Op) -> Option<UsedFile<'a>>
     ensures { option_to_list (option_map file_seen result) ≡ op_file sites.now.unit.now sites.now.expansions.now op.now }
 {
-    if !matches!(op.kind, OpKind::FileSink | OpKind::FileSource) {
+    let rules = rules_of(op.kind);
+    let sink = rules.outputs.most == 0;
+    if !sink && rules.inputs.most != 0 {
         return None;
     }
     let bytes = file_of(sites, op)?;
     Some(UsedFile {
-        sink: op.kind == OpKind::FileSink,
+        sink,
         at: op.at,
         bytes,
     })

@@ -5,24 +5,10 @@
 //! | `Filter C.A(0 1) 2; Join B(2, 3) 4` | operators: kind, name, the streams of each input port, the streams that they make |
 //! | `0 1 2` | the numbers of the operators |
 //! | `1: 0 2; 0@0.1: 2 (1 from 0)` | bodies: the composite's number, the number of the body and of the invocation around it, the streams of its names, and each input's number of streams and first one |
-use spl_tree::{Expansion, Graph, Op, OpKind};
+use language_model::rules_of;
+use spl_tree::{Expansion, Graph, Op};
 use std::alloc::{AllocError, Global};
 use test_texts::text::Text;
-
-fn kind_word(kind: OpKind) -> &'static str {
-    match kind {
-        OpKind::FileSource => "FileSource ",
-        OpKind::FileSink => "FileSink ",
-        OpKind::Filter => "Filter ",
-        OpKind::Functor => "Functor ",
-        OpKind::Punctor => "Punctor ",
-        OpKind::Split => "Split ",
-        OpKind::Union => "Union ",
-        OpKind::Custom => "Custom ",
-        OpKind::Aggregate => "Aggregate ",
-        OpKind::Join => "Join ",
-    }
-}
 
 fn add_numbers(text: &mut Text, numbers: &[u32]) {
     for (at, number) in numbers.iter().enumerate() {
@@ -39,7 +25,8 @@ fn add_streams(text: &mut Text, streams: &[u32]) {
 }
 
 fn add_op(text: &mut Text, op: &Op) {
-    text.add(kind_word(op.kind));
+    text.add_bytes(rules_of(op.kind).name);
+    text.add(" ");
     text.add_bytes(op.name.as_slice());
     text.add("(");
     for (at, port) in op.ins.as_slice().iter().enumerate() {

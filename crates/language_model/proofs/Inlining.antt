@@ -19,7 +19,8 @@ use Rattle.language_model.specs.declared.expansion.Operation.{Operation}
 use Rattle.language_model.specs.Expansion.{Made, Found, Inlined, Opened, Expands, after, operation, with_operation, if_within, is_within, inlined, opened_in, with_expansion, if_grown, expanded_target, if_declared, expanded_invocation, expanded_graph, expanded, main_body, expanded_main}
 use Rattle.language_model.specs.Flat.{graph_of}
 use Rattle.language_model.specs.FlatLaws.{IsInvoked, OperatorLaw}
-use Rattle.language_model.specs.Invoking.{Target, Operator, Body, Nothing, target_of, body_or_operator, operator_or_nothing, kind_named, undeclared, fits_head}
+use Rattle.language_model.specs.Kinds.{kind_named}
+use Rattle.language_model.specs.Invoking.{Target, Operator, Body, Nothing, target_of, body_or_operator, operator_or_nothing, undeclared, fits_head}
 use Rattle.language_model.specs.Numbering.{op_of, ops_from, expansion_of, expansions_from}
 use Rattle.language_model.specs.Scopes.{At}
 use Rattle.language_model.proofs.Flattening.{topo_of, made_of, mapped, behind, numbers_length}

@@ -1,3 +1,4 @@
+pub mod KindLaws
 pub mod ExpansionAnswers
 pub mod FoundAnswers
 pub mod DefinedTypes

@@ -1,6 +1,6 @@
 -- The type of an expression by those of its parts, an equation for each form of expression. The types that the definition
 -- calls the same are those that are equal.
-use Rattle.std.specs.Prelude.{◌≡◌, ◌↔◌, IsTrue, ℕ, Bool, true, ◌&&◌, List, [], ◌∷◌, map}
+use Rattle.std.specs.Prelude.{◌≡◌, ◌↔◌, IsTrue, ℕ, Bool, true, ◌&&◌, List, [], ◌∷◌}
 use Rattle.std.specs.List.{AllByRecursion}
 use Rattle.std.specs.Cmp.{first_so, second_so}
 use Rattle.std.specs.Cmp.Lexicographic.{pointwise, bytes_decides}

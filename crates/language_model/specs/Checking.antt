@@ -1,7 +1,7 @@
 -- The checked graph of a unit, or the first refusal: functions in the order of the text, and then operators in the order of their
 -- declaration. Of an operator these are looked at in turn: how many ports it has, the types of its outputs and inputs, `config`, the
 -- window, the parameters, the outputs, the logic, and the rows of a file.
-use Rattle.std.specs.Prelude.{ℕ, suc, ◌==◌, nat_le, Bool, true, false, ◌&&◌, List, [], ◌∷◌, map, length, if◌then◌else◌, codes, Option, Some, None, Ok, slice_get}
+use Rattle.std.specs.Prelude.{ℕ, suc, Bool, true, false, ◌&&◌, List, [], ◌∷◌, map, length, if◌then◌else◌, codes, Option, Some, None, is_some, Ok, slice_get}
 use Rattle.std.specs.List.{list_all}
 use Rattle.std.specs.Option.{option_map_or}
 use Rattle.std.specs.Str.{bytes_eq}
@@ -33,11 +33,14 @@ use Rattle.language_model.specs.declared.checked.ParameterValue.TheVariants as V
 use Rattle.language_model.specs.declared.checked.Policy.{Policy}
 use Rattle.language_model.specs.declared.checked.PortTypes.{PortTypes}
 use Rattle.language_model.specs.declared.checked.Position.{Position}
+use Rattle.language_model.specs.declared.kinds.WindowForm.{WindowForm}
+use Rattle.language_model.specs.declared.kinds.WindowForm.TheVariants as W
 use Rattle.language_model.specs.declared.scope.CheckError.TheVariants as E
 use Rattle.language_model.specs.declared.scope.Port.{Port}
 use Rattle.language_model.specs.declared.scope.Scope.{Scope}
 use Rattle.language_model.specs.CheckedGraph.{CheckedGraph}
 use Rattle.language_model.specs.FunctionTyping.{functions_typing, unit_scope}
+use Rattle.language_model.specs.Kinds.{is_within, rules_of}
 use Rattle.language_model.specs.Literals.{followed, number_literal}
 use Rattle.language_model.specs.LogicTyping.{Surroundings, logic_typing}
 use Rattle.language_model.specs.Numbering.{numbers_from}
@@ -51,20 +54,8 @@ use Rattle.language_model.specs.Typing.{Found, after, mismatch, refused}
 
 -- ---- how many ports
 
-abbrev pub between : ℕ → ℕ → ℕ → Bool
-between least most n = nat_le least n && nat_le n most
-
 abbrev pub fit_ports : OpKind → ℕ → ℕ → Bool
-fit_ports O.FileSource ins outs = (ins == 0) && (outs == 1)
-fit_ports O.FileSink ins outs = (ins == 1) && (outs == 0)
-fit_ports O.Filter ins outs = (ins == 1) && (outs == 1)
-fit_ports O.Functor ins outs = (ins == 1) && (outs == 1)
-fit_ports O.Punctor ins outs = (ins == 1) && (outs == 1)
-fit_ports O.Split ins outs = (ins == 1) && between 1 16 outs
-fit_ports O.Union ins outs = between 1 16 ins && (outs == 1)
-fit_ports O.Custom ins outs = between 1 16 ins && nat_le outs 16
-fit_ports O.Aggregate ins outs = (ins == 1) && (outs == 1)
-fit_ports O.Join ins outs = (ins == 2) && (outs == 1)
+fit_ports kind ins outs = is_within (rules_of kind).inputs ins && is_within (rules_of kind).outputs outs
 
 abbrev pub ports_checked : Op → Invocation → Passes
 ports_checked op i = if fit_ports op.kind (length i.inputs) (length i.outputs) then passed else refused E.PortCount op.at None
@@ -72,19 +63,13 @@ ports_checked op i = if fit_ports op.kind (length i.inputs) (length i.outputs) t
 -- ---- types
 
 -- an operator that passes tuples on has outputs of the type of its input
-abbrev pub passes_on : OpKind → Bool
-passes_on O.Filter = true
-passes_on O.Punctor = true
-passes_on O.Split = true
-passes_on _ = false
-
 abbrev pub are_passed : Attributes → List OutputStream → List Attributes → Passes
 are_passed input (o ∷ os) (schema ∷ schemas) = if same_attributes schema input then are_passed input os schemas else mismatch o.shape.at
 are_passed input os schemas = passed
 
 abbrev pub outputs_checked : OpKind → List OutputStream → List Attributes → List Attributes → Passes
 outputs_checked kind os outs [] = passed
-outputs_checked kind os outs (input ∷ ins) = if passes_on kind then are_passed input os outs else passed
+outputs_checked kind os outs (input ∷ ins) = if (rules_of kind).passes_on then are_passed input os outs else passed
 
 -- a port's name in its body: its alias, or else that of its first stream
 abbrev pub first_name : List (Placed (List ℕ)) → List ℕ
@@ -112,14 +97,9 @@ config_checked (p ∷ ps) = if bytes_eq p.name.what (codes "placement") then con
 
 -- ---- windows
 
-abbrev pub has_windows : OpKind → Bool
-has_windows O.Aggregate = true
-has_windows O.Join = true
-has_windows _ = false
-
-abbrev pub policy_of : OpKind → Numbers → Port → PortWindow → Found Policy
-policy_of O.Join numbers = join_policy numbers
-policy_of kind numbers = aggregate_policy numbers
+abbrev pub policy_of : WindowForm → Numbers → Port → PortWindow → Found Policy
+policy_of W.Aggregate numbers = aggregate_policy numbers
+policy_of W.Join numbers = join_policy numbers
 
 -- the windows of all ports, in their order
 abbrev pub each_window : ℕ → List (ℕ × Policy) → ℕ → List Port → Found (List Policy)
@@ -127,11 +107,16 @@ each_window at windows port [] = Ok []
 each_window at windows port (p ∷ ps) =
     after (window_at at port windows) (λ policy. after (each_window at windows (suc port) ps) (λ rest. Ok (policy ∷ rest)))
 
+-- each port has a window of the form. Where there is none there is no clause
+abbrev pub windows_of_form : Option WindowForm → Numbers → ℕ → List Port → Option (Placed (List PortWindow)) → Found (List Policy)
+windows_of_form None numbers at ports None = Ok []
+windows_of_form None numbers at ports (Some w) = refused E.ExtraParameter w.at (Some (codes "window"))
+windows_of_form (Some form) numbers at ports None = each_window at [] 0 ports
+windows_of_form (Some form) numbers at ports (Some w) =
+    after (windows_typing (policy_of form numbers) ports [] w.what) (λ windows. each_window at windows 0 ports)
+
 abbrev pub windows_checked : OpKind → Numbers → ℕ → List Port → Option (Placed (List PortWindow)) → Found (List Policy)
-windows_checked kind numbers at ports None = if has_windows kind then each_window at [] 0 ports else Ok []
-windows_checked kind numbers at ports (Some w) =
-    if has_windows kind then after (windows_typing (policy_of kind numbers) ports [] w.what) (λ windows. each_window at windows 0 ports)
-    else refused E.ExtraParameter w.at (Some (codes "window"))
+windows_checked kind = windows_of_form (rules_of kind).window
 
 abbrev pub is_partitioned : List Policy → Bool
 is_partitioned [] = false
@@ -197,22 +182,16 @@ abbrev pub there : {A : Type 0} → ℕ → Option A → Found A
 there at None = mismatch at
 there at (Some x) = Ok x
 
-abbrev pub has_output : OpKind → Bool
-has_output O.Functor = true
-has_output O.Aggregate = true
-has_output O.Join = true
-has_output _ = false
-
 -- the rows of the output clause, where the operator has one
 abbrev pub output_rows : OpKind → Option (Placed (List OutputAssignments)) → Found (List OutputAssignments)
 output_rows kind None = Ok []
-output_rows kind (Some o) = if has_output kind then Ok o.what else refused E.ExtraParameter o.at (Some (codes "output"))
+output_rows kind (Some o) = if is_some (rules_of kind).output then Ok o.what else refused E.ExtraParameter o.at (Some (codes "output"))
 
 -- ---- logic
 
-abbrev pub no_logic : Option (Placed Logic) → Passes
-no_logic None = passed
-no_logic (Some l) = refused E.LeftOut l.at (Some (codes "logic"))
+abbrev pub logic_checked : OpKind → Option (Placed Logic) → Passes
+logic_checked kind None = passed
+logic_checked kind (Some l) = if (rules_of kind).logic then passed else refused E.LeftOut l.at (Some (codes "logic"))
 
 -- ---- rows of files
 
@@ -234,50 +213,50 @@ abbrev pub first_of : {A : Type 0} → List (List A) → List A
 first_of [] = []
 first_of (x ∷ xs) = x
 
--- an operator without logic
-abbrev pub plain : Clauses → Part → Found Part
-plain clauses part = after (no_logic clauses.logic) (λ u. Ok part)
+-- an operator whose logic isn't looked at any more
+abbrev pub plain : OpKind → Clauses → Part → Found Part
+plain kind clauses part = after (logic_checked kind clauses.logic) (λ u. Ok part)
 
 abbrev pub file_source : Checks → Clauses → Found Part
 file_source x clauses =
-    after (no_logic clauses.logic) (λ u. after (rows_checked x x.around.schemas) (λ v. Ok (A.FileSource (file_given x.given) (strict_given x.given))))
+    after (logic_checked O.FileSource clauses.logic) (λ u. after (rows_checked x x.around.schemas) (λ v. Ok (A.FileSource (file_given x.given) (strict_given x.given))))
 
 abbrev pub file_sink : Checks → Clauses → Found Part
 file_sink x clauses =
-    after (no_logic clauses.logic) (λ u. after (rows_checked x (map (λ p. p.schema) x.around.scope.ports)) (λ v. Ok (A.FileSink (file_given x.given))))
+    after (logic_checked O.FileSink clauses.logic) (λ u. after (rows_checked x (map (λ p. p.schema) x.around.scope.ports)) (λ v. Ok (A.FileSink (file_given x.given))))
 
 abbrev pub tuple_of : Checks → List OutputAssignments → Found (Code Slot)
 tuple_of x rows = tuple_typing x.around.scope x.at (first_of x.around.schemas) (first_of x.around.outputs) rows
 
 abbrev pub functor : Checks → Clauses → List OutputAssignments → Found Part
-functor x clauses rows = after (tuple_of x rows) (λ output. plain clauses (A.Functor (code_given x.given (codes "filter")) output))
+functor x clauses rows = after (tuple_of x rows) (λ output. plain O.Functor clauses (A.Functor (code_given x.given (codes "filter")) output))
 
 abbrev pub punctor : Checks → Clauses → Found Part
 punctor x clauses =
     after (there x.at (code_given x.given (codes "punctuation"))) (λ condition. after (there x.at (position_given x.given)) (λ position.
-    plain clauses (A.Punctor condition position)))
+    plain O.Punctor clauses (A.Punctor condition position)))
 
 abbrev pub split : Checks → Clauses → Found Part
-split x clauses = after (there x.at (code_given x.given (codes "index"))) (λ index. plain clauses (A.Split index))
+split x clauses = after (there x.at (code_given x.given (codes "index"))) (λ index. plain O.Split clauses (A.Split index))
 
 abbrev pub union : Checks → Clauses → Found Part
-union x clauses = after (inputs_typing x.at (first_of x.around.schemas) x.around.scope.ports) (λ places. plain clauses (A.Union places))
+union x clauses = after (inputs_typing x.at (first_of x.around.schemas) x.around.scope.ports) (λ places. plain O.Union clauses (A.Union places))
 
 abbrev pub aggregated : Checks → Clauses → List OutputAssignments → List Policy → Found Part
 aggregated x clauses rows (window ∷ windows) =
     after (groups_typing x.around.scope x.at (first_of x.around.schemas) (first_of x.around.outputs) rows) (λ output.
-    plain clauses (A.Aggregate window (places_given x.given (codes "partitionBy")) (places_given x.given (codes "groupBy")) output))
+    plain O.Aggregate clauses (A.Aggregate window (places_given x.given (codes "partitionBy")) (places_given x.given (codes "groupBy")) output))
 aggregated x clauses rows windows = bad_window x.at
 
 abbrev pub joined : Checks → Clauses → List OutputAssignments → List Policy → Found Part
 joined x clauses rows (left ∷ right ∷ windows) =
-    after (tuple_of x rows) (λ output. plain clauses (A.Join left right (code_given x.given (codes "match")) output))
+    after (tuple_of x rows) (λ output. plain O.Join clauses (A.Join left right (code_given x.given (codes "match")) output))
 joined x clauses rows windows = bad_window x.at
 
 abbrev pub part_of : Checks → Clauses → List OutputAssignments → OpKind → Found Part
 part_of x clauses rows O.FileSource = file_source x clauses
 part_of x clauses rows O.FileSink = file_sink x clauses
-part_of x clauses rows O.Filter = plain clauses (A.Filter (code_given x.given (codes "filter")))
+part_of x clauses rows O.Filter = plain O.Filter clauses (A.Filter (code_given x.given (codes "filter")))
 part_of x clauses rows O.Functor = functor x clauses rows
 part_of x clauses rows O.Punctor = punctor x clauses
 part_of x clauses rows O.Split = split x clauses

@@ -1,11 +1,10 @@
 -- What the names in the graph of a composite stand for, and how an invocation is refused by what it names and by the head
 -- that it has to fit.
-use Rattle.std.specs.Prelude.{ℕ, ◌==◌, Bool, true, false, ◌&&◌, ◌||◌, not, List, [], ◌∷◌, ◌++◌, map, flat_map, filter, length, if◌then◌else◌, codes, Option, Some, None, is_some, is_none}
+use Rattle.std.specs.Prelude.{ℕ, ◌==◌, Bool, true, false, ◌&&◌, ◌||◌, not, List, [], ◌∷◌, ◌++◌, map, flat_map, filter, length, if◌then◌else◌, Option, Some, None, is_some, is_none}
 use Rattle.std.specs.List.{list_any, list_all}
 use Rattle.std.specs.Str.{bytes_eq}
 use Rattle.spl_tree.specs.declared.expression.Placed.{Placed}
 use Rattle.spl_tree.specs.declared.graph.OpKind.{OpKind}
-use Rattle.spl_tree.specs.declared.graph.OpKind.TheVariants as O
 use Rattle.spl_tree.specs.declared.unit.Clauses.{Clauses}
 use Rattle.spl_tree.specs.declared.unit.Composite.{Composite}
 use Rattle.spl_tree.specs.declared.unit.CompositeParameter.{CompositeParameter}
@@ -14,25 +13,11 @@ use Rattle.spl_tree.specs.declared.unit.Invocation.{Invocation}
 use Rattle.spl_tree.specs.declared.unit.Parameter.{Parameter}
 use Rattle.language_model.specs.Composites.{composite_named, is_empty}
 use Rattle.language_model.specs.Declarations.{repeated_names}
+use Rattle.language_model.specs.Kinds.{kind_named}
 use Rattle.language_model.specs.Mentions.{dollars, clause_mentions}
 use Rattle.language_model.specs.Scopes.{At}
 
 -- ---- names
-
--- the operator of this name that the language has
-abbrev pub kind_named : List ℕ → Option OpKind
-kind_named name =
-    if bytes_eq name (codes "FileSource") then Some O.FileSource
-    else (if bytes_eq name (codes "FileSink") then Some O.FileSink
-    else (if bytes_eq name (codes "Filter") then Some O.Filter
-    else (if bytes_eq name (codes "Functor") then Some O.Functor
-    else (if bytes_eq name (codes "Punctor") then Some O.Punctor
-    else (if bytes_eq name (codes "Split") then Some O.Split
-    else (if bytes_eq name (codes "Union") then Some O.Union
-    else (if bytes_eq name (codes "Custom") then Some O.Custom
-    else (if bytes_eq name (codes "Aggregate") then Some O.Aggregate
-    else (if bytes_eq name (codes "Join") then Some O.Join
-    else None)))))))))
 
 -- what is invoked by a name: a composite of the unit, or else an operator
 pub data Target : Type 0 where

@@ -1,3 +1,4 @@
+pub mod Kinds
 pub mod Scopes
 pub mod Typing
 pub mod Finds
@@ -51,5 +52,6 @@ pub mod LogicTyping
 pub mod CheckedGraph
 pub mod Checking
 pub mod Keeping
+pub mod KindLaws
 pub mod Accepted
 pub mod examples

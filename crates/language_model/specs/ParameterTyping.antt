@@ -1,6 +1,7 @@
 -- The parameters of an operator with their values, in the order of the text, or the first refusal.
-use Rattle.std.specs.Prelude.{ℕ, ◌==◌, Bool, true, false, List, [], ◌∷◌, if◌then◌else◌, codes, Option, Some, None, Ok}
-use Rattle.std.specs.List.{list_any}
+use Rattle.std.specs.Prelude.{ℕ, ◌==◌, Bool, true, false, ◌&&◌, List, [], ◌∷◌, map, filter, if◌then◌else◌, codes, Option, Some, None, Ok}
+use Rattle.std.specs.List.{find, list_any}
+use Rattle.std.specs.Option.{option_map}
 use Rattle.std.specs.Str.{bytes_eq}
 use Rattle.spl_value.specs.declared.types.Named.{Named}
 use Rattle.spl_value.specs.declared.types.SplType.{SplType}
@@ -15,58 +16,37 @@ use Rattle.spl_tree.specs.declared.expression.ExprKind.TheOpen as X
 use Rattle.spl_tree.specs.declared.expression.ExprKind.TheOpen.{ExprKind-F}
 use Rattle.spl_tree.specs.declared.expression.ExprKind.TheViews.{out-ExprKind}
 use Rattle.spl_tree.specs.declared.graph.OpKind.{OpKind}
-use Rattle.spl_tree.specs.declared.graph.OpKind.TheVariants as O
 use Rattle.spl_tree.specs.declared.unit.Parameter.{Parameter}
 use Rattle.spl_tree.specs.Grammar.{Expr}
 use Rattle.language_model.specs.declared.checked.Given.{Given}
 use Rattle.language_model.specs.declared.checked.ParameterValue.{ParameterValue}
 use Rattle.language_model.specs.declared.checked.ParameterValue.TheVariants as V
 use Rattle.language_model.specs.declared.checked.Position.TheVariants as P
+use Rattle.language_model.specs.declared.kinds.Role.{Role}
+use Rattle.language_model.specs.declared.kinds.Role.TheVariants as R
 use Rattle.language_model.specs.declared.scope.CheckError.TheVariants as E
 use Rattle.language_model.specs.declared.scope.Port.{Port}
 use Rattle.language_model.specs.declared.scope.Scope.{Scope}
+use Rattle.language_model.specs.Kinds.{ParameterRule, is_had, is_needed, rules_of}
 use Rattle.language_model.specs.Literals.{file_typing}
 use Rattle.language_model.specs.Scopes.{At, attribute_of}
 use Rattle.language_model.specs.Typing.{Found, after, mismatch, refused, typing, unknown}
 
 -- ---- which parameters an operator has
 
-pub data Role : Type 0 where
-  AsFile : Role
-  AsFormat : Role
-  AsParsing : Role
-  AsCondition : Role
-  AsPosition : Role
-  AsIndex : Role
-  AsAttributes : Role
+-- what the values of the parameter of the name are, where it is one of these
+abbrev pub role_among : List ParameterRule → Bool → List ℕ → Option Role
+role_among parameters partitioned name = option_map (λ p. p.role) (find (λ p. is_had partitioned p.presence && bytes_eq p.name name) parameters)
 
-abbrev pub if_named : List ℕ → List ℕ → Role → Option Role → Option Role
-if_named name own role other = if bytes_eq name own then Some role else other
-
--- the parameter of the name, where the operator has one. `partitionBy` goes with a window that is partitioned
 abbrev pub role_of : OpKind → Bool → List ℕ → Option Role
-role_of O.FileSource partitioned name =
-    if_named name (codes "file") AsFile (if_named name (codes "format") AsFormat (if_named name (codes "parsing") AsParsing None))
-role_of O.FileSink partitioned name = if_named name (codes "file") AsFile (if_named name (codes "format") AsFormat None)
-role_of O.Filter partitioned name = if_named name (codes "filter") AsCondition None
-role_of O.Functor partitioned name = if_named name (codes "filter") AsCondition None
-role_of O.Punctor partitioned name = if_named name (codes "punctuation") AsCondition (if_named name (codes "position") AsPosition None)
-role_of O.Split partitioned name = if_named name (codes "index") AsIndex None
-role_of O.Aggregate partitioned name =
-    if partitioned then if_named name (codes "partitionBy") AsAttributes (if_named name (codes "groupBy") AsAttributes None)
-    else if_named name (codes "groupBy") AsAttributes None
-role_of O.Join partitioned name = if_named name (codes "match") AsCondition None
-role_of O.Union partitioned name = None
-role_of O.Custom partitioned name = None
+role_of kind = role_among (rules_of kind).parameters
 
--- those that it needs
+-- those that are needed
+abbrev pub needed_among : List ParameterRule → Bool → List (List ℕ)
+needed_among parameters partitioned = map (λ p. p.name) (filter (λ p. is_needed partitioned p.presence) parameters)
+
 abbrev pub needed : OpKind → Bool → List (List ℕ)
-needed O.FileSource partitioned = codes "file" ∷ []
-needed O.FileSink partitioned = codes "file" ∷ []
-needed O.Punctor partitioned = codes "punctuation" ∷ codes "position" ∷ []
-needed O.Split partitioned = codes "index" ∷ []
-needed O.Aggregate partitioned = if partitioned then codes "partitionBy" ∷ [] else []
-needed kind partitioned = []
+needed kind = needed_among (rules_of kind).parameters
 
 -- ---- values
 
@@ -139,16 +119,16 @@ one_value at value (e ∷ []) = value e
 one_value at value (e ∷ d ∷ es) = after (value e) (λ x. mismatch d.at)
 
 abbrev pub single_value : Site → Role → Expr → Found ParameterValue
-single_value site AsFile e = after (file_typing site.scope site.follow e) (λ bytes. Ok (V.File bytes))
-single_value site AsFormat e = format_of e.at (word_of e)
-single_value site AsParsing e = parsing_of e.at (word_of e)
-single_value site AsPosition e = position_of e.at (word_of e)
-single_value site AsCondition e = after (typing site.scope e (Some S.Bool)) (λ t. Ok (V.Code t.code))
-single_value site AsIndex e = after (typing site.scope e None) (λ t. level_index e.at t.code (out-SplType t.kind))
-single_value site AsAttributes e = mismatch e.at
+single_value site R.File e = after (file_typing site.scope site.follow e) (λ bytes. Ok (V.File bytes))
+single_value site R.Format e = format_of e.at (word_of e)
+single_value site R.Parsing e = parsing_of e.at (word_of e)
+single_value site R.Position e = position_of e.at (word_of e)
+single_value site R.Condition e = after (typing site.scope e (Some S.Bool)) (λ t. Ok (V.Code t.code))
+single_value site R.Index e = after (typing site.scope e None) (λ t. level_index e.at t.code (out-SplType t.kind))
+single_value site R.Attributes e = mismatch e.at
 
 abbrev pub value_typing : Site → Parameter → Role → Found ParameterValue
-value_typing site p AsAttributes = after (some_keys p.name.at (first_schema site.scope.ports) p.values) (λ places. Ok (V.Places places))
+value_typing site p R.Attributes = after (some_keys p.name.at (first_schema site.scope.ports) p.values) (λ places. Ok (V.Places places))
 value_typing site p role = one_value p.name.at (single_value site role) p.values
 
 -- ---- a clause

@@ -1,5 +1,5 @@
 -- The files of sources and sinks, and the first that a sink has together with another operator or with the command line.
-use Rattle.std.specs.Prelude.{ℕ, zero, suc, Bool, true, false, ◌&&◌, ◌||◌, List, [], ◌∷◌, length, if◌then◌else◌, codes, Option, Some, None, slice_get}
+use Rattle.std.specs.Prelude.{ℕ, zero, suc, ◌==◌, Bool, ◌&&◌, ◌||◌, List, [], ◌∷◌, length, if◌then◌else◌, codes, Option, Some, None, slice_get}
 use Rattle.std.specs.List.{list_any}
 use Rattle.std.specs.Option.{option_and_then, option_map_or}
 use Rattle.std.specs.Str.{bytes_eq}
@@ -11,7 +11,6 @@ use Rattle.spl_tree.specs.declared.expression.Placed.{Placed}
 use Rattle.spl_tree.specs.declared.graph.Expansion.{Expansion}
 use Rattle.spl_tree.specs.declared.graph.Op.{Op}
 use Rattle.spl_tree.specs.declared.graph.OpKind.{OpKind}
-use Rattle.spl_tree.specs.declared.graph.OpKind.TheVariants as O
 use Rattle.spl_tree.specs.declared.graph.Site.{Site}
 use Rattle.spl_tree.specs.declared.unit.Composite.{Composite}
 use Rattle.spl_tree.specs.declared.unit.CompositeParameter.{CompositeParameter}
@@ -21,6 +20,7 @@ use Rattle.spl_tree.specs.declared.unit.Parameter.{Parameter}
 use Rattle.spl_tree.specs.Grammar.{Expr, placed}
 use Rattle.language_model.specs.Composites.{composites}
 use Rattle.language_model.specs.Declarations.{is_same}
+use Rattle.language_model.specs.Kinds.{rules_of}
 
 -- ---- values of parameters
 
@@ -105,13 +105,12 @@ file_of unit expansions op =
 
 -- ---- files that are had twice
 
+-- an operator without outputs, and one without inputs
 abbrev pub is_sink : OpKind → Bool
-is_sink O.FileSink = true
-is_sink _ = false
+is_sink kind = (rules_of kind).outputs.most == 0
 
 abbrev pub is_source : OpKind → Bool
-is_source O.FileSource = true
-is_source _ = false
+is_source kind = (rules_of kind).inputs.most == 0
 
 -- the file of a source or sink, at its invocation
 pub record OpFile : Type 0 where

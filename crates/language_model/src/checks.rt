@@ -5,6 +5,7 @@ ghost use Rattle.spl_value.specs.declared.types.SplType.TheVariants as T;
 ghost use Rattle.language_model.specs.declared.scope.CheckError.TheVariants as E;
 ghost use Rattle.language_model.specs.BodyLaws.{BodyFitLaw, BodyReturnsLaw};
 ghost use Rattle.language_model.specs.Checking.{checked};
+ghost use Rattle.language_model.specs.KindLaws.{KindNamesLaw, KindRowsLaw};
 ghost use Rattle.language_model.specs.TypeNameLaws.{NamesLaw};
 ghost use Rattle.language_model.specs.Typing.{refused, unknown};
 ghost use Rattle.language_model.specs.examples.TypeNames.{seven_types};
@@ -33,6 +34,13 @@ pub fn types_law()
 pub fn bodies_law()
     ensures fits { BodyFitLaw }
     ensures returns { BodyReturnsLaw }
+{}
+
+/// Each kind of operator is the one of its name, and checked clauses have the windows, the output and
+/// the logic that the table says for the kind.
+pub fn kind_rules_law()
+    ensures names { KindNamesLaw }
+    ensures rows { KindRowsLaw }
 {}
 
 /// A unit without operators is checked, and has nothing.

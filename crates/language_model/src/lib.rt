@@ -11,6 +11,7 @@ mod copying;
 mod env;
 mod expansion;
 mod flow;
+mod kinds;
 mod laws;
 mod named;
 mod outs;
@@ -24,7 +25,7 @@ pub use checked::{
     PortTypes, Position, StateVariable, WindowRule,
 };
 pub use checked_graph::Checked;
-pub use checks::{bodies_law, checks_on_literals, types_law, types_on_literals};
+pub use checks::{bodies_law, checks_on_literals, kind_rules_law, types_law, types_on_literals};
 pub use code_lists::{
     Codes, EntryCodes, FieldCodes, Takings, push_code, push_element, push_entry, push_field,
     push_key,
@@ -33,6 +34,10 @@ pub use copying::{boxed_copy, copy_refusal, copy_typed};
 pub use env::{Env, Tuples};
 pub use expansion::{ExpansionRefusal, Operation, Source};
 pub use flow::Flow;
+pub use kinds::{
+    KINDS, KindRules, OutputForm, ParameterRule, PortBounds, Presence, Role, WindowForm,
+    kind_named, rules_of,
+};
 pub use laws::{
     changes_law, dollars_law, dollars_on_literals, evaluation_law, flat_law, graphs_on_literals,
     names_on_literals, places_law, renaming_law, slots_on_literals, statements_law, typing_law,

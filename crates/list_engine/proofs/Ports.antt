@@ -1,9 +1,9 @@
 -- The inputs and the outputs of the operators of a checked graph.
-use Rattle.std.proofs.Common.{◌≡◌, ℕ, zero, suc, ◌+◌, ◌<◌, ◌==◌, ◌&&◌, true, false, List, [], ◌∷◌, ◌++◌, map, refl, sym, ap, ◌∙◌, length, length-append, slice_get, Some, inl, inr, arith}
+use Rattle.std.proofs.Common.{◌≡◌, ℕ, zero, suc, ◌+◌, ◌<◌, ◌≤◌, ◌&&◌, true, false, List, [], ◌∷◌, ◌++◌, map, refl, sym, ap, ◌∙◌, length, length-append, slice_get, Some, inl, inr, arith}
 use Rattle.std.specs.Prelude.{◌⊎◌, nat_le}
 use Rattle.std.specs.List.{concat, Contains}
 use Rattle.std.specs.Option.{unwrap_or}
-use Rattle.std.proofs.lemmas.Bool.{and_parts, eqb-true}
+use Rattle.std.proofs.lemmas.Bool.{and_parts, leb-true}
 use Rattle.std.proofs.lemmas.List.{length-map}
 use Rattle.std.proofs.lemmas.Option.{slice_get_within, slice_get-get_or}
 use Rattle.spl_tree.specs.declared.graph.Op.{Op}
@@ -13,9 +13,10 @@ use Rattle.language_model.specs.declared.checked.Part.{Part}
 use Rattle.language_model.specs.declared.checked.Part.TheVariants as A
 use Rattle.language_model.specs.declared.scope.Scope.{Scope}
 use Rattle.language_model.specs.CheckedGraph.{CheckedGraph}
-use Rattle.language_model.specs.Checking.{between, fit_ports}
+use Rattle.language_model.specs.Checking.{fit_ports}
 use Rattle.language_model.specs.Keeping as K
 use Rattle.language_model.specs.Keeping.{Keeps, Once, PartFits, PortHas, PortsHave, StreamsHave}
+use Rattle.language_model.specs.Kinds.{between, exactly, is_within}
 use Rattle.language_model.specs.StreamTypes.{Attributes}
 use Rattle.stream_model.specs.CheckedMeaning.{first_schema, operator_with, schema_at}
 use Rattle.stream_model.specs.Operators.{Operator, connections, input_attributes, output_attributes, port_at, ports, ports_from}
@@ -114,12 +115,19 @@ some_connection schemas _ _ K.no_ports lt = absurd (omega (arith, lt))
 some_connection schemas _ _ (K.one_port streams ins schema rest h hs) lt =
     let some = h.some in let all = length-append streams (concat ins) in omega (arith, some, all)
 
-both_of : (m n a b : ℕ) → ((m == a) && (n == b)) ≡ true → (m ≡ a) × (n ≡ b)
-both_of m n a b e = let parts = and_parts (m == a) (n == b) e in (eqb-true m a parts.0, eqb-true n b parts.1)
+-- a number within bounds is one from the least to the greatest
+at_least : (least most n : ℕ) → is_within (between least most) n ≡ true → least ≤ n
+at_least least most n e = leb-true least n (and_parts (nat_le least n) (nat_le n most) e).0
 
-at_least_one : (m : ℕ) → between 1 16 m ≡ true → 0 < m
-at_least_one zero e = absurd cc
-at_least_one (suc m) e = omega arith
+at_most : (least most n : ℕ) → is_within (between least most) n ≡ true → n ≤ most
+at_most least most n e = leb-true n most (and_parts (nat_le least n) (nat_le n most) e).1
+
+is_exactly : (k n : ℕ) → is_within (exactly k) n ≡ true → n ≡ k
+is_exactly k n e = let least = at_least k k n e in let most = at_most k k n e in omega (arith, least, most)
+
+both_of : (m n a b : ℕ) → (is_within (exactly a) m && is_within (exactly b) n) ≡ true → (m ≡ a) × (n ≡ b)
+both_of m n a b e =
+    let parts = and_parts (is_within (exactly a) m) (is_within (exactly b) n) e in (is_exactly a m parts.0, is_exactly b n parts.1)
 
 pub some_port : (scope : Scope) (kind : OpKind) (ins outs : List Attributes) (part : Part) (m n : ℕ) → PartFits scope kind ins outs part → is_source part ≡ false → fit_ports kind m n ≡ true → 0 < m
 some_port scope _ _ _ _ m n (K.file_source file strict schema a b) s e = absurd cc
@@ -127,9 +135,9 @@ some_port scope _ _ _ _ m n (K.file_sink file schema a b) s e = let is = (both_o
 some_port scope _ _ _ _ m n (K.filter condition schema a) s e = let is = (both_of m n 1 1 e).0 in omega (arith, is)
 some_port scope _ _ _ _ m n (K.functor condition fields input schema a b d) s e = let is = (both_of m n 1 1 e).0 in omega (arith, is)
 some_port scope _ _ _ _ m n (K.punctor condition position schema a) s e = let is = (both_of m n 1 1 e).0 in omega (arith, is)
-some_port scope _ _ _ _ m n (K.split index kind schema outs a b) s e = let is = eqb-true m 1 (and_parts (m == 1) (between 1 16 n) e).0 in omega (arith, is)
-some_port scope _ _ _ _ m n (K.union places ins schema a b) s e = at_least_one m (and_parts (between 1 16 m) (n == 1) e).0
-some_port scope _ _ _ _ m n (K.custom handlers ins outs a) s e = at_least_one m (and_parts (between 1 16 m) (nat_le n 16) e).0
+some_port scope _ _ _ _ m n (K.split index kind schema outs a b) s e = let is = is_exactly 1 m (and_parts (is_within (exactly 1) m) (is_within (between 1 16) n) e).0 in omega (arith, is)
+some_port scope _ _ _ _ m n (K.union places ins schema a b) s e = let least = at_least 1 16 m (and_parts (is_within (between 1 16) m) (is_within (exactly 1) n) e).0 in omega (arith, least)
+some_port scope _ _ _ _ m n (K.custom handlers ins outs a) s e = let least = at_least 1 16 m (and_parts (is_within (between 1 16) m) (is_within (between 0 16) n) e).0 in omega (arith, least)
 some_port scope _ _ _ _ m n (K.aggregate window partition group output input schema a b d f h) s e = let is = (both_of m n 1 1 e).0 in omega (arith, is)
 some_port scope _ _ _ _ m n (K.join left right condition fields first second schema a b d f h i j) s e = let is = (both_of m n 2 1 e).0 in omega (arith, is)
 

@@ -13,18 +13,17 @@ use Rattle.spl_tree.specs.declared.unit.Parameter.{Parameter}
 use Rattle.spl_tree.specs.Grammar.{Expr}
 use Rattle.language_model.specs.declared.checked.Given.{Given}
 use Rattle.language_model.specs.declared.checked.ParameterValue.{ParameterValue}
-use Rattle.language_model.specs.ParameterTyping.{Role, Site, extra, key_at, key_of, keys_typing, level_key, one_value, parameter_typing, parameters_typing, role_of, single_value, value_given, value_typing, word_of}
+use Rattle.language_model.specs.declared.kinds.Role.{Role}
+use Rattle.language_model.specs.declared.kinds.Role.TheVariants as R
+use Rattle.language_model.specs.ParameterTyping.{Site, extra, key_at, key_of, keys_typing, level_key, one_value, parameter_typing, parameters_typing, role_of, single_value, value_given, value_typing, word_of}
 use Rattle.language_model.specs.Scopes.{at_place, attribute_of}
 use Rattle.language_model.specs.Typing.{Found, after, mismatch}
-use Rattle.parameter_rules.specs.declared.parameters.roles.Role as C
-use Rattle.parameter_rules.specs.declared.parameters.roles.Role.TheVariants as R
-use Rattle.parameter_rules.specs.Roles.{role_seen}
 use Rattle.literal_sites.proofs.Answering.{IsRow}
 use Rattle.spl_value.proofs.Lists.{drop_at}
 
 -- a parameter of another role than attributes has one value
-pub other_value : (site : Site) (p : Parameter) (role : C.Role) → (role ≡ R.Attributes → ⊥)
-    → value_typing site p (role_seen role) ≡ one_value p.name.at (single_value site (role_seen role)) p.values
+pub other_value : (site : Site) (p : Parameter) (role : Role) → (role ≡ R.Attributes → ⊥)
+    → value_typing site p role ≡ one_value p.name.at (single_value site role) p.values
 other_value site p R.Attributes h = absurd (h refl)
 other_value site p role h = refl
 

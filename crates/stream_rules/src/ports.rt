@@ -1,6 +1,5 @@
 //! The attributes of the ports of operators.
-ghost use Rattle.language_model.specs.Checking.{are_passed, outputs_checked, passes_on, port_types};
-ghost use Rattle.std.specs.Prelude.{◌≡◌};
+ghost use Rattle.language_model.specs.Checking.{are_passed, outputs_checked, port_types};
 ghost use Rattle.language_model.specs.Finds.{Finds};
 ghost use Rattle.body_sites.specs.Bodies.{body_seen};
 ghost use Rattle.stream_rules.specs.Streams.{IsTableOf};
@@ -13,29 +12,13 @@ mod standing;
 use crate::streams::StreamTable;
 use body_sites::{Body, Sites};
 use inputs::ports_attributes;
-use language_model::{PortTypes, TypeAnswer, mismatch};
+use language_model::{PortTypes, TypeAnswer, mismatch, rules_of};
 use outputs::outputs_attributes;
 use same::same_attributes;
 use spl_tree::{Graph, Invocation, Op, OpKind, OutputStream};
 use spl_value::{Attribute, Schema};
 use standing::Streams;
 use std::alloc::Global;
-
-/// Whether an operator passes tuples on, so that its outputs have the type of its input.
-fn passes_on(kind: OpKind) -> bool
-    ensures { result ≡ passes_on kind }
-{
-    match kind {
-        OpKind::Filter | OpKind::Punctor | OpKind::Split => true,
-        OpKind::FileSource
-        | OpKind::FileSink
-        | OpKind::Functor
-        | OpKind::Union
-        | OpKind::Custom
-        | OpKind::Aggregate
-        | OpKind::Join => false,
-    }
-}
 
 /// Each output has to have the attributes of the input.
 fn are_passed(
@@ -65,7 +48,7 @@ fn outputs_checked(
     ensures { Finds (outputs_checked kind outputs.now schemas.now inputs.now) result }
 {
     match inputs.first() {
-        Some(input) if passes_on(kind) => are_passed(input.as_slice(), outputs, schemas),
+        Some(input) if rules_of(kind).passes_on => are_passed(input.as_slice(), outputs, schemas),
         _ => Ok(()),
     }
 }

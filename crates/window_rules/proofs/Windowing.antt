@@ -6,13 +6,13 @@ use Rattle.std.proofs.Common.{refl, ap, sym, ◌∙◌, add-one, append_assoc}
 use Rattle.spl_value.specs.declared.types.Named.{Named}
 use Rattle.spl_value.specs.declared.types.SplType.{SplType}
 use Rattle.spl_tree.specs.declared.expression.Placed.{Placed}
-use Rattle.spl_tree.specs.declared.graph.OpKind.{OpKind}
 use Rattle.spl_tree.specs.declared.unit.PortWindow.{PortWindow}
 use Rattle.spl_tree.specs.declared.unit.WindowPart.{WindowPart}
 use Rattle.language_model.specs.declared.checked.Policy.{Policy}
 use Rattle.language_model.specs.declared.scope.CheckError.TheVariants as E
 use Rattle.language_model.specs.declared.scope.Port.{Port}
-use Rattle.language_model.specs.Checking.{each_window, has_windows, policy_of, windows_checked}
+use Rattle.language_model.specs.declared.kinds.WindowForm.{WindowForm}
+use Rattle.language_model.specs.Checking.{each_window, policy_of, windows_of_form}
 use Rattle.language_model.specs.Policies.{Numbers, Parts, delta_of, has_name, in_front, is_word, measured, only_count, partitioned_last, window_at, window_of, windows_typing}
 use Rattle.language_model.specs.Scopes.{At, at_place, first_from}
 use Rattle.language_model.specs.Typing.{Found, after, refused}
@@ -116,11 +116,8 @@ module _ (at : ℕ) (windows : List (ℕ × Policy)) (ports : List Port) (port :
   pub windows_stop : (a : TypeAnswer) → Finds (window_at at port windows) (Err a) → Finds (with_front front (each_window at windows port (drop port ports))) (Err a)
   windows_stop a q = stops (each_window at windows port (drop port ports)) _ a (finds_by _ _ (Err a) from_here (stops (window_at at port windows) _ a q))
 
--- a clause of an operator that has windows
-pub windows_written : (kind : OpKind) (numbers : Numbers) (at : ℕ) (ports : List Port) (clause : Option (Placed (List PortWindow))) (w : Placed (List PortWindow))
-    → clause ≡ Some w → has_windows kind ≡ true
-    → windows_checked kind numbers at ports clause ≡ after (windows_typing (policy_of kind numbers) ports [] w.what) (λ windows. each_window at windows 0 ports)
-windows_written kind numbers at ports clause w is has =
-    ap (windows_checked kind numbers at ports) is
-    ∙ ap (λ b. if b then after (windows_typing (policy_of kind numbers) ports [] w.what) (λ windows. each_window at windows 0 ports)
-    else refused E.ExtraParameter w.at (Some (codes "window"))) has
+-- the clause of an operator whose ports have windows
+pub windows_written : (form : WindowForm) (numbers : Numbers) (at : ℕ) (ports : List Port) (clause : Option (Placed (List PortWindow))) (w : Placed (List PortWindow))
+    → clause ≡ Some w
+    → windows_of_form (Some form) numbers at ports clause ≡ after (windows_typing (policy_of form numbers) ports [] w.what) (λ windows. each_window at windows 0 ports)
+windows_written form numbers at ports clause w is = ap (windows_of_form (Some form) numbers at ports) is

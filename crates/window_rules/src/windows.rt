@@ -3,7 +3,7 @@ ghost use Rattle.std.specs.Prelude.{◌≡◌, [], ◌==◌, map, reverse};
 ghost use Rattle.std.specs.List.{list_any};
 ghost use Rattle.std.specs.Option.{option_copied};
 ghost use Rattle.std.specs.Str.{bytes_eq};
-ghost use Rattle.language_model.specs.Checking.{each_window, has_windows, is_partitioned, policy_of, windows_checked};
+ghost use Rattle.language_model.specs.Checking.{each_window, is_partitioned, policy_of, windows_checked, windows_of_form};
 ghost use Rattle.language_model.specs.Policies.{aggregate_policy, join_policy, partitioned_last, partitioned_or_not, window_at, window_of, windows_typing};
 ghost use Rattle.language_model.specs.Scopes.{first_from};
 ghost use Rattle.language_model.specs.Finds.{Finds};
@@ -13,7 +13,7 @@ ghost use Rattle.window_rules.specs.Windows.{ArePartitioned};
 mod measures;
 mod rules;
 
-use language_model::{Policy, Port, TypeAnswer, narrow, port_named, unknown};
+use language_model::{Policy, Port, TypeAnswer, WindowForm, narrow, port_named, rules_of, unknown};
 use literal_sites::{ExpressionSite, extra};
 use rules::{aggregate_rule, bad_window, is_word, join_rule};
 use spl_tree::{OpKind, Placed, PortWindow, WindowPart};
@@ -37,22 +37,33 @@ pub fn windows_of(
 ) -> Result<Items<Policy>, TypeAnswer>
     ensures { Finds (windows_checked kind (numbers_at site.now) at site.now.scope.now.ports (option_copied clause.entry)) result }
 {
-    let ports = site.scope.ports.as_slice();
-    match clause {
-        None if has_windows(kind) => each_window(alloc, at, &[], ports),
-        None => Ok(Items::new(alloc)),
-        Some(clause) if has_windows(kind) => {
-            let windows = windows_typing(alloc, site, kind, ports, clause.what.as_slice())?;
-            each_window(alloc, at, windows.as_slice(), ports)
-        }
-        Some(clause) => Err(extra(alloc, clause.at, b"window")),
+    match rules_of(kind).window {
+        Some(form) => windows_of_form(alloc, site, form, at, clause),
+        None => match clause {
+            None => Ok(Items::new(alloc)),
+            Some(clause) => Err(extra(alloc, clause.at, b"window")),
+        },
     }
 }
 
-fn has_windows(kind: OpKind) -> bool
-    ensures { result ≡ has_windows kind }
+/// The windows of ports that have one each.
+fn windows_of_form(
+    alloc: Global,
+    site: &ExpressionSite,
+    form: WindowForm,
+    at: u32,
+    clause: Option<&Placed<Items<PortWindow>>>,
+) -> Result<Items<Policy>, TypeAnswer>
+    ensures { Finds (windows_of_form (Some form) (numbers_at site.now) at site.now.scope.now.ports (option_copied clause.entry)) result }
 {
-    matches!(kind, OpKind::Aggregate | OpKind::Join)
+    let ports = site.scope.ports.as_slice();
+    match clause {
+        None => each_window(alloc, at, &[], ports),
+        Some(clause) => {
+            let windows = windows_typing(alloc, site, form, ports, clause.what.as_slice())?;
+            each_window(alloc, at, windows.as_slice(), ports)
+        }
+    }
 }
 
 /// Whether the first window of an operator is partitioned, which only an Aggregate's is.
@@ -69,15 +80,15 @@ pub fn is_partitioned(windows: &[Policy]) -> bool
 fn windows_typing(
     alloc: Global,
     site: &ExpressionSite,
-    kind: OpKind,
+    form: WindowForm,
     ports: &[Port],
     windows: &[PortWindow],
 ) -> Result<Items<(u32, Policy)>, TypeAnswer>
-    ensures { Finds (windows_typing (policy_of kind (numbers_at site.now)) ports.now [] windows.now) result }
+    ensures { Finds (windows_typing (policy_of form (numbers_at site.now)) ports.now [] windows.now) result }
 {
     let mut found = Items::new(alloc);
     for window in windows {
-        let next = window_of(alloc, site, kind, ports, found.as_slice(), window)?;
+        let next = window_of(alloc, site, form, ports, found.as_slice(), window)?;
         found.push(next)?;
     }
     Ok(found)
@@ -87,12 +98,12 @@ fn windows_typing(
 fn window_of(
     alloc: Global,
     site: &ExpressionSite,
-    kind: OpKind,
+    form: WindowForm,
     ports: &[Port],
     found: &[(u32, Policy)],
     window: &PortWindow,
 ) -> Result<(u32, Policy), TypeAnswer>
-    ensures { Finds (window_of (policy_of kind (numbers_at site.now)) (reverse (map (λ x. x.0) found.now)) window.now
+    ensures { Finds (window_of (policy_of form (numbers_at site.now)) (reverse (map (λ x. x.0) found.now)) window.now
         (first_from (λ p. bytes_eq p.name window.now.port.what) 0 ports.now)) result }
 {
     let name = window.port.what.as_slice();
@@ -103,7 +114,7 @@ fn window_of(
     if has_window(found, place) {
         return Err(extra(alloc, window.port.at, b"window"));
     }
-    let policy = policy_of(alloc, site, kind, port, window)?;
+    let policy = policy_of(alloc, site, form, port, window)?;
     Ok((place, policy))
 }
 
@@ -118,19 +129,19 @@ fn has_window(found: &[(u32, Policy)], place: u32) -> bool
     false
 }
 
-/// The window of a Join, or else of an Aggregate.
+/// A window of the form.
 fn policy_of(
     alloc: Global,
     site: &ExpressionSite,
-    kind: OpKind,
+    form: WindowForm,
     port: &Port,
     window: &PortWindow,
 ) -> Result<Policy, TypeAnswer>
-    ensures { Finds (policy_of kind (numbers_at site.now) port.now window.now) result }
+    ensures { Finds (policy_of form (numbers_at site.now) port.now window.now) result }
 {
-    match kind {
-        OpKind::Join => join_policy(alloc, site, port, window),
-        _ => aggregate_policy(alloc, site, port, window),
+    match form {
+        WindowForm::Aggregate => aggregate_policy(alloc, site, port, window),
+        WindowForm::Join => join_policy(alloc, site, port, window),
     }
 }
 

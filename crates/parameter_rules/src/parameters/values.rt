@@ -4,13 +4,11 @@ ghost use Rattle.std.specs.Option.{option_copied};
 ghost use Rattle.spl_value.specs.declared.types.SplType.TheViews.{out-SplType};
 ghost use Rattle.language_model.specs.ParameterTyping.{format_of, level_index, one_value, parsing_of, position_of, single_value, value_typing, word_of};
 ghost use Rattle.language_model.specs.Finds.{Finds};
-ghost use Rattle.parameter_rules.specs.Roles.{role_seen};
 ghost use Rattle.literal_sites.specs.Sites.{site_seen};
 
 use super::keys::{first_schema, some_keys};
-use super::roles::Role;
 use crate::files::file_name;
-use language_model::{ParameterValue, Position, TypeAnswer, Typed, mismatch};
+use language_model::{ParameterValue, Position, Role, TypeAnswer, Typed, mismatch};
 use literal_sites::ExpressionSite;
 use spl_tree::{Code, Expr, ExprKind, Parameter, Slot};
 use spl_value::{Boxed, SplType};
@@ -24,7 +22,7 @@ pub(super) fn value_of(
     role: Role,
     parameter: &Parameter,
 ) -> Result<ParameterValue, TypeAnswer>
-    ensures { Finds (value_typing (site_seen site.now) parameter.now (role_seen role)) result }
+    ensures { Finds (value_typing (site_seen site.now) parameter.now role) result }
 {
     let values = parameter.values.as_slice();
     match role {
@@ -46,7 +44,7 @@ fn one_value(
     at: u32,
     values: &[Expr],
 ) -> Result<ParameterValue, TypeAnswer>
-    ensures { Finds (one_value at (single_value (site_seen site.now) (role_seen role)) values.now) result }
+    ensures { Finds (one_value at (single_value (site_seen site.now) role) values.now) result }
 {
     match values {
         [] => Err(mismatch(at)),
@@ -64,7 +62,7 @@ fn single_value(
     role: Role,
     value: &Expr,
 ) -> Result<ParameterValue, TypeAnswer>
-    ensures { Finds (single_value (site_seen site.now) (role_seen role) value.now) result }
+    ensures { Finds (single_value (site_seen site.now) role value.now) result }
 {
     match role {
         Role::File => Ok(ParameterValue::File(file_name(alloc, site, value)?)),

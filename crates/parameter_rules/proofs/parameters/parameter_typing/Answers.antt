@@ -6,7 +6,6 @@ use Rattle.language_model.specs.declared.checked.Given.{Given}
 use Rattle.language_model.specs.declared.scope.CheckError.TheVariants as E
 use Rattle.language_model.specs.ParameterTyping.{role_of, value_typing}
 use Rattle.language_model.specs.Typing.{after, refused}
-use Rattle.parameter_rules.specs.Roles.{role_seen}
 use Rattle.literal_sites.specs.Sites.{site_seen}
 use Rattle.literal_sites.proofs.Answering.{fails, refuses}
 use Rattle.parameter_rules.proofs.Giving.{parameter_once, parameter_twice}
@@ -21,7 +20,7 @@ returns-then-has_name c =
     let is = ap (role_of c.args.kind c.args.partitioned) (sym c.as_slice-name.ensures) ∙ sym c.in-Some.ensures in
     let had = sym c.has_name.ensures ∙ c.if-has_name.true in
     finds_by _ _ (Err c.extra-then-has_name.result)
-    (parameter_twice site before p _ (role_seen c.in-Some.role) is (ap (λ name. list_any (λ n. bytes_eq n name) before) (sym c.as_slice-name.ensures) ∙ had)
+    (parameter_twice site before p _ c.in-Some.role is (ap (λ name. list_any (λ n. bytes_eq n name) before) (sym c.as_slice-name.ensures) ∙ had)
     ∙ ap (λ name. refused E.ExtraParameter p.name.at (Some name)) (sym c.as_slice-name.ensures))
     (refuses Given E.ExtraParameter p.name.at c.as_slice-name.result.now _ c.extra-then-has_name.ensures)
 
@@ -29,7 +28,7 @@ pub returns-in_err-value : goal.returns-in_err-value
 returns-in_err-value c =
     let site = site_seen c.args.site.now in
     let p = c.args.parameter.now in
-    let role = role_seen c.in-Some.role in
+    let role = c.in-Some.role in
     let before = reverse (map (λ g. g.name) c.args.given.now) in
     let is = ap (role_of c.args.kind c.args.partitioned) (sym c.as_slice-name.ensures) ∙ sym c.in-Some.ensures in
     let had = sym c.has_name.ensures ∙ c.if-has_name.false in
@@ -41,7 +40,7 @@ pub returns : goal.returns
 returns c =
     let site = site_seen c.args.site.now in
     let p = c.args.parameter.now in
-    let role = role_seen c.in-Some.role in
+    let role = c.in-Some.role in
     let before = reverse (map (λ g. g.name) c.args.given.now) in
     let is = ap (role_of c.args.kind c.args.partitioned) (sym c.as_slice-name.ensures) ∙ sym c.in-Some.ensures in
     let had = sym c.has_name.ensures ∙ c.if-has_name.false in

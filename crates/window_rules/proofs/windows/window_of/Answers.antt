@@ -15,7 +15,7 @@ use Rattle.language_model.proofs.FoundAnswers.{finds_by, stops}
 pub returns-then-has_window : goal.returns-then-has_window
 returns-then-has_window c =
     let ports = c.args.ports.now in
-    let policy = policy_of c.args.kind (numbers_at c.args.site.now) in
+    let policy = policy_of c.args.form (numbers_at c.args.site.now) in
     let given = reverse (map (λ x. x.0) c.args.found.now) in
     let place = c.in_ok-place.place in
     let port = c.in-Some.port.now in
@@ -28,7 +28,7 @@ returns-then-has_window c =
 pub returns-in_err-policy : goal.returns-in_err-policy
 returns-in_err-policy c =
     let ports = c.args.ports.now in
-    let policy = policy_of c.args.kind (numbers_at c.args.site.now) in
+    let policy = policy_of c.args.form (numbers_at c.args.site.now) in
     let given = reverse (map (λ x. x.0) c.args.found.now) in
     let place = c.in_ok-place.place in
     let port = c.in-Some.port.now in
@@ -41,7 +41,7 @@ returns-in_err-policy c =
 pub returns : goal.returns
 returns c =
     let ports = c.args.ports.now in
-    let policy = policy_of c.args.kind (numbers_at c.args.site.now) in
+    let policy = policy_of c.args.form (numbers_at c.args.site.now) in
     let given = reverse (map (λ x. x.0) c.args.found.now) in
     let place = c.in_ok-place.place in
     let port = c.in-Some.port.now in

@@ -12,7 +12,7 @@ use Rattle.language_model.proofs.FoundAnswers.{finds_by}
 
 pub returns-in_err-next : goal.returns-in_err-next
 returns-in_err-next c =
-    let policy = policy_of c.args.kind (numbers_at c.args.site.now) in
+    let policy = policy_of c.args.form (numbers_at c.args.site.now) in
     let ports = c.args.ports.now in
     let found = c.loop-window.found in
     let e = c.in_err-next.field-0.0 in
@@ -23,7 +23,7 @@ returns-in_err-next c =
 
 pub loop-window-preserved : goal.loop-window-preserved
 loop-window-preserved c =
-    let policy = policy_of c.args.kind (numbers_at c.args.site.now) in
+    let policy = policy_of c.args.form (numbers_at c.args.site.now) in
     let ports = c.args.ports.now in
     let found = c.loop-window.found in
     c.loop-window.invariant

@@ -7,5 +7,5 @@ use Rattle.window_rules.proofs.windows.windows_typing.Given as goal
 
 abbrev pub invariant-loop-window : goal.invariant-loop-window
 invariant-loop-window l =
-    windows_typing (policy_of l.kind (numbers_at l.site)) l.ports [] l.windows
-    ≡ with_front l.found (windows_typing (policy_of l.kind (numbers_at l.site)) l.ports (reverse (map (λ x. x.0) l.found)) (drop l.window-index l.windows))
+    windows_typing (policy_of l.form (numbers_at l.site)) l.ports [] l.windows
+    ≡ with_front l.found (windows_typing (policy_of l.form (numbers_at l.site)) l.ports (reverse (map (λ x. x.0) l.found)) (drop l.window-index l.windows))

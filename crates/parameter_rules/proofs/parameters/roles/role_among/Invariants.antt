@@ -1,0 +1,8 @@
+use Rattle.std.proofs.Common.{◌≡◌, drop, map}
+use Rattle.language_model.specs.Kinds.{parameter_seen}
+use Rattle.language_model.specs.ParameterTyping.{role_among}
+use Rattle.parameter_rules.proofs.parameters.roles.role_among.Given as goal
+
+abbrev pub invariant-loop-parameter : goal.invariant-loop-parameter
+invariant-loop-parameter l =
+    role_among (map parameter_seen l.parameters) l.partitioned l.name ≡ role_among (map parameter_seen (drop l.parameter-index l.parameters)) l.partitioned l.name
