@@ -47,17 +47,9 @@ record Shape (scope : Scope) (ins outs : List Attributes) (output : List Collect
 
 shape_of : (scope : Scope) (kind : OpKind) (ins outs : List Attributes) (part : Part) (window : Policy) (partition group : List ℕ) (output : List Collected)
     → part ≡ A.Aggregate window partition group output → PartFits scope kind ins outs part → Shape scope ins outs output
-shape_of scope _ _ _ _ window partition group output is (K.file_source f strict schema a b) = absurd cc
-shape_of scope _ _ _ _ window partition group output is (K.file_sink f schema a b) = absurd cc
-shape_of scope _ _ _ _ window partition group output is (K.filter condition schema a) = absurd cc
-shape_of scope _ _ _ _ window partition group output is (K.functor condition fields input schema a b d) = absurd cc
-shape_of scope _ _ _ _ window partition group output is (K.punctor condition position schema a) = absurd cc
-shape_of scope _ _ _ _ window partition group output is (K.split index kind schema outs a b) = absurd cc
-shape_of scope _ _ _ _ window partition group output is (K.union places ins schema a b) = absurd cc
-shape_of scope _ _ _ _ window partition group output is (K.custom handlers ins outs a) = absurd cc
 shape_of scope _ _ _ _ window partition group output is (K.aggregate w p g own input schema a b d e f) =
     let same : own ≡ output = cc in record { input = input; schema = schema; takes = refl; gives = refl; groups = subst (GroupsFit scope schema) same f }
-shape_of scope _ _ _ _ window partition group output is (K.join left right condition fields first second schema a b d e f h i) = absurd cc
+shape_of scope _ _ _ _ window partition group output is _ = absurd cc
 
 -- ---- ports
 
@@ -183,15 +175,7 @@ by_part : (op : Operator) (h : List Event) (port : ℕ) (x : Item) (part : Part)
     → HasPort op port x → MakesFit op (makes_by op.clauses op h port x)
 by_part op h port x (A.Aggregate window partition group output) is kind fit history calm has =
     aggregate_makes op fit window partition group output is h port x history calm has
-by_part op h port x (A.FileSource file strict) is kind fit history calm has = absurd cc
-by_part op h port x (A.FileSink file) is kind fit history calm has = absurd cc
-by_part op h port x (A.Filter condition) is kind fit history calm has = absurd cc
-by_part op h port x (A.Functor condition made) is kind fit history calm has = absurd cc
-by_part op h port x (A.Punctor condition position) is kind fit history calm has = absurd cc
-by_part op h port x (A.Split index) is kind fit history calm has = absurd cc
-by_part op h port x (A.Union places) is kind fit history calm has = absurd cc
-by_part op h port x (A.Custom handlers) is kind fit history calm has = absurd cc
-by_part op h port x (A.Join left right condition made) is kind fit history calm has = absurd cc
+by_part op h port x _ is kind fit history calm has = absurd cc
 
 -- the clauses of an Aggregate make what fits
 pub aggregate_fits : FitsAt is_aggregate

@@ -282,15 +282,7 @@ single_ports_law op h some named = same_events op h named
 
 same_makes : (clauses : Part) (op : Operator) (es : List Event) (p : ℕ) (x : Item) → makes_by clauses (by_ports op) es p x ≡ makes_by clauses op es p x
 same_makes (A.FileSource file strict) op es p x = refl
-same_makes (A.FileSink file) op es p x = refl
-same_makes (A.Filter condition) op es p x = refl
-same_makes (A.Functor condition made) op es p x = refl
-same_makes (A.Punctor condition position) op es p x = refl
-same_makes (A.Split index) op es p x = refl
-same_makes (A.Union places) op es p x = refl
-same_makes (A.Custom handlers) op es p x = refl
-same_makes (A.Aggregate window partition group collects) op es p x = refl
-same_makes (A.Join left right condition made) op es p x = refl
+same_makes _ op es p x = refl
 
 same_answered : (op : Operator) (last : Bool) (a : Answer) → (answered op last a ≡ answered (by_ports op) last a) × (ended_by op last a ≡ ended_by (by_ports op) last a)
 same_answered op last (Gives outs) = (refl, refl)

@@ -127,16 +127,7 @@ join_part : (number : ℕ) (functions : List Function) (streams_in : List (List 
 join_part n fs si so sigs scope _ _ _ _ (K.join left right condition fields first second schema wl wr pl pr holds made each) names there join h history port x has =
     join_of (with_clauses n (A.Join left right condition (C.Tuple fields)) fs (first ∷ second ∷ []) (schema ∷ []) si so) sigs scope left right condition (C.Tuple fields) first second schema
     refl names there holds (F.tuple fields schema made each) refl h history port x has
-join_part n fs si so sigs scope _ _ _ _ (K.file_source file strict schema a b) names there join h history port x has = absurd (let no : false ≡ true = join in cc)
-join_part n fs si so sigs scope _ _ _ _ (K.file_sink file schema a b) names there join h history port x has = absurd (let no : false ≡ true = join in cc)
-join_part n fs si so sigs scope _ _ _ _ (K.filter condition schema a) names there join h history port x has = absurd (let no : false ≡ true = join in cc)
-join_part n fs si so sigs scope _ _ _ _ (K.functor condition fields input schema a b c) names there join h history port x has = absurd (let no : false ≡ true = join in cc)
-join_part n fs si so sigs scope _ _ _ _ (K.punctor condition position schema a) names there join h history port x has = absurd (let no : false ≡ true = join in cc)
-join_part n fs si so sigs scope _ _ _ _ (K.split index kind schema outs a b) names there join h history port x has = absurd (let no : false ≡ true = join in cc)
-join_part n fs si so sigs scope _ _ _ _ (K.union places ins schema a b) names there join h history port x has = absurd (let no : false ≡ true = join in cc)
-join_part n fs si so sigs scope _ _ _ _ (K.custom handlers ins outs a) names there join h history port x has = absurd (let no : false ≡ true = join in cc)
-join_part n fs si so sigs scope _ _ _ _ (K.aggregate window partition group collects input schema a b c d e) names there join h history port x has =
-    absurd (let no : false ≡ true = join in cc)
+join_part n fs si so sigs scope _ _ _ _ _ names there join h history port x has = absurd (let no : false ≡ true = join in cc)
 
 pub join_fits : FitsAt is_join
 join_fits op h port x join fit history calm has =

@@ -20,7 +20,7 @@ use Rattle.stream_model.specs.Windows.{contents_of, fired_at, flushes_at_markers
 use Rattle.stream_model.specs.Bodies.{Makes, at_tuple, most_turns}
 use Rattle.stream_model.specs.Aggregates.{arguments, contents_give, marker_passed}
 use Rattle.stream_model.specs.React.{answer, answered, react}
-use Rattle.stream_model.specs.StateKinds.{has_mutable, state_of}
+use Rattle.stream_model.specs.StateKinds.{has_mutable, is_keyed, state_of}
 use Rattle.stream_model.specs.Replies.{is_live}
 use Rattle.stream_model.specs.Regions.{IsLocal, tuples_of_key}
 use Rattle.stream_model.specs.RegionLaws.{KeyedLaw}
@@ -164,14 +164,7 @@ local_in n (A.Aggregate window partition group collects) functions types s outs 
     subst (λ ps. IsLocal (one_in n (A.Aggregate window partition group collects) functions types s outs) ps) keys.1
     (aggregate_is_local n functions types s outs window partition group collects rules.0 rules.1)
 local_in n (A.Custom handlers) functions types s outs places q = absurd (no_keys (has_mutable handlers) places q)
-local_in n (A.FileSource file strict) functions types s outs places q = absurd (let no : K.Whole ≡ K.Keyed places = q in cc)
-local_in n (A.FileSink file) functions types s outs places q = absurd (let no : K.Whole ≡ K.Keyed places = q in cc)
-local_in n (A.Join left right condition made) functions types s outs places q = absurd (let no : K.Whole ≡ K.Keyed places = q in cc)
-local_in n (A.Filter condition) functions types s outs places q = absurd (let no : K.Stateless ≡ K.Keyed places = q in cc)
-local_in n (A.Functor condition made) functions types s outs places q = absurd (let no : K.Stateless ≡ K.Keyed places = q in cc)
-local_in n (A.Punctor condition position) functions types s outs places q = absurd (let no : K.Stateless ≡ K.Keyed places = q in cc)
-local_in n (A.Split index) functions types s outs places q = absurd (let no : K.Stateless ≡ K.Keyed places = q in cc)
-local_in n (A.Union ports) functions types s outs places q = absurd (let no : K.Stateless ≡ K.Keyed places = q in cc)
+local_in n _ functions types s outs places q = absurd (let no : false ≡ true = ap is_keyed q in cc)
 
 pub keyed_law : KeyedLaw
 keyed_law op s places one q =

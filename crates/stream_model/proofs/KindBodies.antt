@@ -261,15 +261,7 @@ others_open clauses op earlier port x other =
 
 makes_open : (clauses : Part) (op : Operator) (earlier : List Event) (port : ℕ) (x : Item) → some_closes (given (answer (makes_by clauses op earlier port x))) ≡ false
 makes_open (A.Custom handlers) op earlier port x = custom_open op.functions handlers earlier port x
-makes_open (A.FileSource file strict) op earlier port x = others_open (A.FileSource file strict) op earlier port x refl
-makes_open (A.FileSink file) op earlier port x = others_open (A.FileSink file) op earlier port x refl
-makes_open (A.Filter condition) op earlier port x = others_open (A.Filter condition) op earlier port x refl
-makes_open (A.Functor condition made) op earlier port x = others_open (A.Functor condition made) op earlier port x refl
-makes_open (A.Punctor condition position) op earlier port x = others_open (A.Punctor condition position) op earlier port x refl
-makes_open (A.Split index) op earlier port x = others_open (A.Split index) op earlier port x refl
-makes_open (A.Union places) op earlier port x = others_open (A.Union places) op earlier port x refl
-makes_open (A.Aggregate window partition group collects) op earlier port x = others_open (A.Aggregate window partition group collects) op earlier port x refl
-makes_open (A.Join left right condition made) op earlier port x = others_open (A.Join left right condition made) op earlier port x refl
+makes_open clauses op earlier port x = others_open clauses op earlier port x refl
 
 pub given_open : (op : Operator) (earlier : List Event) (e : Event) → some_closes (given (body op earlier e)) ≡ false
 given_open op earlier e = makes_open op.clauses op (port_events op earlier) (port_at (ports op) e.input) e.item

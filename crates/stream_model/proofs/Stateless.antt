@@ -60,19 +60,13 @@ keeps_some false places q = let no : K.Whole ≡ K.Stateless = q in absurd cc
 -- ---- bodies
 
 same_makes : (part : Part) → state_of part ≡ K.Stateless → (op : Operator) (h k : List Event) (port : ℕ) (x : Item) → makes_by part op h port x ≡ makes_by part op k port x
-same_makes (A.FileSource file strict) q op h k port x = refl
-same_makes (A.FileSink file) q op h k port x = refl
-same_makes (A.Filter condition) q op h k port x = refl
-same_makes (A.Functor condition made) q op h k port x = refl
-same_makes (A.Punctor condition position) q op h k port x = refl
-same_makes (A.Split index) q op h k port x = refl
-same_makes (A.Union places) q op h k port x = refl
 same_makes (A.Custom handlers) q op h k port x =
     let none = none_mutable (has_mutable handlers) q in
     ap (λ (vars : List Value). followed (item_leaves op.functions handlers vars port x) (λ left turns. Done left.submits turns))
     (state_kept op.functions handlers h none ∙ sym (state_kept op.functions handlers k none))
 same_makes (A.Aggregate window partition group collects) q op h k port x = absurd (keeps_some _ partition q)
 same_makes (A.Join left right condition made) q op h k port x = absurd (let no : K.Whole ≡ K.Stateless = q in cc)
+same_makes _ q op h k port x = refl
 
 same_reacts : (n : ℕ) (part : Part) (functions : List Function) (types : PortTypes) (s : ℕ) (outs : List ℕ) → state_of part ≡ K.Stateless
     → (h k : List Event) (x : Item) → react (one_in n part functions types s outs) h (came 0 x) ≡ react (one_in n part functions types s outs) k (came 0 x)
