@@ -1,5 +1,5 @@
--- An operator that was checked has the file that was found of it before, or has none as it is neither a source nor a sink.
-use Rattle.std.specs.Prelude.{◌≡◌, ℕ, Bool, true, false, ◌||◌, List, [], ◌∷◌, ◌++◌, map, flat_map, length, codes, Option, Some, None, Ok, slice_get, if◌then◌else◌}
+-- An operator that was checked has the file that was found of it before, or is of a kind without a file.
+use Rattle.std.specs.Prelude.{◌≡◌, ℕ, zero, suc, Bool, true, false, ◌||◌, List, [], ◌∷◌, ◌++◌, map, flat_map, length, codes, Option, Some, None, Ok, Err, slice_get, if◌then◌else◌}
 use Rattle.std.specs.Option.{option_and_then, option_map, option_map_or}
 use Rattle.std.proofs.Common.{refl, sym, ap, ap₂, subst, ◌∙◌}
 use Rattle.std.proofs.lemmas.List.{map-append}
@@ -20,15 +20,18 @@ use Rattle.language_model.specs.declared.checked.Part.TheVariants as A
 use Rattle.language_model.specs.declared.checked.Policy.{Policy}
 use Rattle.language_model.specs.declared.kinds.Role.TheVariants as R
 use Rattle.language_model.specs.declared.scope.Port.{Port}
+use Rattle.language_model.specs.declared.scope.Scope.{Scope}
 use Rattle.language_model.specs.Checking.{Checks, aggregated, body_checked, clauses_checked, code_given, config_checked, file_given, first_of, invocation_checked, is_partitioned, joined, logic_checked, operator_checked, operators_checked, operator_scope, output_rows, parameters_checked, part_of, places_given, plain, port_types, ports_checked, ports_of, position_given, rows_checked, site_of, strict_given, surroundings, there, tuple_of, windows_checked}
+use Rattle.language_model.specs.Keeping as F
+use Rattle.language_model.specs.Keeping.{PartFits}
 use Rattle.language_model.specs.Literals.{file_typing, followed, number_literal}
 use Rattle.language_model.specs.LogicTyping.{Surroundings, logic_typing}
 use Rattle.language_model.specs.OutputTyping.{groups_typing, inputs_typing}
 use Rattle.language_model.specs.ParameterTyping.{Site, needed, role_of}
 use Rattle.language_model.specs.Parameters.{Tables}
 use Rattle.language_model.specs.SinkFiles.{OpFile, composite_of, file_of, invocation_at, is_sink, is_source, op_file, text_in, value_named}
-use Rattle.language_model.specs.StreamTypes.{Body, body_at}
-use Rattle.language_model.specs.Typing.{after, mismatch}
+use Rattle.language_model.specs.StreamTypes.{Attributes, Body, body_at}
+use Rattle.language_model.specs.Typing.{Found, after, mismatch}
 use Rattle.check_laws.proofs.FileParameters.{HasFile, has_file}
 use Rattle.check_laws.proofs.FollowedTexts.{file_found}
 use Rattle.check_laws.proofs.FoundSteps.{after_gives, same_Ok}
@@ -53,28 +56,20 @@ part_file _ = []
 
 -- ---- clauses
 
--- the part has the file that was found for an operator of the kind
+-- operators of the kind have a file
+abbrev is_filed : OpKind → Bool
+is_filed kind = is_sink kind || is_source kind
+
+-- the part has the file that was found for an operator of the kind, where those have one
 abbrev SameFile : ℕ → OpKind → Option (List ℕ) → Part → Type 0
-SameFile at kind found part = map bare (kind_file at kind found) ≡ part_file part
+SameFile at kind found part = is_filed kind ≡ true → map bare (kind_file at kind found) ≡ part_file part
+
+always : {A : Type 0} (Q : A → Type 0) (r : Found A) → ((x : A) → Q x) → Gives Q r
+always Q (Ok x) h = h x
+always Q (Err refusal) h = tt
 
 module _ (site : Site) (clauses : Clauses) (found : Option (List ℕ)) (finds : (file : List ℕ) → HasFile site clauses.parameters file → found ≡ Some file)
     (at : ℕ) where
-  plain_file : (kind : OpKind) (part : Part) → SameFile at kind found part → Gives (SameFile at kind found) (plain kind clauses part)
-  plain_file kind part same = gives_then (SameFile at kind found) (logic_checked kind clauses.logic) _ (λ u is. same)
-
-  aggregated_file : (x : Checks) (rows : List OutputAssignments) (windows : List Policy) → Gives (SameFile at O.Aggregate found) (aggregated x clauses rows windows)
-  aggregated_file x rows [] = tt
-  aggregated_file x rows (window ∷ windows) =
-      gives_then (SameFile at O.Aggregate found) (groups_typing x.around.scope x.at (first_of x.around.schemas) (first_of x.around.outputs) rows) _ (λ output is.
-      plain_file O.Aggregate (A.Aggregate window (places_given x.given (codes "partitionBy")) (places_given x.given (codes "groupBy")) output) refl)
-
-  joined_file : (x : Checks) (rows : List OutputAssignments) (windows : List Policy) → Gives (SameFile at O.Join found) (joined x clauses rows windows)
-  joined_file x rows [] = tt
-  joined_file x rows (left ∷ []) = tt
-  joined_file x rows (left ∷ right ∷ windows) =
-      gives_then (SameFile at O.Join found) (tuple_of x rows) _ (λ output is.
-      plain_file O.Join (A.Join left right (code_given x.given (codes "match")) output) refl)
-
   file_given_is : (kind : OpKind) (partitioned : Bool) (x : Checks) → role_of kind partitioned (codes "file") ≡ Some R.File → needed kind partitioned ≡ codes "file" ∷ []
       → parameters_checked site kind partitioned at clauses.parameters ≡ Ok x.given → found ≡ Some (file_given x.given)
   file_given_is kind partitioned x role needs given = finds (file_given x.given) (has_file site kind partitioned at clauses.parameters x.given role needs given)
@@ -83,32 +78,16 @@ module _ (site : Site) (clauses : Clauses) (found : Option (List ℕ)) (finds : 
       → parameters_checked site kind partitioned at clauses.parameters ≡ Ok x.given → Gives (SameFile at kind found) (part_of x clauses rows kind)
   kind_has_file O.FileSource partitioned x rows given =
       let same : SameFile at O.FileSource found (A.FileSource (file_given x.given) (strict_given x.given)) =
-      ap (λ o. map bare (kind_file at O.FileSource o)) (file_given_is O.FileSource partitioned x refl refl given) in
+      λ filed. ap (λ o. map bare (kind_file at O.FileSource o)) (file_given_is O.FileSource partitioned x refl refl given) in
       gives_then (SameFile at O.FileSource found) (logic_checked O.FileSource clauses.logic) _ (λ u none.
       gives_then (SameFile at O.FileSource found) (rows_checked x x.around.schemas) _ (λ v text. same))
   kind_has_file O.FileSink partitioned x rows given =
       let same : SameFile at O.FileSink found (A.FileSink (file_given x.given)) =
-      ap (λ o. map bare (kind_file at O.FileSink o)) (file_given_is O.FileSink partitioned x refl refl given) in
+      λ filed. ap (λ o. map bare (kind_file at O.FileSink o)) (file_given_is O.FileSink partitioned x refl refl given) in
       gives_then (SameFile at O.FileSink found) (logic_checked O.FileSink clauses.logic) _ (λ u none.
       gives_then (SameFile at O.FileSink found) (rows_checked x (map (λ p. p.schema) x.around.scope.ports)) _ (λ v text. same))
-  kind_has_file O.Filter partitioned x rows given = plain_file O.Filter (A.Filter (code_given x.given (codes "filter"))) refl
-  kind_has_file O.Functor partitioned x rows given =
-      gives_then (SameFile at O.Functor found) (tuple_of x rows) _ (λ output is.
-      plain_file O.Functor (A.Functor (code_given x.given (codes "filter")) output) refl)
-  kind_has_file O.Punctor partitioned x rows given =
-      gives_then (SameFile at O.Punctor found) (there x.at (code_given x.given (codes "punctuation"))) _ (λ condition is.
-      gives_then (SameFile at O.Punctor found) (there x.at (position_given x.given)) _ (λ position put.
-      plain_file O.Punctor (A.Punctor condition position) refl))
-  kind_has_file O.Split partitioned x rows given =
-      gives_then (SameFile at O.Split found) (there x.at (code_given x.given (codes "index"))) _ (λ index is.
-      plain_file O.Split (A.Split index) refl)
-  kind_has_file O.Union partitioned x rows given =
-      gives_then (SameFile at O.Union found) (inputs_typing x.at (first_of x.around.schemas) x.around.scope.ports) _ (λ places is.
-      plain_file O.Union (A.Union places) refl)
-  kind_has_file O.Custom partitioned x rows given =
-      gives_then (SameFile at O.Custom found) (logic_typing x.around clauses.logic) _ (λ handlers is. refl)
-  kind_has_file O.Aggregate partitioned x rows given = aggregated_file x rows x.windows
-  kind_has_file O.Join partitioned x rows given = joined_file x rows x.windows
+  kind_has_file kind partitioned x rows given =
+      always (SameFile at kind found) (part_of x clauses rows kind) (λ part filed. let no : false ≡ true = filed in absurd cc)
 
 clauses_file : (op : Op) (site : Site) (around : Surroundings) (clauses : Clauses) (found : Option (List ℕ))
     → ((file : List ℕ) → HasFile site clauses.parameters file → found ≡ Some file) → Gives (SameFile op.at op.kind found) (clauses_checked op site around clauses)
@@ -152,9 +131,28 @@ stands_at unit g number b e = of_expansion (slice_get g.expansions number) refl 
 
 -- ---- operators
 
--- the part of an operator has the operator's file
+-- the part of an operator whose kind has a file has the operator's
 abbrev OwnFile : List Definition → List Expansion → Op → Part → Type 0
-OwnFile unit expansions op part = map bare (op_file unit expansions op) ≡ part_file part
+OwnFile unit expansions op part = is_filed op.kind ≡ true → map bare (op_file unit expansions op) ≡ part_file part
+
+-- the part fits the operator's kind
+abbrev pub Fitted : Op → Part → Type 0
+Fitted op part = (scope : Scope) × (ins : List Attributes) × (outs : List Attributes) × PartFits scope op.kind ins outs part
+
+no_file : (scope : Scope) (kind : OpKind) (ins outs : List Attributes) (part : Part) → PartFits scope kind ins outs part → is_filed kind ≡ false → [] ≡ part_file part
+no_file scope kind ins outs part (F.file_source file strict schema named text) none = absurd (let no : true ≡ false = none in cc)
+no_file scope kind ins outs part (F.file_sink file schema named text) none = absurd (let no : true ≡ false = none in cc)
+no_file scope kind ins outs part _ none = refl
+
+same_file : (unit : List Definition) (expansions : List Expansion) (op : Op) (part : Part) → OwnFile unit expansions op part → Fitted op part
+    → map bare (op_file unit expansions op) ≡ part_file part
+same_file unit expansions op part own fit = by_kind (is_filed op.kind) refl
+  where
+    by_kind : (b : Bool) → is_filed op.kind ≡ b → map bare (op_file unit expansions op) ≡ part_file part
+    by_kind true filed = own filed
+    by_kind false none =
+        ap (λ b. map bare (if b then option_map_or (λ bytes. record { sink = is_sink op.kind; file = placed op.at bytes } ∷ []) (file_of unit expansions op) [] else [])) none
+        ∙ no_file fit.0 op.kind fit.1 fit.2 part fit.3 none
 
 module _ (unit : List Definition) (g : Graph) (tables : Tables) where
   -- what the checks take as the file of the invocation is the operator's
@@ -194,16 +192,18 @@ module _ (unit : List Definition) (g : Graph) (tables : Tables) where
   operator_file op part e =
       gives_from (OwnFile unit g.expansions op) (operator_checked unit g tables op) part (body_file op (body_at unit g op.site.expansion) refl) e
 
-  -- the files of operators are those of their parts
+  -- the files of operators are those of their parts, where each of these fits
   pub operators_files : (ops : List Op) (parts : List Part) → operators_checked unit g tables ops ≡ Ok parts
+      → ((n : ℕ) (op : Op) (part : Part) → slice_get ops n ≡ Some op → slice_get parts n ≡ Some part → Fitted op part)
       → map bare (flat_map (op_file unit g.expansions) ops) ≡ flat_map part_file parts
-  operators_files [] parts e = let none : [] ≡ parts = same_Ok e in ap (flat_map part_file) none
-  operators_files (op ∷ ops) parts e =
+  operators_files [] parts e fits = let none : [] ≡ parts = same_Ok e in ap (flat_map part_file) none
+  operators_files (op ∷ ops) parts e fits =
       let x = after_gives (operator_checked unit g tables op) (λ part. after (operators_checked unit g tables ops) (λ rest. Ok (part ∷ rest))) parts e in
       let y = after_gives (operators_checked unit g tables ops) (λ rest. Ok (x.0 ∷ rest)) parts x.2 in
       let whole : x.0 ∷ y.0 ≡ parts = same_Ok y.2 in
-      let own = operator_file op x.0 x.1 in
-      let others = operators_files ops y.0 y.1 in
+      let fit = fits zero op x.0 refl (ap (λ (ps : List Part). slice_get ps zero) (sym whole)) in
+      let own = same_file unit g.expansions op x.0 (operator_file op x.0 x.1) fit in
+      let others = operators_files ops y.0 y.1 (λ n o part at there. fits (suc n) o part at (ap (λ (ps : List Part). slice_get ps (suc n)) (sym whole) ∙ there)) in
       map-append bare (op_file unit g.expansions op) (flat_map (op_file unit g.expansions) ops)
       ∙ ap₂ (λ (fs hs : List OpFile). fs ++ hs) own others
       ∙ ap (flat_map part_file) whole

@@ -1,11 +1,12 @@
 -- The sinks of a checked graph have files of their own.
-use Rattle.std.specs.Prelude.{◌≡◌, ℕ, Bool, true, false, ◌&&◌, ◌||◌, List, [], ◌∷◌, ◌++◌, map, flat_map, length, Option, Some, None, Ok, Err}
+use Rattle.std.specs.Prelude.{◌≡◌, ℕ, Bool, true, false, ◌&&◌, ◌||◌, List, [], ◌∷◌, ◌++◌, map, flat_map, length, Option, Some, None, Ok, Err, slice_get}
 use Rattle.std.specs.Str.{bytes_eq}
 use Rattle.std.specs.Cmp.Lexicographic.{bytes_decides}
 use Rattle.std.proofs.Common.{refl, sym, ap, subst, ◌∙◌}
 use Rattle.std.proofs.lemmas.Bool.{or_from}
 use Rattle.spl_tree.specs.declared.expression.Placed.{Placed}
 use Rattle.spl_tree.specs.declared.graph.Graph.{Graph}
+use Rattle.spl_tree.specs.declared.graph.Op.{Op}
 use Rattle.spl_tree.specs.declared.unit.Composite.{Composite}
 use Rattle.spl_tree.specs.declared.unit.Definition.{Definition}
 use Rattle.spl_tree.specs.Grammar.{placed}
@@ -18,14 +19,16 @@ use Rattle.language_model.specs.Expansion as E
 use Rattle.language_model.specs.Expansion.{Made, expanded_main}
 use Rattle.language_model.specs.Flat.{IsFlat, expands, files_had, flat_from, if_none_had, no_main, ordered, recursive, twice, with_own_files}
 use Rattle.language_model.specs.FunctionTyping.{functions_typing}
+use Rattle.language_model.specs.Keeping.{Keeps}
 use Rattle.language_model.specs.Numbering.{numbers_from}
 use Rattle.language_model.specs.Parameters.{dollar_tables}
 use Rattle.language_model.specs.Scopes.{At}
 use Rattle.language_model.specs.SinkFiles.{OpFile, op_file}
 use Rattle.language_model.specs.Typing.{after}
 use Rattle.check_laws.specs.Files.{OwnFiles, is_named, sink_files, source_files}
+use Rattle.check_laws.specs.KeepsLaw.{KeepsLaw}
 use Rattle.check_laws.specs.OwnFilesLaw.{OwnFilesLaw}
-use Rattle.check_laws.proofs.FileParts.{operators_files, part_file}
+use Rattle.check_laws.proofs.FileParts.{Fitted, operators_files, part_file}
 use Rattle.check_laws.proofs.FoundSteps.{after_gives, same_Ok}
 use Rattle.check_laws.proofs.FreeFiles.{Clear, Free, all_free, bare_free}
 
@@ -167,8 +170,12 @@ graph_none unit names g x (no_main declared none) e = absurd cc
 graph_none unit names g x (recursive main n declared is r) e = absurd cc
 graph_none unit names g x (expands main declared is r) e = flat_none unit names main g e
 
--- the parts of a checked graph are those of its operators
-parts_found : (unit : List Definition) (g : Graph) (c : CheckedGraph) → checked unit g ≡ Ok c → operators_checked unit g (dollar_tables unit g.expansions) g.ops ≡ Ok c.parts
+-- the parts of a checked graph are those of its operators, and its graph is what was checked
+record PartsFound (unit : List Definition) (g : Graph) (c : CheckedGraph) : Type 0 where
+  graph : g ≡ c.graph
+  parts : operators_checked unit g (dollar_tables unit g.expansions) g.ops ≡ Ok c.parts
+
+parts_found : (unit : List Definition) (g : Graph) (c : CheckedGraph) → checked unit g ≡ Ok c → PartsFound unit g c
 parts_found unit g c e =
     let x = after_gives (functions_typing unit) (λ functions. after (operators_checked unit g (dollar_tables unit g.expansions) g.ops) (λ parts.
     after (each_stream unit g (numbers_from 0 (length g.streams))) (λ schemas.
@@ -179,11 +186,19 @@ parts_found unit g c e =
     let z = after_gives (each_stream unit g (numbers_from 0 (length g.streams))) (λ schemas.
     Ok (record { graph = g; schemas = schemas; functions = x.0; parts = y.0 })) c y.2 in
     let whole : ◌≡◌ {A = CheckedGraph} (record { graph = g; schemas = z.0; functions = x.0; parts = y.0 }) c = same_Ok z.2 in
-    y.1 ∙ ap (λ (k : CheckedGraph). Ok k.parts) whole
+    record { graph = ap (λ (k : CheckedGraph). k.graph) whole; parts = y.1 ∙ ap (λ (k : CheckedGraph). Ok k.parts) whole }
 
-pub law : OwnFilesLaw
-law unit names g c flat e =
+-- the clauses of each operator fit it
+parts_fit : (g : Graph) (c : CheckedGraph) → Keeps c → g ≡ c.graph
+    → (n : ℕ) (op : Op) (part : Part) → slice_get g.ops n ≡ Some op → slice_get c.parts n ≡ Some part → Fitted op part
+parts_fit g c keeps same n op part at there =
+    let fit = keeps.operators n op part (ap (λ (h : Graph). slice_get h.ops n) (sym same) ∙ at) there in
+    (fit.scope, fit.ins, fit.outs, fit.clauses)
+
+pub law : KeepsLaw → OwnFilesLaw
+law keeps unit names g c flat e =
     let none = graph_none unit names g (Ok g) flat refl in
     let free = all_free names (flat_map (op_file unit g.expansions) g.ops) none.none in
-    let files = operators_files unit g (dollar_tables unit g.expansions) g.ops c.parts (parts_found unit g c e) in
+    let found = parts_found unit g c e in
+    let files = operators_files unit g (dollar_tables unit g.expansions) g.ops c.parts found.parts (parts_fit g c (keeps unit names g c flat e) found.graph) in
     own_files names c.parts (subst (Free names) files (bare_free names (flat_map (op_file unit g.expansions) g.ops) free))
