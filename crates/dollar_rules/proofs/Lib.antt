@@ -1,6 +1,4 @@
 pub mod ConstantLaws
-pub mod DollarLaws
-pub mod Adding
 pub mod Marks
 pub mod MarkedTables
 pub mod SettledOnes

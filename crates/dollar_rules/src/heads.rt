@@ -2,7 +2,6 @@
 ghost use Rattle.std.specs.Prelude.{◌≡◌, IfOk, filter_map};
 ghost use Rattle.std.specs.Option.{option_copied};
 ghost use Rattle.language_model.specs.Parameters.{constant_scope, constant_typing, default_leads, has_meaning, parameter_leads, parameter_place, parameter_typing};
-ghost use Rattle.language_model.specs.SinkFiles.{only_value, value_named};
 ghost use Rattle.language_model.specs.Finds.{Finds, IsUnknown};
 ghost use Rattle.dollar_rules.specs.Mentioned.{names_seen};
 ghost use Rattle.written_types.specs.TypeScopes.{types_in};
@@ -12,6 +11,7 @@ use crate::constants::is_constant;
 use crate::mentions::dollars_in;
 use crate::weights::is_small;
 use language_model::{CheckError, CheckRefusal, Scope, TypeAnswer, Typed};
+use program_tables::value_named;
 use spl_tree::{CompositeParameter, Expr, Parameter, Placed};
 use spl_value::{Items, Name, NoMemory, SplType};
 use std::alloc::Global;
@@ -33,27 +33,6 @@ pub(crate) struct Head<'a> {
     ghost constants: { outer.now ≡ constant_scope outer.now.dollars },
     ghost led: { leads.items ≡ rows_of parameters.now arguments.now },
     ghost meant: { meanings.items ≡ passes_from (has_meaning parameters.now arguments.now) 0 parameters.now },
-}
-
-/// The one value of the first argument of the name.
-fn value_named<'a>(arguments: &'a [Parameter], name: &[u8]) -> Option<&'a Expr>
-    ensures { option_copied result ≡ value_named arguments.now name.now }
-{
-    for argument in arguments {
-        if argument.name.what.as_slice() == name {
-            return only(argument.values.as_slice());
-        }
-    }
-    None
-}
-
-fn only(values: &[Expr]) -> Option<&Expr>
-    ensures { option_copied result ≡ only_value values.now }
-{
-    match values {
-        [value] => Some(value),
-        _ => None,
-    }
 }
 
 /// The first parameter of the name.
