@@ -16,7 +16,7 @@ use Rattle.language_model.specs.Parameters.{dollar_tables}
 use Rattle.language_model.specs.Scopes.{At}
 use Rattle.language_model.specs.Typing.{Found, after}
 use Rattle.clause_rules.specs.declared.checking.Found.{Found as Parts}
-use Rattle.clause_rules.specs.Programs.{AreInvoked, found_in}
+use Rattle.clause_rules.specs.steps.Programs.{AreInvoked, found_in}
 
 -- a graph is that from a main composite on
 pub record FromMain (unit : List Definition) (names : List (List ℕ)) (x : expansion.Found Graph) : Type 0 where

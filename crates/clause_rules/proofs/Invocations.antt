@@ -24,8 +24,8 @@ use Rattle.language_model.specs.SinkFiles.{composite_of}
 use Rattle.language_model.specs.StreamTypes.{Attributes, Body, body_at, outputs_attributes, passed, stream_attributes, output_heads, ports_attributes}
 use Rattle.language_model.specs.TypeNames.{Types, composite_types}
 use Rattle.language_model.specs.Typing.{Found, after, mismatch}
-use Rattle.clause_rules.specs.Operators.{named}
-use Rattle.clause_rules.specs.Programs.{invocation_in}
+use Rattle.clause_rules.specs.steps.Operators.{named}
+use Rattle.clause_rules.specs.steps.Programs.{invocation_in}
 
 -- what comes behind something that was found
 pub record Goes {A B : Type 0} (o : Found A) (f : A → Found B) (y : B) : Type 0 where

@@ -24,7 +24,7 @@ use Rattle.written_types.specs.declared.finding.TypeScope.{TypeScope}
 use Rattle.written_types.specs.TypeScopes.{types_in}
 use Rattle.body_rules.specs.Handling.{handled_in, handlers_in, seen_scope}
 use Rattle.logic_rules.specs.ByPorts.{made_of}
-use Rattle.clause_rules.specs.Logic.{handlers_found, surroundings}
+use Rattle.clause_rules.specs.steps.Logic.{handlers_found, surroundings}
 use Rattle.language_model.proofs.FoundAnswers.{finds_by, goes, stops}
 
 abbrev pub as_made : ℕ → List StateVariable → List Handled → Found Handlers

@@ -3,7 +3,7 @@ use Rattle.std.specs.Prelude.{◌≡◌, ℕ, List, [], ◌∷◌, ◌++◌, len
 use Rattle.std.proofs.Common.{refl, sym, ap, ◌∙◌, append-nil}
 use Rattle.language_model.specs.declared.scope.Port.{Port}
 use Rattle.language_model.specs.StreamTypes.{Attributes}
-use Rattle.clause_rules.specs.Operators.{named}
+use Rattle.clause_rules.specs.steps.Operators.{named}
 
 -- the port of what has a name, where there is one
 abbrev pub port_of : {A : Type 0} → (A → List ℕ) → Attributes → Option A → List Port

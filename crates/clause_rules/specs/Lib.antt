@@ -1,3 +1,1 @@
-pub mod Operators
-pub mod Programs
-pub mod Logic
+pub mod steps

@@ -6,7 +6,7 @@ ghost use Rattle.language_model.specs.Numbering.{numbers_from};
 ghost use Rattle.language_model.specs.Parameters.{dollar_tables};
 ghost use Rattle.stream_rules.specs.Streams.{IsTableOf};
 ghost use Rattle.language_model.specs.Finds.{Finds, Narrows};
-ghost use Rattle.clause_rules.specs.Programs.{AreInvoked, found_in};
+ghost use Rattle.clause_rules.specs.steps.Programs.{AreInvoked, found_in};
 
 use crate::operators::{Program, operators_checked};
 use body_rules::{functions_of, scope_of_unit};

@@ -3,7 +3,7 @@ ghost use Rattle.std.specs.Prelude.{◌≡◌, [], false, IfOk};
 ghost use Rattle.std.specs.Option.{option_copied};
 ghost use Rattle.language_model.specs.LogicTyping.{logic_typing};
 ghost use Rattle.language_model.specs.Finds.{Finds};
-ghost use Rattle.clause_rules.specs.Logic.{handlers_found, surroundings};
+ghost use Rattle.clause_rules.specs.steps.Logic.{handlers_found, surroundings};
 
 use body_rules::{BodyPurpose, BodySetting, handlers_of};
 use language_model::{Handlers, Port, Scope, StateVariable, TypeAnswer};

@@ -8,8 +8,8 @@ ghost use Rattle.literal_sites.specs.Sites.{site_seen};
 ghost use Rattle.body_sites.specs.Bodies.{body_seen};
 ghost use Rattle.stream_rules.specs.Streams.{IsTableOf};
 ghost use Rattle.language_model.specs.Finds.{Finds};
-ghost use Rattle.clause_rules.specs.Operators.{around_seen, site_at};
-ghost use Rattle.clause_rules.specs.Programs.{AreInvoked, IsBody, invocation_in, program_unit};
+ghost use Rattle.clause_rules.specs.steps.Operators.{around_seen, site_at};
+ghost use Rattle.clause_rules.specs.steps.Programs.{AreInvoked, IsBody, invocation_in, program_unit};
 
 use crate::parts::{Around, Checks, output_rows, part_of};
 use crate::ports::{config_checked, outputs_of, ports_checked, ports_of};

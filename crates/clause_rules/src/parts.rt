@@ -9,7 +9,7 @@ ghost use Rattle.language_model.specs.Checking.{code_given, file_sink, file_sour
 ghost use Rattle.language_model.specs.LogicTyping.{logic_typing};
 ghost use Rattle.language_model.specs.Typing.{after};
 ghost use Rattle.language_model.specs.Finds.{Finds};
-ghost use Rattle.clause_rules.specs.Operators.{around_seen, checks_seen, groups_at, rows_of_schemas, rows_seen, tuple_at};
+ghost use Rattle.clause_rules.specs.steps.Operators.{around_seen, checks_seen, groups_at, rows_of_schemas, rows_seen, tuple_at};
 
 use crate::logic::logic_of;
 use language_model::{

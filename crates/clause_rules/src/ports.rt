@@ -3,7 +3,7 @@ ghost use Rattle.std.specs.Prelude.{◌≡◌, IfOk};
 ghost use Rattle.language_model.specs.Checking.{config_checked, fit_ports, port_name, ports_checked};
 ghost use Rattle.language_model.specs.Finds.{Finds};
 ghost use Rattle.language_model.specs.Kinds.{is_within};
-ghost use Rattle.clause_rules.specs.Operators.{named};
+ghost use Rattle.clause_rules.specs.steps.Operators.{named};
 
 use language_model::{CheckError, Port, PortBounds, TypeAnswer, refused, refused_name, rules_of};
 use spl_tree::{InputPort, Invocation, Op, OpKind, OutputStream, Parameter};

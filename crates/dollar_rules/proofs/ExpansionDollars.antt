@@ -19,7 +19,7 @@ use Rattle.language_model.specs.TypeNames.{Types, composite_types}
 use Rattle.written_types.specs.declared.finding.TypeScope.{TypeScope}
 use Rattle.written_types.specs.TypeScopes.{types_in}
 use Rattle.body_sites.specs.Sites.{MeansTypes}
-use Rattle.dollar_rules.specs.Tables.{tables_of}
+use Rattle.dollar_rules.specs.steps.Tables.{tables_of}
 use Rattle.spl_value.proofs.Lists.{copied_at}
 
 pub settled_for : (r : Result Scope NoMemory) (own given : List Dollar) → IfOk r (λ s. s ≡ constant_scope own) → own ≡ given → IfOk r (λ s. s ≡ constant_scope given)

@@ -13,7 +13,7 @@ use Rattle.language_model.specs.Leading.{leads_back}
 use Rattle.language_model.specs.Parameters.{default_leads, has_meaning, parameter_leads, parameter_place}
 use Rattle.language_model.specs.Scopes.{At, at_place, first_from}
 use Rattle.language_model.specs.SinkFiles.{value_named}
-use Rattle.dollar_rules.specs.Heads.{rows_of}
+use Rattle.dollar_rules.specs.steps.Heads.{rows_of}
 use Rattle.written_types.specs.Stepping.{LeadsWithin, steps_from}
 
 first_within : {A : Type 0} (p : A → Bool) (i : ℕ) (xs : List A) (k : ℕ) → option_map (λ a. a.place) (first_from p i xs) ≡ Some k → k < i + length xs

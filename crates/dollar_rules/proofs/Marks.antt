@@ -9,7 +9,7 @@ use Rattle.language_model.specs.declared.scope.Dollar.{Dollar}
 use Rattle.language_model.specs.declared.scope.Typed.{Typed}
 use Rattle.language_model.specs.Parameters.{own_from}
 use Rattle.language_model.specs.Typing.{Found}
-use Rattle.dollar_rules.specs.Given.{is_marked, marked, marks_in}
+use Rattle.dollar_rules.specs.steps.Given.{is_marked, marked, marks_in}
 
 -- ---- counts
 

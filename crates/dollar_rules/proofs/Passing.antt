@@ -5,7 +5,7 @@ use Rattle.std.specs.Option.{option_copied, option_map, option_map_or}
 use Rattle.std.specs.Slice.{IsItemAt}
 use Rattle.std.proofs.Common.{refl, ap, ◌∙◌, arith}
 use Rattle.spl_tree.specs.declared.unit.CompositeParameter.{CompositeParameter}
-use Rattle.dollar_rules.specs.Heads.{passes_at, passes_from}
+use Rattle.dollar_rules.specs.steps.Heads.{passes_at, passes_from}
 use Rattle.spl_value.proofs.Lists.{copied_at}
 
 module _ (passes : ℕ → CompositeParameter → Bool) where

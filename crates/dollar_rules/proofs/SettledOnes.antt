@@ -20,7 +20,7 @@ use Rattle.language_model.specs.SinkFiles.{value_named}
 use Rattle.language_model.specs.TypeNames.{type_meant}
 use Rattle.language_model.specs.declared.scope.Typed.{Typed}
 use Rattle.language_model.specs.Typing.{Found, after, mismatch}
-use Rattle.dollar_rules.specs.Given.{AreSettled, Given, IsDone, IsReady, found_at_last, found_in, is_marked, marks_in, means, settled_table, table}
+use Rattle.dollar_rules.specs.steps.Given.{AreSettled, Given, IsDone, IsReady, found_at_last, found_in, is_marked, marks_in, means, settled_table, table}
 use Rattle.dollar_rules.proofs.Marks.{fewer, marked_is, marked_none, one_more}
 use Rattle.dollar_rules.proofs.MarkedTables.{dollar_is, same_found, stands_for}
 use Rattle.spl_value.proofs.Bools.{and_left as first_of_both}

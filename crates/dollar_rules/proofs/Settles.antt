@@ -9,9 +9,9 @@ use Rattle.std.proofs.lemmas.Option.{slice_get-get_or}
 use Rattle.spl_tree.specs.declared.unit.CompositeParameter.{CompositeParameter}
 use Rattle.language_model.specs.Parameters.{constant_scope, parameter_leads}
 use Rattle.dollar_rules.specs.declared.settling.Settled.{Settled}
-use Rattle.dollar_rules.specs.Given.{AreSettled, Given, IsDone, IsReady, Keeps, found_at_last, is_marked, marks_in, means, settled_table, table}
-use Rattle.dollar_rules.specs.Heads.{passes_at}
-use Rattle.dollar_rules.specs.Settling.{IsSettled, Settles}
+use Rattle.dollar_rules.specs.steps.Given.{AreSettled, Given, IsDone, IsReady, Keeps, found_at_last, is_marked, marks_in, means, settled_table, table}
+use Rattle.dollar_rules.specs.steps.Heads.{passes_at}
+use Rattle.dollar_rules.specs.steps.Settling.{IsSettled, Settles}
 use Rattle.dollar_rules.proofs.Marks.{marked_none}
 use Rattle.dollar_rules.proofs.SettledOnes.{all_settled, apart}
 

@@ -10,7 +10,7 @@ use Rattle.language_model.specs.declared.scope.Typed.{Typed}
 use Rattle.language_model.specs.DollarLaws.{MentionedLaw}
 use Rattle.language_model.specs.Parameters.{constant_scope}
 use Rattle.language_model.specs.Typing.{Found}
-use Rattle.dollar_rules.specs.Given.{AreSettled, Given, IsReady, found_at_last, found_in, is_marked, marked, marks_in, means, settled_table}
+use Rattle.dollar_rules.specs.steps.Given.{AreSettled, Given, IsReady, found_at_last, found_in, is_marked, marked, marks_in, means, settled_table}
 use Rattle.dollar_rules.proofs.Marks.{marked_more}
 use Rattle.dollar_rules.proofs.SettledOnes.{found_now}
 

@@ -8,7 +8,7 @@ use Rattle.spl_tree.specs.declared.unit.Definition.{Definition}
 use Rattle.language_model.specs.declared.scope.Dollar.{Dollar}
 use Rattle.language_model.specs.declared.scope.Scope.{Scope}
 use Rattle.language_model.specs.Parameters.{Tables, constant_scope, expansion_dollars, tables_from}
-use Rattle.dollar_rules.specs.Tables.{AreConstants, tables_of}
+use Rattle.dollar_rules.specs.steps.Tables.{AreConstants, tables_of}
 use Rattle.spl_value.proofs.Lists.{drop_at as rest_at}
 
 abbrev constant : Scope → Scope

@@ -3,9 +3,9 @@ ghost use Rattle.std.specs.Prelude.{◌≡◌, IfOk, filter_map};
 ghost use Rattle.std.specs.Option.{option_copied};
 ghost use Rattle.language_model.specs.Parameters.{constant_scope, constant_typing, default_leads, has_meaning, parameter_leads, parameter_place, parameter_typing};
 ghost use Rattle.language_model.specs.Finds.{Finds, IsUnknown};
-ghost use Rattle.dollar_rules.specs.Mentioned.{names_seen};
+ghost use Rattle.dollar_rules.specs.steps.Mentioned.{names_seen};
 ghost use Rattle.written_types.specs.TypeScopes.{types_in};
-ghost use Rattle.dollar_rules.specs.Heads.{rows_of, passes_at, passes_from};
+ghost use Rattle.dollar_rules.specs.steps.Heads.{rows_of, passes_at, passes_from};
 
 use crate::constants::is_constant;
 use crate::mentions::dollars_in;

@@ -1,7 +1,7 @@
 //! The `$` parameters that stand in expressions.
 ghost use Rattle.std.specs.Prelude.{◌≡◌, IfOk};
 ghost use Rattle.language_model.specs.DollarLaws.{dollars_in};
-ghost use Rattle.dollar_rules.specs.Mentioned.{names_seen};
+ghost use Rattle.dollar_rules.specs.steps.Mentioned.{names_seen};
 
 use program_tables::{Mention, of_expression};
 use spl_tree::Expr;

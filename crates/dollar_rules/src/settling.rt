@@ -4,8 +4,8 @@ ghost use Rattle.std.specs.Prelude.{◌≡◌, ◌<◌, [], ℕ, IfOk, OnOk, IsT
 ghost use Rattle.std.specs.List.{Contains};
 ghost use Rattle.spl_tree.specs.declared.unit.CompositeParameter.{CompositeParameter};
 ghost use Rattle.language_model.specs.Parameters.{constant_scope, parameter_leads, parameters_given};
-ghost use Rattle.dollar_rules.specs.Given.{IsReady, is_marked, marks_in, means};
-ghost use Rattle.dollar_rules.specs.Settling.{IsSettled, Settles, given_of};
+ghost use Rattle.dollar_rules.specs.steps.Given.{IsReady, is_marked, marks_in, means};
+ghost use Rattle.dollar_rules.specs.steps.Settling.{IsSettled, Settles, given_of};
 ghost use Rattle.written_types.specs.TypeScopes.{types_in};
 
 use crate::heads::Head;

@@ -1,7 +1,7 @@
 //! What the `$` parameters of composites stand for in each expansion.
 ghost use Rattle.std.specs.Prelude.{◌≡◌, IfOk, map};
 ghost use Rattle.language_model.specs.Parameters.{constant_scope, dollar_tables, expansion_dollars, tables_from};
-ghost use Rattle.dollar_rules.specs.Tables.{AreConstants, tables_of};
+ghost use Rattle.dollar_rules.specs.steps.Tables.{AreConstants, tables_of};
 
 use crate::heads::Head;
 use crate::settling::{no_names, settle_all};

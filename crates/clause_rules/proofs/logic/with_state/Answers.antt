@@ -5,7 +5,7 @@ use Rattle.language_model.specs.Typing.{after}
 use Rattle.language_model.specs.Finds.{Finds}
 use Rattle.body_rules.specs.Handling.{handlers_in}
 use Rattle.logic_rules.specs.ByPorts.{made_of}
-use Rattle.clause_rules.specs.Logic.{surroundings}
+use Rattle.clause_rules.specs.steps.Logic.{surroundings}
 use Rattle.clause_rules.proofs.LogicFound.{as_made, found_as, inside}
 use Rattle.clause_rules.proofs.logic.with_state.Goals as goal
 use Rattle.language_model.proofs.FoundAnswers.{fails, finds_by, stops}

@@ -3,7 +3,7 @@ use Rattle.language_model.specs.Literals.{followed}
 use Rattle.written_types.specs.TypeScopes.{types_in}
 use Rattle.literal_sites.specs.Sites.{followed_in}
 use Rattle.body_sites.specs.Bodies.{body_seen}
-use Rattle.clause_rules.specs.Programs.{program_unit}
+use Rattle.clause_rules.specs.steps.Programs.{program_unit}
 use Rattle.clause_rules.proofs.Invocations.{invocation_is}
 use Rattle.clause_rules.proofs.operators.invocation_checked.Goals as goal
 use Rattle.language_model.proofs.FoundAnswers.{fails, finds_by}

@@ -2,7 +2,7 @@ use Rattle.std.specs.Prelude.{[], slice_set}
 use Rattle.std.specs.Option.{option_copied, option_map}
 use Rattle.std.proofs.Common.{Err, ap, sym, ◌∙◌}
 use Rattle.body_sites.specs.Bodies.{body_at_sites, body_seen}
-use Rattle.clause_rules.specs.Programs.{program_unit}
+use Rattle.clause_rules.specs.steps.Programs.{program_unit}
 use Rattle.clause_rules.proofs.Invocations.{operator_is}
 use Rattle.clause_rules.proofs.Tables.{put_back}
 use Rattle.clause_rules.proofs.operators.operator_checked.Goals as goal

@@ -2,7 +2,7 @@ use Rattle.std.proofs.Common.{◌≡◌, drop}
 use Rattle.language_model.specs.Checking.{operators_checked}
 use Rattle.language_model.specs.FunctionTyping.{unit_scope}
 use Rattle.language_model.specs.Finds.{with_front}
-use Rattle.clause_rules.specs.Programs.{program_unit}
+use Rattle.clause_rules.specs.steps.Programs.{program_unit}
 use Rattle.clause_rules.proofs.operators.operators_checked.Given as goal
 
 abbrev pub invariant-loop-op : goal.invariant-loop-op

@@ -1,5 +1,5 @@
 use Rattle.std.proofs.Common.{◌≡◌, drop, map}
-use Rattle.clause_rules.specs.Operators.{rows_of_schemas}
+use Rattle.clause_rules.specs.steps.Operators.{rows_of_schemas}
 use Rattle.clause_rules.proofs.parts.rows_checked.Given as goal
 
 abbrev pub invariant-loop-port : goal.invariant-loop-port

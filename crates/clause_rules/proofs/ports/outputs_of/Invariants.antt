@@ -1,5 +1,5 @@
 use Rattle.std.proofs.Common.{◌≡◌}
-use Rattle.clause_rules.specs.Operators.{named}
+use Rattle.clause_rules.specs.steps.Operators.{named}
 use Rattle.clause_rules.proofs.ports.outputs_of.Given as goal
 
 abbrev pub invariant-loop-schema : goal.invariant-loop-schema

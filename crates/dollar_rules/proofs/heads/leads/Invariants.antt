@@ -1,5 +1,5 @@
 use Rattle.std.proofs.Common.{◌≡◌, ◌++◌, drop, map}
-use Rattle.dollar_rules.specs.Heads.{rows_of}
+use Rattle.dollar_rules.specs.steps.Heads.{rows_of}
 use Rattle.language_model.specs.Parameters.{default_leads}
 use Rattle.dollar_rules.proofs.heads.leads.Given as goal
 

@@ -1,6 +1,6 @@
 use Rattle.std.proofs.Common.{◌≡◌, ◌++◌, drop}
 use Rattle.language_model.specs.Parameters.{has_meaning}
-use Rattle.dollar_rules.specs.Heads.{passes_from}
+use Rattle.dollar_rules.specs.steps.Heads.{passes_from}
 use Rattle.dollar_rules.proofs.heads.meanings.Given as goal
 
 abbrev pub invariant-loop-at : goal.invariant-loop-at

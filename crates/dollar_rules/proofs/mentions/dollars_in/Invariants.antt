@@ -1,7 +1,7 @@
 use Rattle.std.proofs.Common.{◌≡◌, ◌++◌, drop}
 use Rattle.language_model.specs.DollarLaws.{dollars_in}
 use Rattle.program_tables.specs.Mentioned.{mentions_seen}
-use Rattle.dollar_rules.specs.Mentioned.{names_of, names_seen}
+use Rattle.dollar_rules.specs.steps.Mentioned.{names_of, names_seen}
 use Rattle.dollar_rules.proofs.mentions.dollars_in.Given as goal
 
 abbrev pub invariant-loop-mention : goal.invariant-loop-mention

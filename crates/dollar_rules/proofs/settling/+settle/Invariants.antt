@@ -1,7 +1,7 @@
 use Rattle.std.proofs.Common.{◌≡◌, ◌<◌, ℕ, Some}
 use Rattle.std.specs.Prelude.{slice_get}
-use Rattle.dollar_rules.specs.Given.{IsDone, Keeps}
-use Rattle.dollar_rules.specs.Settling.{IsSettled, given_of}
+use Rattle.dollar_rules.specs.steps.Given.{IsDone, Keeps}
+use Rattle.dollar_rules.specs.steps.Settling.{IsSettled, given_of}
 use Rattle.dollar_rules.proofs.settling.+settle.Given as goal
 
 abbrev pub invariant-loop-next : goal.invariant-loop-next

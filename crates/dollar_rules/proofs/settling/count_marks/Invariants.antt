@@ -1,5 +1,5 @@
 use Rattle.std.proofs.Common.{◌≡◌, ◌+◌, ◌≤◌, drop}
-use Rattle.dollar_rules.specs.Given.{marks_in}
+use Rattle.dollar_rules.specs.steps.Given.{marks_in}
 use Rattle.dollar_rules.proofs.settling.count_marks.Given as goal
 
 abbrev pub invariant-loop-mark : goal.invariant-loop-mark

@@ -1,5 +1,5 @@
 use Rattle.std.proofs.Common.{arith}
-use Rattle.dollar_rules.specs.Settling.{given_of}
+use Rattle.dollar_rules.specs.steps.Settling.{given_of}
 use Rattle.dollar_rules.proofs.Settles.{all_done}
 use Rattle.dollar_rules.proofs.settling.settle_all.Goals as goal
 

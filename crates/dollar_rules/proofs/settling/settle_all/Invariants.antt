@@ -1,6 +1,6 @@
 use Rattle.std.proofs.Common.{ℕ, ◌<◌}
-use Rattle.dollar_rules.specs.Given.{IsDone}
-use Rattle.dollar_rules.specs.Settling.{IsSettled, given_of}
+use Rattle.dollar_rules.specs.steps.Given.{IsDone}
+use Rattle.dollar_rules.specs.steps.Settling.{IsSettled, given_of}
 use Rattle.dollar_rules.proofs.settling.settle_all.Given as goal
 
 abbrev pub invariant-loop-at : goal.invariant-loop-at

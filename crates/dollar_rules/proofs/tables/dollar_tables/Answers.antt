@@ -1,6 +1,6 @@
 use Rattle.std.proofs.Common.{◌≡◌, ◌∙◌}
 use Rattle.language_model.specs.Parameters.{constant_scope, dollar_tables, expansion_dollars}
-use Rattle.dollar_rules.specs.Tables.{tables_of}
+use Rattle.dollar_rules.specs.steps.Tables.{tables_of}
 use Rattle.dollar_rules.proofs.TablesGrown.{constants_more, same_if_ok, tables_all, tables_more}
 use Rattle.dollar_rules.proofs.tables.dollar_tables.Goals as goal
 

@@ -1,6 +1,6 @@
 use Rattle.std.proofs.Common.{◌≡◌, ◌++◌, drop}
 use Rattle.language_model.specs.Parameters.{dollar_tables, tables_from}
-use Rattle.dollar_rules.specs.Tables.{AreConstants, tables_of}
+use Rattle.dollar_rules.specs.steps.Tables.{AreConstants, tables_of}
 use Rattle.dollar_rules.proofs.tables.dollar_tables.Given as goal
 
 abbrev pub invariant-loop-expansion : goal.invariant-loop-expansion

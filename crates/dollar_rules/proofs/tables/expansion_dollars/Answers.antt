@@ -5,7 +5,7 @@ use Rattle.language_model.specs.declared.scope.Scope.{Scope}
 use Rattle.language_model.specs.Parameters.{table_at}
 use Rattle.language_model.specs.SinkFiles.{composite_of}
 use Rattle.written_types.specs.TypeScopes.{types_in}
-use Rattle.dollar_rules.specs.Tables.{tables_of}
+use Rattle.dollar_rules.specs.steps.Tables.{tables_of}
 use Rattle.dollar_rules.proofs.ExpansionDollars.{dollars_there, means_there, outer_dollars, settled_for}
 use Rattle.dollar_rules.proofs.tables.expansion_dollars.Goals.{in-Some-site, in-None}
 use Rattle.dollar_rules.proofs.tables.expansion_dollars.Goals as goal

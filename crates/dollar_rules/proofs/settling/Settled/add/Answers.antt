@@ -1,8 +1,8 @@
 use Rattle.std.proofs.Common.{◌≡◌, ◌≤◌, ◌<◌, Some, refl, ap, sym, arith, ◌∙◌, length, take}
 use Rattle.std.specs.Prelude.{slice_get}
 use Rattle.std.proofs.lemmas.Option.{slice_get_read}
-use Rattle.dollar_rules.specs.Given.{found_at_last, found_in, marks_in}
-use Rattle.dollar_rules.specs.Settling.{given_of}
+use Rattle.dollar_rules.specs.steps.Given.{found_at_last, found_in, marks_in}
+use Rattle.dollar_rules.specs.steps.Settling.{given_of}
 use Rattle.dollar_rules.proofs.Settles.{one_settled}
 use Rattle.dollar_rules.proofs.SettledOnes.{settled_more}
 use Rattle.dollar_rules.proofs.SettlesMore.{before_at_most, kept_more}

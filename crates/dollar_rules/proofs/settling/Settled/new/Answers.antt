@@ -1,6 +1,6 @@
 use Rattle.dollar_rules.proofs.SettlesMore.{as_many, none_up}
 use Rattle.dollar_rules.proofs.Settles.{none_settled}
-use Rattle.dollar_rules.specs.Settling.{given_of}
+use Rattle.dollar_rules.specs.steps.Settling.{given_of}
 use Rattle.dollar_rules.proofs.settling.Settled.new.Goals as goal
 
 pub returns : goal.returns

@@ -21,7 +21,7 @@ use Rattle.literal_sites.specs.declared.follow.Follow.{Follow}
 use Rattle.language_model.specs.declared.answer.TypeAnswer.{TypeAnswer}
 use Rattle.clause_rules.specs.declared.parts.Around.{Around}
 use Rattle.clause_rules.specs.declared.parts.Checks.{Checks}
-use Rattle.clause_rules.specs.Logic.{surroundings}
+use Rattle.clause_rules.specs.steps.Logic.{surroundings}
 
 abbrev pub around_seen : Around → Scope → Surroundings
 around_seen around scope = surroundings around.types scope around.outputs.now

@@ -1,7 +1,7 @@
 -- What is known while the parameters of a composite are settled one by one.
 use Rattle.std.specs.Prelude.{◌≡◌, ℕ}
 use Rattle.language_model.specs.Parameters.{constant_scope}
-use Rattle.dollar_rules.specs.Given.{AreSettled, Given, IsDone, Keeps, settled_table}
+use Rattle.dollar_rules.specs.steps.Given.{AreSettled, Given, IsDone, Keeps, settled_table}
 use Rattle.written_types.specs.TypeScopes.{types_in}
 use Rattle.dollar_rules.specs.declared.heads.Head.{Head}
 use Rattle.dollar_rules.specs.declared.settling.Settled.{Settled}

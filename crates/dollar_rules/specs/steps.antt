@@ -1,0 +1,5 @@
+pub mod Mentioned
+pub mod Heads
+pub mod Given
+pub mod Settling
+pub mod Tables
