@@ -2,6 +2,9 @@
 ghost use Rattle.std.specs.Prelude.{◌≡◌, None, Some, [], ◌∷◌, true, IsTrue, IfOk};
 ghost use Rattle.stream_model.specs.Stream.{is_closed, TuplesFit};
 ghost use Rattle.stream_model.specs.examples.CheckedGraphs.{texts};
+ghost use Rattle.stream_model.specs.CheckedMeaning.{graph_of};
+ghost use Rattle.stream_model.specs.Meaning.{Graph};
+ghost use Rattle.list_engine.specs.Runs.{SinksGiven, meant};
 ghost use Rattle.engine_tests.specs.Copying.{copying};
 
 use crate::writer::Writer;
@@ -10,11 +13,13 @@ use list_engine::{Run, run_lists};
 use spl_value::{Item, Items, NoMemory};
 use std::alloc::Global;
 
-/// Runs the worked graph on the rows of its source.
+/// Runs the worked graph on the rows of its source: its sink gives them to its writer.
 pub fn copied(alloc: Global, checked: &Checked, rows: Items<Item>) -> Result<Run, NoMemory>
     requires graph { checked.now ≡ copying }
     requires closed { is_closed rows ≡ true }
     requires fit { TuplesFit texts rows }
+    ensures sinks { IfOk result (λ run. (g : Graph) → graph_of copying ≡ g
+        → SinksGiven g (meant g (rows ∷ [] ∷ []) run) run.sinks) }
 {
     let mut operators = Items::new(alloc);
     operators.push(None)?;
