@@ -1,0 +1,72 @@
+-- What an operator gives for events that fit has the attributes of its streams.
+use Rattle.std.proofs.Common.{◌≡◌, ℕ, zero, suc, ◌+◌, ◌<◌, ◌==◌, ◌&&◌, Bool, true, false, cond, if◌then◌else◌, List, [], ◌∷◌, ◌++◌, map, refl, sym, ap, subst, ◌∙◌, length, slice_get, Option, Some, None, is_some, is_none, position, inl, inr, arith}
+use Rattle.std.specs.Prelude.{⊤, ◌⊎◌}
+use Rattle.std.specs.List.{AllByRecursion, concat}
+use Rattle.std.specs.Option.{option_map_or}
+use Rattle.std.proofs.lemmas.Bool.{and_from, cases_eq, eq-eqb, ne_eqb}
+use Rattle.std.proofs.lemmas.Option.{slice_get_within}
+use Rattle.spl_value.specs.declared.item.Item.{Item}
+use Rattle.spl_value.specs.declared.item.Item.TheVariants as I
+use Rattle.language_model.specs.declared.checked.Part.{Part}
+use Rattle.language_model.specs.declared.checked.Part.TheVariants as A
+use Rattle.language_model.specs.declared.outs.Output.{Output}
+use Rattle.language_model.specs.StreamTypes.{Attributes}
+use Rattle.stream_model.specs.Fitting.{EventFits, EventsFit, IsFitting}
+use Rattle.stream_model.specs.Operators.{Operator, connections, input_attributes, output_attributes, port_at, ports}
+use Rattle.stream_model.specs.React.{ended, react}
+use Rattle.stream_model.specs.Replies.{AllFit, ItemHas, given_attributes, is_live}
+use Rattle.stream_model.specs.Stages.{gives_all, next, on_port, out, start}
+use Rattle.stream_model.specs.Stream.{Event, came, TuplesFit}
+use Rattle.stream_model.proofs.SimpleFits.{both_fit, none_fit}
+use Rattle.fault_kinds.proofs.Reacting.{fitting}
+
+-- ---- one operator
+
+still_live : (op : Operator) (seen : List Event) (e : Event) → is_live op seen ≡ true → is_some (ended op seen e) ≡ false → is_live op (e ∷ seen) ≡ true
+still_live op seen e live goes = and_from (is_live op seen) (is_none (ended op seen e)) live (none (ended op seen e) goes)
+  where
+    none : (x : Option Item) → is_some x ≡ false → is_none x ≡ true
+    none None h = refl
+    none (Some y) h = absurd (let clash : true ≡ false = h in cc)
+
+-- an operator that has taken events that fit, and may go on
+pub record Went (op : Operator) (seen : List Event) (over : Bool) : Type 0 where
+  pub clauses : IsFitting op
+  pub earlier : EventsFit op seen
+  pub live : over ≡ false → is_live op seen ≡ true
+
+pub begun : (op : Operator) → IsFitting op → Went op [] false
+begun op fit = record { clauses = fit; earlier = tt; live = λ none. refl }
+
+pub gone_on : (op : Operator) (seen : List Event) (e : Event) → Went op seen false → EventFits op e → Went op (e ∷ seen) (is_some (ended op seen e))
+gone_on op seen e w h = record { clauses = w.clauses; earlier = (h, w.earlier); live = still_live op seen e (w.live refl) }
+
+stage_fits : (op : Operator) (seen : List Event) (over : Bool) (events : List Event) → Went op seen over → EventsFit op events
+    → AllFit op (gives_all (record { op = op; seen = seen; over = over }) events)
+stage_fits op seen over [] w h = none_fit op
+stage_fits op seen true (e ∷ events) w h = stage_fits op seen true events w h.1
+stage_fits op seen false (e ∷ events) w h =
+    both_fit op (react op seen e) (gives_all (next (record { op = op; seen = seen; over = false }) e) events)
+    (fitting op seen e w.clauses w.earlier (w.live refl) h.0).1
+    (stage_fits op (e ∷ seen) (is_some (ended op seen e)) events (gone_on op seen e w h.0) h.1)
+
+-- the items of a port have its attributes
+fit_one : (schema : Attributes) (x : Item) (xs : List Item) → ItemHas schema x → TuplesFit schema xs → TuplesFit schema (x ∷ xs)
+fit_one schema (I.Tuple vs) xs h k = (h, k)
+fit_one schema I.Window xs h k = k
+fit_one schema I.Final xs h k = k
+fit_one schema (I.Bad f) xs h k = k
+
+port_fits : (op : Operator) (p : ℕ) (outs : List Output) → AllFit op outs → TuplesFit (given_attributes op.clauses op p) (on_port p outs)
+port_fits op p [] h = tt
+port_fits op p (o ∷ outs) h = go (cases_eq o.port p) (port_fits op p outs (λ i x at. h (suc i) x at))
+  where
+    go : (o.port ≡ p) ⊎ (o.port ≡ p → ⊥) → TuplesFit (given_attributes op.clauses op p) (on_port p outs) → TuplesFit (given_attributes op.clauses op p) (on_port p (o ∷ outs))
+    go (inl e) rest =
+        subst (λ b. TuplesFit (given_attributes op.clauses op p) (cond b (o.item ∷ on_port p outs) (on_port p outs))) (sym (eq-eqb o.port p e))
+        (fit_one (given_attributes op.clauses op p) o.item (on_port p outs) (subst (λ q. ItemHas (given_attributes op.clauses op q) o.item) e (h 0 o refl)) rest)
+    go (inr n) rest =
+        subst (λ b. TuplesFit (given_attributes op.clauses op p) (cond b (o.item ∷ on_port p outs) (on_port p outs))) (sym (ne_eqb o.port p n)) rest
+
+pub out_fits : (op : Operator) (p : ℕ) (events : List Event) → IsFitting op → EventsFit op events → TuplesFit (given_attributes op.clauses op p) (out op p events)
+out_fits op p events fit h = port_fits op p (gives_all (start op) events) (stage_fits op [] false events (begun op fit) h)
