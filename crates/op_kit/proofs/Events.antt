@@ -2,6 +2,7 @@
 use Rattle.std.proofs.Common.{◌≡◌, ◌<◌, ◌≤◌, ◌+◌, ◌&&◌, ◌||◌, ◌==◌, ◌++◌, ℕ, Bool, true, false, not, if◌then◌else◌, IsTrue, List, [], ◌∷◌, length, is_none, slice_get, Option, Some, None, refl, sym, ap, subst, ◌∙◌, arith}
 use Rattle.std.specs.List.{list_all}
 use Rattle.std.proofs.lemmas.Bool.{lt-ltb, ne_eqb}
+use Rattle.spl_value.proofs.Lists.{get_below, get_within}
 use Rattle.spl_value.specs.declared.item.Item.{Item}
 use Rattle.spl_value.specs.declared.item.Item.TheVariants as I
 use Rattle.spl_tree.specs.declared.code.Code.{Code}
@@ -9,6 +10,7 @@ use Rattle.spl_tree.specs.declared.code.Slot.{Slot}
 use Rattle.language_model.specs.declared.checked.Handlers.{Handlers}
 use Rattle.language_model.specs.declared.checked.Part.{Part}
 use Rattle.language_model.specs.declared.checked.Part.TheVariants as A
+use Rattle.language_model.specs.declared.checked.Policy.{Policy}
 use Rattle.language_model.specs.declared.checked.Position.{Position}
 use Rattle.op_kit.specs.Kinds.{is_held}
 use Rattle.std.proofs.lemmas.Grind.{common_steps}
@@ -229,17 +231,18 @@ counts_stay op h e own open_of left none counts = record {
 -- each kind that is held is one of these
 pub held_part : (part : Part) → IsTrue (is_held part) → ((file : List ℕ) → part ≡ A.FileSink file → ⊥) → ((condition : Option (Code Slot)) → part ≡ A.Filter condition → ⊥)
     → ((condition : Option (Code Slot)) (output : Code Slot) → part ≡ A.Functor condition output → ⊥) → ((condition : Code Slot) (position : Position) → part ≡ A.Punctor condition position → ⊥)
-    → ((index : Code Slot) → part ≡ A.Split index → ⊥) → ((handlers : Handlers) → part ≡ A.Custom handlers → ⊥) → ⊥
-held_part (A.FileSource file strict) held a b c d e f = absurd cc
-held_part (A.FileSink file) held a b c d e f = a file refl
-held_part (A.Filter condition) held a b c d e f = b condition refl
-held_part (A.Functor condition output) held a b c d e f = c condition output refl
-held_part (A.Punctor condition position) held a b c d e f = d condition position refl
-held_part (A.Split index) held a b c d e f = e index refl
-held_part (A.Union places) held a b c d e f = absurd cc
-held_part (A.Custom handlers) held a b c d e f = f handlers refl
-held_part (A.Aggregate window partition group output) held a b c d e f = absurd cc
-held_part (A.Join left right condition output) held a b c d e f = absurd cc
+    → ((index : Code Slot) → part ≡ A.Split index → ⊥) → ((places : List (List ℕ)) → part ≡ A.Union places → ⊥) → ((handlers : Handlers) → part ≡ A.Custom handlers → ⊥)
+    → ((left right : Policy) (condition : Option (Code Slot)) (output : Code Slot) → part ≡ A.Join left right condition output → ⊥) → ⊥
+held_part (A.FileSource file strict) held a b c d e f g h = absurd cc
+held_part (A.FileSink file) held a b c d e f g h = a file refl
+held_part (A.Filter condition) held a b c d e f g h = b condition refl
+held_part (A.Functor condition output) held a b c d e f g h = c condition output refl
+held_part (A.Punctor condition position) held a b c d e f g h = d condition position refl
+held_part (A.Split index) held a b c d e f g h = e index refl
+held_part (A.Union places) held a b c d e f g h = f places refl
+held_part (A.Custom handlers) held a b c d e f g h = g handlers refl
+held_part (A.Aggregate window partition group output) held a b c d e f g h = absurd cc
+held_part (A.Join left right condition output) held a b c d e f g h = h left right condition output refl
 
 -- ---- as they are asked
 
@@ -350,9 +353,6 @@ few_outs op s h own open_of left outputs stands =
     let typed = fit.outs in
     omega (arith, few, same, typed)
 
-pub few_ins : (op : Operator) → IsFitting op → length op.ins ≤ 16
-few_ins op fit = let few = (few_ports fit.kind (length op.types.ins) (length op.types.outs) fit.ports).0 in let typed = fit.ins in omega (arith, few, typed)
-
 -- ---- the start
 
 connected_ports : (schemas : List Attributes) (ports : List (List ℕ)) (ins : List Attributes) → PortsHave schemas ports ins → list_all (λ streams. not (is_empty streams)) ports ≡ true
@@ -372,12 +372,13 @@ connected c n op part keeps there has = let fit = keeps.operators n op part ther
 op_same : (x y : Op) → Some x ≡ Some y → x ≡ y
 op_same x y e = cc
 
-pub few_made : (c : CheckedGraph) (n : ℕ) (made : Op) (own : Operator) → CheckedFits → Keeps c → slice_get c.graph.ops n ≡ Some made → slice_get (graph_of c).ops n ≡ Some own
-    → length made.ins ≤ 16
-few_made c n made own law keeps there is =
-    let w = operator_from c 0 c.graph.ops c.parts n own is in
-    let same : w.op ≡ made = op_same w.op made (sym w.there ∙ there) in
-    subst (λ (o : Op). length o.ins ≤ 16) same (few_ins (operator_with c (0 + n) w.op w.part) (subst IsFitting w.same (law c n own keeps is)))
+pub few_made : (c : CheckedGraph) (n : ℕ) (made : Op) → Keeps c → slice_get c.graph.ops n ≡ Some made → length made.ins ≤ 16
+few_made c n made keeps there =
+    let within = get_within c.graph.ops n made there in
+    let same = keeps.parts in
+    let part = get_below c.parts n (omega (arith, within, same)) in
+    let fit = keeps.operators n made part.0 there part.1 in
+    (few_ports made.kind (length made.ins) (length made.outs) fit.ports).0
 
 -- a new operator stands for no event
 pub stands_first : (c : CheckedGraph) (n : ℕ) (made : Op) (own : Operator) (s : List Event → Type 0) (ports open_of : List ℕ) (left outputs : ℕ) → CheckedFits → Keeps c

@@ -3,10 +3,8 @@ use Rattle.std.specs.Prelude.{Bool, true, false}
 use Rattle.language_model.specs.declared.checked.Part.{Part}
 use Rattle.language_model.specs.declared.checked.Part.TheVariants as A
 
--- none of FileSource, Union, Aggregate and Join
+-- all but FileSource and Aggregate
 abbrev pub is_held : Part → Bool
 is_held (A.FileSource file strict) = false
-is_held (A.Union places) = false
 is_held (A.Aggregate window partition group output) = false
-is_held (A.Join left right condition output) = false
 is_held _ = true

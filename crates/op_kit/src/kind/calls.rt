@@ -1,6 +1,10 @@
 //! The calls of operators by their kinds.
-ghost use Rattle.std.specs.Prelude.{◌≡◌, ◌<◌, [], IfOk, IsTrue, Some, length, slice_get};
+ghost use Rattle.std.specs.Prelude.{◌≡◌, ◌<◌, [], IfOk, IsTrue, Option, Some, length, slice_get};
+ghost use Rattle.spl_tree.specs.declared.code.Code.{Code};
+ghost use Rattle.spl_tree.specs.declared.code.Slot.{Slot};
 ghost use Rattle.language_model.specs.declared.checked.Part.{Part};
+ghost use Rattle.language_model.specs.declared.checked.Part.TheVariants as A;
+ghost use Rattle.language_model.specs.declared.checked.Policy.{Policy};
 ghost use Rattle.stream_model.specs.CheckedMeaning.{graph_of};
 ghost use Rattle.stream_model.specs.Operators.{Operator};
 ghost use Rattle.stream_model.specs.Stream.{Event};
@@ -10,12 +14,14 @@ ghost use Rattle.op_kit.specs.declared.kind.Kind.TheVariants as K;
 use crate::kind::Kind;
 use crate::sink::Sink;
 use custom_logic::Custom;
+use join_op::Join;
 use language_model::{Checked, Part};
 use port_reacts::OnPort;
 use relational_ops::{Filter, Functor, Punctor, Split};
 use spl_value::{Item, NoMemory};
 use std::alloc::Global;
 use stream_model::Reply;
+use union_op::Union;
 
 impl<'c> OnPort for Kind<'c> {
     ghost spec = { λ kind. elim kind as (λ k. Operator) [
@@ -24,7 +30,9 @@ impl<'c> OnPort for Kind<'c> {
       | K.Functor s ↦ ⟦<Functor<'c> as OnPort>⟧.spec s
       | K.Punctor s ↦ ⟦<Punctor<'c> as OnPort>⟧.spec s
       | K.Split s ↦ ⟦<Split<'c> as OnPort>⟧.spec s
+      | K.Union s ↦ ⟦<Union<'c> as OnPort>⟧.spec s
       | K.Custom s ↦ ⟦<Custom<'c> as OnPort>⟧.spec s
+      | K.Join s ↦ ⟦<Join<'c> as OnPort>⟧.spec s.value
     ] };
 
     ghost stands = { λ kind h. elim kind as (λ k. Type 0) [
@@ -33,7 +41,9 @@ impl<'c> OnPort for Kind<'c> {
       | K.Functor s ↦ ⟦<Functor<'c> as OnPort>⟧.stands s h
       | K.Punctor s ↦ ⟦<Punctor<'c> as OnPort>⟧.stands s h
       | K.Split s ↦ ⟦<Split<'c> as OnPort>⟧.stands s h
+      | K.Union s ↦ ⟦<Union<'c> as OnPort>⟧.stands s h
       | K.Custom s ↦ ⟦<Custom<'c> as OnPort>⟧.stands s h
+      | K.Join s ↦ ⟦<Join<'c> as OnPort>⟧.stands s.value h
     ] };
 
     fn on_port(&mut self, port: u32, item: Item) -> Reply {
@@ -43,9 +53,23 @@ impl<'c> OnPort for Kind<'c> {
             Kind::Functor(functor) => functor.on_port(port, item),
             Kind::Punctor(punctor) => punctor.on_port(port, item),
             Kind::Split(split) => split.on_port(port, item),
+            Kind::Union(union) => union.on_port(port, item),
             Kind::Custom(custom) => custom.on_port(port, item),
+            Kind::Join(join) => join.on_port(port, item),
         }
     }
+}
+
+/// The Join with this number, in a box. There is one.
+fn join_of<'c>(alloc: Global, checked: &'c Checked, op: u32) -> Result<Box<Join<'c>>, NoMemory>
+    requires there { op < length checked.now.graph.ops }
+    requires kind { (left right : Policy) × (condition : Option (Code Slot)) × (output : Code Slot)
+        × (slice_get checked.now.parts op ≡ Some (A.Join left right condition output)) }
+    ensures is { IfOk result (λ join. slice_get (graph_of checked.now).ops op ≡ Some (⟦<Join<'c> as OnPort>⟧.spec join.value)) }
+    ensures begins { IfOk result (λ join. ⟦<Join<'c> as OnPort>⟧.stands join.value []) }
+{
+    let join = Join::new(alloc, checked, op)?;
+    Ok(Box::new(alloc, join)?)
 }
 
 impl<'c> Kind<'c> {
@@ -65,7 +89,9 @@ impl<'c> Kind<'c> {
             Part::Functor { .. } => Ok(Kind::Functor(Functor::new(alloc, checked, op)?)),
             Part::Punctor { .. } => Ok(Kind::Punctor(Punctor::new(alloc, checked, op)?)),
             Part::Split { .. } => Ok(Kind::Split(Split::new(alloc, checked, op)?)),
+            Part::Union { .. } => Ok(Kind::Union(Union::new(alloc, checked, op)?)),
             Part::Custom { .. } => Ok(Kind::Custom(Custom::new(alloc, checked, op)?)),
+            Part::Join { .. } => Ok(Kind::Join(join_of(alloc, checked, op)?)),
             _ => unreachable!(),
         }
     }

@@ -88,8 +88,8 @@ impl<'c> React for Operator<'c> {
 }
 
 impl<'c> Operator<'c> {
-    /// The operator with this number. There is one, which is none of the kinds that aren't here yet:
-    /// FileSource, Union, Aggregate and Join.
+    /// The operator with this number. There is one, of any kind but FileSource and Aggregate, which aren't
+    /// here.
     pub fn new(alloc: Global, checked: &'c Checked, op: u32) -> Result<Operator<'c>, NoMemory>
         requires there { op < length checked.now.graph.ops }
         requires kind { (part : Part) → slice_get checked.now.parts op ≡ Some part → IsTrue (is_held part) }
@@ -97,11 +97,11 @@ impl<'c> Operator<'c> {
         ensures begins { IfOk result (λ o. ⟦<Operator<'c> as React>⟧.stands o []) }
     {
         fits_law();
-        let kind = Kind::new(alloc, checked, op)?;
         let Some(ports) = checked.graph.ops.get(op as usize) else {
             unreachable!()
         };
         let connections = Connections::new(alloc, &ports.ins)?;
+        let kind = Kind::new(alloc, checked, op)?;
         Ok(Operator {
             alloc,
             kind,

@@ -8,6 +8,5 @@ returns-clause-begins c =
     stands_first c.args.checked.now c.args.op c.in-Some.ports.now _ _ _ _ _ _ c.fits_law.ensures.checked (subst Keeps c.checked.view_is c.checked.invariant) (search rules)
     c.in_ok-kind.ensures.is c.in_ok-connections.ensures c.len.ensures c.in_ok-kind.ensures.begins
 
-pub new-requires-2 : goal.new-requires-2
-new-requires-2 c =
-    few_made c.args.checked.now c.args.op c.in-Some.ports.now _ c.fits_law.ensures.checked (subst Keeps c.checked.view_is c.checked.invariant) (search rules) c.in_ok-kind.ensures.is
+pub new-requires : goal.new-requires
+new-requires c = few_made c.args.checked.now c.args.op c.in-Some.ports.now (subst Keeps c.checked.view_is c.checked.invariant) (search rules)

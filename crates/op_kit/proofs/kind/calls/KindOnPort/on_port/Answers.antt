@@ -1,0 +1,11 @@
+use Rattle.std.proofs.Common.{sym}
+use Rattle.op_kit.proofs.kind.calls.KindOnPort.on_port.Goals as goal
+
+pub returns-in-Join-clause-replies : goal.returns-in-Join-clause-replies
+returns-in-Join-clause-replies c = rw c.in-Join.is (rw (sym c.deref_mut.ensures.value) c.on_port-in-Join.ensures.replies)
+
+pub returns-in-Join-clause-stands : goal.returns-in-Join-clause-stands
+returns-in-Join-clause-stands c = rw c.in-Join.is (rw (sym c.deref_mut.ensures.value) c.on_port-in-Join.ensures.stands)
+
+pub returns-in-Join-clause-fits : goal.returns-in-Join-clause-fits
+returns-in-Join-clause-fits c = rw c.in-Join.is (rw (sym c.deref_mut.ensures.value) c.on_port-in-Join.ensures.fits)
