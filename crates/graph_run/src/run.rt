@@ -1,0 +1,35 @@
+//! A run from its rows.
+ghost use Rattle.std.specs.Prelude.{◌≡◌, IfOk, map};
+ghost use Rattle.stream_model.specs.Arrivals.{several, entries_in};
+ghost use Rattle.stream_model.specs.CheckedMeaning.{graph_of};
+ghost use Rattle.stream_model.specs.Ends.{run_fault};
+ghost use Rattle.stream_model.specs.Meaning.{Graph};
+ghost use Rattle.list_engine.specs.Runs.{AreWhole, RowsFit, SinksGiven, meant};
+ghost use Rattle.graph_run.specs.Kinds.{AreRun};
+
+use crate::operators::operators_of;
+use language_model::Checked;
+use list_engine::{Run, run_lists};
+use spl_value::{Item, Items, NoMemory};
+use std::alloc::Global;
+
+/// Runs a checked graph from the rows of its sources. Each operator is a source or one of those that there are here.
+pub fn run_graph(
+    alloc: Global,
+    checked: &Checked,
+    rows: Items<Items<Item>>,
+) -> Result<Run, NoMemory>
+    requires kinds { AreRun checked.now.parts }
+    requires rows { (g : Graph) → graph_of checked.now ≡ g → RowsFit g rows }
+    ensures sinks { IfOk result (λ run. (g : Graph) → graph_of checked.now ≡ g
+        → SinksGiven g (meant g rows run) run.sinks) }
+    ensures fault { IfOk result (λ run. (g : Graph) → graph_of checked.now ≡ g
+        → run.fault ≡ run_fault g (meant g rows run)) }
+    ensures lists { IfOk result (λ run. (g : Graph) → graph_of checked.now ≡ g
+        → map (λ l. l.op) run.arrivals.lists ≡ several g) }
+    ensures whole { IfOk result (λ run. (g : Graph) → graph_of checked.now ≡ g
+        → AreWhole g (meant g rows run) (entries_in run.arrivals.lists)) }
+{
+    let operators = operators_of(alloc, checked)?;
+    run_lists(alloc, checked, operators, rows)
+}
