@@ -1,22 +1,17 @@
 -- What an operator gives for events that fit has the attributes of its streams.
-use Rattle.std.proofs.Common.{◌≡◌, ℕ, zero, suc, ◌+◌, ◌<◌, ◌==◌, ◌&&◌, Bool, true, false, cond, if◌then◌else◌, List, [], ◌∷◌, ◌++◌, map, refl, sym, ap, subst, ◌∙◌, length, slice_get, Option, Some, None, is_some, is_none, position, inl, inr, arith}
-use Rattle.std.specs.Prelude.{⊤, ◌⊎◌}
-use Rattle.std.specs.List.{AllByRecursion, concat}
-use Rattle.std.specs.Option.{option_map_or}
+use Rattle.std.proofs.Common.{◌≡◌, ℕ, suc, Bool, true, false, cond, List, [], ◌∷◌, refl, sym, subst, Option, Some, None, is_some, is_none, inl, inr}
+use Rattle.std.specs.Prelude.{◌⊎◌}
 use Rattle.std.proofs.lemmas.Bool.{and_from, cases_eq, eq-eqb, ne_eqb}
-use Rattle.std.proofs.lemmas.Option.{slice_get_within}
 use Rattle.spl_value.specs.declared.item.Item.{Item}
 use Rattle.spl_value.specs.declared.item.Item.TheVariants as I
-use Rattle.language_model.specs.declared.checked.Part.{Part}
-use Rattle.language_model.specs.declared.checked.Part.TheVariants as A
 use Rattle.language_model.specs.declared.outs.Output.{Output}
 use Rattle.language_model.specs.StreamTypes.{Attributes}
 use Rattle.stream_model.specs.Fitting.{EventFits, EventsFit, IsFitting}
-use Rattle.stream_model.specs.Operators.{Operator, connections, input_attributes, output_attributes, port_at, ports}
+use Rattle.stream_model.specs.Operators.{Operator}
 use Rattle.stream_model.specs.React.{ended, react}
 use Rattle.stream_model.specs.Replies.{AllFit, ItemHas, given_attributes, is_live}
 use Rattle.stream_model.specs.Stages.{gives_all, next, on_port, out, start}
-use Rattle.stream_model.specs.Stream.{Event, came, TuplesFit}
+use Rattle.stream_model.specs.Stream.{Event, TuplesFit}
 use Rattle.stream_model.proofs.SimpleFits.{both_fit, none_fit}
 use Rattle.fault_kinds.proofs.Reacting.{fitting}
 

@@ -1,5 +1,5 @@
 -- What the faults of an operator's outputs and of its end have, where those of its events have it, and its own faults of evaluation.
-use Rattle.std.proofs.Common.{◌≡◌, ℕ, zero, suc, ◌==◌, Bool, true, false, cond, if◌then◌else◌, List, [], ◌∷◌, ◌++◌, map, refl, sym, ap, subst, ◌∙◌, length, slice_get, Option, Some, None, is_some, inl, inr}
+use Rattle.std.proofs.Common.{◌≡◌, ℕ, zero, suc, ◌==◌, Bool, true, false, cond, if◌then◌else◌, List, [], ◌∷◌, ◌++◌, refl, sym, ap, subst, ◌∙◌, length, slice_get, Option, Some, None, is_some, inl, inr}
 use Rattle.std.specs.Prelude.{⊤}
 use Rattle.std.specs.List.{AllByRecursion, list_any}
 use Rattle.std.specs.Option.{option_and_then, option_or}
@@ -11,13 +11,13 @@ use Rattle.spl_value.specs.declared.item.Item.TheVariants as I
 use Rattle.language_model.specs.declared.outs.Output.{Output}
 use Rattle.stream_model.specs.Bodies.{on_each, output}
 use Rattle.stream_model.specs.Ends.{end_from, fault_of, operator_fault, stream_fault}
-use Rattle.stream_model.specs.Fitting.{EventFits, EventsFit, IsFitting}
+use Rattle.stream_model.specs.Fitting.{EventsFit, IsFitting}
 use Rattle.stream_model.specs.Operators.{Operator}
 use Rattle.stream_model.specs.PathLaws.{fault_by}
 use Rattle.stream_model.specs.PortEvents.{is_last, is_waiting}
 use Rattle.stream_model.specs.React.{Answer, Gives, Faults, answered, body, ended, own_fault, react}
 use Rattle.stream_model.specs.Stages.{gives_all, next, on_port, out, start}
-use Rattle.stream_model.specs.Stream.{Event, came, closes, is_fault}
+use Rattle.stream_model.specs.Stream.{Event, closes, is_fault}
 use Rattle.stream_model.proofs.Closings.{end_item_law}
 use Rattle.stream_model.proofs.KindBodies.{body_law}
 use Rattle.fault_kinds.specs.Kinds.{is_evaluation_kind}

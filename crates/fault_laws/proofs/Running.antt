@@ -5,7 +5,6 @@ use Rattle.std.specs.Option.{option_map_or, option_or}
 use Rattle.std.proofs.lemmas.List.{reverse-append}
 use Rattle.spl_value.specs.declared.item.Fault.{Fault}
 use Rattle.spl_value.specs.declared.item.FaultKind.{FaultKind}
-use Rattle.spl_value.specs.declared.item.Item.{Item}
 use Rattle.language_model.specs.declared.checked.Part.{Part}
 use Rattle.language_model.specs.declared.checked.Part.TheVariants as A
 use Rattle.language_model.specs.CheckedGraph.{CheckedGraph}

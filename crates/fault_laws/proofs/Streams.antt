@@ -1,15 +1,12 @@
 -- Each tuple of each stream of a run has the stream's attributes, where those in the rows of the sources have.
-use Rattle.std.proofs.Common.{◌≡◌, ℕ, zero, suc, ◌+◌, ◌<◌, ◌==◌, ◌&&◌, Bool, true, false, cond, if◌then◌else◌, List, [], ◌∷◌, ◌++◌, map, refl, sym, ap, subst, ◌∙◌, length, slice_get, Option, Some, None, is_some, is_none, position, inl, inr, arith}
-use Rattle.std.specs.Prelude.{⊤, ◌⊎◌}
-use Rattle.std.specs.List.{AllByRecursion, concat}
+use Rattle.std.proofs.Common.{◌≡◌, ℕ, ◌+◌, ◌<◌, ◌==◌, Bool, List, [], ◌∷◌, refl, sym, ap, subst, ◌∙◌, length, slice_get, Option, Some, None, position, arith}
+use Rattle.std.specs.List.{AllByRecursion}
 use Rattle.std.specs.Option.{option_map_or}
-use Rattle.std.proofs.lemmas.Bool.{and_from, cases_eq, eq-eqb, ne_eqb}
 use Rattle.std.proofs.lemmas.Option.{slice_get_within}
 use Rattle.spl_value.specs.declared.item.Item.{Item}
 use Rattle.spl_value.specs.declared.item.Item.TheVariants as I
 use Rattle.language_model.specs.declared.checked.Part.{Part}
 use Rattle.language_model.specs.declared.checked.Part.TheVariants as A
-use Rattle.language_model.specs.declared.outs.Output.{Output}
 use Rattle.language_model.specs.CheckedGraph.{CheckedGraph}
 use Rattle.language_model.specs.Keeping.{Keeps}
 use Rattle.language_model.specs.StreamTypes.{Attributes}
@@ -17,12 +14,10 @@ use Rattle.stream_model.specs.CheckedMeaning.{graph_of, schema_at}
 use Rattle.stream_model.specs.Fitting.{EventFits, EventsFit, IsFitting}
 use Rattle.stream_model.specs.Meaning.{Graph, Lists, Entries, events_of, made_by, makes, streams_of}
 use Rattle.stream_model.specs.Operators.{Operator, connections, input_attributes, output_attributes, port_at, ports}
-use Rattle.stream_model.specs.React.{ended, react}
-use Rattle.stream_model.specs.Replies.{AllFit, ItemHas, given_attributes, is_live}
-use Rattle.stream_model.specs.Stages.{gives_all, next, on_port, out, start}
-use Rattle.stream_model.specs.Stream.{Event, came, TuplesFit}
-use Rattle.stream_model.proofs.CheckedOperators.{OperatorAt, checked_fits}
-use Rattle.stream_model.proofs.SimpleFits.{both_fit, none_fit}
+use Rattle.stream_model.specs.Replies.{ItemHas, given_attributes}
+use Rattle.stream_model.specs.Stages.{out}
+use Rattle.stream_model.specs.Stream.{Event, TuplesFit}
+use Rattle.stream_model.proofs.CheckedOperators.{checked_fits}
 use Rattle.list_engine.specs.Runs.{is_source}
 use Rattle.list_engine.proofs.GraphOperators.{is_numbered, operator_at}
 use Rattle.list_engine.proofs.Ports.{input_count, input_schema, output_schema, source_out}
