@@ -85,7 +85,7 @@ failed_counts old mid new sinks i count x within is at same c = record {
   opening = λ n. field (λ (k : Counts). k.opening) c.opening n ∙ ap (λ (k : Counts). k.opening) (same n);
   reading = λ n. field (λ (k : Counts). k.reading) c.reading n ∙ ap (λ (k : Counts). k.reading) (same n);
   writing = λ n. field (λ (k : Counts). k.writing) c.writing n ∙ ap (λ (k : Counts). k.writing) (same n);
-  cause = (x, record { sink = rw at (slice_get-get_or sinks i x within ∙ ap (λ (s : Sink). Some s) (sym is)); rose = rw (sym (ap (λ (k : Counts). k.creating) (same x.file))) c.count.1 });
+  cause = (x, record { sink = rw at (slice_get-get_or sinks i x within ∙ ap (λ (s : Sink). Some s) (sym is)); rose = rw (sym (ap (λ (k : Counts). k.creating) (same x.file))) c.count.1; others = λ n e. c.others n e ∙ same n });
 }
   where
     field : (f : Counts → ℕ) → f (new x.file) ≡ f (mid x.file) → (n : List ℕ) → f (new n) ≡ f (mid n)

@@ -1,9 +1,6 @@
 pub mod Creating
 pub mod Files
 pub mod Finishing
-pub mod FirstLine
-pub mod NumberLines
-pub mod NumberRows
 pub mod SinkSteps
 pub mod Sinking
 pub mod Writing

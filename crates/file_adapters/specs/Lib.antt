@@ -1,3 +1,2 @@
-pub mod Source
 pub mod Sinks
 pub mod steps

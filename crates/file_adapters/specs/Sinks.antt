@@ -1,12 +1,12 @@
 -- Streams written as the rows of several sinks' files: all files are created, in order, then the rows of each are written, and then
 -- all files are finished.
-use Rattle.std.specs.Prelude.{◌≡◌, ◌⊎◌, ◌^◌, ◌<◌, ◌++◌, ℕ, Bool, true, false, List, [], ◌∷◌, Option, Some, ⊤, map, take, slice_get}
-use Rattle.std.specs.List.{All, Any, list_any, count_by}
+use Rattle.std.specs.Prelude.{◌≡◌, ◌≢◌, ◌⊎◌, ◌^◌, ◌<◌, ◌++◌, ℕ, Bool, true, false, List, [], ◌∷◌, Option, Some, ⊤, map, take, slice_get}
+use Rattle.std.specs.List.{All, list_any, count_by}
 use Rattle.std.specs.Option.{unwrap_or}
 use Rattle.std.specs.Str.{bytes_eq}
 use Rattle.spl_value.specs.declared.item.Item.{Item}
-use Rattle.feed_pour.specs.Counts.{PerName, Rose}
-use Rattle.feed_pour.specs.Contents.{Told, WhereTold}
+use Rattle.feed_pour.specs.Counts.{Counts, PerName, Rose}
+use Rattle.feed_pour.specs.Contents.{Told}
 use Rattle.stream_model.specs.Rows.{text_of}
 use Rattle.stream_model.specs.Stream.{is_tuple}
 use Rattle.file_adapters.specs.declared.sinks.Sink.{Sink}
@@ -41,31 +41,54 @@ OtherFilesStay sinks old new = (n : List ℕ) → is_file sinks n ≡ false → 
 abbrev pub HoldsFront : List ℕ → Option (List ℕ) → Type 0
 HoldsFront text holds = (n : ℕ) × (holds ≡ Some (take n text))
 
--- what a sink's file holds behind the writing of all
-abbrev pub HeldAfter : Sunk → List ℕ → Option (List ℕ) → Option (List ℕ) → Type 0
-HeldAfter (S.Done ns) text old new = new ≡ Some text
-HeldAfter S.Failed text old new = (new ≡ old) ⊎ HoldsFront text new
-HeldAfter S.Memory text old new = (new ≡ old) ⊎ HoldsFront text new
+-- a file holds this text, and nothing was counted; or its count of writing rose, and it holds a front
+abbrev pub HoldsUnlessFailed : List ℕ → Counts → Counts → Option (List ℕ) → Type 0
+HoldsUnlessFailed text counts now holds = ((now ≡ counts) × (holds ≡ Some text)) ⊎ (Rose counts.writing now.writing × HoldsFront text holds)
 
--- what a shelf tells behind the writing of these sinks
-pub record SinksWritten (r : Sunk) (sinks : List Sink) (streams : List (List Item)) (old : Told) (new : Told) : Type 0 where
-  pub holds : All (λ s. HeldAfter r (sink_text streams s) (old.holds s.file) (new.holds s.file)) sinks
+-- the files of the first sinks are empty, and nothing else that is told changed
+pub record EmptyBefore (place : ℕ) (sinks : List Sink) (old : Told) (new : Told) : Type 0 where
+  pub empty : All (λ s. new.holds s.file ≡ Some []) (take place sinks)
+  pub others : OtherFilesStay (take place sinks) old.holds new.holds
+  pub scripts : OtherFilesStay (take place sinks) old.script new.script
+
+-- what the sinks' files hold after the writing of all: their texts; where one wasn't created, those before it are empty; where one wasn't
+-- written, each other has its text; and where memory was wanting, each is as it was or holds a front
+abbrev pub SinksHold : Sunk → List Sink → List (List Item) → PerName → PerName → Told → Told → Type 0
+SinksHold (S.Done ns) sinks streams counts now old new = All (λ s. new.holds s.file ≡ Some (sink_text streams s)) sinks
+SinksHold (S.NotCreated place) sinks streams counts now old new = EmptyBefore place sinks old new
+SinksHold (S.NotWritten place) sinks streams counts now old new =
+    All (λ s. HoldsUnlessFailed (sink_text streams s) (counts s.file) (now s.file) (new.holds s.file)) sinks
+SinksHold S.Memory sinks streams counts now old new = All (λ s. (new.holds s.file ≡ old.holds s.file) ⊎ HoldsFront (sink_text streams s) (new.holds s.file)) sinks
+
+-- what a shelf tells after the writing of these sinks
+pub record SinksWritten (r : Sunk) (sinks : List Sink) (streams : List (List Item)) (counts now : PerName) (old : Told) (new : Told) : Type 0 where
+  pub holds : SinksHold r sinks streams counts now old new
   pub others : OtherFilesStay sinks old.holds new.holds
   pub scripts : OtherFilesStay sinks old.script new.script
 
 -- the rows of each sink were counted
 abbrev pub SinksCount : Sunk → List Sink → List (List Item) → Type 0
 SinksCount (S.Done ns) sinks streams = (ns ≡ map (sink_rows streams) sinks) × All (λ n. n < 2 ^ 64) ns
-SinksCount S.Failed sinks streams = ⊤
-SinksCount S.Memory sinks streams = ⊤
+SinksCount _ sinks streams = ⊤
 
--- the creating of the name failed, or the writing
-abbrev pub RoseAt : PerName → PerName → List ℕ → Type 0
-RoseAt old new name = Rose (old name).creating (new name).creating ⊎ Rose (old name).writing (new name).writing
+-- The file of the sink at this place couldn't be created: no other creating failed, and nothing was counted of the files behind it.
+pub record CreatingFailed (place : ℕ) (sinks : List Sink) (s : Sink) (old new : PerName) : Type 0 where
+  pub sink : slice_get sinks place ≡ Some s
+  pub rose : Rose (old s.file).creating (new s.file).creating
+  pub creating : (n : List ℕ) → n ≢ s.file → (new n).creating ≡ (old n).creating
+  pub later : (n : List ℕ) → is_file (take place sinks) n ≡ false → n ≢ s.file → new n ≡ old n
+
+-- That at this place couldn't be written or finished, and it is the first: nothing was counted of those before it. All files were created.
+pub record WritingFailed (place : ℕ) (sinks : List Sink) (s : Sink) (old new : PerName) : Type 0 where
+  pub sink : slice_get sinks place ≡ Some s
+  pub rose : Rose (old s.file).writing (new s.file).writing
+  pub before : All (λ t. new t.file ≡ old t.file) (take place sinks)
+  pub creating : (n : List ℕ) → (new n).creating ≡ (old n).creating
 
 abbrev pub SinksCause : Sunk → List Sink → PerName → PerName → Type 0
 SinksCause (S.Done ns) sinks old new = (n : List ℕ) → new n ≡ old n
-SinksCause S.Failed sinks old new = Any (λ s. RoseAt old new s.file) sinks
+SinksCause (S.NotCreated place) sinks old new = (s : Sink) × CreatingFailed place sinks s old new
+SinksCause (S.NotWritten place) sinks old new = (s : Sink) × WritingFailed place sinks s old new
 SinksCause S.Memory sinks old new = ⊤
 
 -- the writing of these sinks counts faults of creating and of writing under their files, where one came, and no others
@@ -74,31 +97,3 @@ pub record SinksCounted (r : Sunk) (sinks : List Sink) (old new : PerName) : Typ
   pub opening : (n : List ℕ) → (new n).opening ≡ (old n).opening
   pub reading : (n : List ℕ) → (new n).reading ≡ (old n).reading
   pub cause : SinksCause r sinks old new
-
--- the files of the first sinks are empty, and nothing else that is told changed
-pub record EmptyBefore (place : ℕ) (sinks : List Sink) (old : Told) (new : Told) : Type 0 where
-  pub empty : All (λ s. new.holds s.file ≡ Some []) (take place sinks)
-  pub others : OtherFilesStay (take place sinks) old.holds new.holds
-  pub scripts : OtherFilesStay (take place sinks) old.script new.script
-
--- each file holds a front of its text
-abbrev pub HoldFronts : List Sink → List (List Item) → Told → Type 0
-HoldFronts sinks streams t = All (λ s. HoldsFront (sink_text streams s) (t.holds s.file)) sinks
-
--- the creating of the file at this place failed, and the files before it are empty
-pub record CreatingFailed (sinks : List Sink) (counts now : PerName) (old new : Option Told) (place : ℕ) (s : Sink) : Type 0 where
-  pub sink : slice_get sinks place ≡ Some s
-  pub rose : Rose (counts s.file).creating (now s.file).creating
-  pub empty : WhereTold old new (EmptyBefore place sinks)
-
--- no creating failed, and each file holds a front of its text
-pub record WritingFailed (sinks : List Sink) (streams : List (List Item)) (counts now : PerName) (old new : Option Told) : Type 0 where
-  pub creating : (n : List ℕ) → (now n).creating ≡ (counts n).creating
-  pub fronts : WhereTold old new (λ before after. HoldFronts sinks streams after)
-
--- what failed: the creating of a file, behind which no other was created and nothing was written, or the writing or finishing of one
-abbrev pub FailedAs : Sunk → List Sink → List (List Item) → PerName → PerName → Option Told → Option Told → Type 0
-FailedAs (S.Done ns) sinks streams counts now old new = ⊤
-FailedAs S.Failed sinks streams counts now old new =
-    ((place : ℕ) × (s : Sink) × CreatingFailed sinks counts now old new place s) ⊎ WritingFailed sinks streams counts now old new
-FailedAs S.Memory sinks streams counts now old new = ⊤

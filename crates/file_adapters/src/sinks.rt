@@ -1,21 +1,21 @@
 //! Streams as the rows of several sinks' files.
-ghost use Rattle.std.specs.Prelude.{◌≡◌, ◌+◌, ◌<◌, ◌≤◌, ◌^◌, [], ◌∷◌, ◌++◌, length, map, take, IfOk, IfSome, IsErr, vec_len};
-ghost use Rattle.std.specs.List.{All, Any, count_by};
+ghost use Rattle.std.specs.Prelude.{◌≡◌, ◌+◌, ◌<◌, ◌≤◌, ◌^◌, [], ◌∷◌, ◌++◌, length, map, take, IfOk, IfSome, None, vec_len};
+ghost use Rattle.std.specs.List.{All, count_by};
 ghost use Rattle.std.specs.Vec.{vec_capacity};
 ghost use Rattle.feed_pour.specs.Counts.{Counted};
-ghost use Rattle.feed_pour.specs.Contents.{AllPoured, Finished, WhereTold, failed_read, failed_write};
+ghost use Rattle.feed_pour.specs.Contents.{AllPoured, WhereTold, failed_read, failed_write};
 ghost use Rattle.stream_model.specs.Rows.{item_text, text_of};
 ghost use Rattle.stream_model.specs.Stream.{is_tuple};
 ghost use Rattle.spl_value.specs.declared.item.Item.TheVariants as I;
-ghost use Rattle.file_adapters.specs.Sinks.{AreDistinct, EmptyBefore, FailedAs, SinksCount, SinksCounted, SinksWritten, sink_rows, stream_at};
-ghost use Rattle.file_adapters.specs.steps.Steps.{CreateCounted, CreatedCount, EachFinished, EachPoured, FinishCounted, RowsPoured, WriteFault, sunk_of};
+ghost use Rattle.file_adapters.specs.Sinks.{AreDistinct, EmptyBefore, SinksCount, SinksCounted, SinksWritten, sink_rows, stream_at};
+ghost use Rattle.file_adapters.specs.steps.Steps.{AllCounted, CountedUnless, CreateCounted, CreatedCount, EachFinished, EachPoured, FinishCounted, RowsPoured, TextPoured, first_failed, not_created, sunk_of};
 
 use feed_pour::{Failed, Opened, Pour, PourAnswer, Shelf, write_all};
 use row_writer::add_row;
-use spl_value::{Item, Items, Name, Values};
+use spl_value::{Item, Items, Name, NoMemory, Values};
 use std::alloc::Global;
 
-/// A sink to be written: its file, and the number of its stream.
+/// A sink to be written: its file, and the place of what it writes among the streams that are given.
 #[derive(Debug, Drop)]
 pub struct Sink {
     pub file: Name,
@@ -26,8 +26,10 @@ pub struct Sink {
 #[derive(Debug, PartialEq, Eq, Drop)]
 pub enum Sunk {
     Done(Items<u64>),
-    /// A file couldn't be created, written or finished.
-    Failed,
+    /// The file of the sink at this place couldn't be created.
+    NotCreated(usize),
+    /// The file of the sink at this place couldn't be written or finished. It is the first such.
+    NotWritten(usize),
     Memory,
 }
 
@@ -115,26 +117,43 @@ fn create_each<H: Shelf>(
     Ok(())
 }
 
-// Writes each sink the rows of its stream, in order, up to the first that fails, and counts them.
+// Pours the rows of a stream's tuples, and counts them. Where the pour fails, a front is poured, and
+// 0 is answered. The buffer's bytes are lost.
+fn write_stream<P: Pour>(row: &mut Vec<u8>, pour: &mut P, items: &[Item]) -> Result<u64, NoMemory>
+    ensures poured { TextPoured result (P.poured pour.old) (P.poured pour.new) (P.faults pour.new)
+        (text_of items.now) }
+    ensures count { IfOk result (λ n. CountedUnless (P.faults pour.new) n
+        (count_by is_tuple items.now)) }
+    ensures small { IfOk result (λ n. n < 2 ^ 64) }
+{
+    match write_rows(row, pour, items) {
+        Ok(tuples) => Ok(tuples),
+        Err(PourAnswer::Failed) => Ok(0),
+        Err(PourAnswer::Memory) => Err(NoMemory),
+    }
+}
+
+// Writes each sink the rows of its stream, in order, and counts them. The others are written where
+// the pour of one fails.
 fn write_each<P: Pour>(
     alloc: Global,
     pours: &mut [P],
     sinks: &[Sink],
     streams: &Items<Items<Item>>,
-) -> Result<Items<u64>, PourAnswer>
+) -> Result<Items<u64>, NoMemory>
     requires { length pours.old ≡ length sinks.now }
     ensures pours { length pours.new ≡ length pours.old }
-    ensures poured { EachPoured P.poured result pours.old pours.new sinks.now streams.now }
-    ensures count { IfOk result (λ ns. ns ≡ map (sink_rows streams.now) sinks.now) }
+    ensures poured { EachPoured P.poured P.faults result pours.old pours.new sinks.now streams.now }
+    ensures count { IfOk result (λ ns. AllCounted P.faults pours.new ns
+        (map (sink_rows streams.now) sinks.now)) }
     ensures small { IfOk result (λ ns. All (λ n. n < 2 ^ 64) ns) }
-    ensures fault { WriteFault P.faults result pours.new }
 {
     let Ok(mut counts) = Vec::with_capacity(alloc, pours.len()) else {
-        return Err(PourAnswer::Memory);
+        return Err(NoMemory);
     };
     let mut row = Vec::new(alloc);
     'sinks: for at in 0..pours.len() {
-        match write_rows(&mut row, &mut pours[at], stream_of(streams, &sinks[at])) {
+        match write_stream(&mut row, &mut pours[at], stream_of(streams, &sinks[at])) {
             Ok(tuples) => add(&mut counts, tuples),
             Err(e) => return Err(e),
         }
@@ -142,48 +161,67 @@ fn write_each<P: Pour>(
     Ok(Items::from_vec(counts))
 }
 
-// Finishes the files of the first sinks, whose pours these are, in order.
-fn finish_each<H: Shelf>(shelf: &mut H, sinks: &[Sink], pours: Vec<H::Writer>) -> Result<(), Failed>
+// The first place of a failure, with one more call at a later place.
+fn first_failed(first: Option<usize>, finished: Result<(), Failed>, at: usize) -> Option<usize>
+    ensures { result ≡ first_failed first (failed_read finished) at }
+{
+    match (first, finished) {
+        (None, Err(_)) => Some(at),
+        (None, Ok(())) => None,
+        (Some(place), _) => Some(place),
+    }
+}
+
+// Finishes the files of the first sinks, whose pours these are, in order, and answers the first
+// place where it failed.
+fn finish_each<H: Shelf>(shelf: &mut H, sinks: &[Sink], pours: Vec<H::Writer>) -> Option<usize>
     requires count { length pours.items ≤ length sinks.now }
     requires created { All (λ s. H.created shelf.old s.file) (take (length pours.items) sinks.now) }
     requires distinct { AreDistinct (map (λ s. s.file) sinks.now) }
     ensures told { WhereTold (H.told shelf.old) (H.told shelf.new)
-        (EachFinished (failed_read result) H.Writer.poured (length pours.items) pours.items
-        sinks.now) }
-    ensures cause { FinishCounted (failed_read result) (take (length pours.items) sinks.now)
-        (H.counts shelf.old) (H.counts shelf.new) }
-    ensures fault { Any (λ p. 0 < H.Writer.faults p) pours.items → IsErr result }
+        (EachFinished H.Writer.poured H.Writer.faults result (length pours.items) pours.items
+        sinks.now (H.counts shelf.old) (H.counts shelf.new)) }
+    ensures cause { FinishCounted result (length pours.items) sinks.now (H.counts shelf.old)
+        (H.counts shelf.new) }
+    ensures fault { result ≡ None → All (λ p. H.Writer.faults p ≡ 0) pours.items }
     ensures lent { length pours.items ≤ H.lent shelf.old
         → H.lent shelf.old ≡ H.lent shelf.new + length pours.items }
 {
-    let mut failed = false;
+    let mut first = None;
     let mut at = 0;
     'pours: for pour in pours {
-        if shelf.finish(&sinks[at].file, pour).is_err() {
-            failed = true;
-        }
+        let finished = shelf.finish(&sinks[at].file, pour);
+        first = first_failed(first, finished, at);
         at += 1;
     }
-    if failed { Err(Failed) } else { Ok(()) }
+    first
 }
 
-// How the writing of all ended, with what came up to the finishing and then.
-fn ended(written: Result<Items<u64>, PourAnswer>, finished: Result<(), Failed>) -> Sunk
-    ensures { result ≡ sunk_of written (failed_read finished) }
+// How the writing of all ended, with what came up to the finishing and the first place where that failed.
+fn ended(written: Result<Items<u64>, NoMemory>, first: Option<usize>) -> Sunk
+    ensures { result ≡ sunk_of written first }
 {
-    match written {
-        Err(PourAnswer::Memory) => Sunk::Memory,
-        Err(PourAnswer::Failed) => Sunk::Failed,
-        Ok(counts) => match finished {
-            Ok(()) => Sunk::Done(counts),
-            Err(_) => Sunk::Failed,
-        },
+    match (written, first) {
+        (Err(_), _) => Sunk::Memory,
+        (Ok(counts), None) => Sunk::Done(counts),
+        (Ok(_), Some(place)) => Sunk::NotWritten(place),
+    }
+}
+
+// How it ended where the file at this place wasn't created.
+fn not_created(answer: PourAnswer, place: usize) -> Sunk
+    ensures { result ≡ not_created answer place }
+{
+    match answer {
+        PourAnswer::Failed => Sunk::NotCreated(place),
+        PourAnswer::Memory => Sunk::Memory,
     }
 }
 
 /// Creates the files of all sinks, in order; then writes each the rows of its stream's tuples, in
-/// order; then finishes all, in order, whatever came. Behind the first call that fails no other
-/// file is created or written. No file may stand twice.
+/// order; then finishes all, in order, whatever came. After the first file that can't be created no
+/// other is created, and nothing is written. Where one can't be written, the others are. No file may
+/// stand twice.
 pub fn write_sinks<H: Shelf>(
     alloc: Global,
     shelf: &mut H,
@@ -192,11 +230,9 @@ pub fn write_sinks<H: Shelf>(
 ) -> Sunk
     requires distinct { AreDistinct (map (λ s. s.file) sinks.now) }
     ensures told { WhereTold (H.told shelf.old) (H.told shelf.new)
-        (SinksWritten result sinks.now streams.now) }
+        (SinksWritten result sinks.now streams.now (H.counts shelf.old) (H.counts shelf.new)) }
     ensures count { SinksCount result sinks.now streams.now }
     ensures cause { SinksCounted result sinks.now (H.counts shelf.old) (H.counts shelf.new) }
-    ensures failed { FailedAs result sinks.now streams.now (H.counts shelf.old)
-        (H.counts shelf.new) (H.told shelf.old) (H.told shelf.new) }
     ensures lent { H.lent shelf.old + length sinks.now < 2 ^ 64
         → H.lent shelf.new ≡ H.lent shelf.old }
 {
@@ -206,12 +242,13 @@ pub fn write_sinks<H: Shelf>(
     match create_each(shelf, sinks.as_slice(), &mut pours) {
         Ok(()) => {
             let written = write_each(alloc, pours.as_mut_slice(), sinks.as_slice(), streams);
-            let finished = finish_each(shelf, sinks.as_slice(), pours);
-            ended(written, finished)
+            let first = finish_each(shelf, sinks.as_slice(), pours);
+            ended(written, first)
         }
         Err(e) => {
-            let finished = finish_each(shelf, sinks.as_slice(), pours);
-            ended(Err(e), finished)
+            let place = pours.len();
+            finish_each(shelf, sinks.as_slice(), pours);
+            not_created(e, place)
         }
     }
 }

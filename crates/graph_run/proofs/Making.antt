@@ -1,8 +1,6 @@
 -- The operators of a checked graph, made one after the other.
 use Prim.Native.Nat.{zero, suc}
-use Rattle.std.proofs.Common.{◌≡◌, ◌∙◌, ◌+◌, ◌||◌, ◌&&◌, ◌++◌, ℕ, Bool, true, false, List, [], ◌∷◌, length, refl, sym, ap, subst, arith, inl, inr, slice_get, Option, Some, None, IsTrue}
-use Rattle.std.specs.Prelude.{◌↔◌}
-use Rattle.std.specs.List.{list_all}
+use Rattle.std.proofs.Common.{◌≡◌, ◌∙◌, ◌<◌, ◌≤◌, ◌+◌, ◌||◌, ◌++◌, ℕ, Bool, true, false, List, [], ◌∷◌, length, refl, sym, ap, subst, arith, inl, inr, slice_get, Option, Some, None, IsTrue}
 use Rattle.std.proofs.lemmas.List.{length_push}
 use Rattle.spl_value.proofs.Lists.{append_cases, get_below, get_within}
 use Rattle.language_model.specs.declared.checked.Part.{Part}
@@ -16,32 +14,13 @@ use Rattle.stream_model.specs.Stream.{Event}
 use Rattle.op_kit.specs.Kinds.{is_held}
 use Rattle.list_engine.specs.Runs.{AreOperators, is_source}
 use Rattle.list_engine.proofs.GraphOperators.{operator_at, same_length}
-use Rattle.graph_run.specs.Kinds.{AreRun, is_run}
+use Rattle.graph_run.specs.Kinds.{AreRun}
 use Rattle.graph_run.specs.steps.Fresh.{FreshAs, IsFresh}
+
+-- ---- one operator
 
 same_part : (x y : Part) → Some x ≡ Some y → x ≡ y
 same_part x y e = cc
-
-both_true : (a b : Bool) → (a && b) ≡ true → (a ≡ true) × (b ≡ true)
-both_true true b q = (refl, q)
-both_true false b q = absurd (let no : false ≡ true = q in cc)
-
--- ---- kinds
-
-each_run : (parts : List Part) → list_all is_run parts ≡ true → AreRun parts
-each_run [] all zero part at = absurd (let none : None ≡ Some part = at in cc)
-each_run [] all (suc n) part at = absurd (let none : None ≡ Some part = at in cc)
-each_run (p ∷ parts) all zero part at = ap is_run (same_part part p (sym at)) ∙ (both_true (is_run p) (list_all is_run parts) all).0
-each_run (p ∷ parts) all (suc n) part at = each_run parts (both_true (is_run p) (list_all is_run parts) all).1 n part at
-
-run_each : (parts : List Part) → AreRun parts → list_all is_run parts ≡ true
-run_each [] run = refl
-run_each (p ∷ parts) run = ap (λ b. b && list_all is_run parts) (run 0 p refl) ∙ run_each parts (λ n part at. run (suc n) part at)
-
-pub all_run : (parts : List Part) (b : Bool) → b ≡ list_all is_run parts → (IsTrue b) ↔ (AreRun parts)
-all_run parts b is = (λ yes. each_run parts (sym is ∙ yes), λ run. is ∙ run_each parts run)
-
--- ---- one operator
 
 pub fresh_source : {S : Type 0} (spec : S → Operator) (stands : S → List Event → Type 0) (c : CheckedGraph) (n : ℕ) (own : Part) (file : List ℕ) (strict : Bool) → slice_get c.parts n ≡ Some own
     → own ≡ A.FileSource file strict → IsFresh spec stands c n None
@@ -110,10 +89,10 @@ by_kind spec stands c n false (Some s) fresh = (λ e. absurd (let bad : false �
 same_operator : (x y : Operator) → Some x ≡ Some y → x ≡ y
 same_operator x y e = cc
 
-pub all_made : {S : Type 0} (spec : S → Operator) (stands : S → List Event → Type 0) (c : CheckedGraph) (count : ℕ) (operators : List (Option S)) → Keeps c
-    → count ≡ length c.graph.ops → MadeBefore spec stands c count operators → (g : Graph) → graph_of c ≡ g → AreOperators spec stands g operators
-all_made {S = S} spec stands c count operators keeps all made g e = record {
-  count = made.size ∙ all ∙ sym (same_length c g keeps e);
+pub all_made : {S : Type 0} (spec : S → Operator) (stands : S → List Event → Type 0) (c : CheckedGraph) (operators : List (Option S)) → Keeps c
+    → MadeBefore spec stands c (length c.graph.ops) operators → (g : Graph) → graph_of c ≡ g → AreOperators spec stands g operators
+all_made {S = S} spec stands c operators keeps made g e = record {
+  count = made.size ∙ sym (same_length c g keeps e);
   sources = λ n op at source. let w = found n op at in w.1 ∙ ap (λ (o : Option S). Some o) (w.2.0 source);
   others = λ n op at other.
       let w = found n op at in
@@ -127,6 +106,6 @@ all_made {S = S} spec stands c count operators keeps all made g e = record {
         let is = operator_at c g e n op at in
         let within = get_within c.graph.ops n is.op is.there in
         let size = made.size in
-        let o = get_below operators n (omega (arith, within, size, all)) in
+        let o = get_below operators n (omega (arith, within, size)) in
         let clauses : op.clauses ≡ is.part = ap (λ (x : Operator). x.clauses) is.same in
         (o.0, o.1, by_kind spec stands c n (is_source op.clauses) o.0 (subst (λ (p : Part). FreshAs spec stands c n (is_source p) o.0) (sym clauses) (made.each n o.0 o.1 is.part is.has)))

@@ -161,6 +161,12 @@ impl Answers for Rows {
     }
 }
 
+fn add_place(text: &mut Text, failed: &str, place: usize) {
+    text.add(failed);
+    text.add(" ");
+    text.add_number(place as i128);
+}
+
 fn add_sunk(text: &mut Text, sunk: &Sunk) {
     match sunk {
         Sunk::Done(rows) => {
@@ -170,7 +176,8 @@ fn add_sunk(text: &mut Text, sunk: &Sunk) {
                 text.add_number(i128::from(*rows));
             }
         }
-        Sunk::Failed => text.add("failed"),
+        Sunk::NotCreated(place) => add_place(text, "not created", *place),
+        Sunk::NotWritten(place) => add_place(text, "not written", *place),
         Sunk::Memory => text.add("no memory"),
     }
 }
@@ -285,16 +292,19 @@ const SINKS: &str = r#"
 2 0 => done 0 3; a ∅ 0 0 0 0; b 1␊2␊3␊ 0 0 0 0; c stays 0 0 0 0
 
 # first create
-0 1 | call 1 => failed; a - 0 1 0 0; b was here 0 0 0 0; c stays 0 0 0 0
+0 1 | call 1 => not created 0; a - 0 1 0 0; b was here 0 0 0 0; c stays 0 0 0 0
 
 # second create
-0 1 | call 2 => failed; a ∅ 0 0 0 0; b was here 0 1 0 0; c stays 0 0 0 0
+0 1 | call 2 => not created 1; a ∅ 0 0 0 0; b was here 0 1 0 0; c stays 0 0 0 0
 
 # second write
-0 1 | write 2 => failed; a 1␊ 0 0 0 1; b ∅ 0 0 0 0; c stays 0 0 0 0
+0 1 | write 2 => not written 0; a 1␊ 0 0 0 1; b "x,y"␊z␊ 0 0 0 0; c stays 0 0 0 0
 
 # first finish
-0 1 | call 3 => failed; a 1␊2␊3␊ 0 0 0 1; b "x,y"␊z␊ 0 0 0 0; c stays 0 0 0 0
+0 1 | call 3 => not written 0; a 1␊2␊3␊ 0 0 0 1; b "x,y"␊z␊ 0 0 0 0; c stays 0 0 0 0
+
+# second finish
+0 1 | call 4 => not written 1; a 1␊2␊3␊ 0 0 0 0; b "x,y"␊z␊ 0 0 0 1; c stays 0 0 0 0
 
 # no sinks
 none | call 1 => done; a - 0 0 0 0; b was here 0 0 0 0; c stays 0 0 0 0

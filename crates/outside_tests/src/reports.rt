@@ -72,16 +72,27 @@ fn refused(alloc: Global, code: Code, parts: &str) -> Result<Cause, AllocError> 
     }))
 }
 
+// A cause with a file's name, or want of memory.
+fn named(alloc: Global, text: &str) -> Result<Cause, AllocError> {
+    let (kind, name) = cut(text);
+    let name = Items::from_slice(alloc, name.as_bytes())?;
+    match kind {
+        "OpenFailed" => Ok(Cause::OpenFailed(name)),
+        "ReadFailed" => Ok(Cause::ReadFailed(name)),
+        "WriteFailed" => Ok(Cause::WriteFailed(name)),
+        _ => Ok(Cause::NoMemory),
+    }
+}
+
 // The cause of a text.
 fn cause(alloc: Global, text: &str) -> Result<Cause, AllocError> {
     match text {
         "Done" => Ok(Cause::Done),
         "BadWords" => Ok(Cause::BadWords),
         "NotBuilt" => Ok(Cause::NotBuilt),
-        "Device" => Ok(Cause::Device),
         _ => match code(text) {
             Some((code, parts)) => refused(alloc, code, parts),
-            None => Ok(Cause::NoMemory),
+            None => named(alloc, text),
         },
     }
 }
@@ -143,6 +154,9 @@ check LeftOut 27 => refused Y5 at 27␊
 Done => ∅
 BadWords => bad words␊
 NotBuilt => not built␊
-Device => device failed␊
+OpenFailed t.csv => cannot open t.csv␊
+ReadFailed p.spl => cannot read p.spl␊
+WriteFailed o.csv => cannot write o.csv␊
+WriteFailed - => cannot write -␊
 NoMemory => no memory␊
 "#;

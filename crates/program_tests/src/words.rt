@@ -54,11 +54,11 @@ pub(crate) const BUILT: &str = r#"
 @first | t.csv: 5␊10␊11␊ | $ run t.csv => 2 refused S1 at 0␊
 
 # Names of files that aren't there.
-@first | t.csv: 5␊10␊11␊ | $ check check => 14 device failed␊
-@first | t.csv: 5␊10␊11␊ | $ run run => 14 device failed␊
-@first | t.csv: 5␊10␊11␊ | $ run P.spl => 14 device failed␊
-@first | t.csv: 5␊10␊11␊ | $ run a=b => 14 device failed␊
-@first | t.csv: 5␊10␊11␊ | $ run ␣ => 14 device failed␊
+@first | t.csv: 5␊10␊11␊ | $ check check => 4 cannot open check␊
+@first | t.csv: 5␊10␊11␊ | $ run run => 4 cannot open run␊
+@first | t.csv: 5␊10␊11␊ | $ run P.spl => 4 cannot open P.spl␊
+@first | t.csv: 5␊10␊11␊ | $ run a=b => 4 cannot open a=b␊
+@first | t.csv: 5␊10␊11␊ | $ run ␣ => 4 cannot open  ␊
 
 # A request that is not built comes before a refused program.
 @text # | $ plan p.spl => 13 not built␊

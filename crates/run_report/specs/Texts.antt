@@ -124,6 +124,10 @@ abbrev pub operator_name : Option CheckedGraph → ℕ → List ℕ
 operator_name None n = []
 operator_name (Some c) n = option_map_or (λ op. op.name) (slice_get c.graph.ops n) []
 
+-- what couldn't be done with the file of this name
+abbrev pub named_text : List ℕ → List ℕ → List ℕ
+named_text text name = text ++ name ++ codes "\n"
+
 -- nothing is told where all was done
 abbrev pub status_text : Option CheckedGraph → Cause → List ℕ
 status_text c W.Done = []
@@ -131,7 +135,9 @@ status_text c W.BadWords = codes "bad words\n"
 status_text c (W.Refused refusal) = refusal_text refusal
 status_text c (W.Stopped fault) = stopped_text (operator_name c fault.op) fault
 status_text c W.NotBuilt = codes "not built\n"
-status_text c W.Device = codes "device failed\n"
+status_text c (W.OpenFailed name) = named_text (codes "cannot open ") name
+status_text c (W.ReadFailed name) = named_text (codes "cannot read ") name
+status_text c (W.WriteFailed name) = named_text (codes "cannot write ") name
 status_text c W.NoMemory = codes "no memory\n"
 
 -- ---- what was checked

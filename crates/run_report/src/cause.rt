@@ -1,5 +1,5 @@
 use crate::Refusal;
-use spl_value::Fault;
+use spl_value::{Fault, Name};
 
 /// Why the program ended.
 #[derive(Debug, PartialEq, Eq, Drop)]
@@ -12,11 +12,15 @@ pub enum Cause {
     Refused(Refusal),
     /// The run ended with a fault.
     Stopped(Fault),
+    /// The file of this name couldn't be opened or created.
+    OpenFailed(Name),
+    /// The program, which is in the file of this name, couldn't be read to its end.
+    ReadFailed(Name),
+    /// The file of this name couldn't be written or finished; or the line of a request that was carried
+    /// out couldn't be written, and the name is `-`.
+    WriteFailed(Name),
     /// The request, the program or the bytes of a source aren't of a form that is built.
     NotBuilt,
-    /// A file couldn't be opened, read, created, written or finished, or the line of a request that was
-    /// carried out couldn't be written.
-    Device,
     /// There was no memory.
     NoMemory,
 }

@@ -1,7 +1,7 @@
 //! The line that tells why the program ended.
 ghost use Rattle.std.specs.Prelude.{◌≡◌, [], if◌then◌else◌, IfOk};
 ghost use Rattle.std.specs.Option.{option_copied};
-ghost use Rattle.run_report.specs.Texts.{lexical_code, expansion_code, check_code, code_text, has_name, names_expansion, names_check, name_text, refusal_text, kind_text, has_line, stopped_text, operator_name, status_text};
+ghost use Rattle.run_report.specs.Texts.{lexical_code, expansion_code, check_code, code_text, has_name, names_expansion, names_check, name_text, refusal_text, kind_text, has_line, stopped_text, operator_name, named_text, status_text};
 
 use crate::{Cause, Code, ExpansionError, Refusal};
 use itoa::Buffer;
@@ -206,6 +206,17 @@ pub(crate) fn stopped_line(alloc: Global, name: &[u8], fault: Fault) -> Result<B
     Ok(Items::from_vec(line))
 }
 
+// The line that tells what couldn't be done with the file of a name.
+fn named_line(alloc: Global, text: &[u8], name: &Name) -> Result<Bytes, NoMemory>
+    ensures { IfOk result (λ line. line ≡ named_text text.now name.now) }
+{
+    let mut line = Vec::new(alloc);
+    line.extend_from_slice(text)?;
+    line.extend_from_slice(name.as_slice())?;
+    line.push(b'\n')?;
+    Ok(Items::from_vec(line))
+}
+
 /// The line that tells why the program ended. It is empty where all was done. The graph is needed where
 /// a run ended with a fault, whose operator is told by its name: the name is empty where the operator
 /// isn't there.
@@ -222,7 +233,9 @@ pub fn status_text(
         Cause::Refused(refusal) => refusal_line(alloc, refusal),
         Cause::Stopped(fault) => stopped_line(alloc, operator(checked, fault.op), *fault),
         Cause::NotBuilt => Ok(Items::from_slice(alloc, b"not built\n")?),
-        Cause::Device => Ok(Items::from_slice(alloc, b"device failed\n")?),
+        Cause::OpenFailed(name) => named_line(alloc, b"cannot open ", name),
+        Cause::ReadFailed(name) => named_line(alloc, b"cannot read ", name),
+        Cause::WriteFailed(name) => named_line(alloc, b"cannot write ", name),
         Cause::NoMemory => Ok(Items::from_slice(alloc, b"no memory\n")?),
     }
 }

@@ -1,5 +1,5 @@
 -- What the answer of a request means once its line is told.
-use Rattle.std.proofs.Common.{◌≡◌, ◌∙◌, ℕ, List, [], ◌∷◌, length, refl, sym, ap, subst, inl, inr, ◌⊎◌, Option, Some, None}
+use Rattle.std.proofs.Common.{◌≡◌, ◌∙◌, ℕ, Bool, true, false, List, [], ◌∷◌, ◌++◌, length, length-append, arith, refl, sym, ap, subst, inl, inr, ◌⊎◌, Option, Some, None}
 use Rattle.std.specs.Prelude.{IfSome}
 use Rattle.std.proofs.Math.Seq.{take-length}
 use Rattle.spl_value.specs.declared.item.Fault.{Fault}
@@ -14,22 +14,30 @@ use Rattle.run_report.specs.declared.cause.Cause.TheVariants as C
 use Rattle.run_report.specs.declared.refusal.Refusal.{Refusal}
 use Rattle.stream_model.specs.Operators.{Operator}
 use Rattle.command_line.specs.declared.request.Request.{Request}
-use Rattle.spl_driver.specs.Outcome.{RequestOutcome, NoRequest, Unreadable, Refused, NotBuilt, Checks, Runs, IsOutcome}
-use Rattle.spl_driver.specs.Files.{creates}
-use Rattle.spl_driver.specs.Answer.{AtSink, EachSink, HoldsText, HoldsPrefix, sink_text, CarriedOut, RunsTo, ChecksTo, SameFiles, Begun, CauseMeans, CreateFailed, DeviceFailed, FailedDevice, opening, creating, telling, NoCountChanged, Answered, Shown, IsOr, IsRun, IsAnswer, IsComplete, Untouched, ByWords, MayBe, cause_of}
+use Rattle.spl_driver.specs.Outcome.{RequestOutcome, NoRequest, Unreadable, Refused, NotBuilt, Checks, Runs, IsOutcome, ArePartsIn, of_unreadable}
+use Rattle.std.specs.Prelude.{◌||◌}
+use Rattle.std.specs.Str.{bytes_eq}
+use Rattle.check_laws.specs.Files.{is_named}
+use Rattle.command_line.specs.declared.request.Request.TheVariants as R
+use Rattle.spl_driver.specs.Built.{is_built}
+use Rattle.spl_driver.specs.Files.{FilesOf, creates, files_of, opens, program_of, row_files, whole_files}
+use Rattle.spl_driver.specs.Answer.{AtSink, EachSink, HoldsText, HoldsPrefix, sink_text, CarriedOut, RunsTo, ChecksTo, SameFiles, Begun, CauseMeans, CreatingFailed, DeviceFailed, opening, reading, creating, writing, DevicesMean, ReadingAnswered, ReadingFailed, WritingFailed, WroteOthers, StoppedBy, WholeReads, Answered, IsOr, IsRun, IsUnread, IsAnswer, IsComplete, Untouched, ByWords, MayBe, cause_of}
+use Rattle.source_rows.specs.Counting.{OnlyRead, OnlyReads, OpeningFailed}
 use Rattle.spl_driver.specs.Lines.{ToldAs}
 use Rattle.spl_driver.specs.RequestLaws.{OneOutcomeLaw}
 use Rattle.spl_driver.specs.declared.ended.Ended.{Ended}
+use Rattle.spl_driver.proofs.Carrying.{creates_sinks}
+use Rattle.spl_driver.proofs.Fetching.{named_one}
+use Rattle.spl_driver.proofs.Requests.{IsUnreadable, unread}
+use Rattle.spl_driver.proofs.Showing.{with_cause}
 use Rattle.spl_driver.proofs.Running.{begun_same}
-
--- an end with another cause
-abbrev with_cause : Ended → Cause → ℕ → Ended
-with_cause ended cause status = record { status = status; cause = cause; arrivals = ended.arrivals; counts = ended.counts }
+use Rattle.spl_value.proofs.Bools.{or_true}
+use Rattle.spl_value.proofs.Lists.{same_name}
 
 -- ---- what an answer means
 
 run_same : (g : Graph) (m : Meaning) (ended : Ended) (cause : Cause) (status : ℕ) (u : Told) → CarriedOut g m ended u → CarriedOut g m (with_cause ended cause status) u
-run_same g m ended cause status u h = record { texts = h.texts; counts = h.counts; lists = h.lists }
+run_same g m ended cause status u h = record { texts = h.texts; counts = h.counts; recorded = h.recorded }
 
 runs_same : (fault : Option Fault) (Is : RequestOutcome → Type 0) (ended : Ended) (cause : Cause) (status : ℕ) (u : Told) → RunsTo fault Is ended u → RunsTo fault Is (with_cause ended cause status) u
 runs_same fault Is ended cause status u (c, g, m, is, e, h) = (c, g, m, is, e, run_same g m ended cause status u h)
@@ -41,7 +49,9 @@ means_same (C.Stopped fault) Is ended cause status t u h = runs_same (Some fault
 means_same C.BadWords Is ended cause status t u h = h
 means_same (C.Refused refusal) Is ended cause status t u h = h
 means_same C.NotBuilt Is ended cause status t u h = h
-means_same C.Device Is ended cause status t u h = h
+means_same (C.OpenFailed name) Is ended cause status t u h = h
+means_same (C.ReadFailed name) Is ended cause status t u h = h
+means_same (C.WriteFailed name) Is ended cause status t u h = h
 means_same C.NoMemory Is ended cause status t u h = h
 
 abbrev IsOne : (RequestOutcome → Type 0) → Type 0
@@ -71,13 +81,15 @@ weaker_run fault Is ended result t u one (c, g, m, is, e, run) comes =
 
 -- after each answer a sink was not created or holds a prefix of its text
 weaker : (k : Cause) (Is : RequestOutcome → Type 0) (ended : Ended) (t u : Told) → IsOne Is → CauseMeans k Is ended t u → (result : RequestOutcome) → Is result → Begun result t u
-weaker C.Done Is ended t u one (inl (c, is, same)) result comes = begun_same result t u same
+weaker C.Done Is ended t u one (inl (c, is, same, none)) result comes = begun_same result t u same
 weaker C.Done Is ended t u one (inr run) result comes = weaker_run None Is ended result t u one run comes
 weaker (C.Stopped fault) Is ended t u one run result comes = weaker_run (Some fault) Is ended result t u one run comes
 weaker C.BadWords Is ended t u one (is, same) result comes = begun_same result t u same
 weaker (C.Refused refusal) Is ended t u one (is, same) result comes = begun_same result t u same
 weaker C.NotBuilt Is ended t u one (is, same) result comes = begun_same result t u same
-weaker C.Device Is ended t u one h result comes = h result comes
+weaker (C.OpenFailed name) Is ended t u one h result comes = h result comes
+weaker (C.ReadFailed name) Is ended t u one h result comes = begun_same result t u h
+weaker (C.WriteFailed name) Is ended t u one h result comes = h result comes
 weaker C.NoMemory Is ended t u one h result comes = h result comes
 
 -- ---- once the line is told
@@ -88,98 +100,121 @@ means_said Is ended r status Line t u one (inl e) h = subst (λ (c : Cause). Cau
 means_said Is ended r status Line t u one (inr (inl e)) h = subst (λ (c : Cause). CauseMeans c Is (with_cause ended r status) t u) (sym e) (weaker ended.cause Is ended t u one h)
 means_said Is ended r status Line t u one (inr (inr (e, run, line))) h = subst (λ (c : Cause). CauseMeans c Is (with_cause ended r status) t u) (sym e) (weaker ended.cause Is ended t u one h)
 
-no_failure : {A : Type 0} (Failed : Type 0) → (Failed → ⊥) → Failed ⊎ ⊥ → A
-no_failure Failed none (inl failed) = absurd (none failed)
-no_failure Failed none (inr never) = absurd never
-
--- a request was carried out with no count changed
-quiet_run : (fault : Option Fault) (request : Option Request) (counts later : PerName) (Line : Type 0) → Shown (cause_of fault) request counts later Line → NoCountChanged counts later
-quiet_run None request counts later Line h = h
-quiet_run (Some fault) request counts later Line h = h
-
-pub quiet_stop : (c : Cause) (request : Option Request) (counts later : PerName) (Line : Type 0) → IsRun c → Shown c request counts later Line → NoCountChanged counts later
-quiet_stop c request counts later Line (fault, is) h = quiet_run fault request counts later Line (subst (λ (x : Cause). Shown x request counts later Line) is h)
-
 untold_run : (fault : Option Fault) (Is : RequestOutcome → Type 0) (ended : Ended) (r : Cause) (status : ℕ) (t u : Told) → CauseMeans (cause_of fault) Is ended t u
-    → ChecksTo Is t u ⊎ ((fault : Option Fault) × RunsTo fault Is (with_cause ended r status) u)
+    → ChecksTo Is (with_cause ended r status) t u ⊎ ((fault : Option Fault) × RunsTo fault Is (with_cause ended r status) u)
 untold_run None Is ended r status t u (inl h) = inl h
 untold_run None Is ended r status t u (inr h) = inr (None, runs_same None Is ended r status u h)
 untold_run (Some fault) Is ended r status t u h = inr (Some fault, runs_same (Some fault) Is ended r status u h)
 
--- a device that failed before the line was told
-failed_before : (request : Option Request) (parts : List Part) (counts later : PerName) (Line : Type 0) (Is : RequestOutcome → Type 0) (ended : Ended) (r : Cause) (status : ℕ) (t u : Told)
-    → FailedDevice request parts counts later ⊥ Is ended t u → FailedDevice request parts counts later Line Is (with_cause ended r status) t u
-failed_before request parts counts later Line Is ended r status t u (opening failed same) = opening failed same
-failed_before request parts counts later Line Is ended r status t u (creating failed) = creating failed
-failed_before request parts counts later Line Is ended r status t u (telling never quiet done) = absurd never
+others_same : (Is : RequestOutcome → Type 0) (counts now : PerName) (ended : Ended) (r : Cause) (status : ℕ) (u : Told) → WroteOthers Is counts now ended u → WroteOthers Is counts now (with_cause ended r status) u
+others_same Is counts now ended r status u h = record { checked = h.checked; graph = h.graph; meaning = h.meaning; comes = h.comes; texts = h.texts; recorded = h.recorded }
 
-device_said : (Is : RequestOutcome → Type 0) (ended : Ended) (r : Cause) (status : ℕ) (request : Option Request) (parts : List Part) (counts later : PerName) (Line : Type 0) (t u : Told)
-    → ToldAs ended.cause r Line → Shown ended.cause request counts later ⊥ → CauseMeans ended.cause Is ended t u
-    → (ended.cause ≡ C.Device → FailedDevice request parts counts later ⊥ Is ended t u) → r ≡ C.Device → FailedDevice request parts counts later Line Is (with_cause ended r status) t u
-device_said Is ended r status request parts counts later Line t u (inl e) shown h device is =
-    failed_before request parts counts later Line Is ended r status t u (device (sym e ∙ is))
-device_said Is ended r status request parts counts later Line t u (inr (inl e)) shown h device is = absurd (let clash : C.NoMemory ≡ C.Device = sym e ∙ is in cc)
-device_said Is ended r status request parts counts later Line t u (inr (inr (e, (fault, run), line))) shown h device is =
-    telling line (quiet_stop ended.cause request counts later ⊥ (fault, run) shown)
-    (untold_run fault Is ended r status t u (subst (λ (c : Cause). CauseMeans c Is ended t u) run h))
+-- what is known of devices before the line is told
+devices_same : (k : Cause) (files : FilesOf) (counts later : PerName) (Line : Type 0) (Is : RequestOutcome → Type 0) (ended : Ended) (r : Cause) (status : ℕ) (t u : Told)
+    → DevicesMean k files counts later ⊥ Is ended t u → DevicesMean k files counts later Line Is (with_cause ended r status) t u
+devices_same C.Done files counts later Line Is ended r status t u h = h
+devices_same (C.Stopped fault) files counts later Line Is ended r status t u h = h
+devices_same C.NotBuilt files counts later Line Is ended r status t u h = h
+devices_same C.BadWords files counts later Line Is ended r status t u h = h
+devices_same (C.Refused refusal) files counts later Line Is ended r status t u h = h
+devices_same (C.OpenFailed name) files counts later Line Is ended r status t u h = h
+devices_same (C.ReadFailed name) files counts later Line Is ended r status t u h = h
+devices_same (C.WriteFailed name) files counts later Line Is ended r status t u (inl h) = inl (h.0, others_same Is counts later ended r status u h.1)
+devices_same (C.WriteFailed name) files counts later Line Is ended r status t u (inr h) = absurd h.failed
+devices_same C.NoMemory files counts later Line Is ended r status t u h = h
 
--- one of the shelf's files failed, or the line
-failed_one : (request : Option Request) (parts : List Part) (counts later : PerName) (Line : Type 0) (Is : RequestOutcome → Type 0) (ended : Ended) (t u : Told)
-    → FailedDevice request parts counts later Line Is ended t u → DeviceFailed request parts counts later ⊎ Line
-failed_one request parts counts later Line Is ended t u (opening failed same) = inl (inl failed)
-failed_one request parts counts later Line Is ended t u (creating failed) = inl (inr failed)
-failed_one request parts counts later Line Is ended t u (telling line quiet done) = inr line
+devices_run : (fault : Option Fault) (files : FilesOf) (counts later : PerName) (Is : RequestOutcome → Type 0) (ended : Ended) (t u : Told) → DevicesMean (cause_of fault) files counts later ⊥ Is ended t u
+    → OnlyReads files.rows counts later
+devices_run None files counts later Is ended t u h = h
+devices_run (Some fault) files counts later Is ended t u h = h
 
--- where no file that is created failed, but some count changed or the line's didn't, every file is as it was
-failed_files : (request : Option Request) (parts : List Part) (counts later : PerName) (Line : Type 0) (Is : RequestOutcome → Type 0) (ended : Ended) (t u : Told)
-    → FailedDevice request parts counts later Line Is ended t u → (CreateFailed (creates request parts) counts later → ⊥) → (NoCountChanged counts later → ⊥) ⊎ (Line → ⊥) → SameFiles t u
-failed_files request parts counts later Line Is ended t u (opening failed same) none other = same
-failed_files request parts counts later Line Is ended t u (creating failed) none other = absurd (none failed)
-failed_files request parts counts later Line Is ended t u (telling line quiet done) none (inl changed) = absurd (changed quiet)
-failed_files request parts counts later Line Is ended t u (telling line quiet done) none (inr told) = absurd (told line)
+devices_said : (files : FilesOf) (counts later : PerName) (Line : Type 0) (Is : RequestOutcome → Type 0) (ended : Ended) (r : Cause) (status : ℕ) (t u : Told) → ToldAs ended.cause r Line
+    → CauseMeans ended.cause Is ended t u → DevicesMean ended.cause files counts later ⊥ Is ended t u → DevicesMean r files counts later Line Is (with_cause ended r status) t u
+devices_said files counts later Line Is ended r status t u (inl e) means h =
+    subst (λ (k : Cause). DevicesMean k files counts later Line Is (with_cause ended r status) t u) (sym e) (devices_same ended.cause files counts later Line Is ended r status t u h)
+devices_said files counts later Line Is ended r status t u (inr (inl e)) means h =
+    subst (λ (k : Cause). DevicesMean k files counts later Line Is (with_cause ended r status) t u) (sym e) tt
+devices_said files counts later Line Is ended r status t u (inr (inr (e, (fault, run), line))) means h =
+    subst (λ (k : Cause). DevicesMean k files counts later Line Is (with_cause ended r status) t u) (sym e) (inr (record {
+      line = refl;
+      failed = line;
+      counted = devices_run fault files counts later Is ended t u (subst (λ (c : Cause). DevicesMean c files counts later ⊥ Is ended t u) run h);
+      ran = untold_run fault Is ended r status t u (subst (λ (c : Cause). CauseMeans c Is ended t u) run means);
+    }))
 
--- where no file failed, the request was carried out
-failed_line : (request : Option Request) (parts : List Part) (counts later : PerName) (Line : Type 0) (Is : RequestOutcome → Type 0) (ended : Ended) (t u : Told)
-    → FailedDevice request parts counts later Line Is ended t u → (DeviceFailed request parts counts later → ⊥) → ChecksTo Is t u ⊎ ((fault : Option Fault) × RunsTo fault Is ended u)
-failed_line request parts counts later Line Is ended t u (opening failed same) none = absurd (none (inl failed))
-failed_line request parts counts later Line Is ended t u (creating failed) none = absurd (none (inr failed))
-failed_line request parts counts later Line Is ended t u (telling line quiet done) none = done
+-- what is known of the program's reading
+whole_run : (fault : Option Fault) (n : List ℕ) → (cause_of fault ≡ C.ReadFailed n) ⊎ (cause_of fault ≡ C.NoMemory) → ⊥
+whole_run None n (inl e) = cc
+whole_run None n (inr e) = cc
+whole_run (Some fault) n (inl e) = cc
+whole_run (Some fault) n (inr e) = cc
+
+stopped_said : (c r : Cause) (parts : List Part) (counts later : PerName) (Line : Type 0) → ToldAs c r Line → StoppedBy c parts counts later → StoppedBy r parts counts later
+stopped_said c r parts counts later Line (inl e) h = subst (λ (k : Cause). StoppedBy k parts counts later) (sym e) h
+stopped_said c r parts counts later Line (inr (inl e)) h = subst (λ (k : Cause). StoppedBy k parts counts later) (sym e) tt
+stopped_said c r parts counts later Line (inr (inr (e, run, line))) h = subst (λ (k : Cause). StoppedBy k parts counts later) (sym e) tt
+
+whole_said : (c r : Cause) (files : FilesOf) (counts later : PerName) (t : Told) (Line : Type 0) → ToldAs c r Line → WholeReads c files counts later t → WholeReads r files counts later t
+whole_said c r files counts later t Line (inl e) h = subst (λ (k : Cause). WholeReads k files counts later t) (sym e) h
+whole_said c r files counts later t Line (inr (inl e)) h = λ n named differs. record { fails = (h n named differs).fails; answer = inr e }
+whole_said c r files counts later t Line (inr (inr (e, (fault, run), line))) h =
+    λ n named differs. absurd (whole_run fault n (subst (λ (k : Cause). (k ≡ C.ReadFailed n) ⊎ (k ≡ C.NoMemory)) run (h n named differs).answer))
+
+-- ---- where no device failed
+
+split_named : (before behind : List (List ℕ)) (name : List ℕ) (files : List (List ℕ)) → files ≡ before ++ name ∷ behind → is_named files name ≡ true
+split_named before behind name files e = ap (λ (ns : List (List ℕ)). is_named ns name) e ∙ go before
+  where
+    go : (before : List (List ℕ)) → is_named (before ++ name ∷ behind) name ≡ true
+    go [] = ap (λ (b : Bool). b || is_named behind name) (same_name name)
+    go (m ∷ before) = ap (λ (b : Bool). bytes_eq m name || b) (go before) ∙ or_true (bytes_eq m name)
+
+failed_opening : (files : FilesOf) (name : List ℕ) (counts later : PerName) → OpeningFailed files.opened name counts later → DeviceFailed files counts later
+failed_opening files name counts later h = opening name (split_named h.before h.behind name files.opened h.order) h.rose
+
+failed_creating : (files : FilesOf) (name : List ℕ) (counts later : PerName) → CreatingFailed files name counts later → DeviceFailed files counts later
+failed_creating files name counts later h = creating name (split_named h.before h.behind name files.created h.order) h.rose
+
+failed_reading : (files : FilesOf) (name : List ℕ) (counts later : PerName) → ReadingFailed files name counts later → DeviceFailed files counts later
+failed_reading files name counts later h = reading name h.whole h.rose
+
+failed_writing : (files : FilesOf) (name : List ℕ) (counts later : PerName) → WritingFailed files name counts later → DeviceFailed files counts later
+failed_writing files name counts later h = writing name (split_named h.before h.behind name files.created h.order) h.rose
+
+-- a cause that names a file, before the line is told
+abbrev NamesFile : Cause → Type 0
+NamesFile (C.OpenFailed name) = Unit {0}
+NamesFile (C.ReadFailed name) = Unit {0}
+NamesFile (C.WriteFailed name) = Unit {0}
+NamesFile _ = ⊥
+
+device_failed : (k : Cause) (files : FilesOf) (counts later : PerName) (Is : RequestOutcome → Type 0) (ended : Ended) (t u : Told) → NamesFile k → DevicesMean k files counts later ⊥ Is ended t u
+    → DeviceFailed files counts later
+device_failed (C.OpenFailed name) files counts later Is ended t u is (inl h) = failed_opening files name counts later h.0
+device_failed (C.OpenFailed name) files counts later Is ended t u is (inr h) = failed_creating files name counts later h.0
+device_failed (C.ReadFailed name) files counts later Is ended t u is h = failed_reading files name counts later h
+device_failed (C.WriteFailed name) files counts later Is ended t u is (inl h) = failed_writing files name counts later h.0
+device_failed (C.WriteFailed name) files counts later Is ended t u is (inr h) = absurd h.failed
+device_failed C.Done files counts later Is ended t u is h = absurd is
+device_failed (C.Stopped fault) files counts later Is ended t u is h = absurd is
+device_failed C.NotBuilt files counts later Is ended t u is h = absurd is
+device_failed C.BadWords files counts later Is ended t u is h = absurd is
+device_failed (C.Refused refusal) files counts later Is ended t u is h = absurd is
+device_failed C.NoMemory files counts later Is ended t u is h = absurd is
 
 pub answered_said : OneOutcomeLaw → (told now : Option Told) (request : Option Request) (ended : Ended) (r : Cause) (status : ℕ) (counts later : PerName) (Line : Type 0) → ToldAs ended.cause r Line
-    → Shown ended.cause request counts later ⊥ → WhereTold told now (Answered request ended counts later ⊥) → WhereTold told now (Answered request (with_cause ended r status) counts later Line)
-answered_said law None now request ended r status counts later Line e shown h = tt
-answered_said law (Some t) None request ended r status counts later Line e shown h = h
-answered_said law (Some t) (Some u) request ended r status counts later Line e shown h = record {
+    → WhereTold told now (Answered request ended counts later ⊥) → WhereTold told now (Answered request (with_cause ended r status) counts later Line)
+answered_said law None now request ended r status counts later Line e h = tt
+answered_said law (Some t) None request ended r status counts later Line e h = h
+answered_said law (Some t) (Some u) request ended r status counts later Line e h = record {
   means = means_said (IsOutcome t ended.arrivals request) ended r status Line t u (law request t ended.arrivals) e h.means;
   others = h.others;
   counted = h.counted;
-  device = λ is parts are. device_said (IsOutcome t ended.arrivals request) ended r status request parts counts later Line t u e shown h.means (λ device. h.device device parts are) is;
+  device = λ parts are. devices_said (files_of request parts) counts later Line (IsOutcome t ended.arrivals request) ended r status t u e h.means (h.device parts are);
+  stopped = λ parts are. stopped_said ended.cause r parts counts later Line e (h.stopped parts are);
+  whole = λ parts are. whole_said ended.cause r (files_of request parts) counts later t Line e (h.whole parts are);
   reads = h.reads;
 }
-
--- ---- counts
-
-shown_line : (c : Cause) (request : Option Request) (counts later : PerName) (Line : Type 0) → Shown c request counts later ⊥ → Shown c request counts later Line
-shown_line C.Done request counts later Line h = h
-shown_line (C.Stopped fault) request counts later Line h = h
-shown_line C.BadWords request counts later Line h = h
-shown_line (C.Refused refusal) request counts later Line h = h
-shown_line C.NotBuilt request counts later Line h = h
-shown_line C.Device request counts later Line (inl rose) = inl rose
-shown_line C.Device request counts later Line (inr (never, quiet)) = absurd never
-shown_line C.NoMemory request counts later Line h = h
-
--- what the counts show stays
-pub shown_said : (c r : Cause) (request : Option Request) (counts later : PerName) (Line : Type 0) → ToldAs c r Line → Shown c request counts later ⊥ → Shown r request counts later Line
-shown_said c r request counts later Line (inl e) h = subst (λ (x : Cause). Shown x request counts later Line) (sym e) (shown_line c request counts later Line h)
-shown_said c r request counts later Line (inr (inl e)) h = subst (λ (x : Cause). Shown x request counts later Line) (sym e) tt
-shown_said c r request counts later Line (inr (inr (e, run, line))) h =
-    subst (λ (x : Cause). Shown x request counts later Line) (sym e) (inr (line, quiet_stop c request counts later ⊥ run h))
-
-pub run_shown : (r : Cause) (request : Option Request) (counts later : PerName) (Line : Type 0) → Shown r request counts later Line → IsRun r → NoCountChanged counts later
-run_shown r request counts later Line h run = quiet_stop r request counts later Line run h
-
--- ---- what the words decide
 
 or_not_run : (expected c : Cause) → ((fault : Option Fault) → expected ≡ cause_of fault → ⊥) → IsOr expected c → IsRun c → ⊥
 or_not_run expected c other (inl e) (fault, is) = other fault (sym e ∙ is)
@@ -218,61 +253,128 @@ may_be_said request c r Line (inr (inr (e, run, line))) h = subst (MayBe request
 
 -- each answer is what the request comes to
 complete_at : (k : Cause) (Is : RequestOutcome → Type 0) (result : RequestOutcome) (Failed : Type 0) (ended : Ended) (t u : Told) → IsOne Is → CauseMeans k Is ended t u
-    → (k ≡ C.Device → Failed ⊎ ⊥) → Is result → IsAnswer result Failed ⊥ k
-complete_at C.Done Is result Failed ended t u one (inl (c, is, same)) device comes =
+    → (NamesFile k → Failed) → (NamesFile k → (program : List ℕ) → result ≡ Unreadable program → IsUnread program k) → Is result → IsAnswer result Failed ⊥ k
+complete_at C.Done Is result Failed ended t u one (inl (c, is, same, counted)) failed unread comes =
     subst (λ (o : RequestOutcome). IsAnswer o Failed ⊥ C.Done) (one (Checks c) result is comes) (λ none quiet. inl refl)
-complete_at C.Done Is result Failed ended t u one (inr (c, g, m, is, fault, run)) device comes =
+complete_at C.Done Is result Failed ended t u one (inr (c, g, m, is, fault, run)) failed unread comes =
     subst (λ (o : RequestOutcome). IsAnswer o Failed ⊥ C.Done) (one (Runs c g m) result is comes) (λ none quiet. inl (ap cause_of (sym fault)))
-complete_at (C.Stopped f) Is result Failed ended t u one (c, g, m, is, fault, run) device comes =
+complete_at (C.Stopped f) Is result Failed ended t u one (c, g, m, is, fault, run) failed unread comes =
     subst (λ (o : RequestOutcome). IsAnswer o Failed ⊥ (C.Stopped f)) (one (Runs c g m) result is comes) (λ none quiet. inl (ap cause_of (sym fault)))
-complete_at C.BadWords Is result Failed ended t u one (is, same) device comes =
+complete_at C.BadWords Is result Failed ended t u one (is, same) failed unread comes =
     subst (λ (o : RequestOutcome). IsAnswer o Failed ⊥ C.BadWords) (one NoRequest result is comes) (λ none. inl refl)
-complete_at (C.Refused r) Is result Failed ended t u one (is, same) device comes =
+complete_at (C.Refused r) Is result Failed ended t u one (is, same) failed unread comes =
     subst (λ (o : RequestOutcome). IsAnswer o Failed ⊥ (C.Refused r)) (one (Refused r) result is comes) (λ none. inl refl)
-complete_at C.NotBuilt Is result Failed ended t u one (is, same) device comes =
+complete_at C.NotBuilt Is result Failed ended t u one (is, same) failed unread comes =
     subst (λ (o : RequestOutcome). IsAnswer o Failed ⊥ C.NotBuilt) (one NotBuilt result is comes) (λ none. inl refl)
-complete_at C.Device Is NoRequest Failed ended t u one h device comes = λ none. no_failure Failed none (device refl)
-complete_at C.Device Is Unreadable Failed ended t u one h device comes = inl refl
-complete_at C.Device Is (Refused r) Failed ended t u one h device comes = λ none. no_failure Failed none (device refl)
-complete_at C.Device Is NotBuilt Failed ended t u one h device comes = λ none. no_failure Failed none (device refl)
-complete_at C.Device Is (Checks c) Failed ended t u one h device comes = λ none quiet. no_failure Failed none (device refl)
-complete_at C.Device Is (Runs c g m) Failed ended t u one h device comes = λ none quiet. no_failure Failed none (device refl)
-complete_at C.NoMemory Is NoRequest Failed ended t u one h device comes = λ none. inr refl
-complete_at C.NoMemory Is Unreadable Failed ended t u one h device comes = inr refl
-complete_at C.NoMemory Is (Refused r) Failed ended t u one h device comes = λ none. inr refl
-complete_at C.NoMemory Is NotBuilt Failed ended t u one h device comes = λ none. inr refl
-complete_at C.NoMemory Is (Checks c) Failed ended t u one h device comes = λ none quiet. inr refl
-complete_at C.NoMemory Is (Runs c g m) Failed ended t u one h device comes = λ none quiet. inr refl
+complete_at (C.OpenFailed name) Is NoRequest Failed ended t u one h failed unread comes = λ none. absurd (none (failed tt))
+complete_at (C.OpenFailed name) Is (Unreadable program) Failed ended t u one h failed unread comes = unread tt program refl
+complete_at (C.OpenFailed name) Is (Refused r) Failed ended t u one h failed unread comes = λ none. absurd (none (failed tt))
+complete_at (C.OpenFailed name) Is NotBuilt Failed ended t u one h failed unread comes = λ none. absurd (none (failed tt))
+complete_at (C.OpenFailed name) Is (Checks c) Failed ended t u one h failed unread comes = λ none quiet. absurd (none (failed tt))
+complete_at (C.OpenFailed name) Is (Runs c g m) Failed ended t u one h failed unread comes = λ none quiet. absurd (none (failed tt))
+complete_at (C.ReadFailed name) Is NoRequest Failed ended t u one h failed unread comes = λ none. absurd (none (failed tt))
+complete_at (C.ReadFailed name) Is (Unreadable program) Failed ended t u one h failed unread comes = unread tt program refl
+complete_at (C.ReadFailed name) Is (Refused r) Failed ended t u one h failed unread comes = λ none. absurd (none (failed tt))
+complete_at (C.ReadFailed name) Is NotBuilt Failed ended t u one h failed unread comes = λ none. absurd (none (failed tt))
+complete_at (C.ReadFailed name) Is (Checks c) Failed ended t u one h failed unread comes = λ none quiet. absurd (none (failed tt))
+complete_at (C.ReadFailed name) Is (Runs c g m) Failed ended t u one h failed unread comes = λ none quiet. absurd (none (failed tt))
+complete_at (C.WriteFailed name) Is NoRequest Failed ended t u one h failed unread comes = λ none. absurd (none (failed tt))
+complete_at (C.WriteFailed name) Is (Unreadable program) Failed ended t u one h failed unread comes = unread tt program refl
+complete_at (C.WriteFailed name) Is (Refused r) Failed ended t u one h failed unread comes = λ none. absurd (none (failed tt))
+complete_at (C.WriteFailed name) Is NotBuilt Failed ended t u one h failed unread comes = λ none. absurd (none (failed tt))
+complete_at (C.WriteFailed name) Is (Checks c) Failed ended t u one h failed unread comes = λ none quiet. absurd (none (failed tt))
+complete_at (C.WriteFailed name) Is (Runs c g m) Failed ended t u one h failed unread comes = λ none quiet. absurd (none (failed tt))
+complete_at C.NoMemory Is NoRequest Failed ended t u one h failed unread comes = λ none. inr refl
+complete_at C.NoMemory Is (Unreadable program) Failed ended t u one h failed unread comes = inr (inr refl)
+complete_at C.NoMemory Is (Refused r) Failed ended t u one h failed unread comes = λ none. inr refl
+complete_at C.NoMemory Is NotBuilt Failed ended t u one h failed unread comes = λ none. inr refl
+complete_at C.NoMemory Is (Checks c) Failed ended t u one h failed unread comes = λ none quiet. inr refl
+complete_at C.NoMemory Is (Runs c g m) Failed ended t u one h failed unread comes = λ none quiet. inr refl
 
 refused_not_run : (refusal : Refusal) (fault : Option Fault) → C.Refused refusal ≡ cause_of fault → ⊥
 refused_not_run refusal None e = cc
 refused_not_run refusal (Some fault) e = cc
 
+unread_not_run : (p : List ℕ) (c : Cause) → IsUnread p c → IsRun c → ⊥
+unread_not_run p c (inl e) (None, is) = let h : C.OpenFailed p ≡ C.Done = sym e ∙ is in cc
+unread_not_run p c (inl e) (Some fault, is) = let h : C.OpenFailed p ≡ C.Stopped fault = sym e ∙ is in cc
+unread_not_run p c (inr (inl e)) (None, is) = let h : C.ReadFailed p ≡ C.Done = sym e ∙ is in cc
+unread_not_run p c (inr (inl e)) (Some fault, is) = let h : C.ReadFailed p ≡ C.Stopped fault = sym e ∙ is in cc
+unread_not_run p c (inr (inr e)) (None, is) = let h : C.NoMemory ≡ C.Done = sym e ∙ is in cc
+unread_not_run p c (inr (inr e)) (Some fault, is) = let h : C.NoMemory ≡ C.Stopped fault = sym e ∙ is in cc
+
 -- it stays so once it is told
 answer_said : (result : RequestOutcome) (Failed Line : Type 0) (c r : Cause) → ToldAs c r Line → IsAnswer result Failed ⊥ c → IsAnswer result Failed Line r
 answer_said NoRequest Failed Line c r (inl e) h = λ none. subst (IsOr C.BadWords) (sym e) (h none)
-answer_said Unreadable Failed Line c r (inl e) h = subst (IsOr C.Device) (sym e) h
+answer_said (Unreadable p) Failed Line c r (inl e) h = subst (IsUnread p) (sym e) h
 answer_said (Refused s) Failed Line c r (inl e) h = λ none. subst (IsOr (C.Refused s)) (sym e) (h none)
 answer_said NotBuilt Failed Line c r (inl e) h = λ none. subst (IsOr C.NotBuilt) (sym e) (h none)
 answer_said (Checks k) Failed Line c r (inl e) h = λ none quiet. subst (IsOr C.Done) (sym e) (h none (λ x. x))
 answer_said (Runs k g m) Failed Line c r (inl e) h = λ none quiet. subst (IsOr (cause_of (run_fault g m))) (sym e) (h none (λ x. x))
 answer_said NoRequest Failed Line c r (inr (inl e)) h = λ none. inr e
-answer_said Unreadable Failed Line c r (inr (inl e)) h = inr e
+answer_said (Unreadable p) Failed Line c r (inr (inl e)) h = inr (inr e)
 answer_said (Refused s) Failed Line c r (inr (inl e)) h = λ none. inr e
 answer_said NotBuilt Failed Line c r (inr (inl e)) h = λ none. inr e
 answer_said (Checks k) Failed Line c r (inr (inl e)) h = λ none quiet. inr e
 answer_said (Runs k g m) Failed Line c r (inr (inl e)) h = λ none quiet. inr e
 answer_said NoRequest Failed Line c r (inr (inr (e, run, line))) h = λ none. absurd (or_not_run C.BadWords c words_not_run (h none) run)
-answer_said Unreadable Failed Line c r (inr (inr (e, run, line))) h = inl e
+answer_said (Unreadable p) Failed Line c r (inr (inr (e, run, line))) h = absurd (unread_not_run p c h run)
 answer_said (Refused s) Failed Line c r (inr (inr (e, run, line))) h = λ none. absurd (or_not_run (C.Refused s) c (refused_not_run s) (h none) run)
 answer_said NotBuilt Failed Line c r (inr (inr (e, run, line))) h = λ none. absurd (or_not_run C.NotBuilt c part_not_run (h none) run)
 answer_said (Checks k) Failed Line c r (inr (inr (e, run, line))) h = λ none quiet. absurd (quiet line)
 answer_said (Runs k g m) Failed Line c r (inr (inr (e, run, line))) h = λ none quiet. absurd (quiet line)
+
+-- ---- a program that can't be read
+
+same_first : (program name : List ℕ) (before behind : List (List ℕ)) → program ∷ [] ≡ before ++ name ∷ behind → name ≡ program
+same_first program name [] behind e = cc
+same_first program name (m ∷ before) behind e = absurd (let bad = ap length e in let more = length-append before (name ∷ behind) in omega (arith, bad, more))
+
+none_split : (name : List ℕ) (before behind : List (List ℕ)) → [] ≡ before ++ name ∷ behind → ⊥
+none_split name before behind e = let bad = ap length e in let more = length-append before (name ∷ behind) in omega (arith, bad, more)
+
+-- a request that is built, with no operators: it opens its program alone, and creates nothing
+program_alone : (request : Request) (program : List ℕ) → is_built request ≡ true → program_of request ≡ Some program
+    → (opens (Some request) [] ≡ program ∷ []) × (whole_files (Some request) ≡ program ∷ []) × (creates (Some request) [] ≡ [])
+program_alone (R.Check p) program built of = let same : p ≡ program = cc in (ap (λ (q : List ℕ). q ∷ []) same, ap (λ (q : List ℕ). q ∷ []) same, refl)
+program_alone (R.Run p options) program built of = let same : p ≡ program = cc in (ap (λ (q : List ℕ). q ∷ []) same, ap (λ (q : List ℕ). q ∷ []) same, creates_sinks p options [] built)
+program_alone (R.Plan p) program built of = absurd (let bad : false ≡ true = built in cc)
+program_alone (R.Replay p arrivals) program built of = absurd (let bad : false ≡ true = built in cc)
+program_alone (R.Simulate p width schedule steps) program built of = absurd (let bad : false ≡ true = built in cc)
+program_alone (R.Make name rows start) program built of = absurd (let bad : false ≡ true = built in cc)
+
+unread_cause : (k : Cause) (request : Request) (program : List ℕ) (counts later : PerName) (Is : RequestOutcome → Type 0) (ended : Ended) (t u : Told) → is_built request ≡ true → program_of request ≡ Some program
+    → NamesFile k → DevicesMean k (files_of (Some request) []) counts later ⊥ Is ended t u → IsUnread program k
+unread_cause (C.OpenFailed name) request program counts later Is ended t u built of is (inl h) =
+    inl (ap (λ (n : List ℕ). C.OpenFailed n) (same_first program name h.0.before h.0.behind (sym (program_alone request program built of).0 ∙ h.0.order)))
+unread_cause (C.OpenFailed name) request program counts later Is ended t u built of is (inr h) =
+    absurd (none_split name h.0.before h.0.behind (sym (program_alone request program built of).2 ∙ h.0.order))
+unread_cause (C.ReadFailed name) request program counts later Is ended t u built of is h =
+    inr (inl (ap (λ (n : List ℕ). C.ReadFailed n) (sym (named_one program name (sym (ap (λ (ns : List (List ℕ)). is_named ns name) (program_alone request program built of).1) ∙ h.whole)))))
+unread_cause (C.WriteFailed name) request program counts later Is ended t u built of is (inl h) =
+    absurd (none_split name h.0.before h.0.behind (sym (program_alone request program built of).2 ∙ h.0.order))
+unread_cause (C.WriteFailed name) request program counts later Is ended t u built of is (inr h) = absurd h.failed
+unread_cause C.Done request program counts later Is ended t u built of is h = absurd is
+unread_cause (C.Stopped fault) request program counts later Is ended t u built of is h = absurd is
+unread_cause C.NotBuilt request program counts later Is ended t u built of is h = absurd is
+unread_cause C.BadWords request program counts later Is ended t u built of is h = absurd is
+unread_cause (C.Refused refusal) request program counts later Is ended t u built of is h = absurd is
+unread_cause C.NoMemory request program counts later Is ended t u built of is h = absurd is
+
+-- one that names no file is no answer to it
+unread_told : (k : Cause) (request : Option Request) (program : List ℕ) (counts later : PerName) (ended : Ended) (t u : Told) → NamesFile k → IsUnreadable t request program
+    → ((parts : List Part) → ArePartsIn t request parts → DevicesMean k (files_of request parts) counts later ⊥ (IsOutcome t ended.arrivals request) ended t u) → IsUnread program k
+unread_told k request program counts later ended t u is bad device =
+    unread_cause k bad.asked program counts later (IsOutcome t ended.arrivals request) ended t u bad.built bad.of is
+    (subst (λ (o : Option Request). DevicesMean k (files_of o []) counts later ⊥ (IsOutcome t ended.arrivals request) ended t u) bad.is
+    (device [] (subst (λ (o : Option Request). ArePartsIn t o []) (sym bad.is) (of_unreadable bad.asked program bad.of bad.fault))))
 
 pub complete : OneOutcomeLaw → (told now : Option Told) (request : Option Request) (ended : Ended) (r : Cause) (status : ℕ) (counts later : PerName) (Line : Type 0) → ToldAs ended.cause r Line
     → WhereTold told now (Answered request ended counts later ⊥) → IfSome told (IsComplete request (with_cause ended r status) counts later Line)
 complete law None now request ended r status counts later Line e h = tt
 complete law (Some t) None request ended r status counts later Line e h = absurd h
 complete law (Some t) (Some u) request ended r status counts later Line e h = λ result comes parts are.
-    answer_said result (DeviceFailed request parts counts later) Line ended.cause r e
-    (complete_at ended.cause (IsOutcome t ended.arrivals request) result (DeviceFailed request parts counts later) ended t u (law request t ended.arrivals) h.means (λ device. failed_one request parts counts later ⊥ (IsOutcome t ended.arrivals request) ended t u (h.device device parts are)) comes)
+    answer_said result (DeviceFailed (files_of request parts) counts later) Line ended.cause r e
+    (complete_at ended.cause (IsOutcome t ended.arrivals request) result (DeviceFailed (files_of request parts) counts later) ended t u (law request t ended.arrivals) h.means
+    (λ named. device_failed ended.cause (files_of request parts) counts later (IsOutcome t ended.arrivals request) ended t u named (h.device parts are))
+    (λ named program is. unread_told ended.cause request program counts later ended t u named (unread t ended.arrivals request program (subst (IsOutcome t ended.arrivals request) is comes)) h.device) comes)

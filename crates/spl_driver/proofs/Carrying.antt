@@ -1,15 +1,12 @@
 -- What is done with an accepted program, by its request.
 use Rattle.std.proofs.Common.{◌≡◌, ◌∙◌, append-nil, ℕ, Bool, true, false, List, [], ◌∷◌, ◌++◌, refl, sym, ap, subst, inl, inr, ◌⊎◌, Option, Some, None, Result, Ok, Err}
-use Rattle.std.specs.Prelude.{IfSome, IfOk, ◌||◌, ◌&&◌, not, map, if◌then◌else◌}
-use Rattle.std.specs.Option.{option_map_or}
+use Rattle.std.specs.Prelude.{IfSome, IfOk, ◌||◌, ◌&&◌, not, if◌then◌else◌}
 use Rattle.spl_value.specs.declared.memory.NoMemory.{NoMemory}
 use Rattle.feed_pour.specs.Counts.{PerName}
 use Rattle.feed_pour.specs.Contents.{Told, WhereTold}
 use Rattle.language_model.specs.declared.checked.Part.{Part}
-use Rattle.stream_model.specs.declared.record.ArrivalList.{ArrivalList}
 use Rattle.stream_model.specs.declared.record.Arrivals.{Arrivals}
 use Rattle.stream_model.specs.CheckedMeaning.{graph_of}
-use Rattle.stream_model.specs.Meaning.{Graph}
 use Rattle.language_model.specs.CheckedGraph.{CheckedGraph}
 use Rattle.run_report.specs.declared.cause.Cause.{Cause}
 use Rattle.run_report.specs.declared.cause.Cause.TheVariants as C
@@ -18,45 +15,60 @@ use Rattle.command_line.specs.declared.request.Request.{Request}
 use Rattle.command_line.specs.declared.request.Request.TheVariants as R
 use Rattle.command_line.specs.declared.request.RunOptions.{RunOptions}
 use Rattle.check_laws.specs.Files.{source_files, sink_files, is_named}
-use Rattle.spl_driver.specs.Built.{is_built, is_built_graph, is_built_now, is_plain, is_given}
-use Rattle.spl_driver.specs.Files.{opens, creates, if_given, built_parts}
-use Rattle.spl_driver.specs.Outcome.{NotBuilt, Checks, Runs, meant, with_sources, with_graph}
-use Rattle.spl_driver.specs.Answer.{CauseMeans, OpenFailed, CreateFailed}
+use Rattle.source_rows.specs.Counting.{OpeningFailed}
+use Rattle.spl_driver.specs.Built.{is_built, is_built_now, is_plain, is_given}
+use Rattle.spl_driver.specs.Files.{FilesOf, files_of, creates, if_given, built_parts}
+use Rattle.spl_driver.specs.Outcome.{RequestOutcome, NotBuilt, Checks, Runs, meant, run_outcome}
+use Rattle.spl_driver.specs.Answer.{CauseMeans, CreatingFailed, DevicesMean, DevicesShow, NoCountChanged, StoppedBy, TellingFailed, WritingFailed, uncounted}
 use Rattle.spl_driver.specs.Lines.{IsLine}
-use Rattle.spl_driver.specs.Steps.{IsRunOf, IsAcceptedOutcome, IsToldAcceptedOutcome, CountsShow, FilesShow}
+use Rattle.spl_driver.specs.Steps.{run_files, RunComes, IsRunOf, IsAcceptedOutcome, IsToldAcceptedOutcome, CountsShow, FilesShow}
 use Rattle.spl_driver.specs.declared.ended.Ended.{Ended}
-use Rattle.spl_driver.proofs.Running.{not_built_files}
-use Rattle.spl_driver.proofs.Standing.{told_same}
-use Rattle.spl_value.proofs.Bools.{or_last as or_here}
+use Rattle.spl_driver.proofs.Fetching.{quiet_only}
+use Rattle.spl_driver.proofs.Showing.{quiet_shows}
+use Rattle.spl_driver.proofs.Standing.{IsQuiet, IsUnrun, quiet_stopped}
+use Rattle.std.specs.Str.{bytes_eq}
+use Rattle.std.proofs.lemmas.Bool.{or_parts}
+
+quiet_counts : (cause k : Cause) (files : FilesOf) (counts : PerName) → cause ≡ k → IsQuiet k → (k ≡ C.BadWords → ⊥) → IsUnrun k → (parts : List Part) → CountsShow cause parts files counts counts
+quiet_counts cause k files counts is quiet words unrun parts = record {
+  words = λ e. words (sym is ∙ e);
+  others = λ n named. refl;
+  reading = λ n named. refl;
+  device = subst (λ (x : Cause). DevicesShow x files counts counts) (sym is) (quiet_shows k files counts counts quiet (λ n. refl));
+  stopped = subst (λ (x : Cause). StoppedBy x parts counts counts) (sym is) (quiet_stopped k parts counts counts unrun);
+}
 
 -- ---- a check
 
-check_files : (told : Option Told) (p : List ℕ) (c : CheckedGraph) (ended : Ended) (counts : PerName) → ended.cause ≡ C.Done
-    → WhereTold told told (λ t u. FilesShow (IsAcceptedOutcome (R.Check p) c ended.arrivals t) (creates (Some (R.Check p)) (built_parts c)) ended counts counts t u)
-check_files None p c ended counts is = tt
-check_files (Some t) p c ended counts is = record {
-  means = subst (λ (k : Cause). CauseMeans k (IsAcceptedOutcome (R.Check p) c ended.arrivals t) ended t t) (sym is) (inl (c, refl, λ n. refl));
+check_files : (told : Option Told) (p : List ℕ) (c : CheckedGraph) (ended : Ended) (counts : PerName) → ended.cause ≡ C.Done → ended.counts ≡ uncounted
+    → WhereTold told told (λ t u. FilesShow (IsAcceptedOutcome (R.Check p) c ended.arrivals t) (files_of (Some (R.Check p)) (built_parts c)) ended counts counts t u)
+check_files None p c ended counts is none = tt
+check_files (Some t) p c ended counts is none = record {
+  means = subst (λ (k : Cause). CauseMeans k (IsAcceptedOutcome (R.Check p) c ended.arrivals t) ended t t) (sym is) (inl (c, refl, (λ n. refl), none));
   others = λ n named. refl;
-  last = λ device. inl (λ n. refl);
+  device = subst (λ (k : Cause). DevicesMean k (files_of (Some (R.Check p)) (built_parts c)) counts counts ⊥ (IsAcceptedOutcome (R.Check p) c ended.arrivals t) ended t t) (sym is) (quiet_only [] counts counts (λ n. refl));
   reads = λ n differs. absurd (differs refl);
 }
 
-pub checked_files : (told : Option Told) (request : Request) (p : List ℕ) (c : CheckedGraph) (ended : Ended) (counts : PerName) → request ≡ R.Check p → ended.cause ≡ C.Done
-    → WhereTold told told (λ t u. FilesShow (IsAcceptedOutcome request c ended.arrivals t) (creates (Some request) (built_parts c)) ended counts counts t u)
-checked_files told request p c ended counts e is =
-    subst (λ (q : Request). WhereTold told told (λ t u. FilesShow (IsAcceptedOutcome q c ended.arrivals t) (creates (Some q) (built_parts c)) ended counts counts t u)) (sym e)
-    (check_files told p c ended counts is)
+pub checked_files : (told : Option Told) (request : Request) (p : List ℕ) (c : CheckedGraph) (ended : Ended) (counts : PerName) → request ≡ R.Check p → ended.cause ≡ C.Done → ended.counts ≡ uncounted
+    → WhereTold told told (λ t u. FilesShow (IsAcceptedOutcome request c ended.arrivals t) (files_of (Some request) (built_parts c)) ended counts counts t u)
+checked_files told request p c ended counts e is none =
+    subst (λ (q : Request). WhereTold told told (λ t u. FilesShow (IsAcceptedOutcome q c ended.arrivals t) (files_of (Some q) (built_parts c)) ended counts counts t u)) (sym e)
+    (check_files told p c ended counts is none)
 
-check_comes : (told : Option Told) (p : List ℕ) (c : CheckedGraph) (arrivals : Arrivals) → IsToldAcceptedOutcome (R.Check p) c arrivals told (Checks c)
-check_comes None p c arrivals = tt
-check_comes (Some t) p c arrivals = refl
+pub checked_counts : (cause : Cause) (request : Request) (p : List ℕ) (c : CheckedGraph) (counts : PerName) → request ≡ R.Check p → cause ≡ C.Done → CountsShow cause (built_parts c) (files_of (Some request) (built_parts c)) counts counts
+checked_counts cause request p c counts e is = quiet_counts cause C.Done (files_of (Some request) (built_parts c)) counts is tt (λ bad. cc) tt (built_parts c)
 
-pub checked_line : (told : Option Told) (request : Request) (p : List ℕ) (c : CheckedGraph) (ended : Ended) (line : Result (List ℕ) NoMemory) → request ≡ R.Check p → ended.cause ≡ C.Done
-    → IfOk line (λ l. l ≡ check_text c) → IfOk line (IsLine ended.cause (IsToldAcceptedOutcome request c ended.arrivals told))
-checked_line told request p c ended (Err x) e is h = tt
-checked_line told request p c ended (Ok line) e is h =
-    subst (λ (k : Cause). IsLine k (IsToldAcceptedOutcome request c ended.arrivals told) line) (sym is)
-    (subst (λ (q : Request). IsLine C.Done (IsToldAcceptedOutcome q c ended.arrivals told) line) (sym e) (Checks c, check_comes told p c ended.arrivals, refl, h))
+check_comes : (told : Option Told) (p : List ℕ) (c : CheckedGraph) (arrivals : Arrivals) (counts now : PerName) → IsToldAcceptedOutcome (R.Check p) c arrivals told counts now (Checks c)
+check_comes None p c arrivals counts now = (refl, tt)
+check_comes (Some t) p c arrivals counts now = (refl, refl)
+
+pub checked_line : (told : Option Told) (request : Request) (p : List ℕ) (c : CheckedGraph) (ended : Ended) (line : Result (List ℕ) NoMemory) (counts now : PerName) → request ≡ R.Check p → ended.cause ≡ C.Done
+    → IfOk line (λ l. l ≡ check_text c) → IfOk line (IsLine ended.cause (IsToldAcceptedOutcome request c ended.arrivals told counts now))
+checked_line told request p c ended (Err x) counts now e is h = tt
+checked_line told request p c ended (Ok line) counts now e is h =
+    subst (λ (k : Cause). IsLine k (IsToldAcceptedOutcome request c ended.arrivals told counts now) line) (sym is)
+    (subst (λ (q : Request). IsLine C.Done (IsToldAcceptedOutcome q c ended.arrivals told counts now) line) (sym e) (Checks c, check_comes told p c ended.arrivals counts now, refl, h))
 
 -- ---- a run
 
@@ -76,7 +88,7 @@ all_parts : (c : CheckedGraph) → is_built_now c ≡ true → built_parts c ≡
 all_parts c built = ap (λ (b : Bool). if b then c.parts else []) built
 
 -- a run without options creates the sinks alone
-creates_sinks : (p : List ℕ) (options : RunOptions) (parts : List Part) → is_plain options ≡ true → creates (Some (R.Run p options)) parts ≡ sink_files parts
+pub creates_sinks : (p : List ℕ) (options : RunOptions) (parts : List Part) → is_plain options ≡ true → creates (Some (R.Run p options)) parts ≡ sink_files parts
 creates_sinks p options parts plain =
     ap (λ (ns : List (List ℕ)). sink_files parts ++ ns) (none_given options.arrivals (fourth (is_given options.width) (is_given options.workers) (is_given options.capacity) (is_given options.arrivals) options.counts plain)) ∙ append-nil (sink_files parts)
 
@@ -87,47 +99,138 @@ plain_run request p options e built = sym (ap is_built e) ∙ built
 run_creates : (p : List ℕ) (options : RunOptions) (c : CheckedGraph) → is_plain options ≡ true → is_built_now c ≡ true → creates (Some (R.Run p options)) (built_parts c) ≡ sink_files c.parts
 run_creates p options c plain built = creates_sinks p options (built_parts c) plain ∙ ap sink_files (all_parts c built)
 
+-- the files of a run are those of its sources and sinks, with the program in front
+run_files_of : (p : List ℕ) (options : RunOptions) (c : CheckedGraph) → is_plain options ≡ true → is_built_now c ≡ true
+    → files_of (Some (R.Run p options)) (built_parts c) ≡ record { opened = p ∷ source_files c.parts; whole = p ∷ []; rows = source_files c.parts; created = sink_files c.parts }
+run_files_of p options c plain built =
+    let parts = all_parts c built in
+    let made = run_creates p options c plain built in
+    λ i. record { opened = p ∷ source_files (parts i); whole = p ∷ []; rows = source_files (parts i); created = made i }
+
+abbrev with_program : List ℕ → CheckedGraph → FilesOf
+with_program p c = record { opened = p ∷ source_files c.parts; whole = p ∷ []; rows = source_files c.parts; created = sink_files c.parts }
+
+front_not : (p n : List ℕ) (names : List (List ℕ)) → is_named (p ∷ names) n ≡ false → is_named names n ≡ false
+front_not p n names e = (or_parts (bytes_eq p n) (is_named names n) e).1
+
+opening_wider : (p name : List ℕ) (c : CheckedGraph) (old new : PerName) → OpeningFailed (run_files c).opened name old new → OpeningFailed (with_program p c).opened name old new
+opening_wider p name c old new h = record {
+  before = p ∷ h.before;
+  behind = h.behind;
+  order = ap (λ (ns : List (List ℕ)). p ∷ ns) h.order;
+  rose = h.rose;
+  later = λ n free other. h.later n (front_not p n h.before free) other;
+  others = h.others;
+}
+
+creating_wider : (p name : List ℕ) (c : CheckedGraph) (old new : PerName) → CreatingFailed (run_files c) name old new → CreatingFailed (with_program p c) name old new
+creating_wider p name c old new h = record {
+  before = h.before;
+  behind = h.behind;
+  order = h.order;
+  rose = h.rose;
+  later = λ n free other. h.later n (front_not p n (source_files c.parts ++ h.before) free) other;
+  creating = h.creating;
+  opening = h.opening;
+}
+
+writing_wider : (p name : List ℕ) (c : CheckedGraph) (old new : PerName) → WritingFailed (run_files c) name old new → WritingFailed (with_program p c) name old new
+writing_wider p name c old new h =
+    record { before = h.before; behind = h.behind; order = h.order; rose = h.rose; first = h.first; others = h.others; creating = h.creating; opening = h.opening }
+
+devices_wider : (cause : Cause) (p : List ℕ) (c : CheckedGraph) (old new : PerName) → DevicesShow cause (run_files c) old new → DevicesShow cause (with_program p c) old new
+devices_wider C.Done p c old new h = h
+devices_wider (C.Stopped fault) p c old new h = h
+devices_wider C.NotBuilt p c old new h = h
+devices_wider C.BadWords p c old new h = h
+devices_wider (C.Refused refusal) p c old new h = h
+devices_wider (C.OpenFailed name) p c old new (inl h) = inl (opening_wider p name c old new h)
+devices_wider (C.OpenFailed name) p c old new (inr h) = inr (creating_wider p name c old new h)
+devices_wider (C.ReadFailed name) p c old new h = absurd (let bad : false ≡ true = h.whole in cc)
+devices_wider (C.WriteFailed name) p c old new h = writing_wider p name c old new h
+devices_wider C.NoMemory p c old new h = tt
+
+telling_wider : (p name : List ℕ) (c : CheckedGraph) (counts now : PerName) (Is : RequestOutcome → Type 0) (ended : Ended) (t u : Told) → TellingFailed (run_files c) name counts now ⊥ Is ended t u
+    → TellingFailed (with_program p c) name counts now ⊥ Is ended t u
+telling_wider p name c counts now Is ended t u h = absurd h.failed
+
+means_wider : (cause : Cause) (p : List ℕ) (c : CheckedGraph) (counts now : PerName) (Is : RequestOutcome → Type 0) (ended : Ended) (t u : Told) → DevicesMean cause (run_files c) counts now ⊥ Is ended t u
+    → DevicesMean cause (with_program p c) counts now ⊥ Is ended t u
+unfolding creating_wider
+means_wider C.Done p c counts now Is ended t u h = h
+means_wider (C.Stopped fault) p c counts now Is ended t u h = h
+means_wider C.NotBuilt p c counts now Is ended t u h = h
+means_wider C.BadWords p c counts now Is ended t u h = h
+means_wider (C.Refused refusal) p c counts now Is ended t u h = h
+means_wider (C.OpenFailed name) p c counts now Is ended t u (inl h) = inl (opening_wider p name c counts now h.0, h.1)
+means_wider (C.OpenFailed name) p c counts now Is ended t u (inr h) = inr (creating_wider p name c counts now h.0, h.1)
+means_wider (C.ReadFailed name) p c counts now Is ended t u h = absurd (let bad : false ≡ true = h.whole in cc)
+means_wider (C.WriteFailed name) p c counts now Is ended t u (inl h) = inl (writing_wider p name c counts now h.0, h.1)
+means_wider (C.WriteFailed name) p c counts now Is ended t u (inr h) = inr (telling_wider p name c counts now Is ended t u h)
+means_wider C.NoMemory p c counts now Is ended t u h = tt
+
 pub ran_files : (told now : Option Told) (request : Request) (p : List ℕ) (options : RunOptions) (c : CheckedGraph) (ended : Ended) (counts later : PerName) → request ≡ R.Run p options
-    → is_built request ≡ true → is_built_now c ≡ true → WhereTold told now (λ t u. FilesShow (IsRunOf c ended.arrivals t) (sink_files c.parts) ended counts later t u)
-    → WhereTold told now (λ t u. FilesShow (IsAcceptedOutcome request c ended.arrivals t) (creates (Some request) (built_parts c)) ended counts later t u)
+    → is_built request ≡ true → is_built_now c ≡ true → WhereTold told now (λ t u. FilesShow (IsRunOf c ended.arrivals t) (run_files c) ended counts later t u)
+    → WhereTold told now (λ t u. FilesShow (IsAcceptedOutcome request c ended.arrivals t) (files_of (Some request) (built_parts c)) ended counts later t u)
 ran_files told now request p options c ended counts later e built graph h =
-    subst (λ (q : Request). WhereTold told now (λ t u. FilesShow (IsAcceptedOutcome q c ended.arrivals t) (creates (Some q) (built_parts c)) ended counts later t u)) (sym e)
-    (subst (λ (ns : List (List ℕ)). WhereTold told now (λ t u. FilesShow (IsRunOf c ended.arrivals t) ns ended counts later t u))
-    (sym (run_creates p options c (plain_run request p options e built) graph)) h)
+    subst (λ (q : Request). WhereTold told now (λ t u. FilesShow (IsAcceptedOutcome q c ended.arrivals t) (files_of (Some q) (built_parts c)) ended counts later t u)) (sym e)
+    (subst (λ (files : FilesOf). WhereTold told now (λ t u. FilesShow (IsRunOf c ended.arrivals t) files ended counts later t u))
+    (sym (run_files_of p options c (plain_run request p options e built) graph)) (wider told now h))
+  where
+    wider : (told now : Option Told) → WhereTold told now (λ t u. FilesShow (IsRunOf c ended.arrivals t) (run_files c) ended counts later t u)
+        → WhereTold told now (λ t u. FilesShow (IsRunOf c ended.arrivals t) (with_program p c) ended counts later t u)
+    wider None now h = tt
+    wider (Some t) None h = absurd h
+    wider (Some t) (Some u) h = record {
+      means = h.means;
+      others = h.others;
+      device = means_wider ended.cause p c counts later (IsRunOf c ended.arrivals t) ended t u h.device;
+      reads = h.reads;
+    }
 
 or_rest : (a b c : Bool) → ((a || b) || c) ≡ false → (b || c) ≡ false
 or_rest true b c e = cc
 or_rest false b c e = e
 
 pub ran_counts : (request : Request) (p : List ℕ) (options : RunOptions) (c : CheckedGraph) (cause : Cause) (old new : PerName) → request ≡ R.Run p options → is_built request ≡ true → is_built_now c ≡ true
-    → CountsShow cause (source_files c.parts) (sink_files c.parts) old new → CountsShow cause (opens (Some request) (built_parts c)) (creates (Some request) (built_parts c)) old new
+    → CountsShow cause c.parts (run_files c) old new → CountsShow cause (built_parts c) (files_of (Some request) (built_parts c)) old new
 ran_counts request p options c cause old new e built graph h =
-    subst (λ (q : Request). CountsShow cause (opens (Some q) (built_parts c)) (creates (Some q) (built_parts c)) old new) (sym e)
-    (subst (λ (ns : List (List ℕ)). CountsShow cause (p ∷ source_files (built_parts c)) ns old new) (sym (run_creates p options c (plain_run request p options e built) graph))
-    (subst (λ (parts : List Part). CountsShow cause (p ∷ source_files parts) (sink_files c.parts) old new) (sym (all_parts c graph)) (record {
+    subst (λ (q : Request). CountsShow cause (built_parts c) (files_of (Some q) (built_parts c)) old new) (sym e)
+    (subst (λ (files : FilesOf). CountsShow cause (built_parts c) files old new) (sym (run_files_of p options c (plain_run request p options e built) graph)) (record {
       words = h.words;
       others = λ n named. h.others n (or_rest _ (is_named (source_files c.parts) n) (is_named (sink_files c.parts) n) named);
-      quiet = h.quiet;
-      device = λ device. wider (h.device device);
-    })))
-  where
-    wider : OpenFailed (source_files c.parts) old new ⊎ CreateFailed (sink_files c.parts) old new → OpenFailed (p ∷ source_files c.parts) old new ⊎ CreateFailed (sink_files c.parts) old new
-    wider (inl (n, named, rose)) = inl (n, or_here _ (is_named (source_files c.parts) n) named, rose)
-    wider (inr failed) = inr failed
+      reading = h.reading;
+      device = devices_wider cause p c old new h.device;
+      stopped = subst (λ (ps : List Part). StoppedBy cause ps old new) (sym (all_parts c graph)) h.stopped;
+    }))
+
+-- the line of a run
+pub ran_line : (told : Option Told) (request : Request) (p : List ℕ) (options : RunOptions) (c : CheckedGraph) (ended : Ended) (line : Result (List ℕ) NoMemory) (counts now : PerName) → request ≡ R.Run p options
+    → IfOk line (IsLine ended.cause (RunComes c ended.arrivals told counts now)) → IfOk line (IsLine ended.cause (IsToldAcceptedOutcome request c ended.arrivals told counts now))
+ran_line told request p options c ended line counts now e h = subst (λ (q : Request). IfOk line (IsLine ended.cause (IsToldAcceptedOutcome q c ended.arrivals told counts now))) (sym e) h
 
 -- ---- a run of a graph that isn't built
 
-not_built_graph : (c : CheckedGraph) (t : Told) (lists : List ArrivalList) → is_built_now c ≡ false → with_graph c t lists (graph_of c) ≡ NotBuilt
-not_built_graph c t lists other =
-    ap (λ (b : Bool). if b then with_sources (map t.script (source_files c.parts)) (Runs c (graph_of c) (meant (graph_of c) t lists)) else NotBuilt) other
+not_built_graph : (c : CheckedGraph) (t : Told) (arrivals : Arrivals) → is_built_now c ≡ false → run_outcome c t arrivals ≡ NotBuilt
+not_built_graph c t arrivals other = ap (λ (b : Bool). if b then Runs c (graph_of c) (meant (graph_of c) t arrivals.lists) else NotBuilt) other
 
-unbuilt_told : (told : Option Told) (c : CheckedGraph) → is_built_now c ≡ false → IfSome told (λ t. (lists : List ArrivalList) → with_graph c t lists (graph_of c) ≡ NotBuilt)
-unbuilt_told None c other = tt
-unbuilt_told (Some t) c other = λ lists. not_built_graph c t lists other
+unbuilt_run : (told : Option Told) (p : List ℕ) (options : RunOptions) (c : CheckedGraph) (ended : Ended) (counts : PerName) → is_built_now c ≡ false → ended.cause ≡ C.NotBuilt
+    → WhereTold told told (λ t u. FilesShow (IsAcceptedOutcome (R.Run p options) c ended.arrivals t) (files_of (Some (R.Run p options)) (built_parts c)) ended counts counts t u)
+unbuilt_run None p options c ended counts other is = tt
+unbuilt_run (Some t) p options c ended counts other is = record {
+  means = subst (λ (k : Cause). CauseMeans k (IsAcceptedOutcome (R.Run p options) c ended.arrivals t) ended t t) (sym is) (sym (not_built_graph c t ended.arrivals other), (λ n. refl));
+  others = λ n named. refl;
+  device = subst (λ (k : Cause). DevicesMean k (files_of (Some (R.Run p options)) (built_parts c)) counts counts ⊥ (IsAcceptedOutcome (R.Run p options) c ended.arrivals t) ended t t) (sym is)
+      (λ n. refl);
+  reads = λ n differs. absurd (differs refl);
+}
 
 pub unbuilt_files : (told : Option Told) (request : Request) (p : List ℕ) (options : RunOptions) (c : CheckedGraph) (ended : Ended) (counts : PerName) → request ≡ R.Run p options
     → is_built_now c ≡ false → ended.cause ≡ C.NotBuilt
-    → WhereTold told told (λ t u. FilesShow (IsAcceptedOutcome request c ended.arrivals t) (creates (Some request) (built_parts c)) ended counts counts t u)
+    → WhereTold told told (λ t u. FilesShow (IsAcceptedOutcome request c ended.arrivals t) (files_of (Some request) (built_parts c)) ended counts counts t u)
 unbuilt_files told request p options c ended counts e other is =
-    subst (λ (q : Request). WhereTold told told (λ t u. FilesShow (IsAcceptedOutcome q c ended.arrivals t) (creates (Some q) (built_parts c)) ended counts counts t u)) (sym e)
-    (not_built_files told told c (creates (Some (R.Run p options)) (built_parts c)) ended counts counts is (unbuilt_told told c other) (told_same told) (λ n. refl))
+    subst (λ (q : Request). WhereTold told told (λ t u. FilesShow (IsAcceptedOutcome q c ended.arrivals t) (files_of (Some q) (built_parts c)) ended counts counts t u)) (sym e)
+    (unbuilt_run told p options c ended counts other is)
+
+pub unbuilt_counts : (cause : Cause) (parts : List Part) (files : FilesOf) (counts : PerName) → cause ≡ C.NotBuilt → CountsShow cause parts files counts counts
+unbuilt_counts cause parts files counts is = quiet_counts cause C.NotBuilt files counts is tt (λ bad. cc) tt parts

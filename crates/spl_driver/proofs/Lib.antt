@@ -6,16 +6,13 @@ mod Stages
 pub mod Requests
 pub mod Telling
 pub mod Fetching
-pub mod NumberRows
-pub mod OperatorRows
-pub mod BuiltGraphs
 pub mod Programs
 pub mod Standing
+pub mod Showing
 pub mod Operators
 pub mod SinkLemmas
 pub mod Running
 pub mod Carrying
 pub mod PlainAnswers
-pub mod SinkSteps
 pub mod Preparing
 pub mod Answering

@@ -1,60 +1,109 @@
--- A run made ready.
-use Rattle.std.proofs.Common.{◌≡◌, ◌∙◌, ℕ, Bool, true, false, List, map, refl, sym, ap, subst, if◌then◌else◌, Option, Some, None}
+-- A run up to its sinks.
+use Rattle.std.proofs.Common.{◌≡◌, ℕ, zero, suc, arith, Bool, true, false, List, [], ◌∷◌, ◌&&◌, map, refl, sym, ap, ◌∙◌, if◌then◌else◌, slice_get, Option, Some, None}
 use Rattle.std.specs.Prelude.{IfSome}
-use Rattle.std.specs.List.{list_all}
+use Rattle.std.specs.List.{All, list_all}
+use Rattle.spl_value.specs.declared.item.Fault.{Fault}
+use Rattle.spl_value.specs.declared.item.FaultKind.TheVariants as K
 use Rattle.spl_value.specs.declared.item.Item.{Item}
+use Rattle.spl_value.specs.declared.item.Item.TheVariants as I
+use Rattle.feed_pour.specs.Counts.{PerName}
 use Rattle.feed_pour.specs.Contents.{Told}
-use Rattle.stream_model.specs.declared.record.ArrivalList.{ArrivalList}
+use Rattle.language_model.specs.declared.checked.Part.{Part}
+use Rattle.language_model.specs.declared.checked.Part.TheVariants as A
+use Rattle.language_model.specs.Keeping.{Keeps}
+use Rattle.stream_model.specs.declared.record.Arrivals.{Arrivals}
 use Rattle.language_model.specs.CheckedGraph.{CheckedGraph}
+use Rattle.stream_model.specs.Arrivals.{entries_in, several}
 use Rattle.stream_model.specs.CheckedMeaning.{graph_of}
-use Rattle.stream_model.specs.Meaning.{Graph, Entries, meaning}
-use Rattle.check_laws.specs.Files.{source_files}
-use Rattle.list_run.specs.Runs.{CanRun, RowsFit, AreStreams, rows_at}
-use Rattle.spl_driver.specs.Built.{is_built_graph, is_built_now}
-use Rattle.spl_driver.specs.Outcome.{RequestOutcome, Unreadable, NotBuilt, Runs, has_fault, holds_numbers, meant, with_sources, with_graph}
-use Rattle.spl_driver.specs.Steps.{RowsTold, StreamsFor, AllRead, all_numbers, SourcesOf}
-use Rattle.spl_driver.specs.declared.sources.Sources.TheVariants as S
-use Rattle.spl_driver.proofs.SinkLemmas.{graph_there, can_run}
+use Rattle.stream_model.specs.Ends.{run_fault}
+use Rattle.stream_model.specs.Meaning.{Graph}
+use Rattle.stream_model.specs.Operators.{Operator}
+use Rattle.stream_model.proofs.CheckedOperators.{operator_from}
+use Rattle.fault_laws.specs.RunFaults.{ReadFaultLaw}
+use Rattle.list_engine.specs.declared.run.Run.{Run}
+use Rattle.list_engine.specs.RunLaws.{FaultsName, OrderedLaw, SourcesName}
+use Rattle.list_engine.specs.Runs.{AreWhole, RowsFit, SinksGiven, rows_at}
+use Rattle.row_reader.specs.Reading.{NamesOperator, is_read_failed, is_read_fault}
+use Rattle.graph_run.specs.Kinds.{AreRun, is_run}
+use Rattle.source_rows.specs.Sources.{AreRows, SourcesOf}
+use Rattle.source_rows.specs.declared.sources.Sources.TheVariants as S
+use Rattle.spl_driver.specs.Built.{is_built_now}
+use Rattle.spl_driver.specs.Outcome.{RequestOutcome, NotBuilt, Runs, meant, run_outcome}
+use Rattle.spl_driver.specs.Answer.{SourceUnread, StoppedBy, cause_of}
+use Rattle.spl_driver.specs.Steps.{RanFor, ran}
+use Rattle.spl_value.proofs.Bools.{and_left, and_right}
 
-pub runs : (c : CheckedGraph) → is_built_now c ≡ true → (g : Graph) × CanRun c g
-runs c built = let there = graph_there c built in (there.0, can_run c there.0 there.1 there.2)
+all_at : {A : Type 0} (p : A → Bool) (xs : List A) → list_all p xs ≡ true → (n : ℕ) (x : A) → slice_get xs n ≡ Some x → p x ≡ true
+all_at p [] e n x at = absurd cc
+all_at p (y ∷ xs) e zero x at = let same : y ≡ x = cc in ap p (sym same) ∙ and_left (p y) (list_all p xs) e
+all_at p (y ∷ xs) e (suc n) x at = all_at p xs (and_right (p y) (list_all p xs) e) n x at
+
+-- all operators of a graph that is built run
+pub are_run : (c : CheckedGraph) → is_built_now c ≡ true → AreRun c.parts
+are_run c built n part at = all_at is_run c.parts built n part at
 
 -- the rows of the sources that were read
-pub rows_fit : (c : CheckedGraph) (rows : List (List Item)) (told : Option Told) → SourcesOf (S.Rows rows) c told → (g : Graph) → graph_of c ≡ g → RowsFit g rows
-rows_fit c rows told h g e = (h g e).0
+pub rows_fit : (c : CheckedGraph) (rows : List (List Item)) (told : Option Told) (counts now : PerName) → SourcesOf (S.Rows rows) c told counts now → (g : Graph) → graph_of c ≡ g → RowsFit g rows
+rows_fit c rows told counts now h g e = (h g e).fit
 
-sources_pass : (c : CheckedGraph) (t : Told) (next : RequestOutcome) → AllRead c.parts t → all_numbers c.parts t ≡ true → with_sources (map t.script (source_files c.parts)) next ≡ next
-sources_pass c t next read numbers =
-    ap (λ (b : Bool). if b then Unreadable else if list_all holds_numbers (map t.script (source_files c.parts)) then next else NotBuilt) read
-    ∙ ap (λ (b : Bool). if b then next else NotBuilt) numbers
+outcome_told : (told : Option Told) (c : CheckedGraph) → is_built_now c ≡ true → IfSome told (λ t. (arrivals : Arrivals) → run_outcome c t arrivals ≡ Runs c (graph_of c) (meant (graph_of c) t arrivals.lists))
+outcome_told None c built = tt
+outcome_told (Some t) c built = λ arrivals. ap (λ (b : Bool). if b then Runs c (graph_of c) (meant (graph_of c) t arrivals.lists) else NotBuilt) built
 
-outcome_at : (c : CheckedGraph) (g : Graph) (t : Told) (lists : List ArrivalList) → is_built_graph c g ≡ true → AllRead c.parts t → all_numbers c.parts t ≡ true
-    → with_graph c t lists g ≡ Runs c g (meant g t lists)
-outcome_at c g t lists built read numbers =
-    ap (λ (b : Bool). if b then with_sources (map t.script (source_files c.parts)) (Runs c g (meant g t lists)) else NotBuilt) built
-    ∙ sources_pass c t (Runs c g (meant g t lists)) read numbers
+-- ---- a run that stops at a read that failed
 
--- the streams of those rows
-pub streams_for : (c : CheckedGraph) (rows streams : List (List Item)) (told : Option Told) → is_built_now c ≡ true → SourcesOf (S.Rows rows) c told
-    → ((g : Graph) (entries : Entries) → graph_of c ≡ g → AreStreams c g (meaning g (rows_at rows) entries) streams) → StreamsFor c streams told
-streams_for c rows streams told built h are =
-    let there = graph_there c built in
-    record {
-      graph = there.0;
-      rows = rows_at rows;
-      runs = can_run c there.0 there.1 there.2;
-      streams_of = λ entries. are there.0 entries there.1;
-      told_rows = same told (h there.0 there.1).1;
-      outcome = comes told (h there.0 there.1).1;
-    }
-  where
-    g : Graph
-    g = (graph_there c built).0
+rest_names : (m : ℕ) (x : Item) (items : List Item) → All (NamesOperator m) (x ∷ items) → All (NamesOperator m) items
+rest_names m x items h = λ i d l. h (suc i) d (omega (arith, l))
 
-    same : (o : Option Told) → IfSome o (RowsTold rows c g) → IfSome o (λ t. (n : ℕ) → rows_at rows n ≡ Rattle.spl_driver.specs.Outcome.rows_told g t n)
-    same None q = tt
-    same (Some t) q = q.same
+names_of : (n m : ℕ) (items : List Item) → m ≡ n → All (NamesOperator m) items → FaultsName n items
+names_of n m [] e h = tt
+names_of n m (I.Tuple vs ∷ items) e h = names_of n m items e (rest_names m (I.Tuple vs) items h)
+names_of n m (I.Window ∷ items) e h = names_of n m items e (rest_names m I.Window items h)
+names_of n m (I.Final ∷ items) e h = names_of n m items e (rest_names m I.Final items h)
+names_of n m (I.Bad f ∷ items) e h = (h 0 (I.Bad f) (omega arith) ∙ e, names_of n m items e (rest_names m (I.Bad f) items h))
 
-    comes : (o : Option Told) → IfSome o (RowsTold rows c g) → IfSome o (λ t. (lists : List ArrivalList) → with_graph c t lists g ≡ Runs c g (meant g t lists))
-    comes None q = tt
-    comes (Some t) q = λ lists. outcome_at c g t lists (graph_there c built).2 q.read q.numbers
+-- the clauses of an operator of the graph stand at its number
+part_there : (c : CheckedGraph) (n : ℕ) (op : Operator) (file : List ℕ) (strict : Bool) → slice_get (graph_of c).ops n ≡ Some op → op.clauses ≡ A.FileSource file strict → slice_get c.parts n ≡ Some (A.FileSource file strict)
+part_there c n op file strict at is =
+    let found = operator_from c 0 c.graph.ops c.parts n op at in
+    found.has ∙ ap (λ (p : Part). Some p) (sym (ap (λ (o : Operator). o.clauses) found.same) ∙ is)
+
+module _ (numbered : OrderedLaw) (law : ReadFaultLaw) (c : CheckedGraph) (keeps : Keeps c) (rows : List (List Item)) (told : Option Told) (counts now : PerName) (are : AreRows (graph_of c) rows told counts now) where
+  named : SourcesName (graph_of c) (rows_at rows)
+  named n op file strict at is = names_of n op.number (rows_at rows n) ((numbered c (graph_of c) keeps refl).1 n op at) (are.names n op file strict at is)
+
+  unread : (run : Run) (f : Fault) → run_fault (graph_of c) (ran (graph_of c) rows run) ≡ Some f → f.kind ≡ K.ReadFailed → SourceUnread c.parts f.op counts now
+  unread run f is kind =
+      let found = law c (graph_of c) (rows_at rows) (entries_in run.arrivals.lists) f keeps refl are.fit.fit named is kind in
+      let row = found.0 in
+      let reads = found.1 is_read_fault (ap is_read_failed kind) in
+      record {
+        file = row.file;
+        strict = row.strict;
+        source = part_there c f.op row.op row.file row.strict row.named row.source;
+        rose = are.read f.op row.op row.file row.strict row.named row.source reads;
+      }
+
+  stops : (run : Run) (fault : Option Fault) → fault ≡ run_fault (graph_of c) (ran (graph_of c) rows run) → StoppedBy (cause_of fault) c.parts counts now
+  stops run None e = tt
+  stops run (Some f) e = λ kind. unread run f (sym e) kind
+
+-- the run of those rows
+pub ran_for : OrderedLaw → ReadFaultLaw → (c : CheckedGraph) (rows : List (List Item)) (run : Run) (told : Option Told) (counts now : PerName) → Keeps c → is_built_now c ≡ true → SourcesOf (S.Rows rows) c told counts now
+    → ((g : Graph) → graph_of c ≡ g → SinksGiven g (ran g rows run) run.sinks) → ((g : Graph) → graph_of c ≡ g → run.fault ≡ run_fault g (ran g rows run))
+    → ((g : Graph) → graph_of c ≡ g → map (λ l. l.op) run.arrivals.lists ≡ several g) → ((g : Graph) → graph_of c ≡ g → AreWhole g (ran g rows run) (entries_in run.arrivals.lists))
+    → RanFor c run told counts now
+ran_for numbered law c rows run told counts now keeps built are sinks fault lists whole = record {
+  graph = graph_of c;
+  is = refl;
+  rows = rows;
+  fit = (are (graph_of c) refl).fit;
+  sinks = sinks (graph_of c) refl;
+  fault = fault (graph_of c) refl;
+  names = (are (graph_of c) refl).names;
+  read = (are (graph_of c) refl).read;
+  stopped = stops numbered law c keeps rows told counts now (are (graph_of c) refl) run run.fault (fault (graph_of c) refl);
+  recorded = record { lists = lists (graph_of c) refl; whole = whole (graph_of c) refl };
+  told_rows = (are (graph_of c) refl).same;
+  outcome = outcome_told told c built;
+}

@@ -1,5 +1,6 @@
 -- What the file of a program comes to.
-use Rattle.std.proofs.Common.{◌≡◌, ◌<◌, ℕ, List, Option, Some, None, Ok, Err, refl, sym, ap, subst, ◌∙◌, false}
+use Rattle.std.proofs.Common.{◌≡◌, ◌<◌, arith, ℕ, List, length, replicate, Option, Some, None, Ok, Err, refl, sym, ap, subst, ◌∙◌, false}
+use Rattle.std.proofs.lemmas.List.{length-replicate}
 use Rattle.std.specs.Prelude.{IfSome, Result}
 use Rattle.spl_value.specs.Script.{Script}
 use Rattle.spl_tree.specs.declared.token.LexicalError.TheVariants.{TooLong}
@@ -16,6 +17,7 @@ use Rattle.check_laws.specs.Files.{OwnFiles}
 use Rattle.check_laws.specs.OwnFilesLaw.{OwnFilesLaw}
 use Rattle.spl_driver.specs.AcceptedLaws.{TooLongLaw}
 use Rattle.spl_driver.specs.Compiled.{IsCompiled}
+use Rattle.spl_driver.specs.declared.compile_answer.CompileAnswer.{CompileAnswer}
 use Rattle.spl_driver.specs.declared.compile_answer.CompileAnswer.TheVariants as N
 use Rattle.spl_driver.specs.Steps.{CompiledAt}
 use Rattle.spl_driver.specs.declared.compiled.Compiled.TheVariants as P
@@ -27,6 +29,26 @@ pub compiled_long : (told : Option Told) (program : List ℕ) (names : List (Lis
 compiled_long None program names refusal law h is = tt
 compiled_long (Some t) program names refusal law h is =
     (long_fault (t.script program) h, (Lexical TooLong 1048576, law (t.script program).bytes names h, is))
+
+-- a program of so many bytes is too long
+abbrev SomeRefused : List (List ℕ) → Refusal → Type 0
+SomeRefused names refusal = (bytes : List ℕ) × (p : ProgramRefusal) × IsAccepted bytes names (Err p) × (refusal ≡ refusal_of p)
+
+long_by : (n : ℕ) (names : List (List ℕ)) (refusal : Refusal) → 1048576 < n → TooLongLaw → refusal ≡ refusal_of (Lexical TooLong 1048576) → SomeRefused names refusal
+long_by n names refusal more law is =
+    let zeros : List ℕ = replicate n 0 in
+    let long : length zeros ≡ n = length-replicate n 0 in
+    (zeros, Lexical TooLong 1048576, law zeros names (omega (arith, more, long)), is)
+
+pub some_long : (names : List (List ℕ)) (refusal : Refusal) → TooLongLaw → refusal ≡ refusal_of (Lexical TooLong 1048576) → (bytes : List ℕ) × (p : ProgramRefusal) × IsAccepted bytes names (Err p) × (refusal ≡ refusal_of p)
+some_long names refusal law is = long_by 1048577 names refusal (omega arith) law is
+
+-- the refusal of the bytes of a program
+pub refused_bytes : (bytes : List ℕ) (names : List (List ℕ)) (answer : CompileAnswer) (refusal : Refusal) → answer ≡ N.Refused refusal → IsCompiled bytes names (Err answer)
+    → (bs : List ℕ) × (p : ProgramRefusal) × IsAccepted bs names (Err p) × (refusal ≡ refusal_of p)
+refused_bytes bytes names answer refusal is h =
+    let at : IsCompiled bytes names (Err (N.Refused refusal)) = subst (λ (a : CompileAnswer). IsCompiled bytes names (Err a)) is h in
+    (bytes, at.0, at.1, at.2)
 
 bytes_read : (s : Script) (bytes : List ℕ) → FetchedOf s (F.Whole bytes) 1048576 → bytes ≡ s.bytes
 bytes_read s bytes h = sym (ap (λ (x : Script). x.bytes) h.0)

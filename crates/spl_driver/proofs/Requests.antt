@@ -10,9 +10,11 @@ use Rattle.command_line.specs.declared.request.Request.{Request}
 use Rattle.command_line.specs.declared.request.Request.TheVariants as R
 use Rattle.command_line.specs.Request.{file_names}
 use Rattle.spl_driver.specs.AcceptedLaws.{OneAcceptedLaw, SomeAcceptedLaw}
-use Rattle.spl_driver.specs.Built.{is_built}
+use Rattle.spl_driver.specs.Built.{is_built, is_built_now}
 use Rattle.spl_driver.specs.Files.{program_of, parts_of}
-use Rattle.spl_driver.specs.Outcome.{RequestOutcome, NoRequest, Unreadable, Refused, NotBuilt, has_fault, IsFound, IsOutcome, no_request, not_built, unreadable, refused, checks, runs, ArePartsIn, of_no_request, of_no_program, of_unreadable, of_program}
+use Rattle.std.specs.Prelude.{if◌then◌else◌}
+use Rattle.stream_model.specs.CheckedMeaning.{graph_of}
+use Rattle.spl_driver.specs.Outcome.{RequestOutcome, NoRequest, Unreadable, Refused, NotBuilt, Checks, Runs, has_fault, meant, run_outcome, IsFound, IsOutcome, no_request, not_built, unreadable, refused, checks, runs, ArePartsIn, of_no_request, of_no_program, of_unreadable, of_program}
 use Rattle.spl_driver.specs.RequestLaws.{OneOutcomeLaw, SomeOutcomeLaw, OnePartsLaw, SomePartsLaw}
 use Rattle.spl_driver.specs.Steps.{accepted_outcome}
 
@@ -24,14 +26,14 @@ found_outcome request t arrivals (Err refusal) = Refused (refusal_of refusal)
 found_outcome request t arrivals (Ok c) = accepted_outcome request c t arrivals
 
 -- by whether its file has a fault
-abbrev OutcomeByFault : Bool → Request → List ℕ → Told → Arrivals → RequestOutcome → Type 0
-OutcomeByFault true request bytes t arrivals r = r ≡ Unreadable
-OutcomeByFault false request bytes t arrivals r = (found : Result CheckedGraph ProgramRefusal) × IsAccepted bytes (file_names request) found × (r ≡ found_outcome request t arrivals found)
+abbrev OutcomeByFault : Bool → Request → List ℕ → List ℕ → Told → Arrivals → RequestOutcome → Type 0
+OutcomeByFault true request program bytes t arrivals r = r ≡ Unreadable program
+OutcomeByFault false request program bytes t arrivals r = (found : Result CheckedGraph ProgramRefusal) × IsAccepted bytes (file_names request) found × (r ≡ found_outcome request t arrivals found)
 
 -- by the program's file
 abbrev OutcomeByFile : Option (List ℕ) → Request → Told → Arrivals → RequestOutcome → Type 0
 OutcomeByFile None request t arrivals r = r ≡ NotBuilt
-OutcomeByFile (Some p) request t arrivals r = OutcomeByFault (has_fault (t.script p)) request (t.script p).bytes t arrivals r
+OutcomeByFile (Some p) request t arrivals r = OutcomeByFault (has_fault (t.script p)) request p (t.script p).bytes t arrivals r
 
 -- by whether the words ask for what is built
 abbrev OutcomeByWords : Bool → Request → Told → Arrivals → RequestOutcome → Type 0
@@ -51,14 +53,14 @@ at_found : (t : Told) (arrivals : Arrivals) (request : Request) (program : List 
     → IsFound t program (file_names request) found → OutcomeBy (Some request) t arrivals (found_outcome request t arrivals found)
 at_found t arrivals request program found built of h =
     at_program t arrivals request program (found_outcome request t arrivals found) built of
-    (subst (λ (b : Bool). OutcomeByFault b request (t.script program).bytes t arrivals (found_outcome request t arrivals found)) (sym h.read) (found, h.accepted, refl))
+    (subst (λ (b : Bool). OutcomeByFault b request program (t.script program).bytes t arrivals (found_outcome request t arrivals found)) (sym h.read) (found, h.accepted, refl))
 
 by_questions : (t : Told) (arrivals : Arrivals) (request : Option Request) (r : RequestOutcome) → IsOutcome t arrivals request r → OutcomeBy request t arrivals r
 by_questions t arrivals request r no_request = refl
 by_questions t arrivals request r (not_built asked other) = subst (λ (b : Bool). OutcomeByWords b asked t arrivals NotBuilt) (sym other) refl
 by_questions t arrivals request r (unreadable asked program built of fault) =
-    at_program t arrivals asked program Unreadable built of
-    (subst (λ (b : Bool). OutcomeByFault b asked (t.script program).bytes t arrivals Unreadable) (sym fault) refl)
+    at_program t arrivals asked program (Unreadable program) built of
+    (subst (λ (b : Bool). OutcomeByFault b asked program (t.script program).bytes t arrivals (Unreadable program)) (sym fault) refl)
 by_questions t arrivals request r (refused asked program refusal built of found) = at_found t arrivals asked program (Err refusal) built of found
 by_questions t arrivals request r (checks program c found) = at_found t arrivals (R.Check program) program (Ok c) refl refl found
 by_questions t arrivals request r (runs program options c plain found) = at_found t arrivals (R.Run program options) program (Ok c) plain refl found
@@ -100,7 +102,7 @@ from_questions t arrivals None r e = subst (IsOutcome t arrivals None) (sym e) n
 from_questions t arrivals (Some request) r h = by_words (is_built request) refl h
   where
     by_fault : (program : List ℕ) → is_built request ≡ true → program_of request ≡ Some program → (b : Bool) → has_fault (t.script program) ≡ b
-        → OutcomeByFault b request (t.script program).bytes t arrivals r → IsOutcome t arrivals (Some request) r
+        → OutcomeByFault b request program (t.script program).bytes t arrivals r → IsOutcome t arrivals (Some request) r
     by_fault program built of true fault e = subst (IsOutcome t arrivals (Some request)) (sym e) (unreadable request program built of fault)
     by_fault program built of false quiet (found, accepted, e) =
         subst (IsOutcome t arrivals (Some request)) (sym e) (outcome_found t arrivals request program found built of (record { read = quiet; accepted = accepted }))
@@ -115,16 +117,16 @@ from_questions t arrivals (Some request) r h = by_words (is_built request) refl 
 
 -- ---- one outcome
 
-one_by_fault : OneAcceptedLaw → (b : Bool) (request : Request) (bytes : List ℕ) (t : Told) (arrivals : Arrivals) (r s : RequestOutcome)
-    → OutcomeByFault b request bytes t arrivals r → OutcomeByFault b request bytes t arrivals s → r ≡ s
-one_by_fault law true request bytes t arrivals r s e d = e ∙ sym d
-one_by_fault law false request bytes t arrivals r s (x, is, e) (y, has, d) =
+one_by_fault : OneAcceptedLaw → (b : Bool) (request : Request) (program bytes : List ℕ) (t : Told) (arrivals : Arrivals) (r s : RequestOutcome)
+    → OutcomeByFault b request program bytes t arrivals r → OutcomeByFault b request program bytes t arrivals s → r ≡ s
+one_by_fault law true request program bytes t arrivals r s e d = e ∙ sym d
+one_by_fault law false request program bytes t arrivals r s (x, is, e) (y, has, d) =
     e ∙ ap (found_outcome request t arrivals) (law bytes (file_names request) x y is has) ∙ sym d
 
 one_by_file : OneAcceptedLaw → (program : Option (List ℕ)) (request : Request) (t : Told) (arrivals : Arrivals) (r s : RequestOutcome)
     → OutcomeByFile program request t arrivals r → OutcomeByFile program request t arrivals s → r ≡ s
 one_by_file law None request t arrivals r s e d = e ∙ sym d
-one_by_file law (Some p) request t arrivals r s e d = one_by_fault law (has_fault (t.script p)) request (t.script p).bytes t arrivals r s e d
+one_by_file law (Some p) request t arrivals r s e d = one_by_fault law (has_fault (t.script p)) request p (t.script p).bytes t arrivals r s e d
 
 one_by_words : OneAcceptedLaw → (b : Bool) (request : Request) (t : Told) (arrivals : Arrivals) (r s : RequestOutcome)
     → OutcomeByWords b request t arrivals r → OutcomeByWords b request t arrivals s → r ≡ s
@@ -138,15 +140,15 @@ one_by law (Some request) t arrivals r s e d = one_by_words law (is_built reques
 pub one_outcome : OneAcceptedLaw → OneOutcomeLaw
 one_outcome law request t arrivals r s e d = one_by law request t arrivals r s (by_questions t arrivals request r e) (by_questions t arrivals request s d)
 
-some_by_fault : SomeAcceptedLaw → (b : Bool) (request : Request) (bytes : List ℕ) (t : Told) (arrivals : Arrivals)
-    → ((r : RequestOutcome) → OutcomeByFault b request bytes t arrivals r → ⊥) → ⊥
-some_by_fault law true request bytes t arrivals none = none Unreadable refl
-some_by_fault law false request bytes t arrivals none = law bytes (file_names request) (λ x is. none (found_outcome request t arrivals x) (x, is, refl))
+some_by_fault : SomeAcceptedLaw → (b : Bool) (request : Request) (program bytes : List ℕ) (t : Told) (arrivals : Arrivals)
+    → ((r : RequestOutcome) → OutcomeByFault b request program bytes t arrivals r → ⊥) → ⊥
+some_by_fault law true request program bytes t arrivals none = none (Unreadable program) refl
+some_by_fault law false request program bytes t arrivals none = law bytes (file_names request) (λ x is. none (found_outcome request t arrivals x) (x, is, refl))
 
 some_by_file : SomeAcceptedLaw → (program : Option (List ℕ)) (request : Request) (t : Told) (arrivals : Arrivals)
     → ((r : RequestOutcome) → OutcomeByFile program request t arrivals r → ⊥) → ⊥
 some_by_file law None request t arrivals none = none NotBuilt refl
-some_by_file law (Some p) request t arrivals none = some_by_fault law (has_fault (t.script p)) request (t.script p).bytes t arrivals none
+some_by_file law (Some p) request t arrivals none = some_by_fault law (has_fault (t.script p)) request p (t.script p).bytes t arrivals none
 
 some_by_words : SomeAcceptedLaw → (b : Bool) (request : Request) (t : Told) (arrivals : Arrivals)
     → ((r : RequestOutcome) → OutcomeByWords b request t arrivals r → ⊥) → ⊥
@@ -159,6 +161,37 @@ some_by law (Some request) t arrivals none = some_by_words law (is_built request
 
 pub some_outcome : SomeAcceptedLaw → SomeOutcomeLaw
 some_outcome law request t arrivals none = some_by law request t arrivals (λ r h. none r (from_questions t arrivals request r h))
+
+-- ---- a program that can't be read
+
+-- the program of a request, where it can't be read
+pub record IsUnreadable (t : Told) (request : Option Request) (program : List ℕ) : Type 0 where
+  pub asked : Request
+  pub is : request ≡ Some asked
+  pub built : is_built asked ≡ true
+  pub of : program_of asked ≡ Some program
+  pub fault : has_fault (t.script program) ≡ true
+
+not_unread : (built : Bool) (next : RequestOutcome) (program : List ℕ) → (next ≡ Unreadable program → ⊥) → (if built then next else NotBuilt) ≡ Unreadable program → ⊥
+not_unread true next program other e = other e
+not_unread false next program other e = let bad : NotBuilt ≡ Unreadable program = e in cc
+
+run_not_unread : (c : CheckedGraph) (t : Told) (arrivals : Arrivals) (program : List ℕ) → run_outcome c t arrivals ≡ Unreadable program → ⊥
+run_not_unread c t arrivals program e = not_unread (is_built_now c) (Runs c (graph_of c) (meant (graph_of c) t arrivals.lists)) program (λ bad. cc) e
+
+unread_at : (t : Told) (arrivals : Arrivals) (request : Option Request) (r : RequestOutcome) (program : List ℕ) → IsOutcome t arrivals request r → r ≡ Unreadable program → IsUnreadable t request program
+unread_at t arrivals request r program no_request e = absurd (let bad : NoRequest ≡ Unreadable program = e in cc)
+unread_at t arrivals request r program (not_built asked other) e = absurd (let bad : NotBuilt ≡ Unreadable program = e in cc)
+unread_at t arrivals request r program (unreadable asked file built of fault) e =
+    let is : Unreadable file ≡ Unreadable program = e in
+    let same : file ≡ program = cc in
+    subst (IsUnreadable t (Some asked)) same (record { asked = asked; is = refl; built = built; of = of; fault = fault })
+unread_at t arrivals request r program (refused asked file refusal built of found) e = absurd (let bad : Refused (refusal_of refusal) ≡ Unreadable program = e in cc)
+unread_at t arrivals request r program (checks file c found) e = absurd (let bad : Checks c ≡ Unreadable program = e in cc)
+unread_at t arrivals request r program (runs file options c plain found) e = absurd (run_not_unread c t arrivals program e)
+
+pub unread : (t : Told) (arrivals : Arrivals) (request : Option Request) (program : List ℕ) → IsOutcome t arrivals request (Unreadable program) → IsUnreadable t request program
+unread t arrivals request program is = unread_at t arrivals request (Unreadable program) program is refl
 
 -- ---- the operators of its program
 

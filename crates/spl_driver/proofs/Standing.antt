@@ -1,5 +1,5 @@
 -- What each answer means, from what the steps of a request did.
-use Rattle.std.proofs.Common.{◌≡◌, ◌∙◌, ◌<◌, ◌-◌, ◌^◌, arith, ℕ, Bool, true, false, List, [], ◌∷◌, ◌++◌, refl, sym, ap, subst, inl, inr, ◌⊎◌, Option, Some, None, Result, Ok, Err}
+use Rattle.std.proofs.Common.{◌≡◌, ◌≢◌, ◌∙◌, ◌<◌, ◌-◌, ◌^◌, arith, ℕ, Bool, true, false, List, [], ◌∷◌, ◌++◌, refl, sym, ap, subst, inl, inr, ◌⊎◌, Option, Some, None, Result, Ok, Err}
 use Rattle.std.specs.Prelude.{IfSome, ◌||◌, IfOk}
 use Rattle.feed_pour.specs.Counts.{PerName}
 use Rattle.feed_pour.specs.Contents.{Told, WhereTold, TellsSame}
@@ -14,18 +14,23 @@ use Rattle.run_report.specs.declared.refusal.Refusal.{Refusal}
 use Rattle.command_line.specs.declared.request.Request.{Request}
 use Rattle.command_line.specs.declared.request.Request.TheVariants as R
 use Rattle.command_line.specs.Request.{file_names}
-use Rattle.check_laws.specs.Files.{is_named}
+use Rattle.check_laws.specs.Files.{is_named, source_files}
+use Rattle.spl_value.specs.declared.item.Fault.{Fault}
+use Rattle.source_rows.specs.Counting.{OpeningFailed}
+use Rattle.source_rows.specs.Sources.{ReadsFail}
 use Rattle.spl_driver.specs.Built.{is_built}
-use Rattle.spl_driver.specs.Files.{opens, creates, program_of, built_parts}
-use Rattle.spl_driver.specs.Outcome.{RequestOutcome, NoRequest, Refused, NotBuilt, Checks, Runs, has_fault, IsOutcome, no_request, not_built, ArePartsIn, of_program}
-use Rattle.spl_driver.specs.Answer.{SameFiles, Begun, CauseMeans, OpenFailed, CreateFailed, FailedDevice, opening, creating, NoCountChanged, ReadsFailed, Answered, SomeRose, Shown, ByWords}
-use Rattle.spl_driver.specs.Lines.{IsToldOutcome, IsLine, IsLineOf}
+use Rattle.spl_driver.specs.Files.{FilesOf, files_of, opens, creates, row_files, whole_files, program_of, built_parts}
+use Rattle.spl_driver.specs.Outcome.{RequestOutcome, NoRequest, Refused, NotBuilt, Checks, Runs, has_fault, IsOutcome, IsSomeProgram, no_request, not_built, ArePartsIn, of_program}
+use Rattle.spl_driver.specs.Answer.{SameFiles, Begun, CauseMeans, ChecksTo, RunsTo, WroteOthers, TellingFailed, DevicesMean, DevicesShow, ReadingFailed, ReadingAnswered, WholeReads, WholeFails, NoCountChanged, StoppedBy, Answered, ByWords, IsOr}
+use Rattle.spl_driver.specs.Lines.{EndsWith, IsToldOutcome, IsLine, IsLineOf, MayComeTo}
 use Rattle.spl_driver.specs.RequestLaws.{OneOutcomeLaw, OnePartsLaw}
-use Rattle.spl_driver.specs.Steps.{OpensCounted, CompiledAt, accepted_outcome, IsAcceptedOutcome, IsToldAcceptedOutcome, CountsShow, FilesShow}
+use Rattle.spl_driver.specs.Steps.{FirstOpening, FirstReading, MayBeOutcome, CompiledAt, accepted_outcome, IsAcceptedOutcome, IsToldAcceptedOutcome, CountsShow, FilesShow}
 use Rattle.spl_driver.specs.declared.compiled.Compiled.TheVariants as P
 use Rattle.spl_driver.specs.declared.ended.Ended.{Ended}
+use Rattle.spl_driver.proofs.Fetching.{other_name, own_name, quiet_only, read_itself, read_same, reads_whole}
 use Rattle.spl_driver.proofs.Requests.{outcome_found, found_outcome}
-use Rattle.spl_value.proofs.Bools.{or_false as or_none, or_left as or_true}
+use Rattle.spl_value.proofs.Bools.{or_false as or_none}
+use Rattle.spl_value.proofs.Lists.{same_or_not}
 
 -- ---- shelves that tell the same
 
@@ -41,9 +46,6 @@ told_same (Some t) = record { holds = λ n. refl; script = λ n. refl }
 
 -- ---- files that stay
 
-abbrev IsQuiet : Cause → Type 0
-IsQuiet cause = (cause ≡ C.Device) ⊎ (cause ≡ C.NoMemory)
-
 -- a list of prefixes from equal files is a lemma on sinks
 abbrev pub BegunSame : Type 0
 BegunSame = (result : RequestOutcome) (t u : Told) → SameFiles t u → Begun result t u
@@ -52,46 +54,138 @@ BegunSame = (result : RequestOutcome) (t u : Told) → SameFiles t u → Begun r
 
 pub means_map : (cause : Cause) (Is Js : RequestOutcome → Type 0) (ended : Ended) (t u : Told) → ((r : RequestOutcome) → Is r → Js r) → ((r : RequestOutcome) → Js r → Is r)
     → CauseMeans cause Is ended t u → CauseMeans cause Js ended t u
-means_map C.Done Is Js ended t u to from (inl (c, is, same)) = inl (c, to (Checks c) is, same)
+means_map C.Done Is Js ended t u to from (inl (c, is, same, counts)) = inl (c, to (Checks c) is, same, counts)
 means_map C.Done Is Js ended t u to from (inr (c, g, m, is, e, h)) = inr (c, g, m, to (Runs c g m) is, e, h)
 means_map (C.Stopped fault) Is Js ended t u to from (c, g, m, is, e, h) = (c, g, m, to (Runs c g m) is, e, h)
 means_map C.BadWords Is Js ended t u to from (is, same) = (to NoRequest is, same)
 means_map (C.Refused refusal) Is Js ended t u to from (is, same) = (to (Refused refusal) is, same)
 means_map C.NotBuilt Is Js ended t u to from (is, same) = (to NotBuilt is, same)
-means_map C.Device Is Js ended t u to from h = λ r js. h r (from r js)
+means_map (C.OpenFailed name) Is Js ended t u to from h = λ r js. h r (from r js)
+means_map (C.ReadFailed name) Is Js ended t u to from h = h
+means_map (C.WriteFailed name) Is Js ended t u to from h = λ r js. h r (from r js)
 means_map C.NoMemory Is Js ended t u to from h = λ r js. h r (from r js)
 
-line_of_map : (Is Js : RequestOutcome → Type 0) (cause : Cause) (line : List ℕ) → ((r : RequestOutcome) → Is r → Js r) → IsLineOf Is cause line → IsLineOf Js cause line
-line_of_map Is Js cause line to (r, is, ends, e) = (r, to r is, ends, e)
+checks_map : (Is Js : RequestOutcome → Type 0) (ended : Ended) (t u : Told) → ((r : RequestOutcome) → Is r → Js r) → ChecksTo Is ended t u → ChecksTo Js ended t u
+checks_map Is Js ended t u to (c, is, same, counts) = (c, to (Checks c) is, same, counts)
 
-pub line_map : (cause : Cause) (Is Js : RequestOutcome → Type 0) (line : List ℕ) → ((r : RequestOutcome) → Is r → Js r) → IsLine cause Is line → IsLine cause Js line
+runs_map : (Is Js : RequestOutcome → Type 0) (fault : Option Fault) (ended : Ended) (u : Told) → ((r : RequestOutcome) → Is r → Js r) → RunsTo fault Is ended u → RunsTo fault Js ended u
+runs_map Is Js fault ended u to (c, g, m, is, e, h) = (c, g, m, to (Runs c g m) is, e, h)
+
+ran_map : (Is Js : RequestOutcome → Type 0) (ended : Ended) (t u : Told) → ((r : RequestOutcome) → Is r → Js r) → ChecksTo Is ended t u ⊎ ((fault : Option Fault) × RunsTo fault Is ended u)
+    → ChecksTo Js ended t u ⊎ ((fault : Option Fault) × RunsTo fault Js ended u)
+ran_map Is Js ended t u to (inl h) = inl (checks_map Is Js ended t u to h)
+ran_map Is Js ended t u to (inr (fault, h)) = inr (fault, runs_map Is Js fault ended u to h)
+
+others_map : (Is Js : RequestOutcome → Type 0) (counts now : PerName) (ended : Ended) (u : Told) → ((r : RequestOutcome) → Is r → Js r) → WroteOthers Is counts now ended u → WroteOthers Js counts now ended u
+others_map Is Js counts now ended u to h = record {
+  checked = h.checked;
+  graph = h.graph;
+  meaning = h.meaning;
+  comes = to (Runs h.checked h.graph h.meaning) h.comes;
+  texts = h.texts;
+  recorded = h.recorded;
+}
+
+telling_map : (files : FilesOf) (name : List ℕ) (counts now : PerName) (Line : Type 0) (Is Js : RequestOutcome → Type 0) (ended : Ended) (t u : Told) → ((r : RequestOutcome) → Is r → Js r)
+    → TellingFailed files name counts now Line Is ended t u → TellingFailed files name counts now Line Js ended t u
+telling_map files name counts now Line Is Js ended t u to h = record { line = h.line; failed = h.failed; counted = h.counted; ran = ran_map Is Js ended t u to h.ran }
+
+pub devices_map : (cause : Cause) (files : FilesOf) (counts now : PerName) (Line : Type 0) (Is Js : RequestOutcome → Type 0) (ended : Ended) (t u : Told) → ((r : RequestOutcome) → Is r → Js r)
+    → DevicesMean cause files counts now Line Is ended t u → DevicesMean cause files counts now Line Js ended t u
+devices_map (C.OpenFailed name) files counts now Line Is Js ended t u to h = h
+devices_map (C.WriteFailed name) files counts now Line Is Js ended t u to (inl h) = inl (h.0, others_map Is Js counts now ended u to h.1)
+devices_map (C.WriteFailed name) files counts now Line Is Js ended t u to (inr h) = inr (telling_map files name counts now Line Is Js ended t u to h)
+devices_map C.Done files counts now Line Is Js ended t u to h = h
+devices_map (C.Stopped fault) files counts now Line Is Js ended t u to h = h
+devices_map C.NotBuilt files counts now Line Is Js ended t u to h = h
+devices_map C.BadWords files counts now Line Is Js ended t u to h = h
+devices_map (C.Refused refusal) files counts now Line Is Js ended t u to h = h
+devices_map (C.ReadFailed name) files counts now Line Is Js ended t u to h = h
+devices_map C.NoMemory files counts now Line Is Js ended t u to h = h
+
+line_of_map : (Is Js : RequestOutcome → Type 0) (cause : Cause) (line : List ℕ) → ((r : RequestOutcome) → EndsWith r cause → Is r → Js r) → IsLineOf Is cause line → IsLineOf Js cause line
+line_of_map Is Js cause line to (r, is, ends, e) = (r, to r ends is, ends, e)
+
+pub line_map : (cause : Cause) (Is Js : RequestOutcome → Type 0) (line : List ℕ) → ((r : RequestOutcome) → EndsWith r cause → Is r → Js r) → IsLine cause Is line → IsLine cause Js line
 line_map C.Done Is Js line to is = line_of_map Is Js C.Done line to is
 line_map (C.Stopped fault) Is Js line to is = line_of_map Is Js (C.Stopped fault) line to is
 line_map C.NoMemory Is Js line to is = is
 line_map C.BadWords Is Js line to is = is
 line_map (C.Refused refusal) Is Js line to is = is
 line_map C.NotBuilt Is Js line to is = is
-line_map C.Device Is Js line to is = is
+line_map (C.OpenFailed name) Is Js line to is = is
+line_map (C.ReadFailed name) Is Js line to is = is
+line_map (C.WriteFailed name) Is Js line to is = is
 
 -- ---- answers before anything was done
 
 -- no count changed
-pub reads_same : (told : Option Told) (counts : PerName) → IfSome told (ReadsFailed counts counts)
+pub reads_same : (told : Option Told) (counts : PerName) → IfSome told (WholeFails counts counts)
 reads_same None counts = tt
 reads_same (Some t) counts = λ n differs. absurd (differs refl)
 
+-- a cause of which the counts show nothing where none changed
+abbrev pub IsQuiet : Cause → Type 0
+IsQuiet C.Done = Unit {0}
+IsQuiet (C.Stopped fault) = Unit {0}
+IsQuiet C.NotBuilt = Unit {0}
+IsQuiet C.BadWords = Unit {0}
+IsQuiet (C.Refused refusal) = Unit {0}
+IsQuiet C.NoMemory = Unit {0}
+IsQuiet (C.OpenFailed name) = ⊥
+IsQuiet (C.ReadFailed name) = ⊥
+IsQuiet (C.WriteFailed name) = ⊥
+
+pub quiet_devices : (cause : Cause) (files : FilesOf) (counts now : PerName) (Line : Type 0) (Is : RequestOutcome → Type 0) (ended : Ended) (t u : Told) → IsQuiet cause → NoCountChanged counts now
+    → DevicesMean cause files counts now Line Is ended t u
+quiet_devices C.Done files counts now Line Is ended t u is quiet = quiet_only files.rows counts now quiet
+quiet_devices (C.Stopped fault) files counts now Line Is ended t u is quiet = quiet_only files.rows counts now quiet
+quiet_devices C.NotBuilt files counts now Line Is ended t u is quiet = quiet
+quiet_devices C.BadWords files counts now Line Is ended t u is quiet = quiet
+quiet_devices (C.Refused refusal) files counts now Line Is ended t u is quiet = quiet
+quiet_devices C.NoMemory files counts now Line Is ended t u is quiet = tt
+quiet_devices (C.OpenFailed name) files counts now Line Is ended t u is quiet = absurd is
+quiet_devices (C.ReadFailed name) files counts now Line Is ended t u is quiet = absurd is
+quiet_devices (C.WriteFailed name) files counts now Line Is ended t u is quiet = absurd is
+
+-- a cause that is no fault of a run
+abbrev pub IsUnrun : Cause → Type 0
+IsUnrun (C.Stopped fault) = ⊥
+IsUnrun C.Done = Unit {0}
+IsUnrun C.NotBuilt = Unit {0}
+IsUnrun C.BadWords = Unit {0}
+IsUnrun (C.Refused refusal) = Unit {0}
+IsUnrun C.NoMemory = Unit {0}
+IsUnrun (C.OpenFailed name) = Unit {0}
+IsUnrun (C.ReadFailed name) = Unit {0}
+IsUnrun (C.WriteFailed name) = Unit {0}
+
+pub quiet_stopped : (cause : Cause) (parts : List Part) (counts now : PerName) → IsUnrun cause → StoppedBy cause parts counts now
+quiet_stopped (C.Stopped fault) parts counts now is = absurd is
+quiet_stopped C.Done parts counts now is = tt
+quiet_stopped C.NotBuilt parts counts now is = tt
+quiet_stopped C.BadWords parts counts now is = tt
+quiet_stopped (C.Refused refusal) parts counts now is = tt
+quiet_stopped C.NoMemory parts counts now is = tt
+quiet_stopped (C.OpenFailed name) parts counts now is = tt
+quiet_stopped (C.ReadFailed name) parts counts now is = tt
+quiet_stopped (C.WriteFailed name) parts counts now is = tt
+
 -- an answer after which all files are as they were and no count changed
-pub quiet_answer : (told now : Option Told) (request : Option Request) (cause : Cause) (ended : Ended) (counts later : PerName) → ended.cause ≡ cause → (cause ≡ C.Device → ⊥)
+pub quiet_answer : (told now : Option Told) (request : Option Request) (cause : Cause) (ended : Ended) (counts later : PerName) → ended.cause ≡ cause → IsQuiet cause → IsUnrun cause
     → WhereTold told now TellsSame → NoCountChanged counts later
     → ((t u : Told) → told ≡ Some t → SameFiles t u → CauseMeans cause (IsOutcome t ended.arrivals request) ended t u)
     → WhereTold told now (Answered request ended counts later ⊥)
-quiet_answer None now request cause ended counts later is other same quiet stands = tt
-quiet_answer (Some t) None request cause ended counts later is other same quiet stands = same
-quiet_answer (Some t) (Some u) request cause ended counts later is other same quiet stands = record {
+quiet_answer None now request cause ended counts later is other unread same quiet stands = tt
+quiet_answer (Some t) None request cause ended counts later is other unread same quiet stands = same
+quiet_answer (Some t) (Some u) request cause ended counts later is other unread same quiet stands = record {
   means = subst (λ (c : Cause). CauseMeans c (IsOutcome t ended.arrivals request) ended t u) (sym is) (stands t u refl same.holds);
   others = λ parts are n named. same.holds n;
   counted = λ parts are n named. quiet n;
-  device = λ device. absurd (other (sym is ∙ device));
+  device = λ parts are. subst (λ (c : Cause). DevicesMean c (files_of request parts) counts later ⊥ (IsOutcome t ended.arrivals request) ended t u) (sym is)
+      (quiet_devices cause (files_of request parts) counts later ⊥ (IsOutcome t ended.arrivals request) ended t u other quiet);
+  stopped = λ parts are. subst (λ (c : Cause). StoppedBy c parts counts later) (sym is) (quiet_stopped cause parts counts later unread);
+  whole = λ parts are n named differs. absurd (differs (ap (λ c. c.reading) (quiet n)));
   reads = λ n differs. absurd (differs (ap (λ c. c.reading) (quiet n)));
 }
 
@@ -99,17 +193,17 @@ quiet_answer (Some t) (Some u) request cause ended counts later is other same qu
 pub wanting_answer : BegunSame → (told now : Option Told) (request : Option Request) (ended : Ended) (counts later : PerName) → ended.cause ≡ C.NoMemory
     → WhereTold told now TellsSame → NoCountChanged counts later → WhereTold told now (Answered request ended counts later ⊥)
 wanting_answer begun told now request ended counts later is same quiet =
-    quiet_answer told now request C.NoMemory ended counts later is (λ e. cc) same quiet (λ t u e files r comes. begun r t u files)
+    quiet_answer told now request C.NoMemory ended counts later is tt tt same quiet (λ t u e files r comes. begun r t u files)
 
 -- no request
 pub words_answer : (told : Option Told) (ended : Ended) (counts : PerName) → ended.cause ≡ C.BadWords → WhereTold told told (Answered None ended counts counts ⊥)
-words_answer told ended counts is = quiet_answer told told None C.BadWords ended counts counts is (λ e. cc) (told_same told) (λ n. refl) (λ t u e files. (no_request, files))
+words_answer told ended counts is = quiet_answer told told None C.BadWords ended counts counts is tt tt (told_same told) (λ n. refl) (λ t u e files. (no_request, files))
 
 -- a request that isn't built by its words
 pub not_built_answer : (told : Option Told) (request : Request) (ended : Ended) (counts : PerName) → is_built request ≡ false → ended.cause ≡ C.NotBuilt
     → WhereTold told told (Answered (Some request) ended counts counts ⊥)
 not_built_answer told request ended counts no_part is =
-    quiet_answer told told (Some request) C.NotBuilt ended counts counts is (λ e. cc) (told_same told) (λ n. refl)
+    quiet_answer told told (Some request) C.NotBuilt ended counts counts is tt tt (told_same told) (λ n. refl)
     (λ t u e files. (not_built request no_part, files))
 
 -- ---- answers by the program
@@ -133,7 +227,7 @@ opens_program (R.Check p) program parts e = let same : p ≡ program = cc in ([]
 opens_program (R.Plan p) program parts e = let same : p ≡ program = cc in ([], ap (λ (q : List ℕ). q ∷ []) same)
 opens_program (R.Run p options) program parts e = let same : p ≡ program = cc in (_, ap (λ (q : List ℕ). q ∷ Rattle.check_laws.specs.Files.source_files parts) same)
 opens_program (R.Replay p arrivals) program parts e =
-    let same : p ≡ program = cc in (_, ap (λ (q : List ℕ). q ∷ Rattle.check_laws.specs.Files.source_files parts ++ arrivals ∷ []) same)
+    let same : p ≡ program = cc in (_, ap (λ (q : List ℕ). q ∷ arrivals ∷ Rattle.check_laws.specs.Files.source_files parts) same)
 opens_program (R.Simulate p width schedule steps) program parts e =
     let same : p ≡ program = cc in (_, ap (λ (q : List ℕ). q ∷ Rattle.check_laws.specs.Files.source_files parts) same)
 opens_program (R.Make name rows start) program parts e = absurd cc
@@ -148,7 +242,7 @@ pub refused_answer : (told now : Option Told) (request : Request) (program : Lis
     → IfSome told (λ t. CompiledAt (P.Refused refusal) (t.script program) (file_names request))
     → WhereTold told now TellsSame → NoCountChanged counts later → WhereTold told now (Answered (Some request) ended counts later ⊥)
 refused_answer told now request program refusal ended counts later built of is made same quiet =
-    quiet_answer told now (Some request) (C.Refused refusal) ended counts later is (λ e. cc) same quiet (λ t u e files. (go t e, files))
+    quiet_answer told now (Some request) (C.Refused refusal) ended counts later is tt tt same quiet (λ t u e files. (go t e, files))
   where
     go : (t : Told) → told ≡ Some t → IsOutcome t ended.arrivals (Some request) (Refused refusal)
     go t e =
@@ -156,30 +250,101 @@ refused_answer told now request program refusal ended counts later built of is m
         subst (λ (r : Refusal). IsOutcome t ended.arrivals (Some request) (Refused r)) (sym at.1.2)
         (outcome_of t request program ended.arrivals (Err at.1.0) built of at.0 at.1.1)
 
--- a program that couldn't be opened or read
-pub device_answer : BegunSame → (told now : Option Told) (request : Request) (program : List ℕ) (ended : Ended) (counts later : PerName)
-    → program_of request ≡ Some program → ended.cause ≡ C.Device → OpensCounted true (program ∷ []) counts later
-    → WhereTold told now TellsSame → IfSome told (ReadsFailed counts later) → WhereTold told now (Answered (Some request) ended counts later ⊥)
-device_answer begun None now request program ended counts later of is counted same reads = tt
-device_answer begun (Some t) None request program ended counts later of is counted same reads = same
-device_answer begun (Some t) (Some u) request program ended counts later of is counted same reads = record {
-  means = subst (λ (c : Cause). CauseMeans c (IsOutcome t ended.arrivals (Some request)) ended t u) (sym is) (λ r comes. begun r t u same.holds);
+-- the program is the file that is read as a whole
+whole_program : (request : Request) (program : List ℕ) → is_built request ≡ true → program_of request ≡ Some program → whole_files (Some request) ≡ program ∷ []
+whole_program (R.Check p) program built of = let same : p ≡ program = cc in ap (λ (q : List ℕ). q ∷ []) same
+whole_program (R.Run p options) program built of = let same : p ≡ program = cc in ap (λ (q : List ℕ). q ∷ []) same
+whole_program (R.Plan p) program built of = absurd (let bad : false ≡ true = built in cc)
+whole_program (R.Replay p arrivals) program built of = absurd (let bad : false ≡ true = built in cc)
+whole_program (R.Simulate p width schedule steps) program built of = absurd (let bad : false ≡ true = built in cc)
+whole_program (R.Make name rows start) program built of = absurd (let bad : false ≡ true = built in cc)
+
+-- a name that isn't opened isn't the program
+pub outside : (request : Request) (program : List ℕ) (parts : List Part) (n : List ℕ) → program_of request ≡ Some program
+    → (is_named (opens (Some request) parts) n || is_named (creates (Some request) parts) n) ≡ false → n ≢ program
+outside request program parts n of named same =
+    let first = opens_program request program parts of in
+    let e = ap (λ (ns : List (List ℕ)). is_named ns n || is_named (creates (Some request) parts) n) (sym first.1) ∙ named in
+    other_name program n (or_none _ ∙ or_first _ (is_named first.0 n) (is_named (creates (Some request) parts) n) e) same
+
+pub opening_of : (request : Request) (program : List ℕ) (parts : List Part) (old new : PerName) → program_of request ≡ Some program → FirstOpening program old new → OpeningFailed (opens (Some request) parts) program old new
+opening_of request program parts old new of h =
+    let first = opens_program request program parts of in
+    record {
+      before = [];
+      behind = first.0;
+      order = first.1;
+      rose = h.rose;
+      later = λ n none other. h.others n other;
+      others = λ n other. read_same (old n) (old n) (new n) (read_itself (old n)) (h.others n other);
+    }
+
+pub reading_of : (request : Request) (program : List ℕ) (parts : List Part) (old new : PerName) → is_built request ≡ true → program_of request ≡ Some program → FirstReading program old new
+    → ReadingFailed (files_of (Some request) parts) program old new
+reading_of request program parts old new built of h = record {
+  whole = ap (λ (ns : List (List ℕ)). is_named ns program) (whole_program request program built of) ∙ own_name program;
+  rose = h.rose;
+  only = h.only;
+  others = h.others;
+}
+
+-- a file other than the program wasn't read
+whole_only : (cause : Cause) (files : FilesOf) (program : List ℕ) (old new : PerName) (t : Told) → ((n : List ℕ) → n ≢ program → new n ≡ old n) → WholeFails old new t
+    → (cause ≡ C.ReadFailed program) ⊎ ((new program).reading ≡ (old program).reading) → WholeReads cause files old new t
+whole_only cause files program old new t others fails at n named differs = elim (same_or_not n program) as (λ _. ReadingAnswered cause t n) [
+  | inl e ↦ here e at
+  | inr other ↦ absurd (differs (ap (λ c. c.reading) (others n other)))
+]
+  where
+    here : n ≡ program → (cause ≡ C.ReadFailed program) ⊎ ((new program).reading ≡ (old program).reading) → ReadingAnswered cause t n
+    here e (inl is) = record { fails = fails n differs; answer = inl (is ∙ ap (λ (m : List ℕ). C.ReadFailed m) (sym e)) }
+    here e (inr same) = absurd (differs (ap (λ (m : List ℕ). (new m).reading) e ∙ same ∙ sym (ap (λ (m : List ℕ). (old m).reading) e)))
+
+-- an answer after which all files are as they were, and the counts changed of the program alone
+program_answer : (told now : Option Told) (request : Request) (program : List ℕ) (cause : Cause) (ended : Ended) (counts later : PerName) → program_of request ≡ Some program → ended.cause ≡ cause → IsUnrun cause
+    → WhereTold told now TellsSame → IfSome told (WholeFails counts later) → ((n : List ℕ) → n ≢ program → later n ≡ counts n)
+    → (cause ≡ C.NoMemory) ⊎ ((cause ≡ C.ReadFailed program) ⊎ ((later program).reading ≡ (counts program).reading))
+    → ((t u : Told) → SameFiles t u → CauseMeans cause (IsOutcome t ended.arrivals (Some request)) ended t u)
+    → ((t u : Told) (parts : List Part) → SameFiles t u → DevicesMean cause (files_of (Some request) parts) counts later ⊥ (IsOutcome t ended.arrivals (Some request)) ended t u)
+    → WhereTold told now (Answered (Some request) ended counts later ⊥)
+program_answer None now request program cause ended counts later of is unread same reads others at stands shows = tt
+program_answer (Some t) None request program cause ended counts later of is unread same reads others at stands shows = same
+program_answer (Some t) (Some u) request program cause ended counts later of is unread same reads others at stands shows = record {
+  means = subst (λ (c : Cause). CauseMeans c (IsOutcome t ended.arrivals (Some request)) ended t u) (sym is) (stands t u same.holds);
   others = λ parts are n named. same.holds n;
-  counted = λ parts are n named. counted.0.others n (outside parts n named);
-  device = λ device parts are. opening (failed parts) same.holds;
-  reads = reads;
+  counted = λ parts are n named. others n (outside request program parts n of named);
+  device = λ parts are. subst (λ (c : Cause). DevicesMean c (files_of (Some request) parts) counts later ⊥ (IsOutcome t ended.arrivals (Some request)) ended t u) (sym is) (shows t u parts same.holds);
+  stopped = λ parts are. subst (λ (c : Cause). StoppedBy c parts counts later) (sym is) (quiet_stopped cause parts counts later unread);
+  whole = λ parts are. subst (λ (c : Cause). WholeReads c (files_of (Some request) parts) counts later t) (sym is) (reading parts at);
+  reads = reads_whole (Some t) counts later reads;
 }
   where
-    outside : (parts : List Part) (n : List ℕ) → (is_named (opens (Some request) parts) n || is_named (creates (Some request) parts) n) ≡ false → is_named (program ∷ []) n ≡ false
-    outside parts n named =
-        let first = opens_program request program parts of in
-        let e = ap (λ (ns : List (List ℕ)). is_named ns n || is_named (creates (Some request) parts) n) (sym first.1) ∙ named in
-        or_none _ ∙ or_first _ (is_named first.0 n) (is_named (creates (Some request) parts) n) e
+    reading : (parts : List Part) → (cause ≡ C.NoMemory) ⊎ ((cause ≡ C.ReadFailed program) ⊎ ((later program).reading ≡ (counts program).reading)) → WholeReads cause (files_of (Some request) parts) counts later t
+    reading parts (inl wanting) = λ n named differs. record { fails = reads n differs; answer = inr wanting }
+    reading parts (inr h) = whole_only cause (files_of (Some request) parts) program counts later t others reads h
 
-    failed : (parts : List Part) → OpenFailed (opens (Some request) parts) counts later
-    failed parts =
-        let first = opens_program request program parts of in
-        (counted.1.0, ap (λ (ns : List (List ℕ)). is_named ns counted.1.0) first.1 ∙ or_true _ (is_named first.0 counted.1.0) (sym (or_none _) ∙ counted.1.1), counted.1.2)
+-- the same where memory was wanting for the name
+or_wanting : (expected cause : Cause) (Good : Cause → Type 0) → IsOr expected cause → Good expected → Good C.NoMemory → Good cause
+or_wanting expected cause Good (inl e) good wanting = subst Good (sym e) good
+or_wanting expected cause Good (inr e) good wanting = subst Good (sym e) wanting
+
+pub unopened_answer : BegunSame → (told now : Option Told) (request : Request) (program : List ℕ) (ended : Ended) (counts later : PerName) → program_of request ≡ Some program
+    → IsOr (C.OpenFailed program) ended.cause → FirstOpening program counts later → WhereTold told now TellsSame → IfSome told (WholeFails counts later)
+    → WhereTold told now (Answered (Some request) ended counts later ⊥)
+unopened_answer begun told now request program ended counts later of (inl is) counted same reads =
+    program_answer told now request program (C.OpenFailed program) ended counts later of is tt same reads counted.others (inr (inr counted.reading)) (λ t u files r comes. begun r t u files)
+    (λ t u parts files. inl (opening_of request program parts counts later of counted, files))
+unopened_answer begun told now request program ended counts later of (inr is) counted same reads =
+    program_answer told now request program C.NoMemory ended counts later of is tt same reads counted.others (inl refl) (λ t u files r comes. begun r t u files) (λ t u parts files. tt)
+
+pub unread_answer : BegunSame → (told now : Option Told) (request : Request) (program : List ℕ) (ended : Ended) (counts later : PerName) → is_built request ≡ true → program_of request ≡ Some program
+    → IsOr (C.ReadFailed program) ended.cause → FirstReading program counts later → WhereTold told now TellsSame → IfSome told (WholeFails counts later)
+    → WhereTold told now (Answered (Some request) ended counts later ⊥)
+unread_answer begun told now request program ended counts later built of (inl is) counted same reads =
+    program_answer told now request program (C.ReadFailed program) ended counts later of is tt same reads counted.others (inr (inl refl)) (λ t u files. files)
+    (λ t u parts files. reading_of request program parts counts later built of counted)
+unread_answer begun told now request program ended counts later built of (inr is) counted same reads =
+    program_answer told now request program C.NoMemory ended counts later of is tt same reads counted.others (inl refl) (λ t u files r comes. begun r t u files) (λ t u parts files. tt)
 
 -- ---- answers after the program is read
 
@@ -188,16 +353,16 @@ pub accepted_answer : OneOutcomeLaw → OnePartsLaw → (told mid now : Option T
     → is_built request ≡ true → program_of request ≡ Some program
     → IfSome told (λ t. CompiledAt (P.Checked c) (t.script program) (file_names request))
     → WhereTold told mid TellsSame → NoCountChanged counts between
-    → WhereTold mid now (λ t u. FilesShow (IsAcceptedOutcome request c ended.arrivals t) (creates (Some request) (built_parts c)) ended between later t u)
-    → CountsShow ended.cause (opens (Some request) (built_parts c)) (creates (Some request) (built_parts c)) between later
+    → WhereTold mid now (λ t u. FilesShow (IsAcceptedOutcome request c ended.arrivals t) (files_of (Some request) (built_parts c)) ended between later t u)
+    → CountsShow ended.cause (built_parts c) (files_of (Some request) (built_parts c)) between later
     → WhereTold told now (Answered (Some request) ended counts later ⊥)
 accepted_answer one parts_one None mid now request program c ended counts between later built of made same quiet files shown = tt
 accepted_answer one parts_one (Some t) None now request program c ended counts between later built of made same quiet files shown = absurd same
 accepted_answer one parts_one (Some t) (Some s) None request program c ended counts between later built of made same quiet files shown = files
 accepted_answer one parts_one (Some t) (Some s) (Some u) request program c ended counts between later built of made same quiet files shown =
-    go (subst (λ (k : PerName). FilesShow (IsAcceptedOutcome request c ended.arrivals t) (creates (Some request) (built_parts c)) ended k later t u) (same_counts counts between quiet)
-    (subst (λ (x : Told). FilesShow (IsAcceptedOutcome request c ended.arrivals x) (creates (Some request) (built_parts c)) ended between later x u) (same_told t s same) files))
-    (subst (λ (k : PerName). CountsShow ended.cause (opens (Some request) (built_parts c)) (creates (Some request) (built_parts c)) k later) (same_counts counts between quiet) shown)
+    go (subst (λ (k : PerName). FilesShow (IsAcceptedOutcome request c ended.arrivals t) (files_of (Some request) (built_parts c)) ended k later t u) (same_counts counts between quiet)
+    (subst (λ (x : Told). FilesShow (IsAcceptedOutcome request c ended.arrivals x) (files_of (Some request) (built_parts c)) ended between later x u) (same_told t s same) files))
+    (subst (λ (k : PerName). CountsShow ended.cause (built_parts c) (files_of (Some request) (built_parts c)) k later) (same_counts counts between quiet) shown)
   where
     comes : IsOutcome t ended.arrivals (Some request) (accepted_outcome request c t ended.arrivals)
     comes = outcome_of t request program ended.arrivals (Ok c) built of made.0 made.1
@@ -205,82 +370,62 @@ accepted_answer one parts_one (Some t) (Some s) (Some u) request program c ended
     parts_are : (parts : List Part) → ArePartsIn t (Some request) parts → built_parts c ≡ parts
     parts_are parts are = parts_one (Some request) t (built_parts c) parts (parts_in t request program (Ok c) of made.0 made.1) are
 
-    failed_device : SameFiles t u ⊎ CreateFailed (creates (Some request) (built_parts c)) counts later
-        → OpenFailed (opens (Some request) (built_parts c)) counts later ⊎ CreateFailed (creates (Some request) (built_parts c)) counts later
-        → FailedDevice (Some request) (built_parts c) counts later ⊥ (IsOutcome t ended.arrivals (Some request)) ended t u
-    failed_device (inr failed) cause = creating failed
-    failed_device (inl files) (inl failed) = opening failed files
-    failed_device (inl files) (inr failed) = creating failed
+    to : (r : RequestOutcome) → IsAcceptedOutcome request c ended.arrivals t r → IsOutcome t ended.arrivals (Some request) r
+    to r e = subst (IsOutcome t ended.arrivals (Some request)) (sym e) comes
 
-    go : FilesShow (IsAcceptedOutcome request c ended.arrivals t) (creates (Some request) (built_parts c)) ended counts later t u
-        → CountsShow ended.cause (opens (Some request) (built_parts c)) (creates (Some request) (built_parts c)) counts later
+    go : FilesShow (IsAcceptedOutcome request c ended.arrivals t) (files_of (Some request) (built_parts c)) ended counts later t u
+        → CountsShow ended.cause (built_parts c) (files_of (Some request) (built_parts c)) counts later
         → Answered (Some request) ended counts later ⊥ t u
     go f k = record {
-      means = means_map ended.cause (IsAcceptedOutcome request c ended.arrivals t) (IsOutcome t ended.arrivals (Some request)) ended t u
-          (λ r e. subst (IsOutcome t ended.arrivals (Some request)) (sym e) comes)
+      means = means_map ended.cause (IsAcceptedOutcome request c ended.arrivals t) (IsOutcome t ended.arrivals (Some request)) ended t u to
           (λ r is. one (Some request) t ended.arrivals r _ is comes) f.means;
       others = λ parts are n named. f.others n (ap (λ (ps : List Part). is_named (creates (Some request) ps) n) (parts_are parts are) ∙ named);
       counted = λ parts are n named.
           k.others n (ap (λ (ps : List Part). is_named (opens (Some request) ps) n || is_named (creates (Some request) ps) n) (parts_are parts are) ∙ named);
-      device = λ device parts are.
-          subst (λ (ps : List Part). FailedDevice (Some request) ps counts later ⊥ (IsOutcome t ended.arrivals (Some request)) ended t u) (parts_are parts are)
-          (failed_device (f.last device) (k.device device));
+      device = λ parts are.
+          subst (λ (ps : List Part). DevicesMean ended.cause (files_of (Some request) ps) counts later ⊥ (IsOutcome t ended.arrivals (Some request)) ended t u) (parts_are parts are)
+          (devices_map ended.cause (files_of (Some request) (built_parts c)) counts later ⊥ (IsAcceptedOutcome request c ended.arrivals t) (IsOutcome t ended.arrivals (Some request)) ended t u to f.device);
+      stopped = λ parts are. subst (λ (ps : List Part). StoppedBy ended.cause ps counts later) (parts_are parts are) k.stopped;
+      whole = λ parts are n named differs.
+          absurd (differs (k.reading n (ap (λ (ps : List Part). is_named (row_files (Some request) ps) n) (parts_are parts are) ∙ named)));
       reads = f.reads;
     }
 
 -- the line of what was done
-accepted_line_of : (told mid : Option Told) (request : Request) (program : List ℕ) (c : CheckedGraph) (cause : Cause) (arrivals : Arrivals) (line : List ℕ)
-    → is_built request ≡ true → program_of request ≡ Some program
+may_come : (request : Request) (c : CheckedGraph) (arrivals : Arrivals) (counts now : PerName) (r : RequestOutcome) → IsSomeProgram request c → MayBeOutcome request c arrivals counts now r
+    → MayComeTo (Some request) arrivals counts now r
+may_come (R.Check p) c arrivals counts now r from e = subst (MayComeTo (Some (R.Check p)) arrivals counts now) (sym e) from
+may_come (R.Run p options) c arrivals counts now r from (g, m, ran, e) = subst (MayComeTo (Some (R.Run p options)) arrivals counts now) (sym e) (from, ran)
+may_come (R.Plan p) c arrivals counts now r from h = absurd h
+may_come (R.Replay p file) c arrivals counts now r from h = absurd h
+may_come (R.Simulate p width schedule steps) c arrivals counts now r from h = absurd h
+may_come (R.Make name rows start) c arrivals counts now r from h = absurd h
+
+told_outcome : (told mid : Option Told) (request : Request) (program : List ℕ) (c : CheckedGraph) (arrivals : Arrivals) (r : RequestOutcome) → is_built request ≡ true → program_of request ≡ Some program
     → IfSome told (λ t. CompiledAt (P.Checked c) (t.script program) (file_names request)) → WhereTold told mid TellsSame
-    → IsLine cause (IsToldAcceptedOutcome request c arrivals mid) line → IsLine cause (IsToldOutcome (Some request) told arrivals) line
-accepted_line_of None mid request program c cause arrivals line built of made same is = line_map cause (IsToldAcceptedOutcome request c arrivals mid) (IsToldOutcome (Some request) None arrivals) line (λ r h. tt) is
-accepted_line_of (Some t) None request program c cause arrivals line built of made same is = absurd same
-accepted_line_of (Some t) (Some s) request program c cause arrivals line built of made same is =
-    line_map cause (IsToldAcceptedOutcome request c arrivals (Some s)) (IsToldOutcome (Some request) (Some t) arrivals) line
-    (λ r e. subst (IsOutcome t arrivals (Some request)) (sym (e ∙ ap (λ (x : Told). accepted_outcome request c x arrivals) (same_told t s same)))
-    (outcome_of t request program arrivals (Ok c) built of made.0 made.1)) is
+    → IfSome mid (λ t. IsAcceptedOutcome request c arrivals t r) → IfSome told (λ t. IsOutcome t arrivals (Some request) r)
+told_outcome None mid request program c arrivals r built of made same e = tt
+told_outcome (Some t) None request program c arrivals r built of made same e = absurd same
+told_outcome (Some t) (Some s) request program c arrivals r built of made same e =
+    subst (IsOutcome t arrivals (Some request)) (sym (e ∙ ap (λ (x : Told). accepted_outcome request c x arrivals) (same_told t s same)))
+    (outcome_of t request program arrivals (Ok c) built of made.0 made.1)
 
-pub accepted_line : (told mid : Option Told) (request : Request) (program : List ℕ) (c : CheckedGraph) (cause : Cause) (arrivals : Arrivals) (line : Result (List ℕ) NoMemory)
-    → is_built request ≡ true → program_of request ≡ Some program
+accepted_line_of : (told mid : Option Told) (request : Request) (program : List ℕ) (c : CheckedGraph) (cause : Cause) (arrivals : Arrivals) (line : List ℕ) (counts now : PerName)
+    → is_built request ≡ true → program_of request ≡ Some program → IsSomeProgram request c
     → IfSome told (λ t. CompiledAt (P.Checked c) (t.script program) (file_names request)) → WhereTold told mid TellsSame
-    → IfOk line (IsLine cause (IsToldAcceptedOutcome request c arrivals mid)) → IfOk line (IsLine cause (IsToldOutcome (Some request) told arrivals))
-accepted_line told mid request program c cause arrivals (Ok line) built of made same is = accepted_line_of told mid request program c cause arrivals line built of made same is
-accepted_line told mid request program c cause arrivals (Err e) built of made same is = tt
+    → IsLine cause (IsToldAcceptedOutcome request c arrivals mid counts now) line → IsLine cause (IsToldOutcome (Some request) told arrivals counts now) line
+accepted_line_of told mid request program c cause arrivals line counts now built of from made same is =
+    line_map cause (IsToldAcceptedOutcome request c arrivals mid counts now) (IsToldOutcome (Some request) told arrivals counts now) line
+    (λ r ends h. (may_come request c arrivals counts now r from h.0, told_outcome told mid request program c arrivals r built of made same h.1)) is
 
--- ---- what the counts show
-
-some_rose : (opened created : List (List ℕ)) (old new : PerName) → OpenFailed opened old new ⊎ CreateFailed created old new → SomeRose old new
-some_rose opened created old new (inl (n, named, rose)) = (n, inl rose)
-some_rose opened created old new (inr (n, named, rose)) = (n, inr rose)
-
-pub quiet_shown : (cause : Cause) (request : Option Request) (old new : PerName) (Line : Type 0) → (cause ≡ C.Device → ⊥) → (cause ≡ C.BadWords → request ≡ None) → NoCountChanged old new
-    → Shown cause request old new Line
-quiet_shown C.Done request old new Line other words quiet = quiet
-quiet_shown (C.Stopped fault) request old new Line other words quiet = quiet
-quiet_shown C.BadWords request old new Line other words quiet = (words refl, quiet)
-quiet_shown (C.Refused refusal) request old new Line other words quiet = quiet
-quiet_shown C.NotBuilt request old new Line other words quiet = quiet
-quiet_shown C.Device request old new Line other words quiet = absurd (other refl)
-quiet_shown C.NoMemory request old new Line other words quiet = tt
-
-shown_at : (cause : Cause) (request : Option Request) (opened created : List (List ℕ)) (old new : PerName) (Line : Type 0)
-    → CountsShow cause opened created old new → Shown cause request old new Line
-shown_at C.Done request opened created old new Line h = h.quiet (λ e. cc) (λ e. cc)
-shown_at (C.Stopped fault) request opened created old new Line h = h.quiet (λ e. cc) (λ e. cc)
-shown_at C.BadWords request opened created old new Line h = absurd (h.words refl)
-shown_at (C.Refused refusal) request opened created old new Line h = h.quiet (λ e. cc) (λ e. cc)
-shown_at C.NotBuilt request opened created old new Line h = h.quiet (λ e. cc) (λ e. cc)
-shown_at C.Device request opened created old new Line h = inl (some_rose opened created old new (h.device refl))
-shown_at C.NoMemory request opened created old new Line h = tt
-
-pub shown_after : (cause : Cause) (request : Option Request) (opened created : List (List ℕ)) (old mid new : PerName) (Line : Type 0)
-    → NoCountChanged old mid → CountsShow cause opened created mid new → Shown cause request old new Line
-shown_after cause request opened created old mid new Line quiet h =
-    subst (λ (k : PerName). Shown cause request k new Line) (same_counts old mid quiet) (shown_at cause request opened created mid new Line h)
-
-pub device_shown : (cause : Cause) (request : Option Request) (program : List ℕ) (old new : PerName) (Line : Type 0) → cause ≡ C.Device → OpensCounted true (program ∷ []) old new
-    → Shown cause request old new Line
-device_shown cause request program old new Line is counted = subst (λ (k : Cause). Shown k request old new Line) (sym is) (inl (counted.1.0, inl counted.1.2))
+pub accepted_line : (told mid : Option Told) (request : Request) (program : List ℕ) (c : CheckedGraph) (cause : Cause) (arrivals : Arrivals) (line : Result (List ℕ) NoMemory) (counts between now : PerName)
+    → is_built request ≡ true → program_of request ≡ Some program → IsSomeProgram request c
+    → IfSome told (λ t. CompiledAt (P.Checked c) (t.script program) (file_names request)) → WhereTold told mid TellsSame → NoCountChanged counts between
+    → IfOk line (IsLine cause (IsToldAcceptedOutcome request c arrivals mid between now)) → IfOk line (IsLine cause (IsToldOutcome (Some request) told arrivals counts now))
+accepted_line told mid request program c cause arrivals (Ok line) counts between now built of from made same quiet is =
+    accepted_line_of told mid request program c cause arrivals line counts now built of from made same
+    (subst (λ (k : PerName). IsLine cause (IsToldAcceptedOutcome request c arrivals mid k now) line) (same_counts counts between quiet) is)
+accepted_line told mid request program c cause arrivals (Err e) counts between now built of from made same quiet is = tt
 
 -- a request that is built isn't decided by its words
 pub built_words : (request : Request) (cause : Cause) (old new : PerName) → is_built request ≡ true → ByWords (Some request) cause old new

@@ -11,10 +11,11 @@ use Rattle.run_report.specs.declared.cause.Cause.{Cause}
 use Rattle.run_report.specs.declared.cause.Cause.TheVariants as C
 use Rattle.run_report.specs.Texts.{status_text}
 use Rattle.command_line.specs.declared.request.Request.{Request}
-use Rattle.spl_driver.specs.Answer.{IsRun, NoCountChanged, Shown, SomeRose, cause_of}
+use Rattle.spl_driver.specs.Answer.{IsOr, IsRun, LINE, cause_of}
+use Rattle.spl_driver.specs.Shown.{LineShown, Shown, ShownBy}
 use Rattle.spl_driver.specs.Lines.{is_run, ToldAs, LinePoured, whole, front, failed, wanting, Pours, PoursLine, IsLine, IsLineOf, PouredText, PouredLine, PouredFront, Said}
 use Rattle.spl_driver.specs.Outcome.{RequestOutcome}
-use Rattle.spl_driver.proofs.Answering.{quiet_stop}
+use Rattle.spl_driver.proofs.Showing.{line_shown}
 
 -- ---- causes of requests that were carried out
 
@@ -24,7 +25,9 @@ run_is (C.Stopped fault) e = (Some fault, refl)
 run_is C.BadWords e = cc
 run_is (C.Refused refusal) e = cc
 run_is C.NotBuilt e = cc
-run_is C.Device e = cc
+run_is (C.OpenFailed name) e = cc
+run_is (C.ReadFailed name) e = cc
+run_is (C.WriteFailed name) e = cc
 run_is C.NoMemory e = cc
 
 of_fault : (fault : Option Fault) → is_run (cause_of fault) ≡ true
@@ -50,7 +53,7 @@ poured_front cause line (Some old) now before after e is other (n, within, held)
     front refl (not_run cause other) (subst (λ (x : PourAnswer). Counted (failed_write {T = Unit {0}} (Err x)) before after) is counted).1 n held
 
 pub poured_failed : (cause : Cause) (line : List ℕ) (old now : Option (List ℕ)) (before after : ℕ) (e : PourAnswer) → e ≡ E.Failed → is_run cause ≡ true
-    → AllPoured old now (Err e) line → Counted (failed_write {T = Unit {0}} (Err e)) before after → Pours cause C.Device line old now (Rose before after)
+    → AllPoured old now (Err e) line → Counted (failed_write {T = Unit {0}} (Err e)) before after → Pours cause (C.WriteFailed LINE) line old now (Rose before after)
 poured_failed cause line None now before after e is run poured counted = tt
 poured_failed cause line (Some old) now before after e is run (n, within, held) counted =
     failed refl (run_is cause run) (subst (λ (x : PourAnswer). Counted (failed_write {T = Unit {0}} (Err x)) before after) is counted).1 n held
@@ -76,59 +79,81 @@ text_front : (text line old : List ℕ) (now : Option (List ℕ)) (Failed : Type
 text_front text line old now Failed e rises n held = inr (rises, (n, held ∙ ap (λ (l : List ℕ). Some (old ++ take n l)) e))
 
 -- what the counts of the shelf show of a cause, before it is told
-abbrev pub ShelfShows : Cause → PerName → PerName → Type 0
-ShelfShows cause counts later = (cause ≡ C.Device → SomeRose counts later) × (IsRun cause → NoCountChanged counts later)
+abbrev pub ShelfShows : Cause → Option Request → PerName → PerName → Type 0 → Type 0
+ShelfShows cause request counts later Failed =
+    ((name : List ℕ) → cause ≡ C.WriteFailed name → ShownBy (C.WriteFailed name) request counts later) × (IsRun cause → Failed → LineShown LINE request counts later Failed)
 
-said_whole : (cause : Cause) (Is : RequestOutcome → Type 0) (counts later : PerName) (line old : List ℕ) (now : Option (List ℕ)) (Failed : Type 0) → ShelfShows cause counts later
-    → IsLine cause Is line → now ≡ Some (old ++ line) → Said cause Is counts later (Some old) now Failed
-said_whole C.Done Is counts later line old now Failed shows is held = (line, is, held)
-said_whole (C.Stopped fault) Is counts later line old now Failed shows is held = (line, is, held)
-said_whole C.NoMemory Is counts later line old now Failed shows is held = tt
-said_whole C.BadWords Is counts later line old now Failed shows is held = text_whole _ line old now Failed is held
-said_whole (C.Refused refusal) Is counts later line old now Failed shows is held = text_whole _ line old now Failed is held
-said_whole C.NotBuilt Is counts later line old now Failed shows is held = text_whole _ line old now Failed is held
-said_whole C.Device Is counts later line old now Failed shows is held = inl (shows.0 refl, text_whole _ line old now Failed is held)
+said_whole : (cause : Cause) (request : Option Request) (Is : RequestOutcome → Type 0) (counts later : PerName) (line old : List ℕ) (now : Option (List ℕ)) (Failed : Type 0) → ShelfShows cause request counts later Failed
+    → IsLine cause Is line → now ≡ Some (old ++ line) → Said cause request Is counts later (Some old) now Failed
+said_whole C.Done request Is counts later line old now Failed shows is held = (line, is, held)
+said_whole (C.Stopped fault) request Is counts later line old now Failed shows is held = (line, is, held)
+said_whole C.NoMemory request Is counts later line old now Failed shows is held = tt
+said_whole C.BadWords request Is counts later line old now Failed shows is held = text_whole _ line old now Failed is held
+said_whole (C.Refused refusal) request Is counts later line old now Failed shows is held = text_whole _ line old now Failed is held
+said_whole C.NotBuilt request Is counts later line old now Failed shows is held = text_whole _ line old now Failed is held
+said_whole (C.OpenFailed name) request Is counts later line old now Failed shows is held = text_whole _ line old now Failed is held
+said_whole (C.ReadFailed name) request Is counts later line old now Failed shows is held = text_whole _ line old now Failed is held
+said_whole (C.WriteFailed name) request Is counts later line old now Failed shows is held = inl (shows.0 name refl, text_whole _ line old now Failed is held)
 
-said_front : (cause : Cause) (Is : RequestOutcome → Type 0) (counts later : PerName) (line old : List ℕ) (now : Option (List ℕ)) (Failed : Type 0) → ShelfShows cause counts later
-    → IsLine cause Is line → (IsRun cause → ⊥) → Failed → (n : ℕ) → now ≡ Some (old ++ take n line) → Said cause Is counts later (Some old) now Failed
-said_front C.Done Is counts later line old now Failed shows is other rises n held = absurd (other (None, refl))
-said_front (C.Stopped fault) Is counts later line old now Failed shows is other rises n held = absurd (other (Some fault, refl))
-said_front C.NoMemory Is counts later line old now Failed shows is other rises n held = tt
-said_front C.BadWords Is counts later line old now Failed shows is other rises n held = text_front _ line old now Failed is rises n held
-said_front (C.Refused refusal) Is counts later line old now Failed shows is other rises n held = text_front _ line old now Failed is rises n held
-said_front C.NotBuilt Is counts later line old now Failed shows is other rises n held = text_front _ line old now Failed is rises n held
-said_front C.Device Is counts later line old now Failed shows is other rises n held = inl (shows.0 refl, text_front _ line old now Failed is rises n held)
+said_front : (cause : Cause) (request : Option Request) (Is : RequestOutcome → Type 0) (counts later : PerName) (line old : List ℕ) (now : Option (List ℕ)) (Failed : Type 0) → ShelfShows cause request counts later Failed
+    → IsLine cause Is line → (IsRun cause → ⊥) → Failed → (n : ℕ) → now ≡ Some (old ++ take n line) → Said cause request Is counts later (Some old) now Failed
+said_front C.Done request Is counts later line old now Failed shows is other rises n held = absurd (other (None, refl))
+said_front (C.Stopped fault) request Is counts later line old now Failed shows is other rises n held = absurd (other (Some fault, refl))
+said_front C.NoMemory request Is counts later line old now Failed shows is other rises n held = tt
+said_front C.BadWords request Is counts later line old now Failed shows is other rises n held = text_front _ line old now Failed is rises n held
+said_front (C.Refused refusal) request Is counts later line old now Failed shows is other rises n held = text_front _ line old now Failed is rises n held
+said_front C.NotBuilt request Is counts later line old now Failed shows is other rises n held = text_front _ line old now Failed is rises n held
+said_front (C.OpenFailed name) request Is counts later line old now Failed shows is other rises n held = text_front _ line old now Failed is rises n held
+said_front (C.ReadFailed name) request Is counts later line old now Failed shows is other rises n held = text_front _ line old now Failed is rises n held
+said_front (C.WriteFailed name) request Is counts later line old now Failed shows is other rises n held = inl (shows.0 name refl, text_front _ line old now Failed is rises n held)
 
-said_poured : (cause r : Cause) (Is : RequestOutcome → Type 0) (counts later : PerName) (line old : List ℕ) (now : Option (List ℕ)) (Failed : Type 0) → ShelfShows cause counts later
-    → IsLine cause Is line → LinePoured cause r line old now Failed → Said r Is counts later (Some old) now Failed
-said_poured cause r Is counts later line old now Failed shows is (whole e held) =
-    subst (λ (c : Cause). Said c Is counts later (Some old) now Failed) (sym e) (said_whole cause Is counts later line old now Failed shows is held)
-said_poured cause r Is counts later line old now Failed shows is (front e other rises n held) =
-    subst (λ (c : Cause). Said c Is counts later (Some old) now Failed) (sym e) (said_front cause Is counts later line old now Failed shows is other rises n held)
-said_poured cause r Is counts later line old now Failed shows is (failed e (fault, run) rises n held) =
-    subst (λ (c : Cause). Said c Is counts later (Some old) now Failed) (sym e)
-    (inr (shows.1 (fault, run), (rises, (cause_of fault, line, line_of_run Is cause line fault run is, n, held))))
-said_poured cause r Is counts later line old now Failed shows is (wanting e) = subst (λ (c : Cause). Said c Is counts later (Some old) now Failed) (sym e) tt
+said_poured : (cause r : Cause) (request : Option Request) (Is : RequestOutcome → Type 0) (counts later : PerName) (line old : List ℕ) (now : Option (List ℕ)) (Failed : Type 0) → ShelfShows cause request counts later Failed
+    → IsLine cause Is line → LinePoured cause r line old now Failed → Said r request Is counts later (Some old) now Failed
+said_poured cause r request Is counts later line old now Failed shows is (whole e held) =
+    subst (λ (c : Cause). Said c request Is counts later (Some old) now Failed) (sym e) (said_whole cause request Is counts later line old now Failed shows is held)
+said_poured cause r request Is counts later line old now Failed shows is (front e other rises n held) =
+    subst (λ (c : Cause). Said c request Is counts later (Some old) now Failed) (sym e) (said_front cause request Is counts later line old now Failed shows is other rises n held)
+said_poured cause r request Is counts later line old now Failed shows is (failed e (fault, run) rises n held) =
+    subst (λ (c : Cause). Said c request Is counts later (Some old) now Failed) (sym e)
+    (inr (shows.1 (fault, run) rises, (rises, (cause_of fault, line, line_of_run Is cause line fault run is, n, held))))
+said_poured cause r request Is counts later line old now Failed shows is (wanting e) = subst (λ (c : Cause). Said c request Is counts later (Some old) now Failed) (sym e) tt
 
-said_nothing : (r : Cause) (Is : RequestOutcome → Type 0) (counts later : PerName) (old now : Option (List ℕ)) (Failed : Type 0) → r ≡ C.NoMemory → Said r Is counts later old now Failed
-said_nothing r Is counts later None now Failed e = tt
-said_nothing r Is counts later (Some old) now Failed e = subst (λ (c : Cause). Said c Is counts later (Some old) now Failed) (sym e) tt
+said_nothing : (r : Cause) (request : Option Request) (Is : RequestOutcome → Type 0) (counts later : PerName) (old now : Option (List ℕ)) (Failed : Type 0) → r ≡ C.NoMemory → Said r request Is counts later old now Failed
+said_nothing r request Is counts later None now Failed e = tt
+said_nothing r request Is counts later (Some old) now Failed e = subst (λ (c : Cause). Said c request Is counts later (Some old) now Failed) (sym e) tt
 
 -- what the shelf's counts show before the line is told
-shelf_shows : (cause : Cause) (request : Option Request) (counts later : PerName) → Shown cause request counts later ⊥ → ShelfShows cause counts later
-shelf_shows cause request counts later h = (rose, λ run. quiet_stop cause request counts later ⊥ run h)
+shelf_shows : (cause : Cause) (request : Option Request) (counts later : PerName) (Failed : Type 0) → Shown cause request counts later ⊥ → ShelfShows cause request counts later Failed
+shelf_shows cause request counts later Failed h = (wrote, λ run failed. line_shown cause request counts later ⊥ Failed run failed h)
   where
-    at_device : Shown C.Device request counts later ⊥ → SomeRose counts later
-    at_device (inl rose) = rose
-    at_device (inr (never, same)) = absurd never
+    at_write : (name : List ℕ) → Shown (C.WriteFailed name) request counts later ⊥ → ShownBy (C.WriteFailed name) request counts later
+    at_write name (inl h) = h
+    at_write name (inr h) = absurd h.failed
 
-    rose : cause ≡ C.Device → SomeRose counts later
-    rose e = at_device (subst (λ (c : Cause). Shown c request counts later ⊥) e h)
+    wrote : (name : List ℕ) → cause ≡ C.WriteFailed name → ShownBy (C.WriteFailed name) request counts later
+    wrote name e = at_write name (subst (λ (c : Cause). Shown c request counts later ⊥) e h)
 
 -- the line of a cause, once it is told
 pub said : (cause r : Cause) (request : Option Request) (Is : RequestOutcome → Type 0) (counts later : PerName) (line : Result (List ℕ) NoMemory) (old now : Option (List ℕ)) (Failed : Type 0)
-    → Shown cause request counts later ⊥ → IfOk line (IsLine cause Is) → PoursLine cause r line old now Failed → Said r Is counts later old now Failed
+    → Shown cause request counts later ⊥ → IfOk line (IsLine cause Is) → PoursLine cause r line old now Failed → Said r request Is counts later old now Failed
 said cause r request Is counts later (Ok line) None now Failed shown is poured = tt
 said cause r request Is counts later (Ok line) (Some old) now Failed shown is poured =
-    said_poured cause r Is counts later line old now Failed (shelf_shows cause request counts later shown) is poured
-said cause r request Is counts later (Err e) old now Failed shown is poured = said_nothing r Is counts later old now Failed poured
+    said_poured cause r request Is counts later line old now Failed (shelf_shows cause request counts later Failed shown) is poured
+said cause r request Is counts later (Err e) old now Failed shown is poured = said_nothing r request Is counts later old now Failed poured
+
+-- ---- how the line of a request that was carried out comes to be told
+
+-- its writing failed, or memory was wanting for that name
+pub unwritten : (cause r : Cause) (Failed : Type 0) → IsOr (C.WriteFailed LINE) r → IsRun cause → Failed → ToldAs cause r Failed
+unwritten cause r Failed (inl e) run rises = inr (inr (e, run, rises))
+unwritten cause r Failed (inr e) run rises = inr (inl e)
+
+pub poured_unwritten : (cause r : Cause) (line : List ℕ) (old now : Option (List ℕ)) (Failed : Type 0) → IsOr (C.WriteFailed LINE) r → Pours cause (C.WriteFailed LINE) line old now Failed → Pours cause r line old now Failed
+poured_unwritten cause r line old now Failed (inl e) h = subst (λ (c : Cause). Pours cause c line old now Failed) (sym e) h
+poured_unwritten cause r line old now Failed (inr e) h = subst (λ (c : Cause). Pours cause c line old now Failed) (sym e) (poured_wanting cause line old now Failed)
+
+pub unwritten_run : (expected r : Cause) → IsOr (C.WriteFailed LINE) r → IsRun r → ⊥
+unwritten_run expected r (inl e) (None, is) = let h : C.WriteFailed LINE ≡ C.Done = sym e ∙ is in cc
+unwritten_run expected r (inl e) (Some fault, is) = let h : C.WriteFailed LINE ≡ C.Stopped fault = sym e ∙ is in cc
+unwritten_run expected r (inr e) (None, is) = let h : C.NoMemory ≡ C.Done = sym e ∙ is in cc
+unwritten_run expected r (inr e) (Some fault, is) = let h : C.NoMemory ≡ C.Stopped fault = sym e ∙ is in cc

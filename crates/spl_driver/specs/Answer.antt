@@ -1,27 +1,32 @@
 -- Which answer a request gets, and what each answer means.
-use Rattle.std.specs.Prelude.{◌≡◌, ◌≢◌, ◌-◌, ◌^◌, ◌⊎◌, ◌||◌, min, ℕ, Bool, List, [], ◌∷◌, map, length, take, false, true, Option, Some, None, ⊤, IfSome}
-use Rattle.std.specs.List.{filter_map}
+use Rattle.std.specs.Prelude.{◌≡◌, ◌≢◌, ◌-◌, ◌^◌, ◌⊎◌, ◌||◌, min, ℕ, Bool, List, [], ◌∷◌, ◌++◌, codes, map, length, take, false, true, Option, Some, None, ⊤, IfSome, slice_get}
+use Rattle.std.specs.List.{All, filter_map}
 use Rattle.feed_pour.specs.Counts.{PerName, Rose}
 use Rattle.feed_pour.specs.Contents.{Told}
 use Rattle.spl_value.specs.declared.item.Fault.{Fault}
+use Rattle.spl_value.specs.declared.item.FaultKind.TheVariants as K
 use Rattle.language_model.specs.declared.checked.Part.{Part}
 use Rattle.language_model.specs.declared.checked.Part.TheVariants as A
 use Rattle.stream_model.specs.declared.record.Arrivals.{Arrivals}
 use Rattle.stream_model.specs.declared.record.Counts.{Counts}
 use Rattle.stream_model.specs.declared.record.SinkCount.{SinkCount}
 use Rattle.language_model.specs.CheckedGraph.{CheckedGraph}
+use Rattle.stream_model.specs.Arrivals.{entries_in, several}
 use Rattle.stream_model.specs.Ends.{run_fault}
 use Rattle.stream_model.specs.Meaning.{Graph, Meaning, text}
 use Rattle.stream_model.specs.Operators.{Operator}
 use Rattle.stream_model.specs.Stages.{out}
+use Rattle.list_engine.specs.Runs.{AreWhole}
 use Rattle.run_report.specs.declared.cause.Cause.{Cause}
 use Rattle.run_report.specs.declared.cause.Cause.TheVariants as C
 use Rattle.command_line.specs.declared.request.Request.{Request}
 use Rattle.command_line.specs.declared.request.Request.TheVariants as R
 use Rattle.check_laws.specs.Files.{is_named}
+use Rattle.source_rows.specs.Counting.{OnlyRead, OnlyReads, OpeningFailed}
+use Rattle.source_rows.specs.Sources.{ReadsFail}
 use Rattle.spl_driver.specs.Built.{is_built}
-use Rattle.spl_driver.specs.Files.{opens, creates}
-use Rattle.spl_driver.specs.Outcome.{RequestOutcome, NoRequest, Unreadable, Refused, NotBuilt, Checks, Runs, IsOutcome, ArePartsIn, has_fault, several}
+use Rattle.spl_driver.specs.Files.{FilesOf, opens, creates, files_of}
+use Rattle.spl_driver.specs.Outcome.{RequestOutcome, NoRequest, Unreadable, Refused, NotBuilt, Checks, Runs, IsOutcome, ArePartsIn, has_fault}
 use Rattle.spl_driver.specs.declared.ended.Ended.{Ended}
 
 -- ---- a run that was carried out
@@ -57,12 +62,17 @@ sink_count m _ op = None
 abbrev pub counts_of : Graph → Meaning → Counts
 counts_of g m = record { channels = []; sinks = filter_map (λ op. sink_count m op.clauses op) g.ops }
 
--- The run of this graph with this meaning was carried out: each sink's file holds its text, the counts are the meaning's,
--- and the record has a list for each operator with several connections.
+-- the record has a list for each operator with several connections, and each is whole in this meaning
+pub record IsRecordOf (g : Graph) (m : Meaning) (arrivals : Arrivals) : Type 0 where
+  pub lists : map (λ l. l.op) arrivals.lists ≡ several g
+  pub whole : AreWhole g m (entries_in arrivals.lists)
+
+-- The run of this graph with this meaning was carried out: each sink's file holds its text, the counts are the meaning's, and the record
+-- is the run's.
 pub record CarriedOut (g : Graph) (m : Meaning) (ended : Ended) (new : Told) : Type 0 where
   pub texts : EachSink (HoldsText m new) g.ops
   pub counts : ended.counts ≡ counts_of g m
-  pub lists : map (λ l. l.op) ended.arrivals.lists ≡ several g
+  pub recorded : IsRecordOf g m ended.arrivals
 
 abbrev pub SameFiles : Told → Told → Type 0
 SameFiles old new = (n : List ℕ) → new.holds n ≡ old.holds n
@@ -72,9 +82,13 @@ abbrev pub RunsTo : Option Fault → (RequestOutcome → Type 0) → Ended → T
 RunsTo fault Is ended new =
     (c : CheckedGraph) × (g : Graph) × (m : Meaning) × Is (Runs c g m) × (run_fault g m ≡ fault) × CarriedOut g m ended new
 
--- a program was checked, and no file changed
-abbrev pub ChecksTo : (RequestOutcome → Type 0) → Told → Told → Type 0
-ChecksTo Is old new = (c : CheckedGraph) × Is (Checks c) × SameFiles old new
+-- nothing was counted
+abbrev pub uncounted : Counts
+uncounted = record { channels = []; sinks = [] }
+
+-- a program was checked, no file changed, and nothing was counted
+abbrev pub ChecksTo : (RequestOutcome → Type 0) → Ended → Told → Told → Type 0
+ChecksTo Is ended old new = (c : CheckedGraph) × Is (Checks c) × SameFiles old new × (ended.counts ≡ uncounted)
 
 -- ---- what each answer means
 
@@ -85,39 +99,140 @@ Begun _ old new = SameFiles old new
 
 -- what a cause means, by the outcome of the request and the files
 abbrev pub CauseMeans : Cause → (RequestOutcome → Type 0) → Ended → Told → Told → Type 0
-CauseMeans C.Done Is ended old new = ChecksTo Is old new ⊎ RunsTo None Is ended new
+CauseMeans C.Done Is ended old new = ChecksTo Is ended old new ⊎ RunsTo None Is ended new
 CauseMeans (C.Stopped fault) Is ended old new = RunsTo (Some fault) Is ended new
 CauseMeans C.BadWords Is ended old new = Is NoRequest × SameFiles old new
 CauseMeans (C.Refused refusal) Is ended old new = Is (Refused refusal) × SameFiles old new
 CauseMeans C.NotBuilt Is ended old new = Is NotBuilt × SameFiles old new
-CauseMeans C.Device Is ended old new = (result : RequestOutcome) → Is result → Begun result old new
+CauseMeans (C.OpenFailed name) Is ended old new = (result : RequestOutcome) → Is result → Begun result old new
+CauseMeans (C.ReadFailed name) Is ended old new = SameFiles old new
+CauseMeans (C.WriteFailed name) Is ended old new = (result : RequestOutcome) → Is result → Begun result old new
 CauseMeans C.NoMemory Is ended old new = (result : RequestOutcome) → Is result → Begun result old new
 
--- the count of opening or reading of one of the first names rose, or of creating or writing of one of the second
-abbrev pub OpenFailed : List (List ℕ) → PerName → PerName → Type 0
-OpenFailed names old new = (n : List ℕ) × (is_named names n ≡ true) × (Rose (old n).opening (new n).opening ⊎ Rose (old n).reading (new n).reading)
-
-abbrev pub CreateFailed : List (List ℕ) → PerName → PerName → Type 0
-CreateFailed names old new = (n : List ℕ) × (is_named names n ≡ true) × (Rose (old n).creating (new n).creating ⊎ Rose (old n).writing (new n).writing)
-
-abbrev pub DeviceFailed : Option Request → List Part → PerName → PerName → Type 0
-DeviceFailed request parts old new = OpenFailed (opens request parts) old new ⊎ CreateFailed (creates request parts) old new
+-- ---- which device failed
 
 -- no count changed
 abbrev pub NoCountChanged : PerName → PerName → Type 0
 NoCountChanged old new = (n : List ℕ) → new n ≡ old n
 
--- Which device failed, where the answer is that one did: that of a file that is opened, and then no file changed; that of a file that is created; or
--- the pour of the line, and then the request was carried out, and no count changed.
-pub data FailedDevice (request : Option Request) (parts : List Part) (counts now : PerName) (LineFailed : Type 0) (Is : RequestOutcome → Type 0) (ended : Ended) (old new : Told) : Type 0 where
-  opening : OpenFailed (opens request parts) counts now → SameFiles old new → FailedDevice request parts counts now LineFailed Is ended old new
-  creating : CreateFailed (creates request parts) counts now → FailedDevice request parts counts now LineFailed Is ended old new
-  telling : LineFailed → NoCountChanged counts now → ChecksTo Is old new ⊎ ((fault : Option Fault) × RunsTo fault Is ended new)
-      → FailedDevice request parts counts now LineFailed Is ended old new
+-- A file that is read as a whole couldn't be. Nothing else was counted.
+pub record ReadingFailed (files : FilesOf) (name : List ℕ) (old new : PerName) : Type 0 where
+  pub whole : is_named files.whole name ≡ true
+  pub rose : Rose (old name).reading (new name).reading
+  pub only : OnlyRead (old name) (new name)
+  pub others : (n : List ℕ) → n ≢ name → new n ≡ old n
 
--- a count of reading changes only at a file whose reader fails after at most 1,048,576 bytes
-abbrev pub ReadsFailed : PerName → PerName → Told → Type 0
-ReadsFailed counts now old = (n : List ℕ) → (now n).reading ≢ (counts n).reading → has_fault (old.script n) ≡ true
+-- A file that is created couldn't be. All files that are opened were, and nothing was counted of those that are created behind it.
+pub record CreatingFailed (files : FilesOf) (name : List ℕ) (old new : PerName) : Type 0 where
+  pub before : List (List ℕ)
+  pub behind : List (List ℕ)
+  pub order : files.created ≡ before ++ name ∷ behind
+  pub rose : Rose (old name).creating (new name).creating
+  pub later : (n : List ℕ) → is_named (files.opened ++ before) n ≡ false → n ≢ name → new n ≡ old n
+  pub creating : (n : List ℕ) → n ≢ name → (new n).creating ≡ (old n).creating
+  pub opening : (n : List ℕ) → (new n).opening ≡ (old n).opening
+
+-- A file that is created couldn't be written or finished, and is the first such. All files were opened and created.
+pub record WritingFailed (files : FilesOf) (name : List ℕ) (old new : PerName) : Type 0 where
+  pub before : List (List ℕ)
+  pub behind : List (List ℕ)
+  pub order : files.created ≡ before ++ name ∷ behind
+  pub rose : Rose (old name).writing (new name).writing
+  pub first : All (λ n. new n ≡ old n) before
+  pub others : (n : List ℕ) → is_named files.created n ≡ false → OnlyRead (old n) (new n)
+  pub creating : (n : List ℕ) → (new n).creating ≡ (old n).creating
+  pub opening : (n : List ℕ) → (new n).opening ≡ (old n).opening
+
+-- what the counts show of each cause
+abbrev pub DevicesShow : Cause → FilesOf → PerName → PerName → Type 0
+DevicesShow C.Done files old new = OnlyReads files.rows old new
+DevicesShow (C.Stopped fault) files old new = OnlyReads files.rows old new
+DevicesShow C.NotBuilt files old new = NoCountChanged old new
+DevicesShow C.BadWords files old new = NoCountChanged old new
+DevicesShow (C.Refused refusal) files old new = NoCountChanged old new
+DevicesShow (C.OpenFailed name) files old new = OpeningFailed files.opened name old new ⊎ CreatingFailed files name old new
+DevicesShow (C.ReadFailed name) files old new = ReadingFailed files name old new
+DevicesShow (C.WriteFailed name) files old new = WritingFailed files name old new
+DevicesShow C.NoMemory files old new = ⊤
+
+-- ---- a run that stops at a read that failed
+
+-- the operator with this number is a source, and the count of reading of its file rose
+pub record SourceUnread (parts : List Part) (op : ℕ) (old new : PerName) : Type 0 where
+  pub file : List ℕ
+  pub strict : Bool
+  pub source : slice_get parts op ≡ Some (A.FileSource file strict)
+  pub rose : Rose (old file).reading (new file).reading
+
+-- that is so of the operator that a fault names, where the fault is a read that failed
+abbrev pub StoppedBy : Cause → List Part → PerName → PerName → Type 0
+StoppedBy (C.Stopped fault) parts old new = fault.kind ≡ K.ReadFailed → SourceUnread parts fault.op old new
+StoppedBy C.Done parts old new = ⊤
+StoppedBy C.NotBuilt parts old new = ⊤
+StoppedBy C.BadWords parts old new = ⊤
+StoppedBy (C.Refused refusal) parts old new = ⊤
+StoppedBy (C.OpenFailed name) parts old new = ⊤
+StoppedBy (C.ReadFailed name) parts old new = ⊤
+StoppedBy (C.WriteFailed name) parts old new = ⊤
+StoppedBy C.NoMemory parts old new = ⊤
+
+-- ---- and what the files hold then
+
+-- these files are empty, and the others as they were
+pub record Emptied (files : List (List ℕ)) (old new : Told) : Type 0 where
+  pub empty : All (λ n. new.holds n ≡ Some []) files
+  pub others : (n : List ℕ) → is_named files n ≡ false → new.holds n ≡ old.holds n
+
+-- the file holds the sink's text, and nothing was counted of it; or its count of writing rose, and it holds a prefix
+abbrev pub HoldsUnlessFailed : Meaning → PerName → PerName → Told → Operator → List ℕ → Type 0
+HoldsUnlessFailed m counts now new op file =
+    ((now file ≡ counts file) × HoldsText m new op file) ⊎ (Rose (counts file).writing (now file).writing × ((n : ℕ) × (new.holds file ≡ Some (take n (sink_text m op)))))
+
+-- The run of a graph ended, but some sink's file wasn't written or finished; the others hold their texts.
+pub record WroteOthers (Is : RequestOutcome → Type 0) (counts now : PerName) (ended : Ended) (new : Told) : Type 0 where
+  pub checked : CheckedGraph
+  pub graph : Graph
+  pub meaning : Meaning
+  pub comes : Is (Runs checked graph meaning)
+  pub texts : EachSink (HoldsUnlessFailed meaning counts now new) graph.ops
+  pub recorded : IsRecordOf graph meaning ended.arrivals
+
+-- the name that stands for the line
+abbrev pub LINE : List ℕ
+LINE = codes "-"
+
+-- The line of a request that was carried out couldn't be told.
+pub record TellingFailed (files : FilesOf) (name : List ℕ) (counts now : PerName) (LineFailed : Type 0) (Is : RequestOutcome → Type 0) (ended : Ended) (old new : Told) : Type 0 where
+  pub line : name ≡ LINE
+  pub failed : LineFailed
+  pub counted : OnlyReads files.rows counts now
+  pub ran : ChecksTo Is ended old new ⊎ ((fault : Option Fault) × RunsTo fault Is ended new)
+
+-- what the counts and the files show of each cause
+abbrev pub DevicesMean : Cause → FilesOf → PerName → PerName → Type 0 → (RequestOutcome → Type 0) → Ended → Told → Told → Type 0
+DevicesMean (C.OpenFailed name) files counts now LineFailed Is ended old new =
+    (OpeningFailed files.opened name counts now × SameFiles old new) ⊎ ((f : CreatingFailed files name counts now) × Emptied f.before old new)
+DevicesMean (C.WriteFailed name) files counts now LineFailed Is ended old new =
+    (WritingFailed files name counts now × WroteOthers Is counts now ended new) ⊎ TellingFailed files name counts now LineFailed Is ended old new
+DevicesMean C.Done files counts now LineFailed Is ended old new = OnlyReads files.rows counts now
+DevicesMean (C.Stopped fault) files counts now LineFailed Is ended old new = OnlyReads files.rows counts now
+DevicesMean C.NotBuilt files counts now LineFailed Is ended old new = NoCountChanged counts now
+DevicesMean C.BadWords files counts now LineFailed Is ended old new = NoCountChanged counts now
+DevicesMean (C.Refused refusal) files counts now LineFailed Is ended old new = NoCountChanged counts now
+DevicesMean (C.ReadFailed name) files counts now LineFailed Is ended old new = ReadingFailed files name counts now
+DevicesMean C.NoMemory files counts now LineFailed Is ended old new = ⊤
+
+-- the reader of a file that is read as a whole fails where its count of reading changes
+abbrev pub WholeFails : PerName → PerName → Told → Type 0
+WholeFails counts now old = (n : List ℕ) → (now n).reading ≢ (counts n).reading → has_fault (old.script n) ≡ true
+
+-- the count of reading changed of a file that is read as a whole: its reader fails, and the answer names it, or memory was wanting
+pub record ReadingAnswered (cause : Cause) (old : Told) (name : List ℕ) : Type 0 where
+  pub fails : has_fault (old.script name) ≡ true
+  pub answer : (cause ≡ C.ReadFailed name) ⊎ (cause ≡ C.NoMemory)
+
+abbrev pub WholeReads : Cause → FilesOf → PerName → PerName → Told → Type 0
+WholeReads cause files counts now old = (n : List ℕ) → is_named files.rows n ≡ false → (now n).reading ≢ (counts n).reading → ReadingAnswered cause old n
 
 -- the answer to a request at a shelf that tells its files, where the count of the line's pour rose or not
 pub record Answered (request : Option Request) (ended : Ended) (counts now : PerName) (LineFailed : Type 0) (old new : Told) : Type 0 where
@@ -125,25 +240,11 @@ pub record Answered (request : Option Request) (ended : Ended) (counts now : Per
   pub others : (parts : List Part) → ArePartsIn old request parts → (n : List ℕ) → is_named (creates request parts) n ≡ false → new.holds n ≡ old.holds n
   pub counted : (parts : List Part) → ArePartsIn old request parts → (n : List ℕ)
       → (is_named (opens request parts) n || is_named (creates request parts) n) ≡ false → now n ≡ counts n
-  pub device : ended.cause ≡ C.Device → (parts : List Part) → ArePartsIn old request parts
-      → FailedDevice request parts counts now LineFailed (IsOutcome old ended.arrivals request) ended old new
-  pub reads : ReadsFailed counts now old
-
--- ---- what the counts alone show
-
--- a count of some name rose
-abbrev pub SomeRose : PerName → PerName → Type 0
-SomeRose old new = (n : List ℕ) × ((Rose (old n).opening (new n).opening ⊎ Rose (old n).reading (new n).reading)
-    ⊎ (Rose (old n).creating (new n).creating ⊎ Rose (old n).writing (new n).writing))
-
-abbrev pub Shown : Cause → Option Request → PerName → PerName → Type 0 → Type 0
-Shown C.Done request old new LineFailed = NoCountChanged old new
-Shown (C.Stopped fault) request old new LineFailed = NoCountChanged old new
-Shown C.BadWords request old new LineFailed = (request ≡ None) × NoCountChanged old new
-Shown (C.Refused refusal) request old new LineFailed = NoCountChanged old new
-Shown C.NotBuilt request old new LineFailed = NoCountChanged old new
-Shown C.Device request old new LineFailed = SomeRose old new ⊎ (LineFailed × NoCountChanged old new)
-Shown C.NoMemory request old new LineFailed = ⊤
+  pub device : (parts : List Part) → ArePartsIn old request parts
+      → DevicesMean ended.cause (files_of request parts) counts now LineFailed (IsOutcome old ended.arrivals request) ended old new
+  pub stopped : (parts : List Part) → ArePartsIn old request parts → StoppedBy ended.cause parts counts now
+  pub whole : (parts : List Part) → ArePartsIn old request parts → WholeReads ended.cause (files_of request parts) counts now old
+  pub reads : ReadsFail counts now old
 
 -- ---- what the request alone shows
 
@@ -160,7 +261,9 @@ MayBe request C.Done = ⊤
 MayBe request C.BadWords = ⊤
 MayBe request (C.Refused refusal) = ⊤
 MayBe request C.NoMemory = ⊤
-MayBe request C.Device = ⊤
+MayBe request (C.OpenFailed name) = ⊤
+MayBe request (C.ReadFailed name) = ⊤
+MayBe request (C.WriteFailed name) = ⊤
 
 -- ---- statuses
 
@@ -169,9 +272,11 @@ status_of C.Done = 0
 status_of C.BadWords = 1
 status_of (C.Refused refusal) = 2
 status_of (C.Stopped fault) = 3
+status_of (C.OpenFailed name) = 4
+status_of (C.ReadFailed name) = 5
+status_of (C.WriteFailed name) = 6
 status_of C.NoMemory = 9
 status_of C.NotBuilt = 13
-status_of C.Device = 14
 
 -- ---- completeness
 
@@ -187,10 +292,21 @@ cause_of (Some fault) = C.Stopped fault
 abbrev pub IsRun : Cause → Type 0
 IsRun cause = (fault : Option Fault) × (cause ≡ cause_of fault)
 
+-- a count rose of opening a file that is opened, of reading one that is read as a whole, or of creating or writing one that is created
+pub data DeviceFailed (files : FilesOf) (old new : PerName) : Type 0 where
+  opening : (n : List ℕ) → is_named files.opened n ≡ true → Rose (old n).opening (new n).opening → DeviceFailed files old new
+  reading : (n : List ℕ) → is_named files.whole n ≡ true → Rose (old n).reading (new n).reading → DeviceFailed files old new
+  creating : (n : List ℕ) → is_named files.created n ≡ true → Rose (old n).creating (new n).creating → DeviceFailed files old new
+  writing : (n : List ℕ) → is_named files.created n ≡ true → Rose (old n).writing (new n).writing → DeviceFailed files old new
+
+-- a program that can't be read couldn't be opened or read
+abbrev pub IsUnread : List ℕ → Cause → Type 0
+IsUnread program cause = (cause ≡ C.OpenFailed program) ⊎ ((cause ≡ C.ReadFailed program) ⊎ (cause ≡ C.NoMemory))
+
 -- where no device failed, the outcome of the request is the answer, or memory was wanting
 abbrev pub IsAnswer : RequestOutcome → Type 0 → Type 0 → Cause → Type 0
 IsAnswer NoRequest Failed LineFailed cause = (Failed → ⊥) → IsOr C.BadWords cause
-IsAnswer Unreadable Failed LineFailed cause = IsOr C.Device cause
+IsAnswer (Unreadable program) Failed LineFailed cause = IsUnread program cause
 IsAnswer (Refused refusal) Failed LineFailed cause = (Failed → ⊥) → IsOr (C.Refused refusal) cause
 IsAnswer NotBuilt Failed LineFailed cause = (Failed → ⊥) → IsOr C.NotBuilt cause
 IsAnswer (Checks c) Failed LineFailed cause = (Failed → ⊥) → (LineFailed → ⊥) → IsOr C.Done cause
@@ -200,7 +316,7 @@ IsAnswer (Runs c g m) Failed LineFailed cause = (Failed → ⊥) → (LineFailed
 abbrev pub IsComplete : Option Request → Ended → PerName → PerName → Type 0 → Told → Type 0
 IsComplete request ended counts now LineFailed told =
     (result : RequestOutcome) → IsOutcome told ended.arrivals request result → (parts : List Part) → ArePartsIn told request parts
-    → IsAnswer result (DeviceFailed request parts counts now) LineFailed ended.cause
+    → IsAnswer result (DeviceFailed (files_of request parts) counts now) LineFailed ended.cause
 
 -- the cause is this one, or memory was wanting, and nothing was touched
 pub record Untouched (expected cause : Cause) (old new : PerName) : Type 0 where

@@ -36,9 +36,21 @@ opens None parts = []
 opens (Some (R.Check program)) parts = program ∷ []
 opens (Some (R.Plan program)) parts = program ∷ []
 opens (Some (R.Run program options)) parts = program ∷ source_files parts
-opens (Some (R.Replay program arrivals)) parts = program ∷ source_files parts ++ arrivals ∷ []
+opens (Some (R.Replay program arrivals)) parts = program ∷ arrivals ∷ source_files parts
 opens (Some (R.Simulate program width schedule steps)) parts = program ∷ source_files parts
 opens (Some (R.Make name rows start)) parts = []
+
+-- The files that are opened are read to their ends, row by row those of the sources where they are run, and the others as a whole.
+abbrev pub row_files : Option Request → List Part → List (List ℕ)
+row_files (Some (R.Run program options)) parts = source_files parts
+row_files (Some (R.Replay program arrivals)) parts = source_files parts
+row_files (Some (R.Simulate program width schedule steps)) parts = source_files parts
+row_files _ parts = []
+
+abbrev pub whole_files : Option Request → List (List ℕ)
+whole_files None = []
+whole_files (Some (R.Replay program arrivals)) = program ∷ arrivals ∷ []
+whole_files (Some request) = if_given (program_of request)
 
 -- the files of the sinks where they are run, a record that is written, and a file that is made
 abbrev pub creates : Option Request → List Part → List (List ℕ)
@@ -49,3 +61,13 @@ creates (Some (R.Run program options)) parts = sink_files parts ++ if_given opti
 creates (Some (R.Replay program arrivals)) parts = sink_files parts
 creates (Some (R.Simulate program width schedule steps)) parts = sink_files parts
 creates (Some (R.Make name rows start)) parts = name ∷ []
+
+-- the files of a request: those that it opens, in order, those of them that it reads as a whole and row by row, and those that it creates, in order
+pub record FilesOf : Type 0 where
+  pub opened : List (List ℕ)
+  pub whole : List (List ℕ)
+  pub rows : List (List ℕ)
+  pub created : List (List ℕ)
+
+abbrev pub files_of : Option Request → List Part → FilesOf
+files_of request parts = record { opened = opens request parts; whole = whole_files request; rows = row_files request parts; created = creates request parts }

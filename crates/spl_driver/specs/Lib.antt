@@ -5,6 +5,7 @@ pub mod Files
 pub mod Built
 pub mod Outcome
 pub mod Answer
+pub mod Shown
 pub mod Lines
 pub mod Steps
 pub mod RequestLaws

@@ -9,12 +9,21 @@ use Rattle.run_report.specs.declared.cause.Cause.{Cause}
 use Rattle.run_report.specs.declared.cause.Cause.TheVariants as C
 use Rattle.run_report.specs.Texts.{status_text, check_text}
 use Rattle.command_line.specs.declared.request.Request.{Request}
-use Rattle.spl_driver.specs.Answer.{IsRun, NoCountChanged, SomeRose, cause_of}
-use Rattle.spl_driver.specs.Outcome.{RequestOutcome, Checks, Runs, IsOutcome}
+use Rattle.command_line.specs.declared.request.Request.TheVariants as R
+use Rattle.spl_driver.specs.Answer.{IsRun, LINE, cause_of}
+use Rattle.spl_driver.specs.Outcome.{RequestOutcome, Checks, Runs, IsOutcome, IsSomeProgram}
+use Rattle.spl_driver.specs.Shown.{LineShown, RanTo, ShownBy}
 
--- the outcome of the request, where the shelf tells its files; anything where it doesn't
-abbrev pub IsToldOutcome : Option Request → Option Told → Arrivals → RequestOutcome → Type 0
-IsToldOutcome request told arrivals result = IfSome told (λ t. IsOutcome t arrivals request result)
+-- What a request that is carried out may come to, whatever its files hold: a check to the checked graph of a program, and a run to a meaning
+-- that it ran to.
+abbrev pub MayComeTo : Option Request → Arrivals → PerName → PerName → RequestOutcome → Type 0
+MayComeTo (Some (R.Check program)) arrivals counts now (Checks c) = IsSomeProgram (R.Check program) c
+MayComeTo (Some (R.Run program options)) arrivals counts now (Runs c g m) = IsSomeProgram (R.Run program options) c × RanTo c g m arrivals counts now
+MayComeTo _ arrivals counts now _ = ⊥
+
+-- what it may come to, which is its outcome where the shelf tells its files
+abbrev pub IsToldOutcome : Option Request → Option Told → Arrivals → PerName → PerName → RequestOutcome → Type 0
+IsToldOutcome request told arrivals counts now result = MayComeTo request arrivals counts now result × IfSome told (λ t. IsOutcome t arrivals request result)
 
 -- the line of a request that was carried out: what was checked, or how the run ended
 abbrev pub line_of : RequestOutcome → Cause → List ℕ
@@ -40,7 +49,9 @@ IsLine (C.Stopped fault) Is line = IsLineOf Is (C.Stopped fault) line
 IsLine C.BadWords Is line = line ≡ status_text None C.BadWords
 IsLine (C.Refused refusal) Is line = line ≡ status_text None (C.Refused refusal)
 IsLine C.NotBuilt Is line = line ≡ status_text None C.NotBuilt
-IsLine C.Device Is line = line ≡ status_text None C.Device
+IsLine (C.OpenFailed name) Is line = line ≡ status_text None (C.OpenFailed name)
+IsLine (C.ReadFailed name) Is line = line ≡ status_text None (C.ReadFailed name)
+IsLine (C.WriteFailed name) Is line = line ≡ status_text None (C.WriteFailed name)
 
 -- these bytes were poured, or a front of them where the pour's count rose
 abbrev pub PouredText : List ℕ → List ℕ → Option (List ℕ) → Type 0 → Type 0
@@ -55,18 +66,21 @@ abbrev pub PouredFront : (RequestOutcome → Type 0) → List ℕ → Option (Li
 PouredFront Is old now Failed =
     Failed × ((cause : Cause) × (line : List ℕ) × IsLineOf Is cause line × (n : ℕ) × (now ≡ Some (old ++ take n line)))
 
--- The cause's line was poured; nothing is said of want of memory. Where a device failed, that is one of the shelf's, and its line was poured; or
--- none of the shelf's failed, and the line that would have come was begun.
-abbrev pub Said : Cause → (RequestOutcome → Type 0) → PerName → PerName → Option (List ℕ) → Option (List ℕ) → Type 0 → Type 0
-Said cause Is counts later None now Failed = ⊤
-Said C.NoMemory Is counts later (Some old) now Failed = ⊤
-Said C.Done Is counts later (Some old) now Failed = PouredLine Is C.Done old now
-Said (C.Stopped fault) Is counts later (Some old) now Failed = PouredLine Is (C.Stopped fault) old now
-Said C.BadWords Is counts later (Some old) now Failed = PouredText (status_text None C.BadWords) old now Failed
-Said (C.Refused refusal) Is counts later (Some old) now Failed = PouredText (status_text None (C.Refused refusal)) old now Failed
-Said C.NotBuilt Is counts later (Some old) now Failed = PouredText (status_text None C.NotBuilt) old now Failed
-Said C.Device Is counts later (Some old) now Failed =
-    (SomeRose counts later × PouredText (status_text None C.Device) old now Failed) ⊎ (NoCountChanged counts later × PouredFront Is old now Failed)
+-- The cause's line was poured; nothing is said of want of memory. Where a write failed, that is one of a sink's file, and its line was poured; or
+-- it is that of the line that would have come, which was begun.
+abbrev pub Said : Cause → Option Request → (RequestOutcome → Type 0) → PerName → PerName → Option (List ℕ) → Option (List ℕ) → Type 0 → Type 0
+Said cause request Is counts later None now Failed = ⊤
+Said C.NoMemory request Is counts later (Some old) now Failed = ⊤
+Said C.Done request Is counts later (Some old) now Failed = PouredLine Is C.Done old now
+Said (C.Stopped fault) request Is counts later (Some old) now Failed = PouredLine Is (C.Stopped fault) old now
+Said C.BadWords request Is counts later (Some old) now Failed = PouredText (status_text None C.BadWords) old now Failed
+Said (C.Refused refusal) request Is counts later (Some old) now Failed = PouredText (status_text None (C.Refused refusal)) old now Failed
+Said C.NotBuilt request Is counts later (Some old) now Failed = PouredText (status_text None C.NotBuilt) old now Failed
+Said (C.OpenFailed name) request Is counts later (Some old) now Failed = PouredText (status_text None (C.OpenFailed name)) old now Failed
+Said (C.ReadFailed name) request Is counts later (Some old) now Failed = PouredText (status_text None (C.ReadFailed name)) old now Failed
+Said (C.WriteFailed name) request Is counts later (Some old) now Failed =
+    (ShownBy (C.WriteFailed name) request counts later × PouredText (status_text None (C.WriteFailed name)) old now Failed)
+    ⊎ (LineShown name request counts later Failed × PouredFront Is old now Failed)
 
 -- ---- how a line is told
 
@@ -77,15 +91,15 @@ is_run (C.Stopped fault) = true
 is_run _ = false
 
 -- what is told of a cause becomes of it: it stays, unless memory was wanting; but where the line of a request that was carried out isn't
--- poured, a device failed
+-- poured, its writing failed
 abbrev pub ToldAs : Cause → Cause → Type 0 → Type 0
-ToldAs cause result Failed = (result ≡ cause) ⊎ ((result ≡ C.NoMemory) ⊎ ((result ≡ C.Device) × IsRun cause × Failed))
+ToldAs cause result Failed = (result ≡ cause) ⊎ ((result ≡ C.NoMemory) ⊎ ((result ≡ C.WriteFailed LINE) × IsRun cause × Failed))
 
 -- the line was poured whole; or a front of it, since the pour failed or memory was wanting
 pub data LinePoured (cause result : Cause) (line : List ℕ) (old : List ℕ) (now : Option (List ℕ)) (Failed : Type 0) : Type 0 where
   whole : result ≡ cause → now ≡ Some (old ++ line) → LinePoured cause result line old now Failed
   front : result ≡ cause → (IsRun cause → ⊥) → Failed → (n : ℕ) → now ≡ Some (old ++ take n line) → LinePoured cause result line old now Failed
-  failed : result ≡ C.Device → IsRun cause → Failed → (n : ℕ) → now ≡ Some (old ++ take n line) → LinePoured cause result line old now Failed
+  failed : result ≡ C.WriteFailed LINE → IsRun cause → Failed → (n : ℕ) → now ≡ Some (old ++ take n line) → LinePoured cause result line old now Failed
   wanting : result ≡ C.NoMemory → LinePoured cause result line old now Failed
 
 abbrev pub Pours : Cause → Cause → List ℕ → Option (List ℕ) → Option (List ℕ) → Type 0 → Type 0

@@ -1,76 +1,90 @@
--- What the steps of a request come to: the program compiled, the sources read, the streams computed, the sinks written.
+-- What the steps of a request come to: the program compiled, its graph run, its sinks written.
 use Prim.Native.Nat.{suc}
-use Rattle.std.specs.Prelude.{◌≡◌, ◌<◌, ◌≤◌, ◌-◌, ◌^◌, ◌⊎◌, ◌||◌, ◌&&◌, ℕ, List, [], ◌∷◌, map, length, Bool, true, false, ⊤, Option, Some, None, Result, Ok, Err, IfOk, IfSome, slice_get}
-use Rattle.std.specs.List.{concat, filter_map, list_any, list_all}
-use Rattle.std.specs.Option.{option_map_or, unwrap_or}
+use Rattle.std.specs.Prelude.{◌≡◌, ◌≢◌, ◌<◌, ◌-◌, ◌^◌, ◌⊎◌, ◌||◌, ℕ, List, [], ◌∷◌, map, Bool, true, false, ⊤, Option, Some, None, Result, Ok, Err, IfOk, IfSome, slice_get}
 use Rattle.spl_value.specs.declared.item.Fault.{Fault}
 use Rattle.spl_value.specs.declared.item.Item.{Item}
-use Rattle.spl_value.specs.Script.{Script, End}
-use Rattle.spl_tree.specs.declared.graph.Op.{Op}
-use Rattle.feed_pour.specs.Counts.{PerName}
+use Rattle.spl_value.specs.Script.{Script}
+use Rattle.feed_pour.specs.Counts.{PerName, Rose}
 use Rattle.feed_pour.specs.Contents.{Told, WhereTold}
 use Rattle.language_model.specs.declared.checked.Part.{Part}
 use Rattle.language_model.specs.declared.checked.Part.TheVariants as A
-use Rattle.stream_model.specs.declared.record.ArrivalList.{ArrivalList}
 use Rattle.stream_model.specs.declared.record.Arrivals.{Arrivals}
 use Rattle.stream_model.specs.declared.record.SinkCount.{SinkCount}
 use Rattle.language_model.specs.Accepted.{ProgramRefusal, IsAccepted}
 use Rattle.language_model.specs.CheckedGraph.{CheckedGraph}
 use Rattle.stream_model.specs.CheckedMeaning.{graph_of}
-use Rattle.stream_model.specs.Operators.{Operator, output_attributes}
-use Rattle.stream_model.specs.Rows.{Setting, rows}
-use Rattle.stream_model.specs.Stream.{is_closed, TuplesFit}
-use Rattle.language_model.specs.StreamTypes.{Attributes}
-use Rattle.stream_model.specs.Meaning.{Graph, Lists, Entries, meaning, rows_of}
+use Rattle.stream_model.specs.Ends.{run_fault}
+use Rattle.stream_model.specs.Meaning.{Graph, Meaning}
 use Rattle.run_report.specs.declared.cause.Cause.{Cause}
 use Rattle.run_report.specs.declared.cause.Cause.TheVariants as C
 use Rattle.run_report.specs.Refusals.{refusal_of}
 use Rattle.run_report.specs.Texts.{status_text}
 use Rattle.check_laws.specs.Files.{source_files, sink_files, is_named, OwnFiles}
-use Rattle.file_adapters.specs.Source.{is_number_file, is_number_schema}
 use Rattle.file_adapters.specs.declared.sinks.Sink.{Sink}
-use Rattle.list_run.specs.Runs.{CanRun, RowsFit, AreStreams, rows_at}
-use Rattle.spl_driver.specs.Outcome.{RequestOutcome, NotBuilt, Checks, Runs, has_fault, holds_numbers, rows_told, meant, with_graph, run_outcome}
-use Rattle.spl_driver.specs.Answer.{Answered, ByWords, CauseMeans, MayBe, OpenFailed, CreateFailed, NoCountChanged, SameFiles, ReadsFailed, Shown, cause_of}
+use Rattle.file_adapters.specs.declared.sinks.Sunk.{Sunk}
+use Rattle.file_adapters.specs.declared.sinks.Sunk.TheVariants as W
+use Rattle.list_engine.specs.declared.run.Run.{Run}
+use Rattle.list_engine.specs.Runs.{RowsFit, SinksGiven, rows_at}
+use Rattle.list_engine.specs.Runs as L
+use Rattle.source_rows.specs.Counting.{OnlyOf, OnlyRead, OnlyReads, OpeningFailed}
+use Rattle.source_rows.specs.Sources.{FaultsNameSources, ReadsCounted, ReadsFail, rows_told}
+use Rattle.spl_driver.specs.Outcome.{RequestOutcome, NotBuilt, Checks, Runs, has_fault, meant, run_outcome}
+use Rattle.spl_driver.specs.Answer.{Answered, ByWords, CauseMeans, DevicesMean, DevicesShow, IsRecordOf, MayBe, NoCountChanged, IsOr, StoppedBy, cause_of, is_check}
+use Rattle.spl_driver.specs.Built.{is_built_now}
+use Rattle.spl_driver.specs.Shown.{IsReason, NothingRan, RanShown, RanTo, RunShown, Shown}
+use Rattle.spl_driver.specs.Files.{FilesOf}
 use Rattle.spl_driver.specs.Lines.{IsLine, IsToldOutcome}
 use Rattle.spl_driver.specs.declared.answer.Answer.{Answer}
 use Rattle.spl_driver.specs.declared.compiled.Compiled.{Compiled}
 use Rattle.spl_driver.specs.declared.compiled.Compiled.TheVariants as P
 use Rattle.command_line.specs.declared.request.Request.{Request}
 use Rattle.command_line.specs.declared.request.Request.TheVariants as R
-use Rattle.spl_driver.specs.declared.sources.OneSource.{OneSource}
-use Rattle.spl_driver.specs.declared.sources.OneSource.TheVariants as O
-use Rattle.spl_driver.specs.declared.sources.Sources.{Sources}
-use Rattle.spl_driver.specs.declared.sources.Sources.TheVariants as S
 use Rattle.spl_driver.specs.declared.prepare.Prepared.{Prepared}
 use Rattle.spl_driver.specs.declared.prepare.Prepared.TheVariants as Q
 use Rattle.spl_driver.specs.declared.ended.Ended.{Ended}
 
 -- ---- counts of files that are opened and read
 
--- counts change only of opening and of reading, and of these names
-pub record OnlyOpened (names : List (List ℕ)) (old new : PerName) : Type 0 where
-  pub others : (n : List ℕ) → is_named names n ≡ false → new n ≡ old n
-  pub creating : (n : List ℕ) → (new n).creating ≡ (old n).creating
-  pub writing : (n : List ℕ) → (new n).writing ≡ (old n).writing
+-- a file that is opened first couldn't be, or couldn't be read, and nothing else was counted
+pub record FirstOpening (name : List ℕ) (old new : PerName) : Type 0 where
+  pub rose : Rose (old name).opening (new name).opening
+  pub reading : (new name).reading ≡ (old name).reading
+  pub others : (n : List ℕ) → n ≢ name → new n ≡ old n
 
--- one of these files couldn't be opened or read, or no count changed
-abbrev pub OpensCounted : Bool → List (List ℕ) → PerName → PerName → Type 0
-OpensCounted true names old new = OnlyOpened names old new × OpenFailed names old new
-OpensCounted false names old new = NoCountChanged old new
+pub record FirstReading (name : List ℕ) (old new : PerName) : Type 0 where
+  pub rose : Rose (old name).reading (new name).reading
+  pub only : OnlyRead (old name) (new name)
+  pub others : (n : List ℕ) → n ≢ name → new n ≡ old n
+
+-- the files of a run, which reads no other file than those of its sources
+abbrev pub run_files : CheckedGraph → FilesOf
+run_files c = record { opened = source_files c.parts; whole = []; rows = source_files c.parts; created = sink_files c.parts }
 
 -- ---- the program
 
-abbrev pub compile_failed : Compiled → Bool
-compile_failed P.Device = true
-compile_failed _ = false
+-- what the counts show of the compiling of the program in this file
+abbrev pub CompileCounted : Compiled → List ℕ → PerName → PerName → Type 0
+CompileCounted (P.Checked c) program old new = NoCountChanged old new
+CompileCounted (P.Refused refusal) program old new = NoCountChanged old new
+CompileCounted P.OpenFailed program old new = FirstOpening program old new
+CompileCounted P.ReadFailed program old new = FirstReading program old new
+CompileCounted P.Memory program old new = NoCountChanged old new
+
+-- a checked graph is that of a program of some bytes, and so is a refusal
+abbrev pub IsCompiledFrom : Compiled → List (List ℕ) → Type 0
+IsCompiledFrom (P.Checked c) names = (bytes : List ℕ) × IsAccepted bytes names (Ok c)
+IsCompiledFrom (P.Refused refusal) names = (bytes : List ℕ) × (p : ProgramRefusal) × IsAccepted bytes names (Err p) × (refusal ≡ refusal_of p)
+IsCompiledFrom P.OpenFailed names = ⊤
+IsCompiledFrom P.ReadFailed names = ⊤
+IsCompiledFrom P.Memory names = ⊤
 
 -- what the program's file comes to
 abbrev pub CompiledAt : Compiled → Script → List (List ℕ) → Type 0
 CompiledAt (P.Checked c) script names = (has_fault script ≡ false) × IsAccepted script.bytes names (Ok c)
 CompiledAt (P.Refused refusal) script names =
     (has_fault script ≡ false) × ((p : ProgramRefusal) × IsAccepted script.bytes names (Err p) × (refusal ≡ refusal_of p))
-CompiledAt P.Device script names = ⊤
+CompiledAt P.OpenFailed script names = ⊤
+CompiledAt P.ReadFailed script names = ⊤
 CompiledAt P.Memory script names = ⊤
 
 -- the sinks of an accepted program have files of their own
@@ -78,135 +92,48 @@ abbrev pub HasOwnFiles : Compiled → List (List ℕ) → Type 0
 HasOwnFiles (P.Checked c) names = OwnFiles names c.parts
 HasOwnFiles _ names = ⊤
 
--- ---- its sources
+-- ---- its run
 
--- a closed stream of tuples of one number
-pub record AreNumbers (items : List Item) : Type 0 where
-  pub closed : is_closed items ≡ true
-  pub fit : (schema : Attributes) → is_number_schema schema ≡ true → TuplesFit schema items
+-- what a graph with these rows means under the record of a run
+abbrev pub ran : Graph → List (List Item) → Run → Meaning
+ran g rows run = L.meant g rows run
 
--- what bytes that were read come to
-abbrev pub RowsRead : OneSource → List ℕ → Type 0
-RowsRead (O.Rows items) bytes =
-    AreNumbers items × (is_number_file bytes ≡ true) × ((o : Setting) → is_number_schema o.schema ≡ true → o.limit ≡ 2 ^ 40 → items ≡ rows o bytes End)
-RowsRead O.Other bytes = is_number_file bytes ≡ false
-RowsRead O.Device bytes = ⊥
-RowsRead O.Memory bytes = ⊤
-
--- it is what a source of this file gives, whatever its number and its attribute's name
-pub record SourceTold (file : List ℕ) (items : List Item) (told : Told) : Type 0 where
-  pub read : has_fault (told.script file) ≡ false
-  pub numbers : holds_numbers (told.script file) ≡ true
-  pub rows : (op : Operator) (strict : Bool) → is_number_schema (output_attributes op 0) ≡ true → items ≡ rows_of op strict (told.script file)
-
--- the rows of an operator with these clauses
-abbrev pub RowsOf : Part → List Item → Option Told → Type 0
-RowsOf (A.FileSource file strict) items told = AreNumbers items × IfSome told (SourceTold file items)
-RowsOf _ items told = items ≡ []
-
--- the file of a source holds something else
-pub record OtherTold (file : List ℕ) (told : Told) : Type 0 where
-  pub read : has_fault (told.script file) ≡ false
-  pub other : holds_numbers (told.script file) ≡ false
-
-abbrev pub HoldsOther : Part → Option Told → Type 0
-HoldsOther (A.FileSource file strict) told = IfSome told (OtherTold file)
-HoldsOther _ told = ⊥
-
-abbrev pub source_failed : OneSource → Bool
-source_failed O.Device = true
-source_failed _ = false
-
--- what the file of an operator comes to, where it is a source
-abbrev pub SourceOf : OneSource → Part → Option Told → Type 0
-SourceOf (O.Rows items) part told = RowsOf part items told
-SourceOf O.Other part told = HoldsOther part told
-SourceOf O.Device part told = ⊤
-SourceOf O.Memory part told = ⊤
-
--- a list of rows for each of these operators
-abbrev pub RowsFor : List Part → List (List Item) → Option Told → Type 0
-RowsFor [] [] told = ⊤
-RowsFor (part ∷ parts) (items ∷ rows) told = RowsOf part items told × RowsFor parts rows told
-RowsFor _ _ told = ⊥
-
-abbrev pub sources_failed : Sources → Bool
-sources_failed S.Device = true
-sources_failed _ = false
-
--- no source has a fault
-abbrev pub AllRead : List Part → Told → Type 0
-AllRead parts told = list_any has_fault (map told.script (source_files parts)) ≡ false
-
--- the files of all sources hold whole numbers
-abbrev pub all_numbers : List Part → Told → Bool
-all_numbers parts told = list_all holds_numbers (map told.script (source_files parts))
-
--- the rows are what the shelf tells of the files
-pub record RowsTold (rows : List (List Item)) (c : CheckedGraph) (g : Graph) (told : Told) : Type 0 where
-  pub read : AllRead c.parts told
-  pub numbers : all_numbers c.parts told ≡ true
-  pub same : (n : ℕ) → rows_at rows n ≡ rows_told g told n
-
--- the rows of each source; or one of their files holds something else
-abbrev pub SourcesOf : Sources → CheckedGraph → Option Told → Type 0
-SourcesOf (S.Rows rows) c told = (g : Graph) → graph_of c ≡ g → RowsFit g rows × IfSome told (RowsTold rows c g)
-SourcesOf S.NotBuilt c told = IfSome told (λ t. AllRead c.parts t × (all_numbers c.parts t ≡ false))
-SourcesOf S.Device c told = ⊤
-SourcesOf S.Memory c told = ⊤
-
--- ---- its streams
-
-abbrev pub prepare_failed : Prepared → Bool
-prepare_failed Q.Device = true
-prepare_failed _ = false
-
--- the streams of a run with these rows
-abbrev pub StreamsOf : CheckedGraph → Graph → Lists → List (List Item) → Type 0
-StreamsOf c g rows streams = (entries : Entries) → AreStreams c g (meaning g rows entries) streams
-
--- a graph that can be run, its rows and its streams
-pub record StreamsFor (c : CheckedGraph) (streams : List (List Item)) (told : Option Told) : Type 0 where
+-- A run of the graph: its sources' rows, what it gave its sinks, its fault and its record; and what the shelf tells and counts of the rows.
+pub record RanFor (c : CheckedGraph) (run : Run) (told : Option Told) (counts now : PerName) : Type 0 where
   pub graph : Graph
-  pub rows : Lists
-  pub runs : CanRun c graph
-  pub streams_of : StreamsOf c graph rows streams
-  pub told_rows : IfSome told (λ t. (n : ℕ) → rows n ≡ rows_told graph t n)
-  pub outcome : IfSome told (λ t. (lists : List ArrivalList) → with_graph c t lists graph ≡ Runs c graph (meant graph t lists))
+  pub is : graph_of c ≡ graph
+  pub rows : List (List Item)
+  pub fit : RowsFit graph rows
+  pub sinks : SinksGiven graph (ran graph rows run) run.sinks
+  pub fault : run.fault ≡ run_fault graph (ran graph rows run)
+  pub names : FaultsNameSources graph rows
+  pub read : ReadsCounted graph rows counts now
+  pub stopped : StoppedBy (cause_of run.fault) c.parts counts now
+  pub recorded : IsRecordOf graph (ran graph rows run) run.arrivals
+  pub told_rows : IfSome told (λ t. (n : ℕ) → rows_at rows n ≡ rows_told graph t n)
+  pub outcome : IfSome told (λ t. (arrivals : Arrivals) → run_outcome c t arrivals ≡ Runs c graph (meant graph t arrivals.lists))
 
-abbrev pub PreparedOf : Prepared → CheckedGraph → Option Told → Type 0
-PreparedOf (Q.Streams streams) c told = StreamsFor c streams told
-PreparedOf Q.NotBuilt c told = IfSome told (λ t. (lists : List ArrivalList) → with_graph c t lists (graph_of c) ≡ NotBuilt)
-PreparedOf Q.Device c told = ⊤
-PreparedOf Q.Memory c told = ⊤
+abbrev pub PreparedOf : Prepared → CheckedGraph → Option Told → PerName → PerName → Type 0
+PreparedOf (Q.Ran run) c told counts now = RanFor c run told counts now
+PreparedOf (Q.OpenFailed name) c told counts now = ⊤
+PreparedOf Q.Memory c told counts now = ⊤
+
+-- and what the counts show of it
+abbrev pub PreparedCounted : Prepared → FilesOf → PerName → PerName → Type 0
+PreparedCounted (Q.Ran run) files old new = OnlyReads files.rows old new
+PreparedCounted (Q.OpenFailed name) files old new = OpeningFailed files.opened name old new
+PreparedCounted Q.Memory files old new = OnlyOf files.rows old new
 
 -- ---- its sinks
 
--- the first stream that an operator takes
-abbrev pub first_input : Op → ℕ
-first_input op = unwrap_or (slice_get (concat op.ins) 0) 0
-
-abbrev pub sink_of : Op → Part → Option Sink
-sink_of op (A.FileSink file) = Some (record { file = file; stream = first_input op })
-sink_of op _ = None
-
-abbrev pub sink_in_front : Option Sink → List Sink → List Sink
-sink_in_front None rest = rest
-sink_in_front (Some sink) rest = sink ∷ rest
-
--- the sinks of operators with these clauses, in order
-abbrev pub sinks_from : List Op → List Part → List Sink
-sinks_from (op ∷ ops) (part ∷ parts) = sink_in_front (sink_of op part) (sinks_from ops parts)
-sinks_from _ _ = []
+-- the sinks of operators with these clauses, numbered from n on: each writes what its operator gives
+abbrev pub sinks_from : ℕ → List Part → List Sink
+sinks_from n [] = []
+sinks_from n (A.FileSink file ∷ parts) = record { file = file; stream = n } ∷ sinks_from (suc n) parts
+sinks_from n (_ ∷ parts) = sinks_from (suc n) parts
 
 abbrev pub sinks_of : CheckedGraph → List Sink
-sinks_of c = sinks_from c.graph.ops c.parts
-
--- the numbers of those that are sinks, from a number on
-abbrev pub sink_numbers : ℕ → List Part → List ℕ
-sink_numbers n [] = []
-sink_numbers n (A.FileSink file ∷ parts) = n ∷ sink_numbers (suc n) parts
-sink_numbers n (_ ∷ parts) = sink_numbers (suc n) parts
+sinks_of c = sinks_from 0 c.parts
 
 -- so many rows of each sink
 abbrev pub counts_from : ℕ → List Part → List ℕ → List SinkCount
@@ -219,8 +146,12 @@ counts_from n (_ ∷ parts) rows = counts_from (suc n) parts rows
 abbrev pub IsRunOf : CheckedGraph → Arrivals → Told → RequestOutcome → Type 0
 IsRunOf c arrivals told result = result ≡ run_outcome c told arrivals
 
-abbrev pub RunComes : CheckedGraph → Arrivals → Option Told → RequestOutcome → Type 0
-RunComes c arrivals told result = IfSome told (λ t. IsRunOf c arrivals t result)
+-- some run of it
+abbrev pub IsSomeRun : CheckedGraph → Arrivals → PerName → PerName → RequestOutcome → Type 0
+IsSomeRun c arrivals counts now result = (g : Graph) × (m : Meaning) × RanTo c g m arrivals counts now × (result ≡ Runs c g m)
+
+abbrev pub RunComes : CheckedGraph → Arrivals → Option Told → PerName → PerName → RequestOutcome → Type 0
+RunComes c arrivals told counts now result = IsSomeRun c arrivals counts now result × IfSome told (λ t. IsRunOf c arrivals t result)
 
 -- the outcome of an accepted program, by its request
 abbrev pub accepted_outcome : Request → CheckedGraph → Told → Arrivals → RequestOutcome
@@ -231,24 +162,54 @@ accepted_outcome _ c told arrivals = NotBuilt
 abbrev pub IsAcceptedOutcome : Request → CheckedGraph → Arrivals → Told → RequestOutcome → Type 0
 IsAcceptedOutcome request c arrivals told result = result ≡ accepted_outcome request c told arrivals
 
-abbrev pub IsToldAcceptedOutcome : Request → CheckedGraph → Arrivals → Option Told → RequestOutcome → Type 0
-IsToldAcceptedOutcome request c arrivals told result = IfSome told (λ t. IsAcceptedOutcome request c arrivals t result)
+-- what it may come to, whatever the files hold
+abbrev pub MayBeOutcome : Request → CheckedGraph → Arrivals → PerName → PerName → RequestOutcome → Type 0
+MayBeOutcome (R.Check program) c arrivals counts now result = result ≡ Checks c
+MayBeOutcome (R.Run program options) c arrivals counts now result = IsSomeRun c arrivals counts now result
+MayBeOutcome _ c arrivals counts now result = ⊥
+
+abbrev pub IsToldAcceptedOutcome : Request → CheckedGraph → Arrivals → Option Told → PerName → PerName → RequestOutcome → Type 0
+IsToldAcceptedOutcome request c arrivals told counts now result = MayBeOutcome request c arrivals counts now result × IfSome told (λ t. IsAcceptedOutcome request c arrivals t result)
+
+-- why it isn't run
+abbrev pub ReasonOf : Cause → CheckedGraph → Type 0
+ReasonOf (C.Refused refusal) c = ⊥
+ReasonOf C.NotBuilt c = is_built_now c ≡ false
+ReasonOf C.Done c = ⊤
+ReasonOf (C.Stopped fault) c = ⊤
+ReasonOf C.BadWords c = ⊤
+ReasonOf (C.OpenFailed name) c = ⊤
+ReasonOf (C.ReadFailed name) c = ⊤
+ReasonOf (C.WriteFailed name) c = ⊤
+ReasonOf C.NoMemory c = ⊤
+
+-- what ran of it, by its request
+abbrev pub IsRunGraph : Request → CheckedGraph → CheckedGraph → Type 0
+IsRunGraph request c x = (is_check (Some request) ≡ false) × (x ≡ c)
+
+abbrev pub RanAccepted : Cause → Request → CheckedGraph → Ended → PerName → PerName → Type 0
+RanAccepted cause request c ended counts now = RunShown cause (IsRunGraph request c) (is_check (Some request) ≡ true) ended counts now
+
+-- where it is run
+abbrev pub RanGraph : Cause → CheckedGraph → Ended → PerName → PerName → Type 0
+RanGraph cause c ended counts now = RunShown cause (λ x. x ≡ c) ⊥ ended counts now
 
 -- ---- an answer
 
--- what the counts of faults show of an answer to what opened and created these files
-pub record CountsShow (cause : Cause) (opened created : List (List ℕ)) (old new : PerName) : Type 0 where
+-- what the counts of faults show of an answer to what ran these operators, and opened and created these files
+pub record CountsShow (cause : Cause) (parts : List Part) (files : FilesOf) (old new : PerName) : Type 0 where
   pub words : cause ≡ C.BadWords → ⊥
-  pub others : (n : List ℕ) → (is_named opened n || is_named created n) ≡ false → new n ≡ old n
-  pub quiet : (cause ≡ C.Device → ⊥) → (cause ≡ C.NoMemory → ⊥) → NoCountChanged old new
-  pub device : cause ≡ C.Device → OpenFailed opened old new ⊎ CreateFailed created old new
+  pub others : (n : List ℕ) → (is_named files.opened n || is_named files.created n) ≡ false → new n ≡ old n
+  pub reading : (n : List ℕ) → is_named files.rows n ≡ false → (new n).reading ≡ (old n).reading
+  pub device : DevicesShow cause files old new
+  pub stopped : StoppedBy cause parts old new
 
 -- and what the files do, at a shelf that tells them
-pub record FilesShow (Is : RequestOutcome → Type 0) (created : List (List ℕ)) (ended : Ended) (counts now : PerName) (old new : Told) : Type 0 where
+pub record FilesShow (Is : RequestOutcome → Type 0) (files : FilesOf) (ended : Ended) (counts now : PerName) (old new : Told) : Type 0 where
   pub means : CauseMeans ended.cause Is ended old new
-  pub others : (n : List ℕ) → is_named created n ≡ false → new.holds n ≡ old.holds n
-  pub last : ended.cause ≡ C.Device → SameFiles old new ⊎ CreateFailed created counts now
-  pub reads : ReadsFailed counts now old
+  pub others : (n : List ℕ) → is_named files.created n ≡ false → new.holds n ≡ old.holds n
+  pub device : DevicesMean ended.cause files counts now ⊥ Is ended old new
+  pub reads : ReadsFail counts now old
 
 -- a run with this fault, or none, ends with these counts, unless memory was wanting for them
 abbrev pub EndsAs : Option Fault → List SinkCount → Ended → Type 0
@@ -258,12 +219,40 @@ EndsAs fault sinks ended = ((ended.cause ≡ cause_of fault) × (ended.counts �
 abbrev pub TellsRun : CheckedGraph → Option Fault → Cause → List ℕ → Type 0
 TellsRun c fault cause line = (line ≡ status_text (Some c) cause) ⊎ (cause ≡ C.NoMemory)
 
+-- ---- the end of a run
+
+-- how a run with this fault, or none, ends by what became of its sinks
+abbrev pub EndsBehind : Sunk → Option Fault → CheckedGraph → List Sink → Ended → Type 0
+EndsBehind (W.Done ns) fault c sinks ended = EndsAs fault (counts_from 0 c.parts ns) ended
+EndsBehind (W.NotCreated place) fault c sinks ended = (s : Sink) → slice_get sinks place ≡ Some s → IsOr (C.OpenFailed s.file) ended.cause
+EndsBehind (W.NotWritten place) fault c sinks ended = (s : Sink) → slice_get sinks place ≡ Some s → IsOr (C.WriteFailed s.file) ended.cause
+EndsBehind W.Memory fault c sinks ended = ended.cause ≡ C.NoMemory
+
+-- and its line
+abbrev pub TellsBehind : Sunk → CheckedGraph → Option Fault → Cause → List ℕ → Type 0
+TellsBehind (W.Done ns) c fault cause line = TellsRun c fault cause line
+TellsBehind _ c fault cause line = line ≡ status_text None cause
+
+-- it has the run's record, unless a file couldn't be created: the rows that the sinks were given are then lost
+abbrev pub RecordedBy : Sunk → Ended → Arrivals → Type 0
+RecordedBy (W.Done ns) ended arrivals = ended.arrivals ≡ arrivals
+RecordedBy (W.NotCreated place) ended arrivals = NothingRan ended
+RecordedBy (W.NotWritten place) ended arrivals = ended.arrivals ≡ arrivals
+RecordedBy W.Memory ended arrivals = ended.arrivals ≡ arrivals
+
+-- the answer of a run, by what became of its sinks
+pub record EndsRun (sunk : Sunk) (c : CheckedGraph) (sinks : List Sink) (fault : Option Fault) (arrivals : Arrivals) (answer : Answer) : Type 0 where
+  pub ends : EndsBehind sunk fault c sinks answer.ended
+  pub line : IfOk answer.line (TellsBehind sunk c fault answer.ended.cause)
+  pub recorded : RecordedBy sunk answer.ended arrivals
+
 -- what is known of the answer to a request before its line is told, with what the shelf tells and counts before and after, and what it has lent
 pub record AnswersRequest (request : Option Request) (answer : Answer) (told now : Option Told) (counts later : PerName) (before after : ℕ) : Type 0 where
   pub answered : WhereTold told now (Answered request answer.ended counts later ⊥)
   pub shown : Shown answer.ended.cause request counts later ⊥
-  pub line : IfOk answer.line (IsLine answer.ended.cause (IsToldOutcome request told answer.ended.arrivals))
+  pub line : IfOk answer.line (IsLine answer.ended.cause (IsToldOutcome request told answer.ended.arrivals counts later))
   pub words : ByWords request answer.ended.cause counts later
   pub kinds : MayBe request answer.ended.cause
-  pub lists : answer.ended.arrivals.lists ≡ []
+  pub reason : IsReason answer.ended.cause request
+  pub ran : RanShown answer.ended.cause request answer.ended counts later
   pub lent : before < 2 ^ 64 - 256 → after ≡ before

@@ -1,22 +1,23 @@
 //! The answer to a request, and its line.
-ghost use Rattle.std.specs.Prelude.{◌≡◌, ◌<◌, ◌-◌, ◌^◌, [], true, IfOk, Some, None};
+ghost use Rattle.std.specs.Prelude.{◌≡◌, ◌<◌, ◌-◌, ◌^◌, true, IfOk, Some, None};
 ghost use Rattle.feed_pour.specs.Contents.{WhereTold};
 ghost use Rattle.run_report.specs.Texts.{status_text, check_text};
 ghost use Rattle.command_line.specs.Request.{file_names};
 ghost use Rattle.check_laws.specs.Files.{OwnFiles};
 ghost use Rattle.spl_driver.specs.Answer.{MayBe};
+ghost use Rattle.spl_driver.specs.Shown.{NothingRan};
 ghost use Rattle.spl_driver.specs.Built.{is_built};
-ghost use Rattle.spl_driver.specs.Files.{opens, creates, built_parts, program_of};
+ghost use Rattle.spl_driver.specs.Files.{built_parts, files_of, program_of};
 ghost use Rattle.spl_driver.specs.Lines.{IsLine};
-ghost use Rattle.spl_driver.specs.Steps.{AnswersRequest, IsAcceptedOutcome, IsToldAcceptedOutcome, CountsShow, FilesShow};
+ghost use Rattle.spl_driver.specs.Steps.{AnswersRequest, IsAcceptedOutcome, IsToldAcceptedOutcome, CountsShow, FilesShow, RanAccepted, ReasonOf};
 
-use crate::built::is_built_graph;
 use crate::compiled::{Compiled, compile_file};
-use crate::ended::{Ended, uncounted_end};
+use crate::ended::{Ended, open_failed, read_failed, uncounted_end};
 use crate::laws::outcome_law;
 use crate::run::run;
 use command_line::{Request, file_names};
 use feed_pour::Shelf;
+use graph_run::can_run;
 use language_model::Checked;
 use run_report::{Cause, check_text, status_text};
 use spl_value::{Bytes, Items, Name, NoMemory};
@@ -33,7 +34,7 @@ pub struct Answer {
 pub fn plain(alloc: Global, cause: Cause) -> Answer
     ensures cause { result.ended.cause ≡ cause }
     ensures line { IfOk result.line (λ line. line ≡ status_text None cause) }
-    ensures lists { result.ended.arrivals.lists ≡ [] }
+    ensures ran { NothingRan result.ended }
 {
     let line = status_text(alloc, None, &cause);
     Answer {
@@ -46,7 +47,7 @@ pub fn plain(alloc: Global, cause: Cause) -> Answer
 fn checked(alloc: Global, checked: &Checked) -> Answer
     ensures cause { result.ended.cause ≡ Cause.Done }
     ensures line { IfOk result.line (λ line. line ≡ check_text checked.now) }
-    ensures lists { result.ended.arrivals.lists ≡ [] }
+    ensures ran { NothingRan result.ended }
 {
     Answer {
         ended: uncounted_end(alloc, Cause::Done),
@@ -65,22 +66,23 @@ fn answer_accepted<H: Shelf>(
     requires own { OwnFiles (file_names request.now) accepted.now.parts }
     ensures files { WhereTold (H.told shelf.old) (H.told shelf.new)
         (λ old new. FilesShow (IsAcceptedOutcome request.now accepted.now result.ended.arrivals old)
-        (creates (Some request.now) (built_parts accepted.now))
+        (files_of (Some request.now) (built_parts accepted.now))
         result.ended (H.counts shelf.old) (H.counts shelf.new) old new) }
-    ensures counts { CountsShow result.ended.cause
-        (opens (Some request.now) (built_parts accepted.now))
-        (creates (Some request.now) (built_parts accepted.now))
+    ensures counts { CountsShow result.ended.cause (built_parts accepted.now)
+        (files_of (Some request.now) (built_parts accepted.now))
         (H.counts shelf.old) (H.counts shelf.new) }
     ensures line { IfOk result.line (IsLine result.ended.cause
-        (IsToldAcceptedOutcome request.now accepted.now result.ended.arrivals (H.told shelf.old))) }
+        (IsToldAcceptedOutcome request.now accepted.now result.ended.arrivals (H.told shelf.old)
+        (H.counts shelf.old) (H.counts shelf.new))) }
     ensures kinds { MayBe (Some request.now) result.ended.cause }
-    ensures lists { result.ended.arrivals.lists ≡ [] }
+    ensures reason { ReasonOf result.ended.cause accepted.now }
+    ensures ran { RanAccepted result.ended.cause request.now accepted.now result.ended (H.counts shelf.old) (H.counts shelf.new) }
     ensures lent { H.lent shelf.old < 2 ^ 64 - 256 → H.lent shelf.new ≡ H.lent shelf.old }
 {
     match request {
         Request::Check(_) => checked(alloc, accepted),
         Request::Run { .. } => {
-            if is_built_graph(accepted) {
+            if can_run(accepted) {
                 run(alloc, shelf, accepted)
             } else {
                 plain(alloc, Cause::NotBuilt)
@@ -107,7 +109,8 @@ fn answer_file<H: Shelf>(
     outcome_law();
     match compile_file(alloc, shelf, program, names) {
         Compiled::Refused(refusal) => plain(alloc, Cause::Refused(refusal)),
-        Compiled::Device => plain(alloc, Cause::Device),
+        Compiled::OpenFailed => plain(alloc, open_failed(alloc, program.as_slice())),
+        Compiled::ReadFailed => plain(alloc, read_failed(alloc, program.as_slice())),
         Compiled::Memory => plain(alloc, Cause::NoMemory),
         Compiled::Checked(accepted) => answer_accepted(alloc, shelf, request, &accepted),
     }

@@ -1,11 +1,11 @@
 //! The program of a request, read and compiled.
-ghost use Rattle.std.specs.Prelude.{◌≡◌, ◌∷◌, [], ◌<◌, ◌-◌, ◌^◌, IfSome};
+ghost use Rattle.std.specs.Prelude.{◌≡◌, ◌<◌, ◌-◌, ◌^◌, IfSome};
 ghost use Rattle.run_report.specs.Refusals.{refusal_of};
 ghost use Rattle.language_model.specs.Accepted.{Lexical};
 ghost use Rattle.spl_tree.specs.declared.token.LexicalError.TheVariants.{TooLong};
 ghost use Rattle.feed_pour.specs.Contents.{WhereTold, TellsSame};
-ghost use Rattle.spl_driver.specs.Answer.{ReadsFailed};
-ghost use Rattle.spl_driver.specs.Steps.{CompiledAt, HasOwnFiles, OpensCounted, compile_failed};
+ghost use Rattle.spl_driver.specs.Answer.{WholeFails};
+ghost use Rattle.spl_driver.specs.Steps.{CompileCounted, CompiledAt, HasOwnFiles, IsCompiledFrom};
 
 use crate::compile_answer::CompileAnswer;
 use crate::compiling::compile;
@@ -23,8 +23,8 @@ use std::alloc::Global;
 pub enum Compiled {
     Checked(Checked),
     Refused(Refusal),
-    /// It couldn't be opened or read.
-    Device,
+    OpenFailed,
+    ReadFailed,
     Memory,
 }
 
@@ -49,18 +49,19 @@ pub fn compile_file<H: Shelf>(
 ) -> Compiled
     ensures made { IfSome (H.told shelf.old)
         (λ t. CompiledAt result (t.script program.now) names.now) }
+    ensures from { IsCompiledFrom result names.now }
     ensures own { HasOwnFiles result names.now }
     ensures told { WhereTold (H.told shelf.old) (H.told shelf.new) TellsSame }
     ensures reads { IfSome (H.told shelf.old)
-        (ReadsFailed (H.counts shelf.old) (H.counts shelf.new)) }
-    ensures cause { OpensCounted (compile_failed result) (program.now ∷ []) (H.counts shelf.old)
-        (H.counts shelf.new) }
+        (WholeFails (H.counts shelf.old) (H.counts shelf.new)) }
+    ensures cause { CompileCounted result program.now (H.counts shelf.old) (H.counts shelf.new) }
     ensures lent { H.lent shelf.old < 2 ^ 64 - 1 → H.lent shelf.new ≡ H.lent shelf.old }
 {
     accepted_law();
     own_files_law();
     match fetch(alloc, shelf, program, MOST_BYTES) {
-        Fetched::OpenFailed | Fetched::ReadFailed => Compiled::Device,
+        Fetched::OpenFailed => Compiled::OpenFailed,
+        Fetched::ReadFailed => Compiled::ReadFailed,
         Fetched::Memory => Compiled::Memory,
         Fetched::TooLong => Compiled::Refused(too_long()),
         Fetched::Whole(bytes) => match compile(alloc, bytes.as_slice(), names) {

@@ -1,6 +1,7 @@
 //! How the program ended.
-ghost use Rattle.std.specs.Prelude.{◌≡◌, []};
-ghost use Rattle.spl_driver.specs.Answer.{status_of};
+ghost use Rattle.std.specs.Prelude.{◌≡◌};
+ghost use Rattle.spl_driver.specs.Answer.{IsOr, status_of, uncounted};
+ghost use Rattle.spl_driver.specs.Shown.{NothingRan};
 
 use run_report::Cause;
 use spl_value::Items;
@@ -26,26 +27,68 @@ pub(crate) fn status(cause: &Cause) -> u8
         Cause::BadWords => 1,
         Cause::Refused(_) => 2,
         Cause::Stopped(_) => 3,
+        Cause::OpenFailed(_) => 4,
+        Cause::ReadFailed(_) => 5,
+        Cause::WriteFailed(_) => 6,
         Cause::NoMemory => 9,
         Cause::NotBuilt => 13,
-        Cause::Device => 14,
     }
 }
 
-/// The end of a request that counted nothing. It takes no memory.
-pub(crate) fn uncounted_end(alloc: Global, cause: Cause) -> Ended
+/// How it ends where the file of this name couldn't be opened or created.
+pub(crate) fn open_failed(alloc: Global, name: &[u8]) -> Cause
+    ensures { IsOr (Cause.OpenFailed name.now) result }
+{
+    match Items::from_slice(alloc, name) {
+        Ok(name) => Cause::OpenFailed(name),
+        Err(_) => Cause::NoMemory,
+    }
+}
+
+/// How it ends where the file of this name couldn't be read.
+pub(crate) fn read_failed(alloc: Global, name: &[u8]) -> Cause
+    ensures { IsOr (Cause.ReadFailed name.now) result }
+{
+    match Items::from_slice(alloc, name) {
+        Ok(name) => Cause::ReadFailed(name),
+        Err(_) => Cause::NoMemory,
+    }
+}
+
+/// How it ends where the file of this name, or the line of `-`, couldn't be written.
+pub(crate) fn write_failed(alloc: Global, name: &[u8]) -> Cause
+    ensures { IsOr (Cause.WriteFailed name.now) result }
+{
+    match Items::from_slice(alloc, name) {
+        Ok(name) => Cause::WriteFailed(name),
+        Err(_) => Cause::NoMemory,
+    }
+}
+
+/// The end of a request with this record that counted nothing. It takes no memory.
+pub(crate) fn uncounted_after(alloc: Global, cause: Cause, arrivals: Arrivals) -> Ended
     ensures cause { result.cause ≡ cause }
-    ensures lists { result.arrivals.lists ≡ [] }
+    ensures recorded { result.arrivals ≡ arrivals }
+    ensures counts { result.counts ≡ uncounted }
 {
     Ended {
         status: status(&cause),
         cause,
-        arrivals: Arrivals {
-            lists: Items::new(alloc),
-        },
+        arrivals,
         counts: Counts {
             channels: Items::new(alloc),
             sinks: Items::new(alloc),
         },
     }
+}
+
+/// The end of a request before a run of it began. It takes no memory.
+pub(crate) fn uncounted_end(alloc: Global, cause: Cause) -> Ended
+    ensures cause { result.cause ≡ cause }
+    ensures ran { NothingRan result }
+{
+    let arrivals = Arrivals {
+        lists: Items::new(alloc),
+    };
+    uncounted_after(alloc, cause, arrivals)
 }

@@ -11,7 +11,6 @@ mod laws;
 mod prepare;
 mod run;
 mod sinks;
-mod sources;
 mod tell;
 mod top;
 

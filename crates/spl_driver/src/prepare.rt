@@ -1,47 +1,57 @@
-//! A run made ready: its sources read, and its streams computed.
+//! A run up to its sinks: the sources read, and the graph run.
 ghost use Rattle.std.specs.Prelude.{◌≡◌, ◌<◌, ◌-◌, ◌^◌, true, IfSome};
 ghost use Rattle.feed_pour.specs.Contents.{WhereTold, TellsSame};
-ghost use Rattle.check_laws.specs.Files.{source_files};
-ghost use Rattle.spl_driver.specs.Answer.{ReadsFailed};
+ghost use Rattle.language_model.specs.Keeping.{Keeps};
+ghost use Rattle.source_rows.specs.Sources.{ReadsFail};
 ghost use Rattle.spl_driver.specs.Built.{is_built_now};
-ghost use Rattle.spl_driver.specs.Steps.{PreparedOf, OpensCounted, prepare_failed};
+ghost use Rattle.spl_driver.specs.Steps.{PreparedCounted, PreparedOf, run_files};
 
-use crate::sources::{Sources, read_sources};
+use fault_laws::run_faults_law;
 use feed_pour::Shelf;
+use graph_run::run_graph;
 use language_model::Checked;
-use list_run::streams_of;
-use spl_value::{Item, Items};
+use list_engine::{Run, engine_law};
+use source_rows::{Sources, read_sources};
+use spl_value::Name;
 use std::alloc::Global;
 
 /// What a run comes to up to its sinks.
-#[derive(Debug, Drop)]
+#[derive(Drop)]
 pub enum Prepared {
-    /// Its streams, by their numbers.
-    Streams(Items<Items<Item>>),
-    NotBuilt,
-    Device,
+    /// What it gives its sinks, its fault and its record.
+    Ran(Run),
+    /// The source's file of this name couldn't be opened.
+    OpenFailed(Name),
     Memory,
 }
 
-/// Reads the sources of a graph that is built, and computes its streams. It is `NotBuilt` where a source's
-/// file doesn't hold whole numbers.
+// What a checked graph keeps.
+fn kept(checked: &Checked)
+    ensures { Keeps checked.now }
+{
+    let _parts = checked.parts.as_slice();
+}
+
+/// Reads the sources of a graph that is built, and runs it from their rows.
 pub fn prepare<H: Shelf>(alloc: Global, shelf: &mut H, checked: &Checked) -> Prepared
     requires built { is_built_now checked.now ≡ true }
-    ensures made { PreparedOf result checked.now (H.told shelf.old) }
+    ensures made { PreparedOf result checked.now (H.told shelf.old) (H.counts shelf.old)
+        (H.counts shelf.new) }
     ensures told { WhereTold (H.told shelf.old) (H.told shelf.new) TellsSame }
-    ensures reads { IfSome (H.told shelf.old)
-        (ReadsFailed (H.counts shelf.old) (H.counts shelf.new)) }
-    ensures cause { OpensCounted (prepare_failed result) (source_files checked.now.parts)
-        (H.counts shelf.old) (H.counts shelf.new) }
+    ensures reads { IfSome (H.told shelf.old) (ReadsFail (H.counts shelf.old) (H.counts shelf.new)) }
+    ensures cause { PreparedCounted result (run_files checked.now) (H.counts shelf.old)
+        (H.counts shelf.new) }
     ensures lent { H.lent shelf.old < 2 ^ 64 - 1 → H.lent shelf.new ≡ H.lent shelf.old }
 {
+    engine_law();
+    run_faults_law();
+    kept(checked);
     match read_sources(alloc, shelf, checked) {
-        Sources::NotBuilt => Prepared::NotBuilt,
-        Sources::Device => Prepared::Device,
+        Sources::OpenFailed(name) => Prepared::OpenFailed(name),
         Sources::Memory => Prepared::Memory,
-        Sources::Rows(rows) => match streams_of(alloc, checked, rows) {
+        Sources::Rows(rows) => match run_graph(alloc, checked, rows) {
             Err(_) => Prepared::Memory,
-            Ok(streams) => Prepared::Streams(streams),
+            Ok(run) => Prepared::Ran(run),
         },
     }
 }

@@ -1,20 +1,21 @@
 //! A run of a checked graph, from its sources to its sinks.
-ghost use Rattle.std.specs.Prelude.{◌≡◌, ◌<◌, ◌-◌, ◌^◌, true, ℕ, List, [], IfOk};
+ghost use Rattle.std.specs.Prelude.{◌≡◌, ◌<◌, ◌-◌, ◌^◌, true, ℕ, List, IfOk};
 ghost use Rattle.feed_pour.specs.Contents.{WhereTold};
-ghost use Rattle.check_laws.specs.Files.{source_files, sink_files, OwnFiles};
+ghost use Rattle.check_laws.specs.Files.{OwnFiles};
 ghost use Rattle.spl_driver.specs.Answer.{cause_of};
 ghost use Rattle.spl_driver.specs.Built.{is_built_now};
 ghost use Rattle.spl_driver.specs.Lines.{IsLine};
-ghost use Rattle.spl_driver.specs.Steps.{IsRunOf, RunComes, CountsShow, FilesShow, EndsAs, TellsRun, counts_from};
+ghost use Rattle.spl_driver.specs.Steps.{run_files, IsRunOf, RunComes, CountsShow, FilesShow, EndsAs, EndsRun, RanGraph, ReasonOf, TellsRun, counts_from};
+ghost use Rattle.run_report.specs.Texts.{status_text};
 
 use crate::answer::{Answer, plain};
-use crate::ended::{Ended, status};
+use crate::ended::{Ended, open_failed, status, uncounted_after, write_failed};
 use crate::prepare::{Prepared, prepare};
-use crate::sinks::{sink_counts, sinks_of};
+use crate::sinks::{sink_counts, sink_file, sinks_of};
 use feed_pour::Shelf;
-use file_adapters::{Sunk, write_sinks};
+use file_adapters::{Sink, Sunk, write_sinks};
 use language_model::Checked;
-use list_run::{fault_of_run, sinks_law};
+use list_engine::{Run, engine_law};
 use run_report::{Cause, status_text};
 use spl_value::{Fault, Items};
 use std::alloc::Global;
@@ -30,14 +31,33 @@ fn cause(fault: Option<Fault>) -> Cause
     }
 }
 
+// The answer of a cause that names no operator, after a run with this record of which nothing was counted.
+fn unfinished(alloc: Global, cause: Cause, arrivals: Arrivals) -> Answer
+    ensures cause { result.ended.cause ≡ cause }
+    ensures line { IfOk result.line (λ line. line ≡ status_text None cause) }
+    ensures recorded { result.ended.arrivals ≡ arrivals }
+{
+    let line = status_text(alloc, None, &cause);
+    Answer {
+        ended: uncounted_after(alloc, cause, arrivals),
+        line,
+    }
+}
+
 // The end of a run that was carried out.
-fn carried_out(alloc: Global, checked: &Checked, rows: &Items<u64>, fault: Option<Fault>) -> Answer
+fn carried_out(
+    alloc: Global,
+    checked: &Checked,
+    rows: &Items<u64>,
+    fault: Option<Fault>,
+    arrivals: Arrivals,
+) -> Answer
     ensures ends { EndsAs fault (counts_from 0 checked.now.parts rows.now) result.ended }
     ensures line { IfOk result.line (TellsRun checked.now fault result.ended.cause) }
-    ensures lists { result.ended.arrivals.lists ≡ [] }
+    ensures recorded { result.ended.arrivals ≡ arrivals }
 {
     match sink_counts(alloc, checked, rows) {
-        Err(_) => plain(alloc, Cause::NoMemory),
+        Err(_) => unfinished(alloc, Cause::NoMemory, arrivals),
         Ok(sinks) => {
             let cause = cause(fault);
             let line = status_text(alloc, Some(checked), &cause);
@@ -45,9 +65,7 @@ fn carried_out(alloc: Global, checked: &Checked, rows: &Items<u64>, fault: Optio
                 ended: Ended {
                     status: status(&cause),
                     cause,
-                    arrivals: Arrivals {
-                        lists: Items::new(alloc),
-                    },
+                    arrivals,
                     counts: Counts {
                         channels: Items::new(alloc),
                         sinks,
@@ -59,35 +77,61 @@ fn carried_out(alloc: Global, checked: &Checked, rows: &Items<u64>, fault: Optio
     }
 }
 
+// The answer of a run, by what became of its sinks.
+fn ended_run(
+    alloc: Global,
+    checked: &Checked,
+    sinks: &Items<Sink>,
+    fault: Option<Fault>,
+    arrivals: Arrivals,
+    sunk: &Sunk,
+) -> Answer
+    ensures { EndsRun sunk.now checked.now sinks.now fault arrivals result }
+{
+    match sunk {
+        Sunk::NotCreated(place) => plain(alloc, open_failed(alloc, sink_file(sinks, *place))),
+        Sunk::NotWritten(place) => {
+            unfinished(
+                alloc,
+                write_failed(alloc, sink_file(sinks, *place)),
+                arrivals,
+            )
+        }
+        Sunk::Memory => unfinished(alloc, Cause::NoMemory, arrivals),
+        Sunk::Done(rows) => carried_out(alloc, checked, rows, fault, arrivals),
+    }
+}
+
 /// Runs a checked graph that is built: reads its sources, and writes its sinks.
 pub fn run<H: Shelf>(alloc: Global, shelf: &mut H, checked: &Checked) -> Answer
     requires built { is_built_now checked.now ≡ true }
     requires own { (names : List (List ℕ)) × OwnFiles names checked.now.parts }
     ensures files { WhereTold (H.told shelf.old) (H.told shelf.new)
-        (λ old new. FilesShow (IsRunOf checked.now result.ended.arrivals old) (sink_files checked.now.parts)
+        (λ old new. FilesShow (IsRunOf checked.now result.ended.arrivals old) (run_files checked.now)
         result.ended (H.counts shelf.old) (H.counts shelf.new) old new) }
-    ensures counts { CountsShow result.ended.cause (source_files checked.now.parts)
-        (sink_files checked.now.parts) (H.counts shelf.old) (H.counts shelf.new) }
+    ensures counts { CountsShow result.ended.cause checked.now.parts (run_files checked.now)
+        (H.counts shelf.old) (H.counts shelf.new) }
     ensures line { IfOk result.line (IsLine result.ended.cause
-        (RunComes checked.now result.ended.arrivals (H.told shelf.old))) }
-    ensures lists { result.ended.arrivals.lists ≡ [] }
+        (RunComes checked.now result.ended.arrivals (H.told shelf.old) (H.counts shelf.old) (H.counts shelf.new))) }
+    ensures reason { ReasonOf result.ended.cause checked.now }
+    ensures ran { RanGraph result.ended.cause checked.now result.ended (H.counts shelf.old) (H.counts shelf.new) }
     ensures lent { H.lent shelf.old < 2 ^ 64 - 256 → H.lent shelf.new ≡ H.lent shelf.old }
 {
-    sinks_law();
+    engine_law();
     match prepare(alloc, shelf, checked) {
-        Prepared::NotBuilt => plain(alloc, Cause::NotBuilt),
-        Prepared::Device => plain(alloc, Cause::Device),
+        Prepared::OpenFailed(name) => plain(alloc, Cause::OpenFailed(name)),
         Prepared::Memory => plain(alloc, Cause::NoMemory),
-        Prepared::Streams(streams) => match sinks_of(alloc, checked) {
+        Prepared::Ran(run) => match sinks_of(alloc, checked) {
             Err(_) => plain(alloc, Cause::NoMemory),
-            Ok(sinks) => match write_sinks(alloc, shelf, &sinks, &streams) {
-                Sunk::Failed => plain(alloc, Cause::Device),
-                Sunk::Memory => plain(alloc, Cause::NoMemory),
-                Sunk::Done(rows) => {
-                    let fault = fault_of_run(checked, &streams);
-                    carried_out(alloc, checked, &rows, fault)
-                }
-            },
+            Ok(sinks) => {
+                let Run {
+                    sinks: streams,
+                    arrivals,
+                    fault,
+                } = run;
+                let sunk = write_sinks(alloc, shelf, &sinks, &streams);
+                ended_run(alloc, checked, &sinks, fault, arrivals, &sunk)
+            }
         },
     }
 }

@@ -1,51 +1,43 @@
 //! The sinks of a graph, and what is counted of them.
-ghost use Rattle.std.specs.Prelude.{◌≡◌, IfOk};
+ghost use Rattle.std.specs.Prelude.{◌≡◌, IfOk, Some, slice_get};
+ghost use Rattle.file_adapters.specs.declared.sinks.Sink.{Sink};
 ghost use Rattle.language_model.specs.Keeping.{Keeps};
-ghost use Rattle.spl_driver.specs.Steps.{sinks_of, first_input, counts_from};
+ghost use Rattle.spl_driver.specs.Steps.{sinks_of, counts_from};
 
 use file_adapters::Sink;
 use language_model::{Checked, Part};
-use spl_tree::Op;
 use spl_value::{Items, NoMemory};
 use std::alloc::Global;
 use stream_model::SinkCount;
 
-// The first stream that an operator takes.
-fn first_input(op: &Op) -> u32
-    ensures { result ≡ first_input op.now }
-{
-    let mut rest = op.ins.as_slice();
-    'ports: while let [streams, behind @ ..] = rest {
-        if let [stream, ..] = streams.as_slice() {
-            return *stream;
-        }
-        rest = behind;
-    }
-    0
-}
-
-/// The sinks of a graph, in the order of the operators, with their streams. It also says what a
-/// checked graph keeps.
+/// The sinks of a graph, in the order of the operators: each writes what the operator with its number
+/// gives. It also says what a checked graph keeps.
 pub fn sinks_of(alloc: Global, checked: &Checked) -> Result<Items<Sink>, NoMemory>
     ensures sinks { IfOk result (λ sinks. sinks ≡ sinks_of checked.now) }
     ensures kept { Keeps checked.now }
 {
     let mut sinks = Items::new(alloc);
-    let mut ops = checked.graph.ops.as_slice();
     let mut parts = checked.parts.as_slice();
-    'operators: while let [op, later @ ..] = ops {
-        let [part, behind @ ..] = parts else {
-            return Ok(sinks);
-        };
+    let mut op = 0u32;
+    'operators: while let [part, behind @ ..] = parts {
         if let Part::FileSink { file } = part {
             let file = Items::from_slice(alloc, file.as_slice())?;
-            let stream = first_input(op);
-            sinks.push(Sink { file, stream })?;
+            sinks.push(Sink { file, stream: op })?;
         }
-        ops = later;
+        op += 1;
         parts = behind;
     }
     Ok(sinks)
+}
+
+/// The file of the sink at a place.
+pub fn sink_file(sinks: &Items<Sink>, place: usize) -> &[u8]
+    ensures { (s : Sink) → slice_get sinks.now place ≡ Some s → result.now ≡ s.file }
+{
+    match sinks.get(place) {
+        Some(sink) => sink.file.as_slice(),
+        None => &[],
+    }
 }
 
 /// The counts of the sinks of a graph, of which each wrote so many rows.

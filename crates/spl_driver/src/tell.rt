@@ -4,8 +4,10 @@ ghost use Rattle.feed_pour.specs.Counts.{Rose};
 ghost use Rattle.spl_driver.specs.Answer.{IsRun};
 ghost use Rattle.spl_driver.specs.Lines.{is_run, ToldAs, Pours};
 
+use crate::ended::write_failed;
 use feed_pour::{Pour, PourAnswer, write_all};
 use run_report::Cause;
+use std::alloc::Global;
 
 // Whether a request was carried out.
 fn is_run(cause: &Cause) -> bool
@@ -13,14 +15,19 @@ fn is_run(cause: &Cause) -> bool
 {
     match cause {
         Cause::Done | Cause::Stopped(_) => true,
-        Cause::BadWords | Cause::Refused(_) | Cause::NotBuilt | Cause::Device | Cause::NoMemory =>
-            false,
+        Cause::BadWords
+        | Cause::Refused(_)
+        | Cause::OpenFailed(_)
+        | Cause::ReadFailed(_)
+        | Cause::WriteFailed(_)
+        | Cause::NotBuilt
+        | Cause::NoMemory => false,
     }
 }
 
 /// Pours the line of a cause. Where the pour fails, the cause stays; but where a request was carried out
-/// it is then `Device`.
-pub fn say<P: Pour>(cause: Cause, line: &[u8], out: &mut P) -> Cause
+/// it is then `WriteFailed` with the name `-`.
+pub fn say<P: Pour>(alloc: Global, cause: Cause, line: &[u8], out: &mut P) -> Cause
     ensures cause { ToldAs cause result (Rose (P.faults out.old) (P.faults out.new)) }
     ensures poured { Pours cause result line.now (P.poured out.old) (P.poured out.new)
         (Rose (P.faults out.old) (P.faults out.new)) }
@@ -29,6 +36,12 @@ pub fn say<P: Pour>(cause: Cause, line: &[u8], out: &mut P) -> Cause
     match write_all(out, line) {
         Ok(()) => cause,
         Err(PourAnswer::Memory) => Cause::NoMemory,
-        Err(PourAnswer::Failed) => { if is_run(&cause) { Cause::Device } else { cause } }
+        Err(PourAnswer::Failed) => {
+            if is_run(&cause) {
+                write_failed(alloc, b"-")
+            } else {
+                cause
+            }
+        }
     }
 }

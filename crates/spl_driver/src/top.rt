@@ -1,9 +1,11 @@
 //! The top call: from the words of the command line to the exit status.
-ghost use Rattle.std.specs.Prelude.{◌≡◌, ◌<◌, ◌-◌, ◌^◌, [], IfSome, Some};
+ghost use Rattle.std.specs.Prelude.{ℕ, List, ◌≡◌, ◌<◌, ◌-◌, ◌^◌, IfSome, Some};
 ghost use Rattle.feed_pour.specs.Counts.{Rose};
 ghost use Rattle.feed_pour.specs.Contents.{WhereTold};
 ghost use Rattle.command_line.specs.Request.{request_of};
-ghost use Rattle.spl_driver.specs.Answer.{Answered, Shown, NoCountChanged, ByWords, MayBe, status_of, IsComplete, IsRun};
+ghost use Rattle.source_rows.specs.Counting.{OnlyRead};
+ghost use Rattle.spl_driver.specs.Answer.{Answered, ByWords, MayBe, status_of, IsComplete, IsRun};
+ghost use Rattle.spl_driver.specs.Shown.{IsReason, RanShown, Shown};
 ghost use Rattle.spl_driver.specs.Lines.{IsToldOutcome, Said, ToldAs, PoursLine};
 ghost use Rattle.spl_driver.specs.Steps.{AnswersRequest};
 
@@ -54,15 +56,20 @@ fn answer_words<H: Shelf>(alloc: Global, words: &[String], shelf: &mut H) -> Ans
 }
 
 // Pours the line of a cause, where there was memory for it, and returns the cause that the program ends with.
-fn pour_line<P: Pour>(cause: Cause, line: Result<Bytes, NoMemory>, out: &mut P) -> Cause
+fn pour_line<P: Pour>(
+    alloc: Global,
+    cause: Cause,
+    line: Result<Bytes, NoMemory>,
+    out: &mut P,
+) -> Cause
     ensures cause { ToldAs cause result (Rose (P.faults out.old) (P.faults out.new)) }
     ensures poured { PoursLine cause result line (P.poured out.old) (P.poured out.new)
         (Rose (P.faults out.old) (P.faults out.new)) }
     ensures quiet { IsRun result → P.faults out.new ≡ P.faults out.old }
 {
     match line {
-        Ok(line) => say(cause, line.as_slice(), out),
-        Err(_) => say(Cause::NoMemory, b"no memory\n", out),
+        Ok(line) => say(alloc, cause, line.as_slice(), out),
+        Err(_) => say(alloc, Cause::NoMemory, b"no memory\n", out),
     }
 }
 
@@ -89,20 +96,24 @@ pub fn spl<W: Threads + Wait + Sync, H: Shelf, S: Starter, G: Gate, P: Pour>(
     ensures shown { Shown result.cause (request_of words.now) (H.counts shelf.old)
         (H.counts shelf.new) (Rose (P.faults out.old) (P.faults out.new)) }
     ensures run { IsRun result.cause
-        → NoCountChanged (H.counts shelf.old) (H.counts shelf.new)
+        → ((n : List ℕ) → OnlyRead (H.counts shelf.old n) (H.counts shelf.new n))
         × (P.faults out.new ≡ P.faults out.old) }
 
     // The line that was poured.
-    ensures said { Said result.cause
-        (IsToldOutcome (request_of words.now) (H.told shelf.old) result.arrivals) (H.counts shelf.old)
-        (H.counts shelf.new) (P.poured out.old) (P.poured out.new)
+    ensures said { Said result.cause (request_of words.now)
+        (IsToldOutcome (request_of words.now) (H.told shelf.old) result.arrivals (H.counts shelf.old)
+        (H.counts shelf.new)) (H.counts shelf.old) (H.counts shelf.new) (P.poured out.old) (P.poured out.new)
         (Rose (P.faults out.old) (P.faults out.new)) }
 
     // Every feed and every pour is given back.
     ensures lent { H.lent shelf.old < 2 ^ 64 - 256 → H.lent shelf.new ≡ H.lent shelf.old }
 
-    // No operator has several connections.
-    ensures arrivals { result.arrivals.lists ≡ [] }
+    // Why a program is refused, or not run.
+    ensures reason { IsReason result.cause (request_of words.now) }
+
+    // What ran: some meaning of the program, whose fault and counts are told, under the record that is returned.
+    ensures ran { RanShown result.cause (request_of words.now) result (H.counts shelf.old)
+        (H.counts shelf.new) }
 
     // The words alone decide that there is no request, or that it isn't built.
     ensures words { ByWords (request_of words.now) result.cause (H.counts shelf.old)
@@ -124,7 +135,7 @@ pub fn spl<W: Threads + Wait + Sync, H: Shelf, S: Starter, G: Gate, P: Pour>(
         arrivals,
         counts,
     } = ended;
-    let cause = pour_line(cause, line, out);
+    let cause = pour_line(alloc, cause, line, out);
     Ended {
         status: status(&cause),
         cause,

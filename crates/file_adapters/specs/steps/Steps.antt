@@ -1,8 +1,9 @@
 -- What the steps of writing sinks come to: the files created, their rows written, and the files finished.
-use Rattle.std.specs.Prelude.{◌≡◌, ◌<◌, ◌≤◌, ℕ, List, ◌++◌, length, take, Bool, true, false, Option, Some, None, Result, Ok, Err, ⊤, slice_get}
-use Rattle.std.specs.List.{Any, slice_index_or}
+use Rattle.std.specs.Prelude.{◌≡◌, ◌≢◌, ◌<◌, ◌≤◌, ◌⊎◌, ℕ, List, ◌++◌, length, take, Bool, true, false, Option, Some, None, Result, Ok, Err, ⊤, slice_get}
+use Rattle.std.specs.List.{All, Any, slice_index_or}
 use Rattle.spl_value.specs.declared.item.Item.{Item}
-use Rattle.feed_pour.specs.Counts.{PerName, Rose}
+use Rattle.spl_value.specs.declared.memory.NoMemory.{NoMemory}
+use Rattle.feed_pour.specs.Counts.{Counts, PerName, Rose}
 use Rattle.feed_pour.specs.Contents.{Told, HeldAfter}
 use Rattle.feed_pour.specs.declared.outside.PourAnswer.{PourAnswer}
 use Rattle.feed_pour.specs.declared.outside.PourAnswer.TheVariants as P
@@ -18,10 +19,11 @@ abbrev pub CreatedCount : Result (Unit {0}) PourAnswer → ℕ → List Sink →
 CreatedCount (Ok u) count sinks = count ≡ length sinks
 CreatedCount (Err e) count sinks = count < length sinks
 
--- the creating of the file at this place failed
+-- the creating of the file at this place failed, and nothing else was counted
 pub record RoseCreating (place : ℕ) (sinks : List Sink) (old new : PerName) (s : Sink) : Type 0 where
   pub sink : slice_get sinks place ≡ Some s
   pub rose : Rose (old s.file).creating (new s.file).creating
+  pub others : (n : List ℕ) → n ≢ s.file → new n ≡ old n
 
 abbrev pub CreateCause : Result (Unit {0}) PourAnswer → ℕ → List Sink → PerName → PerName → Type 0
 CreateCause (Ok u) place sinks old new = (n : List ℕ) → new n ≡ old n
@@ -43,42 +45,82 @@ RowsPoured None now r text = ⊤
 RowsPoured (Some old) now (Ok n) text = now ≡ Some (old ++ text)
 RowsPoured (Some old) now (Err e) text = (n : ℕ) × (n ≤ length text) × (now ≡ Some (old ++ take n text))
 
--- into the pour of each sink its text was poured
-abbrev pub EachPoured : {W A : Type 0} → (W → Option (List ℕ)) → Result A PourAnswer → List W → List W → List Sink → List (List Item) → Type 0
-EachPoured {W} poured r olds news sinks streams = (k : ℕ) (d : W) (s : Sink) → k < length sinks →
-    RowsPoured (poured (slice_index_or olds k d)) (poured (slice_index_or news k d)) r (sink_text streams (slice_index_or sinks k s))
+-- a front of a text was poured
+abbrev pub FrontPoured : List ℕ → Option (List ℕ) → List ℕ → Type 0
+FrontPoured old now text = (n : ℕ) × (n ≤ length text) × (now ≡ Some (old ++ take n text))
 
--- where a write failed, a pour counts faults
-abbrev pub WriteFault : {W A : Type 0} → (W → ℕ) → Result A PourAnswer → List W → Type 0
-WriteFault faults (Ok a) news = ⊤
-WriteFault faults (Err P.Failed) news = Any (λ p. 0 < faults p) news
-WriteFault faults (Err P.Memory) news = ⊤
+-- a text was poured, or a front of it where the pour counts faults, or where memory was wanting
+abbrev pub TextPoured : {A : Type 0} → Result A NoMemory → Option (List ℕ) → Option (List ℕ) → ℕ → List ℕ → Type 0
+TextPoured r None now faults text = ⊤
+TextPoured (Ok a) (Some old) now faults text = (now ≡ Some (old ++ text)) ⊎ ((0 < faults) × FrontPoured old now text)
+TextPoured (Err e) (Some old) now faults text = FrontPoured old now text
+
+-- into the pour of each sink its text was poured
+abbrev pub EachPoured : {W A : Type 0} → (W → Option (List ℕ)) → (W → ℕ) → Result A NoMemory → List W → List W → List Sink → List (List Item) → Type 0
+EachPoured {W} poured faults r olds news sinks streams = (k : ℕ) (d : W) (s : Sink) → k < length sinks →
+    TextPoured r (poured (slice_index_or olds k d)) (poured (slice_index_or news k d)) (faults (slice_index_or news k d)) (sink_text streams (slice_index_or sinks k s))
+
+-- so many rows were counted, unless the pour counts faults
+abbrev pub CountedUnless : ℕ → ℕ → ℕ → Type 0
+CountedUnless faults n rows = (n ≡ rows) ⊎ (0 < faults)
+
+-- so many of each sink, unless some pour counts faults
+abbrev pub AllCounted : {W : Type 0} → (W → ℕ) → List W → List ℕ → List ℕ → Type 0
+AllCounted faults pours ns rows = (ns ≡ rows) ⊎ Any (λ p. 0 < faults p) pours
 
 -- ---- finishing
 
--- the files of the first pours hold what was poured, or a front of it where some finishing failed, and nothing else that is told changed
-pub record EachFinished {W : Type 0} (failed : Bool) (poured : W → Option (List ℕ)) (count : ℕ) (pours : List W) (sinks : List Sink) (old : Told) (new : Told) : Type 0 where
-  pub holds : (k : ℕ) (d : W) (s : Sink) → k < count → HeldAfter failed (poured (slice_index_or pours k d)) (new.holds (slice_index_or sinks k s).file)
+-- the first place of a failure, with one more call that failed or not
+abbrev pub first_failed : Option ℕ → Bool → ℕ → Option ℕ
+first_failed (Some place) failed at = Some place
+first_failed None true at = Some at
+first_failed None false at = None
+
+-- a place isn't before the first of a failure
+abbrev pub IsFrom : Option ℕ → ℕ → Type 0
+IsFrom None at = ⊥
+IsFrom (Some place) at = place ≤ at
+
+-- A file was finished: it holds what was poured, the pour counts no fault, and nothing was counted; or the finishing failed, its count of writing rose,
+-- and it holds a front of what was poured.
+abbrev pub FileFinished : Option ℕ → ℕ → ℕ → Counts → Counts → Option (List ℕ) → Option (List ℕ) → Type 0
+FileFinished first at faults counts now poured holds =
+    ((faults ≡ 0) × (now ≡ counts) × HeldAfter false poured holds) ⊎ (IsFrom first at × Rose counts.writing now.writing × HeldAfter true poured holds)
+
+-- the files of the first pours were finished, and nothing else that is told changed
+pub record EachFinished {W : Type 0} (poured : W → Option (List ℕ)) (faults : W → ℕ) (first : Option ℕ) (count : ℕ) (pours : List W) (sinks : List Sink) (counts now : PerName) (old : Told) (new : Told) : Type 0 where
+  pub holds : (k : ℕ) (d : W) (s : Sink) → k < count → FileFinished first k (faults (slice_index_or pours k d)) (counts (slice_index_or sinks k s).file) (now (slice_index_or sinks k s).file)
+      (poured (slice_index_or pours k d)) (new.holds (slice_index_or sinks k s).file)
   pub others : OtherFilesStay (take count sinks) old.holds new.holds
   pub scripts : OtherFilesStay (take count sinks) old.script new.script
 
-abbrev pub FinishCause : Bool → List Sink → PerName → PerName → Type 0
-FinishCause false sinks old new = (n : List ℕ) → new n ≡ old n
-FinishCause true sinks old new = Any (λ s. Rose (old s.file).writing (new s.file).writing) sinks
+-- the finishing of the file at this place failed, and of none before it
+pub record RoseWriting (place : ℕ) (sinks : List Sink) (old new : PerName) (s : Sink) : Type 0 where
+  pub sink : slice_get sinks place ≡ Some s
+  pub rose : Rose (old s.file).writing (new s.file).writing
+  pub before : All (λ t. new t.file ≡ old t.file) (take place sinks)
 
--- the finishing of these sinks' files counts faults of writing under them, where it failed, and no others
-pub record FinishCounted (failed : Bool) (sinks : List Sink) (old new : PerName) : Type 0 where
-  pub others : OtherFilesStay sinks old new
+abbrev pub FinishCause : Option ℕ → List Sink → PerName → PerName → Type 0
+FinishCause None sinks old new = (n : List ℕ) → new n ≡ old n
+FinishCause (Some place) sinks old new = (s : Sink) × RoseWriting place sinks old new s
+
+-- the finishing of the first sinks' files counts faults of writing under them, where it failed, and no others
+pub record FinishCounted (first : Option ℕ) (count : ℕ) (sinks : List Sink) (old new : PerName) : Type 0 where
+  pub others : OtherFilesStay (take count sinks) old new
   pub opening : (n : List ℕ) → (new n).opening ≡ (old n).opening
   pub creating : (n : List ℕ) → (new n).creating ≡ (old n).creating
   pub reading : (n : List ℕ) → (new n).reading ≡ (old n).reading
-  pub cause : FinishCause failed sinks old new
+  pub cause : FinishCause first sinks old new
 
 -- ---- the whole
 
--- how the writing of all ended
-abbrev pub sunk_of : Result (List ℕ) PourAnswer → Bool → Sunk
-sunk_of (Ok counts) false = S.Done counts
-sunk_of (Ok counts) true = S.Failed
-sunk_of (Err P.Failed) failed = S.Failed
-sunk_of (Err P.Memory) failed = S.Memory
+-- how the writing of all ended, where all files were created
+abbrev pub sunk_of : Result (List ℕ) NoMemory → Option ℕ → Sunk
+sunk_of (Err e) first = S.Memory
+sunk_of (Ok counts) None = S.Done counts
+sunk_of (Ok counts) (Some place) = S.NotWritten place
+
+-- how it ended where the file at this place wasn't created
+abbrev pub not_created : PourAnswer → ℕ → Sunk
+not_created P.Failed place = S.NotCreated place
+not_created P.Memory place = S.Memory

@@ -1,9 +1,9 @@
-use Rattle.std.proofs.Common.{◌≡◌, ◌++◌, length}
+use Rattle.std.proofs.Common.{◌≡◌, ◌++◌, ◌+◌, length}
 use Rattle.spl_driver.specs.Steps.{sinks_from, sinks_of}
 use Rattle.spl_driver.proofs.sinks.sinks_of.Given as goal
 
 abbrev pub invariant-operators : goal.invariant-operators
-invariant-operators l = l.sinks ++ sinks_from l.ops l.parts ≡ sinks_of l.checked
+invariant-operators l = (l.sinks ++ sinks_from l.op l.parts ≡ sinks_of l.checked) × (l.op + length l.parts ≡ length l.checked.parts)
 
 abbrev pub decreases-operators : goal.decreases-operators
 decreases-operators l = length l.parts

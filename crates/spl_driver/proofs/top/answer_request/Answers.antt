@@ -6,11 +6,11 @@ use Rattle.spl_driver.proofs.top.answer_request.Goals as goal
 pub returns-else-is_plain : goal.returns-else-is_plain
 returns-else-is_plain g c =
     not_built_request _ c.args.request.now c.plain.result _ _ (ap is_built c.in-Run.is ∙ sym c.is_plain.ensures ∙ c.if-is_plain.false)
-    c.plain.ensures.cause c.plain.ensures.line c.plain.ensures.lists
+    c.plain.ensures.cause c.plain.ensures.line c.plain.ensures.ran
 
 pub returns-in-Plan : goal.returns-in-Plan
 returns-in-Plan g c =
-    not_built_request _ c.args.request.now c.plain-in-Plan.result _ _ other c.plain-in-Plan.ensures.cause c.plain-in-Plan.ensures.line c.plain-in-Plan.ensures.lists
+    not_built_request _ c.args.request.now c.plain-in-Plan.result _ _ other c.plain-in-Plan.ensures.cause c.plain-in-Plan.ensures.line c.plain-in-Plan.ensures.ran
   where
     other : is_built c.args.request.now ≡ false
     other = elim c.in-Plan.is [

@@ -4,14 +4,15 @@ use Rattle.command_line.specs.declared.request.Request.{Request}
 use Rattle.spl_driver.specs.Steps.{AnswersRequest}
 use Rattle.spl_driver.proofs.PlainAnswers.{plain_request, no_request_answer}
 use Rattle.spl_driver.proofs.Running.{begun_same}
+use Rattle.spl_driver.proofs.Showing.{quiet_shown}
 use Rattle.spl_driver.proofs.Standing.{wanting_answer, wanting_words, told_same}
 use Rattle.spl_driver.proofs.Telling.{not_run}
 use Rattle.spl_driver.proofs.top.answer_words.Goals as goal
 
 pub returns-in-Err : goal.returns-in-Err
 returns-in-Err g c =
-    plain_request _ _ _ C.NoMemory c.plain.result _ _ _ _ c.plain.ensures.cause (not_run C.NoMemory refl) tt tt (wanting_words _ _ _ (λ n. refl)) c.plain.ensures.line
-    c.plain.ensures.lists (λ small. refl) (wanting_answer begun_same _ _ _ c.plain.result.ended _ _ c.plain.ensures.cause (told_same _) (λ n. refl))
+    plain_request _ _ _ C.NoMemory c.plain.result _ _ _ _ c.plain.ensures.cause (not_run C.NoMemory refl) tt tt tt (quiet_shown C.NoMemory _ _ _ tt tt (λ n. refl)) (wanting_words _ _ _ (λ n. refl)) c.plain.ensures.line
+    c.plain.ensures.ran (λ small. refl) (wanting_answer begun_same _ _ _ c.plain.result.ended _ _ c.plain.ensures.cause (told_same _) (λ n. refl))
 
 pub returns-in-Ok-None : goal.returns-in-Ok-None
 returns-in-Ok-None g c =
@@ -19,4 +20,4 @@ returns-in-Ok-None g c =
     let counts = g.H.Shelf.counts c.args.shelf.now in
     let lent = g.H.Shelf.lent c.args.shelf.now in
     subst (λ (o : Option Request). AnswersRequest o c.plain-in-Ok-None.result told told counts counts lent lent) (sym c.in-Ok-None.field-0-is ∙ c.in-Ok-None.ensures)
-    (no_request_answer told c.plain-in-Ok-None.result counts lent c.plain-in-Ok-None.ensures.cause c.plain-in-Ok-None.ensures.line c.plain-in-Ok-None.ensures.lists)
+    (no_request_answer told c.plain-in-Ok-None.result counts lent c.plain-in-Ok-None.ensures.cause c.plain-in-Ok-None.ensures.line c.plain-in-Ok-None.ensures.ran)

@@ -1,0 +1,309 @@
+-- What an answer shows at every shelf: of the counts, of the program and of its run.
+use Rattle.std.proofs.Common.{◌≡◌, ◌≢◌, ◌∙◌, ℕ, Bool, true, false, List, [], ◌∷◌, refl, sym, ap, subst, inl, inr, ◌⊎◌, Option, Some, None}
+use Rattle.std.specs.Prelude.{◌||◌}
+use Rattle.spl_value.specs.declared.item.Fault.{Fault}
+use Rattle.feed_pour.specs.Counts.{Counts, PerName}
+use Rattle.language_model.specs.declared.checked.Part.{Part}
+use Rattle.language_model.specs.CheckedGraph.{CheckedGraph}
+use Rattle.stream_model.specs.Ends.{run_fault}
+use Rattle.stream_model.specs.Meaning.{Graph, Meaning}
+use Rattle.run_report.specs.declared.cause.Cause.{Cause}
+use Rattle.run_report.specs.declared.cause.Cause.TheVariants as C
+use Rattle.command_line.specs.declared.request.Request.{Request}
+use Rattle.command_line.specs.declared.request.Request.TheVariants as R
+use Rattle.command_line.specs.declared.request.RunOptions.{RunOptions}
+use Rattle.check_laws.specs.Files.{is_named}
+use Rattle.source_rows.specs.Counting.{OnlyReads}
+use Rattle.spl_driver.specs.Answer.{DevicesShow, IsRun, LINE, NoCountChanged, StoppedBy, cause_of, counts_of, is_check}
+use Rattle.spl_driver.specs.Built.{is_built, is_built_now}
+use Rattle.spl_driver.specs.Files.{FilesOf, built_parts, creates, files_of, opens, program_of, row_files}
+use Rattle.spl_driver.specs.Lines.{ToldAs}
+use Rattle.spl_driver.specs.Outcome.{IsSomeProgram, IsSomeRefusal}
+use Rattle.spl_driver.specs.Shown.{ArePartsOf, IsCheck, IsProgramOf, IsReason, IsRunProgram, LineShown, NothingRan, Ran, RanAs, RanShown, RanTo, RunShown, Shown, ShownBy}
+use Rattle.spl_driver.specs.Steps.{CountsShow, FirstOpening, FirstReading, IsRunGraph, RanAccepted, RanGraph, ReasonOf}
+use Rattle.spl_driver.specs.Answer.{IsOr}
+use Rattle.spl_driver.specs.declared.ended.Ended.{Ended}
+use Rattle.spl_driver.proofs.Fetching.{quiet_only}
+use Rattle.spl_driver.proofs.Standing.{IsQuiet, IsUnrun, opening_of, outside, quiet_stopped, reading_of, same_counts}
+use Rattle.spl_value.proofs.Lists.{same_or_not}
+
+-- ---- where no count changed
+
+pub quiet_shows : (cause : Cause) (files : FilesOf) (old new : PerName) → IsQuiet cause → NoCountChanged old new → DevicesShow cause files old new
+quiet_shows C.Done files old new is quiet = quiet_only files.rows old new quiet
+quiet_shows (C.Stopped fault) files old new is quiet = quiet_only files.rows old new quiet
+quiet_shows C.NotBuilt files old new is quiet = quiet
+quiet_shows C.BadWords files old new is quiet = quiet
+quiet_shows (C.Refused refusal) files old new is quiet = quiet
+quiet_shows C.NoMemory files old new is quiet = tt
+quiet_shows (C.OpenFailed name) files old new is quiet = absurd is
+quiet_shows (C.ReadFailed name) files old new is quiet = absurd is
+quiet_shows (C.WriteFailed name) files old new is quiet = absurd is
+
+pub quiet_shown : (cause : Cause) (request : Option Request) (old new : PerName) → IsQuiet cause → IsUnrun cause → NoCountChanged old new → ShownBy cause request old new
+quiet_shown cause request old new is unrun quiet = record {
+  parts = [];
+  are = inl refl;
+  device = quiet_shows cause (files_of request []) old new is quiet;
+  stopped = quiet_stopped cause [] old new unrun;
+  others = λ n named. quiet n;
+  reading = λ n free differs. absurd (differs (ap (λ (c : Counts). c.reading) (quiet n)));
+}
+
+-- ---- a program that couldn't be opened or read
+
+-- only the program's counts changed
+program_shown : (cause : Cause) (request : Request) (program : List ℕ) (old new : PerName) → program_of request ≡ Some program → ((n : List ℕ) → n ≢ program → new n ≡ old n)
+    → (cause ≡ C.NoMemory) ⊎ ((cause ≡ C.ReadFailed program) ⊎ ((new program).reading ≡ (old program).reading)) → DevicesShow cause (files_of (Some request) []) old new → IsUnrun cause
+    → ShownBy cause (Some request) old new
+program_shown cause request program old new of others at device unrun = record {
+  parts = [];
+  are = inl refl;
+  device = device;
+  stopped = quiet_stopped cause [] old new unrun;
+  others = λ n named. others n (outside request program [] n of named);
+  reading = λ n free differs. elim (same_or_not n program) as (λ _. (cause ≡ C.ReadFailed n) ⊎ (cause ≡ C.NoMemory)) [
+    | inl e ↦ here n e differs at
+    | inr other ↦ absurd (differs (ap (λ (c : Counts). c.reading) (others n other)))
+  ];
+}
+  where
+    here : (n : List ℕ) → n ≡ program → (new n).reading ≢ (old n).reading → (cause ≡ C.NoMemory) ⊎ ((cause ≡ C.ReadFailed program) ⊎ ((new program).reading ≡ (old program).reading))
+        → (cause ≡ C.ReadFailed n) ⊎ (cause ≡ C.NoMemory)
+    here n e differs (inl wanting) = inr wanting
+    here n e differs (inr (inl is)) = inl (is ∙ ap (λ (m : List ℕ). C.ReadFailed m) (sym e))
+    here n e differs (inr (inr same)) = absurd (differs (ap (λ (m : List ℕ). (new m).reading) e ∙ same ∙ sym (ap (λ (m : List ℕ). (old m).reading) e)))
+
+pub unopened_shown : (cause : Cause) (request : Request) (program : List ℕ) (old new : PerName) (Line : Type 0) → program_of request ≡ Some program → IsOr (C.OpenFailed program) cause
+    → FirstOpening program old new → Shown cause (Some request) old new Line
+unopened_shown cause request program old new Line of (inl is) counted =
+    subst (λ (k : Cause). Shown k (Some request) old new Line) (sym is)
+    (program_shown (C.OpenFailed program) request program old new of counted.others (inr (inr counted.reading)) (inl (opening_of request program [] old new of counted)) tt)
+unopened_shown cause request program old new Line of (inr is) counted =
+    subst (λ (k : Cause). Shown k (Some request) old new Line) (sym is) (program_shown C.NoMemory request program old new of counted.others (inl refl) tt tt)
+
+pub unread_shown : (cause : Cause) (request : Request) (program : List ℕ) (old new : PerName) (Line : Type 0) → is_built request ≡ true → program_of request ≡ Some program → IsOr (C.ReadFailed program) cause
+    → FirstReading program old new → Shown cause (Some request) old new Line
+unread_shown cause request program old new Line built of (inl is) counted =
+    subst (λ (k : Cause). Shown k (Some request) old new Line) (sym is)
+    (program_shown (C.ReadFailed program) request program old new of counted.others (inr (inl refl)) (reading_of request program [] old new built of counted) tt)
+unread_shown cause request program old new Line built of (inr is) counted =
+    subst (λ (k : Cause). Shown k (Some request) old new Line) (sym is) (program_shown C.NoMemory request program old new of counted.others (inl refl) tt tt)
+
+-- ---- what was done with an accepted program
+
+pub shown_of : (cause : Cause) (request : Option Request) (old new : PerName) (Line : Type 0) → (cause ≡ C.BadWords → ⊥) → ShownBy cause request old new → Shown cause request old new Line
+shown_of C.Done request old new Line other h = h
+shown_of (C.Stopped fault) request old new Line other h = h
+shown_of C.NotBuilt request old new Line other h = h
+shown_of C.BadWords request old new Line other h = absurd (other refl)
+shown_of (C.Refused refusal) request old new Line other h = h
+shown_of (C.OpenFailed name) request old new Line other h = h
+shown_of (C.ReadFailed name) request old new Line other h = h
+shown_of (C.WriteFailed name) request old new Line other h = inl h
+shown_of C.NoMemory request old new Line other h = h
+
+pub shown_after : (cause : Cause) (request : Request) (c : CheckedGraph) (old mid new : PerName) (Line : Type 0) → IsSomeProgram request c
+    → NoCountChanged old mid → CountsShow cause (built_parts c) (files_of (Some request) (built_parts c)) mid new → Shown cause (Some request) old new Line
+shown_after cause request c old mid new Line program quiet h =
+    subst (λ (k : PerName). Shown cause (Some request) k new Line) (same_counts old mid quiet) (shown_of cause (Some request) mid new Line h.words (record {
+      parts = built_parts c;
+      are = inr (c, program, refl);
+      device = h.device;
+      stopped = h.stopped;
+      others = h.others;
+      reading = λ n free differs. absurd (differs (h.reading n free));
+    }))
+
+-- ---- once the line is told
+
+-- a request was carried out
+pub only_stop : (c : Cause) (request : Option Request) (counts later : PerName) (Line : Type 0) → IsRun c → Shown c request counts later Line
+    → (parts : List Part) × ArePartsOf request parts × OnlyReads (row_files request parts) counts later
+only_stop c request counts later Line (None, is) h = let s : ShownBy C.Done request counts later = subst (λ (x : Cause). Shown x request counts later Line) is h in (s.parts, s.are, s.device)
+only_stop c request counts later Line (Some fault, is) h = let s : ShownBy (C.Stopped fault) request counts later = subst (λ (x : Cause). Shown x request counts later Line) is h in (s.parts, s.are, s.device)
+
+pub line_shown : (c : Cause) (request : Option Request) (counts later : PerName) (Line Failed : Type 0) → IsRun c → Failed → Shown c request counts later Line → LineShown LINE request counts later Failed
+line_shown c request counts later Line Failed run failed h =
+    let only = only_stop c request counts later Line run h in
+    record { line = refl; failed = failed; parts = only.0; are = only.1; counted = only.2 }
+
+-- memory may be wanting behind each answer
+wanting_by : (c : Cause) (request : Option Request) (counts later : PerName) → ShownBy c request counts later → ShownBy C.NoMemory request counts later
+wanting_by c request counts later h = record { parts = h.parts; are = h.are; device = tt; stopped = tt; others = h.others; reading = λ n free differs. inr refl }
+
+pub wanting_shown : (c : Cause) (request : Option Request) (counts later : PerName) (Line : Type 0) → Shown c request counts later ⊥ → Shown C.NoMemory request counts later Line
+wanting_shown C.Done request counts later Line h = wanting_by C.Done request counts later h
+wanting_shown (C.Stopped fault) request counts later Line h = wanting_by (C.Stopped fault) request counts later h
+wanting_shown C.NotBuilt request counts later Line h = wanting_by C.NotBuilt request counts later h
+wanting_shown C.BadWords request counts later Line h = quiet_shown C.NoMemory request counts later tt tt h.1
+wanting_shown (C.Refused refusal) request counts later Line h = wanting_by (C.Refused refusal) request counts later h
+wanting_shown (C.OpenFailed name) request counts later Line h = wanting_by (C.OpenFailed name) request counts later h
+wanting_shown (C.ReadFailed name) request counts later Line h = wanting_by (C.ReadFailed name) request counts later h
+wanting_shown (C.WriteFailed name) request counts later Line (inl h) = wanting_by (C.WriteFailed name) request counts later h
+wanting_shown (C.WriteFailed name) request counts later Line (inr h) = absurd h.failed
+wanting_shown C.NoMemory request counts later Line h = h
+
+shown_line : (c : Cause) (request : Option Request) (counts later : PerName) (Line : Type 0) → Shown c request counts later ⊥ → Shown c request counts later Line
+shown_line C.Done request counts later Line h = h
+shown_line (C.Stopped fault) request counts later Line h = h
+shown_line C.BadWords request counts later Line h = h
+shown_line (C.Refused refusal) request counts later Line h = h
+shown_line C.NotBuilt request counts later Line h = h
+shown_line (C.OpenFailed name) request counts later Line h = h
+shown_line (C.ReadFailed name) request counts later Line h = h
+shown_line (C.WriteFailed name) request counts later Line (inl h) = inl h
+shown_line (C.WriteFailed name) request counts later Line (inr h) = absurd h.failed
+shown_line C.NoMemory request counts later Line h = h
+
+-- what the counts show stays
+pub shown_said : (c r : Cause) (request : Option Request) (counts later : PerName) (Line : Type 0) → ToldAs c r Line → Shown c request counts later ⊥ → Shown r request counts later Line
+shown_said c r request counts later Line (inl e) h = subst (λ (x : Cause). Shown x request counts later Line) (sym e) (shown_line c request counts later Line h)
+shown_said c r request counts later Line (inr (inl e)) h = subst (λ (x : Cause). Shown x request counts later Line) (sym e) (wanting_shown c request counts later Line h)
+shown_said c r request counts later Line (inr (inr (e, run, line))) h =
+    subst (λ (x : Cause). Shown x request counts later Line) (sym e) (inr (line_shown c request counts later ⊥ Line run line h))
+
+-- ---- why a request isn't carried out
+
+pub or_reason : (expected cause : Cause) (request : Option Request) → IsOr expected cause → IsReason expected request → IsReason cause request
+or_reason expected cause request (inl e) h = subst (λ (k : Cause). IsReason k request) (sym e) h
+or_reason expected cause request (inr e) h = subst (λ (k : Cause). IsReason k request) (sym e) tt
+
+pub reason_of : (cause : Cause) (request : Request) (c : CheckedGraph) → IsSomeProgram request c → ReasonOf cause c → IsReason cause (Some request)
+reason_of (C.Refused refusal) request c program h = absurd h
+reason_of C.NotBuilt request c program h = inr (c, program, h)
+reason_of C.Done request c program h = tt
+reason_of (C.Stopped fault) request c program h = tt
+reason_of C.BadWords request c program h = tt
+reason_of (C.OpenFailed name) request c program h = tt
+reason_of (C.ReadFailed name) request c program h = tt
+reason_of (C.WriteFailed name) request c program h = tt
+reason_of C.NoMemory request c program h = tt
+
+pub reason_said : (c r : Cause) (request : Option Request) (Line : Type 0) → ToldAs c r Line → IsReason c request → IsReason r request
+reason_said c r request Line (inl e) h = subst (λ (k : Cause). IsReason k request) (sym e) h
+reason_said c r request Line (inr (inl e)) h = subst (λ (k : Cause). IsReason k request) (sym e) tt
+reason_said c r request Line (inr (inr (e, run, line))) h = subst (λ (k : Cause). IsReason k request) (sym e) tt
+
+-- ---- what ran
+
+pub run_map : (cause : Cause) (P Q : CheckedGraph → Type 0) (A B : Type 0) (ended : Ended) (counts now : PerName) → ((c : CheckedGraph) → P c → Q c) → (A → B) → RunShown cause P A ended counts now → RunShown cause Q B ended counts now
+run_map C.Done P Q A B ended counts now to check (inl (a, none)) = inl (check a, none)
+run_map C.Done P Q A B ended counts now to check (inr (c, g, m, p, ran, fault, counted)) = inr (c, g, m, to c p, ran, fault, counted)
+run_map (C.Stopped f) P Q A B ended counts now to check (c, g, m, p, ran, fault, counted) = (c, g, m, to c p, ran, fault, counted)
+run_map (C.WriteFailed name) P Q A B ended counts now to check (inl (a, none)) = inl (check a, none)
+run_map (C.WriteFailed name) P Q A B ended counts now to check (inr (c, g, m, p, ran)) = inr (c, g, m, to c p, ran)
+run_map (C.OpenFailed name) P Q A B ended counts now to check none = none
+run_map C.NoMemory P Q A B ended counts now to check (inl none) = inl none
+run_map C.NoMemory P Q A B ended counts now to check (inr (c, g, m, p, ran)) = inr (c, g, m, to c p, ran)
+run_map C.BadWords P Q A B ended counts now to check none = none
+run_map (C.Refused refusal) P Q A B ended counts now to check none = none
+run_map C.NotBuilt P Q A B ended counts now to check none = none
+run_map (C.ReadFailed name) P Q A B ended counts now to check none = none
+
+-- a request of which nothing ran
+abbrev pub IsPlainCause : Cause → Type 0
+IsPlainCause C.Done = ⊥
+IsPlainCause (C.Stopped fault) = ⊥
+IsPlainCause (C.WriteFailed name) = ⊥
+IsPlainCause C.NotBuilt = Unit {0}
+IsPlainCause C.BadWords = Unit {0}
+IsPlainCause (C.Refused refusal) = Unit {0}
+IsPlainCause C.NoMemory = Unit {0}
+IsPlainCause (C.OpenFailed name) = Unit {0}
+IsPlainCause (C.ReadFailed name) = Unit {0}
+
+pub plain_ran : (cause : Cause) (Program : CheckedGraph → Type 0) (Check : Type 0) (ended : Ended) (counts now : PerName) → IsPlainCause cause → NothingRan ended → RunShown cause Program Check ended counts now
+plain_ran C.Done Program Check ended counts now is none = absurd is
+plain_ran (C.Stopped fault) Program Check ended counts now is none = absurd is
+plain_ran (C.WriteFailed name) Program Check ended counts now is none = absurd is
+plain_ran C.NotBuilt Program Check ended counts now is none = none
+plain_ran C.BadWords Program Check ended counts now is none = none
+plain_ran (C.Refused refusal) Program Check ended counts now is none = none
+plain_ran C.NoMemory Program Check ended counts now is none = inl none.lists
+plain_ran (C.OpenFailed name) Program Check ended counts now is none = none
+plain_ran (C.ReadFailed name) Program Check ended counts now is none = none
+
+-- of an answer with such a cause
+pub at_plain : (cause k : Cause) (Program : CheckedGraph → Type 0) (Check : Type 0) (ended : Ended) (counts now : PerName) → cause ≡ k → IsPlainCause k → NothingRan ended → RunShown cause Program Check ended counts now
+at_plain cause k Program Check ended counts now is plain none =
+    subst (λ (x : Cause). RunShown x Program Check ended counts now) (sym is) (plain_ran k Program Check ended counts now plain none)
+
+pub or_ran : (expected cause : Cause) (Program : CheckedGraph → Type 0) (Check : Type 0) (ended : Ended) (counts now : PerName) → IsOr expected cause → IsPlainCause expected → NothingRan ended
+    → RunShown cause Program Check ended counts now
+or_ran expected cause Program Check ended counts now (inl e) plain none =
+    subst (λ (k : Cause). RunShown k Program Check ended counts now) (sym e) (plain_ran expected Program Check ended counts now plain none)
+or_ran expected cause Program Check ended counts now (inr e) plain none =
+    subst (λ (k : Cause). RunShown k Program Check ended counts now) (sym e) (plain_ran C.NoMemory Program Check ended counts now tt none)
+
+-- a check ran nothing
+pub check_ran : (cause : Cause) (request : Request) (p : List ℕ) (c : CheckedGraph) (ended : Ended) (counts now : PerName) → request ≡ R.Check p → cause ≡ C.Done → NothingRan ended → RanAccepted cause request c ended counts now
+check_ran cause request p c ended counts now e is none =
+    subst (λ (k : Cause). RunShown k (IsRunGraph request c) (is_check (Some request) ≡ true) ended counts now) (sym is) (inl (ap (λ (q : Request). is_check (Some q)) e, none))
+
+-- a run ran the graph
+pub graph_ran : (cause : Cause) (request : Request) (p : List ℕ) (options : RunOptions) (c : CheckedGraph) (ended : Ended) (counts now : PerName) → request ≡ R.Run p options → RanGraph cause c ended counts now
+    → RanAccepted cause request c ended counts now
+graph_ran cause request p options c ended counts now e h =
+    run_map cause (λ x. x ≡ c) (IsRunGraph request c) ⊥ (is_check (Some request) ≡ true) ended counts now (λ x is. (ap (λ (q : Request). is_check (Some q)) e, is)) (λ never. absurd never) h
+
+-- the request ran its program
+pub request_ran : (cause : Cause) (request : Request) (c : CheckedGraph) (ended : Ended) (counts between later : PerName) → IsSomeProgram request c → NoCountChanged counts between
+    → RanAccepted cause request c ended between later → RanShown cause (Some request) ended counts later
+request_ran cause request c ended counts between later program quiet h =
+    run_map cause (IsRunGraph request c) (IsRunProgram (Some request)) (is_check (Some request) ≡ true) (IsCheck (Some request)) ended counts later
+    (λ x is. (is.0, subst (IsSomeProgram request) (sym is.1) program)) (λ check. (check, (c, program)))
+    (subst (λ (k : PerName). RanAccepted cause request c ended k later) (same_counts counts between quiet) h)
+
+-- once the line is told
+abbrev pub with_cause : Ended → Cause → ℕ → Ended
+with_cause ended cause status = record { status = status; cause = cause; arrivals = ended.arrivals; counts = ended.counts }
+
+none_same : (ended : Ended) (r : Cause) (status : ℕ) → NothingRan ended → NothingRan (with_cause ended r status)
+none_same ended r status none = record { counts = none.counts; lists = none.lists }
+
+run_same : (cause : Cause) (Program : CheckedGraph → Type 0) (Check : Type 0) (ended : Ended) (r : Cause) (status : ℕ) (counts now : PerName) → RunShown cause Program Check ended counts now
+    → RunShown cause Program Check (with_cause ended r status) counts now
+run_same C.Done Program Check ended r status counts now (inl (check, none)) = inl (check, none_same ended r status none)
+run_same C.Done Program Check ended r status counts now (inr h) = inr h
+run_same (C.Stopped fault) Program Check ended r status counts now h = h
+run_same (C.WriteFailed name) Program Check ended r status counts now (inl (check, none)) = inl (check, none_same ended r status none)
+run_same (C.WriteFailed name) Program Check ended r status counts now (inr h) = inr h
+run_same (C.OpenFailed name) Program Check ended r status counts now none = none_same ended r status none
+run_same C.NoMemory Program Check ended r status counts now (inl none) = inl none
+run_same C.NoMemory Program Check ended r status counts now (inr h) = inr h
+run_same C.BadWords Program Check ended r status counts now none = none_same ended r status none
+run_same (C.Refused refusal) Program Check ended r status counts now none = none_same ended r status none
+run_same C.NotBuilt Program Check ended r status counts now none = none_same ended r status none
+run_same (C.ReadFailed name) Program Check ended r status counts now none = none_same ended r status none
+
+-- memory was wanting behind it
+run_wanting : (cause : Cause) (Program : CheckedGraph → Type 0) (Check : Type 0) (ended : Ended) (counts now : PerName) → RunShown cause Program Check ended counts now → (ended.arrivals.lists ≡ []) ⊎ Ran Program ended counts now
+run_wanting C.Done Program Check ended counts now (inl (check, none)) = inl none.lists
+run_wanting C.Done Program Check ended counts now (inr (c, g, m, p, ran, fault, counted)) = inr (c, g, m, p, ran)
+run_wanting (C.Stopped f) Program Check ended counts now (c, g, m, p, ran, fault, counted) = inr (c, g, m, p, ran)
+run_wanting (C.WriteFailed name) Program Check ended counts now (inl (check, none)) = inl none.lists
+run_wanting (C.WriteFailed name) Program Check ended counts now (inr h) = inr h
+run_wanting (C.OpenFailed name) Program Check ended counts now none = inl none.lists
+run_wanting C.NoMemory Program Check ended counts now h = h
+run_wanting C.BadWords Program Check ended counts now none = inl none.lists
+run_wanting (C.Refused refusal) Program Check ended counts now none = inl none.lists
+run_wanting C.NotBuilt Program Check ended counts now none = inl none.lists
+run_wanting (C.ReadFailed name) Program Check ended counts now none = inl none.lists
+
+-- its line wasn't written
+run_unwritten : (fault : Option Fault) (Program : CheckedGraph → Type 0) (Check : Type 0) (ended : Ended) (r : Cause) (status : ℕ) (counts now : PerName) → RunShown (cause_of fault) Program Check ended counts now
+    → RunShown (C.WriteFailed LINE) Program Check (with_cause ended r status) counts now
+run_unwritten None Program Check ended r status counts now (inl (check, none)) = inl (check, none_same ended r status none)
+run_unwritten None Program Check ended r status counts now (inr (c, g, m, p, ran, fault, counted)) = inr (c, g, m, p, ran)
+run_unwritten (Some f) Program Check ended r status counts now (c, g, m, p, ran, fault, counted) = inr (c, g, m, p, ran)
+
+pub ran_said : (request : Option Request) (ended : Ended) (r : Cause) (status : ℕ) (counts now : PerName) (Line : Type 0) → ToldAs ended.cause r Line → RanShown ended.cause request ended counts now
+    → RanShown r request (with_cause ended r status) counts now
+ran_said request ended r status counts now Line (inl e) h =
+    subst (λ (k : Cause). RanShown k request (with_cause ended r status) counts now) (sym e) (run_same ended.cause (IsRunProgram request) (IsCheck request) ended r status counts now h)
+ran_said request ended r status counts now Line (inr (inl e)) h =
+    subst (λ (k : Cause). RanShown k request (with_cause ended r status) counts now) (sym e) (run_wanting ended.cause (IsRunProgram request) (IsCheck request) ended counts now h)
+ran_said request ended r status counts now Line (inr (inr (e, (fault, run), line))) h =
+    subst (λ (k : Cause). RanShown k request (with_cause ended r status) counts now) (sym e)
+    (run_unwritten fault (IsRunProgram request) (IsCheck request) ended r status counts now (subst (λ (k : Cause). RanShown k request ended counts now) run h))

@@ -1,0 +1,129 @@
+-- What each answer shows at every shelf, also at one that tells nothing: of the counts of faults, and of the run.
+use Rattle.std.specs.Prelude.{◌≡◌, ◌≢◌, ◌⊎◌, ◌||◌, ℕ, List, [], false, true, Option, Some, None, ⊤}
+use Rattle.spl_value.specs.declared.item.Fault.{Fault}
+use Rattle.spl_value.specs.declared.item.Item.{Item}
+use Rattle.feed_pour.specs.Counts.{PerName}
+use Rattle.language_model.specs.declared.checked.Part.{Part}
+use Rattle.language_model.specs.CheckedGraph.{CheckedGraph}
+use Rattle.stream_model.specs.declared.record.Arrivals.{Arrivals}
+use Rattle.stream_model.specs.Arrivals.{entries_in}
+use Rattle.stream_model.specs.CheckedMeaning.{graph_of}
+use Rattle.stream_model.specs.Ends.{run_fault}
+use Rattle.stream_model.specs.Meaning.{Graph, Meaning, meaning}
+use Rattle.list_engine.specs.Runs.{RowsFit, rows_at}
+use Rattle.source_rows.specs.Counting.{OnlyReads}
+use Rattle.source_rows.specs.Sources.{FaultsNameSources, ReadsCounted}
+use Rattle.run_report.specs.declared.cause.Cause.{Cause}
+use Rattle.run_report.specs.declared.cause.Cause.TheVariants as C
+use Rattle.command_line.specs.declared.request.Request.{Request}
+use Rattle.check_laws.specs.Files.{is_named}
+use Rattle.spl_driver.specs.Answer.{DevicesShow, IsRecordOf, LINE, NoCountChanged, StoppedBy, counts_of, is_check, uncounted}
+use Rattle.spl_driver.specs.Built.{is_built, is_built_now}
+use Rattle.spl_driver.specs.Files.{built_parts, creates, files_of, opens, row_files}
+use Rattle.spl_driver.specs.Outcome.{IsSomeProgram, IsSomeRefusal}
+use Rattle.spl_driver.specs.declared.ended.Ended.{Ended}
+
+-- ---- the program
+
+-- the request has a program, and one of some bytes is accepted with this graph
+abbrev pub IsProgramOf : Option Request → CheckedGraph → Type 0
+IsProgramOf None c = ⊥
+IsProgramOf (Some request) c = IsSomeProgram request c
+
+-- the operators by which such a program is run, or none
+abbrev pub ArePartsOf : Option Request → List Part → Type 0
+ArePartsOf request parts = (parts ≡ []) ⊎ ((c : CheckedGraph) × IsProgramOf request c × (parts ≡ built_parts c))
+
+-- why a request isn't carried out: its program has this refusal; its words or its program ask for what isn't built
+abbrev pub IsReason : Cause → Option Request → Type 0
+IsReason (C.Refused refusal) None = ⊥
+IsReason (C.Refused refusal) (Some request) = IsSomeRefusal request refusal
+IsReason C.NotBuilt None = ⊥
+IsReason C.NotBuilt (Some request) = (is_built request ≡ false) ⊎ ((c : CheckedGraph) × IsSomeProgram request c × (is_built_now c ≡ false))
+IsReason C.Done request = ⊤
+IsReason (C.Stopped fault) request = ⊤
+IsReason C.BadWords request = ⊤
+IsReason (C.OpenFailed name) request = ⊤
+IsReason (C.ReadFailed name) request = ⊤
+IsReason (C.WriteFailed name) request = ⊤
+IsReason C.NoMemory request = ⊤
+
+-- ---- the counts of faults
+
+-- For the operators of the program: which device failed, and which source couldn't be read. Nothing was counted of other names, and of a name
+-- that isn't a source's, reading was counted only where the answer names it, or where memory was wanting.
+pub record ShownBy (cause : Cause) (request : Option Request) (old new : PerName) : Type 0 where
+  pub parts : List Part
+  pub are : ArePartsOf request parts
+  pub device : DevicesShow cause (files_of request parts) old new
+  pub stopped : StoppedBy cause parts old new
+  pub others : (n : List ℕ) → (is_named (opens request parts) n || is_named (creates request parts) n) ≡ false → new n ≡ old n
+  pub reading : (n : List ℕ) → is_named (row_files request parts) n ≡ false → (new n).reading ≢ (old n).reading → (cause ≡ C.ReadFailed n) ⊎ (cause ≡ C.NoMemory)
+
+-- the line couldn't be told of a request that was carried out
+pub record LineShown (name : List ℕ) (request : Option Request) (old new : PerName) (LineFailed : Type 0) : Type 0 where
+  pub line : name ≡ LINE
+  pub failed : LineFailed
+  pub parts : List Part
+  pub are : ArePartsOf request parts
+  pub counted : OnlyReads (row_files request parts) old new
+
+abbrev pub Shown : Cause → Option Request → PerName → PerName → Type 0 → Type 0
+Shown C.BadWords request old new LineFailed = (request ≡ None) × NoCountChanged old new
+Shown (C.WriteFailed name) request old new LineFailed = ShownBy (C.WriteFailed name) request old new ⊎ LineShown name request old new LineFailed
+Shown C.Done request old new LineFailed = ShownBy C.Done request old new
+Shown (C.Stopped fault) request old new LineFailed = ShownBy (C.Stopped fault) request old new
+Shown (C.Refused refusal) request old new LineFailed = ShownBy (C.Refused refusal) request old new
+Shown C.NotBuilt request old new LineFailed = ShownBy C.NotBuilt request old new
+Shown (C.OpenFailed name) request old new LineFailed = ShownBy (C.OpenFailed name) request old new
+Shown (C.ReadFailed name) request old new LineFailed = ShownBy (C.ReadFailed name) request old new
+Shown C.NoMemory request old new LineFailed = ShownBy C.NoMemory request old new
+
+-- ---- the run
+
+-- A run of the graph came to this meaning: that for closed rows of its sources, which they name in their faults and of which a read that failed was
+-- counted, under a record that is whole in it.
+pub record RanTo (c : CheckedGraph) (g : Graph) (m : Meaning) (arrivals : Arrivals) (counts now : PerName) : Type 0 where
+  pub graph : graph_of c ≡ g
+  pub rows : List (List Item)
+  pub fit : RowsFit g rows
+  pub names : FaultsNameSources g rows
+  pub read : ReadsCounted g rows counts now
+  pub is : m ≡ meaning g (rows_at rows) (entries_in arrivals.lists)
+  pub recorded : IsRecordOf g m arrivals
+
+-- some run of such a program
+abbrev pub Ran : (CheckedGraph → Type 0) → Ended → PerName → PerName → Type 0
+Ran Program ended counts now = (c : CheckedGraph) × (g : Graph) × (m : Meaning) × Program c × RanTo c g m ended.arrivals counts now
+
+-- which ended with this fault, or none, and with its counts
+abbrev pub RanAs : Option Fault → (CheckedGraph → Type 0) → Ended → PerName → PerName → Type 0
+RanAs fault Program ended counts now =
+    (c : CheckedGraph) × (g : Graph) × (m : Meaning) × Program c × RanTo c g m ended.arrivals counts now × (run_fault g m ≡ fault) × (ended.counts ≡ counts_of g m)
+
+-- no run began: nothing was counted, and no input recorded
+pub record NothingRan (ended : Ended) : Type 0 where
+  pub counts : ended.counts ≡ uncounted
+  pub lists : ended.arrivals.lists ≡ []
+
+-- what ran of such a program, where the request runs it, or where it is one that is checked alone
+abbrev pub RunShown : Cause → (CheckedGraph → Type 0) → Type 0 → Ended → PerName → PerName → Type 0
+RunShown C.Done Program Check ended counts now = (Check × NothingRan ended) ⊎ RanAs None Program ended counts now
+RunShown (C.Stopped fault) Program Check ended counts now = RanAs (Some fault) Program ended counts now
+RunShown (C.WriteFailed name) Program Check ended counts now = (Check × NothingRan ended) ⊎ Ran Program ended counts now
+RunShown (C.OpenFailed name) Program Check ended counts now = NothingRan ended
+RunShown C.NoMemory Program Check ended counts now = (ended.arrivals.lists ≡ []) ⊎ Ran Program ended counts now
+RunShown C.BadWords Program Check ended counts now = NothingRan ended
+RunShown (C.Refused refusal) Program Check ended counts now = NothingRan ended
+RunShown C.NotBuilt Program Check ended counts now = NothingRan ended
+RunShown (C.ReadFailed name) Program Check ended counts now = NothingRan ended
+
+-- the request runs a program with this graph; it checks one
+abbrev pub IsRunProgram : Option Request → CheckedGraph → Type 0
+IsRunProgram request c = (is_check request ≡ false) × IsProgramOf request c
+
+abbrev pub IsCheck : Option Request → Type 0
+IsCheck request = (is_check request ≡ true) × ((c : CheckedGraph) × IsProgramOf request c)
+
+abbrev pub RanShown : Cause → Option Request → Ended → PerName → PerName → Type 0
+RanShown cause request ended counts now = RunShown cause (IsRunProgram request) (IsCheck request) ended counts now
