@@ -1,20 +1,17 @@
-//! The rows of files: those of a source as its stream, and streams as the rows of sinks.
+//! Streams as the rows of sinks.
 ghost use Rattle.std.specs.Prelude.{map, IfOk};
 ghost use Rattle.file_adapters.specs.Sinks.{AreDistinct};
 
 use crate::shown::{add_faults, add_held, numbers};
-use file_adapters::{Sink, Sunk, number_stream, write_sinks};
+use file_adapters::{Sink, Sunk, write_sinks};
 use memory_files::MemoryShelf;
 use spl_value::{Item, Items, Name, Value, Values};
 use std::alloc::{AllocError, Global};
 use std::test::Fail;
 use test_texts::rows::{Answers, expect};
-use test_texts::signs::{with_signs, without_signs, words};
+use test_texts::signs::{with_signs, words};
 use test_texts::text::Text;
 use test_texts::words::{bytes, cut, number};
-
-// The bytes of a source.
-struct Sources;
 
 // The values of a tuple.
 struct Rows;
@@ -22,41 +19,6 @@ struct Rows;
 // The streams of the sinks `a` and `b`, or `none` for no sinks, and the call that fails: one of the
 // shelf's, or a write to `a`.
 struct Sinks;
-
-fn add_item(text: &mut Text, item: &Item) {
-    match item {
-        Item::Tuple(values) => match values.as_slice() {
-            [Value::Int(number)] => text.add_number(*number),
-            _ => text.add("?"),
-        },
-        Item::Window => text.add("Window"),
-        Item::Final => text.add("Final"),
-        Item::Bad(_) => text.add("Bad"),
-    }
-}
-
-fn add_stream(text: &mut Text, items: &[Item]) {
-    for (at, item) in items.iter().enumerate() {
-        text.add_between(at, ", ");
-        add_item(text, item);
-    }
-}
-
-impl Answers for Sources {
-    fn answer(&self, alloc: Global, text: &str) -> Result<String, AllocError> {
-        let source = without_signs(alloc, text)?;
-        let mut shown = Text::new(alloc);
-        if source.len() > 1000 {
-            return "too long".to_string(alloc);
-        }
-        match number_stream(alloc, source.as_bytes()) {
-            Ok(Some(items)) => add_stream(&mut shown, items.as_slice()),
-            Ok(None) => shown.add("no numbers"),
-            Err(_) => shown.add("no memory"),
-        }
-        shown.finish()
-    }
-}
 
 fn value_of(alloc: Global, word: &str) -> Result<Value, AllocError> {
     match word {
@@ -247,29 +209,12 @@ impl Answers for Sinks {
 }
 
 #[test]
-fn sources_and_sinks_have_these_streams(rt: HostRuntime) -> Result<(), Fail> {
+fn sinks_have_these_rows(rt: HostRuntime) -> Result<(), Fail> {
     let alloc = rt.alloc();
-    expect(alloc, &Sources, &[SOURCES])?;
     expect(alloc, &Rows, &[ROWS])?;
     expect(alloc, &Sinks, &[SINKS])?;
     Ok(())
 }
-
-const SOURCES: &str = r#"
-∅ => Window, Final
-5␊10␊11␊ => 5, 10, 11, Window, Final
--3 => -3, Window, Final
--0␊007 => 0, 7, Window, Final
-999999999999999999␊ => 999999999999999999, Window, Final
-1000000000000000000␊ => no numbers
--999999999999999999 => -999999999999999999, Window, Final
-x␊ => no numbers
-1␊␊2␊ => no numbers
-␊ => no numbers
--␊ => no numbers
---1␊ => no numbers
-1␍␊ => no numbers
-"#;
 
 const ROWS: &str = r#"
 -5 a,b true => done 1 0; -5,"a,b",true␊
