@@ -1,83 +1,298 @@
-//! The programs of the folder `examples` with their input, and what is expected of them there.
+//! The programs of the folder `examples`, each with a few rows of its input.
 
-/// Readings of a thermometer.
+/// Readings of thermometers.
 pub(crate) const TELEMETRY: &str =
-    r#"// Readings of a thermometer, in tenths of a degree. Its range is from -40 to 125 degrees; a number
-// beyond that is a failure of the sensor, and no temperature.
+    r#"// Readings of several thermometers, in tenths of a degree. Their range is from -40 to 125 degrees; a
+// number beyond that is a failure of the sensor, and no temperature.
 
-boolean isMeasured(int64 tenths) {
-  return tenths >= -400l && tenths <= 1250l;
+type Reading = int64 second, rstring sensor, int32 tenths;
+
+// What is known of a sensor with each of its readings: how many it has given, the least, the greatest,
+// and their mean, cut off toward zero.
+type Running = int64 second, rstring sensor, int32 tenths,
+               int64 count, int32 least, int32 greatest, int32 mean;
+
+boolean isMeasured(int32 tenths) {
+  return tenths >= -400 && tenths <= 1250;
 }
 
 // The readings above a limit.
 composite Above(output High; input Readings) {
-  param expression<int64> $limit;
+  param expression<int32> $limit;
   graph
     stream<Readings> High = Filter(Readings) { param filter: tenths > $limit; }
 }
 
-composite Main {
+// The statistics of each sensor, with each reading.
+composite Statistics(output Known; input Readings) {
   graph
-    stream<int64 tenths> All = FileSource() { param file: "readings.csv"; format: csv; }
+    stream<Running> Known = Custom(Readings) {
+      logic
+        state: {
+          mutable map<rstring, tuple<int64 count, int64 sum, int32 least, int32 greatest>> sensors;
+        }
+        onTuple Readings: {
+          if (!has(sensors, sensor)) {
+            sensors[sensor] = {count = 0l, sum = 0l, least = tenths, greatest = tenths};
+          }
+          sensors[sensor].count += 1l;
+          sensors[sensor].sum += (int64)tenths;
+          sensors[sensor].least = min(sensors[sensor].least, tenths);
+          sensors[sensor].greatest = max(sensors[sensor].greatest, tenths);
+          submit({second = second, sensor = sensor, tenths = tenths,
+                  count = sensors[sensor].count,
+                  least = sensors[sensor].least,
+                  greatest = sensors[sensor].greatest,
+                  mean = (int32)(sensors[sensor].sum / sensors[sensor].count)}, Known);
+        }
+    }
+}
+
+composite Main {
+  param
+    expression<int32> $jump : 60;  // so far from the mean of its sensor is a reading an alert
+    expression<int64> $known : 5l; // once so many readings are known
+  graph
+    stream<Reading> All = FileSource() { param file: "readings.csv"; format: csv; }
     stream<All> Measured = Filter(All) { param filter: isMeasured(tenths); }
     stream<All> Failures = Filter(All) { param filter: !isMeasured(tenths); }
-    stream<All> Warm = Above(Measured) { param limit: 250l; }
-    stream<All> Hot = Above(Measured) { param limit: 400l; }
+    stream<All> Warm = Above(Measured) { param limit: 250; }
+    stream<All> Hot = Above(Measured) { param limit: 400; }
+    stream<Running> Known = Statistics(Measured);
+    stream<Known> Alerts = Filter(Known) {
+      param filter: count > $known && abs(tenths - mean) >= $jump;
+    }
+    (stream<Alerts> Falls; stream<Alerts> Rises) = Split(Alerts) {
+      param index: tenths < mean ? 0 : 1;
+    }
+    () as FailuresOut = FileSink(Failures) { param file: "failures.csv"; format: csv; }
     () as WarmOut = FileSink(Warm) { param file: "warm.csv"; format: csv; }
     () as HotOut = FileSink(Hot) { param file: "hot.csv"; format: csv; }
-    () as FailuresOut = FileSink(Failures) { param file: "failures.csv"; format: csv; }
+    () as KnownOut = FileSink(Known) { param file: "statistics.csv"; format: csv; }
+    () as FallsOut = FileSink(Falls) { param file: "falls.csv"; format: csv; }
+    () as RisesOut = FileSink(Rises) { param file: "rises.csv"; format: csv; }
 }
 "#;
 
-/// Prices of trades.
+/// Trades and their values.
 pub(crate) const TRADES: &str =
-    r#"/* Prices of trades, in cents. Small and large trades go to a file each, and what lies between
-   them, or below 0, goes nowhere. */
+    r#"/* Trades with their prices in cents. Their values go to a file each for small, middle and large ones,
+   cancelled trades to another, and a last one says what each account holds of each symbol. */
 namespace demo.trades;
 
-type Trade = int64 cents;
+type Trade = int64 second, rstring account, rstring symbol, boolean isBuy, int64 cents, int32 quantity;
+type ValuedTrade = int64 second, rstring account, rstring symbol, boolean isBuy, int64 value, int64 fee;
+type Holding = rstring account, rstring symbol, int64 quantity;
 
-// The trades with a price from `$least` to `$most`.
-composite Between(output Chosen; input Trades) {
+// The fee of a trade: so many hundredths of a percent of its value, and no less than `least`.
+int64 feeOf(int64 value, int64 hundredths, int64 least) {
+  return max(value * hundredths / 10000l, least);
+}
+
+// The trades of a quantity and a price that are above 0, with their values.
+composite Values(output Valued; input Trades) {
   param
-    expression<int64> $least : 0l;
-    expression<int64> $most : 9223372036854775807l; // the largest int64
+    expression<int64> $hundredths : 25l;
+    expression<int64> $leastFee : 100l;
   graph
-    stream<Trade> Chosen = Filter(Trades) {
-      param filter: cents >= $least && cents <= $most;
+    stream<ValuedTrade> Valued = Functor(Trades) {
+      param filter: quantity > 0 && cents > 0l;
+      output Valued:
+        value = cents * (int64)quantity,
+        fee = feeOf(cents * (int64)quantity, $hundredths, $leastFee);
+    }
+}
+
+composite Main {
+  param
+    expression<int64> $middle : 1000l * 100l;
+    expression<int64> $large : 10000l * 100l;
+  graph
+    stream<Trade> Trades = FileSource() { param file: "trades.csv"; format: csv; }
+    stream<Trades> Cancelled = Filter(Trades) { param filter: quantity <= 0 || cents <= 0l; }
+    stream<ValuedTrade> Valued = Values(Trades) { param leastFee: 150l; }
+    (stream<Valued> Small; stream<Valued> Middle; stream<Valued> Large) = Split(Valued) {
+      param index: value >= $large ? 2 : value >= $middle ? 1 : 0;
+    }
+    // What each account holds once all trades are in, by account and symbol.
+    stream<Holding> Holdings = Custom(Trades) {
+      logic
+        state: { mutable map<rstring, map<rstring, int64>> held; }
+        onTuple Trades: {
+          if (quantity > 0 && cents > 0l) {
+            if (!has(held, account)) held[account] = {};
+            if (!has(held[account], symbol)) held[account][symbol] = 0l;
+            held[account][symbol] += isBuy ? (int64)quantity : -(int64)quantity;
+          }
+        }
+        onPunct Trades: {
+          if (currentPunct() == Sys.FinalMarker) {
+            for (rstring account in held) {
+              for (rstring symbol in held[account]) {
+                submit({account = account, symbol = symbol, quantity = held[account][symbol]}, Holdings);
+              }
+            }
+          }
+        }
+    }
+    () as CancelledOut = FileSink(Cancelled) { param file: "cancelled.csv"; format: csv; }
+    () as SmallOut = FileSink(Small) { param file: "small.csv"; format: csv; }
+    () as MiddleOut = FileSink(Middle) { param file: "middle.csv"; format: csv; }
+    () as LargeOut = FileSink(Large) { param file: "large.csv"; format: csv; }
+    () as HoldingsOut = FileSink(Holdings) { param file: "holdings.csv"; format: csv; }
+}
+"#;
+
+/// The log of a server.
+pub(crate) const LOGS: &str =
+    r#"// The log of a web server, in the common log format: a line has the host, two names, the time in
+// brackets, the request in quotes, the status of the answer and how many bytes it had.
+//
+//   10.0.0.7 - anna [04/May/2026:08:00:05 +0000] "GET /cart/show HTTP/1.1" 200 5120
+
+type Request = rstring host, rstring time, rstring method, rstring path, int32 status, int64 bytes;
+type Usage = rstring path, int64 requests, int64 failures, int64 bytes;
+
+// The first place from `from` on at which a text has a blank, or else its length.
+int32 blankFrom(rstring text, int32 from) {
+  mutable int32 at = from;
+  while (at < length(text) && substring(text, at, 1) != " ") at += 1;
+  return at;
+}
+
+// The word of a number in a line, counted from 0. Words are separated by a blank each, and the words
+// that a line doesn't have are empty.
+rstring word(rstring line, int32 number) {
+  mutable int32 from = 0;
+  mutable int32 passed = 0;
+  while (passed < number) {
+    from = blankFrom(line, from) + 1;
+    if (from > length(line)) return "";
+    passed += 1;
+  }
+  return substring(line, from, blankFrom(line, from) - from);
+}
+
+boolean isNumber(rstring text) {
+  mutable int32 at = 0;
+  while (at < length(text)) {
+    if (substring(text, at, 1) < "0" || substring(text, at, 1) > "9") return false;
+    at += 1;
+  }
+  return at > 0 && at < 18;
+}
+
+// The number that decimal digits spell. Where the server writes `-`, there were no bytes.
+int64 numberOf(rstring text) {
+  map<rstring, int64> digits = {"0": 0l, "1": 1l, "2": 2l, "3": 3l, "4": 4l,
+                                "5": 5l, "6": 6l, "7": 7l, "8": 8l, "9": 9l};
+  mutable int64 number = 0l;
+  mutable int32 at = 0;
+  if (text == "-") return 0l;
+  while (at < length(text)) {
+    number = number * 10l + digits[substring(text, at, 1)];
+    at += 1;
+  }
+  return number;
+}
+
+// A request has ten words, of which the ninth is a status. What scanners send hasn't.
+boolean isRequest(rstring line) {
+  return word(line, 9) != "" && word(line, 10) == "" && isNumber(word(line, 8))
+      && (word(line, 9) == "-" || isNumber(word(line, 9)));
+}
+
+// A path without what follows a question mark.
+rstring plainPath(rstring path) {
+  mutable int32 at = 0;
+  while (at < length(path) && substring(path, at, 1) != "?") at += 1;
+  return substring(path, 0, at);
+}
+
+composite Main {
+  param
+    expression<int64> $large : 100000l;
+  graph
+    stream<rstring line> Lines = FileSource() { param file: "access.log"; format: csv; }
+    stream<Lines> Others = Filter(Lines) { param filter: !isRequest(line); }
+    stream<Request> Requests = Functor(Lines) {
+      param filter: isRequest(line);
+      output Requests:
+        host = word(line, 0),
+        time = substring(word(line, 3), 1, 20),
+        method = substring(word(line, 5), 1, 8),
+        path = plainPath(word(line, 6)),
+        status = (int32)numberOf(word(line, 8)),
+        bytes = numberOf(word(line, 9));
+    }
+    (stream<Requests> Refused; stream<Requests> Failed) = Split(Requests) {
+      param index: status / 100 == 5 ? 1 : status / 100 == 4 ? 0 : -1;
+    }
+    stream<Requests> Large = Filter(Requests) { param filter: bytes >= $large; }
+    // What each path was asked for, once all lines are in, by path.
+    stream<Usage> Paths = Custom(Requests) {
+      logic
+        state: { mutable map<rstring, tuple<int64 requests, int64 failures, int64 bytes>> paths; }
+        onTuple Requests: {
+          if (!has(paths, path)) paths[path] = {requests = 0l, failures = 0l, bytes = 0l};
+          paths[path].requests += 1l;
+          if (status >= 500) paths[path].failures += 1l;
+          paths[path].bytes += bytes;
+        }
+        onPunct Requests: {
+          if (currentPunct() == Sys.FinalMarker) {
+            for (rstring path in paths) {
+              submit({path = path, requests = paths[path].requests,
+                      failures = paths[path].failures, bytes = paths[path].bytes}, Paths);
+            }
+          }
+        }
+    }
+    () as OthersOut = FileSink(Others) { param file: "others.csv"; format: csv; }
+    () as RefusedOut = FileSink(Refused) { param file: "refused.csv"; format: csv; }
+    () as FailedOut = FileSink(Failed) { param file: "failed.csv"; format: csv; }
+    () as LargeOut = FileSink(Large) { param file: "large.csv"; format: csv; }
+    () as PathsOut = FileSink(Paths) { param file: "paths.csv"; format: csv; }
+}
+"#;
+
+/// Readings of which one is no number.
+pub(crate) const BAD_ROW: &str =
+    r#"// Readings of a thermometer, one of which isn't a number: parsing is strict where nothing else is said, so
+// the run ends there with a fault. With `parsing: permissive;` that row would be passed over.
+composite Main {
+  graph
+    stream<int64 second, rstring sensor, int32 tenths> Readings = FileSource() {
+      param
+        file: "readings.csv";
+        format: csv;
+    }
+    stream<Readings> Warm = Filter(Readings) { param filter: tenths > 200; }
+    () as WarmOut = FileSink(Warm) { param file: "warm.csv"; format: csv; }
+}
+"#;
+
+/// Downloads of which one took no time.
+pub(crate) const DIVISION: &str =
+    r#"// Downloads with their bytes and milliseconds. One took less than a millisecond, which is a division by
+// zero: the rates end there with a fault, and the large downloads, which need no rate, go on to their end.
+
+type Download = rstring file, int64 bytes, int64 millis;
+
+composite Speeds(output Rates; input Downloads) {
+  graph
+    stream<rstring file, int64 rate> Rates = Functor(Downloads) {
+      output Rates: rate = bytes / millis; // bytes in a millisecond
     }
 }
 
 composite Main {
   graph
-    stream<Trade> Trades = FileSource() { param file: "trades.csv"; format: csv; }
-    stream<Trade> Small = Between(Trades) { param most: 100l * 100l - 1l; }
-    stream<Trade> Large = Between(Trades) { param least: 1000l * 100l; }
-    () as SmallOut = FileSink(Small) { param file: "small.csv"; format: csv; }
+    stream<Download> Downloads = FileSource() { param file: "downloads.csv"; format: csv; }
+    stream<Downloads> Large = Filter(Downloads) { param filter: bytes >= 1000000l; }
+    stream<rstring file, int64 rate> Speed = Speeds(Downloads);
     () as LargeOut = FileSink(Large) { param file: "large.csv"; format: csv; }
-}
-"#;
-
-/// From the log of a server.
-pub(crate) const LOGS: &str =
-    r#"// From the log of a server: how long each request took, in milliseconds, and the status of each
-// answer.
-
-// The class of a status: 4 where the request was wrong, 5 where the server failed.
-int64 classOf(int64 status) {
-  return status / 100l;
-}
-
-composite Main {
-  param
-    expression<int64> $slow : 1000l;
-  graph
-    stream<int64 millis> Times = FileSource() { param file: "times.csv"; format: csv; }
-    stream<int64 status> Answers = FileSource() { param file: "answers.csv"; format: csv; }
-    stream<Times> Slow = Filter(Times) { param filter: millis >= $slow; }
-    stream<Answers> Failed = Filter(Answers) { param filter: classOf(status) == 5l; }
-    () as SlowOut = FileSink(Slow) { param file: "slow.csv"; format: csv; }
-    () as FailedOut = FileSink(Failed) { param file: "failed.csv"; format: csv; }
+    () as RatesOut = FileSink(Speed) { param file: "rates.csv"; format: csv; }
 }
 "#;
 
@@ -99,14 +314,20 @@ pub(crate) const EXAMPLES: &str = r#"
 @first | t.csv: 5␊10␊11␊ | $ check p.spl => 0 ok 3 operators 2 streams␊
 @first | t.csv: 5␊10␊11␊ => 0; o.csv 11␊; counts 2:1
 # telemetry
-@telemetry | readings.csv: 214␊253␊-1000␊305␊412␊401␊-12␊9999␊400␊250␊ | $ check p.spl => 0 ok 8 operators 5 streams␊
-@telemetry | readings.csv: 214␊253␊-1000␊305␊412␊401␊-12␊9999␊400␊250␊ => 0; warm.csv 253␊305␊412␊401␊400␊; hot.csv 412␊401␊; failures.csv -1000␊9999␊; counts 5:5 6:2 7:2
+@telemetry | $ check p.spl => 0 ok 14 operators 9 streams␊
+@telemetry | readings.csv: 1,roof,100␊2,roof,100␊3,roof,100␊4,roof,100␊5,roof,100␊6,roof,190␊7,roof,-400␊8,attic,1251␊9,attic,401␊10,attic,251␊11,roof,-401␊ => 0; failures.csv 8,attic,1251␊11,roof,-401␊; warm.csv 9,attic,401␊10,attic,251␊; hot.csv 9,attic,401␊; statistics.csv 1,roof,100,1,100,100,100␊2,roof,100,2,100,100,100␊3,roof,100,3,100,100,100␊4,roof,100,4,100,100,100␊5,roof,100,5,100,100,100␊6,roof,190,6,100,190,115␊7,roof,-400,7,-400,190,41␊9,attic,401,1,401,401,401␊10,attic,251,2,251,401,326␊; falls.csv 7,roof,-400,7,-400,190,41␊; rises.csv 6,roof,190,6,100,190,115␊; counts 8:2 9:2 10:1 11:9 12:1 13:1
 # trades
-@trades | trades.csv: 1999␊250000␊10000␊9999␊100000␊99999␊5␊-300␊ | $ check p.spl => 0 ok 5 operators 3 streams␊
-@trades | trades.csv: 1999␊250000␊10000␊9999␊100000␊99999␊5␊-300␊ => 0; small.csv 1999␊9999␊5␊; large.csv 250000␊100000␊; counts 3:3 4:2
+@trades | $ check p.spl => 0 ok 10 operators 7 streams␊
+@trades | trades.csv: 1,Ames,ACME,true,12503,8␊2,Chen,"CORE,B",true,41014,0␊3,"The ""Dock"" Fund",BOLT,false,845,3␊4,Ames,ACME,false,2000000,1␊5,Ames,BOLT,true,-5,2␊ => 0; cancelled.csv 2,Chen,"CORE,B",true,41014,0␊5,Ames,BOLT,true,-5,2␊; small.csv 3,"The ""Dock"" Fund",BOLT,false,2535,150␊; middle.csv 1,Ames,ACME,true,100024,250␊; large.csv 4,Ames,ACME,false,2000000,5000␊; holdings.csv Ames,ACME,7␊"The ""Dock"" Fund",BOLT,-3␊; counts 5:2 6:1 7:1 8:1 9:2
 # logs
-@logs | answers.csv: 200␊404␊500␊503␊301␊599␊600␊ | times.csv: 12␊1000␊999␊45210␊87␊1001␊ | $ check p.spl => 0 ok 6 operators 4 streams␊
-@logs | answers.csv: 200␊404␊500␊503␊301␊599␊600␊ | times.csv: 12␊1000␊999␊45210␊87␊1001␊ => 0; slow.csv 1000␊45210␊1001␊; failed.csv 500␊503␊599␊; counts 4:3 5:3
+@logs | $ check p.spl => 0 ok 11 operators 7 streams␊
+@logs | access.log: 10.0.0.4 - ben [04/May/2026:08:00:00 +0000] "GET /search?q=tea HTTP/1.1" 200 3724␊10.0.0.5 - - [04/May/2026:08:00:02 +0000] "GET /img HTTP/1.1" 404 -␊10.0.0.6 - - [04/May/2026:08:00:03 +0000] "\x16\x03\x01" 400 226␊10.0.0.7 - - [04/May/2026:08:00:04 +0000] "GET /search HTTP/1.1" 503 100000␊ => 0; large.csv 10.0.0.7,04/May/2026:08:00:04,GET,/search,503,100000␊; others.csv "10.0.0.6 - - [04/May/2026:08:00:03 +0000] ""\x16\x03\x01"" 400 226"␊; refused.csv 10.0.0.5,04/May/2026:08:00:02,GET,/img,404,0␊; failed.csv 10.0.0.7,04/May/2026:08:00:04,GET,/search,503,100000␊; paths.csv /img,1,0,0␊/search,2,1,103724␊; counts 6:1 7:1 8:1 9:1 10:2
+# bad-row
+@bad_row | $ check p.spl => 0 ok 3 operators 2 streams␊
+@bad_row | readings.csv: 1000,attic,212␊1005,cellar,121␊1010,attic,219␊1015,attic,198␊1020,cellar,n/a␊1025,attic,230␊ => 3 stopped Readings BadRow line 5␊; warm.csv 1000,attic,212␊1010,attic,219␊; counts 2:2
+# division
+@division | $ check p.spl => 0 ok 5 operators 3 streams␊
+@division | downloads.csv: index.html,5120,4␊intro.mp4,48500000,3100␊logo.png,18432,9␊empty.txt,0,0␊tour.mp4,91250000,5840␊style.css,2210,1␊ => 3 stopped Speed.Rates DivZero␊; large.csv intro.mp4,48500000,3100␊tour.mp4,91250000,5840␊; rates.csv index.html,1280␊intro.mp4,15645␊logo.png,2048␊; counts 3:2 4:3
 # wrong
 @wrong | $ check p.spl => 2 refused Y2 at 266␊
 @wrong => 2 refused Y2 at 266␊

@@ -1,4 +1,4 @@
-//! How `run` ends where a Filter faults.
+//! How `run` ends where an operator faults.
 
 pub(crate) const FAULTS: &str = r#"
 # A fault of a condition ends the run.
@@ -42,9 +42,13 @@ pub(crate) const FAULTS: &str = r#"
 @source stream<int64 price> B = Filter(T) {param filter: 100l / price > 1l;} stream<int64 price> C = Filter(B) {param filter: 1l / (price - 5l) < 2l;} () as X = FileSink(B) {param file: "x.csv";} () as Y = FileSink(C) {param file: "y.csv";} | t.csv: 4␊5␊0␊ => 3 stopped B DivZero␊; x.csv 4␊5␊; y.csv 4␊; counts 3:2 4:1
 "#;
 
-/// A row that takes its time.
+/// Rows that take their time.
 pub(crate) const TURNS: &str = r#"
-# A condition has a million turns.
+# An event has a million turns.
+# a loop that needs them all
+@op int64 price → stream<int32 n> B = Custom(T) {logic onTuple T: {mutable int32 i = 0; while (i < 1000000) {i += 1;} submit({n = i}, B);}} | t.csv: 1␊ => 0; o.csv 1000000␊; counts 2:1
+# a loop that needs one more
+@op int64 price → stream<int32 n> B = Custom(T) {logic onTuple T: {mutable int32 i = 0; while (i < 1000001) {i += 1;} submit({n = i}, B);}} | t.csv: 1␊ => 3 stopped B Turns␊; o.csv ∅; counts 2:0
 # a million turns for each tuple
 boolean counts(int64 n) {mutable int64 i = 0l; while (i < n) {i += 1l;} return true;} composite Main {graph stream<int64 n> T = FileSource() {param file: "t.csv";} stream<int64 n> B = Filter(T) {param filter: counts(n);} () as Out = FileSink(B) {param file: "o.csv";}} | t.csv: 999999␊5␊1000000␊7␊ => 3 stopped B Turns␊; o.csv 999999␊5␊; counts 2:2
 "#;

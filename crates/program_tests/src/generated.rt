@@ -1,4 +1,4 @@
-//! Programs and sources that are too long for a row.
+//! Programs and files that are too long for a row.
 use std::alloc::{AllocError, Global};
 use test_texts::signs::without_signs;
 use test_texts::spelled::spread;
@@ -43,18 +43,20 @@ pub(crate) fn padded(alloc: Global, program: &str, size: u32) -> Result<String, 
     format!(in alloc; "{program}{blanks}")
 }
 
-// So many lines of 16 bytes, and these bytes behind them.
-fn lines(alloc: Global, count: usize, more: &str) -> Result<String, AllocError> {
-    let mut text = "000000000000011\n".repeat(alloc, count)?;
-    text.push_str(more)?;
+// A piece so many times, and what stands behind it.
+fn times(alloc: Global, asked: &str) -> Result<String, AllocError> {
+    let (count, rest) = cut(asked);
+    let (piece, behind) = cut(rest);
+    let piece = without_signs(alloc, piece)?;
+    let mut text = piece.as_str().repeat(alloc, number(count) as usize)?;
+    text.push_str(without_signs(alloc, behind)?.as_str())?;
     Ok(text)
 }
 
 /// What a file of a row holds.
 pub(crate) fn held_of(alloc: Global, held: &str) -> Result<String, AllocError> {
-    let Some(asked) = held.strip_prefix("@lines ") else {
-        return without_signs(alloc, held);
-    };
-    let (count, more) = cut(asked);
-    lines(alloc, number(count) as usize, more)
+    match held.strip_prefix("@times ") {
+        None => without_signs(alloc, held),
+        Some(asked) => times(alloc, asked),
+    }
 }

@@ -12,6 +12,8 @@ mod faults;
 #[cfg(test)]
 mod generated;
 #[cfg(test)]
+mod operators;
+#[cfg(test)]
 mod programs;
 #[cfg(test)]
 mod refusals;
@@ -20,9 +22,13 @@ mod rows;
 #[cfg(test)]
 mod runs;
 #[cfg(test)]
+mod several;
+#[cfg(test)]
 mod shelf;
 #[cfg(test)]
 mod shown;
+#[cfg(test)]
+mod sources;
 #[cfg(test)]
 mod stopped;
 #[cfg(test)]

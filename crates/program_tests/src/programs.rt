@@ -4,13 +4,17 @@
 //! |---|---|
 //! | `@source TEXT` | a composite with a source `T` and the text |
 //! | `@filter TEXT` | a source `T`, a Filter `B` with the text as its condition, and a sink |
-//! | `@first`, `@pair`, `@sums`, `@telemetry`, `@trades`, `@logs`, `@wrong` | that program |
+//! | `@rows TYPES`, `@permissive TYPES` | a source `T` of these attributes, strict or not, and a sink |
+//! | `@op TYPES → TEXT` | a source `T` of these attributes, the text, and a sink of `B` |
+//! | `@two TEXT` | a composite with two sources `S` and `T`, and the text |
+//! | `@join TEXT` | two sources `L` and `R`, a Join `J` with the text as its clauses, and a sink |
+//! | `@first`, `@pair`, `@sums`, `@telemetry`, `@trades`, `@logs`, `@bad_row`, `@division`, `@wrong` | that program |
 //! | `@sums OLD → NEW` | that program with the first such piece replaced |
 //! | `@nested 9` | `@first` with its attribute in nine pairs of parentheses |
 //! | `@parentheses 9`, `@sources 9`, `@chain 9`, `@padded 9 TEXT` | what `generated` says |
 //! | `@text TEXT` | the text, where it begins with `#` or `@` |
 //! | another text | the text |
-use crate::examples::{LOGS, TELEMETRY, TRADES, WRONG};
+use crate::examples::{BAD_ROW, DIVISION, LOGS, TELEMETRY, TRADES, WRONG};
 use crate::generated::{CHAIN, NESTED, PARENTHESES, SOURCES, counted, edited, padded};
 use std::alloc::{AllocError, Global};
 use test_texts::signs::without_signs;
@@ -24,6 +28,22 @@ const SOURCE: &str =
 const FILTER: &str = r#"stream<int64 price> B = Filter(T) {param filter: "#;
 
 const SINK: &str = r#";} () as Out = FileSink(B) {param file: "o.csv";}}"#;
+
+// Programs in which FIRST and THEN stand for the two texts of a row.
+const ROWS: &str =
+    r#"composite Main {graph stream<FIRST> T = FileSource() {param file: "t.csv";} () as Out = FileSink(T) {param file: "o.csv";}}"#;
+
+const PERMISSIVE: &str =
+    r#"composite Main {graph stream<FIRST> T = FileSource() {param file: "t.csv"; parsing: permissive;} () as Out = FileSink(T) {param file: "o.csv";}}"#;
+
+const OPERATOR: &str =
+    r#"composite Main {graph stream<FIRST> T = FileSource() {param file: "t.csv";} THEN () as Out = FileSink(B) {param file: "o.csv";}}"#;
+
+const TWO: &str =
+    r#"composite Main {graph stream<int64 n> S = FileSource() {param file: "s.csv";} stream<int64 n> T = FileSource() {param file: "t.csv";} FIRST}"#;
+
+const JOIN: &str =
+    r#"composite Main {graph stream<rstring k> L = FileSource() {param file: "l.csv";} stream<rstring k, int64 v> R = FileSource() {param file: "r.csv";} stream<rstring k, int64 v> J = Join(L; R) {FIRST} () as Out = FileSink(J) {param file: "o.csv";}}"#;
 
 // A source, a Filter and a sink.
 const FIRST: &str = r#"composite Main {
@@ -81,6 +101,8 @@ fn named(name: &str) -> &'static str {
         "telemetry" => TELEMETRY,
         "trades" => TRADES,
         "logs" => LOGS,
+        "bad_row" => BAD_ROW,
+        "division" => DIVISION,
         "wrong" => WRONG,
         _ => "",
     }
@@ -92,6 +114,13 @@ fn named_of(alloc: Global, name: &str, text: &str) -> Result<String, AllocError>
         None => named(name).to_string(alloc),
         Some((old, new)) => edited(alloc, named(name), old, new),
     }
+}
+
+// A program with the two texts of a row; the second one is empty where there is one alone.
+fn filled(alloc: Global, program: &str, text: &str) -> Result<String, AllocError> {
+    let (first, then) = text.split_once(" → ").unwrap_or((text, ""));
+    let program = edited(alloc, program, "FIRST", first)?;
+    edited(alloc, program.as_str(), "THEN", then)
 }
 
 // The text behind the number, padded to so many bytes.
@@ -113,6 +142,11 @@ fn program_by_name(alloc: Global, name: &str, text: &str) -> Result<String, Allo
         "text" => text.to_string(alloc),
         "source" => format!(in alloc; "{SOURCE}{text}}}"),
         "filter" => format!(in alloc; "{SOURCE}{FILTER}{text}{SINK}"),
+        "rows" => filled(alloc, ROWS, text),
+        "permissive" => filled(alloc, PERMISSIVE, text),
+        "op" => filled(alloc, OPERATOR, text),
+        "two" => filled(alloc, TWO, text),
+        "join" => filled(alloc, JOIN, text),
         "nested" => nested_of(alloc, text),
         "parentheses" => counted(alloc, PARENTHESES, text),
         "sources" => counted(alloc, SOURCES, text),

@@ -3,8 +3,11 @@ use crate::ask::asked;
 use crate::devices::{DEVICES, FAILING, failing};
 use crate::examples::EXAMPLES;
 use crate::faults::{FAULTS, TURNS};
+use crate::operators::OPERATORS;
 use crate::refusals::{CHECKS, REFUSALS};
 use crate::runs::RUNS;
+use crate::several::SEVERAL;
+use crate::sources::SOURCES;
 use crate::unbuilt::UNBUILT;
 use crate::words::{BUILT, WORDS, unopened};
 use std::alloc::{AllocError, Global};
@@ -28,8 +31,11 @@ const RUN: Question = Question::Words("run p.spl");
 
 const CHECK: Question = Question::Words("check p.spl");
 
-const TABLES: [(Question, &str); 11] = [
+const TABLES: [(Question, &str); 14] = [
     (RUN, RUNS),
+    (RUN, SOURCES),
+    (RUN, OPERATORS),
+    (RUN, SEVERAL),
     (RUN, FAULTS),
     (RUN, EXAMPLES),
     (RUN, UNBUILT),
@@ -92,7 +98,7 @@ fn the_program_answers_as_the_rows_say(rt: HostRuntime) -> Result<(), Fail> {
 }
 
 #[test]
-fn a_condition_has_a_million_turns(rt: HostRuntime) -> Result<(), Fail> {
+fn an_event_has_a_million_turns(rt: HostRuntime) -> Result<(), Fail> {
     no_others(others_of(&rt, rt.alloc(), &[(RUN, TURNS)])?)?;
     Ok(())
 }

@@ -11,7 +11,7 @@ pub(crate) const RUNS: &str = r#"
 # zeros in front, and a minus
 @first | t.csv: 0011␊-12␊-0␊000000000000000012␊ => 0; o.csv 11␊12␊; counts 2:2
 # the largest numbers
-@first | t.csv: 999999999999999999␊-999999999999999999␊ => 0; o.csv 999999999999999999␊; counts 2:1
+@first | t.csv: 9223372036854775807␊-9223372036854775808␊ => 0; o.csv 9223372036854775807␊; counts 2:1
 
 # Whole programs.
 # no operator

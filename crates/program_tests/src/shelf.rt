@@ -54,9 +54,11 @@ pub(crate) fn files_of(
     Ok(files)
 }
 
-fn one(alloc: Global, number: u64) -> Result<Items<u64>, AllocError> {
+fn numbers_of(alloc: Global, text: &str) -> Result<Items<u64>, AllocError> {
     let mut numbers = Items::new(alloc);
-    numbers.push(number)?;
+    for number in text.split(',') {
+        numbers.push(number.parse::<u64>().unwrap_or(0))?;
+    }
     Ok(numbers)
 }
 
@@ -78,13 +80,13 @@ fn fail_calls(
     }
 }
 
-// Lets a call fail: `read 1 a.csv`, `write 2 o.csv`, or `call 3` of the shelf's own calls, which open,
+// Lets calls fail: `read 1 a.csv`, `write 2 o.csv`, or `call 3,4` of the shelf's own calls, which open,
 // create and finish.
 fn fail(alloc: Global, shelf: &mut MemoryShelf, call: &str) -> Result<(), AllocError> {
     let (kind, which) = cut(call);
-    let (number, name) = cut(which);
+    let (numbers, name) = cut(which);
     let name = bytes(alloc, name)?;
-    let numbers = one(alloc, number.parse::<u64>().unwrap_or(0))?;
+    let numbers = numbers_of(alloc, numbers)?;
     fail_calls(shelf, kind, &name, numbers).map_err(|_| AllocError)
 }
 
@@ -126,7 +128,7 @@ pub(crate) fn shelf_of(
 /// What takes the line that is told. It takes none where `fail line` stands beside the program.
 pub(crate) fn out_of(alloc: Global, beside: &str) -> Result<MemoryPour, AllocError> {
     let failing = if beside.contains("fail line") {
-        one(alloc, 1)?
+        numbers_of(alloc, "1")?
     } else {
         Items::new(alloc)
     };

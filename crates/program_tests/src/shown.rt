@@ -8,7 +8,8 @@
 //! | `; o.csv 20␊` | a file that a sink made, and what it holds, or its length, `of 1200 bytes` |
 //! | `; t.csv changed` | a file that was there before, and isn't as it was |
 //! | `; counts 2:1 3:0` | of a run with status 0 or 3, each sink's number and the rows that it wrote |
-//! | `; a record` | an arrival record, or counts of channels |
+//! | `; record 2 0 0 1` | the inputs of the events of an operator with several, by its number |
+//! | `; channels` | counts of channels |
 use crate::ask::Seen;
 use crate::shelf::File;
 use memory_files::MemoryShelf;
@@ -20,8 +21,9 @@ use test_texts::words::bytes;
 
 // The files that a row's request may make.
 const MADE: &str =
-    "o.csv x.csv y.csv z.csv m.csv a.txt r.txt warm.csv hot.csv failures.csv small.csv \
-    large.csv slow.csv failed.csv";
+    "o.csv x.csv y.csv z.csv m.csv a.txt r.txt failures.csv warm.csv hot.csv statistics.csv falls.csv \
+    rises.csv cancelled.csv small.csv middle.csv large.csv holdings.csv others.csv refused.csv failed.csv \
+    paths.csv rates.csv";
 
 fn add_told(text: &mut Text, seen: &Seen) {
     text.add_number(i128::from(seen.ended.status));
@@ -80,8 +82,19 @@ fn add_counts(text: &mut Text, ended: &Ended) {
         text.add(":");
         text.add_number(i128::from(sink.tuples));
     }
-    if !ended.counts.channels.is_empty() || !ended.arrivals.lists.is_empty() {
-        text.add("; a record");
+    if !ended.counts.channels.is_empty() {
+        text.add("; channels");
+    }
+}
+
+fn add_record(text: &mut Text, ended: &Ended) {
+    for list in ended.arrivals.lists.as_slice() {
+        text.add("; record ");
+        text.add_number(i128::from(list.op));
+        for input in list.inputs.as_slice() {
+            text.add(" ");
+            text.add_number(i128::from(*input));
+        }
     }
 }
 
@@ -94,5 +107,6 @@ pub(crate) fn shown(alloc: Global, seen: &Seen) -> Result<String, AllocError> {
     if seen.ended.status == 0 || seen.ended.status == 3 {
         add_counts(&mut text, &seen.ended);
     }
+    add_record(&mut text, &seen.ended);
     with_signs(alloc, text.finish()?.as_str())
 }

@@ -1,0 +1,66 @@
+//! What `run` does with several streams: at one port, at several ports, and with Union and Join. An operator takes all of its first input,
+//! then all of the next.
+
+pub(crate) const SEVERAL: &str = r#"
+# Several streams at a port.
+# at a Filter
+@source stream<int64 price> B = Filter(T) {param filter: price > 10l;} stream<int64 price> C = Filter(T, B); () as Out = FileSink(C) {param file: "o.csv";} | t.csv: 5␊11␊ => 0; o.csv 5␊11␊11␊; counts 3:3; record 2 0 0 0 0 1 1 1
+# at a sink
+@source stream<int64 price> B = Filter(T) {param filter: price > 10l;} () as Out = FileSink(T, B) {param file: "o.csv";} | t.csv: 5␊11␊ => 0; o.csv 5␊11␊11␊; counts 2:3; record 2 0 0 0 0 1 1 1
+# a stream twice
+@source () as Out = FileSink(T, T) {param file: "o.csv";} | t.csv: 1␊2␊ => 0; o.csv 1␊2␊1␊2␊; counts 1:4; record 1 0 0 0 0 1 1 1 1
+# at two operators
+@two stream<int64 n> F = Functor(T, S) {output F: n = n * 2l;} () as X = FileSink(S, F) {param file: "x.csv";} | s.csv: 1␊ | t.csv: 2␊3␊ => 0; x.csv 1␊4␊6␊2␊; counts 3:4; record 2 0 0 0 0 1 1 1; record 3 0 0 0 1 1 1 1 1 1
+# those of a composite's input
+composite C(output O; input I) {graph stream<I> O = Filter(I);} composite Main {graph stream<int64 n> S = FileSource() {param file: "s.csv";} stream<int64 n> T = FileSource() {param file: "t.csv";} stream<int64 n> A = C(S, T); () as Out = FileSink(A) {param file: "o.csv";}} | s.csv: 1␊ | t.csv: 2␊3␊ => 0; o.csv 1␊2␊3␊; counts 3:3; record 2 0 0 0 1 1 1 1
+# a fault of the first one, behind which the other isn't taken
+@two () as Out = FileSink(S, T) {param file: "o.csv";} | s.csv: 1␊x␊ | t.csv: 2␊ => 3 stopped S BadRow line 2␊; o.csv 1␊; counts 2:1; record 2 0 0
+# a fault of the second one
+@two () as Out = FileSink(S, T) {param file: "o.csv";} | s.csv: 1␊ | t.csv: 2␊x␊ => 3 stopped T BadRow line 2␊; o.csv 1␊2␊; counts 2:2; record 2 0 0 0 1 1
+# a fault of the operator
+@two stream<int64 n> B = Filter(S, T) {param filter: 10l / n > 1l;} () as Out = FileSink(B) {param file: "o.csv";} | s.csv: 1␊0␊ | t.csv: 2␊ => 3 stopped B DivZero␊; o.csv 1␊; counts 3:1; record 2 0 0
+# a port that ends with the last of them
+@two stream<int64 n> B = Custom(S, T as P) {logic state: mutable int64 seen = 0l; onTuple P: {seen += n;} onPunct P: {if (currentPunct() == Sys.FinalMarker) submit({n = seen}, B); else submit({n = -1l}, B);}} () as Out = FileSink(B) {param file: "o.csv";} | s.csv: 1␊ | t.csv: 2␊3␊ => 0; o.csv -1␊-1␊6␊; counts 3:3; record 2 0 0 0 1 1 1 1
+# a sink that can't be written
+@two () as Out = FileSink(S, T) {param file: "o.csv";} | s.csv: 1␊ | t.csv: 2␊ | fail write 2 o.csv => 6 cannot write o.csv␊; o.csv 1␊; record 2 0 0 0 1 1 1
+
+# Several ports.
+# each with its logic and its end
+@two stream<rstring from, int64 n> B = Custom(S; T) {logic onTuple S: {submit({from = "S", n = n}, B);} onTuple T: {submit({from = "T", n = T.n}, B);} onPunct S: {if (currentPunct() == Sys.FinalMarker) submit({from = "S ends", n = 0l}, B);} onPunct T: {if (currentPunct() == Sys.WindowMarker) submit({from = "window of T", n = 0l}, B); else submit({from = "T ends", n = 0l}, B);}} () as Out = FileSink(B) {param file: "o.csv";} | s.csv: 1␊ | t.csv: 2␊ => 0; o.csv S,1␊S ends,0␊T,2␊window of T,0␊T ends,0␊; counts 3:5; record 2 0 0 0 1 1 1
+# a state of both
+@two () as C = Custom(S; T) {logic state: {mutable int64 sum = 0l; mutable list<int64> all = [];} onTuple S: {sum += n;} onTuple T: {appendM(all, n / (sum - 3l));}} | s.csv: 1␊2␊ | t.csv: 9␊ => 3 stopped C DivZero␊; record 2 0 0 0 0 1
+"#;
+
+/// Those of Union and Join.
+pub(crate) const JOINED: &str = r#"
+# A Union gives the tuples of all its inputs.
+composite Main {graph stream<int64 n> A = FileSource() {param file: "a.csv";} stream<int64 n> B = FileSource() {param file: "b.csv";} stream<int64 n> U = Union(A; B); () as Out = FileSink(U) {param file: "o.csv";}} | a.csv: 1␊2␊ | b.csv: 3␊ => 0; o.csv 1␊2␊3␊; counts 3:3; record 2 0 0 0 0 1 1 1
+# of one stream
+@op int64 n → stream<int64 n> B = Union(T); | t.csv: 3␊1␊ => 0; o.csv 3␊1␊; counts 2:2
+# attributes by their names
+composite Main {graph stream<int64 n, rstring s> A = FileSource() {param file: "a.csv";} stream<boolean b, rstring s, int64 n> B = FileSource() {param file: "b.csv";} stream<rstring s, int64 n> U = Union(A; B); () as Out = FileSink(U) {param file: "o.csv";}} | a.csv: 1,x␊ | b.csv: true,"y,z",2␊ => 0; o.csv x,1␊"y,z",2␊; counts 3:2; record 2 0 0 0 1 1 1
+# two streams at one of its ports
+@two stream<int64 n> U = Union(S, T; S); () as Out = FileSink(U) {param file: "o.csv";} | s.csv: 1␊ | t.csv: 2␊ => 0; o.csv 1␊2␊1␊; counts 3:3; record 2 0 0 0 1 1 1 2 2 2
+# it passes no window marker
+@two stream<int64 n> U = Union(S; T); stream<int64 n> B = Custom(U) {logic onTuple U: {submit(U, B);} onPunct U: {if (currentPunct() == Sys.WindowMarker) submit({n = 0l}, B); else submit({n = -1l}, B);}} () as Out = FileSink(B) {param file: "o.csv";} | s.csv: 1␊ | t.csv: 2␊ => 0; o.csv 1␊2␊-1␊; counts 4:3; record 2 0 0 0 1 1 1
+# a fault of the first input
+@two stream<int64 n> U = Union(S; T); () as Out = FileSink(U) {param file: "o.csv";} | s.csv: 1␊x␊ | t.csv: 2␊ => 3 stopped S BadRow line 2␊; o.csv 1␊; counts 3:1; record 2 0 0
+
+# A Join gives a tuple for each match with the other side's window.
+# the side that came first keeps none
+@join window L: sliding, count(0); R: sliding, count(2); param match: L.k == R.k; output J: k = L.k; | l.csv: a␊ | r.csv: a,1␊a,1␊b,5␊ => 0; o.csv ∅; counts 3:0; record 2 0 0 0 1 1 1 1 1
+# it keeps one
+@join window L: sliding, count(1); R: sliding, count(2); param match: L.k == R.k; output J: k = L.k; | l.csv: b␊a␊ | r.csv: a,1␊a,2␊b,5␊ => 0; o.csv a,1␊a,2␊; counts 3:2; record 2 0 0 0 0 1 1 1 1 1
+# every pair, the oldest first
+@join window L: sliding, count(2); R: sliding, count(0); output J: k = L.k + R.k; | l.csv: a␊b␊c␊ | r.csv: x,1␊y,2␊ => 0; o.csv bx,1␊cx,1␊by,2␊cy,2␊; counts 3:4; record 2 0 0 0 0 0 1 1 1 1
+# a stream with itself
+@op int64 n → stream<int64 n> B = Join(T; T as U) {window T: sliding, count(1); U: sliding, count(1); output B: n = T.n * 10l + U.n;} | t.csv: 4␊7␊ => 0; o.csv 74␊77␊; counts 2:2; record 1 0 0 0 0 1 1 1 1
+# a window of differences
+@two stream<int64 a, int64 b> J = Join(S; T) {window S: sliding, delta(n, 5l); T: sliding, count(1); output J: a = S.n, b = T.n;} () as Out = FileSink(J) {param file: "o.csv";} | s.csv: 0␊5␊6␊ | t.csv: 9␊ => 0; o.csv 5,9␊6,9␊; counts 3:2; record 2 0 0 0 0 0 1 1 1
+# it passes no window marker
+@two stream<int64 n> J = Join(S; T) {window S: sliding, count(1); T: sliding, count(1); output J: n = S.n + T.n;} stream<int64 n> B = Custom(J) {logic onTuple J: {submit(J, B);} onPunct J: {if (currentPunct() == Sys.WindowMarker) submit({n = 0l}, B); else submit({n = -1l}, B);}} () as Out = FileSink(B) {param file: "o.csv";} | s.csv: 1␊ | t.csv: 2␊ => 0; o.csv 3␊-1␊; counts 4:2; record 2 0 0 0 1 1 1
+# a fault of a later pair drops what the event gave
+@two stream<int64 n> J = Join(S; T) {window S: sliding, count(3); T: sliding, count(1); param match: 12l / S.n > T.n; output J: n = S.n;} () as Out = FileSink(J) {param file: "o.csv";} | s.csv: 3␊4␊0␊ | t.csv: 1␊ => 3 stopped J DivZero␊; o.csv ∅; counts 3:0; record 2 0 0 0 0 0 1
+# the first pair's fault, in its assignments, before that of the next one's condition
+@two stream<int64 n> J = Join(S; T) {window S: sliding, count(2); T: sliding, count(1); param match: 12l / S.n > T.n; output J: n = [1l][S.n];} () as Out = FileSink(J) {param file: "o.csv";} | s.csv: 3␊0␊ | t.csv: 1␊ => 3 stopped J Index␊; o.csv ∅; counts 3:0; record 2 0 0 0 0 1
+"#;
