@@ -45,6 +45,8 @@ pub(crate) const DEVICES: &str = r#"
 @pair | b.csv: 3␊ => 4 cannot open a.csv␊
 # a second source that isn't there
 @pair | a.csv: 1␊2␊ => 4 cannot open b.csv␊
+# an only source that isn't there
+@first => 4 cannot open t.csv␊
 # a source that nobody reads, and isn't there
 composite Main {graph stream<int64 n> T = FileSource() {param file: "t.csv";}} => 4 cannot open t.csv␊
 # a second source that isn't there beside a first one with a bad row
@@ -65,6 +67,8 @@ composite Main {graph stream<int64 n> T = FileSource() {param file: "p.spl";} ()
 @pair | a.csv: 1␊2␊ | b.csv: 3␊ | fail call 4 => 4 cannot open x.csv␊
 # a second sink that can't be created
 @pair | a.csv: 1␊2␊ | b.csv: 3␊ | fail call 5 => 4 cannot open y.csv␊; x.csv ∅
+# an only sink that can't be finished
+@first | t.csv: 20␊30␊ | fail call 4 => 6 cannot write o.csv␊; o.csv 20␊30␊
 # both sinks that can't be written: the first is told
 @pair | a.csv: 1␊2␊ | b.csv: 3␊ | fail write 2 x.csv | fail write 1 y.csv => 6 cannot write x.csv␊; x.csv 1␊; y.csv ∅
 # both sinks that can't be finished: the first is told

@@ -3,6 +3,7 @@
 pub(crate) const SOURCES: &str = r#"
 # Each line of a source is a row of numbers.
 @first | t.csv: 20␊x␊30␊ => 3 stopped T BadRow line 2␊; o.csv 20␊; counts 2:1
+@first format: csv; → format: csv; parsing: permissive; | t.csv: 20␊x␊30␊ => 0; o.csv 20␊30␊; counts 2:2
 @first | t.csv: 11␊␊12␊ => 0; o.csv 11␊12␊; counts 2:2
 @first | t.csv: ␊ => 0; o.csv ∅; counts 2:0
 @first | t.csv: 11␍␊ => 0; o.csv 11␊; counts 2:1
@@ -51,9 +52,9 @@ pub(crate) const SOURCES: &str = r#"
 @permissive int64 n | t.csv: x␊20␊ | fail read 2 t.csv => 3 stopped T ReadFailed line 3␊; o.csv 20␊; counts 1:1
 
 # A row is 65,536 bytes at most, and a file isn't bound to a mebibyte.
-@rows rstring s | t.csv: @times 65536 x => 0; o.csv of 65537 bytes; counts 1:1
+@op rstring s → stream<T> B = Filter(T) { } | t.csv: @times 65536 x => 0; o.csv of 65537 bytes; counts 2:1
+@op rstring s → stream<T> B = Filter(T) { } | t.csv: @times 65537 x => 3 stopped T LongRow line 1␊; o.csv ∅; counts 2:0
 @rows rstring s | t.csv: @times 65536 x ␊a␊ => 0; o.csv of 65539 bytes; counts 1:2
-@rows rstring s | t.csv: @times 65537 x => 3 stopped T LongRow line 1␊; o.csv ∅; counts 1:0
 @rows int64 n | t.csv: @times 65537 0 => 3 stopped T LongRow line 1␊; o.csv ∅; counts 1:0
 @pair | a.csv: 1␊ | b.csv: @times 65537 000000000000011␊ => 0; x.csv 1␊; y.csv of 196611 bytes; counts 2:1 3:65537
 
