@@ -54,7 +54,7 @@ composite Main {graph stream<int64 n> T = FileSource() {param file: "t.csv";}} =
 # two sources of which none is there
 @pair => 4 cannot open a.csv␊
 # a first source that can't be read beside a second one that isn't there
-@pair | a.csv: 1␊2␊ | fail read 1 a.csv => 4 cannot open b.csv␊
+@pair | a.csv: 1␊2␊ | fail read 1 a.csv => 4 cannot open b.csv␊; a.csv unread
 # a second source that can't be read beside a first one that isn't there
 @pair | b.csv: 3␊ | fail read 1 b.csv => 4 cannot open a.csv␊
 # a program that can't be read, as its own source
@@ -75,6 +75,8 @@ composite Main {graph stream<int64 n> T = FileSource() {param file: "p.spl";} ()
 @pair | a.csv: 1␊2␊ | b.csv: 3␊ | fail call 6,7 => 6 cannot write x.csv␊; x.csv 1␊2␊; y.csv 3␊
 # a first sink that can't be finished, beside a second one that can't be written before
 @pair | a.csv: 1␊2␊ | b.csv: 3␊ | fail call 6 | fail write 1 y.csv => 6 cannot write x.csv␊; x.csv 1␊2␊; y.csv ∅
+# a first sink that can't be created, beside a second source that can't be read before
+@pair | a.csv: 1␊2␊ | b.csv: 3␊ | fail read 2 b.csv | fail call 4 => 4 cannot open x.csv␊; b.csv unread
 # a second sink that can't be created, of a run that ends with a fault
 @pair | a.csv: x␊ | b.csv: 3␊ | fail call 5 => 4 cannot open y.csv␊; x.csv ∅
 # a sink that can't be written, of a source that can't be read

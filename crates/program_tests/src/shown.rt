@@ -7,6 +7,7 @@
 //! | `3 stopped B DivZero␊` | the status, and behind a blank what was told, where anything was |
 //! | `; o.csv 20␊` | a file that a sink made, and what it holds, or its length, `of 1200 bytes` |
 //! | `; t.csv changed` | a file that was there before, and isn't as it was |
+//! | `; t.csv unread` | of status 4, a file of which a read failed |
 //! | `; counts 2:1 3:0` | of a run with status 0 or 3, each sink's number and the rows that it wrote |
 //! | `; record 2 0 0 1` | the inputs of the events of an operator with several, by its number |
 //! | `; channels` | counts of channels |
@@ -75,6 +76,16 @@ fn add_changed(text: &mut Text, shelf: &MemoryShelf, files: &[File]) {
     }
 }
 
+fn add_unread(text: &mut Text, shelf: &MemoryShelf, files: &[File]) {
+    for file in files {
+        if shelf.tallies(&file.name).reading > 0 {
+            text.add("; ");
+            text.add_bytes(file.name.as_slice());
+            text.add(" unread");
+        }
+    }
+}
+
 fn add_counts(text: &mut Text, ended: &Ended) {
     for (at, sink) in ended.counts.sinks.as_slice().iter().enumerate() {
         text.add(if at == 0 { "; counts " } else { " " });
@@ -104,6 +115,9 @@ pub(crate) fn shown(alloc: Global, seen: &Seen) -> Result<String, AllocError> {
     add_told(&mut text, seen);
     add_all_made(alloc, &mut text, &seen.shelf)?;
     add_changed(&mut text, &seen.shelf, seen.files.as_slice());
+    if seen.ended.status == 4 {
+        add_unread(&mut text, &seen.shelf, seen.files.as_slice());
+    }
     if seen.ended.status == 0 || seen.ended.status == 3 {
         add_counts(&mut text, &seen.ended);
     }
