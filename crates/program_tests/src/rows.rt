@@ -6,7 +6,7 @@ use crate::faults::{FAULTS, TURNS};
 use crate::operators::OPERATORS;
 use crate::refusals::{CHECKS, REFUSALS};
 use crate::runs::RUNS;
-use crate::several::SEVERAL;
+use crate::several::{JOINED, SEVERAL};
 use crate::sources::SOURCES;
 use crate::unbuilt::UNBUILT;
 use crate::words::{BUILT, WORDS, unopened};
@@ -31,11 +31,12 @@ const RUN: Question = Question::Words("run p.spl");
 
 const CHECK: Question = Question::Words("check p.spl");
 
-const TABLES: [(Question, &str); 14] = [
+const TABLES: [(Question, &str); 15] = [
     (RUN, RUNS),
     (RUN, SOURCES),
     (RUN, OPERATORS),
     (RUN, SEVERAL),
+    (RUN, JOINED),
     (RUN, FAULTS),
     (RUN, EXAMPLES),
     (RUN, UNBUILT),

@@ -57,6 +57,8 @@ composite Main {graph stream<int64 n, rstring s> A = FileSource() {param file: "
 @op int64 n → stream<int64 n> B = Join(T; T as U) {window T: sliding, count(1); U: sliding, count(1); output B: n = T.n * 10l + U.n;} | t.csv: 4␊7␊ => 0; o.csv 74␊77␊; counts 2:2; record 1 0 0 0 0 1 1 1 1
 # a window of differences
 @two stream<int64 a, int64 b> J = Join(S; T) {window S: sliding, delta(n, 5l); T: sliding, count(1); output J: a = S.n, b = T.n;} () as Out = FileSink(J) {param file: "o.csv";} | s.csv: 0␊5␊6␊ | t.csv: 9␊ => 0; o.csv 5,9␊6,9␊; counts 3:2; record 2 0 0 0 0 0 1 1 1
+# differences that don't wrap
+@two stream<int64 a, int64 b> J = Join(S; T) {window S: sliding, delta(n, 5l); T: sliding, count(1); output J: a = S.n, b = T.n;} () as Out = FileSink(J) {param file: "o.csv";} | s.csv: -9223372036854775808␊9223372036854775807␊-9223372036854775808␊ | t.csv: 1␊ => 0; o.csv 9223372036854775807,1␊-9223372036854775808,1␊; counts 3:2; record 2 0 0 0 0 0 1 1 1
 # it passes no window marker
 @two stream<int64 n> J = Join(S; T) {window S: sliding, count(1); T: sliding, count(1); output J: n = S.n + T.n;} stream<int64 n> B = Custom(J) {logic onTuple J: {submit(J, B);} onPunct J: {if (currentPunct() == Sys.WindowMarker) submit({n = 0l}, B); else submit({n = -1l}, B);}} () as Out = FileSink(B) {param file: "o.csv";} | s.csv: 1␊ | t.csv: 2␊ => 0; o.csv 3␊-1␊; counts 4:2; record 2 0 0 0 1 1 1
 # a fault of a later pair drops what the event gave
