@@ -1,0 +1,23 @@
+-- Groups that are gathered in a map.
+use Rattle.std.specs.Prelude.{◌≡◌, ◌<◌, ℕ, Bool, List, [], length, Option, None, Some}
+use Rattle.std.specs.Borrow.{Bor}
+use Rattle.std.specs.Global.{Vec}
+use Rattle.std.specs.Cmp.Lexicographic.{pointwise}
+use Rattle.std.specs.HashMap.{HashMap, get}
+use Rattle.spl_value.specs.declared.value.Value.{Value}
+use Rattle.spl_value.specs.contracts.value.ValuePartialEq.TheImpl as DerivedEq
+use Rattle.stream_model.specs.Groups.{of_group}
+use Rattle.tuple_groups.specs.Seen.{seen}
+
+-- keys as the map compares them
+abbrev pub equal_key : List Value → List Value → Bool
+equal_key = pointwise (DerivedEq.ghosts).eq
+
+-- what is gathered of a group: nothing of one without tuples
+abbrev pub At : Option (Vec (Bor (List Value))) → List (List Value) → Type 0
+At None ts = ts ≡ []
+At (Some members) ts = (seen members.items ≡ ts) × (0 < length ts)
+
+-- the map has the tuples of each group
+abbrev pub Gathers : {S : Type 0} → List ℕ → HashMap (List Value) (Vec (Bor (List Value))) S → List (List Value) → Type 0
+Gathers places m ts = (k : List Value) → At (get equal_key m k) (of_group places ts k)

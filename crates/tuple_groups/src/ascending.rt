@@ -1,0 +1,25 @@
+//! Entries of maps in the order of their keys.
+ghost use Rattle.std.specs.Prelude.{◌≡◌, IfOk, List, T};
+ghost use Rattle.std.specs.FinMap.{find, is_sorted};
+ghost use Rattle.indexmap.specs.IndexMap.{get};
+ghost use Rattle.spl_value.specs.declared.value.Value.{Value as V};
+ghost use Rattle.stream_model.specs.Keys.{key_cmp};
+ghost use Rattle.tuple_groups.specs.steps.Gathering.{equal_key};
+
+use indexmap::IndexMap;
+use spl_value::{NoMemory, Values};
+use std::alloc::Global;
+
+/// The entries of a map, by ascending key.
+pub fn ascending<X: Drop>(
+    alloc: Global,
+    map: IndexMap<Values, X>,
+) -> Result<Vec<(Values, X)>, NoMemory>
+    ensures sorted { IfOk result (λ v. T (is_sorted key_cmp v.items)) }
+    ensures found { IfOk result (λ v. (q : List V) → find key_cmp q v.items ≡ get equal_key map q) }
+{
+    let mut map = map;
+    map.sort_keys()?;
+    let pairs = map.into_iter().collect(alloc)?;
+    Ok(pairs)
+}

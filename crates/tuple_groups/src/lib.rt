@@ -1,0 +1,14 @@
+//! Groups of tuples, and what collectors make of them.
+#![tactic(auto)]
+
+mod ascending;
+mod collectors;
+mod extremes;
+mod grouping;
+mod keys;
+mod rows;
+mod sums;
+
+pub use grouping::groups;
+pub use keys::key_of;
+pub use rows::group_tuple;
