@@ -1,0 +1,82 @@
+-- Groups and contents one by one.
+use Rattle.std.proofs.Common.{◌≡◌, List, [], ◌∷◌, ◌++◌, map, Option, Some, None, refl, sym, ap, ◌∙◌, append_assoc, append-nil}
+use Rattle.std.specs.Option.{option_and_then, option_map}
+use Rattle.spl_value.specs.declared.item.Item.TheVariants as I
+use Rattle.spl_value.specs.declared.value.Value.{Value}
+use Rattle.language_model.specs.declared.outs.Output.{Output}
+use Rattle.stream_model.specs.Bodies.{on_first}
+use Rattle.window_policy.specs.declared.fired.FlushedContent.{FlushedContent}
+use Rattle.window_policy.specs.Answers.{entry_of}
+use Rattle.aggregate_op.specs.declared.clauses.Clauses.{Clauses}
+use Rattle.aggregate_op.specs.steps.Giving.{content_given, contents_given, groups_given, tuple_given}
+
+-- the first of several is there, where all are
+first_there : {X : Type 0} (f : X → List Output) (o : Option X) (rest : Option (List Output)) (outs all : List Output)
+    → option_map (λ more. outs ++ more) (option_and_then (λ x. option_map (λ more. f x ++ more) rest) o) ≡ Some all → (x : X) × (o ≡ Some x)
+first_there f None rest outs all e = absurd cc
+first_there f (Some x) rest outs all e = (x, refl)
+
+first_more : {X : Type 0} (f : X → List Output) (o : Option X) (rest : Option (List Output)) (outs new all : List Output) (x : X) → o ≡ Some x → new ≡ outs ++ f x
+    → option_map (λ more. outs ++ more) (option_and_then (λ x. option_map (λ more. f x ++ more) rest) o) ≡ Some all → option_map (λ more. new ++ more) rest ≡ Some all
+first_more f o rest outs new all x is added e =
+    by rest (sym (ap (λ p. option_map (λ more. outs ++ more) (option_and_then (λ x. option_map (λ more. f x ++ more) rest) p)) is) ∙ e)
+  where
+    by : (rest : Option (List Output)) → option_map (λ more. outs ++ more) (option_map (λ more. f x ++ more) rest) ≡ Some all → option_map (λ more. new ++ more) rest ≡ Some all
+    by None e = absurd cc
+    by (Some more) e = ap (λ os. Some (os ++ more)) added ∙ ap Some (append_assoc outs (f x) more) ∙ e
+
+module _ (clauses : Clauses) where
+  pub group_there : (g : List Value × List (List Value)) (gs rest : List (List Value × List (List Value))) (outs all : List Output) → gs ≡ g ∷ rest
+      → option_map (λ more. outs ++ more) (groups_given clauses gs) ≡ Some all → (vs : List Value) × (tuple_given clauses g.1 ≡ Some vs)
+  group_there g gs rest outs all is e =
+      first_there (λ t. on_first (I.Tuple t)) (tuple_given clauses g.1) (groups_given clauses rest) outs all
+      (ap (λ hs. option_map (λ more. outs ++ more) (groups_given clauses hs)) (sym is) ∙ e)
+
+  pub group_more : (g : List Value × List (List Value)) (gs rest : List (List Value × List (List Value))) (outs new all : List Output) (vs : List Value) → gs ≡ g ∷ rest
+      → tuple_given clauses g.1 ≡ Some vs → new ≡ outs ++ on_first (I.Tuple vs) → option_map (λ more. outs ++ more) (groups_given clauses gs) ≡ Some all
+      → option_map (λ more. new ++ more) (groups_given clauses rest) ≡ Some all
+  group_more g gs rest outs new all vs is t added e =
+      first_more (λ t. on_first (I.Tuple t)) (tuple_given clauses g.1) (groups_given clauses rest) outs new all vs t added
+      (ap (λ hs. option_map (λ more. outs ++ more) (groups_given clauses hs)) (sym is) ∙ e)
+
+  pub content_there : (us : List (List Value)) (cs rest : List (List (List Value))) (outs all : List Output) → cs ≡ us ∷ rest
+      → option_map (λ more. outs ++ more) (contents_given clauses cs) ≡ Some all → (given : List Output) × (content_given clauses us ≡ Some given)
+  content_there us cs rest outs all is e =
+      first_there (λ os. os) (content_given clauses us) (contents_given clauses rest) outs all
+      (ap (λ ds. option_map (λ more. outs ++ more) (contents_given clauses ds)) (sym is) ∙ e)
+
+  pub content_more : (us : List (List Value)) (cs rest : List (List (List Value))) (outs new all given : List Output) → cs ≡ us ∷ rest
+      → content_given clauses us ≡ Some given → new ≡ outs ++ given → option_map (λ more. outs ++ more) (contents_given clauses cs) ≡ Some all
+      → option_map (λ more. new ++ more) (contents_given clauses rest) ≡ Some all
+  content_more us cs rest outs new all given is t added e =
+      first_more (λ os. os) (content_given clauses us) (contents_given clauses rest) outs new all given t added
+      (ap (λ ds. option_map (λ more. outs ++ more) (contents_given clauses ds)) (sym is) ∙ e)
+
+-- what follows groups
+pub groups_there : {A B : Type 0} (f : A → B) (o : Option A) (b : B) → option_map f o ≡ Some b → (a : A) × (o ≡ Some a) × (f a ≡ b)
+groups_there f None b e = absurd cc
+groups_there f (Some a) b e = (a, refl, let same : Some (f a) ≡ Some b = e in cc)
+
+-- the contents that a marker flushes
+abbrev pub tuples_in : List FlushedContent → List (List (List Value))
+tuples_in flushed = map (λ (e : FlushedContent). e.tuples) flushed
+
+pub flushed_tuples : (flushed : List FlushedContent) (es : List (List Value × List (List Value))) → map entry_of flushed ≡ es → tuples_in flushed ≡ map (λ e. e.1) es
+flushed_tuples flushed es is = by flushed ∙ ap (map (λ e. e.1)) is
+  where
+    by : (flushed : List FlushedContent) → tuples_in flushed ≡ map (λ e. e.1) (map entry_of flushed)
+    by [] = refl
+    by (e ∷ flushed) = ap (λ cs. e.tuples ∷ cs) (by flushed)
+
+-- one content alone
+pub one_there : (clauses : Clauses) (us : List (List Value)) (given : List Output) → contents_given clauses (us ∷ []) ≡ Some given → (outs : List Output) × (content_given clauses us ≡ Some outs)
+one_there clauses us given e = by (content_given clauses us) e
+  where
+    by : (o : Option (List Output)) → option_and_then (λ outs. option_map (λ more. outs ++ more) (Some [])) o ≡ Some given → (outs : List Output) × (o ≡ Some outs)
+    by None e = absurd cc
+    by (Some outs) e = (outs, refl)
+
+pub one_given : (clauses : Clauses) (us : List (List Value)) (outs old new : List Output) → content_given clauses us ≡ Some outs → old ≡ [] → new ≡ old ++ outs
+    → contents_given clauses (us ∷ []) ≡ Some new
+one_given clauses us outs old new e none added =
+    ap (option_and_then (λ outs. option_map (λ more. outs ++ more) (Some []))) e ∙ ap Some (append-nil outs ∙ sym (added ∙ ap (λ os. os ++ outs) none))

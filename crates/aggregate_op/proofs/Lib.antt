@@ -1,0 +1,7 @@
+pub mod Aggregating
+pub mod Answering
+pub mod ArgumentSteps
+pub mod Beginning
+pub mod FiringSteps
+pub mod GivingSteps
+pub mod Ties

@@ -1,0 +1,16 @@
+use Rattle.std.proofs.Common.{Some, sym, ap, ◌∙◌}
+use Rattle.stream_model.specs.CheckedMeaning.{operator_with}
+use Rattle.aggregate_op.specs.Standing.{operator_of}
+use Rattle.aggregate_op.proofs.Answering.{ok_weaker}
+use Rattle.aggregate_op.proofs.Beginning.{begins}
+use Rattle.aggregate_op.proofs.aggregate.Aggregate.new.Goals as goal
+
+pub returns-clause-is : goal.returns-clause-is
+returns-clause-is c =
+    let at = c.new-at.result in
+    ok_weaker c.begun.result _ _
+    (λ aggregate same. c.new-at.ensures.in_graph ∙ (λ i. Some (operator_with (sym c.new-at.ensures.checked i) (sym c.new-at.ensures.number i) at.op.now at.part.now)) ∙ ap (λ k. Some (operator_of k)) (sym same))
+    c.begun.ensures.clauses
+
+pub returns-clause-begins : goal.returns-clause-begins
+returns-clause-begins c = begins c.begun.result _ c.in-Aggregate.is c.input_width-width.ensures.is c.begun.ensures.clauses c.begun.ensures.stands c.begun.ensures.idle

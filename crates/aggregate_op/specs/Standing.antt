@@ -1,0 +1,32 @@
+-- The histories by ports that an Aggregate stands for: its window stands for what came on its port, where each tuple has the values of its
+-- arguments behind it.
+use Rattle.std.specs.Prelude.{◌≡◌, true, List, length}
+use Rattle.language_model.specs.declared.checked.Part.TheVariants as A
+use Rattle.language_model.specs.declared.env.Env.{Env}
+use Rattle.stream_model.specs.CheckedMeaning.{operator_with}
+use Rattle.stream_model.specs.Operators.{Operator, input_attributes}
+use Rattle.stream_model.specs.PortEvents.{items_of}
+use Rattle.stream_model.specs.Stream.{Event}
+use Rattle.stream_model.specs.Windows.{WindowEvent, window_events}
+use Rattle.stream_model.specs.WindowLaws.{mapped}
+use Rattle.window_policy.specs.declared.window.Window.{Window}
+use Rattle.window_policy.specs.Standing.{Stands}
+use Rattle.port_reacts.specs.PortReplies.{goes_on}
+use Rattle.aggregate_op.specs.declared.clauses.Clauses.{Clauses}
+use Rattle.aggregate_op.specs.Arguments.{idle}
+use Rattle.aggregate_op.specs.steps.Firing.{key_of_tuple, tuple_behind}
+
+-- the operator with these clauses
+abbrev pub operator_of : Clauses → Operator
+operator_of clauses = operator_with clauses.at.checked.now clauses.at.number clauses.at.op.now clauses.at.part.now
+
+-- what came into the window
+abbrev pub came_into : Clauses → List Event → List WindowEvent
+came_into clauses h = mapped (tuple_behind clauses) (window_events (key_of_tuple clauses) (items_of 0 h))
+
+-- while the operator hasn't ended by a fault, the window stands, and no tuple is in the environment
+pub record AggregateStands (clauses : Clauses) (w : Window) (env : Env) (h : List Event) : Type 0 where
+  pub are : clauses.at.part.now ≡ A.Aggregate clauses.window.now clauses.partition.now clauses.group.now clauses.output.now
+  pub width : clauses.width ≡ length (input_attributes (operator_of clauses) 0)
+  pub window : goes_on (operator_of clauses) h ≡ true → Stands clauses.window.now.rule w (came_into clauses h)
+  pub no_tuple : goes_on (operator_of clauses) h ≡ true → env ≡ idle

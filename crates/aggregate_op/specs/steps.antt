@@ -1,0 +1,3 @@
+pub mod Evaluating
+pub mod Firing
+pub mod Giving

@@ -1,0 +1,124 @@
+//! The calls of an Aggregate.
+ghost use Rattle.std.specs.Prelude.{◌≡◌, ◌<◌, ◌^◌, ℕ, [], List, Some, IfOk, length, slice_get};
+ghost use Rattle.language_model.specs.declared.checked.Collected.{Collected};
+ghost use Rattle.language_model.specs.declared.checked.Part.TheVariants as A;
+ghost use Rattle.language_model.specs.declared.checked.Policy.{Policy as AnyPolicy};
+ghost use Rattle.stream_model.specs.CheckedMeaning.{first_schema, graph_of, operator_with, schema_at};
+ghost use Rattle.stream_model.specs.Operators.{input_attributes};
+ghost use Rattle.window_policy.specs.Answers.{IsAllowed};
+ghost use Rattle.window_policy.specs.Standing.{Stands};
+ghost use Rattle.aggregate_op.specs.Arguments.{idle};
+ghost use Rattle.aggregate_op.specs.Standing.{AggregateStands, operator_of};
+
+use crate::aggregate::Aggregate;
+use crate::aggregate::events::on_item;
+use crate::clauses::Clauses;
+use language_model::{Checked, Env, Part};
+use port_reacts::{CheckedOperator, OnPort};
+use spl_value::{Inputs, Item, Items, NoMemory};
+use std::alloc::Global;
+use stream_model::{Reply, fits_law};
+use window_policy::Window;
+
+impl<'c> OnPort for Aggregate<'c> {
+    ghost spec = { λ s. operator_of s.clauses };
+
+    ghost stands = { λ s h. AggregateStands s.clauses s.window s.env h };
+
+    fn on_port(&mut self, port: u32, item: Item) -> Reply {
+        fits_law();
+        on_item(
+            self.alloc,
+            &self.clauses,
+            &mut self.env,
+            &mut self.window,
+            item,
+        )
+    }
+}
+
+/// How many attributes a stream has.
+fn stream_width(checked: &Checked, stream: u32) -> usize
+    ensures is { result ≡ length (schema_at checked.now stream) }
+    ensures small { result < 2 ^ 63 }
+{
+    match checked.schemas.get(stream as usize) {
+        Some(schema) => schema.as_slice().len(),
+        None => 0,
+    }
+}
+
+/// How many attributes the streams of a port have.
+fn port_width(checked: &Checked, streams: &Inputs) -> usize
+    ensures is { result ≡ length (first_schema checked.now streams.now) }
+    ensures small { result < 2 ^ 63 }
+{
+    match streams.get(0) {
+        Some(stream) => stream_width(checked, *stream),
+        None => 0,
+    }
+}
+
+/// How many attributes the first port of an operator has.
+fn input_width(at: &CheckedOperator<'_>) -> usize
+    ensures is { result ≡ length (input_attributes (operator_with at.now.checked.now at.now.number at.now.op.now at.now.part.now) 0) }
+    ensures small { result < 2 ^ 63 }
+{
+    match at.op.ins.get(0) {
+        Some(streams) => port_width(at.checked, streams),
+        None => 0,
+    }
+}
+
+/// An Aggregate of these clauses, before anything came.
+fn begun<'c>(alloc: Global, clauses: Clauses<'c>) -> Result<Aggregate<'c>, NoMemory>
+    requires { IsAllowed clauses.window.now.rule }
+    ensures clauses { IfOk result (λ aggregate. aggregate.clauses ≡ clauses.entry) }
+    ensures stands { IfOk result (λ aggregate. Stands clauses.entry.window.now.rule aggregate.window []) }
+    ensures idle { IfOk result (λ aggregate. aggregate.env ≡ idle) }
+{
+    let window = Window::new(alloc, clauses.window)?;
+    let env = Env {
+        inputs: Items::with_capacity(alloc, 1)?,
+        vars: Items::new(alloc),
+        punct: None,
+    };
+    Ok(Aggregate {
+        alloc,
+        clauses,
+        window,
+        env,
+    })
+}
+
+impl<'c> Aggregate<'c> {
+    /// The Aggregate with this number. There is one.
+    pub fn new(alloc: Global, checked: &'c Checked, op: u32) -> Result<Aggregate<'c>, NoMemory>
+        requires there { op < length checked.now.graph.ops }
+        requires kind { (window : AnyPolicy) × (partition group : List ℕ) × (output : List Collected)
+            × (slice_get checked.now.parts op ≡ Some (A.Aggregate window partition group output)) }
+        ensures is { IfOk result (λ aggregate. slice_get (graph_of checked.now).ops op ≡ Some (⟦<Aggregate<'c> as OnPort>⟧.spec aggregate)) }
+        ensures begins { IfOk result (λ aggregate. ⟦<Aggregate<'c> as OnPort>⟧.stands aggregate []) }
+    {
+        let at = CheckedOperator::new(checked, op);
+        let Part::Aggregate {
+            window,
+            partition,
+            group,
+            output,
+        } = at.part
+        else {
+            unreachable!()
+        };
+        let width = input_width(&at);
+        let clauses = Clauses {
+            at,
+            window,
+            partition,
+            group,
+            output,
+            width,
+        };
+        begun(alloc, clauses)
+    }
+}

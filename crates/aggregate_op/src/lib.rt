@@ -1,0 +1,9 @@
+//! Aggregates: what collectors make of the contents with which a window fires.
+#![tactic(auto)]
+
+mod aggregate;
+mod arguments;
+mod clauses;
+mod contents;
+
+pub use aggregate::Aggregate;
