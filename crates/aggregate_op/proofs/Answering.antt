@@ -1,4 +1,4 @@
--- What is replied by what pairs give.
+-- What is replied by what is made of an item.
 use Rattle.std.specs.Prelude.{Result, Ok, Err, IfOk}
 use Rattle.std.proofs.Common.{◌≡◌, ◌&&◌, ℕ, Bool, true, false, List, ◌∷◌, is_none, refl, sym, ap, subst, ◌∙◌}
 use Rattle.spl_value.specs.declared.item.Fault.{Fault}
