@@ -14,7 +14,6 @@ use Rattle.stream_model.specs.Stream.{Event}
 use Rattle.op_kit.specs.Kinds.{is_held}
 use Rattle.list_engine.specs.Runs.{AreOperators, is_source}
 use Rattle.list_engine.proofs.GraphOperators.{operator_at, same_length}
-use Rattle.graph_run.specs.Kinds.{AreRun}
 use Rattle.graph_run.specs.steps.Fresh.{FreshAs, IsFresh}
 
 -- ---- one operator
@@ -46,12 +45,22 @@ fresh_other spec stands c n own s has other is begins part there =
     let none : is_source part ≡ false = ap is_source (same_part part own (sym there ∙ has)) ∙ not_source own other in
     subst (λ (b : Bool). FreshAs spec stands c n b (Some s)) (sym none) (is, begins)
 
+held : (part : Part) → is_source part ≡ false → IsTrue (is_held part)
+held (A.FileSource file strict) e = cc
+held (A.FileSink file) e = refl
+held (A.Filter condition) e = refl
+held (A.Functor condition output) e = refl
+held (A.Punctor condition position) e = refl
+held (A.Split index) e = refl
+held (A.Union places) e = refl
+held (A.Custom handlers) e = refl
+held (A.Aggregate window partition group output) e = refl
+held (A.Join left right condition output) e = refl
+
 -- what is no source is held
-pub is_there : (c : CheckedGraph) (n : ℕ) (own : Part) → AreRun c.parts → slice_get c.parts n ≡ Some own → ((file : List ℕ) (strict : Bool) → own ≡ A.FileSource file strict → ⊥)
+pub is_there : (c : CheckedGraph) (n : ℕ) (own : Part) → slice_get c.parts n ≡ Some own → ((file : List ℕ) (strict : Bool) → own ≡ A.FileSource file strict → ⊥)
     → (part : Part) → slice_get c.parts n ≡ Some part → IsTrue (is_held part)
-is_there c n own run has other part there =
-    let none : is_source part ≡ false = ap is_source (same_part part own (sym there ∙ has)) ∙ not_source own other in
-    ap (λ (b : Bool). b || is_held part) (sym none) ∙ run n part there
+is_there c n own has other part there = held part (ap is_source (same_part part own (sym there ∙ has)) ∙ not_source own other)
 
 -- ---- one after the other
 

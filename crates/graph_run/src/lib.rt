@@ -1,9 +1,7 @@
 //! The run of a checked graph from the rows of its sources, by the operators that there are here.
 #![tactic(auto)]
 
-mod kinds;
 mod operators;
 mod run;
 
-pub use kinds::can_run;
 pub use run::run_graph;

@@ -3,7 +3,6 @@ ghost use Rattle.std.specs.Prelude.{◌≡◌, ◌<◌, IfOk, length};
 ghost use Rattle.stream_model.specs.CheckedMeaning.{graph_of};
 ghost use Rattle.stream_model.specs.Meaning.{Graph};
 ghost use Rattle.list_engine.specs.Runs.{AreOperators};
-ghost use Rattle.graph_run.specs.Kinds.{AreRun};
 ghost use Rattle.graph_run.specs.steps.Fresh.{IsFresh};
 
 use language_model::{Checked, Part};
@@ -19,7 +18,6 @@ fn operator_at<'c>(
     number: u32,
 ) -> Result<Option<Operator<'c>>, NoMemory>
     requires there { number < length checked.now.graph.ops }
-    requires kinds { AreRun checked.now.parts }
     ensures { IfOk result (λ operator. IsFresh ⟦<Operator<'c> as React>⟧.spec ⟦<Operator<'c> as React>⟧.stands checked.now number operator) }
 {
     let Some(part) = checked.parts.get(number as usize) else {
@@ -37,7 +35,6 @@ pub(crate) fn operators_of<'c>(
     alloc: Global,
     checked: &'c Checked,
 ) -> Result<Items<Option<Operator<'c>>>, NoMemory>
-    requires kinds { AreRun checked.now.parts }
     ensures { IfOk result (λ operators. (g : Graph) → graph_of checked.now ≡ g
         → AreOperators ⟦<Operator<'c> as React>⟧.spec ⟦<Operator<'c> as React>⟧.stands g operators) }
 {

@@ -5,7 +5,6 @@ ghost use Rattle.stream_model.specs.CheckedMeaning.{graph_of};
 ghost use Rattle.stream_model.specs.Ends.{run_fault};
 ghost use Rattle.stream_model.specs.Meaning.{Graph};
 ghost use Rattle.list_engine.specs.Runs.{AreWhole, RowsFit, SinksGiven, meant};
-ghost use Rattle.graph_run.specs.Kinds.{AreRun};
 
 use crate::operators::operators_of;
 use language_model::Checked;
@@ -13,13 +12,12 @@ use list_engine::{Run, run_lists};
 use spl_value::{Item, Items, NoMemory};
 use std::alloc::Global;
 
-/// Runs a checked graph from the rows of its sources. Each operator is a source or one of those that there are here.
+/// Runs a checked graph from the rows of its sources.
 pub fn run_graph(
     alloc: Global,
     checked: &Checked,
     rows: Items<Items<Item>>,
 ) -> Result<Run, NoMemory>
-    requires kinds { AreRun checked.now.parts }
     requires rows { (g : Graph) → graph_of checked.now ≡ g → RowsFit g rows }
     ensures sinks { IfOk result (λ run. (g : Graph) → graph_of checked.now ≡ g
         → SinksGiven g (meant g rows run) run.sinks) }

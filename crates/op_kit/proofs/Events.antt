@@ -228,21 +228,9 @@ counts_stay op h e own open_of left none counts = record {
 
 -- ---- kinds
 
--- each kind that is held is one of these
-pub held_part : (part : Part) → IsTrue (is_held part) → ((file : List ℕ) → part ≡ A.FileSink file → ⊥) → ((condition : Option (Code Slot)) → part ≡ A.Filter condition → ⊥)
-    → ((condition : Option (Code Slot)) (output : Code Slot) → part ≡ A.Functor condition output → ⊥) → ((condition : Code Slot) (position : Position) → part ≡ A.Punctor condition position → ⊥)
-    → ((index : Code Slot) → part ≡ A.Split index → ⊥) → ((places : List (List ℕ)) → part ≡ A.Union places → ⊥) → ((handlers : Handlers) → part ≡ A.Custom handlers → ⊥)
-    → ((left right : Policy) (condition : Option (Code Slot)) (output : Code Slot) → part ≡ A.Join left right condition output → ⊥) → ⊥
-held_part (A.FileSource file strict) held a b c d e f g h = absurd cc
-held_part (A.FileSink file) held a b c d e f g h = a file refl
-held_part (A.Filter condition) held a b c d e f g h = b condition refl
-held_part (A.Functor condition output) held a b c d e f g h = c condition output refl
-held_part (A.Punctor condition position) held a b c d e f g h = d condition position refl
-held_part (A.Split index) held a b c d e f g h = e index refl
-held_part (A.Union places) held a b c d e f g h = f places refl
-held_part (A.Custom handlers) held a b c d e f g h = g handlers refl
-held_part (A.Aggregate window partition group output) held a b c d e f g h = absurd cc
-held_part (A.Join left right condition output) held a b c d e f g h = h left right condition output refl
+-- a source isn't held
+pub not_held : (part : Part) (file : List ℕ) (strict : Bool) → part ≡ A.FileSource file strict → IsTrue (is_held part) → ⊥
+not_held part file strict is held = let bad : false ≡ true = sym (ap is_held is) ∙ held in cc
 
 -- ---- as they are asked
 

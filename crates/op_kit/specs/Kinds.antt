@@ -3,8 +3,7 @@ use Rattle.std.specs.Prelude.{Bool, true, false}
 use Rattle.language_model.specs.declared.checked.Part.{Part}
 use Rattle.language_model.specs.declared.checked.Part.TheVariants as A
 
--- all but FileSource and Aggregate
+-- all but FileSource
 abbrev pub is_held : Part → Bool
 is_held (A.FileSource file strict) = false
-is_held (A.Aggregate window partition group output) = false
 is_held _ = true

@@ -2,6 +2,7 @@
 mod calls;
 
 use crate::sink::Sink;
+use aggregate_op::Aggregate;
 use custom_logic::Custom;
 use join_op::Join;
 use relational_ops::{Filter, Functor, Punctor, Split};
@@ -18,5 +19,6 @@ pub(crate) enum Kind<'c> {
     Split(Split<'c>),
     Union(Union<'c>),
     Custom(Custom<'c>),
+    Aggregate(Box<Aggregate<'c>>),
     Join(Box<Join<'c>>),
 }

@@ -2,6 +2,8 @@
 #![tactic(auto)]
 
 #[cfg(test)]
+mod aggregates;
+#[cfg(test)]
 mod ask;
 #[cfg(test)]
 mod devices;
@@ -31,7 +33,5 @@ mod shown;
 mod sources;
 #[cfg(test)]
 mod stopped;
-#[cfg(test)]
-mod unbuilt;
 #[cfg(test)]
 mod words;

@@ -1,4 +1,5 @@
 //! The tables.
+use crate::aggregates::AGGREGATES;
 use crate::ask::asked;
 use crate::devices::{DEVICES, FAILING, failing};
 use crate::examples::EXAMPLES;
@@ -8,7 +9,6 @@ use crate::refusals::{CHECKS, REFUSALS};
 use crate::runs::RUNS;
 use crate::several::{JOINED, SEVERAL};
 use crate::sources::SOURCES;
-use crate::unbuilt::UNBUILT;
 use crate::words::{BUILT, WORDS, unopened};
 use std::alloc::{AllocError, Global};
 use std::sync::Wait;
@@ -35,11 +35,11 @@ const TABLES: [(Question, &str); 15] = [
     (RUN, RUNS),
     (RUN, SOURCES),
     (RUN, OPERATORS),
+    (RUN, AGGREGATES),
     (RUN, SEVERAL),
     (RUN, JOINED),
     (RUN, FAULTS),
     (RUN, EXAMPLES),
-    (RUN, UNBUILT),
     (RUN, DEVICES),
     (RUN, BUILT),
     (CHECK, CHECKS),

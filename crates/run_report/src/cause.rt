@@ -19,7 +19,7 @@ pub enum Cause {
     /// The file of this name couldn't be written or finished; or the line of a request that was carried
     /// out couldn't be written, and the name is `-`.
     WriteFailed(Name),
-    /// The request, the program or the bytes of a source aren't of a form that is built.
+    /// The request asks for what isn't built.
     NotBuilt,
     /// There was no memory.
     NoMemory,

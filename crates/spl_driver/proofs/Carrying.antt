@@ -16,9 +16,9 @@ use Rattle.command_line.specs.declared.request.Request.TheVariants as R
 use Rattle.command_line.specs.declared.request.RunOptions.{RunOptions}
 use Rattle.check_laws.specs.Files.{source_files, sink_files, is_named}
 use Rattle.source_rows.specs.Counting.{OpeningFailed}
-use Rattle.spl_driver.specs.Built.{is_built, is_built_now, is_plain, is_given}
-use Rattle.spl_driver.specs.Files.{FilesOf, files_of, creates, if_given, built_parts}
-use Rattle.spl_driver.specs.Outcome.{RequestOutcome, NotBuilt, Checks, Runs, meant, run_outcome}
+use Rattle.spl_driver.specs.Built.{is_built, is_plain, is_given}
+use Rattle.spl_driver.specs.Files.{FilesOf, files_of, creates, if_given}
+use Rattle.spl_driver.specs.Outcome.{RequestOutcome, Checks}
 use Rattle.spl_driver.specs.Answer.{CauseMeans, CreatingFailed, DevicesMean, DevicesShow, NoCountChanged, StoppedBy, TellingFailed, WritingFailed, uncounted}
 use Rattle.spl_driver.specs.Lines.{IsLine}
 use Rattle.spl_driver.specs.Steps.{run_files, RunComes, IsRunOf, IsAcceptedOutcome, IsToldAcceptedOutcome, CountsShow, FilesShow}
@@ -41,23 +41,23 @@ quiet_counts cause k files counts is quiet words unrun parts = record {
 -- ---- a check
 
 check_files : (told : Option Told) (p : List ℕ) (c : CheckedGraph) (ended : Ended) (counts : PerName) → ended.cause ≡ C.Done → ended.counts ≡ uncounted
-    → WhereTold told told (λ t u. FilesShow (IsAcceptedOutcome (R.Check p) c ended.arrivals t) (files_of (Some (R.Check p)) (built_parts c)) ended counts counts t u)
+    → WhereTold told told (λ t u. FilesShow (IsAcceptedOutcome (R.Check p) c ended.arrivals t) (files_of (Some (R.Check p)) c.parts) ended counts counts t u)
 check_files None p c ended counts is none = tt
 check_files (Some t) p c ended counts is none = record {
   means = subst (λ (k : Cause). CauseMeans k (IsAcceptedOutcome (R.Check p) c ended.arrivals t) ended t t) (sym is) (inl (c, refl, (λ n. refl), none));
   others = λ n named. refl;
-  device = subst (λ (k : Cause). DevicesMean k (files_of (Some (R.Check p)) (built_parts c)) counts counts ⊥ (IsAcceptedOutcome (R.Check p) c ended.arrivals t) ended t t) (sym is) (quiet_only [] counts counts (λ n. refl));
+  device = subst (λ (k : Cause). DevicesMean k (files_of (Some (R.Check p)) c.parts) counts counts ⊥ (IsAcceptedOutcome (R.Check p) c ended.arrivals t) ended t t) (sym is) (quiet_only [] counts counts (λ n. refl));
   reads = λ n differs. absurd (differs refl);
 }
 
 pub checked_files : (told : Option Told) (request : Request) (p : List ℕ) (c : CheckedGraph) (ended : Ended) (counts : PerName) → request ≡ R.Check p → ended.cause ≡ C.Done → ended.counts ≡ uncounted
-    → WhereTold told told (λ t u. FilesShow (IsAcceptedOutcome request c ended.arrivals t) (files_of (Some request) (built_parts c)) ended counts counts t u)
+    → WhereTold told told (λ t u. FilesShow (IsAcceptedOutcome request c ended.arrivals t) (files_of (Some request) c.parts) ended counts counts t u)
 checked_files told request p c ended counts e is none =
-    subst (λ (q : Request). WhereTold told told (λ t u. FilesShow (IsAcceptedOutcome q c ended.arrivals t) (files_of (Some q) (built_parts c)) ended counts counts t u)) (sym e)
+    subst (λ (q : Request). WhereTold told told (λ t u. FilesShow (IsAcceptedOutcome q c ended.arrivals t) (files_of (Some q) c.parts) ended counts counts t u)) (sym e)
     (check_files told p c ended counts is none)
 
-pub checked_counts : (cause : Cause) (request : Request) (p : List ℕ) (c : CheckedGraph) (counts : PerName) → request ≡ R.Check p → cause ≡ C.Done → CountsShow cause (built_parts c) (files_of (Some request) (built_parts c)) counts counts
-checked_counts cause request p c counts e is = quiet_counts cause C.Done (files_of (Some request) (built_parts c)) counts is tt (λ bad. cc) tt (built_parts c)
+pub checked_counts : (cause : Cause) (request : Request) (p : List ℕ) (c : CheckedGraph) (counts : PerName) → request ≡ R.Check p → cause ≡ C.Done → CountsShow cause c.parts (files_of (Some request) c.parts) counts counts
+checked_counts cause request p c counts e is = quiet_counts cause C.Done (files_of (Some request) c.parts) counts is tt (λ bad. cc) tt c.parts
 
 check_comes : (told : Option Told) (p : List ℕ) (c : CheckedGraph) (arrivals : Arrivals) (counts now : PerName) → IsToldAcceptedOutcome (R.Check p) c arrivals told counts now (Checks c)
 check_comes None p c arrivals counts now = (refl, tt)
@@ -83,10 +83,6 @@ none_given : (o : Option (List ℕ)) → is_given o ≡ false → if_given o ≡
 none_given None h = refl
 none_given (Some name) h = cc
 
--- a graph that is built is run by all its operators, and another by none
-all_parts : (c : CheckedGraph) → is_built_now c ≡ true → built_parts c ≡ c.parts
-all_parts c built = ap (λ (b : Bool). if b then c.parts else []) built
-
 -- a run without options creates the sinks alone
 pub creates_sinks : (p : List ℕ) (options : RunOptions) (parts : List Part) → is_plain options ≡ true → creates (Some (R.Run p options)) parts ≡ sink_files parts
 creates_sinks p options parts plain =
@@ -95,17 +91,12 @@ creates_sinks p options parts plain =
 plain_run : (request : Request) (p : List ℕ) (options : RunOptions) → request ≡ R.Run p options → is_built request ≡ true → is_plain options ≡ true
 plain_run request p options e built = sym (ap is_built e) ∙ built
 
--- it creates the sinks of the operators that are run
-run_creates : (p : List ℕ) (options : RunOptions) (c : CheckedGraph) → is_plain options ≡ true → is_built_now c ≡ true → creates (Some (R.Run p options)) (built_parts c) ≡ sink_files c.parts
-run_creates p options c plain built = creates_sinks p options (built_parts c) plain ∙ ap sink_files (all_parts c built)
-
 -- the files of a run are those of its sources and sinks, with the program in front
-run_files_of : (p : List ℕ) (options : RunOptions) (c : CheckedGraph) → is_plain options ≡ true → is_built_now c ≡ true
-    → files_of (Some (R.Run p options)) (built_parts c) ≡ record { opened = p ∷ source_files c.parts; whole = p ∷ []; rows = source_files c.parts; created = sink_files c.parts }
-run_files_of p options c plain built =
-    let parts = all_parts c built in
-    let made = run_creates p options c plain built in
-    λ i. record { opened = p ∷ source_files (parts i); whole = p ∷ []; rows = source_files (parts i); created = made i }
+run_files_of : (p : List ℕ) (options : RunOptions) (c : CheckedGraph) → is_plain options ≡ true
+    → files_of (Some (R.Run p options)) c.parts ≡ record { opened = p ∷ source_files c.parts; whole = p ∷ []; rows = source_files c.parts; created = sink_files c.parts }
+run_files_of p options c plain =
+    let made = creates_sinks p options c.parts plain in
+    λ i. record { opened = p ∷ source_files c.parts; whole = p ∷ []; rows = source_files c.parts; created = made i }
 
 abbrev with_program : List ℕ → CheckedGraph → FilesOf
 with_program p c = record { opened = p ∷ source_files c.parts; whole = p ∷ []; rows = source_files c.parts; created = sink_files c.parts }
@@ -170,12 +161,12 @@ means_wider (C.WriteFailed name) p c counts now Is ended t u (inr h) = inr (tell
 means_wider C.NoMemory p c counts now Is ended t u h = tt
 
 pub ran_files : (told now : Option Told) (request : Request) (p : List ℕ) (options : RunOptions) (c : CheckedGraph) (ended : Ended) (counts later : PerName) → request ≡ R.Run p options
-    → is_built request ≡ true → is_built_now c ≡ true → WhereTold told now (λ t u. FilesShow (IsRunOf c ended.arrivals t) (run_files c) ended counts later t u)
-    → WhereTold told now (λ t u. FilesShow (IsAcceptedOutcome request c ended.arrivals t) (files_of (Some request) (built_parts c)) ended counts later t u)
-ran_files told now request p options c ended counts later e built graph h =
-    subst (λ (q : Request). WhereTold told now (λ t u. FilesShow (IsAcceptedOutcome q c ended.arrivals t) (files_of (Some q) (built_parts c)) ended counts later t u)) (sym e)
+    → is_built request ≡ true → WhereTold told now (λ t u. FilesShow (IsRunOf c ended.arrivals t) (run_files c) ended counts later t u)
+    → WhereTold told now (λ t u. FilesShow (IsAcceptedOutcome request c ended.arrivals t) (files_of (Some request) c.parts) ended counts later t u)
+ran_files told now request p options c ended counts later e built h =
+    subst (λ (q : Request). WhereTold told now (λ t u. FilesShow (IsAcceptedOutcome q c ended.arrivals t) (files_of (Some q) c.parts) ended counts later t u)) (sym e)
     (subst (λ (files : FilesOf). WhereTold told now (λ t u. FilesShow (IsRunOf c ended.arrivals t) files ended counts later t u))
-    (sym (run_files_of p options c (plain_run request p options e built) graph)) (wider told now h))
+    (sym (run_files_of p options c (plain_run request p options e built))) (wider told now h))
   where
     wider : (told now : Option Told) → WhereTold told now (λ t u. FilesShow (IsRunOf c ended.arrivals t) (run_files c) ended counts later t u)
         → WhereTold told now (λ t u. FilesShow (IsRunOf c ended.arrivals t) (with_program p c) ended counts later t u)
@@ -192,45 +183,19 @@ or_rest : (a b c : Bool) → ((a || b) || c) ≡ false → (b || c) ≡ false
 or_rest true b c e = cc
 or_rest false b c e = e
 
-pub ran_counts : (request : Request) (p : List ℕ) (options : RunOptions) (c : CheckedGraph) (cause : Cause) (old new : PerName) → request ≡ R.Run p options → is_built request ≡ true → is_built_now c ≡ true
-    → CountsShow cause c.parts (run_files c) old new → CountsShow cause (built_parts c) (files_of (Some request) (built_parts c)) old new
-ran_counts request p options c cause old new e built graph h =
-    subst (λ (q : Request). CountsShow cause (built_parts c) (files_of (Some q) (built_parts c)) old new) (sym e)
-    (subst (λ (files : FilesOf). CountsShow cause (built_parts c) files old new) (sym (run_files_of p options c (plain_run request p options e built) graph)) (record {
+pub ran_counts : (request : Request) (p : List ℕ) (options : RunOptions) (c : CheckedGraph) (cause : Cause) (old new : PerName) → request ≡ R.Run p options → is_built request ≡ true
+    → CountsShow cause c.parts (run_files c) old new → CountsShow cause c.parts (files_of (Some request) c.parts) old new
+ran_counts request p options c cause old new e built h =
+    subst (λ (q : Request). CountsShow cause c.parts (files_of (Some q) c.parts) old new) (sym e)
+    (subst (λ (files : FilesOf). CountsShow cause c.parts files old new) (sym (run_files_of p options c (plain_run request p options e built))) (record {
       words = h.words;
       others = λ n named. h.others n (or_rest _ (is_named (source_files c.parts) n) (is_named (sink_files c.parts) n) named);
       reading = h.reading;
       device = devices_wider cause p c old new h.device;
-      stopped = subst (λ (ps : List Part). StoppedBy cause ps old new) (sym (all_parts c graph)) h.stopped;
+      stopped = h.stopped;
     }))
 
 -- the line of a run
 pub ran_line : (told : Option Told) (request : Request) (p : List ℕ) (options : RunOptions) (c : CheckedGraph) (ended : Ended) (line : Result (List ℕ) NoMemory) (counts now : PerName) → request ≡ R.Run p options
     → IfOk line (IsLine ended.cause (RunComes c ended.arrivals told counts now)) → IfOk line (IsLine ended.cause (IsToldAcceptedOutcome request c ended.arrivals told counts now))
 ran_line told request p options c ended line counts now e h = subst (λ (q : Request). IfOk line (IsLine ended.cause (IsToldAcceptedOutcome q c ended.arrivals told counts now))) (sym e) h
-
--- ---- a run of a graph that isn't built
-
-not_built_graph : (c : CheckedGraph) (t : Told) (arrivals : Arrivals) → is_built_now c ≡ false → run_outcome c t arrivals ≡ NotBuilt
-not_built_graph c t arrivals other = ap (λ (b : Bool). if b then Runs c (graph_of c) (meant (graph_of c) t arrivals.lists) else NotBuilt) other
-
-unbuilt_run : (told : Option Told) (p : List ℕ) (options : RunOptions) (c : CheckedGraph) (ended : Ended) (counts : PerName) → is_built_now c ≡ false → ended.cause ≡ C.NotBuilt
-    → WhereTold told told (λ t u. FilesShow (IsAcceptedOutcome (R.Run p options) c ended.arrivals t) (files_of (Some (R.Run p options)) (built_parts c)) ended counts counts t u)
-unbuilt_run None p options c ended counts other is = tt
-unbuilt_run (Some t) p options c ended counts other is = record {
-  means = subst (λ (k : Cause). CauseMeans k (IsAcceptedOutcome (R.Run p options) c ended.arrivals t) ended t t) (sym is) (sym (not_built_graph c t ended.arrivals other), (λ n. refl));
-  others = λ n named. refl;
-  device = subst (λ (k : Cause). DevicesMean k (files_of (Some (R.Run p options)) (built_parts c)) counts counts ⊥ (IsAcceptedOutcome (R.Run p options) c ended.arrivals t) ended t t) (sym is)
-      (λ n. refl);
-  reads = λ n differs. absurd (differs refl);
-}
-
-pub unbuilt_files : (told : Option Told) (request : Request) (p : List ℕ) (options : RunOptions) (c : CheckedGraph) (ended : Ended) (counts : PerName) → request ≡ R.Run p options
-    → is_built_now c ≡ false → ended.cause ≡ C.NotBuilt
-    → WhereTold told told (λ t u. FilesShow (IsAcceptedOutcome request c ended.arrivals t) (files_of (Some request) (built_parts c)) ended counts counts t u)
-unbuilt_files told request p options c ended counts e other is =
-    subst (λ (q : Request). WhereTold told told (λ t u. FilesShow (IsAcceptedOutcome q c ended.arrivals t) (files_of (Some q) (built_parts c)) ended counts counts t u)) (sym e)
-    (unbuilt_run told p options c ended counts other is)
-
-pub unbuilt_counts : (cause : Cause) (parts : List Part) (files : FilesOf) (counts : PerName) → cause ≡ C.NotBuilt → CountsShow cause parts files counts counts
-unbuilt_counts cause parts files counts is = quiet_counts cause C.NotBuilt files counts is tt (λ bad. cc) tt parts

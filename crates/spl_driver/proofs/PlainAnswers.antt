@@ -85,7 +85,7 @@ not_check (R.Make name rows start) other = refl
 pub not_built_request : (told : Option Told) (request : Request) (answer : Answer) (counts : PerName) (lent : ℕ) → is_built request ≡ false → answer.ended.cause ≡ C.NotBuilt
     → IfOk answer.line (λ l. l ≡ status_text None C.NotBuilt) → NothingRan answer.ended → AnswersRequest (Some request) answer told told counts counts lent lent
 not_built_request told request answer counts lent other is text none =
-    plain_request told told (Some request) C.NotBuilt answer counts counts lent lent is (not_run C.NotBuilt refl) tt (inl other) (not_check request other) (quiet_shown C.NotBuilt (Some request) counts counts tt tt (λ n. refl))
+    plain_request told told (Some request) C.NotBuilt answer counts counts lent lent is (not_run C.NotBuilt refl) tt other (not_check request other) (quiet_shown C.NotBuilt (Some request) counts counts tt tt (λ n. refl))
     (λ none. record { answer = inl refl; counts = λ n. refl }) text none (λ small. refl) (not_built_answer told request answer.ended counts other is)
 
 -- the answer where there is no request

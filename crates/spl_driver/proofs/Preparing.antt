@@ -24,31 +24,19 @@ use Rattle.list_engine.specs.declared.run.Run.{Run}
 use Rattle.list_engine.specs.RunLaws.{FaultsName, OrderedLaw, SourcesName}
 use Rattle.list_engine.specs.Runs.{AreWhole, RowsFit, SinksGiven, rows_at}
 use Rattle.row_reader.specs.Reading.{NamesOperator, is_read_failed, is_read_fault}
-use Rattle.graph_run.specs.Kinds.{AreRun, is_run}
 use Rattle.source_rows.specs.Sources.{AreRows, SourcesOf}
 use Rattle.source_rows.specs.declared.sources.Sources.TheVariants as S
-use Rattle.spl_driver.specs.Built.{is_built_now}
 use Rattle.spl_driver.specs.Outcome.{RequestOutcome, NotBuilt, Runs, meant, run_outcome}
 use Rattle.spl_driver.specs.Answer.{SourceUnread, StoppedBy, cause_of}
 use Rattle.spl_driver.specs.Steps.{RanFor, ran}
-use Rattle.spl_value.proofs.Bools.{and_left, and_right}
-
-all_at : {A : Type 0} (p : A → Bool) (xs : List A) → list_all p xs ≡ true → (n : ℕ) (x : A) → slice_get xs n ≡ Some x → p x ≡ true
-all_at p [] e n x at = absurd cc
-all_at p (y ∷ xs) e zero x at = let same : y ≡ x = cc in ap p (sym same) ∙ and_left (p y) (list_all p xs) e
-all_at p (y ∷ xs) e (suc n) x at = all_at p xs (and_right (p y) (list_all p xs) e) n x at
-
--- all operators of a graph that is built run
-pub are_run : (c : CheckedGraph) → is_built_now c ≡ true → AreRun c.parts
-are_run c built n part at = all_at is_run c.parts built n part at
 
 -- the rows of the sources that were read
 pub rows_fit : (c : CheckedGraph) (rows : List (List Item)) (told : Option Told) (counts now : PerName) → SourcesOf (S.Rows rows) c told counts now → (g : Graph) → graph_of c ≡ g → RowsFit g rows
 rows_fit c rows told counts now h g e = (h g e).fit
 
-outcome_told : (told : Option Told) (c : CheckedGraph) → is_built_now c ≡ true → IfSome told (λ t. (arrivals : Arrivals) → run_outcome c t arrivals ≡ Runs c (graph_of c) (meant (graph_of c) t arrivals.lists))
-outcome_told None c built = tt
-outcome_told (Some t) c built = λ arrivals. ap (λ (b : Bool). if b then Runs c (graph_of c) (meant (graph_of c) t arrivals.lists) else NotBuilt) built
+outcome_told : (told : Option Told) (c : CheckedGraph) → IfSome told (λ t. (arrivals : Arrivals) → run_outcome c t arrivals ≡ Runs c (graph_of c) (meant (graph_of c) t arrivals.lists))
+outcome_told None c = tt
+outcome_told (Some t) c = λ arrivals. refl
 
 -- ---- a run that stops at a read that failed
 
@@ -89,11 +77,11 @@ module _ (numbered : OrderedLaw) (law : ReadFaultLaw) (c : CheckedGraph) (keeps 
   stops run (Some f) e = λ kind. unread run f (sym e) kind
 
 -- the run of those rows
-pub ran_for : OrderedLaw → ReadFaultLaw → (c : CheckedGraph) (rows : List (List Item)) (run : Run) (told : Option Told) (counts now : PerName) → Keeps c → is_built_now c ≡ true → SourcesOf (S.Rows rows) c told counts now
+pub ran_for : OrderedLaw → ReadFaultLaw → (c : CheckedGraph) (rows : List (List Item)) (run : Run) (told : Option Told) (counts now : PerName) → Keeps c → SourcesOf (S.Rows rows) c told counts now
     → ((g : Graph) → graph_of c ≡ g → SinksGiven g (ran g rows run) run.sinks) → ((g : Graph) → graph_of c ≡ g → run.fault ≡ run_fault g (ran g rows run))
     → ((g : Graph) → graph_of c ≡ g → map (λ l. l.op) run.arrivals.lists ≡ several g) → ((g : Graph) → graph_of c ≡ g → AreWhole g (ran g rows run) (entries_in run.arrivals.lists))
     → RanFor c run told counts now
-ran_for numbered law c rows run told counts now keeps built are sinks fault lists whole = record {
+ran_for numbered law c rows run told counts now keeps are sinks fault lists whole = record {
   graph = graph_of c;
   is = refl;
   rows = rows;
@@ -105,5 +93,5 @@ ran_for numbered law c rows run told counts now keeps built are sinks fault list
   stopped = stops numbered law c keeps rows told counts now (are (graph_of c) refl) run run.fault (fault (graph_of c) refl);
   recorded = record { lists = lists (graph_of c) refl; whole = whole (graph_of c) refl };
   told_rows = (are (graph_of c) refl).same;
-  outcome = outcome_told told c built;
+  outcome = outcome_told told c;
 }

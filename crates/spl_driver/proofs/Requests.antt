@@ -10,7 +10,7 @@ use Rattle.command_line.specs.declared.request.Request.{Request}
 use Rattle.command_line.specs.declared.request.Request.TheVariants as R
 use Rattle.command_line.specs.Request.{file_names}
 use Rattle.spl_driver.specs.AcceptedLaws.{OneAcceptedLaw, SomeAcceptedLaw}
-use Rattle.spl_driver.specs.Built.{is_built, is_built_now}
+use Rattle.spl_driver.specs.Built.{is_built}
 use Rattle.spl_driver.specs.Files.{program_of, parts_of}
 use Rattle.std.specs.Prelude.{if◌then◌else◌}
 use Rattle.stream_model.specs.CheckedMeaning.{graph_of}
@@ -172,12 +172,8 @@ pub record IsUnreadable (t : Told) (request : Option Request) (program : List �
   pub of : program_of asked ≡ Some program
   pub fault : has_fault (t.script program) ≡ true
 
-not_unread : (built : Bool) (next : RequestOutcome) (program : List ℕ) → (next ≡ Unreadable program → ⊥) → (if built then next else NotBuilt) ≡ Unreadable program → ⊥
-not_unread true next program other e = other e
-not_unread false next program other e = let bad : NotBuilt ≡ Unreadable program = e in cc
-
 run_not_unread : (c : CheckedGraph) (t : Told) (arrivals : Arrivals) (program : List ℕ) → run_outcome c t arrivals ≡ Unreadable program → ⊥
-run_not_unread c t arrivals program e = not_unread (is_built_now c) (Runs c (graph_of c) (meant (graph_of c) t arrivals.lists)) program (λ bad. cc) e
+run_not_unread c t arrivals program e = cc
 
 unread_at : (t : Told) (arrivals : Arrivals) (request : Option Request) (r : RequestOutcome) (program : List ℕ) → IsOutcome t arrivals request r → r ≡ Unreadable program → IsUnreadable t request program
 unread_at t arrivals request r program no_request e = absurd (let bad : NoRequest ≡ Unreadable program = e in cc)

@@ -15,8 +15,8 @@ use Rattle.command_line.specs.declared.request.RunOptions.{RunOptions}
 use Rattle.check_laws.specs.Files.{is_named}
 use Rattle.source_rows.specs.Counting.{OnlyReads}
 use Rattle.spl_driver.specs.Answer.{DevicesShow, IsRun, LINE, NoCountChanged, StoppedBy, cause_of, counts_of, is_check}
-use Rattle.spl_driver.specs.Built.{is_built, is_built_now}
-use Rattle.spl_driver.specs.Files.{FilesOf, built_parts, creates, files_of, opens, program_of, row_files}
+use Rattle.spl_driver.specs.Built.{is_built}
+use Rattle.spl_driver.specs.Files.{FilesOf, creates, files_of, opens, program_of, row_files}
 use Rattle.spl_driver.specs.Lines.{ToldAs}
 use Rattle.spl_driver.specs.Outcome.{IsSomeProgram, IsSomeRefusal}
 use Rattle.spl_driver.specs.Shown.{ArePartsOf, IsCheck, IsProgramOf, IsReason, IsRunProgram, LineShown, NothingRan, Ran, RanAs, RanShown, RanTo, RunShown, Shown, ShownBy}
@@ -104,10 +104,10 @@ shown_of (C.WriteFailed name) request old new Line other h = inl h
 shown_of C.NoMemory request old new Line other h = h
 
 pub shown_after : (cause : Cause) (request : Request) (c : CheckedGraph) (old mid new : PerName) (Line : Type 0) → IsSomeProgram request c
-    → NoCountChanged old mid → CountsShow cause (built_parts c) (files_of (Some request) (built_parts c)) mid new → Shown cause (Some request) old new Line
+    → NoCountChanged old mid → CountsShow cause c.parts (files_of (Some request) c.parts) mid new → Shown cause (Some request) old new Line
 shown_after cause request c old mid new Line program quiet h =
     subst (λ (k : PerName). Shown cause (Some request) k new Line) (same_counts old mid quiet) (shown_of cause (Some request) mid new Line h.words (record {
-      parts = built_parts c;
+      parts = c.parts;
       are = inr (c, program, refl);
       device = h.device;
       stopped = h.stopped;
@@ -171,7 +171,7 @@ or_reason expected cause request (inr e) h = subst (λ (k : Cause). IsReason k r
 
 pub reason_of : (cause : Cause) (request : Request) (c : CheckedGraph) → IsSomeProgram request c → ReasonOf cause c → IsReason cause (Some request)
 reason_of (C.Refused refusal) request c program h = absurd h
-reason_of C.NotBuilt request c program h = inr (c, program, h)
+reason_of C.NotBuilt request c program h = absurd h
 reason_of C.Done request c program h = tt
 reason_of (C.Stopped fault) request c program h = tt
 reason_of C.BadWords request c program h = tt

@@ -19,7 +19,7 @@ use Rattle.spl_value.specs.declared.item.Fault.{Fault}
 use Rattle.source_rows.specs.Counting.{OpeningFailed}
 use Rattle.source_rows.specs.Sources.{ReadsFail}
 use Rattle.spl_driver.specs.Built.{is_built}
-use Rattle.spl_driver.specs.Files.{FilesOf, files_of, opens, creates, row_files, whole_files, program_of, built_parts}
+use Rattle.spl_driver.specs.Files.{FilesOf, files_of, opens, creates, row_files, whole_files, program_of}
 use Rattle.spl_driver.specs.Outcome.{RequestOutcome, NoRequest, Refused, NotBuilt, Checks, Runs, has_fault, IsOutcome, IsSomeProgram, no_request, not_built, ArePartsIn, of_program}
 use Rattle.spl_driver.specs.Answer.{SameFiles, Begun, CauseMeans, ChecksTo, RunsTo, WroteOthers, TellingFailed, DevicesMean, DevicesShow, ReadingFailed, ReadingAnswered, WholeReads, WholeFails, NoCountChanged, StoppedBy, Answered, ByWords, IsOr}
 use Rattle.spl_driver.specs.Lines.{EndsWith, IsToldOutcome, IsLine, IsLineOf, MayComeTo}
@@ -353,28 +353,28 @@ pub accepted_answer : OneOutcomeLaw → OnePartsLaw → (told mid now : Option T
     → is_built request ≡ true → program_of request ≡ Some program
     → IfSome told (λ t. CompiledAt (P.Checked c) (t.script program) (file_names request))
     → WhereTold told mid TellsSame → NoCountChanged counts between
-    → WhereTold mid now (λ t u. FilesShow (IsAcceptedOutcome request c ended.arrivals t) (files_of (Some request) (built_parts c)) ended between later t u)
-    → CountsShow ended.cause (built_parts c) (files_of (Some request) (built_parts c)) between later
+    → WhereTold mid now (λ t u. FilesShow (IsAcceptedOutcome request c ended.arrivals t) (files_of (Some request) c.parts) ended between later t u)
+    → CountsShow ended.cause c.parts (files_of (Some request) c.parts) between later
     → WhereTold told now (Answered (Some request) ended counts later ⊥)
 accepted_answer one parts_one None mid now request program c ended counts between later built of made same quiet files shown = tt
 accepted_answer one parts_one (Some t) None now request program c ended counts between later built of made same quiet files shown = absurd same
 accepted_answer one parts_one (Some t) (Some s) None request program c ended counts between later built of made same quiet files shown = files
 accepted_answer one parts_one (Some t) (Some s) (Some u) request program c ended counts between later built of made same quiet files shown =
-    go (subst (λ (k : PerName). FilesShow (IsAcceptedOutcome request c ended.arrivals t) (files_of (Some request) (built_parts c)) ended k later t u) (same_counts counts between quiet)
-    (subst (λ (x : Told). FilesShow (IsAcceptedOutcome request c ended.arrivals x) (files_of (Some request) (built_parts c)) ended between later x u) (same_told t s same) files))
-    (subst (λ (k : PerName). CountsShow ended.cause (built_parts c) (files_of (Some request) (built_parts c)) k later) (same_counts counts between quiet) shown)
+    go (subst (λ (k : PerName). FilesShow (IsAcceptedOutcome request c ended.arrivals t) (files_of (Some request) c.parts) ended k later t u) (same_counts counts between quiet)
+    (subst (λ (x : Told). FilesShow (IsAcceptedOutcome request c ended.arrivals x) (files_of (Some request) c.parts) ended between later x u) (same_told t s same) files))
+    (subst (λ (k : PerName). CountsShow ended.cause c.parts (files_of (Some request) c.parts) k later) (same_counts counts between quiet) shown)
   where
     comes : IsOutcome t ended.arrivals (Some request) (accepted_outcome request c t ended.arrivals)
     comes = outcome_of t request program ended.arrivals (Ok c) built of made.0 made.1
 
-    parts_are : (parts : List Part) → ArePartsIn t (Some request) parts → built_parts c ≡ parts
-    parts_are parts are = parts_one (Some request) t (built_parts c) parts (parts_in t request program (Ok c) of made.0 made.1) are
+    parts_are : (parts : List Part) → ArePartsIn t (Some request) parts → c.parts ≡ parts
+    parts_are parts are = parts_one (Some request) t c.parts parts (parts_in t request program (Ok c) of made.0 made.1) are
 
     to : (r : RequestOutcome) → IsAcceptedOutcome request c ended.arrivals t r → IsOutcome t ended.arrivals (Some request) r
     to r e = subst (IsOutcome t ended.arrivals (Some request)) (sym e) comes
 
-    go : FilesShow (IsAcceptedOutcome request c ended.arrivals t) (files_of (Some request) (built_parts c)) ended counts later t u
-        → CountsShow ended.cause (built_parts c) (files_of (Some request) (built_parts c)) counts later
+    go : FilesShow (IsAcceptedOutcome request c ended.arrivals t) (files_of (Some request) c.parts) ended counts later t u
+        → CountsShow ended.cause c.parts (files_of (Some request) c.parts) counts later
         → Answered (Some request) ended counts later ⊥ t u
     go f k = record {
       means = means_map ended.cause (IsAcceptedOutcome request c ended.arrivals t) (IsOutcome t ended.arrivals (Some request)) ended t u to
@@ -384,7 +384,7 @@ accepted_answer one parts_one (Some t) (Some s) (Some u) request program c ended
           k.others n (ap (λ (ps : List Part). is_named (opens (Some request) ps) n || is_named (creates (Some request) ps) n) (parts_are parts are) ∙ named);
       device = λ parts are.
           subst (λ (ps : List Part). DevicesMean ended.cause (files_of (Some request) ps) counts later ⊥ (IsOutcome t ended.arrivals (Some request)) ended t u) (parts_are parts are)
-          (devices_map ended.cause (files_of (Some request) (built_parts c)) counts later ⊥ (IsAcceptedOutcome request c ended.arrivals t) (IsOutcome t ended.arrivals (Some request)) ended t u to f.device);
+          (devices_map ended.cause (files_of (Some request) c.parts) counts later ⊥ (IsAcceptedOutcome request c ended.arrivals t) (IsOutcome t ended.arrivals (Some request)) ended t u to f.device);
       stopped = λ parts are. subst (λ (ps : List Part). StoppedBy ended.cause ps counts later) (parts_are parts are) k.stopped;
       whole = λ parts are n named differs.
           absurd (differs (k.reading n (ap (λ (ps : List Part). is_named (row_files (Some request) ps) n) (parts_are parts are) ∙ named)));

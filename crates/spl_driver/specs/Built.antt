@@ -1,8 +1,5 @@
--- Which requests and graphs are carried out today.
+-- Which requests are carried out today.
 use Rattle.std.specs.Prelude.{Bool, true, false, not, ◌&&◌, Option, Some, None}
-use Rattle.std.specs.List.{list_all}
-use Rattle.language_model.specs.CheckedGraph.{CheckedGraph}
-use Rattle.graph_run.specs.Kinds.{is_run}
 use Rattle.command_line.specs.declared.request.Request.{Request}
 use Rattle.command_line.specs.declared.request.Request.TheVariants as R
 use Rattle.command_line.specs.declared.request.RunOptions.{RunOptions}
@@ -21,7 +18,3 @@ abbrev pub is_built : Request → Bool
 is_built (R.Check program) = true
 is_built (R.Run program options) = is_plain options
 is_built _ = false
-
--- What a run can do today: each operator of the graph is of a kind that runs.
-abbrev pub is_built_now : CheckedGraph → Bool
-is_built_now c = list_all is_run c.parts

@@ -1,12 +1,11 @@
 -- The files that a request opens and creates, by the clauses of the operators of its program.
-use Rattle.std.specs.Prelude.{ℕ, List, [], ◌∷◌, ◌++◌, Option, Some, None, Result, Ok, Err, if◌then◌else◌}
+use Rattle.std.specs.Prelude.{ℕ, List, [], ◌∷◌, ◌++◌, Option, Some, None, Result, Ok, Err}
 use Rattle.language_model.specs.declared.checked.Part.{Part}
 use Rattle.language_model.specs.Accepted.{ProgramRefusal}
 use Rattle.language_model.specs.CheckedGraph.{CheckedGraph}
 use Rattle.command_line.specs.declared.request.Request.{Request}
 use Rattle.command_line.specs.declared.request.Request.TheVariants as R
 use Rattle.check_laws.specs.Files.{source_files, sink_files}
-use Rattle.spl_driver.specs.Built.{is_built_now}
 
 -- the file of a request's program
 abbrev pub program_of : Request → Option (List ℕ)
@@ -17,13 +16,9 @@ program_of (R.Replay program arrivals) = Some program
 program_of (R.Simulate program width schedule steps) = Some program
 program_of (R.Make name rows start) = None
 
--- the operators that are run of a checked graph: all, where it is built
-abbrev pub built_parts : CheckedGraph → List Part
-built_parts c = if is_built_now c then c.parts else []
-
--- those of a program that isn't accepted are none
+-- the operators of an accepted program; those of another one are none
 abbrev pub parts_of : Result CheckedGraph ProgramRefusal → List Part
-parts_of (Ok c) = built_parts c
+parts_of (Ok c) = c.parts
 parts_of (Err refusal) = []
 
 abbrev pub if_given : Option (List ℕ) → List (List ℕ)

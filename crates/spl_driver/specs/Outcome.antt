@@ -1,5 +1,5 @@
 -- The outcome of a request, with ample memory and devices that give what the shelf tells.
-use Rattle.std.specs.Prelude.{◌≡◌, ℕ, ◌&&◌, nat_le, List, [], length, Bool, true, false, if◌then◌else◌, Option, Some, None, Result, Ok, Err}
+use Rattle.std.specs.Prelude.{◌≡◌, ℕ, ◌&&◌, nat_le, List, [], length, Bool, true, false, Option, Some, None, Result, Ok, Err}
 use Rattle.spl_value.specs.Script.{Script}
 use Rattle.feed_pour.specs.Contents.{Told}
 use Rattle.language_model.specs.declared.checked.Part.{Part}
@@ -17,7 +17,7 @@ use Rattle.command_line.specs.declared.request.Request.{Request}
 use Rattle.command_line.specs.declared.request.Request.TheVariants as R
 use Rattle.command_line.specs.declared.request.RunOptions.{RunOptions}
 use Rattle.command_line.specs.Request.{file_names}
-use Rattle.spl_driver.specs.Built.{is_built, is_built_now, is_plain}
+use Rattle.spl_driver.specs.Built.{is_built, is_plain}
 use Rattle.spl_driver.specs.Files.{program_of, parts_of}
 
 -- ---- what a run is given
@@ -48,7 +48,7 @@ has_fault script = is_within script && is_failed script.ending
 
 -- the outcome of a run of an accepted program, under the record with which it takes its inputs
 abbrev pub run_outcome : CheckedGraph → Told → Arrivals → RequestOutcome
-run_outcome c told arrivals = if is_built_now c then Runs c (graph_of c) (meant (graph_of c) told arrivals.lists) else NotBuilt
+run_outcome c told arrivals = Runs c (graph_of c) (meant (graph_of c) told arrivals.lists)
 
 -- the program in this file can be read, and is accepted with this graph or refused
 pub record IsFound (told : Told) (program : List ℕ) (names : List (List ℕ)) (found : Result CheckedGraph ProgramRefusal) : Type 0 where
@@ -79,8 +79,7 @@ pub data IsOutcome (told : Told) (arrivals : Arrivals) : Option Request → Requ
 
 -- ---- the operators of its program
 
--- The clauses of the operators that the request's program is run by: none where there is no program, where it can't be read, where it isn't accepted,
--- or where its graph isn't built.
+-- The clauses of the operators of the request's program: none where there is no program, where it can't be read, or where it isn't accepted.
 pub data ArePartsIn (told : Told) : Option Request → List Part → Type 0 where
   of_no_request : ArePartsIn told None []
   of_no_program : (request : Request) → program_of request ≡ None → ArePartsIn told (Some request) []

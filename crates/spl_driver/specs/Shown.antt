@@ -18,8 +18,8 @@ use Rattle.run_report.specs.declared.cause.Cause.TheVariants as C
 use Rattle.command_line.specs.declared.request.Request.{Request}
 use Rattle.check_laws.specs.Files.{is_named}
 use Rattle.spl_driver.specs.Answer.{DevicesShow, IsRecordOf, LINE, NoCountChanged, StoppedBy, counts_of, is_check, uncounted}
-use Rattle.spl_driver.specs.Built.{is_built, is_built_now}
-use Rattle.spl_driver.specs.Files.{built_parts, creates, files_of, opens, row_files}
+use Rattle.spl_driver.specs.Built.{is_built}
+use Rattle.spl_driver.specs.Files.{creates, files_of, opens, row_files}
 use Rattle.spl_driver.specs.Outcome.{IsSomeProgram, IsSomeRefusal}
 use Rattle.spl_driver.specs.declared.ended.Ended.{Ended}
 
@@ -30,16 +30,16 @@ abbrev pub IsProgramOf : Option Request → CheckedGraph → Type 0
 IsProgramOf None c = ⊥
 IsProgramOf (Some request) c = IsSomeProgram request c
 
--- the operators by which such a program is run, or none
+-- the operators of such a program, or none
 abbrev pub ArePartsOf : Option Request → List Part → Type 0
-ArePartsOf request parts = (parts ≡ []) ⊎ ((c : CheckedGraph) × IsProgramOf request c × (parts ≡ built_parts c))
+ArePartsOf request parts = (parts ≡ []) ⊎ ((c : CheckedGraph) × IsProgramOf request c × (parts ≡ c.parts))
 
--- why a request isn't carried out: its program has this refusal; its words or its program ask for what isn't built
+-- why a request isn't carried out: its program has this refusal, or its words ask for what isn't built
 abbrev pub IsReason : Cause → Option Request → Type 0
 IsReason (C.Refused refusal) None = ⊥
 IsReason (C.Refused refusal) (Some request) = IsSomeRefusal request refusal
 IsReason C.NotBuilt None = ⊥
-IsReason C.NotBuilt (Some request) = (is_built request ≡ false) ⊎ ((c : CheckedGraph) × IsSomeProgram request c × (is_built_now c ≡ false))
+IsReason C.NotBuilt (Some request) = is_built request ≡ false
 IsReason C.Done request = ⊤
 IsReason (C.Stopped fault) request = ⊤
 IsReason C.BadWords request = ⊤

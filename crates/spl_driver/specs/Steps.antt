@@ -30,7 +30,6 @@ use Rattle.source_rows.specs.Counting.{OnlyOf, OnlyRead, OnlyReads, OpeningFaile
 use Rattle.source_rows.specs.Sources.{FaultsNameSources, ReadsCounted, ReadsFail, rows_told}
 use Rattle.spl_driver.specs.Outcome.{RequestOutcome, NotBuilt, Checks, Runs, has_fault, meant, run_outcome}
 use Rattle.spl_driver.specs.Answer.{Answered, ByWords, CauseMeans, DevicesMean, DevicesShow, IsRecordOf, MayBe, NoCountChanged, IsOr, StoppedBy, cause_of, is_check}
-use Rattle.spl_driver.specs.Built.{is_built_now}
 use Rattle.spl_driver.specs.Shown.{IsReason, NothingRan, RanShown, RanTo, RunShown, Shown}
 use Rattle.spl_driver.specs.Files.{FilesOf}
 use Rattle.spl_driver.specs.Lines.{IsLine, IsToldOutcome}
@@ -171,10 +170,10 @@ MayBeOutcome _ c arrivals counts now result = ⊥
 abbrev pub IsToldAcceptedOutcome : Request → CheckedGraph → Arrivals → Option Told → PerName → PerName → RequestOutcome → Type 0
 IsToldAcceptedOutcome request c arrivals told counts now result = MayBeOutcome request c arrivals counts now result × IfSome told (λ t. IsAcceptedOutcome request c arrivals t result)
 
--- why it isn't run
+-- it isn't refused, and is built
 abbrev pub ReasonOf : Cause → CheckedGraph → Type 0
 ReasonOf (C.Refused refusal) c = ⊥
-ReasonOf C.NotBuilt c = is_built_now c ≡ false
+ReasonOf C.NotBuilt c = ⊥
 ReasonOf C.Done c = ⊤
 ReasonOf (C.Stopped fault) c = ⊤
 ReasonOf C.BadWords c = ⊤

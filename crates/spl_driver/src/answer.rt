@@ -7,7 +7,7 @@ ghost use Rattle.check_laws.specs.Files.{OwnFiles};
 ghost use Rattle.spl_driver.specs.Answer.{MayBe};
 ghost use Rattle.spl_driver.specs.Shown.{NothingRan};
 ghost use Rattle.spl_driver.specs.Built.{is_built};
-ghost use Rattle.spl_driver.specs.Files.{built_parts, files_of, program_of};
+ghost use Rattle.spl_driver.specs.Files.{files_of, program_of};
 ghost use Rattle.spl_driver.specs.Lines.{IsLine};
 ghost use Rattle.spl_driver.specs.Steps.{AnswersRequest, IsAcceptedOutcome, IsToldAcceptedOutcome, CountsShow, FilesShow, RanAccepted, ReasonOf};
 
@@ -17,7 +17,6 @@ use crate::laws::outcome_law;
 use crate::run::run;
 use command_line::{Request, file_names};
 use feed_pour::Shelf;
-use graph_run::can_run;
 use language_model::Checked;
 use run_report::{Cause, check_text, status_text};
 use spl_value::{Bytes, Items, Name, NoMemory};
@@ -66,10 +65,10 @@ fn answer_accepted<H: Shelf>(
     requires own { OwnFiles (file_names request.now) accepted.now.parts }
     ensures files { WhereTold (H.told shelf.old) (H.told shelf.new)
         (λ old new. FilesShow (IsAcceptedOutcome request.now accepted.now result.ended.arrivals old)
-        (files_of (Some request.now) (built_parts accepted.now))
+        (files_of (Some request.now) accepted.now.parts)
         result.ended (H.counts shelf.old) (H.counts shelf.new) old new) }
-    ensures counts { CountsShow result.ended.cause (built_parts accepted.now)
-        (files_of (Some request.now) (built_parts accepted.now))
+    ensures counts { CountsShow result.ended.cause accepted.now.parts
+        (files_of (Some request.now) accepted.now.parts)
         (H.counts shelf.old) (H.counts shelf.new) }
     ensures line { IfOk result.line (IsLine result.ended.cause
         (IsToldAcceptedOutcome request.now accepted.now result.ended.arrivals (H.told shelf.old)
@@ -81,13 +80,7 @@ fn answer_accepted<H: Shelf>(
 {
     match request {
         Request::Check(_) => checked(alloc, accepted),
-        Request::Run { .. } => {
-            if can_run(accepted) {
-                run(alloc, shelf, accepted)
-            } else {
-                plain(alloc, Cause::NotBuilt)
-            }
-        }
+        Request::Run { .. } => run(alloc, shelf, accepted),
         _ => plain(alloc, Cause::NotBuilt),
     }
 }

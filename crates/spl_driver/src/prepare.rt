@@ -3,7 +3,6 @@ ghost use Rattle.std.specs.Prelude.{◌≡◌, ◌<◌, ◌-◌, ◌^◌, true, 
 ghost use Rattle.feed_pour.specs.Contents.{WhereTold, TellsSame};
 ghost use Rattle.language_model.specs.Keeping.{Keeps};
 ghost use Rattle.source_rows.specs.Sources.{ReadsFail};
-ghost use Rattle.spl_driver.specs.Built.{is_built_now};
 ghost use Rattle.spl_driver.specs.Steps.{PreparedCounted, PreparedOf, run_files};
 
 use fault_laws::run_faults_law;
@@ -32,9 +31,8 @@ fn kept(checked: &Checked)
     let _parts = checked.parts.as_slice();
 }
 
-/// Reads the sources of a graph that is built, and runs it from their rows.
+/// Reads the sources of a checked graph, and runs it from their rows.
 pub fn prepare<H: Shelf>(alloc: Global, shelf: &mut H, checked: &Checked) -> Prepared
-    requires built { is_built_now checked.now ≡ true }
     ensures made { PreparedOf result checked.now (H.told shelf.old) (H.counts shelf.old)
         (H.counts shelf.new) }
     ensures told { WhereTold (H.told shelf.old) (H.told shelf.new) TellsSame }

@@ -3,7 +3,6 @@ ghost use Rattle.std.specs.Prelude.{◌≡◌, ◌<◌, ◌-◌, ◌^◌, true, 
 ghost use Rattle.feed_pour.specs.Contents.{WhereTold};
 ghost use Rattle.check_laws.specs.Files.{OwnFiles};
 ghost use Rattle.spl_driver.specs.Answer.{cause_of};
-ghost use Rattle.spl_driver.specs.Built.{is_built_now};
 ghost use Rattle.spl_driver.specs.Lines.{IsLine};
 ghost use Rattle.spl_driver.specs.Steps.{run_files, IsRunOf, RunComes, CountsShow, FilesShow, EndsAs, EndsRun, RanGraph, ReasonOf, TellsRun, counts_from};
 ghost use Rattle.run_report.specs.Texts.{status_text};
@@ -102,9 +101,8 @@ fn ended_run(
     }
 }
 
-/// Runs a checked graph that is built: reads its sources, and writes its sinks.
+/// Runs a checked graph: reads its sources, and writes its sinks.
 pub fn run<H: Shelf>(alloc: Global, shelf: &mut H, checked: &Checked) -> Answer
-    requires built { is_built_now checked.now ≡ true }
     requires own { (names : List (List ℕ)) × OwnFiles names checked.now.parts }
     ensures files { WhereTold (H.told shelf.old) (H.told shelf.new)
         (λ old new. FilesShow (IsRunOf checked.now result.ended.arrivals old) (run_files checked.now)

@@ -1,9 +1,10 @@
 //! The calls of operators by their kinds.
-ghost use Rattle.std.specs.Prelude.{◌≡◌, ◌<◌, [], IfOk, IsTrue, Option, Some, length, slice_get};
+ghost use Rattle.std.specs.Prelude.{◌≡◌, ◌<◌, ℕ, List, [], IfOk, IsTrue, Option, Some, length, slice_get};
 ghost use Rattle.spl_tree.specs.declared.code.Code.{Code};
 ghost use Rattle.spl_tree.specs.declared.code.Slot.{Slot};
 ghost use Rattle.language_model.specs.declared.checked.Part.{Part};
 ghost use Rattle.language_model.specs.declared.checked.Part.TheVariants as A;
+ghost use Rattle.language_model.specs.declared.checked.Collected.{Collected};
 ghost use Rattle.language_model.specs.declared.checked.Policy.{Policy};
 ghost use Rattle.stream_model.specs.CheckedMeaning.{graph_of};
 ghost use Rattle.stream_model.specs.Operators.{Operator};
@@ -13,6 +14,7 @@ ghost use Rattle.op_kit.specs.declared.kind.Kind.TheVariants as K;
 
 use crate::kind::Kind;
 use crate::sink::Sink;
+use aggregate_op::Aggregate;
 use custom_logic::Custom;
 use join_op::Join;
 use language_model::{Checked, Part};
@@ -32,6 +34,7 @@ impl<'c> OnPort for Kind<'c> {
       | K.Split s ↦ ⟦<Split<'c> as OnPort>⟧.spec s
       | K.Union s ↦ ⟦<Union<'c> as OnPort>⟧.spec s
       | K.Custom s ↦ ⟦<Custom<'c> as OnPort>⟧.spec s
+      | K.Aggregate s ↦ ⟦<Aggregate<'c> as OnPort>⟧.spec s.value
       | K.Join s ↦ ⟦<Join<'c> as OnPort>⟧.spec s.value
     ] };
 
@@ -43,6 +46,7 @@ impl<'c> OnPort for Kind<'c> {
       | K.Split s ↦ ⟦<Split<'c> as OnPort>⟧.stands s h
       | K.Union s ↦ ⟦<Union<'c> as OnPort>⟧.stands s h
       | K.Custom s ↦ ⟦<Custom<'c> as OnPort>⟧.stands s h
+      | K.Aggregate s ↦ ⟦<Aggregate<'c> as OnPort>⟧.stands s.value h
       | K.Join s ↦ ⟦<Join<'c> as OnPort>⟧.stands s.value h
     ] };
 
@@ -55,6 +59,7 @@ impl<'c> OnPort for Kind<'c> {
             Kind::Split(split) => split.on_port(port, item),
             Kind::Union(union) => union.on_port(port, item),
             Kind::Custom(custom) => custom.on_port(port, item),
+            Kind::Aggregate(aggregate) => aggregate.on_port(port, item),
             Kind::Join(join) => join.on_port(port, item),
         }
     }
@@ -70,6 +75,22 @@ fn join_of<'c>(alloc: Global, checked: &'c Checked, op: u32) -> Result<Box<Join<
 {
     let join = Join::new(alloc, checked, op)?;
     Ok(Box::new(alloc, join)?)
+}
+
+/// The Aggregate with this number, in a box. There is one.
+fn aggregate_of<'c>(
+    alloc: Global,
+    checked: &'c Checked,
+    op: u32,
+) -> Result<Box<Aggregate<'c>>, NoMemory>
+    requires there { op < length checked.now.graph.ops }
+    requires kind { (window : Policy) × (partition group : List ℕ) × (output : List Collected)
+        × (slice_get checked.now.parts op ≡ Some (A.Aggregate window partition group output)) }
+    ensures is { IfOk result (λ aggregate. slice_get (graph_of checked.now).ops op ≡ Some (⟦<Aggregate<'c> as OnPort>⟧.spec aggregate.value)) }
+    ensures begins { IfOk result (λ aggregate. ⟦<Aggregate<'c> as OnPort>⟧.stands aggregate.value []) }
+{
+    let aggregate = Aggregate::new(alloc, checked, op)?;
+    Ok(Box::new(alloc, aggregate)?)
 }
 
 impl<'c> Kind<'c> {
@@ -91,8 +112,9 @@ impl<'c> Kind<'c> {
             Part::Split { .. } => Ok(Kind::Split(Split::new(alloc, checked, op)?)),
             Part::Union { .. } => Ok(Kind::Union(Union::new(alloc, checked, op)?)),
             Part::Custom { .. } => Ok(Kind::Custom(Custom::new(alloc, checked, op)?)),
+            Part::Aggregate { .. } => Ok(Kind::Aggregate(aggregate_of(alloc, checked, op)?)),
             Part::Join { .. } => Ok(Kind::Join(join_of(alloc, checked, op)?)),
-            _ => unreachable!(),
+            Part::FileSource { .. } => unreachable!(),
         }
     }
 }

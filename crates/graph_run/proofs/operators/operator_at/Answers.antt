@@ -7,5 +7,5 @@ new-requires c =
     let has : slice_get c.args.checked.now.parts c.args.number ≡ Some c.in-Some.part.now = search rules in
     record {
       there = c.requires.there;
-      kind = is_there c.args.checked.now c.args.number c.in-Some.part.now c.requires.kinds has c.in_default-part.not-FileSource;
+      kind = is_there c.args.checked.now c.args.number c.in-Some.part.now has c.in_default-part.not-FileSource;
     }

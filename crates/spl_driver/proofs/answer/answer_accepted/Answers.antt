@@ -2,8 +2,8 @@ use Rattle.std.proofs.Common.{sym, subst, ◌∙◌}
 use Rattle.run_report.specs.declared.cause.Cause.{Cause}
 use Rattle.run_report.specs.declared.cause.Cause.TheVariants as C
 use Rattle.spl_driver.specs.Steps.{ReasonOf}
-use Rattle.spl_driver.proofs.Showing.{at_plain, check_ran, graph_ran}
-use Rattle.spl_driver.proofs.Carrying.{checked_counts, checked_files, checked_line, ran_files, ran_counts, ran_line, unbuilt_counts, unbuilt_files}
+use Rattle.spl_driver.proofs.Showing.{check_ran, graph_ran}
+use Rattle.spl_driver.proofs.Carrying.{checked_counts, checked_files, checked_line, ran_files, ran_counts, ran_line}
 use Rattle.spl_driver.proofs.answer.answer_accepted.Goals as goal
 
 pub returns-in-Check-clause-files : goal.returns-in-Check-clause-files
@@ -16,27 +16,19 @@ pub returns-in-Check-clause-line : goal.returns-in-Check-clause-line
 returns-in-Check-clause-line g c =
     checked_line _ c.args.request.now c.in-Check.field-0 c.args.accepted.now c.checked.result.ended c.checked.result.line _ _ c.in-Check.is c.checked.ensures.cause c.checked.ensures.line
 
-pub returns-then-can_run-clause-files : goal.returns-then-can_run-clause-files
-returns-then-can_run-clause-files g c =
+pub returns-in-Run-clause-files : goal.returns-in-Run-clause-files
+returns-in-Run-clause-files g c =
     ran_files _ _ c.args.request.now c.in-Run.program c.in-Run.options c.args.accepted.now c.run.result.ended _ _ c.in-Run.is c.requires.built
-    (sym c.can_run.ensures ∙ c.if-can_run.true) c.run.ensures.files
+    c.run.ensures.files
 
-pub returns-then-can_run-clause-counts : goal.returns-then-can_run-clause-counts
-returns-then-can_run-clause-counts g c =
+pub returns-in-Run-clause-counts : goal.returns-in-Run-clause-counts
+returns-in-Run-clause-counts g c =
     ran_counts c.args.request.now c.in-Run.program c.in-Run.options c.args.accepted.now c.run.result.ended.cause _ _ c.in-Run.is c.requires.built
-    (sym c.can_run.ensures ∙ c.if-can_run.true) c.run.ensures.counts
+    c.run.ensures.counts
 
-pub returns-then-can_run-clause-line : goal.returns-then-can_run-clause-line
-returns-then-can_run-clause-line g c =
+pub returns-in-Run-clause-line : goal.returns-in-Run-clause-line
+returns-in-Run-clause-line g c =
     ran_line _ c.args.request.now c.in-Run.program c.in-Run.options c.args.accepted.now c.run.result.ended c.run.result.line _ _ c.in-Run.is c.run.ensures.line
-
-pub returns-else-can_run-clause-counts : goal.returns-else-can_run-clause-counts
-returns-else-can_run-clause-counts g c = unbuilt_counts c.plain.result.ended.cause _ _ _ c.plain.ensures.cause
-
-pub returns-else-can_run-clause-files : goal.returns-else-can_run-clause-files
-returns-else-can_run-clause-files g c =
-    unbuilt_files _ c.args.request.now c.in-Run.program c.in-Run.options c.args.accepted.now c.plain.result.ended _ c.in-Run.is
-    (sym c.can_run.ensures ∙ c.if-can_run.false) c.plain.ensures.cause
 
 pub returns-in-Check-clause-ran : goal.returns-in-Check-clause-ran
 returns-in-Check-clause-ran g c = check_ran c.checked.result.ended.cause c.args.request.now c.in-Check.field-0 c.args.accepted.now c.checked.result.ended _ _ c.in-Check.is c.checked.ensures.cause c.checked.ensures.ran
@@ -44,13 +36,5 @@ returns-in-Check-clause-ran g c = check_ran c.checked.result.ended.cause c.args.
 pub returns-in-Check-clause-reason : goal.returns-in-Check-clause-reason
 returns-in-Check-clause-reason g c = subst (λ (k : Cause). ReasonOf k c.args.accepted.now) (sym c.checked.ensures.cause) tt
 
-pub returns-then-can_run-clause-ran : goal.returns-then-can_run-clause-ran
-returns-then-can_run-clause-ran g c = graph_ran c.run.result.ended.cause c.args.request.now c.in-Run.program c.in-Run.options c.args.accepted.now c.run.result.ended _ _ c.in-Run.is c.run.ensures.ran
-
-pub returns-else-can_run-clause-ran : goal.returns-else-can_run-clause-ran
-returns-else-can_run-clause-ran g c =
-    at_plain c.plain.result.ended.cause C.NotBuilt _ _ c.plain.result.ended _ _ c.plain.ensures.cause tt c.plain.ensures.ran
-
-pub returns-else-can_run-clause-reason : goal.returns-else-can_run-clause-reason
-returns-else-can_run-clause-reason g c =
-    subst (λ (k : Cause). ReasonOf k c.args.accepted.now) (sym c.plain.ensures.cause) (sym c.can_run.ensures ∙ c.if-can_run.false)
+pub returns-in-Run-clause-ran : goal.returns-in-Run-clause-ran
+returns-in-Run-clause-ran g c = graph_ran c.run.result.ended.cause c.args.request.now c.in-Run.program c.in-Run.options c.args.accepted.now c.run.result.ended _ _ c.in-Run.is c.run.ensures.ran
