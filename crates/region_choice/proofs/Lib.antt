@@ -1,0 +1,11 @@
+pub mod ChainPlans
+pub mod Counts
+pub mod Choosing
+pub mod OnePlan
+pub mod Counting
+pub mod KeyLaws
+pub mod Links
+pub mod Soundness
+pub mod Plans
+pub mod Growth
+pub mod Placing
