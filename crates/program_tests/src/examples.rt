@@ -256,6 +256,48 @@ composite Main {
 }
 "#;
 
+/// Readings of which the means are wanted.
+pub(crate) const AVERAGES: &str =
+    r#"// The mean of the readings of each thermometer, ten by ten, in tenths of a degree.
+
+type Reading = int64 second, rstring sensor, int32 tenths;
+
+composite Main {
+  graph
+    stream<Reading> All = FileSource() { param file: "readings.csv"; format: csv; }
+    stream<All> Measured = Filter(All) { param filter: tenths >= -400 && tenths <= 1250; }
+    // Each sensor has a window of its own, which is emptied once it holds ten readings.
+    stream<rstring sensor, int64 second, int64 sum, int32 number> Sums = Aggregate(Measured) {
+      window Measured: tumbling, count(10), partitioned;
+      param partitionBy: sensor;
+      output Sums: sensor = Any(sensor), second = Last(second), sum = Sum((int64)tenths), number = Count();
+    }
+    stream<rstring sensor, int64 second, int32 mean> Means = Functor(Sums) {
+      output Means: mean = (int32)(sum / (int64)number); // cut off toward zero
+    }
+    () as MeansOut = FileSink(Means) { param file: "means.csv"; format: csv; }
+}
+"#;
+
+/// Trades with the highest and lowest prices of late.
+pub(crate) const HIGHEST: &str =
+    r#"// With each trade the highest and the lowest price, in cents, among the last ten trades of its symbol.
+
+type Trade = int64 second, rstring symbol, int64 cents;
+
+composite Main {
+  graph
+    stream<Trade> Trades = FileSource() { param file: "trades.csv"; format: csv; }
+    // What isn't assigned is the newest trade's.
+    stream<int64 second, rstring symbol, int64 cents, int64 highest, int64 lowest> Range = Aggregate(Trades) {
+      window Trades: sliding, count(10), count(1), partitioned;
+      param partitionBy: symbol;
+      output Range: highest = Max(cents), lowest = Min(cents);
+    }
+    () as RangeOut = FileSink(Range) { param file: "range.csv"; format: csv; }
+}
+"#;
+
 /// Readings of which one is no number.
 pub(crate) const BAD_ROW: &str =
     r#"// Readings of a thermometer, one of which isn't a number: parsing is strict where nothing else is said, so
@@ -322,6 +364,12 @@ pub(crate) const EXAMPLES: &str = r#"
 # logs
 @logs | $ check p.spl => 0 ok 11 operators 7 streams␊
 @logs | access.log: 10.0.0.4 - ben [04/May/2026:08:00:00 +0000] "GET /search?q=tea HTTP/1.1" 200 3724␊10.0.0.5 - - [04/May/2026:08:00:02 +0000] "GET /img HTTP/1.1" 404 -␊10.0.0.6 - - [04/May/2026:08:00:03 +0000] "\x16\x03\x01" 400 226␊10.0.0.7 - - [04/May/2026:08:00:04 +0000] "GET /search HTTP/1.1" 503 100000␊ => 0; large.csv 10.0.0.7,04/May/2026:08:00:04,GET,/search,503,100000␊; others.csv "10.0.0.6 - - [04/May/2026:08:00:03 +0000] ""\x16\x03\x01"" 400 226"␊; refused.csv 10.0.0.5,04/May/2026:08:00:02,GET,/img,404,0␊; failed.csv 10.0.0.7,04/May/2026:08:00:04,GET,/search,503,100000␊; paths.csv /img,1,0,0␊/search,2,1,103724␊; counts 6:1 7:1 8:1 9:1 10:2
+# averages: one sensor has ten readings that are measured, another nine
+@averages | $ check p.spl => 0 ok 5 operators 4 streams␊
+@averages | readings.csv: 1,a,-7␊2,b,9999␊3,a,8␊4,a,9␊5,a,9␊6,b,1␊7,a,9␊8,a,9␊9,a,9␊10,a,9␊11,a,9␊12,a,1251␊13,a,15␊14,a,1␊ => 0; means.csv a,13,7␊; counts 4:1
+# highest: the first price leaves with the eleventh
+@highest | $ check p.spl => 0 ok 3 operators 2 streams␊
+@highest | trades.csv: 1,A,90␊2,A,10␊3,B,7␊4,A,20␊5,A,20␊6,A,20␊7,A,20␊8,A,20␊9,A,20␊10,A,20␊11,A,20␊12,A,30␊13,A,25␊ => 0; range.csv 1,A,90,90,90␊2,A,10,90,10␊3,B,7,7,7␊4,A,20,90,10␊5,A,20,90,10␊6,A,20,90,10␊7,A,20,90,10␊8,A,20,90,10␊9,A,20,90,10␊10,A,20,90,10␊11,A,20,90,10␊12,A,30,30,10␊13,A,25,30,20␊; counts 2:13
 # bad-row
 @bad_row | $ check p.spl => 0 ok 3 operators 2 streams␊
 @bad_row | readings.csv: 1000,attic,212␊1005,cellar,121␊1010,attic,219␊1015,attic,198␊1020,cellar,n/a␊1025,attic,230␊ => 3 stopped Readings BadRow line 5␊; warm.csv 1000,attic,212␊1010,attic,219␊; counts 2:2
