@@ -5,6 +5,7 @@ ghost use Rattle.stream_model.specs.Meaning.{Graph};
 ghost use Rattle.attribute_flow.specs.Chains.{AreNumbers};
 ghost use Rattle.analysis_tests.specs.Below.{AreBelow};
 
+use crate::plans::plan_text;
 use crate::shells::SHELLS;
 use attribute_flow::{source_of, trace};
 use clause_rules::check;
@@ -28,6 +29,8 @@ pub(crate) enum Asked {
     Operator,
     /// The sources along the chain of its operators but the first: `0 -`.
     Chain,
+    /// Its regions: `turns -: F; pulses k: A`.
+    Plan,
 }
 
 impl Answers for Asked {
@@ -133,6 +136,7 @@ fn shown(alloc: Global, checked: &Checked, asked: Asked) -> Result<String, Alloc
             let chain = numbers_below(alloc, count)?;
             chain_text(alloc, checked, &chain, width_of(checked, last))
         }
+        Asked::Plan => plan_text(alloc, checked),
     }
 }
 

@@ -1,9 +1,11 @@
-//! What operators keep, copy and cause by their clauses, against answers that were worked out by hand from
-//! the rules.
+//! What operators keep, copy and cause by their clauses, and the regions that they come to, against answers
+//! that were worked out by hand from the rules.
 #![tactic(auto)]
 
 #[cfg(test)]
 mod answer;
+#[cfg(test)]
+mod plans;
 #[cfg(test)]
 mod shells;
 #[cfg(test)]
