@@ -1,2 +1,4 @@
 pub mod Refusals
 pub mod Texts
+pub mod PlanTexts
+pub mod CountTexts

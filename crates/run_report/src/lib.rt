@@ -1,12 +1,16 @@
-//! What the program reports: why it ended, and the line that tells it.
+//! What the program reports: why it ended, and the line that tells it; plans, and what runs counted.
 #![tactic(auto)]
 
 mod cause;
 mod check;
+mod count_lines;
+mod plan_lines;
 mod refusal;
 mod status;
 
 pub use cause::Cause;
 pub use check::check_text;
+pub use count_lines::counts_text;
+pub use plan_lines::plan_text;
 pub use refusal::{Code, ExpansionError, Refusal};
 pub use status::status_text;

@@ -176,7 +176,7 @@ fn has_line(kind: FaultKind) -> bool
 }
 
 // The name of the operator with that number. Where there is none, it is empty.
-fn operator(checked: Option<&Checked>, number: u32) -> &[u8]
+pub(crate) fn operator(checked: Option<&Checked>, number: u32) -> &[u8]
     ensures { result.now ≡ operator_name (option_copied checked.entry) number }
 {
     let Some(checked) = checked else {
