@@ -2,3 +2,4 @@ pub mod Refusals
 pub mod Texts
 pub mod PlanTexts
 pub mod CountTexts
+pub mod examples

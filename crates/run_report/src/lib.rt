@@ -4,6 +4,7 @@
 mod cause;
 mod check;
 mod count_lines;
+mod examples;
 mod plan_lines;
 mod refusal;
 mod status;
@@ -11,6 +12,7 @@ mod status;
 pub use cause::Cause;
 pub use check::check_text;
 pub use count_lines::counts_text;
+pub use examples::{count_texts_on_literals, plan_texts_on_literals};
 pub use plan_lines::plan_text;
 pub use refusal::{Code, ExpansionError, Refusal};
 pub use status::status_text;

@@ -1,0 +1,2 @@
+pub mod SomePlans
+pub mod SomeCounts
