@@ -1,5 +1,6 @@
 pub mod Refusals
 pub mod Texts
 pub mod PlanTexts
+pub mod PlanTextLaws
 pub mod CountTexts
 pub mod examples
