@@ -13,3 +13,7 @@ returns-clause-two_regions c = refl
 pub returns-clause-no_channel : goal.returns-clause-no_channel
 unfolding digits
 returns-clause-no_channel c = refl
+
+pub returns-clause-not_there : goal.returns-clause-not_there
+unfolding digits
+returns-clause-not_there c = refl

@@ -17,3 +17,7 @@ returns-clause-two_regions c = refl
 pub returns-clause-apart : goal.returns-clause-apart
 unfolding digits
 returns-clause-apart c = refl
+
+pub returns-clause-not_there : goal.returns-clause-not_there
+unfolding digits
+returns-clause-not_there c = refl
