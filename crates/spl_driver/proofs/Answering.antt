@@ -1,4 +1,4 @@
--- What the answer of a request means once its line is told.
+-- What the answer of a request means once its text is told.
 use Rattle.std.proofs.Common.{◌≡◌, ◌∙◌, ℕ, Bool, true, false, List, [], ◌∷◌, ◌++◌, length, length-append, arith, refl, sym, ap, subst, inl, inr, ◌⊎◌, Option, Some, None}
 use Rattle.std.specs.Prelude.{IfSome}
 use Rattle.std.proofs.Math.Seq.{take-length}
@@ -14,16 +14,16 @@ use Rattle.run_report.specs.declared.cause.Cause.TheVariants as C
 use Rattle.run_report.specs.declared.refusal.Refusal.{Refusal}
 use Rattle.stream_model.specs.Operators.{Operator}
 use Rattle.command_line.specs.declared.request.Request.{Request}
-use Rattle.spl_driver.specs.Outcome.{RequestOutcome, NoRequest, Unreadable, Refused, NotBuilt, Checks, Runs, IsOutcome, ArePartsIn, of_unreadable}
+use Rattle.spl_driver.specs.Outcome.{RequestOutcome, NoRequest, Unreadable, Refused, NotBuilt, Reports, Runs, IsOutcome, ArePartsIn, of_unreadable}
 use Rattle.std.specs.Prelude.{◌||◌}
 use Rattle.std.specs.Str.{bytes_eq}
 use Rattle.check_laws.specs.Files.{is_named}
 use Rattle.command_line.specs.declared.request.Request.TheVariants as R
 use Rattle.spl_driver.specs.Built.{is_built}
-use Rattle.spl_driver.specs.Files.{FilesOf, creates, files_of, opens, program_of, row_files, whole_files}
-use Rattle.spl_driver.specs.Answer.{AtSink, EachSink, HoldsText, HoldsPrefix, sink_text, CarriedOut, RunsTo, ChecksTo, SameFiles, Begun, CauseMeans, CreatingFailed, DeviceFailed, opening, reading, creating, writing, DevicesMean, ReadingAnswered, ReadingFailed, WritingFailed, WroteOthers, StoppedBy, WholeReads, Answered, IsOr, IsRun, IsUnread, IsAnswer, IsComplete, Untouched, ByWords, MayBe, cause_of}
-use Rattle.source_rows.specs.Counting.{OnlyRead, OnlyReads, OpeningFailed}
-use Rattle.spl_driver.specs.Lines.{ToldAs}
+use Rattle.spl_driver.specs.Files.{FilesOf, creates, files_of, opens, program_of, whole_files}
+use Rattle.spl_driver.specs.Answer.{AtSink, EachSink, HoldsText, HoldsPrefix, sink_text, CarriedOut, RunsTo, ReportsTo, Begun, CauseMeans, CreatingFailed, DeviceFailed, opening, reading, creating, writing, DevicesMean, ReadingFailed, WritingFailed, WroteOthers, StoppedBy, WholeReads, Answered, IsOr, IsRun, IsUnread, IsAnswer, IsComplete, Untouched, ByWords, MayBe, cause_of}
+use Rattle.source_rows.specs.Counting.{OnlyReads, OpeningFailed}
+use Rattle.spl_driver.specs.Texts.{ToldAs}
 use Rattle.spl_driver.specs.RequestLaws.{OneOutcomeLaw}
 use Rattle.spl_driver.specs.declared.ended.Ended.{Ended}
 use Rattle.spl_driver.proofs.Carrying.{creates_sinks}
@@ -81,7 +81,7 @@ weaker_run fault Is ended result t u one (c, g, m, is, e, run) comes =
 
 -- after each answer a sink was not created or holds a prefix of its text
 weaker : (k : Cause) (Is : RequestOutcome → Type 0) (ended : Ended) (t u : Told) → IsOne Is → CauseMeans k Is ended t u → (result : RequestOutcome) → Is result → Begun result t u
-weaker C.Done Is ended t u one (inl (c, is, same, none)) result comes = begun_same result t u same
+weaker C.Done Is ended t u one (inl (report, c, is, same, none)) result comes = begun_same result t u same
 weaker C.Done Is ended t u one (inr run) result comes = weaker_run None Is ended result t u one run comes
 weaker (C.Stopped fault) Is ended t u one run result comes = weaker_run (Some fault) Is ended result t u one run comes
 weaker C.BadWords Is ended t u one (is, same) result comes = begun_same result t u same
@@ -92,16 +92,16 @@ weaker (C.ReadFailed name) Is ended t u one h result comes = begun_same result t
 weaker (C.WriteFailed name) Is ended t u one h result comes = h result comes
 weaker C.NoMemory Is ended t u one h result comes = h result comes
 
--- ---- once the line is told
+-- ---- once the text is told
 
-means_said : (Is : RequestOutcome → Type 0) (ended : Ended) (r : Cause) (status : ℕ) (Line : Type 0) (t u : Told) → IsOne Is → ToldAs ended.cause r Line
+means_said : (Is : RequestOutcome → Type 0) (ended : Ended) (r : Cause) (status : ℕ) (Text : Type 0) (t u : Told) → IsOne Is → ToldAs ended.cause r Text
     → CauseMeans ended.cause Is ended t u → CauseMeans r Is (with_cause ended r status) t u
-means_said Is ended r status Line t u one (inl e) h = subst (λ (c : Cause). CauseMeans c Is (with_cause ended r status) t u) (sym e) (means_same ended.cause Is ended r status t u h)
-means_said Is ended r status Line t u one (inr (inl e)) h = subst (λ (c : Cause). CauseMeans c Is (with_cause ended r status) t u) (sym e) (weaker ended.cause Is ended t u one h)
-means_said Is ended r status Line t u one (inr (inr (e, run, line))) h = subst (λ (c : Cause). CauseMeans c Is (with_cause ended r status) t u) (sym e) (weaker ended.cause Is ended t u one h)
+means_said Is ended r status Text t u one (inl e) h = subst (λ (c : Cause). CauseMeans c Is (with_cause ended r status) t u) (sym e) (means_same ended.cause Is ended r status t u h)
+means_said Is ended r status Text t u one (inr (inl e)) h = subst (λ (c : Cause). CauseMeans c Is (with_cause ended r status) t u) (sym e) (weaker ended.cause Is ended t u one h)
+means_said Is ended r status Text t u one (inr (inr (e, run, text))) h = subst (λ (c : Cause). CauseMeans c Is (with_cause ended r status) t u) (sym e) (weaker ended.cause Is ended t u one h)
 
 untold_run : (fault : Option Fault) (Is : RequestOutcome → Type 0) (ended : Ended) (r : Cause) (status : ℕ) (t u : Told) → CauseMeans (cause_of fault) Is ended t u
-    → ChecksTo Is (with_cause ended r status) t u ⊎ ((fault : Option Fault) × RunsTo fault Is (with_cause ended r status) u)
+    → ReportsTo Is (with_cause ended r status) t u ⊎ ((fault : Option Fault) × RunsTo fault Is (with_cause ended r status) u)
 untold_run None Is ended r status t u (inl h) = inl h
 untold_run None Is ended r status t u (inr h) = inr (None, runs_same None Is ended r status u h)
 untold_run (Some fault) Is ended r status t u h = inr (Some fault, runs_same (Some fault) Is ended r status u h)
@@ -109,35 +109,35 @@ untold_run (Some fault) Is ended r status t u h = inr (Some fault, runs_same (So
 others_same : (Is : RequestOutcome → Type 0) (counts now : PerName) (ended : Ended) (r : Cause) (status : ℕ) (u : Told) → WroteOthers Is counts now ended u → WroteOthers Is counts now (with_cause ended r status) u
 others_same Is counts now ended r status u h = record { checked = h.checked; graph = h.graph; meaning = h.meaning; comes = h.comes; texts = h.texts; recorded = h.recorded }
 
--- what is known of devices before the line is told
-devices_same : (k : Cause) (files : FilesOf) (counts later : PerName) (Line : Type 0) (Is : RequestOutcome → Type 0) (ended : Ended) (r : Cause) (status : ℕ) (t u : Told)
-    → DevicesMean k files counts later ⊥ Is ended t u → DevicesMean k files counts later Line Is (with_cause ended r status) t u
-devices_same C.Done files counts later Line Is ended r status t u h = h
-devices_same (C.Stopped fault) files counts later Line Is ended r status t u h = h
-devices_same C.NotBuilt files counts later Line Is ended r status t u h = h
-devices_same C.BadWords files counts later Line Is ended r status t u h = h
-devices_same (C.Refused refusal) files counts later Line Is ended r status t u h = h
-devices_same (C.OpenFailed name) files counts later Line Is ended r status t u h = h
-devices_same (C.ReadFailed name) files counts later Line Is ended r status t u h = h
-devices_same (C.WriteFailed name) files counts later Line Is ended r status t u (inl h) = inl (h.0, others_same Is counts later ended r status u h.1)
-devices_same (C.WriteFailed name) files counts later Line Is ended r status t u (inr h) = absurd h.failed
-devices_same C.NoMemory files counts later Line Is ended r status t u h = h
+-- what is known of devices before the text is told
+devices_same : (k : Cause) (files : FilesOf) (counts later : PerName) (Text : Type 0) (Is : RequestOutcome → Type 0) (ended : Ended) (r : Cause) (status : ℕ) (t u : Told)
+    → DevicesMean k files counts later ⊥ Is ended t u → DevicesMean k files counts later Text Is (with_cause ended r status) t u
+devices_same C.Done files counts later Text Is ended r status t u h = h
+devices_same (C.Stopped fault) files counts later Text Is ended r status t u h = h
+devices_same C.NotBuilt files counts later Text Is ended r status t u h = h
+devices_same C.BadWords files counts later Text Is ended r status t u h = h
+devices_same (C.Refused refusal) files counts later Text Is ended r status t u h = h
+devices_same (C.OpenFailed name) files counts later Text Is ended r status t u h = h
+devices_same (C.ReadFailed name) files counts later Text Is ended r status t u h = h
+devices_same (C.WriteFailed name) files counts later Text Is ended r status t u (inl h) = inl (h.0, others_same Is counts later ended r status u h.1)
+devices_same (C.WriteFailed name) files counts later Text Is ended r status t u (inr h) = absurd h.failed
+devices_same C.NoMemory files counts later Text Is ended r status t u h = h
 
 devices_run : (fault : Option Fault) (files : FilesOf) (counts later : PerName) (Is : RequestOutcome → Type 0) (ended : Ended) (t u : Told) → DevicesMean (cause_of fault) files counts later ⊥ Is ended t u
     → OnlyReads files.rows counts later
 devices_run None files counts later Is ended t u h = h
 devices_run (Some fault) files counts later Is ended t u h = h
 
-devices_said : (files : FilesOf) (counts later : PerName) (Line : Type 0) (Is : RequestOutcome → Type 0) (ended : Ended) (r : Cause) (status : ℕ) (t u : Told) → ToldAs ended.cause r Line
-    → CauseMeans ended.cause Is ended t u → DevicesMean ended.cause files counts later ⊥ Is ended t u → DevicesMean r files counts later Line Is (with_cause ended r status) t u
-devices_said files counts later Line Is ended r status t u (inl e) means h =
-    subst (λ (k : Cause). DevicesMean k files counts later Line Is (with_cause ended r status) t u) (sym e) (devices_same ended.cause files counts later Line Is ended r status t u h)
-devices_said files counts later Line Is ended r status t u (inr (inl e)) means h =
-    subst (λ (k : Cause). DevicesMean k files counts later Line Is (with_cause ended r status) t u) (sym e) tt
-devices_said files counts later Line Is ended r status t u (inr (inr (e, (fault, run), line))) means h =
-    subst (λ (k : Cause). DevicesMean k files counts later Line Is (with_cause ended r status) t u) (sym e) (inr (record {
-      line = refl;
-      failed = line;
+devices_said : (files : FilesOf) (counts later : PerName) (Text : Type 0) (Is : RequestOutcome → Type 0) (ended : Ended) (r : Cause) (status : ℕ) (t u : Told) → ToldAs ended.cause r Text
+    → CauseMeans ended.cause Is ended t u → DevicesMean ended.cause files counts later ⊥ Is ended t u → DevicesMean r files counts later Text Is (with_cause ended r status) t u
+devices_said files counts later Text Is ended r status t u (inl e) means h =
+    subst (λ (k : Cause). DevicesMean k files counts later Text Is (with_cause ended r status) t u) (sym e) (devices_same ended.cause files counts later Text Is ended r status t u h)
+devices_said files counts later Text Is ended r status t u (inr (inl e)) means h =
+    subst (λ (k : Cause). DevicesMean k files counts later Text Is (with_cause ended r status) t u) (sym e) tt
+devices_said files counts later Text Is ended r status t u (inr (inr (e, (fault, run), text))) means h =
+    subst (λ (k : Cause). DevicesMean k files counts later Text Is (with_cause ended r status) t u) (sym e) (inr (record {
+      named = refl;
+      failed = text;
       counted = devices_run fault files counts later Is ended t u (subst (λ (c : Cause). DevicesMean c files counts later ⊥ Is ended t u) run h);
       ran = untold_run fault Is ended r status t u (subst (λ (c : Cause). CauseMeans c Is ended t u) run means);
     }))
@@ -149,15 +149,15 @@ whole_run None n (inr e) = cc
 whole_run (Some fault) n (inl e) = cc
 whole_run (Some fault) n (inr e) = cc
 
-stopped_said : (c r : Cause) (parts : List Part) (counts later : PerName) (Line : Type 0) → ToldAs c r Line → StoppedBy c parts counts later → StoppedBy r parts counts later
-stopped_said c r parts counts later Line (inl e) h = subst (λ (k : Cause). StoppedBy k parts counts later) (sym e) h
-stopped_said c r parts counts later Line (inr (inl e)) h = subst (λ (k : Cause). StoppedBy k parts counts later) (sym e) tt
-stopped_said c r parts counts later Line (inr (inr (e, run, line))) h = subst (λ (k : Cause). StoppedBy k parts counts later) (sym e) tt
+stopped_said : (c r : Cause) (parts : List Part) (counts later : PerName) (Text : Type 0) → ToldAs c r Text → StoppedBy c parts counts later → StoppedBy r parts counts later
+stopped_said c r parts counts later Text (inl e) h = subst (λ (k : Cause). StoppedBy k parts counts later) (sym e) h
+stopped_said c r parts counts later Text (inr (inl e)) h = subst (λ (k : Cause). StoppedBy k parts counts later) (sym e) tt
+stopped_said c r parts counts later Text (inr (inr (e, run, text))) h = subst (λ (k : Cause). StoppedBy k parts counts later) (sym e) tt
 
-whole_said : (c r : Cause) (files : FilesOf) (counts later : PerName) (t : Told) (Line : Type 0) → ToldAs c r Line → WholeReads c files counts later t → WholeReads r files counts later t
-whole_said c r files counts later t Line (inl e) h = subst (λ (k : Cause). WholeReads k files counts later t) (sym e) h
-whole_said c r files counts later t Line (inr (inl e)) h = λ n named differs. record { fails = (h n named differs).fails; answer = inr e }
-whole_said c r files counts later t Line (inr (inr (e, (fault, run), line))) h =
+whole_said : (c r : Cause) (files : FilesOf) (counts later : PerName) (t : Told) (Text : Type 0) → ToldAs c r Text → WholeReads c files counts later t → WholeReads r files counts later t
+whole_said c r files counts later t Text (inl e) h = subst (λ (k : Cause). WholeReads k files counts later t) (sym e) h
+whole_said c r files counts later t Text (inr (inl e)) h = λ n named differs. record { fails = (h n named differs).fails; answer = inr e }
+whole_said c r files counts later t Text (inr (inr (e, (fault, run), text))) h =
     λ n named differs. absurd (whole_run fault n (subst (λ (k : Cause). (k ≡ C.ReadFailed n) ⊎ (k ≡ C.NoMemory)) run (h n named differs).answer))
 
 -- ---- where no device failed
@@ -181,7 +181,7 @@ failed_reading files name counts later h = reading name h.whole h.rose
 failed_writing : (files : FilesOf) (name : List ℕ) (counts later : PerName) → WritingFailed files name counts later → DeviceFailed files counts later
 failed_writing files name counts later h = writing name (split_named h.before h.behind name files.created h.order) h.rose
 
--- a cause that names a file, before the line is told
+-- a cause that names a file, before the text is told
 abbrev NamesFile : Cause → Type 0
 NamesFile (C.OpenFailed name) = Unit {0}
 NamesFile (C.ReadFailed name) = Unit {0}
@@ -202,17 +202,17 @@ device_failed C.BadWords files counts later Is ended t u is h = absurd is
 device_failed (C.Refused refusal) files counts later Is ended t u is h = absurd is
 device_failed C.NoMemory files counts later Is ended t u is h = absurd is
 
-pub answered_said : OneOutcomeLaw → (told now : Option Told) (request : Option Request) (ended : Ended) (r : Cause) (status : ℕ) (counts later : PerName) (Line : Type 0) → ToldAs ended.cause r Line
-    → WhereTold told now (Answered request ended counts later ⊥) → WhereTold told now (Answered request (with_cause ended r status) counts later Line)
-answered_said law None now request ended r status counts later Line e h = tt
-answered_said law (Some t) None request ended r status counts later Line e h = h
-answered_said law (Some t) (Some u) request ended r status counts later Line e h = record {
-  means = means_said (IsOutcome t ended.arrivals request) ended r status Line t u (law request t ended.arrivals) e h.means;
+pub answered_said : OneOutcomeLaw → (told now : Option Told) (request : Option Request) (ended : Ended) (r : Cause) (status : ℕ) (counts later : PerName) (Text : Type 0) → ToldAs ended.cause r Text
+    → WhereTold told now (Answered request ended counts later ⊥) → WhereTold told now (Answered request (with_cause ended r status) counts later Text)
+answered_said law None now request ended r status counts later Text e h = tt
+answered_said law (Some t) None request ended r status counts later Text e h = h
+answered_said law (Some t) (Some u) request ended r status counts later Text e h = record {
+  means = means_said (IsOutcome t ended.arrivals request) ended r status Text t u (law request t ended.arrivals) e h.means;
   others = h.others;
   counted = h.counted;
-  device = λ parts are. devices_said (files_of request parts) counts later Line (IsOutcome t ended.arrivals request) ended r status t u e h.means (h.device parts are);
-  stopped = λ parts are. stopped_said ended.cause r parts counts later Line e (h.stopped parts are);
-  whole = λ parts are. whole_said ended.cause r (files_of request parts) counts later t Line e (h.whole parts are);
+  device = λ parts are. devices_said (files_of request parts) counts later Text (IsOutcome t ended.arrivals request) ended r status t u e h.means (h.device parts are);
+  stopped = λ parts are. stopped_said ended.cause r parts counts later Text e (h.stopped parts are);
+  whole = λ parts are. whole_said ended.cause r (files_of request parts) counts later t Text e (h.whole parts are);
   reads = h.reads;
 }
 
@@ -221,14 +221,14 @@ or_not_run expected c other (inl e) (fault, is) = other fault (sym e ∙ is)
 or_not_run expected c other (inr e) (None, is) = let h : C.NoMemory ≡ C.Done = sym e ∙ is in cc
 or_not_run expected c other (inr e) (Some fault, is) = let h : C.NoMemory ≡ C.Stopped fault = sym e ∙ is in cc
 
-untouched_said : (expected c r : Cause) (counts later : PerName) (Line : Type 0) → ((fault : Option Fault) → expected ≡ cause_of fault → ⊥) → ToldAs c r Line
+untouched_said : (expected c r : Cause) (counts later : PerName) (Text : Type 0) → ((fault : Option Fault) → expected ≡ cause_of fault → ⊥) → ToldAs c r Text
     → Untouched expected c counts later → Untouched expected r counts later
-untouched_said expected c r counts later Line other told h = record { answer = by told; counts = h.counts }
+untouched_said expected c r counts later Text other told h = record { answer = by told; counts = h.counts }
   where
-    by : ToldAs c r Line → IsOr expected r
+    by : ToldAs c r Text → IsOr expected r
     by (inl e) = subst (IsOr expected) (sym e) h.answer
     by (inr (inl e)) = inr e
-    by (inr (inr (e, run, line))) = absurd (or_not_run expected c other h.answer run)
+    by (inr (inr (e, run, text))) = absurd (or_not_run expected c other h.answer run)
 
 words_not_run : (fault : Option Fault) → C.BadWords ≡ cause_of fault → ⊥
 words_not_run None e = cc
@@ -238,24 +238,24 @@ part_not_run : (fault : Option Fault) → C.NotBuilt ≡ cause_of fault → ⊥
 part_not_run None e = cc
 part_not_run (Some fault) e = cc
 
-pub words_said : (request : Option Request) (c r : Cause) (counts later : PerName) (Line : Type 0) → ToldAs c r Line → ByWords request c counts later → ByWords request r counts later
-words_said None c r counts later Line told h = untouched_said C.BadWords c r counts later Line words_not_run told h
-words_said (Some request) c r counts later Line told h = λ part. untouched_said C.NotBuilt c r counts later Line part_not_run told (h part)
+pub words_said : (request : Option Request) (c r : Cause) (counts later : PerName) (Text : Type 0) → ToldAs c r Text → ByWords request c counts later → ByWords request r counts later
+words_said None c r counts later Text told h = untouched_said C.BadWords c r counts later Text words_not_run told h
+words_said (Some request) c r counts later Text told h = λ part. untouched_said C.NotBuilt c r counts later Text part_not_run told (h part)
 
 -- ---- by the request
 
-pub may_be_said : (request : Option Request) (c r : Cause) (Line : Type 0) → ToldAs c r Line → MayBe request c → MayBe request r
-may_be_said request c r Line (inl e) h = subst (MayBe request) (sym e) h
-may_be_said request c r Line (inr (inl e)) h = subst (MayBe request) (sym e) tt
-may_be_said request c r Line (inr (inr (e, run, line))) h = subst (MayBe request) (sym e) tt
+pub may_be_said : (request : Option Request) (c r : Cause) (Text : Type 0) → ToldAs c r Text → MayBe request c → MayBe request r
+may_be_said request c r Text (inl e) h = subst (MayBe request) (sym e) h
+may_be_said request c r Text (inr (inl e)) h = subst (MayBe request) (sym e) tt
+may_be_said request c r Text (inr (inr (e, run, text))) h = subst (MayBe request) (sym e) tt
 
 -- ---- completeness
 
 -- each answer is what the request comes to
 complete_at : (k : Cause) (Is : RequestOutcome → Type 0) (result : RequestOutcome) (Failed : Type 0) (ended : Ended) (t u : Told) → IsOne Is → CauseMeans k Is ended t u
     → (NamesFile k → Failed) → (NamesFile k → (program : List ℕ) → result ≡ Unreadable program → IsUnread program k) → Is result → IsAnswer result Failed ⊥ k
-complete_at C.Done Is result Failed ended t u one (inl (c, is, same, counted)) failed unread comes =
-    subst (λ (o : RequestOutcome). IsAnswer o Failed ⊥ C.Done) (one (Checks c) result is comes) (λ none quiet. inl refl)
+complete_at C.Done Is result Failed ended t u one (inl (report, c, is, same, counted)) failed unread comes =
+    subst (λ (o : RequestOutcome). IsAnswer o Failed ⊥ C.Done) (one (Reports report c) result is comes) (λ none quiet. inl refl)
 complete_at C.Done Is result Failed ended t u one (inr (c, g, m, is, fault, run)) failed unread comes =
     subst (λ (o : RequestOutcome). IsAnswer o Failed ⊥ C.Done) (one (Runs c g m) result is comes) (λ none quiet. inl (ap cause_of (sym fault)))
 complete_at (C.Stopped f) Is result Failed ended t u one (c, g, m, is, fault, run) failed unread comes =
@@ -270,25 +270,25 @@ complete_at (C.OpenFailed name) Is NoRequest Failed ended t u one h failed unrea
 complete_at (C.OpenFailed name) Is (Unreadable program) Failed ended t u one h failed unread comes = unread tt program refl
 complete_at (C.OpenFailed name) Is (Refused r) Failed ended t u one h failed unread comes = λ none. absurd (none (failed tt))
 complete_at (C.OpenFailed name) Is NotBuilt Failed ended t u one h failed unread comes = λ none. absurd (none (failed tt))
-complete_at (C.OpenFailed name) Is (Checks c) Failed ended t u one h failed unread comes = λ none quiet. absurd (none (failed tt))
+complete_at (C.OpenFailed name) Is (Reports report c) Failed ended t u one h failed unread comes = λ none quiet. absurd (none (failed tt))
 complete_at (C.OpenFailed name) Is (Runs c g m) Failed ended t u one h failed unread comes = λ none quiet. absurd (none (failed tt))
 complete_at (C.ReadFailed name) Is NoRequest Failed ended t u one h failed unread comes = λ none. absurd (none (failed tt))
 complete_at (C.ReadFailed name) Is (Unreadable program) Failed ended t u one h failed unread comes = unread tt program refl
 complete_at (C.ReadFailed name) Is (Refused r) Failed ended t u one h failed unread comes = λ none. absurd (none (failed tt))
 complete_at (C.ReadFailed name) Is NotBuilt Failed ended t u one h failed unread comes = λ none. absurd (none (failed tt))
-complete_at (C.ReadFailed name) Is (Checks c) Failed ended t u one h failed unread comes = λ none quiet. absurd (none (failed tt))
+complete_at (C.ReadFailed name) Is (Reports report c) Failed ended t u one h failed unread comes = λ none quiet. absurd (none (failed tt))
 complete_at (C.ReadFailed name) Is (Runs c g m) Failed ended t u one h failed unread comes = λ none quiet. absurd (none (failed tt))
 complete_at (C.WriteFailed name) Is NoRequest Failed ended t u one h failed unread comes = λ none. absurd (none (failed tt))
 complete_at (C.WriteFailed name) Is (Unreadable program) Failed ended t u one h failed unread comes = unread tt program refl
 complete_at (C.WriteFailed name) Is (Refused r) Failed ended t u one h failed unread comes = λ none. absurd (none (failed tt))
 complete_at (C.WriteFailed name) Is NotBuilt Failed ended t u one h failed unread comes = λ none. absurd (none (failed tt))
-complete_at (C.WriteFailed name) Is (Checks c) Failed ended t u one h failed unread comes = λ none quiet. absurd (none (failed tt))
+complete_at (C.WriteFailed name) Is (Reports report c) Failed ended t u one h failed unread comes = λ none quiet. absurd (none (failed tt))
 complete_at (C.WriteFailed name) Is (Runs c g m) Failed ended t u one h failed unread comes = λ none quiet. absurd (none (failed tt))
 complete_at C.NoMemory Is NoRequest Failed ended t u one h failed unread comes = λ none. inr refl
 complete_at C.NoMemory Is (Unreadable program) Failed ended t u one h failed unread comes = inr (inr refl)
 complete_at C.NoMemory Is (Refused r) Failed ended t u one h failed unread comes = λ none. inr refl
 complete_at C.NoMemory Is NotBuilt Failed ended t u one h failed unread comes = λ none. inr refl
-complete_at C.NoMemory Is (Checks c) Failed ended t u one h failed unread comes = λ none quiet. inr refl
+complete_at C.NoMemory Is (Reports report c) Failed ended t u one h failed unread comes = λ none quiet. inr refl
 complete_at C.NoMemory Is (Runs c g m) Failed ended t u one h failed unread comes = λ none quiet. inr refl
 
 refused_not_run : (refusal : Refusal) (fault : Option Fault) → C.Refused refusal ≡ cause_of fault → ⊥
@@ -304,25 +304,25 @@ unread_not_run p c (inr (inr e)) (None, is) = let h : C.NoMemory ≡ C.Done = sy
 unread_not_run p c (inr (inr e)) (Some fault, is) = let h : C.NoMemory ≡ C.Stopped fault = sym e ∙ is in cc
 
 -- it stays so once it is told
-answer_said : (result : RequestOutcome) (Failed Line : Type 0) (c r : Cause) → ToldAs c r Line → IsAnswer result Failed ⊥ c → IsAnswer result Failed Line r
-answer_said NoRequest Failed Line c r (inl e) h = λ none. subst (IsOr C.BadWords) (sym e) (h none)
-answer_said (Unreadable p) Failed Line c r (inl e) h = subst (IsUnread p) (sym e) h
-answer_said (Refused s) Failed Line c r (inl e) h = λ none. subst (IsOr (C.Refused s)) (sym e) (h none)
-answer_said NotBuilt Failed Line c r (inl e) h = λ none. subst (IsOr C.NotBuilt) (sym e) (h none)
-answer_said (Checks k) Failed Line c r (inl e) h = λ none quiet. subst (IsOr C.Done) (sym e) (h none (λ x. x))
-answer_said (Runs k g m) Failed Line c r (inl e) h = λ none quiet. subst (IsOr (cause_of (run_fault g m))) (sym e) (h none (λ x. x))
-answer_said NoRequest Failed Line c r (inr (inl e)) h = λ none. inr e
-answer_said (Unreadable p) Failed Line c r (inr (inl e)) h = inr (inr e)
-answer_said (Refused s) Failed Line c r (inr (inl e)) h = λ none. inr e
-answer_said NotBuilt Failed Line c r (inr (inl e)) h = λ none. inr e
-answer_said (Checks k) Failed Line c r (inr (inl e)) h = λ none quiet. inr e
-answer_said (Runs k g m) Failed Line c r (inr (inl e)) h = λ none quiet. inr e
-answer_said NoRequest Failed Line c r (inr (inr (e, run, line))) h = λ none. absurd (or_not_run C.BadWords c words_not_run (h none) run)
-answer_said (Unreadable p) Failed Line c r (inr (inr (e, run, line))) h = absurd (unread_not_run p c h run)
-answer_said (Refused s) Failed Line c r (inr (inr (e, run, line))) h = λ none. absurd (or_not_run (C.Refused s) c (refused_not_run s) (h none) run)
-answer_said NotBuilt Failed Line c r (inr (inr (e, run, line))) h = λ none. absurd (or_not_run C.NotBuilt c part_not_run (h none) run)
-answer_said (Checks k) Failed Line c r (inr (inr (e, run, line))) h = λ none quiet. absurd (quiet line)
-answer_said (Runs k g m) Failed Line c r (inr (inr (e, run, line))) h = λ none quiet. absurd (quiet line)
+answer_said : (result : RequestOutcome) (Failed Text : Type 0) (c r : Cause) → ToldAs c r Text → IsAnswer result Failed ⊥ c → IsAnswer result Failed Text r
+answer_said NoRequest Failed Text c r (inl e) h = λ none. subst (IsOr C.BadWords) (sym e) (h none)
+answer_said (Unreadable p) Failed Text c r (inl e) h = subst (IsUnread p) (sym e) h
+answer_said (Refused s) Failed Text c r (inl e) h = λ none. subst (IsOr (C.Refused s)) (sym e) (h none)
+answer_said NotBuilt Failed Text c r (inl e) h = λ none. subst (IsOr C.NotBuilt) (sym e) (h none)
+answer_said (Reports report k) Failed Text c r (inl e) h = λ none quiet. subst (IsOr C.Done) (sym e) (h none (λ x. x))
+answer_said (Runs k g m) Failed Text c r (inl e) h = λ none quiet. subst (IsOr (cause_of (run_fault g m))) (sym e) (h none (λ x. x))
+answer_said NoRequest Failed Text c r (inr (inl e)) h = λ none. inr e
+answer_said (Unreadable p) Failed Text c r (inr (inl e)) h = inr (inr e)
+answer_said (Refused s) Failed Text c r (inr (inl e)) h = λ none. inr e
+answer_said NotBuilt Failed Text c r (inr (inl e)) h = λ none. inr e
+answer_said (Reports report k) Failed Text c r (inr (inl e)) h = λ none quiet. inr e
+answer_said (Runs k g m) Failed Text c r (inr (inl e)) h = λ none quiet. inr e
+answer_said NoRequest Failed Text c r (inr (inr (e, run, text))) h = λ none. absurd (or_not_run C.BadWords c words_not_run (h none) run)
+answer_said (Unreadable p) Failed Text c r (inr (inr (e, run, text))) h = absurd (unread_not_run p c h run)
+answer_said (Refused s) Failed Text c r (inr (inr (e, run, text))) h = λ none. absurd (or_not_run (C.Refused s) c (refused_not_run s) (h none) run)
+answer_said NotBuilt Failed Text c r (inr (inr (e, run, text))) h = λ none. absurd (or_not_run C.NotBuilt c part_not_run (h none) run)
+answer_said (Reports report k) Failed Text c r (inr (inr (e, run, text))) h = λ none quiet. absurd (quiet text)
+answer_said (Runs k g m) Failed Text c r (inr (inr (e, run, text))) h = λ none quiet. absurd (quiet text)
 
 -- ---- a program that can't be read
 
@@ -338,7 +338,7 @@ program_alone : (request : Request) (program : List ℕ) → is_built request �
     → (opens (Some request) [] ≡ program ∷ []) × (whole_files (Some request) ≡ program ∷ []) × (creates (Some request) [] ≡ [])
 program_alone (R.Check p) program built of = let same : p ≡ program = cc in (ap (λ (q : List ℕ). q ∷ []) same, ap (λ (q : List ℕ). q ∷ []) same, refl)
 program_alone (R.Run p options) program built of = let same : p ≡ program = cc in (ap (λ (q : List ℕ). q ∷ []) same, ap (λ (q : List ℕ). q ∷ []) same, creates_sinks p options [] built)
-program_alone (R.Plan p) program built of = absurd (let bad : false ≡ true = built in cc)
+program_alone (R.Plan p) program built of = let same : p ≡ program = cc in (ap (λ (q : List ℕ). q ∷ []) same, ap (λ (q : List ℕ). q ∷ []) same, refl)
 program_alone (R.Replay p arrivals) program built of = absurd (let bad : false ≡ true = built in cc)
 program_alone (R.Simulate p width schedule steps) program built of = absurd (let bad : false ≡ true = built in cc)
 program_alone (R.Make name rows start) program built of = absurd (let bad : false ≡ true = built in cc)
@@ -369,12 +369,12 @@ unread_told k request program counts later ended t u is bad device =
     (subst (λ (o : Option Request). DevicesMean k (files_of o []) counts later ⊥ (IsOutcome t ended.arrivals request) ended t u) bad.is
     (device [] (subst (λ (o : Option Request). ArePartsIn t o []) (sym bad.is) (of_unreadable bad.asked program bad.of bad.fault))))
 
-pub complete : OneOutcomeLaw → (told now : Option Told) (request : Option Request) (ended : Ended) (r : Cause) (status : ℕ) (counts later : PerName) (Line : Type 0) → ToldAs ended.cause r Line
-    → WhereTold told now (Answered request ended counts later ⊥) → IfSome told (IsComplete request (with_cause ended r status) counts later Line)
-complete law None now request ended r status counts later Line e h = tt
-complete law (Some t) None request ended r status counts later Line e h = absurd h
-complete law (Some t) (Some u) request ended r status counts later Line e h = λ result comes parts are.
-    answer_said result (DeviceFailed (files_of request parts) counts later) Line ended.cause r e
+pub complete : OneOutcomeLaw → (told now : Option Told) (request : Option Request) (ended : Ended) (r : Cause) (status : ℕ) (counts later : PerName) (Text : Type 0) → ToldAs ended.cause r Text
+    → WhereTold told now (Answered request ended counts later ⊥) → IfSome told (IsComplete request (with_cause ended r status) counts later Text)
+complete law None now request ended r status counts later Text e h = tt
+complete law (Some t) None request ended r status counts later Text e h = absurd h
+complete law (Some t) (Some u) request ended r status counts later Text e h = λ result comes parts are.
+    answer_said result (DeviceFailed (files_of request parts) counts later) Text ended.cause r e
     (complete_at ended.cause (IsOutcome t ended.arrivals request) result (DeviceFailed (files_of request parts) counts later) ended t u (law request t ended.arrivals) h.means
     (λ named. device_failed ended.cause (files_of request parts) counts later (IsOutcome t ended.arrivals request) ended t u named (h.device parts are))
     (λ named program is. unread_told ended.cause request program counts later ended t u named (unread t ended.arrivals request program (subst (IsOutcome t ended.arrivals request) is comes)) h.device) comes)

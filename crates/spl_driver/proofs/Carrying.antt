@@ -1,27 +1,30 @@
 -- What is done with an accepted program, by its request.
-use Rattle.std.proofs.Common.{◌≡◌, ◌∙◌, append-nil, ℕ, Bool, true, false, List, [], ◌∷◌, ◌++◌, refl, sym, ap, subst, inl, inr, ◌⊎◌, Option, Some, None, Result, Ok, Err}
-use Rattle.std.specs.Prelude.{IfSome, IfOk, ◌||◌, ◌&&◌, not, if◌then◌else◌}
+use Rattle.std.proofs.Common.{◌≡◌, ◌∙◌, append-nil, ℕ, Bool, true, false, List, [], ◌∷◌, ◌++◌, refl, sym, ap, subst, inl, inr, Option, Some, None, Result, Ok, Err}
+use Rattle.std.specs.Prelude.{IfOk, ◌||◌, ◌&&◌, not}
 use Rattle.spl_value.specs.declared.memory.NoMemory.{NoMemory}
 use Rattle.feed_pour.specs.Counts.{PerName}
 use Rattle.feed_pour.specs.Contents.{Told, WhereTold}
 use Rattle.language_model.specs.declared.checked.Part.{Part}
 use Rattle.stream_model.specs.declared.record.Arrivals.{Arrivals}
+use Rattle.stream_model.specs.declared.plan.Region.{Region}
 use Rattle.stream_model.specs.CheckedMeaning.{graph_of}
+use Rattle.stream_model.specs.Meaning.{Graph}
+use Rattle.stream_model.specs.Regions.{IsPlan}
+use Rattle.run_report.specs.PlanTexts.{plan_text}
 use Rattle.language_model.specs.CheckedGraph.{CheckedGraph}
 use Rattle.run_report.specs.declared.cause.Cause.{Cause}
 use Rattle.run_report.specs.declared.cause.Cause.TheVariants as C
-use Rattle.run_report.specs.Texts.{check_text}
 use Rattle.command_line.specs.declared.request.Request.{Request}
 use Rattle.command_line.specs.declared.request.Request.TheVariants as R
 use Rattle.command_line.specs.declared.request.RunOptions.{RunOptions}
 use Rattle.check_laws.specs.Files.{source_files, sink_files, is_named}
 use Rattle.source_rows.specs.Counting.{OpeningFailed}
 use Rattle.spl_driver.specs.Built.{is_built, is_plain, is_given}
-use Rattle.spl_driver.specs.Files.{FilesOf, files_of, creates, if_given}
-use Rattle.spl_driver.specs.Outcome.{RequestOutcome, Checks}
-use Rattle.spl_driver.specs.Answer.{CauseMeans, CreatingFailed, DevicesMean, DevicesShow, NoCountChanged, StoppedBy, TellingFailed, WritingFailed, uncounted}
-use Rattle.spl_driver.specs.Lines.{IsLine}
-use Rattle.spl_driver.specs.Steps.{run_files, RunComes, IsRunOf, IsAcceptedOutcome, IsToldAcceptedOutcome, CountsShow, FilesShow}
+use Rattle.spl_driver.specs.Files.{FilesOf, creates, files_of, if_given, row_files}
+use Rattle.spl_driver.specs.Outcome.{OfPlan, OfSize, Report, RequestOutcome, Reports}
+use Rattle.spl_driver.specs.Answer.{CauseMeans, CreatingFailed, DevicesMean, DevicesShow, StoppedBy, TellingFailed, WritingFailed, is_report, uncounted}
+use Rattle.spl_driver.specs.Texts.{IsReportText, IsText, wants_counts}
+use Rattle.spl_driver.specs.Steps.{CountsShow, FilesShow, IsAcceptedOutcome, IsRunOf, IsToldAcceptedOutcome, MayBeOutcome, RunComes, accepted_outcome, run_files}
 use Rattle.spl_driver.specs.declared.ended.Ended.{Ended}
 use Rattle.spl_driver.proofs.Fetching.{quiet_only}
 use Rattle.spl_driver.proofs.Showing.{quiet_shows}
@@ -38,55 +41,66 @@ quiet_counts cause k files counts is quiet words unrun parts = record {
   stopped = subst (λ (x : Cause). StoppedBy x parts counts counts) (sym is) (quiet_stopped k parts counts counts unrun);
 }
 
--- ---- a check
+-- ---- what is told of a program
 
-check_files : (told : Option Told) (p : List ℕ) (c : CheckedGraph) (ended : Ended) (counts : PerName) → ended.cause ≡ C.Done → ended.counts ≡ uncounted
-    → WhereTold told told (λ t u. FilesShow (IsAcceptedOutcome (R.Check p) c ended.arrivals t) (files_of (Some (R.Check p)) c.parts) ended counts counts t u)
-check_files None p c ended counts is none = tt
-check_files (Some t) p c ended counts is none = record {
-  means = subst (λ (k : Cause). CauseMeans k (IsAcceptedOutcome (R.Check p) c ended.arrivals t) ended t t) (sym is) (inl (c, refl, (λ n. refl), none));
+-- the request comes to this where its program is accepted, and runs nothing
+pub record Asks (request : Request) (report : Report) (c : CheckedGraph) : Type 0 where
+  pub outcome : (t : Told) (arrivals : Arrivals) → accepted_outcome request c t arrivals ≡ Reports report c
+  pub may : (arrivals : Arrivals) (counts now : PerName) → MayBeOutcome request c arrivals counts now (Reports report c)
+  pub alone : is_report (Some request) ≡ true
+
+pub asks_size : (request : Request) (p : List ℕ) (c : CheckedGraph) → request ≡ R.Check p → Asks request OfSize c
+asks_size request p c e = subst (λ (q : Request). Asks q OfSize c) (sym e) (record { outcome = λ t arrivals. refl; may = λ arrivals counts now. refl; alone = refl })
+
+pub asks_plan : (request : Request) (p : List ℕ) (c : CheckedGraph) → request ≡ R.Plan p → Asks request OfPlan c
+asks_plan request p c e = subst (λ (q : Request). Asks q OfPlan c) (sym e) (record { outcome = λ t arrivals. refl; may = λ arrivals counts now. refl; alone = refl })
+
+pub reported_files : (told : Option Told) (request : Request) (report : Report) (c : CheckedGraph) (ended : Ended) (counts : PerName) → Asks request report c → ended.cause ≡ C.Done → ended.counts ≡ uncounted
+    → WhereTold told told (λ t u. FilesShow (IsAcceptedOutcome request c ended.arrivals t) (files_of (Some request) c.parts) ended counts counts t u)
+reported_files None request report c ended counts asks is none = tt
+reported_files (Some t) request report c ended counts asks is none = record {
+  means = subst (λ (k : Cause). CauseMeans k (IsAcceptedOutcome request c ended.arrivals t) ended t t) (sym is) (inl (report, c, sym (asks.outcome t ended.arrivals), (λ n. refl), none));
   others = λ n named. refl;
-  device = subst (λ (k : Cause). DevicesMean k (files_of (Some (R.Check p)) c.parts) counts counts ⊥ (IsAcceptedOutcome (R.Check p) c ended.arrivals t) ended t t) (sym is) (quiet_only [] counts counts (λ n. refl));
+  device = subst (λ (k : Cause). DevicesMean k (files_of (Some request) c.parts) counts counts ⊥ (IsAcceptedOutcome request c ended.arrivals t) ended t t) (sym is) (quiet_only (row_files (Some request) c.parts) counts counts (λ n. refl));
   reads = λ n differs. absurd (differs refl);
 }
 
-pub checked_files : (told : Option Told) (request : Request) (p : List ℕ) (c : CheckedGraph) (ended : Ended) (counts : PerName) → request ≡ R.Check p → ended.cause ≡ C.Done → ended.counts ≡ uncounted
-    → WhereTold told told (λ t u. FilesShow (IsAcceptedOutcome request c ended.arrivals t) (files_of (Some request) c.parts) ended counts counts t u)
-checked_files told request p c ended counts e is none =
-    subst (λ (q : Request). WhereTold told told (λ t u. FilesShow (IsAcceptedOutcome q c ended.arrivals t) (files_of (Some q) c.parts) ended counts counts t u)) (sym e)
-    (check_files told p c ended counts is none)
+pub reported_counts : (cause : Cause) (request : Request) (c : CheckedGraph) (counts : PerName) → cause ≡ C.Done → CountsShow cause c.parts (files_of (Some request) c.parts) counts counts
+reported_counts cause request c counts is = quiet_counts cause C.Done (files_of (Some request) c.parts) counts is tt (λ bad. cc) tt c.parts
 
-pub checked_counts : (cause : Cause) (request : Request) (p : List ℕ) (c : CheckedGraph) (counts : PerName) → request ≡ R.Check p → cause ≡ C.Done → CountsShow cause c.parts (files_of (Some request) c.parts) counts counts
-checked_counts cause request p c counts e is = quiet_counts cause C.Done (files_of (Some request) c.parts) counts is tt (λ bad. cc) tt c.parts
+reported_comes : (told : Option Told) (request : Request) (report : Report) (c : CheckedGraph) (arrivals : Arrivals) (counts now : PerName) → Asks request report c → IsToldAcceptedOutcome request c arrivals told counts now (Reports report c)
+reported_comes None request report c arrivals counts now asks = (asks.may arrivals counts now, tt)
+reported_comes (Some t) request report c arrivals counts now asks = (asks.may arrivals counts now, sym (asks.outcome t arrivals))
 
-check_comes : (told : Option Told) (p : List ℕ) (c : CheckedGraph) (arrivals : Arrivals) (counts now : PerName) → IsToldAcceptedOutcome (R.Check p) c arrivals told counts now (Checks c)
-check_comes None p c arrivals counts now = (refl, tt)
-check_comes (Some t) p c arrivals counts now = (refl, refl)
+pub reported_text : (told : Option Told) (request : Request) (report : Report) (c : CheckedGraph) (ended : Ended) (text : Result (List ℕ) NoMemory) (counts now : PerName) → Asks request report c → ended.cause ≡ C.Done
+    → IfOk text (IsReportText report c) → IfOk text (IsText (wants_counts (Some request)) ended.cause (IsToldAcceptedOutcome request c ended.arrivals told counts now))
+reported_text told request report c ended (Err x) counts now asks is h = tt
+reported_text told request report c ended (Ok text) counts now asks is h =
+    subst (λ (k : Cause). IsText (wants_counts (Some request)) k (IsToldAcceptedOutcome request c ended.arrivals told counts now) text) (sym is)
+    (Reports report c, reported_comes told request report c ended.arrivals counts now asks, refl, h)
 
-pub checked_line : (told : Option Told) (request : Request) (p : List ℕ) (c : CheckedGraph) (ended : Ended) (line : Result (List ℕ) NoMemory) (counts now : PerName) → request ≡ R.Check p → ended.cause ≡ C.Done
-    → IfOk line (λ l. l ≡ check_text c) → IfOk line (IsLine ended.cause (IsToldAcceptedOutcome request c ended.arrivals told counts now))
-checked_line told request p c ended (Err x) counts now e is h = tt
-checked_line told request p c ended (Ok line) counts now e is h =
-    subst (λ (k : Cause). IsLine k (IsToldAcceptedOutcome request c ended.arrivals told counts now) line) (sym is)
-    (subst (λ (q : Request). IsLine C.Done (IsToldAcceptedOutcome q c ended.arrivals told counts now) line) (sym e) (Checks c, check_comes told p c ended.arrivals counts now, refl, h))
+-- the text of the plan that was chosen
+pub plan_told : (c : CheckedGraph) (plan : List Region) (text : Result (List ℕ) NoMemory) → ((g : Graph) → graph_of c ≡ g → IsPlan g plan) → IfOk text (λ t. t ≡ plan_text c plan) → IfOk text (IsReportText OfPlan c)
+plan_told c plan (Ok text) is e = (plan, is (graph_of c) refl, e)
+plan_told c plan (Err x) is e = tt
 
 -- ---- a run
 
-fourth : (a b c d e : Bool) → (not a && (not b && (not c && (not d && not e)))) ≡ true → d ≡ false
-fourth true b c d e h = cc
-fourth false true c d e h = cc
-fourth false false true d e h = cc
-fourth false false false true e h = cc
-fourth false false false false e h = refl
+fourth : (a b c d : Bool) → (not a && (not b && (not c && not d))) ≡ true → d ≡ false
+fourth true b c d h = cc
+fourth false true c d h = cc
+fourth false false true d h = cc
+fourth false false false true h = cc
+fourth false false false false h = refl
 
 none_given : (o : Option (List ℕ)) → is_given o ≡ false → if_given o ≡ []
 none_given None h = refl
 none_given (Some name) h = cc
 
--- a run without options creates the sinks alone
+-- a run without an arrivals file creates the sinks alone
 pub creates_sinks : (p : List ℕ) (options : RunOptions) (parts : List Part) → is_plain options ≡ true → creates (Some (R.Run p options)) parts ≡ sink_files parts
 creates_sinks p options parts plain =
-    ap (λ (ns : List (List ℕ)). sink_files parts ++ ns) (none_given options.arrivals (fourth (is_given options.width) (is_given options.workers) (is_given options.capacity) (is_given options.arrivals) options.counts plain)) ∙ append-nil (sink_files parts)
+    ap (λ (ns : List (List ℕ)). sink_files parts ++ ns) (none_given options.arrivals (fourth (is_given options.width) (is_given options.workers) (is_given options.capacity) (is_given options.arrivals) plain)) ∙ append-nil (sink_files parts)
 
 plain_run : (request : Request) (p : List ℕ) (options : RunOptions) → request ≡ R.Run p options → is_built request ≡ true → is_plain options ≡ true
 plain_run request p options e built = sym (ap is_built e) ∙ built
@@ -195,7 +209,7 @@ ran_counts request p options c cause old new e built h =
       stopped = h.stopped;
     }))
 
--- the line of a run
-pub ran_line : (told : Option Told) (request : Request) (p : List ℕ) (options : RunOptions) (c : CheckedGraph) (ended : Ended) (line : Result (List ℕ) NoMemory) (counts now : PerName) → request ≡ R.Run p options
-    → IfOk line (IsLine ended.cause (RunComes c ended.arrivals told counts now)) → IfOk line (IsLine ended.cause (IsToldAcceptedOutcome request c ended.arrivals told counts now))
-ran_line told request p options c ended line counts now e h = subst (λ (q : Request). IfOk line (IsLine ended.cause (IsToldAcceptedOutcome q c ended.arrivals told counts now))) (sym e) h
+-- the text of a run
+pub ran_text : (told : Option Told) (request : Request) (p : List ℕ) (options : RunOptions) (c : CheckedGraph) (ended : Ended) (text : Result (List ℕ) NoMemory) (counts now : PerName) → request ≡ R.Run p options
+    → IfOk text (IsText options.counts ended.cause (RunComes c ended.arrivals told counts now)) → IfOk text (IsText (wants_counts (Some request)) ended.cause (IsToldAcceptedOutcome request c ended.arrivals told counts now))
+ran_text told request p options c ended text counts now e h = subst (λ (q : Request). IfOk text (IsText (wants_counts (Some q)) ended.cause (IsToldAcceptedOutcome q c ended.arrivals told counts now))) (sym e) h

@@ -1,5 +1,5 @@
--- Answers to requests whose line names no operator.
-use Rattle.std.proofs.Common.{◌≡◌, ◌<◌, ◌-◌, ◌^◌, ℕ, List, [], true, false, inl, inr, ◌∙◌, refl, sym, subst, Option, Some, None, Result, Ok, Err}
+-- Answers to requests whose text names no operator.
+use Rattle.std.proofs.Common.{◌≡◌, ◌<◌, ◌-◌, ◌^◌, ℕ, List, true, false, inl, inr, ◌∙◌, refl, sym, subst, Option, Some, None, Result, Ok, Err}
 use Rattle.std.specs.Prelude.{IfOk}
 use Rattle.spl_value.specs.declared.memory.NoMemory.{NoMemory}
 use Rattle.feed_pour.specs.Counts.{PerName}
@@ -9,49 +9,49 @@ use Rattle.run_report.specs.declared.cause.Cause.TheVariants as C
 use Rattle.run_report.specs.Texts.{status_text}
 use Rattle.command_line.specs.declared.request.Request.{Request}
 use Rattle.command_line.specs.declared.request.Request.TheVariants as R
-use Rattle.spl_driver.specs.Answer.{Answered, ByWords, IsRun, MayBe, is_check}
-use Rattle.spl_driver.specs.Shown.{IsCheck, IsReason, IsRunProgram, NothingRan, Shown}
+use Rattle.spl_driver.specs.Answer.{Answered, ByWords, IsRun, MayBe, is_report}
+use Rattle.spl_driver.specs.Shown.{IsReport, IsReason, IsRunProgram, NothingRan, Shown}
 use Rattle.spl_driver.specs.Built.{is_built}
-use Rattle.spl_driver.specs.Lines.{IsLine, IsToldOutcome}
+use Rattle.spl_driver.specs.Texts.{wants_counts, IsText, IsToldOutcome}
 use Rattle.spl_driver.specs.Steps.{AnswersRequest}
 use Rattle.spl_driver.specs.declared.answer.Answer.{Answer}
 use Rattle.spl_driver.specs.Answer.{IsOr}
 use Rattle.spl_driver.proofs.Showing.{IsPlainCause, or_ran, or_reason, plain_ran, quiet_shown}
-use Rattle.spl_driver.proofs.Running.{or_line, plain_line}
+use Rattle.spl_driver.proofs.Running.{or_text, plain_text}
 use Rattle.spl_driver.proofs.Standing.{built_words, not_built_answer, words_answer}
 use Rattle.spl_driver.proofs.Telling.{not_run}
 
 -- the answer of a cause of which nothing was carried out
 pub plain_request : (told now : Option Told) (request : Option Request) (k : Cause) (answer : Answer) (counts later : PerName) (lent left : ℕ) → answer.ended.cause ≡ k → (IsRun k → ⊥)
-    → IsPlainCause k → IsReason k request → MayBe request k → Shown k request counts later ⊥ → ByWords request k counts later → IfOk answer.line (λ l. l ≡ status_text None k) → NothingRan answer.ended
+    → IsPlainCause k → IsReason k request → MayBe request k → Shown k request counts later ⊥ → ByWords request k counts later → IfOk answer.text (λ l. l ≡ status_text None k) → NothingRan answer.ended
     → (lent < 2 ^ 64 - 256 → left ≡ lent) → WhereTold told now (Answered request answer.ended counts later ⊥) → AnswersRequest request answer told now counts later lent left
 plain_request told now request k answer counts later lent left is other plain reason kind shown words text none given answered = record {
   answered = answered;
   shown = subst (λ (c : Cause). Shown c request counts later ⊥) (sym is) shown;
-  line = line_at answer.line text;
+  text = text_at answer.text text;
   words = subst (λ (c : Cause). ByWords request c counts later) (sym is) words;
   kinds = subst (MayBe request) (sym is) kind;
   reason = subst (λ (c : Cause). IsReason c request) (sym is) reason;
-  ran = subst (λ (c : Cause). Rattle.spl_driver.specs.Shown.RunShown c (IsRunProgram request) (IsCheck request) answer.ended counts later) (sym is) (plain_ran k (IsRunProgram request) (IsCheck request) answer.ended counts later plain none);
+  ran = subst (λ (c : Cause). Rattle.spl_driver.specs.Shown.RunShown c (IsRunProgram request) (IsReport request) answer.ended counts later) (sym is) (plain_ran k (IsRunProgram request) (IsReport request) answer.ended counts later plain none);
   lent = given;
 }
   where
-    line_at : (line : Result (List ℕ) NoMemory) → IfOk line (λ l. l ≡ status_text None k) → IfOk line (IsLine answer.ended.cause (IsToldOutcome request told answer.ended.arrivals counts later))
-    line_at (Ok l) e = plain_line answer.ended.cause k (IsToldOutcome request told answer.ended.arrivals counts later) l is other e
-    line_at (Err x) e = tt
+    text_at : (text : Result (List ℕ) NoMemory) → IfOk text (λ l. l ≡ status_text None k) → IfOk text (IsText (wants_counts request) answer.ended.cause (IsToldOutcome request told answer.ended.arrivals counts later))
+    text_at (Ok l) e = plain_text (wants_counts request) answer.ended.cause k (IsToldOutcome request told answer.ended.arrivals counts later) l is other e
+    text_at (Err x) e = tt
 
 -- the answer of a cause, or of want of memory for its name, after which no count is shown by the words
 pub named_request : (told now : Option Told) (request : Request) (k : Cause) (answer : Answer) (counts later : PerName) (lent left : ℕ) → IsOr k answer.ended.cause → (IsRun k → ⊥) → IsPlainCause k → IsReason k (Some request)
-    → MayBe (Some request) k → Shown answer.ended.cause (Some request) counts later ⊥ → is_built request ≡ true → IfOk answer.line (λ l. l ≡ status_text None answer.ended.cause) → NothingRan answer.ended
+    → MayBe (Some request) k → Shown answer.ended.cause (Some request) counts later ⊥ → is_built request ≡ true → IfOk answer.text (λ l. l ≡ status_text None answer.ended.cause) → NothingRan answer.ended
     → (lent < 2 ^ 64 - 256 → left ≡ lent) → WhereTold told now (Answered (Some request) answer.ended counts later ⊥) → AnswersRequest (Some request) answer told now counts later lent left
 named_request told now request k answer counts later lent left is other plain reason kind shown built text none given answered = record {
   answered = answered;
   shown = shown;
-  line = or_line k answer.ended.cause (IsToldOutcome (Some request) told answer.ended.arrivals counts later) answer.line is other text;
+  text = or_text (wants_counts (Some request)) k answer.ended.cause (IsToldOutcome (Some request) told answer.ended.arrivals counts later) answer.text is other text;
   words = built_words request answer.ended.cause counts later built;
   kinds = kinds is;
   reason = or_reason k answer.ended.cause (Some request) is reason;
-  ran = or_ran k answer.ended.cause (IsRunProgram (Some request)) (IsCheck (Some request)) answer.ended counts later is plain none;
+  ran = or_ran k answer.ended.cause (IsRunProgram (Some request)) (IsReport (Some request)) answer.ended counts later is plain none;
   lent = given;
 }
   where
@@ -65,32 +65,32 @@ same_or expected found cause e (inl is) = inl (e ∙ is)
 same_or expected found cause e (inr is) = inr (e ∙ is)
 
 pub named_cause : (told now : Option Told) (request : Request) (k : Cause) (answer : Answer) (found : Cause) (counts later : PerName) (lent left : ℕ) → answer.ended.cause ≡ found → IsOr k found → (IsRun k → ⊥) → IsPlainCause k → IsReason k (Some request)
-    → MayBe (Some request) k → (IsOr k answer.ended.cause → Shown answer.ended.cause (Some request) counts later ⊥) → is_built request ≡ true → IfOk answer.line (λ l. l ≡ status_text None found)
+    → MayBe (Some request) k → (IsOr k answer.ended.cause → Shown answer.ended.cause (Some request) counts later ⊥) → is_built request ≡ true → IfOk answer.text (λ l. l ≡ status_text None found)
     → NothingRan answer.ended → (lent < 2 ^ 64 - 256 → left ≡ lent) → (IsOr k answer.ended.cause → WhereTold told now (Answered (Some request) answer.ended counts later ⊥))
     → AnswersRequest (Some request) answer told now counts later lent left
 named_cause told now request k answer found counts later lent left same is other plain reason kind shown built text none given answered =
     let or = same_or k found answer.ended.cause same is in
     named_request told now request k answer counts later lent left or other plain reason kind (shown or) built
-    (subst (λ (c : Cause). IfOk answer.line (λ l. l ≡ status_text None c)) (sym same) text) none given (answered or)
+    (subst (λ (c : Cause). IfOk answer.text (λ l. l ≡ status_text None c)) (sym same) text) none given (answered or)
 
-not_check : (request : Request) → is_built request ≡ false → is_check (Some request) ≡ false
-not_check (R.Check p) other = cc
-not_check (R.Run p options) other = refl
-not_check (R.Plan p) other = refl
-not_check (R.Replay p arrivals) other = refl
-not_check (R.Simulate p width schedule steps) other = refl
-not_check (R.Make name rows start) other = refl
+not_report : (request : Request) → is_built request ≡ false → is_report (Some request) ≡ false
+not_report (R.Check p) other = cc
+not_report (R.Run p options) other = refl
+not_report (R.Plan p) other = cc
+not_report (R.Replay p arrivals) other = refl
+not_report (R.Simulate p width schedule steps) other = refl
+not_report (R.Make name rows start) other = refl
 
 -- the answer to a request that isn't built by its words
 pub not_built_request : (told : Option Told) (request : Request) (answer : Answer) (counts : PerName) (lent : ℕ) → is_built request ≡ false → answer.ended.cause ≡ C.NotBuilt
-    → IfOk answer.line (λ l. l ≡ status_text None C.NotBuilt) → NothingRan answer.ended → AnswersRequest (Some request) answer told told counts counts lent lent
+    → IfOk answer.text (λ l. l ≡ status_text None C.NotBuilt) → NothingRan answer.ended → AnswersRequest (Some request) answer told told counts counts lent lent
 not_built_request told request answer counts lent other is text none =
-    plain_request told told (Some request) C.NotBuilt answer counts counts lent lent is (not_run C.NotBuilt refl) tt other (not_check request other) (quiet_shown C.NotBuilt (Some request) counts counts tt tt (λ n. refl))
+    plain_request told told (Some request) C.NotBuilt answer counts counts lent lent is (not_run C.NotBuilt refl) tt other (not_report request other) (quiet_shown C.NotBuilt (Some request) counts counts tt tt (λ n. refl))
     (λ none. record { answer = inl refl; counts = λ n. refl }) text none (λ small. refl) (not_built_answer told request answer.ended counts other is)
 
 -- the answer where there is no request
 pub no_request_answer : (told : Option Told) (answer : Answer) (counts : PerName) (lent : ℕ) → answer.ended.cause ≡ C.BadWords
-    → IfOk answer.line (λ l. l ≡ status_text None C.BadWords) → NothingRan answer.ended → AnswersRequest None answer told told counts counts lent lent
+    → IfOk answer.text (λ l. l ≡ status_text None C.BadWords) → NothingRan answer.ended → AnswersRequest None answer told told counts counts lent lent
 no_request_answer told answer counts lent is text none =
     plain_request told told None C.BadWords answer counts counts lent lent is (not_run C.BadWords refl) tt tt tt (refl, λ n. refl)
     (record { answer = inl refl; counts = λ n. refl }) text none (λ small. refl) (words_answer told answer.ended counts is)

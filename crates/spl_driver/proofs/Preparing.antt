@@ -1,7 +1,7 @@
 -- A run up to its sinks.
-use Rattle.std.proofs.Common.{◌≡◌, ℕ, zero, suc, arith, Bool, true, false, List, [], ◌∷◌, ◌&&◌, map, refl, sym, ap, ◌∙◌, if◌then◌else◌, slice_get, Option, Some, None}
+use Rattle.std.proofs.Common.{◌≡◌, ℕ, suc, arith, Bool, List, [], ◌∷◌, map, refl, sym, ap, ◌∙◌, slice_get, Option, Some, None}
 use Rattle.std.specs.Prelude.{IfSome}
-use Rattle.std.specs.List.{All, list_all}
+use Rattle.std.specs.List.{All}
 use Rattle.spl_value.specs.declared.item.Fault.{Fault}
 use Rattle.spl_value.specs.declared.item.FaultKind.TheVariants as K
 use Rattle.spl_value.specs.declared.item.Item.{Item}
@@ -26,7 +26,7 @@ use Rattle.list_engine.specs.Runs.{AreWhole, RowsFit, SinksGiven, rows_at}
 use Rattle.row_reader.specs.Reading.{NamesOperator, is_read_failed, is_read_fault}
 use Rattle.source_rows.specs.Sources.{AreRows, SourcesOf}
 use Rattle.source_rows.specs.declared.sources.Sources.TheVariants as S
-use Rattle.spl_driver.specs.Outcome.{RequestOutcome, NotBuilt, Runs, meant, run_outcome}
+use Rattle.spl_driver.specs.Outcome.{Runs, meant, run_outcome}
 use Rattle.spl_driver.specs.Answer.{SourceUnread, StoppedBy, cause_of}
 use Rattle.spl_driver.specs.Steps.{RanFor, ran}
 

@@ -1,5 +1,5 @@
 -- What the file of a program comes to.
-use Rattle.std.proofs.Common.{◌≡◌, ◌<◌, arith, ℕ, List, length, replicate, Option, Some, None, Ok, Err, refl, sym, ap, subst, ◌∙◌, false}
+use Rattle.std.proofs.Common.{◌≡◌, ◌<◌, arith, ℕ, List, length, replicate, Option, Some, None, Ok, Err, refl, sym, ap, subst}
 use Rattle.std.proofs.lemmas.List.{length-replicate}
 use Rattle.std.specs.Prelude.{IfSome, Result}
 use Rattle.spl_value.specs.Script.{Script}

@@ -12,9 +12,7 @@ use Rattle.command_line.specs.Request.{file_names}
 use Rattle.spl_driver.specs.AcceptedLaws.{OneAcceptedLaw, SomeAcceptedLaw}
 use Rattle.spl_driver.specs.Built.{is_built}
 use Rattle.spl_driver.specs.Files.{program_of, parts_of}
-use Rattle.std.specs.Prelude.{if◌then◌else◌}
-use Rattle.stream_model.specs.CheckedMeaning.{graph_of}
-use Rattle.spl_driver.specs.Outcome.{RequestOutcome, NoRequest, Unreadable, Refused, NotBuilt, Checks, Runs, has_fault, meant, run_outcome, IsFound, IsOutcome, no_request, not_built, unreadable, refused, checks, runs, ArePartsIn, of_no_request, of_no_program, of_unreadable, of_program}
+use Rattle.spl_driver.specs.Outcome.{RequestOutcome, NoRequest, Unreadable, Refused, NotBuilt, OfPlan, OfSize, Reports, has_fault, run_outcome, IsFound, IsOutcome, no_request, not_built, unreadable, refused, checks, plans, runs, ArePartsIn, of_no_request, of_no_program, of_unreadable, of_program}
 use Rattle.spl_driver.specs.RequestLaws.{OneOutcomeLaw, SomeOutcomeLaw, OnePartsLaw, SomePartsLaw}
 use Rattle.spl_driver.specs.Steps.{accepted_outcome}
 
@@ -63,6 +61,7 @@ by_questions t arrivals request r (unreadable asked program built of fault) =
     (subst (λ (b : Bool). OutcomeByFault b asked program (t.script program).bytes t arrivals (Unreadable program)) (sym fault) refl)
 by_questions t arrivals request r (refused asked program refusal built of found) = at_found t arrivals asked program (Err refusal) built of found
 by_questions t arrivals request r (checks program c found) = at_found t arrivals (R.Check program) program (Ok c) refl refl found
+by_questions t arrivals request r (plans program c found) = at_found t arrivals (R.Plan program) program (Ok c) refl refl found
 by_questions t arrivals request r (runs program options c plain found) = at_found t arrivals (R.Run program options) program (Ok c) plain refl found
 
 -- ---- and back
@@ -77,7 +76,8 @@ outcome_accepted t arrivals (R.Check p) program c built of found =
     checks p c (subst (λ (q : List ℕ). IsFound t q (file_names (R.Check p)) (Ok c)) (same_program p program of) found)
 outcome_accepted t arrivals (R.Run p options) program c built of found =
     runs p options c built (subst (λ (q : List ℕ). IsFound t q (file_names (R.Run p options)) (Ok c)) (same_program p program of) found)
-outcome_accepted t arrivals (R.Plan p) program c built of found = cc
+outcome_accepted t arrivals (R.Plan p) program c built of found =
+    plans p c (subst (λ (q : List ℕ). IsFound t q (file_names (R.Plan p)) (Ok c)) (same_program p program of) found)
 outcome_accepted t arrivals (R.Replay p record_name) program c built of found = cc
 outcome_accepted t arrivals (R.Simulate p width schedule steps) program c built of found = cc
 outcome_accepted t arrivals (R.Make name rows start) program c built of found = cc
@@ -183,7 +183,8 @@ unread_at t arrivals request r program (unreadable asked file built of fault) e 
     let same : file ≡ program = cc in
     subst (IsUnreadable t (Some asked)) same (record { asked = asked; is = refl; built = built; of = of; fault = fault })
 unread_at t arrivals request r program (refused asked file refusal built of found) e = absurd (let bad : Refused (refusal_of refusal) ≡ Unreadable program = e in cc)
-unread_at t arrivals request r program (checks file c found) e = absurd (let bad : Checks c ≡ Unreadable program = e in cc)
+unread_at t arrivals request r program (checks file c found) e = absurd (let bad : Reports OfSize c ≡ Unreadable program = e in cc)
+unread_at t arrivals request r program (plans file c found) e = absurd (let bad : Reports OfPlan c ≡ Unreadable program = e in cc)
 unread_at t arrivals request r program (runs file options c plain found) e = absurd (run_not_unread c t arrivals program e)
 
 pub unread : (t : Told) (arrivals : Arrivals) (request : Option Request) (program : List ℕ) → IsOutcome t arrivals request (Unreadable program) → IsUnreadable t request program

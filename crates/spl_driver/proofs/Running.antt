@@ -14,9 +14,9 @@ use Rattle.language_model.specs.declared.checked.Part.TheVariants as A
 use Rattle.feed_pour.specs.Counts.{Counts, PerName, Rose}
 use Rattle.feed_pour.specs.Contents.{Told, WhereTold, TellsSame}
 use Rattle.stream_model.specs.declared.record.Arrivals.{Arrivals}
+use Rattle.stream_model.specs.declared.record.Counts.{Counts as RunCounts}
 use Rattle.stream_model.specs.declared.record.SinkCount.{SinkCount}
 use Rattle.language_model.specs.CheckedGraph.{CheckedGraph}
-use Rattle.stream_model.specs.CheckedMeaning.{graph_of}
 use Rattle.stream_model.specs.Ends.{run_fault}
 use Rattle.language_model.specs.Keeping.{Keeps}
 use Rattle.stream_model.specs.Arrivals.{entries_in}
@@ -36,10 +36,10 @@ use Rattle.source_rows.specs.Counting.{OnlyOf, OnlyReads, OpeningFailed}
 use Rattle.source_rows.specs.Sources.{ReadsFail, rows_told}
 use Rattle.list_engine.specs.Runs.{rows_at}
 use Rattle.spl_driver.specs.Files.{FilesOf}
-use Rattle.spl_driver.specs.Outcome.{RequestOutcome, NoRequest, Unreadable, Refused, NotBuilt, Checks, Runs, meant, run_outcome}
+use Rattle.spl_driver.specs.Outcome.{RequestOutcome, NoRequest, Unreadable, Refused, NotBuilt, Reports, Runs, meant, run_outcome}
 use Rattle.spl_driver.specs.Answer.{EachSink, HoldsText, HoldsPrefix, HoldsUnlessFailed, SameFiles, CarriedOut, Begun, CauseMeans, CreatingFailed, DevicesMean, DevicesShow, Emptied, IsRecordOf, WritingFailed, WroteOthers, SourceUnread, StoppedBy, cause_of, counts_of, IsOr, IsRun}
-use Rattle.spl_driver.specs.Lines.{IsLine}
-use Rattle.spl_driver.specs.Shown.{NothingRan, Ran, RanTo, RunShown}
+use Rattle.spl_driver.specs.Texts.{IsText, run_text}
+use Rattle.spl_driver.specs.Shown.{NothingRan, Ran, RanTo}
 use Rattle.spl_driver.specs.Steps.{RanFor, RanGraph, ReasonOf, ran, IsRunOf, RunComes, CountsShow, FilesShow, EndsAs, EndsBehind, EndsRun, RecordedBy, TellsBehind, TellsRun, run_files, sinks_of, sinks_from, counts_from}
 use Rattle.spl_driver.specs.declared.answer.Answer.{Answer}
 use Rattle.spl_driver.specs.declared.ended.Ended.{Ended}
@@ -56,7 +56,7 @@ begun_same NoRequest t u same = same
 begun_same (Unreadable program) t u same = same
 begun_same (Refused refusal) t u same = same
 begun_same NotBuilt t u same = same
-begun_same (Checks c) t u same = same
+begun_same (Reports report c) t u same = same
 begun_same (Runs c g m) t u same = same_prefixes m t u g.ops same
 
 -- ---- where no sink was created
@@ -492,7 +492,7 @@ lent_behind c sinks old mid new keeps e first second small =
     let room : mid + length sinks < 2 ^ 64 = omega (arith, few, same, small) in
     second room ∙ same
 
--- ---- lines
+-- ---- texts
 
 -- what the run came to, behind its sinks
 ran_on : (told : Option Told) (c : CheckedGraph) (run : Run) (arrivals : Arrivals) (counts between later : PerName) (p : RanFor c run told counts between) → arrivals ≡ run.arrivals
@@ -507,10 +507,10 @@ ran_on told c run arrivals counts between later p is same = record {
   recorded = subst (λ (a : Arrivals). IsRecordOf p.graph (ran p.graph p.rows run) a) (sym is) p.recorded;
 }
 
--- what the run comes to; its fault is the run's
-some_outcome : (told : Option Told) (c : CheckedGraph) (run : Run) (arrivals : Arrivals) (counts between later : PerName) → arrivals ≡ run.arrivals → ((n : List ℕ) → (later n).reading ≡ (between n).reading)
-    → RanFor c run told counts between → (g : Graph) × (m : Meaning) × RunComes c arrivals told counts later (Runs c g m) × (run.fault ≡ run_fault g m)
-some_outcome told c run arrivals counts between later is same p = (p.graph, m, ((p.graph, m, ran_on told c run arrivals counts between later p is same, refl), by told p.told_rows p.outcome), p.fault)
+-- what the run comes to
+comes_for : (told : Option Told) (c : CheckedGraph) (run : Run) (arrivals : Arrivals) (counts between later : PerName) → arrivals ≡ run.arrivals → ((n : List ℕ) → (later n).reading ≡ (between n).reading)
+    → (p : RanFor c run told counts between) → RunComes c arrivals told counts later (Runs c p.graph (ran p.graph p.rows run))
+comes_for told c run arrivals counts between later is same p = ((p.graph, m, ran_on told c run arrivals counts between later p is same, refl), by told p.told_rows p.outcome)
   where
     m : Meaning
     m = ran p.graph p.rows run
@@ -520,26 +520,35 @@ some_outcome told c run arrivals counts between later is same p = (p.graph, m, (
     by None rows outcome = tt
     by (Some t) rows outcome = ap (λ (x : Meaning). Runs c p.graph x) (meaning_same p.graph p.rows t run arrivals is rows) ∙ sym (outcome arrivals)
 
-line_of_fault : (fault : Option Fault) (Is : RequestOutcome → Type 0) (c : CheckedGraph) (g : Graph) (m : Meaning) (line : List ℕ) → Is (Runs c g m) → fault ≡ run_fault g m
-    → line ≡ status_text (Some c) (cause_of fault) → IsLine (cause_of fault) Is line
-line_of_fault None Is c g m line is ends e = (Runs c g m, is, ap cause_of ends, e)
-line_of_fault (Some fault) Is c g m line is ends e = (Runs c g m, is, ap cause_of ends, e)
+-- its counts
+counted_as : SinkLaw → (ns : List ℕ) (told : Option Told) (c : CheckedGraph) (run : Run) (ended : Ended) (counts between : PerName) (p : RanFor c run told counts between) → Keeps c → SinksCount (S.Done ns) (sinks_of c) run.sinks
+    → ended.counts ≡ record { channels = []; sinks = counts_from 0 c.parts ns } → ended.counts ≡ counts_of p.graph (ran p.graph p.rows run)
+counted_as law ns told c run ended counts between p keeps count counted =
+    counted ∙ ap (λ (ks : List SinkCount). record { channels = []; sinks = ks }) (counts_are c p.graph (ran p.graph p.rows run) run.sinks keeps p.is law p.sinks ns count)
 
--- the line of a run that was carried out
-run_line_of : (told : Option Told) (c : CheckedGraph) (run : Run) (sinks : List SinkCount) (ended : Ended) (line : List ℕ) (counts between later : PerName) → RanFor c run told counts between → ended.arrivals ≡ run.arrivals
-    → ((n : List ℕ) → (later n).reading ≡ (between n).reading) → EndsAs run.fault sinks ended → TellsRun c run.fault ended.cause line → IsLine ended.cause (RunComes c ended.arrivals told counts later) line
-run_line_of told c run sinks ended line counts between later p recorded same (inr is) tells = subst (λ (k : Cause). IsLine k (RunComes c ended.arrivals told counts later) line) (sym is) tt
-run_line_of told c run sinks ended line counts between later p recorded same (inl (is, counted)) (inr wanting) = subst (λ (k : Cause). IsLine k (RunComes c ended.arrivals told counts later) line) (sym wanting) tt
-run_line_of told c run sinks ended line counts between later p recorded same (inl (is, counted)) (inl e) =
-    let some = some_outcome told c run ended.arrivals counts between later recorded same p in
-    subst (λ (k : Cause). IsLine k (RunComes c ended.arrivals told counts later) line) (sym is)
-    (line_of_fault run.fault (RunComes c ended.arrivals told counts later) c some.0 some.1 line some.2 some.3 (e ∙ ap (status_text (Some c)) is))
+text_of_fault : (counted : Bool) (fault : Option Fault) (Is : RequestOutcome → Type 0) (c : CheckedGraph) (g : Graph) (m : Meaning) (text : List ℕ) → Is (Runs c g m) → fault ≡ run_fault g m
+    → text ≡ run_text counted c (counts_of g m) (cause_of fault) → IsText counted (cause_of fault) Is text
+text_of_fault counted None Is c g m text is ends e = (Runs c g m, is, ap cause_of ends, e)
+text_of_fault counted (Some fault) Is c g m text is ends e = (Runs c g m, is, ap cause_of ends, e)
 
--- the line of another cause
-pub plain_line : (cause k : Cause) (Is : RequestOutcome → Type 0) (line : List ℕ) → cause ≡ k → (IsRun k → ⊥) → line ≡ status_text None k → IsLine cause Is line
-plain_line cause k Is line is other e = subst (λ (x : Cause). IsLine x Is line) (sym is) (go k other e)
+-- the text of a run that was carried out
+run_text_of : (law : SinkLaw) (counted : Bool) (told : Option Told) (c : CheckedGraph) (run : Run) (ns : List ℕ) (ended : Ended) (text : List ℕ) (counts between later : PerName) → Keeps c → SinksCount (S.Done ns) (sinks_of c) run.sinks
+    → RanFor c run told counts between → ended.arrivals ≡ run.arrivals → ((n : List ℕ) → (later n).reading ≡ (between n).reading) → EndsAs run.fault (counts_from 0 c.parts ns) ended → TellsRun counted c ended text
+    → IsText counted ended.cause (RunComes c ended.arrivals told counts later) text
+run_text_of law counted told c run ns ended text counts between later keeps count p recorded same (inr is) tells = subst (λ (k : Cause). IsText counted k (RunComes c ended.arrivals told counts later) text) (sym is) tt
+run_text_of law counted told c run ns ended text counts between later keeps count p recorded same (inl ends) (inr wanting) = subst (λ (k : Cause). IsText counted k (RunComes c ended.arrivals told counts later) text) (sym wanting) tt
+run_text_of law counted told c run ns ended text counts between later keeps count p recorded same (inl (is, sinks)) (inl e) =
+    let comes = comes_for told c run ended.arrivals counts between later recorded same p in
+    let m = ran p.graph p.rows run in
+    subst (λ (k : Cause). IsText counted k (RunComes c ended.arrivals told counts later) text) (sym is)
+    (text_of_fault counted run.fault (RunComes c ended.arrivals told counts later) c p.graph m text comes p.fault
+    (e ∙ ap (λ (k : Cause). run_text counted c ended.counts k) is ∙ ap (λ (ks : RunCounts). run_text counted c ks (cause_of run.fault)) (counted_as law ns told c run ended counts between p keeps count sinks)))
+
+-- the text of another cause
+pub plain_text : (counted : Bool) (cause k : Cause) (Is : RequestOutcome → Type 0) (text : List ℕ) → cause ≡ k → (IsRun k → ⊥) → text ≡ status_text None k → IsText counted cause Is text
+plain_text counted cause k Is text is other e = subst (λ (x : Cause). IsText counted x Is text) (sym is) (go k other e)
   where
-    go : (k : Cause) → (IsRun k → ⊥) → line ≡ status_text None k → IsLine k Is line
+    go : (k : Cause) → (IsRun k → ⊥) → text ≡ status_text None k → IsText counted k Is text
     go C.Done other e = absurd (other (None, refl))
     go (C.Stopped fault) other e = absurd (other (Some fault, refl))
     go C.NoMemory other e = tt
@@ -550,14 +559,14 @@ plain_line cause k Is line is other e = subst (λ (x : Cause). IsLine x Is line)
     go (C.ReadFailed name) other e = e
     go (C.WriteFailed name) other e = e
 
--- the line of a cause that is this one or want of memory
-or_line_of : (expected cause : Cause) (Is : RequestOutcome → Type 0) (line : List ℕ) → IsOr expected cause → (IsRun expected → ⊥) → line ≡ status_text None cause → IsLine cause Is line
-or_line_of expected cause Is line (inl is) other e = plain_line cause expected Is line is other (e ∙ ap (status_text None) is)
-or_line_of expected cause Is line (inr is) other e = subst (λ (x : Cause). IsLine x Is line) (sym is) tt
+-- the text of a cause that is this one or want of memory
+or_text_of : (counted : Bool) (expected cause : Cause) (Is : RequestOutcome → Type 0) (text : List ℕ) → IsOr expected cause → (IsRun expected → ⊥) → text ≡ status_text None cause → IsText counted cause Is text
+or_text_of counted expected cause Is text (inl is) other e = plain_text counted cause expected Is text is other (e ∙ ap (status_text None) is)
+or_text_of counted expected cause Is text (inr is) other e = subst (λ (x : Cause). IsText counted x Is text) (sym is) tt
 
-pub or_line : (expected cause : Cause) (Is : RequestOutcome → Type 0) (line : Result (List ℕ) NoMemory) → IsOr expected cause → (IsRun expected → ⊥) → IfOk line (λ l. l ≡ status_text None cause) → IfOk line (IsLine cause Is)
-or_line expected cause Is (Ok line) is other e = or_line_of expected cause Is line is other e
-or_line expected cause Is (Err x) is other e = tt
+pub or_text : (counted : Bool) (expected cause : Cause) (Is : RequestOutcome → Type 0) (text : Result (List ℕ) NoMemory) → IsOr expected cause → (IsRun expected → ⊥) → IfOk text (λ l. l ≡ status_text None cause) → IfOk text (IsText counted cause Is)
+or_text counted expected cause Is (Ok text) is other e = or_text_of counted expected cause Is text is other e
+or_text counted expected cause Is (Err x) is other e = tt
 
 open_not_run : (name : List ℕ) → IsRun (C.OpenFailed name) → ⊥
 open_not_run name (None, is) = cc
@@ -567,22 +576,25 @@ write_not_run : (name : List ℕ) → IsRun (C.WriteFailed name) → ⊥
 write_not_run name (None, is) = cc
 write_not_run name (Some fault, is) = cc
 
--- the line of a run, by what became of its sinks
-sunk_line_of : (told : Option Told) (r : Sunk) (c : CheckedGraph) (sinks : List Sink) (run : Run) (ended : Ended) (line : List ℕ) (counts between later : PerName) → SinkAt r sinks → RanFor c run told counts between
-    → RecordedBy r ended run.arrivals → ((n : List ℕ) → (later n).reading ≡ (between n).reading) → EndsBehind r run.fault c sinks ended → TellsBehind r c run.fault ended.cause line
-    → IsLine ended.cause (RunComes c ended.arrivals told counts later) line
-sunk_line_of told (S.Done ns) c sinks run ended line counts between later at p recorded same ends tells = run_line_of told c run (counts_from 0 c.parts ns) ended line counts between later p recorded same ends tells
-sunk_line_of told (S.NotCreated place) c sinks run ended line counts between later (s, at) p recorded same ends tells =
-    or_line_of (C.OpenFailed s.file) ended.cause (RunComes c ended.arrivals told counts later) line (ends s at) (open_not_run s.file) tells
-sunk_line_of told (S.NotWritten place) c sinks run ended line counts between later (s, at) p recorded same ends tells =
-    or_line_of (C.WriteFailed s.file) ended.cause (RunComes c ended.arrivals told counts later) line (ends s at) (write_not_run s.file) tells
-sunk_line_of told S.Memory c sinks run ended line counts between later at p recorded same ends tells = subst (λ (x : Cause). IsLine x (RunComes c ended.arrivals told counts later) line) (sym ends) tt
+-- the text of a run, by what became of its sinks
+module _ (law : SinkLaw) (counted : Bool) (told : Option Told) (c : CheckedGraph) (sinks : List Sink) (run : Run) (ended : Ended) (counts between later : PerName) (keeps : Keeps c) (are : sinks ≡ sinks_of c)
+    (p : RanFor c run told counts between) (same : (n : List ℕ) → (later n).reading ≡ (between n).reading) where
+  abbrev Comes : RequestOutcome → Type 0
+  Comes = RunComes c ended.arrivals told counts later
 
-pub sunk_line : (told : Option Told) (r : Sunk) (c : CheckedGraph) (sinks : List Sink) (run : Run) (ended : Ended) (line : Result (List ℕ) NoMemory) (counts between later : PerName) → SinksCounted r sinks between later
-    → RanFor c run told counts between → RecordedBy r ended run.arrivals → EndsBehind r run.fault c sinks ended → IfOk line (TellsBehind r c run.fault ended.cause) → IfOk line (IsLine ended.cause (RunComes c ended.arrivals told counts later))
-sunk_line told r c sinks run ended (Ok line) counts between later counted p recorded ends tells =
-    sunk_line_of told r c sinks run ended line counts between later (sink_at r sinks between later counted) p recorded counted.reading ends tells
-sunk_line told r c sinks run ended (Err x) counts between later counted p recorded ends tells = tt
+  sunk_text_of : (r : Sunk) (text : List ℕ) → SinkAt r sinks → SinksCount r sinks run.sinks → RecordedBy r ended run.arrivals → EndsBehind r run.fault c sinks ended → TellsBehind r counted c ended text → IsText counted ended.cause Comes text
+  sunk_text_of (S.Done ns) text at count recorded ends tells =
+      run_text_of law counted told c run ns ended text counts between later keeps (subst (λ (ss : List Sink). SinksCount (S.Done ns) ss run.sinks) are count) p recorded same ends tells
+  sunk_text_of (S.NotCreated place) text (s, at) count recorded ends tells = or_text_of counted (C.OpenFailed s.file) ended.cause Comes text (ends s at) (open_not_run s.file) tells
+  sunk_text_of (S.NotWritten place) text (s, at) count recorded ends tells = or_text_of counted (C.WriteFailed s.file) ended.cause Comes text (ends s at) (write_not_run s.file) tells
+  sunk_text_of S.Memory text at count recorded ends tells = subst (λ (x : Cause). IsText counted x Comes text) (sym ends) tt
+
+pub sunk_text : SinkLaw → (counted : Bool) (told : Option Told) (r : Sunk) (c : CheckedGraph) (sinks : List Sink) (run : Run) (ended : Ended) (text : Result (List ℕ) NoMemory) (counts between later : PerName) → Keeps c → sinks ≡ sinks_of c
+    → RanFor c run told counts between → SinksCount r sinks run.sinks → SinksCounted r sinks between later → EndsBehind r run.fault c sinks ended → RecordedBy r ended run.arrivals → IfOk text (TellsBehind r counted c ended)
+    → IfOk text (IsText counted ended.cause (RunComes c ended.arrivals told counts later))
+sunk_text law counted told r c sinks run ended (Ok text) counts between later keeps are p count rose ends recorded tells =
+    sunk_text_of law counted told c sinks run ended counts between later keeps are p rose.reading r text (sink_at r sinks between later rose) count recorded ends tells
+sunk_text law counted told r c sinks run ended (Err x) counts between later keeps are p count rose ends recorded tells = tt
 
 -- ---- what ran
 
@@ -610,12 +622,6 @@ done_reason c (Some f) = tt
 pub sunk_reason : (r : Sunk) (c : CheckedGraph) (fault : Option Fault) (sinks : List Sink) (ended : Ended) (old new : PerName) → SinksCounted r sinks old new → EndsBehind r fault c sinks ended → ReasonOf ended.cause c
 sunk_reason r c fault sinks ended old new counted ends =
     sunk_each (λ k. ReasonOf k c) (done_reason c) (λ name. tt) (λ name. tt) tt r c fault sinks ended (sink_at r sinks old new counted) ends
-
--- its counts
-counted_as : SinkLaw → (ns : List ℕ) (told : Option Told) (c : CheckedGraph) (run : Run) (ended : Ended) (counts between : PerName) (p : RanFor c run told counts between) → Keeps c → SinksCount (S.Done ns) (sinks_of c) run.sinks
-    → ended.counts ≡ record { channels = []; sinks = counts_from 0 c.parts ns } → ended.counts ≡ counts_of p.graph (ran p.graph p.rows run)
-counted_as law ns told c run ended counts between p keeps count counted =
-    counted ∙ ap (λ (ks : List SinkCount). record { channels = []; sinks = ks }) (counts_are c p.graph (ran p.graph p.rows run) run.sinks keeps p.is law p.sinks ns count)
 
 -- what a run came to behind its sinks
 module _ (law : SinkLaw) (told : Option Told) (c : CheckedGraph) (run : Run) (ended : Ended) (counts between later : PerName) (keeps : Keeps c) (p : RanFor c run told counts between)
@@ -657,36 +663,36 @@ same_sink : (expected : List ℕ → Cause) (sinks : List Sink) (place : ℕ) (f
 same_sink expected sinks place file cause found named (inl e) is s at = inl (is ∙ e ∙ ap expected (named s at))
 same_sink expected sinks place file cause found named (inr e) is s at = inr (is ∙ e)
 
-tells_same : (line : Result (List ℕ) NoMemory) (found cause : Cause) → cause ≡ found → IfOk line (λ l. l ≡ status_text None found) → IfOk line (λ l. l ≡ status_text None cause)
-tells_same line found cause is h = subst (λ (k : Cause). IfOk line (λ l. l ≡ status_text None k)) (sym is) h
+tells_same : (text : Result (List ℕ) NoMemory) (found cause : Cause) → cause ≡ found → IfOk text (λ l. l ≡ status_text None found) → IfOk text (λ l. l ≡ status_text None cause)
+tells_same text found cause is h = subst (λ (k : Cause). IfOk text (λ l. l ≡ status_text None k)) (sym is) h
 
-pub ends_not_created : (sunk : Sunk) (place : ℕ) (c : CheckedGraph) (sinks : List Sink) (fault : Option Fault) (arrivals : Arrivals) (answer : Answer) (file : List ℕ) (found : Cause) → sunk ≡ S.NotCreated place
-    → ((s : Sink) → slice_get sinks place ≡ Some s → file ≡ s.file) → IsOr (C.OpenFailed file) found → answer.ended.cause ≡ found → IfOk answer.line (λ l. l ≡ status_text None found)
-    → NothingRan answer.ended → EndsRun sunk c sinks fault arrivals answer
-ends_not_created sunk place c sinks fault arrivals answer file found e named is same line recorded = subst (λ (r : Sunk). EndsRun r c sinks fault arrivals answer) (sym e) (record {
+pub ends_not_created : (sunk : Sunk) (place : ℕ) (counted : Bool) (c : CheckedGraph) (sinks : List Sink) (fault : Option Fault) (arrivals : Arrivals) (answer : Answer) (file : List ℕ) (found : Cause) → sunk ≡ S.NotCreated place
+    → ((s : Sink) → slice_get sinks place ≡ Some s → file ≡ s.file) → IsOr (C.OpenFailed file) found → answer.ended.cause ≡ found → IfOk answer.text (λ l. l ≡ status_text None found)
+    → NothingRan answer.ended → EndsRun sunk counted c sinks fault arrivals answer
+ends_not_created sunk place counted c sinks fault arrivals answer file found e named is same text recorded = subst (λ (r : Sunk). EndsRun r counted c sinks fault arrivals answer) (sym e) (record {
   ends = same_sink (λ n. C.OpenFailed n) sinks place file answer.ended.cause found named is same;
-  line = tells_same answer.line found answer.ended.cause same line;
+  text = tells_same answer.text found answer.ended.cause same text;
   recorded = recorded;
 })
 
-pub ends_not_written : (sunk : Sunk) (place : ℕ) (c : CheckedGraph) (sinks : List Sink) (fault : Option Fault) (arrivals : Arrivals) (answer : Answer) (file : List ℕ) (found : Cause) → sunk ≡ S.NotWritten place
-    → ((s : Sink) → slice_get sinks place ≡ Some s → file ≡ s.file) → IsOr (C.WriteFailed file) found → answer.ended.cause ≡ found → IfOk answer.line (λ l. l ≡ status_text None found)
-    → answer.ended.arrivals ≡ arrivals → EndsRun sunk c sinks fault arrivals answer
-ends_not_written sunk place c sinks fault arrivals answer file found e named is same line recorded = subst (λ (r : Sunk). EndsRun r c sinks fault arrivals answer) (sym e) (record {
+pub ends_not_written : (sunk : Sunk) (place : ℕ) (counted : Bool) (c : CheckedGraph) (sinks : List Sink) (fault : Option Fault) (arrivals : Arrivals) (answer : Answer) (file : List ℕ) (found : Cause) → sunk ≡ S.NotWritten place
+    → ((s : Sink) → slice_get sinks place ≡ Some s → file ≡ s.file) → IsOr (C.WriteFailed file) found → answer.ended.cause ≡ found → IfOk answer.text (λ l. l ≡ status_text None found)
+    → answer.ended.arrivals ≡ arrivals → EndsRun sunk counted c sinks fault arrivals answer
+ends_not_written sunk place counted c sinks fault arrivals answer file found e named is same text recorded = subst (λ (r : Sunk). EndsRun r counted c sinks fault arrivals answer) (sym e) (record {
   ends = same_sink (λ n. C.WriteFailed n) sinks place file answer.ended.cause found named is same;
-  line = tells_same answer.line found answer.ended.cause same line;
+  text = tells_same answer.text found answer.ended.cause same text;
   recorded = recorded;
 })
 
-pub ends_wanting : (sunk : Sunk) (c : CheckedGraph) (sinks : List Sink) (fault : Option Fault) (arrivals : Arrivals) (answer : Answer) → sunk ≡ S.Memory → answer.ended.cause ≡ C.NoMemory
-    → IfOk answer.line (λ l. l ≡ status_text None C.NoMemory) → answer.ended.arrivals ≡ arrivals → EndsRun sunk c sinks fault arrivals answer
-ends_wanting sunk c sinks fault arrivals answer e is line recorded = subst (λ (r : Sunk). EndsRun r c sinks fault arrivals answer) (sym e) (record {
+pub ends_wanting : (sunk : Sunk) (counted : Bool) (c : CheckedGraph) (sinks : List Sink) (fault : Option Fault) (arrivals : Arrivals) (answer : Answer) → sunk ≡ S.Memory → answer.ended.cause ≡ C.NoMemory
+    → IfOk answer.text (λ l. l ≡ status_text None C.NoMemory) → answer.ended.arrivals ≡ arrivals → EndsRun sunk counted c sinks fault arrivals answer
+ends_wanting sunk counted c sinks fault arrivals answer e is text recorded = subst (λ (r : Sunk). EndsRun r counted c sinks fault arrivals answer) (sym e) (record {
   ends = is;
-  line = tells_same answer.line C.NoMemory answer.ended.cause is line;
+  text = tells_same answer.text C.NoMemory answer.ended.cause is text;
   recorded = recorded;
 })
 
-pub ends_done : (sunk : Sunk) (ns : List ℕ) (c : CheckedGraph) (sinks : List Sink) (fault : Option Fault) (arrivals : Arrivals) (answer : Answer) → sunk ≡ S.Done ns
-    → EndsAs fault (counts_from 0 c.parts ns) answer.ended → IfOk answer.line (TellsRun c fault answer.ended.cause) → answer.ended.arrivals ≡ arrivals → EndsRun sunk c sinks fault arrivals answer
-ends_done sunk ns c sinks fault arrivals answer e ends line recorded =
-    subst (λ (r : Sunk). EndsRun r c sinks fault arrivals answer) (sym e) (record { ends = ends; line = line; recorded = recorded })
+pub ends_done : (sunk : Sunk) (ns : List ℕ) (counted : Bool) (c : CheckedGraph) (sinks : List Sink) (fault : Option Fault) (arrivals : Arrivals) (answer : Answer) → sunk ≡ S.Done ns
+    → EndsAs fault (counts_from 0 c.parts ns) answer.ended → IfOk answer.text (TellsRun counted c answer.ended) → answer.ended.arrivals ≡ arrivals → EndsRun sunk counted c sinks fault arrivals answer
+ends_done sunk ns counted c sinks fault arrivals answer e ends text recorded =
+    subst (λ (r : Sunk). EndsRun r counted c sinks fault arrivals answer) (sym e) (record { ends = ends; text = text; recorded = recorded })

@@ -1,25 +1,21 @@
 -- What an answer shows at every shelf: of the counts, of the program and of its run.
-use Rattle.std.proofs.Common.{◌≡◌, ◌≢◌, ◌∙◌, ℕ, Bool, true, false, List, [], ◌∷◌, refl, sym, ap, subst, inl, inr, ◌⊎◌, Option, Some, None}
-use Rattle.std.specs.Prelude.{◌||◌}
+use Rattle.std.proofs.Common.{◌≡◌, ◌≢◌, ◌∙◌, ℕ, true, List, [], refl, sym, ap, subst, inl, inr, ◌⊎◌, Option, Some, None}
 use Rattle.spl_value.specs.declared.item.Fault.{Fault}
 use Rattle.feed_pour.specs.Counts.{Counts, PerName}
 use Rattle.language_model.specs.declared.checked.Part.{Part}
 use Rattle.language_model.specs.CheckedGraph.{CheckedGraph}
-use Rattle.stream_model.specs.Ends.{run_fault}
-use Rattle.stream_model.specs.Meaning.{Graph, Meaning}
 use Rattle.run_report.specs.declared.cause.Cause.{Cause}
 use Rattle.run_report.specs.declared.cause.Cause.TheVariants as C
 use Rattle.command_line.specs.declared.request.Request.{Request}
 use Rattle.command_line.specs.declared.request.Request.TheVariants as R
 use Rattle.command_line.specs.declared.request.RunOptions.{RunOptions}
-use Rattle.check_laws.specs.Files.{is_named}
 use Rattle.source_rows.specs.Counting.{OnlyReads}
-use Rattle.spl_driver.specs.Answer.{DevicesShow, IsRun, LINE, NoCountChanged, StoppedBy, cause_of, counts_of, is_check}
+use Rattle.spl_driver.specs.Answer.{DevicesShow, IsRun, OUT, NoCountChanged, cause_of, is_report}
 use Rattle.spl_driver.specs.Built.{is_built}
-use Rattle.spl_driver.specs.Files.{FilesOf, creates, files_of, opens, program_of, row_files}
-use Rattle.spl_driver.specs.Lines.{ToldAs}
-use Rattle.spl_driver.specs.Outcome.{IsSomeProgram, IsSomeRefusal}
-use Rattle.spl_driver.specs.Shown.{ArePartsOf, IsCheck, IsProgramOf, IsReason, IsRunProgram, LineShown, NothingRan, Ran, RanAs, RanShown, RanTo, RunShown, Shown, ShownBy}
+use Rattle.spl_driver.specs.Files.{FilesOf, files_of, program_of, row_files}
+use Rattle.spl_driver.specs.Texts.{ToldAs}
+use Rattle.spl_driver.specs.Outcome.{IsSomeProgram}
+use Rattle.spl_driver.specs.Shown.{ArePartsOf, IsReport, IsReason, IsRunProgram, TextShown, NothingRan, Ran, RanShown, RunShown, Shown, ShownBy}
 use Rattle.spl_driver.specs.Steps.{CountsShow, FirstOpening, FirstReading, IsRunGraph, RanAccepted, RanGraph, ReasonOf}
 use Rattle.spl_driver.specs.Answer.{IsOr}
 use Rattle.spl_driver.specs.declared.ended.Ended.{Ended}
@@ -74,39 +70,39 @@ program_shown cause request program old new of others at device unrun = record {
     here n e differs (inr (inl is)) = inl (is ∙ ap (λ (m : List ℕ). C.ReadFailed m) (sym e))
     here n e differs (inr (inr same)) = absurd (differs (ap (λ (m : List ℕ). (new m).reading) e ∙ same ∙ sym (ap (λ (m : List ℕ). (old m).reading) e)))
 
-pub unopened_shown : (cause : Cause) (request : Request) (program : List ℕ) (old new : PerName) (Line : Type 0) → program_of request ≡ Some program → IsOr (C.OpenFailed program) cause
-    → FirstOpening program old new → Shown cause (Some request) old new Line
-unopened_shown cause request program old new Line of (inl is) counted =
-    subst (λ (k : Cause). Shown k (Some request) old new Line) (sym is)
+pub unopened_shown : (cause : Cause) (request : Request) (program : List ℕ) (old new : PerName) (Text : Type 0) → program_of request ≡ Some program → IsOr (C.OpenFailed program) cause
+    → FirstOpening program old new → Shown cause (Some request) old new Text
+unopened_shown cause request program old new Text of (inl is) counted =
+    subst (λ (k : Cause). Shown k (Some request) old new Text) (sym is)
     (program_shown (C.OpenFailed program) request program old new of counted.others (inr (inr counted.reading)) (inl (opening_of request program [] old new of counted)) tt)
-unopened_shown cause request program old new Line of (inr is) counted =
-    subst (λ (k : Cause). Shown k (Some request) old new Line) (sym is) (program_shown C.NoMemory request program old new of counted.others (inl refl) tt tt)
+unopened_shown cause request program old new Text of (inr is) counted =
+    subst (λ (k : Cause). Shown k (Some request) old new Text) (sym is) (program_shown C.NoMemory request program old new of counted.others (inl refl) tt tt)
 
-pub unread_shown : (cause : Cause) (request : Request) (program : List ℕ) (old new : PerName) (Line : Type 0) → is_built request ≡ true → program_of request ≡ Some program → IsOr (C.ReadFailed program) cause
-    → FirstReading program old new → Shown cause (Some request) old new Line
-unread_shown cause request program old new Line built of (inl is) counted =
-    subst (λ (k : Cause). Shown k (Some request) old new Line) (sym is)
+pub unread_shown : (cause : Cause) (request : Request) (program : List ℕ) (old new : PerName) (Text : Type 0) → is_built request ≡ true → program_of request ≡ Some program → IsOr (C.ReadFailed program) cause
+    → FirstReading program old new → Shown cause (Some request) old new Text
+unread_shown cause request program old new Text built of (inl is) counted =
+    subst (λ (k : Cause). Shown k (Some request) old new Text) (sym is)
     (program_shown (C.ReadFailed program) request program old new of counted.others (inr (inl refl)) (reading_of request program [] old new built of counted) tt)
-unread_shown cause request program old new Line built of (inr is) counted =
-    subst (λ (k : Cause). Shown k (Some request) old new Line) (sym is) (program_shown C.NoMemory request program old new of counted.others (inl refl) tt tt)
+unread_shown cause request program old new Text built of (inr is) counted =
+    subst (λ (k : Cause). Shown k (Some request) old new Text) (sym is) (program_shown C.NoMemory request program old new of counted.others (inl refl) tt tt)
 
 -- ---- what was done with an accepted program
 
-pub shown_of : (cause : Cause) (request : Option Request) (old new : PerName) (Line : Type 0) → (cause ≡ C.BadWords → ⊥) → ShownBy cause request old new → Shown cause request old new Line
-shown_of C.Done request old new Line other h = h
-shown_of (C.Stopped fault) request old new Line other h = h
-shown_of C.NotBuilt request old new Line other h = h
-shown_of C.BadWords request old new Line other h = absurd (other refl)
-shown_of (C.Refused refusal) request old new Line other h = h
-shown_of (C.OpenFailed name) request old new Line other h = h
-shown_of (C.ReadFailed name) request old new Line other h = h
-shown_of (C.WriteFailed name) request old new Line other h = inl h
-shown_of C.NoMemory request old new Line other h = h
+pub shown_of : (cause : Cause) (request : Option Request) (old new : PerName) (Text : Type 0) → (cause ≡ C.BadWords → ⊥) → ShownBy cause request old new → Shown cause request old new Text
+shown_of C.Done request old new Text other h = h
+shown_of (C.Stopped fault) request old new Text other h = h
+shown_of C.NotBuilt request old new Text other h = h
+shown_of C.BadWords request old new Text other h = absurd (other refl)
+shown_of (C.Refused refusal) request old new Text other h = h
+shown_of (C.OpenFailed name) request old new Text other h = h
+shown_of (C.ReadFailed name) request old new Text other h = h
+shown_of (C.WriteFailed name) request old new Text other h = inl h
+shown_of C.NoMemory request old new Text other h = h
 
-pub shown_after : (cause : Cause) (request : Request) (c : CheckedGraph) (old mid new : PerName) (Line : Type 0) → IsSomeProgram request c
-    → NoCountChanged old mid → CountsShow cause c.parts (files_of (Some request) c.parts) mid new → Shown cause (Some request) old new Line
-shown_after cause request c old mid new Line program quiet h =
-    subst (λ (k : PerName). Shown cause (Some request) k new Line) (same_counts old mid quiet) (shown_of cause (Some request) mid new Line h.words (record {
+pub shown_after : (cause : Cause) (request : Request) (c : CheckedGraph) (old mid new : PerName) (Text : Type 0) → IsSomeProgram request c
+    → NoCountChanged old mid → CountsShow cause c.parts (files_of (Some request) c.parts) mid new → Shown cause (Some request) old new Text
+shown_after cause request c old mid new Text program quiet h =
+    subst (λ (k : PerName). Shown cause (Some request) k new Text) (same_counts old mid quiet) (shown_of cause (Some request) mid new Text h.words (record {
       parts = c.parts;
       are = inr (c, program, refl);
       device = h.device;
@@ -115,53 +111,53 @@ shown_after cause request c old mid new Line program quiet h =
       reading = λ n free differs. absurd (differs (h.reading n free));
     }))
 
--- ---- once the line is told
+-- ---- once the text is told
 
 -- a request was carried out
-pub only_stop : (c : Cause) (request : Option Request) (counts later : PerName) (Line : Type 0) → IsRun c → Shown c request counts later Line
+pub only_stop : (c : Cause) (request : Option Request) (counts later : PerName) (Text : Type 0) → IsRun c → Shown c request counts later Text
     → (parts : List Part) × ArePartsOf request parts × OnlyReads (row_files request parts) counts later
-only_stop c request counts later Line (None, is) h = let s : ShownBy C.Done request counts later = subst (λ (x : Cause). Shown x request counts later Line) is h in (s.parts, s.are, s.device)
-only_stop c request counts later Line (Some fault, is) h = let s : ShownBy (C.Stopped fault) request counts later = subst (λ (x : Cause). Shown x request counts later Line) is h in (s.parts, s.are, s.device)
+only_stop c request counts later Text (None, is) h = let s : ShownBy C.Done request counts later = subst (λ (x : Cause). Shown x request counts later Text) is h in (s.parts, s.are, s.device)
+only_stop c request counts later Text (Some fault, is) h = let s : ShownBy (C.Stopped fault) request counts later = subst (λ (x : Cause). Shown x request counts later Text) is h in (s.parts, s.are, s.device)
 
-pub line_shown : (c : Cause) (request : Option Request) (counts later : PerName) (Line Failed : Type 0) → IsRun c → Failed → Shown c request counts later Line → LineShown LINE request counts later Failed
-line_shown c request counts later Line Failed run failed h =
-    let only = only_stop c request counts later Line run h in
-    record { line = refl; failed = failed; parts = only.0; are = only.1; counted = only.2 }
+pub text_shown : (c : Cause) (request : Option Request) (counts later : PerName) (Text Failed : Type 0) → IsRun c → Failed → Shown c request counts later Text → TextShown OUT request counts later Failed
+text_shown c request counts later Text Failed run failed h =
+    let only = only_stop c request counts later Text run h in
+    record { named = refl; failed = failed; parts = only.0; are = only.1; counted = only.2 }
 
 -- memory may be wanting behind each answer
 wanting_by : (c : Cause) (request : Option Request) (counts later : PerName) → ShownBy c request counts later → ShownBy C.NoMemory request counts later
 wanting_by c request counts later h = record { parts = h.parts; are = h.are; device = tt; stopped = tt; others = h.others; reading = λ n free differs. inr refl }
 
-pub wanting_shown : (c : Cause) (request : Option Request) (counts later : PerName) (Line : Type 0) → Shown c request counts later ⊥ → Shown C.NoMemory request counts later Line
-wanting_shown C.Done request counts later Line h = wanting_by C.Done request counts later h
-wanting_shown (C.Stopped fault) request counts later Line h = wanting_by (C.Stopped fault) request counts later h
-wanting_shown C.NotBuilt request counts later Line h = wanting_by C.NotBuilt request counts later h
-wanting_shown C.BadWords request counts later Line h = quiet_shown C.NoMemory request counts later tt tt h.1
-wanting_shown (C.Refused refusal) request counts later Line h = wanting_by (C.Refused refusal) request counts later h
-wanting_shown (C.OpenFailed name) request counts later Line h = wanting_by (C.OpenFailed name) request counts later h
-wanting_shown (C.ReadFailed name) request counts later Line h = wanting_by (C.ReadFailed name) request counts later h
-wanting_shown (C.WriteFailed name) request counts later Line (inl h) = wanting_by (C.WriteFailed name) request counts later h
-wanting_shown (C.WriteFailed name) request counts later Line (inr h) = absurd h.failed
-wanting_shown C.NoMemory request counts later Line h = h
+pub wanting_shown : (c : Cause) (request : Option Request) (counts later : PerName) (Text : Type 0) → Shown c request counts later ⊥ → Shown C.NoMemory request counts later Text
+wanting_shown C.Done request counts later Text h = wanting_by C.Done request counts later h
+wanting_shown (C.Stopped fault) request counts later Text h = wanting_by (C.Stopped fault) request counts later h
+wanting_shown C.NotBuilt request counts later Text h = wanting_by C.NotBuilt request counts later h
+wanting_shown C.BadWords request counts later Text h = quiet_shown C.NoMemory request counts later tt tt h.1
+wanting_shown (C.Refused refusal) request counts later Text h = wanting_by (C.Refused refusal) request counts later h
+wanting_shown (C.OpenFailed name) request counts later Text h = wanting_by (C.OpenFailed name) request counts later h
+wanting_shown (C.ReadFailed name) request counts later Text h = wanting_by (C.ReadFailed name) request counts later h
+wanting_shown (C.WriteFailed name) request counts later Text (inl h) = wanting_by (C.WriteFailed name) request counts later h
+wanting_shown (C.WriteFailed name) request counts later Text (inr h) = absurd h.failed
+wanting_shown C.NoMemory request counts later Text h = h
 
-shown_line : (c : Cause) (request : Option Request) (counts later : PerName) (Line : Type 0) → Shown c request counts later ⊥ → Shown c request counts later Line
-shown_line C.Done request counts later Line h = h
-shown_line (C.Stopped fault) request counts later Line h = h
-shown_line C.BadWords request counts later Line h = h
-shown_line (C.Refused refusal) request counts later Line h = h
-shown_line C.NotBuilt request counts later Line h = h
-shown_line (C.OpenFailed name) request counts later Line h = h
-shown_line (C.ReadFailed name) request counts later Line h = h
-shown_line (C.WriteFailed name) request counts later Line (inl h) = inl h
-shown_line (C.WriteFailed name) request counts later Line (inr h) = absurd h.failed
-shown_line C.NoMemory request counts later Line h = h
+shown_text : (c : Cause) (request : Option Request) (counts later : PerName) (Text : Type 0) → Shown c request counts later ⊥ → Shown c request counts later Text
+shown_text C.Done request counts later Text h = h
+shown_text (C.Stopped fault) request counts later Text h = h
+shown_text C.BadWords request counts later Text h = h
+shown_text (C.Refused refusal) request counts later Text h = h
+shown_text C.NotBuilt request counts later Text h = h
+shown_text (C.OpenFailed name) request counts later Text h = h
+shown_text (C.ReadFailed name) request counts later Text h = h
+shown_text (C.WriteFailed name) request counts later Text (inl h) = inl h
+shown_text (C.WriteFailed name) request counts later Text (inr h) = absurd h.failed
+shown_text C.NoMemory request counts later Text h = h
 
 -- what the counts show stays
-pub shown_said : (c r : Cause) (request : Option Request) (counts later : PerName) (Line : Type 0) → ToldAs c r Line → Shown c request counts later ⊥ → Shown r request counts later Line
-shown_said c r request counts later Line (inl e) h = subst (λ (x : Cause). Shown x request counts later Line) (sym e) (shown_line c request counts later Line h)
-shown_said c r request counts later Line (inr (inl e)) h = subst (λ (x : Cause). Shown x request counts later Line) (sym e) (wanting_shown c request counts later Line h)
-shown_said c r request counts later Line (inr (inr (e, run, line))) h =
-    subst (λ (x : Cause). Shown x request counts later Line) (sym e) (inr (line_shown c request counts later ⊥ Line run line h))
+pub shown_said : (c r : Cause) (request : Option Request) (counts later : PerName) (Text : Type 0) → ToldAs c r Text → Shown c request counts later ⊥ → Shown r request counts later Text
+shown_said c r request counts later Text (inl e) h = subst (λ (x : Cause). Shown x request counts later Text) (sym e) (shown_text c request counts later Text h)
+shown_said c r request counts later Text (inr (inl e)) h = subst (λ (x : Cause). Shown x request counts later Text) (sym e) (wanting_shown c request counts later Text h)
+shown_said c r request counts later Text (inr (inr (e, run, text))) h =
+    subst (λ (x : Cause). Shown x request counts later Text) (sym e) (inr (text_shown c request counts later ⊥ Text run text h))
 
 -- ---- why a request isn't carried out
 
@@ -180,10 +176,10 @@ reason_of (C.ReadFailed name) request c program h = tt
 reason_of (C.WriteFailed name) request c program h = tt
 reason_of C.NoMemory request c program h = tt
 
-pub reason_said : (c r : Cause) (request : Option Request) (Line : Type 0) → ToldAs c r Line → IsReason c request → IsReason r request
-reason_said c r request Line (inl e) h = subst (λ (k : Cause). IsReason k request) (sym e) h
-reason_said c r request Line (inr (inl e)) h = subst (λ (k : Cause). IsReason k request) (sym e) tt
-reason_said c r request Line (inr (inr (e, run, line))) h = subst (λ (k : Cause). IsReason k request) (sym e) tt
+pub reason_said : (c r : Cause) (request : Option Request) (Text : Type 0) → ToldAs c r Text → IsReason c request → IsReason r request
+reason_said c r request Text (inl e) h = subst (λ (k : Cause). IsReason k request) (sym e) h
+reason_said c r request Text (inr (inl e)) h = subst (λ (k : Cause). IsReason k request) (sym e) tt
+reason_said c r request Text (inr (inr (e, run, text))) h = subst (λ (k : Cause). IsReason k request) (sym e) tt
 
 -- ---- what ran
 
@@ -236,26 +232,26 @@ or_ran expected cause Program Check ended counts now (inl e) plain none =
 or_ran expected cause Program Check ended counts now (inr e) plain none =
     subst (λ (k : Cause). RunShown k Program Check ended counts now) (sym e) (plain_ran C.NoMemory Program Check ended counts now tt none)
 
--- a check ran nothing
-pub check_ran : (cause : Cause) (request : Request) (p : List ℕ) (c : CheckedGraph) (ended : Ended) (counts now : PerName) → request ≡ R.Check p → cause ≡ C.Done → NothingRan ended → RanAccepted cause request c ended counts now
-check_ran cause request p c ended counts now e is none =
-    subst (λ (k : Cause). RunShown k (IsRunGraph request c) (is_check (Some request) ≡ true) ended counts now) (sym is) (inl (ap (λ (q : Request). is_check (Some q)) e, none))
+-- where a program is told of, nothing ran
+pub report_ran : (cause : Cause) (request : Request) (c : CheckedGraph) (ended : Ended) (counts now : PerName) → is_report (Some request) ≡ true → cause ≡ C.Done → NothingRan ended → RanAccepted cause request c ended counts now
+report_ran cause request c ended counts now alone is none =
+    subst (λ (k : Cause). RunShown k (IsRunGraph request c) (is_report (Some request) ≡ true) ended counts now) (sym is) (inl (alone, none))
 
 -- a run ran the graph
 pub graph_ran : (cause : Cause) (request : Request) (p : List ℕ) (options : RunOptions) (c : CheckedGraph) (ended : Ended) (counts now : PerName) → request ≡ R.Run p options → RanGraph cause c ended counts now
     → RanAccepted cause request c ended counts now
 graph_ran cause request p options c ended counts now e h =
-    run_map cause (λ x. x ≡ c) (IsRunGraph request c) ⊥ (is_check (Some request) ≡ true) ended counts now (λ x is. (ap (λ (q : Request). is_check (Some q)) e, is)) (λ never. absurd never) h
+    run_map cause (λ x. x ≡ c) (IsRunGraph request c) ⊥ (is_report (Some request) ≡ true) ended counts now (λ x is. (ap (λ (q : Request). is_report (Some q)) e, is)) (λ never. absurd never) h
 
 -- the request ran its program
 pub request_ran : (cause : Cause) (request : Request) (c : CheckedGraph) (ended : Ended) (counts between later : PerName) → IsSomeProgram request c → NoCountChanged counts between
     → RanAccepted cause request c ended between later → RanShown cause (Some request) ended counts later
 request_ran cause request c ended counts between later program quiet h =
-    run_map cause (IsRunGraph request c) (IsRunProgram (Some request)) (is_check (Some request) ≡ true) (IsCheck (Some request)) ended counts later
+    run_map cause (IsRunGraph request c) (IsRunProgram (Some request)) (is_report (Some request) ≡ true) (IsReport (Some request)) ended counts later
     (λ x is. (is.0, subst (IsSomeProgram request) (sym is.1) program)) (λ check. (check, (c, program)))
     (subst (λ (k : PerName). RanAccepted cause request c ended k later) (same_counts counts between quiet) h)
 
--- once the line is told
+-- once the text is told
 abbrev pub with_cause : Ended → Cause → ℕ → Ended
 with_cause ended cause status = record { status = status; cause = cause; arrivals = ended.arrivals; counts = ended.counts }
 
@@ -291,19 +287,19 @@ run_wanting (C.Refused refusal) Program Check ended counts now none = inl none.l
 run_wanting C.NotBuilt Program Check ended counts now none = inl none.lists
 run_wanting (C.ReadFailed name) Program Check ended counts now none = inl none.lists
 
--- its line wasn't written
+-- its text wasn't written
 run_unwritten : (fault : Option Fault) (Program : CheckedGraph → Type 0) (Check : Type 0) (ended : Ended) (r : Cause) (status : ℕ) (counts now : PerName) → RunShown (cause_of fault) Program Check ended counts now
-    → RunShown (C.WriteFailed LINE) Program Check (with_cause ended r status) counts now
+    → RunShown (C.WriteFailed OUT) Program Check (with_cause ended r status) counts now
 run_unwritten None Program Check ended r status counts now (inl (check, none)) = inl (check, none_same ended r status none)
 run_unwritten None Program Check ended r status counts now (inr (c, g, m, p, ran, fault, counted)) = inr (c, g, m, p, ran)
 run_unwritten (Some f) Program Check ended r status counts now (c, g, m, p, ran, fault, counted) = inr (c, g, m, p, ran)
 
-pub ran_said : (request : Option Request) (ended : Ended) (r : Cause) (status : ℕ) (counts now : PerName) (Line : Type 0) → ToldAs ended.cause r Line → RanShown ended.cause request ended counts now
+pub ran_said : (request : Option Request) (ended : Ended) (r : Cause) (status : ℕ) (counts now : PerName) (Text : Type 0) → ToldAs ended.cause r Text → RanShown ended.cause request ended counts now
     → RanShown r request (with_cause ended r status) counts now
-ran_said request ended r status counts now Line (inl e) h =
-    subst (λ (k : Cause). RanShown k request (with_cause ended r status) counts now) (sym e) (run_same ended.cause (IsRunProgram request) (IsCheck request) ended r status counts now h)
-ran_said request ended r status counts now Line (inr (inl e)) h =
-    subst (λ (k : Cause). RanShown k request (with_cause ended r status) counts now) (sym e) (run_wanting ended.cause (IsRunProgram request) (IsCheck request) ended counts now h)
-ran_said request ended r status counts now Line (inr (inr (e, (fault, run), line))) h =
+ran_said request ended r status counts now Text (inl e) h =
+    subst (λ (k : Cause). RanShown k request (with_cause ended r status) counts now) (sym e) (run_same ended.cause (IsRunProgram request) (IsReport request) ended r status counts now h)
+ran_said request ended r status counts now Text (inr (inl e)) h =
+    subst (λ (k : Cause). RanShown k request (with_cause ended r status) counts now) (sym e) (run_wanting ended.cause (IsRunProgram request) (IsReport request) ended counts now h)
+ran_said request ended r status counts now Text (inr (inr (e, (fault, run), text))) h =
     subst (λ (k : Cause). RanShown k request (with_cause ended r status) counts now) (sym e)
-    (run_unwritten fault (IsRunProgram request) (IsCheck request) ended r status counts now (subst (λ (k : Cause). RanShown k request ended counts now) run h))
+    (run_unwritten fault (IsRunProgram request) (IsReport request) ended r status counts now (subst (λ (k : Cause). RanShown k request ended counts now) run h))

@@ -1,5 +1,5 @@
 -- No program comes to nothing, and a program that is too long is refused.
-use Rattle.std.specs.Prelude.{◌≡◌, ◌<◌, ◌≤◌, ℕ, ◌+◌, nat_lt, Bool, if◌then◌else◌, List, [], ◌∷◌, ◌++◌, length, take, drop, Option, Some, None, Result, Ok, Err}
+use Rattle.std.specs.Prelude.{◌≡◌, ◌<◌, ℕ, ◌+◌, Bool, if◌then◌else◌, List, [], ◌∷◌, ◌++◌, length, take, drop, Option, Some, None, Result, Ok, Err}
 use Rattle.std.proofs.Common.{refl, sym, ap, ◌∙◌, subst, arith, append_assoc, length-append}
 use Rattle.std.proofs.lemmas.Bool.{lt-ltb}
 use Rattle.std.proofs.Math.Seq.{take-append_seam, drop-append_seam}
@@ -15,7 +15,7 @@ use Rattle.spl_tree.specs.Tokens as lexical
 use Rattle.spl_tree.specs.UnitGrammar.{SpellsUnit, unit, no_namespace}
 use Rattle.spl_tree.specs.Units.{IsUnit, IsUnexpectedAt, place_of}
 use Rattle.spl_tree.specs.Weights.{too_deep_from}
-use Rattle.language_model.specs.Accepted.{Lexical, TooDeep, Unexpected, Expansion, IsAccepted, no_tokens, too_deep, unexpected, no_graph, checks, refused_check}
+use Rattle.language_model.specs.Accepted.{Lexical, TooDeep, Unexpected, Expansion, no_tokens, too_deep, unexpected, no_graph, checks, refused_check}
 use Rattle.language_model.specs.Checking.{checked}
 use Rattle.language_model.specs.Expansion.{Found}
 use Rattle.language_model.specs.Flat.{IsFlat}

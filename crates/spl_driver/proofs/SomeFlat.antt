@@ -1,5 +1,5 @@
 -- A unit comes to a graph or to a refusal.
-use Rattle.std.specs.Prelude.{◌≡◌, ◌<◌, ◌≤◌, ◌⊎◌, ℕ, zero, suc, ◌+◌, Bool, true, false, if◌then◌else◌, codes, List, [], ◌∷◌, map, filter_map, Option, Some, None, Ok, Err, slice_get}
+use Rattle.std.specs.Prelude.{◌≡◌, ◌<◌, ◌≤◌, ◌⊎◌, ℕ, zero, suc, ◌+◌, Bool, true, false, if◌then◌else◌, codes, List, [], ◌∷◌, filter_map, Option, Some, None, Err, slice_get}
 use Rattle.std.specs.List.{Contains}
 use Rattle.std.specs.Option.{option_map}
 use Rattle.std.proofs.Common.{refl, sym, ap, ◌∙◌, subst, arith, inl, inr}
@@ -14,7 +14,7 @@ use Rattle.language_model.specs.Composites.{composites, composite_named, has_no_
 use Rattle.language_model.specs.Declarations.{declared_twice}
 use Rattle.language_model.specs.Expansion.{Found}
 use Rattle.language_model.specs.Flat.{IsMain, IsFlat, flat_from, twice, no_main, recursive, expands}
-use Rattle.language_model.specs.Recursion.{Caller, Calls, call_among, calls_among, IsCall, Leads, directly, through, IsBack, IsFirstRecursion, IsFirstIn, HasNoRecursion, IsRecursive, in_functions, in_composites, IsNotRecursive, function_callers, composite_callers}
+use Rattle.language_model.specs.Recursion.{Caller, Calls, call_among, calls_among, IsCall, Leads, directly, through, IsBack, IsFirstIn, HasNoRecursion, IsRecursive, in_functions, in_composites, IsNotRecursive, function_callers, composite_callers}
 use Rattle.language_model.specs.Scopes.{At, at_place, first_from}
 
 -- ---- the least number

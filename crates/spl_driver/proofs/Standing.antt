@@ -1,5 +1,5 @@
 -- What each answer means, from what the steps of a request did.
-use Rattle.std.proofs.Common.{◌≡◌, ◌≢◌, ◌∙◌, ◌<◌, ◌-◌, ◌^◌, arith, ℕ, Bool, true, false, List, [], ◌∷◌, ◌++◌, refl, sym, ap, subst, inl, inr, ◌⊎◌, Option, Some, None, Result, Ok, Err}
+use Rattle.std.proofs.Common.{◌≡◌, ◌≢◌, ◌∙◌, ◌<◌, ◌-◌, ◌^◌, arith, ℕ, Bool, true, false, List, [], ◌∷◌, refl, sym, ap, subst, inl, inr, ◌⊎◌, Option, Some, None, Result, Ok, Err}
 use Rattle.std.specs.Prelude.{IfSome, ◌||◌, IfOk}
 use Rattle.feed_pour.specs.Counts.{PerName}
 use Rattle.feed_pour.specs.Contents.{Told, WhereTold, TellsSame}
@@ -17,12 +17,11 @@ use Rattle.command_line.specs.Request.{file_names}
 use Rattle.check_laws.specs.Files.{is_named, source_files}
 use Rattle.spl_value.specs.declared.item.Fault.{Fault}
 use Rattle.source_rows.specs.Counting.{OpeningFailed}
-use Rattle.source_rows.specs.Sources.{ReadsFail}
 use Rattle.spl_driver.specs.Built.{is_built}
 use Rattle.spl_driver.specs.Files.{FilesOf, files_of, opens, creates, row_files, whole_files, program_of}
-use Rattle.spl_driver.specs.Outcome.{RequestOutcome, NoRequest, Refused, NotBuilt, Checks, Runs, has_fault, IsOutcome, IsSomeProgram, no_request, not_built, ArePartsIn, of_program}
-use Rattle.spl_driver.specs.Answer.{SameFiles, Begun, CauseMeans, ChecksTo, RunsTo, WroteOthers, TellingFailed, DevicesMean, DevicesShow, ReadingFailed, ReadingAnswered, WholeReads, WholeFails, NoCountChanged, StoppedBy, Answered, ByWords, IsOr}
-use Rattle.spl_driver.specs.Lines.{EndsWith, IsToldOutcome, IsLine, IsLineOf, MayComeTo}
+use Rattle.spl_driver.specs.Outcome.{RequestOutcome, NoRequest, Refused, NotBuilt, Reports, Runs, has_fault, IsOutcome, IsSomeProgram, no_request, not_built, ArePartsIn, of_program}
+use Rattle.spl_driver.specs.Answer.{SameFiles, Begun, CauseMeans, ReportsTo, RunsTo, WroteOthers, TellingFailed, DevicesMean, ReadingFailed, ReadingAnswered, WholeReads, WholeFails, NoCountChanged, StoppedBy, Answered, ByWords, IsOr}
+use Rattle.spl_driver.specs.Texts.{wants_counts, EndsWith, IsToldOutcome, IsText, IsTextOf, MayComeTo}
 use Rattle.spl_driver.specs.RequestLaws.{OneOutcomeLaw, OnePartsLaw}
 use Rattle.spl_driver.specs.Steps.{FirstOpening, FirstReading, MayBeOutcome, CompiledAt, accepted_outcome, IsAcceptedOutcome, IsToldAcceptedOutcome, CountsShow, FilesShow}
 use Rattle.spl_driver.specs.declared.compiled.Compiled.TheVariants as P
@@ -54,7 +53,7 @@ BegunSame = (result : RequestOutcome) (t u : Told) → SameFiles t u → Begun r
 
 pub means_map : (cause : Cause) (Is Js : RequestOutcome → Type 0) (ended : Ended) (t u : Told) → ((r : RequestOutcome) → Is r → Js r) → ((r : RequestOutcome) → Js r → Is r)
     → CauseMeans cause Is ended t u → CauseMeans cause Js ended t u
-means_map C.Done Is Js ended t u to from (inl (c, is, same, counts)) = inl (c, to (Checks c) is, same, counts)
+means_map C.Done Is Js ended t u to from (inl (report, c, is, same, counts)) = inl (report, c, to (Reports report c) is, same, counts)
 means_map C.Done Is Js ended t u to from (inr (c, g, m, is, e, h)) = inr (c, g, m, to (Runs c g m) is, e, h)
 means_map (C.Stopped fault) Is Js ended t u to from (c, g, m, is, e, h) = (c, g, m, to (Runs c g m) is, e, h)
 means_map C.BadWords Is Js ended t u to from (is, same) = (to NoRequest is, same)
@@ -65,15 +64,15 @@ means_map (C.ReadFailed name) Is Js ended t u to from h = h
 means_map (C.WriteFailed name) Is Js ended t u to from h = λ r js. h r (from r js)
 means_map C.NoMemory Is Js ended t u to from h = λ r js. h r (from r js)
 
-checks_map : (Is Js : RequestOutcome → Type 0) (ended : Ended) (t u : Told) → ((r : RequestOutcome) → Is r → Js r) → ChecksTo Is ended t u → ChecksTo Js ended t u
-checks_map Is Js ended t u to (c, is, same, counts) = (c, to (Checks c) is, same, counts)
+reports_map : (Is Js : RequestOutcome → Type 0) (ended : Ended) (t u : Told) → ((r : RequestOutcome) → Is r → Js r) → ReportsTo Is ended t u → ReportsTo Js ended t u
+reports_map Is Js ended t u to (report, c, is, same, counts) = (report, c, to (Reports report c) is, same, counts)
 
 runs_map : (Is Js : RequestOutcome → Type 0) (fault : Option Fault) (ended : Ended) (u : Told) → ((r : RequestOutcome) → Is r → Js r) → RunsTo fault Is ended u → RunsTo fault Js ended u
 runs_map Is Js fault ended u to (c, g, m, is, e, h) = (c, g, m, to (Runs c g m) is, e, h)
 
-ran_map : (Is Js : RequestOutcome → Type 0) (ended : Ended) (t u : Told) → ((r : RequestOutcome) → Is r → Js r) → ChecksTo Is ended t u ⊎ ((fault : Option Fault) × RunsTo fault Is ended u)
-    → ChecksTo Js ended t u ⊎ ((fault : Option Fault) × RunsTo fault Js ended u)
-ran_map Is Js ended t u to (inl h) = inl (checks_map Is Js ended t u to h)
+ran_map : (Is Js : RequestOutcome → Type 0) (ended : Ended) (t u : Told) → ((r : RequestOutcome) → Is r → Js r) → ReportsTo Is ended t u ⊎ ((fault : Option Fault) × RunsTo fault Is ended u)
+    → ReportsTo Js ended t u ⊎ ((fault : Option Fault) × RunsTo fault Js ended u)
+ran_map Is Js ended t u to (inl h) = inl (reports_map Is Js ended t u to h)
 ran_map Is Js ended t u to (inr (fault, h)) = inr (fault, runs_map Is Js fault ended u to h)
 
 others_map : (Is Js : RequestOutcome → Type 0) (counts now : PerName) (ended : Ended) (u : Told) → ((r : RequestOutcome) → Is r → Js r) → WroteOthers Is counts now ended u → WroteOthers Js counts now ended u
@@ -86,36 +85,36 @@ others_map Is Js counts now ended u to h = record {
   recorded = h.recorded;
 }
 
-telling_map : (files : FilesOf) (name : List ℕ) (counts now : PerName) (Line : Type 0) (Is Js : RequestOutcome → Type 0) (ended : Ended) (t u : Told) → ((r : RequestOutcome) → Is r → Js r)
-    → TellingFailed files name counts now Line Is ended t u → TellingFailed files name counts now Line Js ended t u
-telling_map files name counts now Line Is Js ended t u to h = record { line = h.line; failed = h.failed; counted = h.counted; ran = ran_map Is Js ended t u to h.ran }
+telling_map : (files : FilesOf) (name : List ℕ) (counts now : PerName) (Text : Type 0) (Is Js : RequestOutcome → Type 0) (ended : Ended) (t u : Told) → ((r : RequestOutcome) → Is r → Js r)
+    → TellingFailed files name counts now Text Is ended t u → TellingFailed files name counts now Text Js ended t u
+telling_map files name counts now Text Is Js ended t u to h = record { named = h.named; failed = h.failed; counted = h.counted; ran = ran_map Is Js ended t u to h.ran }
 
-pub devices_map : (cause : Cause) (files : FilesOf) (counts now : PerName) (Line : Type 0) (Is Js : RequestOutcome → Type 0) (ended : Ended) (t u : Told) → ((r : RequestOutcome) → Is r → Js r)
-    → DevicesMean cause files counts now Line Is ended t u → DevicesMean cause files counts now Line Js ended t u
-devices_map (C.OpenFailed name) files counts now Line Is Js ended t u to h = h
-devices_map (C.WriteFailed name) files counts now Line Is Js ended t u to (inl h) = inl (h.0, others_map Is Js counts now ended u to h.1)
-devices_map (C.WriteFailed name) files counts now Line Is Js ended t u to (inr h) = inr (telling_map files name counts now Line Is Js ended t u to h)
-devices_map C.Done files counts now Line Is Js ended t u to h = h
-devices_map (C.Stopped fault) files counts now Line Is Js ended t u to h = h
-devices_map C.NotBuilt files counts now Line Is Js ended t u to h = h
-devices_map C.BadWords files counts now Line Is Js ended t u to h = h
-devices_map (C.Refused refusal) files counts now Line Is Js ended t u to h = h
-devices_map (C.ReadFailed name) files counts now Line Is Js ended t u to h = h
-devices_map C.NoMemory files counts now Line Is Js ended t u to h = h
+pub devices_map : (cause : Cause) (files : FilesOf) (counts now : PerName) (Text : Type 0) (Is Js : RequestOutcome → Type 0) (ended : Ended) (t u : Told) → ((r : RequestOutcome) → Is r → Js r)
+    → DevicesMean cause files counts now Text Is ended t u → DevicesMean cause files counts now Text Js ended t u
+devices_map (C.OpenFailed name) files counts now Text Is Js ended t u to h = h
+devices_map (C.WriteFailed name) files counts now Text Is Js ended t u to (inl h) = inl (h.0, others_map Is Js counts now ended u to h.1)
+devices_map (C.WriteFailed name) files counts now Text Is Js ended t u to (inr h) = inr (telling_map files name counts now Text Is Js ended t u to h)
+devices_map C.Done files counts now Text Is Js ended t u to h = h
+devices_map (C.Stopped fault) files counts now Text Is Js ended t u to h = h
+devices_map C.NotBuilt files counts now Text Is Js ended t u to h = h
+devices_map C.BadWords files counts now Text Is Js ended t u to h = h
+devices_map (C.Refused refusal) files counts now Text Is Js ended t u to h = h
+devices_map (C.ReadFailed name) files counts now Text Is Js ended t u to h = h
+devices_map C.NoMemory files counts now Text Is Js ended t u to h = h
 
-line_of_map : (Is Js : RequestOutcome → Type 0) (cause : Cause) (line : List ℕ) → ((r : RequestOutcome) → EndsWith r cause → Is r → Js r) → IsLineOf Is cause line → IsLineOf Js cause line
-line_of_map Is Js cause line to (r, is, ends, e) = (r, to r ends is, ends, e)
+text_of_map : (counted : Bool) (Is Js : RequestOutcome → Type 0) (cause : Cause) (text : List ℕ) → ((r : RequestOutcome) → EndsWith r cause → Is r → Js r) → IsTextOf counted Is cause text → IsTextOf counted Js cause text
+text_of_map counted Is Js cause text to (r, is, ends, e) = (r, to r ends is, ends, e)
 
-pub line_map : (cause : Cause) (Is Js : RequestOutcome → Type 0) (line : List ℕ) → ((r : RequestOutcome) → EndsWith r cause → Is r → Js r) → IsLine cause Is line → IsLine cause Js line
-line_map C.Done Is Js line to is = line_of_map Is Js C.Done line to is
-line_map (C.Stopped fault) Is Js line to is = line_of_map Is Js (C.Stopped fault) line to is
-line_map C.NoMemory Is Js line to is = is
-line_map C.BadWords Is Js line to is = is
-line_map (C.Refused refusal) Is Js line to is = is
-line_map C.NotBuilt Is Js line to is = is
-line_map (C.OpenFailed name) Is Js line to is = is
-line_map (C.ReadFailed name) Is Js line to is = is
-line_map (C.WriteFailed name) Is Js line to is = is
+pub text_map : (counted : Bool) (cause : Cause) (Is Js : RequestOutcome → Type 0) (text : List ℕ) → ((r : RequestOutcome) → EndsWith r cause → Is r → Js r) → IsText counted cause Is text → IsText counted cause Js text
+text_map counted C.Done Is Js text to is = text_of_map counted Is Js C.Done text to is
+text_map counted (C.Stopped fault) Is Js text to is = text_of_map counted Is Js (C.Stopped fault) text to is
+text_map counted C.NoMemory Is Js text to is = is
+text_map counted C.BadWords Is Js text to is = is
+text_map counted (C.Refused refusal) Is Js text to is = is
+text_map counted C.NotBuilt Is Js text to is = is
+text_map counted (C.OpenFailed name) Is Js text to is = is
+text_map counted (C.ReadFailed name) Is Js text to is = is
+text_map counted (C.WriteFailed name) Is Js text to is = is
 
 -- ---- answers before anything was done
 
@@ -136,17 +135,17 @@ IsQuiet (C.OpenFailed name) = ⊥
 IsQuiet (C.ReadFailed name) = ⊥
 IsQuiet (C.WriteFailed name) = ⊥
 
-pub quiet_devices : (cause : Cause) (files : FilesOf) (counts now : PerName) (Line : Type 0) (Is : RequestOutcome → Type 0) (ended : Ended) (t u : Told) → IsQuiet cause → NoCountChanged counts now
-    → DevicesMean cause files counts now Line Is ended t u
-quiet_devices C.Done files counts now Line Is ended t u is quiet = quiet_only files.rows counts now quiet
-quiet_devices (C.Stopped fault) files counts now Line Is ended t u is quiet = quiet_only files.rows counts now quiet
-quiet_devices C.NotBuilt files counts now Line Is ended t u is quiet = quiet
-quiet_devices C.BadWords files counts now Line Is ended t u is quiet = quiet
-quiet_devices (C.Refused refusal) files counts now Line Is ended t u is quiet = quiet
-quiet_devices C.NoMemory files counts now Line Is ended t u is quiet = tt
-quiet_devices (C.OpenFailed name) files counts now Line Is ended t u is quiet = absurd is
-quiet_devices (C.ReadFailed name) files counts now Line Is ended t u is quiet = absurd is
-quiet_devices (C.WriteFailed name) files counts now Line Is ended t u is quiet = absurd is
+pub quiet_devices : (cause : Cause) (files : FilesOf) (counts now : PerName) (Text : Type 0) (Is : RequestOutcome → Type 0) (ended : Ended) (t u : Told) → IsQuiet cause → NoCountChanged counts now
+    → DevicesMean cause files counts now Text Is ended t u
+quiet_devices C.Done files counts now Text Is ended t u is quiet = quiet_only files.rows counts now quiet
+quiet_devices (C.Stopped fault) files counts now Text Is ended t u is quiet = quiet_only files.rows counts now quiet
+quiet_devices C.NotBuilt files counts now Text Is ended t u is quiet = quiet
+quiet_devices C.BadWords files counts now Text Is ended t u is quiet = quiet
+quiet_devices (C.Refused refusal) files counts now Text Is ended t u is quiet = quiet
+quiet_devices C.NoMemory files counts now Text Is ended t u is quiet = tt
+quiet_devices (C.OpenFailed name) files counts now Text Is ended t u is quiet = absurd is
+quiet_devices (C.ReadFailed name) files counts now Text Is ended t u is quiet = absurd is
+quiet_devices (C.WriteFailed name) files counts now Text Is ended t u is quiet = absurd is
 
 -- a cause that is no fault of a run
 abbrev pub IsUnrun : Cause → Type 0
@@ -254,7 +253,7 @@ refused_answer told now request program refusal ended counts later built of is m
 whole_program : (request : Request) (program : List ℕ) → is_built request ≡ true → program_of request ≡ Some program → whole_files (Some request) ≡ program ∷ []
 whole_program (R.Check p) program built of = let same : p ≡ program = cc in ap (λ (q : List ℕ). q ∷ []) same
 whole_program (R.Run p options) program built of = let same : p ≡ program = cc in ap (λ (q : List ℕ). q ∷ []) same
-whole_program (R.Plan p) program built of = absurd (let bad : false ≡ true = built in cc)
+whole_program (R.Plan p) program built of = let same : p ≡ program = cc in ap (λ (q : List ℕ). q ∷ []) same
 whole_program (R.Replay p arrivals) program built of = absurd (let bad : false ≡ true = built in cc)
 whole_program (R.Simulate p width schedule steps) program built of = absurd (let bad : false ≡ true = built in cc)
 whole_program (R.Make name rows start) program built of = absurd (let bad : false ≡ true = built in cc)
@@ -391,12 +390,12 @@ accepted_answer one parts_one (Some t) (Some s) (Some u) request program c ended
       reads = f.reads;
     }
 
--- the line of what was done
+-- the text of what was done
 may_come : (request : Request) (c : CheckedGraph) (arrivals : Arrivals) (counts now : PerName) (r : RequestOutcome) → IsSomeProgram request c → MayBeOutcome request c arrivals counts now r
     → MayComeTo (Some request) arrivals counts now r
 may_come (R.Check p) c arrivals counts now r from e = subst (MayComeTo (Some (R.Check p)) arrivals counts now) (sym e) from
 may_come (R.Run p options) c arrivals counts now r from (g, m, ran, e) = subst (MayComeTo (Some (R.Run p options)) arrivals counts now) (sym e) (from, ran)
-may_come (R.Plan p) c arrivals counts now r from h = absurd h
+may_come (R.Plan p) c arrivals counts now r from e = subst (MayComeTo (Some (R.Plan p)) arrivals counts now) (sym e) from
 may_come (R.Replay p file) c arrivals counts now r from h = absurd h
 may_come (R.Simulate p width schedule steps) c arrivals counts now r from h = absurd h
 may_come (R.Make name rows start) c arrivals counts now r from h = absurd h
@@ -410,22 +409,22 @@ told_outcome (Some t) (Some s) request program c arrivals r built of made same e
     subst (IsOutcome t arrivals (Some request)) (sym (e ∙ ap (λ (x : Told). accepted_outcome request c x arrivals) (same_told t s same)))
     (outcome_of t request program arrivals (Ok c) built of made.0 made.1)
 
-accepted_line_of : (told mid : Option Told) (request : Request) (program : List ℕ) (c : CheckedGraph) (cause : Cause) (arrivals : Arrivals) (line : List ℕ) (counts now : PerName)
+accepted_text_of : (told mid : Option Told) (request : Request) (program : List ℕ) (c : CheckedGraph) (cause : Cause) (arrivals : Arrivals) (text : List ℕ) (counts now : PerName)
     → is_built request ≡ true → program_of request ≡ Some program → IsSomeProgram request c
     → IfSome told (λ t. CompiledAt (P.Checked c) (t.script program) (file_names request)) → WhereTold told mid TellsSame
-    → IsLine cause (IsToldAcceptedOutcome request c arrivals mid counts now) line → IsLine cause (IsToldOutcome (Some request) told arrivals counts now) line
-accepted_line_of told mid request program c cause arrivals line counts now built of from made same is =
-    line_map cause (IsToldAcceptedOutcome request c arrivals mid counts now) (IsToldOutcome (Some request) told arrivals counts now) line
+    → IsText (wants_counts (Some request)) cause (IsToldAcceptedOutcome request c arrivals mid counts now) text → IsText (wants_counts (Some request)) cause (IsToldOutcome (Some request) told arrivals counts now) text
+accepted_text_of told mid request program c cause arrivals text counts now built of from made same is =
+    text_map (wants_counts (Some request)) cause (IsToldAcceptedOutcome request c arrivals mid counts now) (IsToldOutcome (Some request) told arrivals counts now) text
     (λ r ends h. (may_come request c arrivals counts now r from h.0, told_outcome told mid request program c arrivals r built of made same h.1)) is
 
-pub accepted_line : (told mid : Option Told) (request : Request) (program : List ℕ) (c : CheckedGraph) (cause : Cause) (arrivals : Arrivals) (line : Result (List ℕ) NoMemory) (counts between now : PerName)
+pub accepted_text : (told mid : Option Told) (request : Request) (program : List ℕ) (c : CheckedGraph) (cause : Cause) (arrivals : Arrivals) (text : Result (List ℕ) NoMemory) (counts between now : PerName)
     → is_built request ≡ true → program_of request ≡ Some program → IsSomeProgram request c
     → IfSome told (λ t. CompiledAt (P.Checked c) (t.script program) (file_names request)) → WhereTold told mid TellsSame → NoCountChanged counts between
-    → IfOk line (IsLine cause (IsToldAcceptedOutcome request c arrivals mid between now)) → IfOk line (IsLine cause (IsToldOutcome (Some request) told arrivals counts now))
-accepted_line told mid request program c cause arrivals (Ok line) counts between now built of from made same quiet is =
-    accepted_line_of told mid request program c cause arrivals line counts now built of from made same
-    (subst (λ (k : PerName). IsLine cause (IsToldAcceptedOutcome request c arrivals mid k now) line) (same_counts counts between quiet) is)
-accepted_line told mid request program c cause arrivals (Err e) counts between now built of from made same quiet is = tt
+    → IfOk text (IsText (wants_counts (Some request)) cause (IsToldAcceptedOutcome request c arrivals mid between now)) → IfOk text (IsText (wants_counts (Some request)) cause (IsToldOutcome (Some request) told arrivals counts now))
+accepted_text told mid request program c cause arrivals (Ok text) counts between now built of from made same quiet is =
+    accepted_text_of told mid request program c cause arrivals text counts now built of from made same
+    (subst (λ (k : PerName). IsText (wants_counts (Some request)) cause (IsToldAcceptedOutcome request c arrivals mid k now) text) (same_counts counts between quiet) is)
+accepted_text told mid request program c cause arrivals (Err e) counts between now built of from made same quiet is = tt
 
 -- a request that is built isn't decided by its words
 pub built_words : (request : Request) (cause : Cause) (old new : PerName) → is_built request ≡ true → ByWords (Some request) cause old new

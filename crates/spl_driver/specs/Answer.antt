@@ -1,5 +1,5 @@
 -- Which answer a request gets, and what each answer means.
-use Rattle.std.specs.Prelude.{◌≡◌, ◌≢◌, ◌-◌, ◌^◌, ◌⊎◌, ◌||◌, min, ℕ, Bool, List, [], ◌∷◌, ◌++◌, codes, map, length, take, false, true, Option, Some, None, ⊤, IfSome, slice_get}
+use Rattle.std.specs.Prelude.{◌≡◌, ◌≢◌, ◌-◌, ◌^◌, ◌⊎◌, ◌||◌, min, ℕ, Bool, List, [], ◌∷◌, ◌++◌, codes, map, length, take, false, true, Option, Some, None, ⊤, slice_get}
 use Rattle.std.specs.List.{All, filter_map}
 use Rattle.feed_pour.specs.Counts.{PerName, Rose}
 use Rattle.feed_pour.specs.Contents.{Told}
@@ -26,7 +26,7 @@ use Rattle.source_rows.specs.Counting.{OnlyRead, OnlyReads, OpeningFailed}
 use Rattle.source_rows.specs.Sources.{ReadsFail}
 use Rattle.spl_driver.specs.Built.{is_built}
 use Rattle.spl_driver.specs.Files.{FilesOf, opens, creates, files_of}
-use Rattle.spl_driver.specs.Outcome.{RequestOutcome, NoRequest, Unreadable, Refused, NotBuilt, Checks, Runs, IsOutcome, ArePartsIn, has_fault}
+use Rattle.spl_driver.specs.Outcome.{Report, RequestOutcome, NoRequest, Unreadable, Refused, NotBuilt, Reports, Runs, IsOutcome, ArePartsIn, has_fault}
 use Rattle.spl_driver.specs.declared.ended.Ended.{Ended}
 
 -- ---- a run that was carried out
@@ -86,9 +86,9 @@ RunsTo fault Is ended new =
 abbrev pub uncounted : Counts
 uncounted = record { channels = []; sinks = [] }
 
--- a program was checked, no file changed, and nothing was counted
-abbrev pub ChecksTo : (RequestOutcome → Type 0) → Ended → Told → Told → Type 0
-ChecksTo Is ended old new = (c : CheckedGraph) × Is (Checks c) × SameFiles old new × (ended.counts ≡ uncounted)
+-- a program was checked to be told of, no file changed, and nothing was counted
+abbrev pub ReportsTo : (RequestOutcome → Type 0) → Ended → Told → Told → Type 0
+ReportsTo Is ended old new = (report : Report) × (c : CheckedGraph) × Is (Reports report c) × SameFiles old new × (ended.counts ≡ uncounted)
 
 -- ---- what each answer means
 
@@ -99,7 +99,7 @@ Begun _ old new = SameFiles old new
 
 -- what a cause means, by the outcome of the request and the files
 abbrev pub CauseMeans : Cause → (RequestOutcome → Type 0) → Ended → Told → Told → Type 0
-CauseMeans C.Done Is ended old new = ChecksTo Is ended old new ⊎ RunsTo None Is ended new
+CauseMeans C.Done Is ended old new = ReportsTo Is ended old new ⊎ RunsTo None Is ended new
 CauseMeans (C.Stopped fault) Is ended old new = RunsTo (Some fault) Is ended new
 CauseMeans C.BadWords Is ended old new = Is NoRequest × SameFiles old new
 CauseMeans (C.Refused refusal) Is ended old new = Is (Refused refusal) × SameFiles old new
@@ -197,30 +197,30 @@ pub record WroteOthers (Is : RequestOutcome → Type 0) (counts now : PerName) (
   pub texts : EachSink (HoldsUnlessFailed meaning counts now new) graph.ops
   pub recorded : IsRecordOf graph meaning ended.arrivals
 
--- the name that stands for the line
-abbrev pub LINE : List ℕ
-LINE = codes "-"
+-- the name that stands for standard output
+abbrev pub OUT : List ℕ
+OUT = codes "-"
 
--- The line of a request that was carried out couldn't be told.
-pub record TellingFailed (files : FilesOf) (name : List ℕ) (counts now : PerName) (LineFailed : Type 0) (Is : RequestOutcome → Type 0) (ended : Ended) (old new : Told) : Type 0 where
-  pub line : name ≡ LINE
-  pub failed : LineFailed
+-- The text of a request that was carried out couldn't be told.
+pub record TellingFailed (files : FilesOf) (name : List ℕ) (counts now : PerName) (TextFailed : Type 0) (Is : RequestOutcome → Type 0) (ended : Ended) (old new : Told) : Type 0 where
+  pub named : name ≡ OUT
+  pub failed : TextFailed
   pub counted : OnlyReads files.rows counts now
-  pub ran : ChecksTo Is ended old new ⊎ ((fault : Option Fault) × RunsTo fault Is ended new)
+  pub ran : ReportsTo Is ended old new ⊎ ((fault : Option Fault) × RunsTo fault Is ended new)
 
 -- what the counts and the files show of each cause
 abbrev pub DevicesMean : Cause → FilesOf → PerName → PerName → Type 0 → (RequestOutcome → Type 0) → Ended → Told → Told → Type 0
-DevicesMean (C.OpenFailed name) files counts now LineFailed Is ended old new =
+DevicesMean (C.OpenFailed name) files counts now TextFailed Is ended old new =
     (OpeningFailed files.opened name counts now × SameFiles old new) ⊎ ((f : CreatingFailed files name counts now) × Emptied f.before old new)
-DevicesMean (C.WriteFailed name) files counts now LineFailed Is ended old new =
-    (WritingFailed files name counts now × WroteOthers Is counts now ended new) ⊎ TellingFailed files name counts now LineFailed Is ended old new
-DevicesMean C.Done files counts now LineFailed Is ended old new = OnlyReads files.rows counts now
-DevicesMean (C.Stopped fault) files counts now LineFailed Is ended old new = OnlyReads files.rows counts now
-DevicesMean C.NotBuilt files counts now LineFailed Is ended old new = NoCountChanged counts now
-DevicesMean C.BadWords files counts now LineFailed Is ended old new = NoCountChanged counts now
-DevicesMean (C.Refused refusal) files counts now LineFailed Is ended old new = NoCountChanged counts now
-DevicesMean (C.ReadFailed name) files counts now LineFailed Is ended old new = ReadingFailed files name counts now
-DevicesMean C.NoMemory files counts now LineFailed Is ended old new = ⊤
+DevicesMean (C.WriteFailed name) files counts now TextFailed Is ended old new =
+    (WritingFailed files name counts now × WroteOthers Is counts now ended new) ⊎ TellingFailed files name counts now TextFailed Is ended old new
+DevicesMean C.Done files counts now TextFailed Is ended old new = OnlyReads files.rows counts now
+DevicesMean (C.Stopped fault) files counts now TextFailed Is ended old new = OnlyReads files.rows counts now
+DevicesMean C.NotBuilt files counts now TextFailed Is ended old new = NoCountChanged counts now
+DevicesMean C.BadWords files counts now TextFailed Is ended old new = NoCountChanged counts now
+DevicesMean (C.Refused refusal) files counts now TextFailed Is ended old new = NoCountChanged counts now
+DevicesMean (C.ReadFailed name) files counts now TextFailed Is ended old new = ReadingFailed files name counts now
+DevicesMean C.NoMemory files counts now TextFailed Is ended old new = ⊤
 
 -- the reader of a file that is read as a whole fails where its count of reading changes
 abbrev pub WholeFails : PerName → PerName → Told → Type 0
@@ -234,29 +234,31 @@ pub record ReadingAnswered (cause : Cause) (old : Told) (name : List ℕ) : Type
 abbrev pub WholeReads : Cause → FilesOf → PerName → PerName → Told → Type 0
 WholeReads cause files counts now old = (n : List ℕ) → is_named files.rows n ≡ false → (now n).reading ≢ (counts n).reading → ReadingAnswered cause old n
 
--- the answer to a request at a shelf that tells its files, where the count of the line's pour rose or not
-pub record Answered (request : Option Request) (ended : Ended) (counts now : PerName) (LineFailed : Type 0) (old new : Told) : Type 0 where
+-- the answer to a request at a shelf that tells its files, where the count of the text's pour rose or not
+pub record Answered (request : Option Request) (ended : Ended) (counts now : PerName) (TextFailed : Type 0) (old new : Told) : Type 0 where
   pub means : CauseMeans ended.cause (IsOutcome old ended.arrivals request) ended old new
   pub others : (parts : List Part) → ArePartsIn old request parts → (n : List ℕ) → is_named (creates request parts) n ≡ false → new.holds n ≡ old.holds n
   pub counted : (parts : List Part) → ArePartsIn old request parts → (n : List ℕ)
       → (is_named (opens request parts) n || is_named (creates request parts) n) ≡ false → now n ≡ counts n
   pub device : (parts : List Part) → ArePartsIn old request parts
-      → DevicesMean ended.cause (files_of request parts) counts now LineFailed (IsOutcome old ended.arrivals request) ended old new
+      → DevicesMean ended.cause (files_of request parts) counts now TextFailed (IsOutcome old ended.arrivals request) ended old new
   pub stopped : (parts : List Part) → ArePartsIn old request parts → StoppedBy ended.cause parts counts now
   pub whole : (parts : List Part) → ArePartsIn old request parts → WholeReads ended.cause (files_of request parts) counts now old
   pub reads : ReadsFail counts now old
 
 -- ---- what the request alone shows
 
-abbrev pub is_check : Option Request → Bool
-is_check None = false
-is_check (Some (R.Check program)) = true
-is_check (Some _) = false
+-- the request asks for what is told of a program that isn't run
+abbrev pub is_report : Option Request → Bool
+is_report None = false
+is_report (Some (R.Check program)) = true
+is_report (Some (R.Plan program)) = true
+is_report (Some _) = false
 
--- a check of a program ends with no fault, and is built
+-- such a request ends with no fault, and is built
 abbrev pub MayBe : Option Request → Cause → Type 0
-MayBe request (C.Stopped fault) = is_check request ≡ false
-MayBe request C.NotBuilt = is_check request ≡ false
+MayBe request (C.Stopped fault) = is_report request ≡ false
+MayBe request C.NotBuilt = is_report request ≡ false
 MayBe request C.Done = ⊤
 MayBe request C.BadWords = ⊤
 MayBe request (C.Refused refusal) = ⊤
@@ -305,18 +307,18 @@ IsUnread program cause = (cause ≡ C.OpenFailed program) ⊎ ((cause ≡ C.Read
 
 -- where no device failed, the outcome of the request is the answer, or memory was wanting
 abbrev pub IsAnswer : RequestOutcome → Type 0 → Type 0 → Cause → Type 0
-IsAnswer NoRequest Failed LineFailed cause = (Failed → ⊥) → IsOr C.BadWords cause
-IsAnswer (Unreadable program) Failed LineFailed cause = IsUnread program cause
-IsAnswer (Refused refusal) Failed LineFailed cause = (Failed → ⊥) → IsOr (C.Refused refusal) cause
-IsAnswer NotBuilt Failed LineFailed cause = (Failed → ⊥) → IsOr C.NotBuilt cause
-IsAnswer (Checks c) Failed LineFailed cause = (Failed → ⊥) → (LineFailed → ⊥) → IsOr C.Done cause
-IsAnswer (Runs c g m) Failed LineFailed cause = (Failed → ⊥) → (LineFailed → ⊥) → IsOr (cause_of (run_fault g m)) cause
+IsAnswer NoRequest Failed TextFailed cause = (Failed → ⊥) → IsOr C.BadWords cause
+IsAnswer (Unreadable program) Failed TextFailed cause = IsUnread program cause
+IsAnswer (Refused refusal) Failed TextFailed cause = (Failed → ⊥) → IsOr (C.Refused refusal) cause
+IsAnswer NotBuilt Failed TextFailed cause = (Failed → ⊥) → IsOr C.NotBuilt cause
+IsAnswer (Reports report c) Failed TextFailed cause = (Failed → ⊥) → (TextFailed → ⊥) → IsOr C.Done cause
+IsAnswer (Runs c g m) Failed TextFailed cause = (Failed → ⊥) → (TextFailed → ⊥) → IsOr (cause_of (run_fault g m)) cause
 
 -- whatever the outcome of the request
 abbrev pub IsComplete : Option Request → Ended → PerName → PerName → Type 0 → Told → Type 0
-IsComplete request ended counts now LineFailed told =
+IsComplete request ended counts now TextFailed told =
     (result : RequestOutcome) → IsOutcome told ended.arrivals request result → (parts : List Part) → ArePartsIn told request parts
-    → IsAnswer result (DeviceFailed (files_of request parts) counts now) LineFailed ended.cause
+    → IsAnswer result (DeviceFailed (files_of request parts) counts now) TextFailed ended.cause
 
 -- the cause is this one, or memory was wanting, and nothing was touched
 pub record Untouched (expected cause : Cause) (old new : PerName) : Type 0 where

@@ -8,13 +8,14 @@ abbrev pub is_given : {A : Type 0} → Option A → Bool
 is_given None = false
 is_given (Some x) = true
 
--- no option is given
+-- no option with a value is given
 abbrev pub is_plain : RunOptions → Bool
 is_plain options =
-    not (is_given options.width) && (not (is_given options.workers) && (not (is_given options.capacity) && (not (is_given options.arrivals) && not options.counts)))
+    not (is_given options.width) && (not (is_given options.workers) && (not (is_given options.capacity) && not (is_given options.arrivals)))
 
--- `check`, and `run` without options
+-- `check`, `plan`, and `run` with no option but `--counts`
 abbrev pub is_built : Request → Bool
 is_built (R.Check program) = true
+is_built (R.Plan program) = true
 is_built (R.Run program options) = is_plain options
 is_built _ = false

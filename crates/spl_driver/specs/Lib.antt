@@ -6,6 +6,6 @@ pub mod Built
 pub mod Outcome
 pub mod Answer
 pub mod Shown
-pub mod Lines
+pub mod Texts
 pub mod Steps
 pub mod RequestLaws

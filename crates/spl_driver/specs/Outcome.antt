@@ -28,14 +28,19 @@ meant g told lists = meaning g (rows_told g told) (entries_in lists)
 
 -- ---- its outcome
 
--- The words are no request; the program in this file can't be read; it is refused; the request isn't built; the program is checked, and
--- has this graph; or its graph runs, and has this meaning.
+-- what is told of a program that is accepted and isn't run: its size, or its regions
+pub data Report : Type 0 where
+  OfSize : Report
+  OfPlan : Report
+
+-- The words are no request; the program in this file can't be read; it is refused; the request isn't built; the program is checked, has
+-- this graph, and this is told of it; or its graph runs, and has this meaning.
 pub data RequestOutcome : Type 0 where
   NoRequest : RequestOutcome
   Unreadable : (program : List ℕ) → RequestOutcome
   Refused : Refusal → RequestOutcome
   NotBuilt : RequestOutcome
-  Checks : (checked : CheckedGraph) → RequestOutcome
+  Reports : Report → (checked : CheckedGraph) → RequestOutcome
   Runs : (checked : CheckedGraph) (graph : Graph) (meaning : Meaning) → RequestOutcome
 
 -- a file has at most 1,048,576 bytes
@@ -64,7 +69,7 @@ abbrev pub IsSomeRefusal : Request → Refusal → Type 0
 IsSomeRefusal request refusal = (bytes : List ℕ) × (p : ProgramRefusal) × IsAccepted bytes (file_names request) (Err p) × (refusal ≡ refusal_of p)
 
 -- A request with ample memory has one outcome, by its case: the words are no request; they ask for what isn't built; the program can't be read; it
--- is refused; it is checked; it is run.
+-- is refused; its size is told; its regions are told; it is run.
 pub data IsOutcome (told : Told) (arrivals : Arrivals) : Option Request → RequestOutcome → Type 0 where
   no_request : IsOutcome told arrivals None NoRequest
   not_built : (request : Request) → is_built request ≡ false → IsOutcome told arrivals (Some request) NotBuilt
@@ -73,7 +78,9 @@ pub data IsOutcome (told : Told) (arrivals : Arrivals) : Option Request → Requ
   refused : (request : Request) (program : List ℕ) (refusal : ProgramRefusal) → is_built request ≡ true → program_of request ≡ Some program
       → IsFound told program (file_names request) (Err refusal) → IsOutcome told arrivals (Some request) (Refused (refusal_of refusal))
   checks : (program : List ℕ) (c : CheckedGraph) → IsFound told program (file_names (R.Check program)) (Ok c)
-      → IsOutcome told arrivals (Some (R.Check program)) (Checks c)
+      → IsOutcome told arrivals (Some (R.Check program)) (Reports OfSize c)
+  plans : (program : List ℕ) (c : CheckedGraph) → IsFound told program (file_names (R.Plan program)) (Ok c)
+      → IsOutcome told arrivals (Some (R.Plan program)) (Reports OfPlan c)
   runs : (program : List ℕ) (options : RunOptions) (c : CheckedGraph) → is_plain options ≡ true → IsFound told program (file_names (R.Run program options)) (Ok c)
       → IsOutcome told arrivals (Some (R.Run program options)) (run_outcome c told arrivals)
 

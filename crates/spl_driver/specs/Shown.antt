@@ -17,7 +17,7 @@ use Rattle.run_report.specs.declared.cause.Cause.{Cause}
 use Rattle.run_report.specs.declared.cause.Cause.TheVariants as C
 use Rattle.command_line.specs.declared.request.Request.{Request}
 use Rattle.check_laws.specs.Files.{is_named}
-use Rattle.spl_driver.specs.Answer.{DevicesShow, IsRecordOf, LINE, NoCountChanged, StoppedBy, counts_of, is_check, uncounted}
+use Rattle.spl_driver.specs.Answer.{DevicesShow, IsRecordOf, OUT, NoCountChanged, StoppedBy, counts_of, is_report, uncounted}
 use Rattle.spl_driver.specs.Built.{is_built}
 use Rattle.spl_driver.specs.Files.{creates, files_of, opens, row_files}
 use Rattle.spl_driver.specs.Outcome.{IsSomeProgram, IsSomeRefusal}
@@ -60,24 +60,24 @@ pub record ShownBy (cause : Cause) (request : Option Request) (old new : PerName
   pub others : (n : List ℕ) → (is_named (opens request parts) n || is_named (creates request parts) n) ≡ false → new n ≡ old n
   pub reading : (n : List ℕ) → is_named (row_files request parts) n ≡ false → (new n).reading ≢ (old n).reading → (cause ≡ C.ReadFailed n) ⊎ (cause ≡ C.NoMemory)
 
--- the line couldn't be told of a request that was carried out
-pub record LineShown (name : List ℕ) (request : Option Request) (old new : PerName) (LineFailed : Type 0) : Type 0 where
-  pub line : name ≡ LINE
-  pub failed : LineFailed
+-- the text couldn't be told of a request that was carried out
+pub record TextShown (name : List ℕ) (request : Option Request) (old new : PerName) (TextFailed : Type 0) : Type 0 where
+  pub named : name ≡ OUT
+  pub failed : TextFailed
   pub parts : List Part
   pub are : ArePartsOf request parts
   pub counted : OnlyReads (row_files request parts) old new
 
 abbrev pub Shown : Cause → Option Request → PerName → PerName → Type 0 → Type 0
-Shown C.BadWords request old new LineFailed = (request ≡ None) × NoCountChanged old new
-Shown (C.WriteFailed name) request old new LineFailed = ShownBy (C.WriteFailed name) request old new ⊎ LineShown name request old new LineFailed
-Shown C.Done request old new LineFailed = ShownBy C.Done request old new
-Shown (C.Stopped fault) request old new LineFailed = ShownBy (C.Stopped fault) request old new
-Shown (C.Refused refusal) request old new LineFailed = ShownBy (C.Refused refusal) request old new
-Shown C.NotBuilt request old new LineFailed = ShownBy C.NotBuilt request old new
-Shown (C.OpenFailed name) request old new LineFailed = ShownBy (C.OpenFailed name) request old new
-Shown (C.ReadFailed name) request old new LineFailed = ShownBy (C.ReadFailed name) request old new
-Shown C.NoMemory request old new LineFailed = ShownBy C.NoMemory request old new
+Shown C.BadWords request old new TextFailed = (request ≡ None) × NoCountChanged old new
+Shown (C.WriteFailed name) request old new TextFailed = ShownBy (C.WriteFailed name) request old new ⊎ TextShown name request old new TextFailed
+Shown C.Done request old new TextFailed = ShownBy C.Done request old new
+Shown (C.Stopped fault) request old new TextFailed = ShownBy (C.Stopped fault) request old new
+Shown (C.Refused refusal) request old new TextFailed = ShownBy (C.Refused refusal) request old new
+Shown C.NotBuilt request old new TextFailed = ShownBy C.NotBuilt request old new
+Shown (C.OpenFailed name) request old new TextFailed = ShownBy (C.OpenFailed name) request old new
+Shown (C.ReadFailed name) request old new TextFailed = ShownBy (C.ReadFailed name) request old new
+Shown C.NoMemory request old new TextFailed = ShownBy C.NoMemory request old new
 
 -- ---- the run
 
@@ -106,24 +106,24 @@ pub record NothingRan (ended : Ended) : Type 0 where
   pub counts : ended.counts ≡ uncounted
   pub lists : ended.arrivals.lists ≡ []
 
--- what ran of such a program, where the request runs it, or where it is one that is checked alone
+-- what ran of such a program, where the request runs it, or where it asks for what is told of one alone
 abbrev pub RunShown : Cause → (CheckedGraph → Type 0) → Type 0 → Ended → PerName → PerName → Type 0
-RunShown C.Done Program Check ended counts now = (Check × NothingRan ended) ⊎ RanAs None Program ended counts now
-RunShown (C.Stopped fault) Program Check ended counts now = RanAs (Some fault) Program ended counts now
-RunShown (C.WriteFailed name) Program Check ended counts now = (Check × NothingRan ended) ⊎ Ran Program ended counts now
-RunShown (C.OpenFailed name) Program Check ended counts now = NothingRan ended
-RunShown C.NoMemory Program Check ended counts now = (ended.arrivals.lists ≡ []) ⊎ Ran Program ended counts now
-RunShown C.BadWords Program Check ended counts now = NothingRan ended
-RunShown (C.Refused refusal) Program Check ended counts now = NothingRan ended
-RunShown C.NotBuilt Program Check ended counts now = NothingRan ended
-RunShown (C.ReadFailed name) Program Check ended counts now = NothingRan ended
+RunShown C.Done Program Alone ended counts now = (Alone × NothingRan ended) ⊎ RanAs None Program ended counts now
+RunShown (C.Stopped fault) Program Alone ended counts now = RanAs (Some fault) Program ended counts now
+RunShown (C.WriteFailed name) Program Alone ended counts now = (Alone × NothingRan ended) ⊎ Ran Program ended counts now
+RunShown (C.OpenFailed name) Program Alone ended counts now = NothingRan ended
+RunShown C.NoMemory Program Alone ended counts now = (ended.arrivals.lists ≡ []) ⊎ Ran Program ended counts now
+RunShown C.BadWords Program Alone ended counts now = NothingRan ended
+RunShown (C.Refused refusal) Program Alone ended counts now = NothingRan ended
+RunShown C.NotBuilt Program Alone ended counts now = NothingRan ended
+RunShown (C.ReadFailed name) Program Alone ended counts now = NothingRan ended
 
--- the request runs a program with this graph; it checks one
+-- the request runs a program with this graph; it asks for what is told of one
 abbrev pub IsRunProgram : Option Request → CheckedGraph → Type 0
-IsRunProgram request c = (is_check request ≡ false) × IsProgramOf request c
+IsRunProgram request c = (is_report request ≡ false) × IsProgramOf request c
 
-abbrev pub IsCheck : Option Request → Type 0
-IsCheck request = (is_check request ≡ true) × ((c : CheckedGraph) × IsProgramOf request c)
+abbrev pub IsReport : Option Request → Type 0
+IsReport request = (is_report request ≡ true) × ((c : CheckedGraph) × IsProgramOf request c)
 
 abbrev pub RanShown : Cause → Option Request → Ended → PerName → PerName → Type 0
-RanShown cause request ended counts now = RunShown cause (IsRunProgram request) (IsCheck request) ended counts now
+RanShown cause request ended counts now = RunShown cause (IsRunProgram request) (IsReport request) ended counts now

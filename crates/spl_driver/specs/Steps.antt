@@ -1,6 +1,6 @@
 -- What the steps of a request come to: the program compiled, its graph run, its sinks written.
 use Prim.Native.Nat.{suc}
-use Rattle.std.specs.Prelude.{◌≡◌, ◌≢◌, ◌<◌, ◌-◌, ◌^◌, ◌⊎◌, ◌||◌, ℕ, List, [], ◌∷◌, map, Bool, true, false, ⊤, Option, Some, None, Result, Ok, Err, IfOk, IfSome, slice_get}
+use Rattle.std.specs.Prelude.{◌≡◌, ◌≢◌, ◌<◌, ◌-◌, ◌^◌, ◌⊎◌, ◌||◌, ℕ, List, [], ◌∷◌, Bool, true, false, ⊤, Option, Some, None, Ok, Err, IfOk, IfSome, slice_get}
 use Rattle.spl_value.specs.declared.item.Fault.{Fault}
 use Rattle.spl_value.specs.declared.item.Item.{Item}
 use Rattle.spl_value.specs.Script.{Script}
@@ -28,11 +28,11 @@ use Rattle.list_engine.specs.Runs.{RowsFit, SinksGiven, rows_at}
 use Rattle.list_engine.specs.Runs as L
 use Rattle.source_rows.specs.Counting.{OnlyOf, OnlyRead, OnlyReads, OpeningFailed}
 use Rattle.source_rows.specs.Sources.{FaultsNameSources, ReadsCounted, ReadsFail, rows_told}
-use Rattle.spl_driver.specs.Outcome.{RequestOutcome, NotBuilt, Checks, Runs, has_fault, meant, run_outcome}
-use Rattle.spl_driver.specs.Answer.{Answered, ByWords, CauseMeans, DevicesMean, DevicesShow, IsRecordOf, MayBe, NoCountChanged, IsOr, StoppedBy, cause_of, is_check}
+use Rattle.spl_driver.specs.Outcome.{RequestOutcome, NotBuilt, OfPlan, OfSize, Reports, Runs, has_fault, meant, run_outcome}
+use Rattle.spl_driver.specs.Answer.{Answered, ByWords, CauseMeans, DevicesMean, DevicesShow, IsRecordOf, MayBe, NoCountChanged, IsOr, StoppedBy, cause_of, is_report}
 use Rattle.spl_driver.specs.Shown.{IsReason, NothingRan, RanShown, RanTo, RunShown, Shown}
 use Rattle.spl_driver.specs.Files.{FilesOf}
-use Rattle.spl_driver.specs.Lines.{IsLine, IsToldOutcome}
+use Rattle.spl_driver.specs.Texts.{IsText, IsToldOutcome, run_text, wants_counts}
 use Rattle.spl_driver.specs.declared.answer.Answer.{Answer}
 use Rattle.spl_driver.specs.declared.compiled.Compiled.{Compiled}
 use Rattle.spl_driver.specs.declared.compiled.Compiled.TheVariants as P
@@ -154,7 +154,8 @@ RunComes c arrivals told counts now result = IsSomeRun c arrivals counts now res
 
 -- the outcome of an accepted program, by its request
 abbrev pub accepted_outcome : Request → CheckedGraph → Told → Arrivals → RequestOutcome
-accepted_outcome (R.Check program) c told arrivals = Checks c
+accepted_outcome (R.Check program) c told arrivals = Reports OfSize c
+accepted_outcome (R.Plan program) c told arrivals = Reports OfPlan c
 accepted_outcome (R.Run program options) c told arrivals = run_outcome c told arrivals
 accepted_outcome _ c told arrivals = NotBuilt
 
@@ -163,7 +164,8 @@ IsAcceptedOutcome request c arrivals told result = result ≡ accepted_outcome r
 
 -- what it may come to, whatever the files hold
 abbrev pub MayBeOutcome : Request → CheckedGraph → Arrivals → PerName → PerName → RequestOutcome → Type 0
-MayBeOutcome (R.Check program) c arrivals counts now result = result ≡ Checks c
+MayBeOutcome (R.Check program) c arrivals counts now result = result ≡ Reports OfSize c
+MayBeOutcome (R.Plan program) c arrivals counts now result = result ≡ Reports OfPlan c
 MayBeOutcome (R.Run program options) c arrivals counts now result = IsSomeRun c arrivals counts now result
 MayBeOutcome _ c arrivals counts now result = ⊥
 
@@ -184,10 +186,10 @@ ReasonOf C.NoMemory c = ⊤
 
 -- what ran of it, by its request
 abbrev pub IsRunGraph : Request → CheckedGraph → CheckedGraph → Type 0
-IsRunGraph request c x = (is_check (Some request) ≡ false) × (x ≡ c)
+IsRunGraph request c x = (is_report (Some request) ≡ false) × (x ≡ c)
 
 abbrev pub RanAccepted : Cause → Request → CheckedGraph → Ended → PerName → PerName → Type 0
-RanAccepted cause request c ended counts now = RunShown cause (IsRunGraph request c) (is_check (Some request) ≡ true) ended counts now
+RanAccepted cause request c ended counts now = RunShown cause (IsRunGraph request c) (is_report (Some request) ≡ true) ended counts now
 
 -- where it is run
 abbrev pub RanGraph : Cause → CheckedGraph → Ended → PerName → PerName → Type 0
@@ -214,9 +216,9 @@ pub record FilesShow (Is : RequestOutcome → Type 0) (files : FilesOf) (ended :
 abbrev pub EndsAs : Option Fault → List SinkCount → Ended → Type 0
 EndsAs fault sinks ended = ((ended.cause ≡ cause_of fault) × (ended.counts ≡ record { channels = []; sinks = sinks })) ⊎ (ended.cause ≡ C.NoMemory)
 
--- and this is its line
-abbrev pub TellsRun : CheckedGraph → Option Fault → Cause → List ℕ → Type 0
-TellsRun c fault cause line = (line ≡ status_text (Some c) cause) ⊎ (cause ≡ C.NoMemory)
+-- and this is what is told of it, with its counts or without
+abbrev pub TellsRun : Bool → CheckedGraph → Ended → List ℕ → Type 0
+TellsRun counted c ended text = (text ≡ run_text counted c ended.counts ended.cause) ⊎ (ended.cause ≡ C.NoMemory)
 
 -- ---- the end of a run
 
@@ -227,10 +229,10 @@ EndsBehind (W.NotCreated place) fault c sinks ended = (s : Sink) → slice_get s
 EndsBehind (W.NotWritten place) fault c sinks ended = (s : Sink) → slice_get sinks place ≡ Some s → IsOr (C.WriteFailed s.file) ended.cause
 EndsBehind W.Memory fault c sinks ended = ended.cause ≡ C.NoMemory
 
--- and its line
-abbrev pub TellsBehind : Sunk → CheckedGraph → Option Fault → Cause → List ℕ → Type 0
-TellsBehind (W.Done ns) c fault cause line = TellsRun c fault cause line
-TellsBehind _ c fault cause line = line ≡ status_text None cause
+-- and what is told of it
+abbrev pub TellsBehind : Sunk → Bool → CheckedGraph → Ended → List ℕ → Type 0
+TellsBehind (W.Done ns) counted c ended text = TellsRun counted c ended text
+TellsBehind _ counted c ended text = text ≡ status_text None ended.cause
 
 -- it has the run's record, unless a file couldn't be created: the rows that the sinks were given are then lost
 abbrev pub RecordedBy : Sunk → Ended → Arrivals → Type 0
@@ -240,16 +242,16 @@ RecordedBy (W.NotWritten place) ended arrivals = ended.arrivals ≡ arrivals
 RecordedBy W.Memory ended arrivals = ended.arrivals ≡ arrivals
 
 -- the answer of a run, by what became of its sinks
-pub record EndsRun (sunk : Sunk) (c : CheckedGraph) (sinks : List Sink) (fault : Option Fault) (arrivals : Arrivals) (answer : Answer) : Type 0 where
+pub record EndsRun (sunk : Sunk) (counted : Bool) (c : CheckedGraph) (sinks : List Sink) (fault : Option Fault) (arrivals : Arrivals) (answer : Answer) : Type 0 where
   pub ends : EndsBehind sunk fault c sinks answer.ended
-  pub line : IfOk answer.line (TellsBehind sunk c fault answer.ended.cause)
+  pub text : IfOk answer.text (TellsBehind sunk counted c answer.ended)
   pub recorded : RecordedBy sunk answer.ended arrivals
 
--- what is known of the answer to a request before its line is told, with what the shelf tells and counts before and after, and what it has lent
+-- what is known of the answer to a request before it is told, with what the shelf tells and counts before and after, and what it has lent
 pub record AnswersRequest (request : Option Request) (answer : Answer) (told now : Option Told) (counts later : PerName) (before after : ℕ) : Type 0 where
   pub answered : WhereTold told now (Answered request answer.ended counts later ⊥)
   pub shown : Shown answer.ended.cause request counts later ⊥
-  pub line : IfOk answer.line (IsLine answer.ended.cause (IsToldOutcome request told answer.ended.arrivals counts later))
+  pub text : IfOk answer.text (IsText (wants_counts request) answer.ended.cause (IsToldOutcome request told answer.ended.arrivals counts later))
   pub words : ByWords request answer.ended.cause counts later
   pub kinds : MayBe request answer.ended.cause
   pub reason : IsReason answer.ended.cause request

@@ -1,14 +1,15 @@
-//! The answer to a request, and its line.
+//! The answer to a request, and its text.
 ghost use Rattle.std.specs.Prelude.{◌≡◌, ◌<◌, ◌-◌, ◌^◌, true, IfOk, Some, None};
 ghost use Rattle.feed_pour.specs.Contents.{WhereTold};
-ghost use Rattle.run_report.specs.Texts.{status_text, check_text};
+ghost use Rattle.run_report.specs.Texts.{status_text};
 ghost use Rattle.command_line.specs.Request.{file_names};
 ghost use Rattle.check_laws.specs.Files.{OwnFiles};
 ghost use Rattle.spl_driver.specs.Answer.{MayBe};
 ghost use Rattle.spl_driver.specs.Shown.{NothingRan};
 ghost use Rattle.spl_driver.specs.Built.{is_built};
 ghost use Rattle.spl_driver.specs.Files.{files_of, program_of};
-ghost use Rattle.spl_driver.specs.Lines.{IsLine};
+ghost use Rattle.spl_driver.specs.Outcome.{OfPlan, OfSize};
+ghost use Rattle.spl_driver.specs.Texts.{IsReportText, IsText, wants_counts};
 ghost use Rattle.spl_driver.specs.Steps.{AnswersRequest, IsAcceptedOutcome, IsToldAcceptedOutcome, CountsShow, FilesShow, RanAccepted, ReasonOf};
 
 use crate::compiled::{Compiled, compile_file};
@@ -18,40 +19,56 @@ use crate::run::run;
 use command_line::{Request, file_names};
 use feed_pour::Shelf;
 use language_model::Checked;
-use run_report::{Cause, check_text, status_text};
+use region_choice::choose;
+use run_report::{Cause, check_text, plan_text, status_text};
 use spl_value::{Bytes, Items, Name, NoMemory};
 use std::alloc::Global;
 
-/// How a request ends, and the line that tells it.
+/// How a request ends, and the text that tells it.
 #[derive(Debug, Drop)]
 pub struct Answer {
     pub ended: Ended,
-    pub line: Result<Bytes, NoMemory>,
+    pub text: Result<Bytes, NoMemory>,
 }
 
 /// The answer of a cause that names no operator, where nothing was counted.
 pub fn plain(alloc: Global, cause: Cause) -> Answer
     ensures cause { result.ended.cause ≡ cause }
-    ensures line { IfOk result.line (λ line. line ≡ status_text None cause) }
+    ensures text { IfOk result.text (λ text. text ≡ status_text None cause) }
     ensures ran { NothingRan result.ended }
 {
-    let line = status_text(alloc, None, &cause);
+    let text = status_text(alloc, None, &cause);
     Answer {
         ended: uncounted_end(alloc, cause),
-        line,
+        text,
     }
 }
 
-// The answer to the check of a program that is accepted.
-fn checked(alloc: Global, checked: &Checked) -> Answer
+// The answer to a request for this text of an accepted program.
+fn reported(alloc: Global, text: Result<Bytes, NoMemory>) -> Answer
     ensures cause { result.ended.cause ≡ Cause.Done }
-    ensures line { IfOk result.line (λ line. line ≡ check_text checked.now) }
+    ensures text { result.text ≡ text }
     ensures ran { NothingRan result.ended }
 {
     Answer {
         ended: uncounted_end(alloc, Cause::Done),
-        line: check_text(alloc, checked),
+        text,
     }
+}
+
+// The size of an accepted program.
+fn size(alloc: Global, checked: &Checked) -> Result<Bytes, NoMemory>
+    ensures { IfOk result (IsReportText OfSize checked.now) }
+{
+    check_text(alloc, checked)
+}
+
+// The regions of an accepted program.
+fn regions(alloc: Global, checked: &Checked) -> Result<Bytes, NoMemory>
+    ensures { IfOk result (IsReportText OfPlan checked.now) }
+{
+    let plan = choose(alloc, checked)?;
+    plan_text(alloc, checked, &plan)
 }
 
 // What is done with an accepted program.
@@ -70,7 +87,7 @@ fn answer_accepted<H: Shelf>(
     ensures counts { CountsShow result.ended.cause accepted.now.parts
         (files_of (Some request.now) accepted.now.parts)
         (H.counts shelf.old) (H.counts shelf.new) }
-    ensures line { IfOk result.line (IsLine result.ended.cause
+    ensures text { IfOk result.text (IsText (wants_counts (Some request.now)) result.ended.cause
         (IsToldAcceptedOutcome request.now accepted.now result.ended.arrivals (H.told shelf.old)
         (H.counts shelf.old) (H.counts shelf.new))) }
     ensures kinds { MayBe (Some request.now) result.ended.cause }
@@ -79,8 +96,9 @@ fn answer_accepted<H: Shelf>(
     ensures lent { H.lent shelf.old < 2 ^ 64 - 256 → H.lent shelf.new ≡ H.lent shelf.old }
 {
     match request {
-        Request::Check(_) => checked(alloc, accepted),
-        Request::Run { .. } => run(alloc, shelf, accepted),
+        Request::Check(_) => reported(alloc, size(alloc, accepted)),
+        Request::Plan(_) => reported(alloc, regions(alloc, accepted)),
+        Request::Run { options, .. } => run(alloc, shelf, accepted, options.counts),
         _ => plain(alloc, Cause::NotBuilt),
     }
 }

@@ -4,7 +4,7 @@ ghost use Rattle.spl_driver.specs.Built.{is_plain};
 
 use command_line::RunOptions;
 
-/// Whether a run has no options.
+/// Whether a run has no option with a value.
 pub fn is_plain(options: &RunOptions) -> bool
     ensures { result ≡ is_plain options.now }
 {
@@ -12,5 +12,4 @@ pub fn is_plain(options: &RunOptions) -> bool
         && options.workers.is_none()
         && options.capacity.is_none()
         && options.arrivals.is_none()
-        && !options.counts
 }

@@ -55,7 +55,7 @@ pub(crate) fn read_failed(alloc: Global, name: &[u8]) -> Cause
     }
 }
 
-/// How it ends where the file of this name, or the line of `-`, couldn't be written.
+/// How it ends where the file of this name, or the text of `-`, couldn't be written.
 pub(crate) fn write_failed(alloc: Global, name: &[u8]) -> Cause
     ensures { IsOr (Cause.WriteFailed name.now) result }
 {

@@ -3,7 +3,7 @@ ghost use Rattle.std.specs.Prelude.{◌≡◌, ◌<◌, ◌-◌, ◌^◌, true, 
 ghost use Rattle.feed_pour.specs.Contents.{WhereTold};
 ghost use Rattle.check_laws.specs.Files.{OwnFiles};
 ghost use Rattle.spl_driver.specs.Answer.{cause_of};
-ghost use Rattle.spl_driver.specs.Lines.{IsLine};
+ghost use Rattle.spl_driver.specs.Texts.{IsText, run_text};
 ghost use Rattle.spl_driver.specs.Steps.{run_files, IsRunOf, RunComes, CountsShow, FilesShow, EndsAs, EndsRun, RanGraph, ReasonOf, TellsRun, counts_from};
 ghost use Rattle.run_report.specs.Texts.{status_text};
 
@@ -15,8 +15,8 @@ use feed_pour::Shelf;
 use file_adapters::{Sink, Sunk, write_sinks};
 use language_model::Checked;
 use list_engine::{Run, engine_law};
-use run_report::{Cause, status_text};
-use spl_value::{Fault, Items};
+use run_report::{Cause, counts_text, status_text};
+use spl_value::{Bytes, Fault, Items, NoMemory};
 use std::alloc::Global;
 use stream_model::{Arrivals, Counts};
 
@@ -33,44 +33,65 @@ fn cause(fault: Option<Fault>) -> Cause
 // The answer of a cause that names no operator, after a run with this record of which nothing was counted.
 fn unfinished(alloc: Global, cause: Cause, arrivals: Arrivals) -> Answer
     ensures cause { result.ended.cause ≡ cause }
-    ensures line { IfOk result.line (λ line. line ≡ status_text None cause) }
+    ensures text { IfOk result.text (λ text. text ≡ status_text None cause) }
     ensures recorded { result.ended.arrivals ≡ arrivals }
 {
-    let line = status_text(alloc, None, &cause);
+    let text = status_text(alloc, None, &cause);
     Answer {
         ended: uncounted_after(alloc, cause, arrivals),
-        line,
+        text,
     }
+}
+
+// What is told of a run that was carried out: its counts, where they are asked for, and how it ended.
+fn run_text(
+    alloc: Global,
+    counted: bool,
+    checked: &Checked,
+    counts: &Counts,
+    cause: &Cause,
+) -> Result<Bytes, NoMemory>
+    ensures { IfOk result (λ text. text ≡ run_text counted checked.now counts.now cause.now) }
+{
+    let status = status_text(alloc, Some(checked), cause)?;
+    if !counted {
+        return Ok(status);
+    }
+    let mut text = counts_text(alloc, checked, counts)?;
+    text.append(status)?;
+    Ok(text)
 }
 
 // The end of a run that was carried out.
 fn carried_out(
     alloc: Global,
+    counted: bool,
     checked: &Checked,
     rows: &Items<u64>,
     fault: Option<Fault>,
     arrivals: Arrivals,
 ) -> Answer
     ensures ends { EndsAs fault (counts_from 0 checked.now.parts rows.now) result.ended }
-    ensures line { IfOk result.line (TellsRun checked.now fault result.ended.cause) }
+    ensures text { IfOk result.text (TellsRun counted checked.now result.ended) }
     ensures recorded { result.ended.arrivals ≡ arrivals }
 {
     match sink_counts(alloc, checked, rows) {
         Err(_) => unfinished(alloc, Cause::NoMemory, arrivals),
         Ok(sinks) => {
             let cause = cause(fault);
-            let line = status_text(alloc, Some(checked), &cause);
+            let counts = Counts {
+                channels: Items::new(alloc),
+                sinks,
+            };
+            let text = run_text(alloc, counted, checked, &counts, &cause);
             Answer {
                 ended: Ended {
                     status: status(&cause),
                     cause,
                     arrivals,
-                    counts: Counts {
-                        channels: Items::new(alloc),
-                        sinks,
-                    },
+                    counts,
                 },
-                line,
+                text,
             }
         }
     }
@@ -79,13 +100,14 @@ fn carried_out(
 // The answer of a run, by what became of its sinks.
 fn ended_run(
     alloc: Global,
+    counted: bool,
     checked: &Checked,
     sinks: &Items<Sink>,
     fault: Option<Fault>,
     arrivals: Arrivals,
     sunk: &Sunk,
 ) -> Answer
-    ensures { EndsRun sunk.now checked.now sinks.now fault arrivals result }
+    ensures { EndsRun sunk.now counted checked.now sinks.now fault arrivals result }
 {
     match sunk {
         Sunk::NotCreated(place) => plain(alloc, open_failed(alloc, sink_file(sinks, *place))),
@@ -97,19 +119,20 @@ fn ended_run(
             )
         }
         Sunk::Memory => unfinished(alloc, Cause::NoMemory, arrivals),
-        Sunk::Done(rows) => carried_out(alloc, checked, rows, fault, arrivals),
+        Sunk::Done(rows) => carried_out(alloc, counted, checked, rows, fault, arrivals),
     }
 }
 
-/// Runs a checked graph: reads its sources, and writes its sinks.
-pub fn run<H: Shelf>(alloc: Global, shelf: &mut H, checked: &Checked) -> Answer
+/// Runs a checked graph: reads its sources, and writes its sinks. Its counts are told where `counted` asks
+/// for them.
+pub fn run<H: Shelf>(alloc: Global, shelf: &mut H, checked: &Checked, counted: bool) -> Answer
     requires own { (names : List (List ℕ)) × OwnFiles names checked.now.parts }
     ensures files { WhereTold (H.told shelf.old) (H.told shelf.new)
         (λ old new. FilesShow (IsRunOf checked.now result.ended.arrivals old) (run_files checked.now)
         result.ended (H.counts shelf.old) (H.counts shelf.new) old new) }
     ensures counts { CountsShow result.ended.cause checked.now.parts (run_files checked.now)
         (H.counts shelf.old) (H.counts shelf.new) }
-    ensures line { IfOk result.line (IsLine result.ended.cause
+    ensures text { IfOk result.text (IsText counted result.ended.cause
         (RunComes checked.now result.ended.arrivals (H.told shelf.old) (H.counts shelf.old) (H.counts shelf.new))) }
     ensures reason { ReasonOf result.ended.cause checked.now }
     ensures ran { RanGraph result.ended.cause checked.now result.ended (H.counts shelf.old) (H.counts shelf.new) }
@@ -128,7 +151,7 @@ pub fn run<H: Shelf>(alloc: Global, shelf: &mut H, checked: &Checked) -> Answer
                     fault,
                 } = run;
                 let sunk = write_sinks(alloc, shelf, &sinks, &streams);
-                ended_run(alloc, checked, &sinks, fault, arrivals, &sunk)
+                ended_run(alloc, counted, checked, &sinks, fault, arrivals, &sunk)
             }
         },
     }

@@ -1,8 +1,8 @@
-//! The line that tells the answer.
+//! The text that tells the answer.
 ghost use Rattle.std.specs.Prelude.{◌≡◌};
 ghost use Rattle.feed_pour.specs.Counts.{Rose};
 ghost use Rattle.spl_driver.specs.Answer.{IsRun};
-ghost use Rattle.spl_driver.specs.Lines.{is_run, ToldAs, Pours};
+ghost use Rattle.spl_driver.specs.Texts.{is_run, ToldAs, Pours};
 
 use crate::ended::write_failed;
 use feed_pour::{Pour, PourAnswer, write_all};
@@ -25,15 +25,15 @@ fn is_run(cause: &Cause) -> bool
     }
 }
 
-/// Pours the line of a cause. Where the pour fails, the cause stays; but where a request was carried out
+/// Pours the text of a cause. Where the pour fails, the cause stays; but where a request was carried out
 /// it is then `WriteFailed` with the name `-`.
-pub fn say<P: Pour>(alloc: Global, cause: Cause, line: &[u8], out: &mut P) -> Cause
+pub fn say<P: Pour>(alloc: Global, cause: Cause, text: &[u8], out: &mut P) -> Cause
     ensures cause { ToldAs cause result (Rose (P.faults out.old) (P.faults out.new)) }
-    ensures poured { Pours cause result line.now (P.poured out.old) (P.poured out.new)
+    ensures poured { Pours cause result text.now (P.poured out.old) (P.poured out.new)
         (Rose (P.faults out.old) (P.faults out.new)) }
     ensures quiet { IsRun result → P.faults out.new ≡ P.faults out.old }
 {
-    match write_all(out, line) {
+    match write_all(out, text) {
         Ok(()) => cause,
         Err(PourAnswer::Memory) => Cause::NoMemory,
         Err(PourAnswer::Failed) => {

@@ -6,7 +6,7 @@ ghost use Rattle.command_line.specs.Request.{request_of};
 ghost use Rattle.source_rows.specs.Counting.{OnlyRead};
 ghost use Rattle.spl_driver.specs.Answer.{Answered, ByWords, MayBe, status_of, IsComplete, IsRun};
 ghost use Rattle.spl_driver.specs.Shown.{IsReason, RanShown, Shown};
-ghost use Rattle.spl_driver.specs.Lines.{IsToldOutcome, Said, ToldAs, PoursLine};
+ghost use Rattle.spl_driver.specs.Texts.{IsToldOutcome, Said, ToldAs, PoursText};
 ghost use Rattle.spl_driver.specs.Steps.{AnswersRequest};
 
 use crate::answer::{Answer, answer_program, plain};
@@ -28,7 +28,9 @@ fn answer_request<H: Shelf>(alloc: Global, shelf: &mut H, request: &Request) -> 
         (H.counts shelf.old) (H.counts shelf.new) (H.lent shelf.old) (H.lent shelf.new) }
 {
     match request {
-        Request::Check(program) => answer_program(alloc, shelf, request, program),
+        Request::Check(program) | Request::Plan(program) => {
+            answer_program(alloc, shelf, request, program)
+        }
         Request::Run { program, options } => {
             if is_plain(options) {
                 answer_program(alloc, shelf, request, program)
@@ -36,10 +38,9 @@ fn answer_request<H: Shelf>(alloc: Global, shelf: &mut H, request: &Request) -> 
                 plain(alloc, Cause::NotBuilt)
             }
         }
-        Request::Plan(_)
-        | Request::Replay { .. }
-        | Request::Simulate { .. }
-        | Request::Make { .. } => { plain(alloc, Cause::NotBuilt) }
+        Request::Replay { .. } | Request::Simulate { .. } | Request::Make { .. } => {
+            plain(alloc, Cause::NotBuilt)
+        }
     }
 }
 
@@ -55,26 +56,26 @@ fn answer_words<H: Shelf>(alloc: Global, words: &[String], shelf: &mut H) -> Ans
     }
 }
 
-// Pours the line of a cause, where there was memory for it, and returns the cause that the program ends with.
-fn pour_line<P: Pour>(
+// Pours the text of a cause, where there was memory for it, and returns the cause that the program ends with.
+fn pour_text<P: Pour>(
     alloc: Global,
     cause: Cause,
-    line: Result<Bytes, NoMemory>,
+    text: Result<Bytes, NoMemory>,
     out: &mut P,
 ) -> Cause
     ensures cause { ToldAs cause result (Rose (P.faults out.old) (P.faults out.new)) }
-    ensures poured { PoursLine cause result line (P.poured out.old) (P.poured out.new)
+    ensures poured { PoursText cause result text (P.poured out.old) (P.poured out.new)
         (Rose (P.faults out.old) (P.faults out.new)) }
     ensures quiet { IsRun result → P.faults out.new ≡ P.faults out.old }
 {
-    match line {
-        Ok(line) => say(alloc, cause, line.as_slice(), out),
+    match text {
+        Ok(text) => say(alloc, cause, text.as_slice(), out),
         Err(_) => say(alloc, Cause::NoMemory, b"no memory\n", out),
     }
 }
 
 /// The program: it carries out what the words after the program's name ask over the shelf, and
-/// tells on `out` in a line why it ended, or what it checked. It asks neither the starter nor the
+/// tells on `out` why it ended, or what it was asked to tell of a program. It asks neither the starter nor the
 /// gate, and starts no thread.
 pub fn spl<W: Threads + Wait + Sync, H: Shelf, S: Starter, G: Gate, P: Pour>(
     _rt: &W,
@@ -99,7 +100,7 @@ pub fn spl<W: Threads + Wait + Sync, H: Shelf, S: Starter, G: Gate, P: Pour>(
         → ((n : List ℕ) → OnlyRead (H.counts shelf.old n) (H.counts shelf.new n))
         × (P.faults out.new ≡ P.faults out.old) }
 
-    // The line that was poured.
+    // What was poured.
     ensures said { Said result.cause (request_of words.now)
         (IsToldOutcome (request_of words.now) (H.told shelf.old) result.arrivals (H.counts shelf.old)
         (H.counts shelf.new)) (H.counts shelf.old) (H.counts shelf.new) (P.poured out.old) (P.poured out.new)
@@ -119,7 +120,7 @@ pub fn spl<W: Threads + Wait + Sync, H: Shelf, S: Starter, G: Gate, P: Pour>(
     ensures words { ByWords (request_of words.now) result.cause (H.counts shelf.old)
         (H.counts shelf.new) }
 
-    // A check ends with no fault, and is built.
+    // A request for what is told of a program that is not run ends with no fault, and is built.
     ensures kinds { MayBe (request_of words.now) result.cause }
 
     // Where no device fails, the outcome of the request is the answer, unless memory is wanting.
@@ -128,14 +129,14 @@ pub fn spl<W: Threads + Wait + Sync, H: Shelf, S: Starter, G: Gate, P: Pour>(
         (Rose (P.faults out.old) (P.faults out.new))) }
 {
     outcome_law();
-    let Answer { ended, line } = answer_words(alloc, words, shelf);
+    let Answer { ended, text } = answer_words(alloc, words, shelf);
     let Ended {
         status: _,
         cause,
         arrivals,
         counts,
     } = ended;
-    let cause = pour_line(alloc, cause, line, out);
+    let cause = pour_text(alloc, cause, text, out);
     Ended {
         status: status(&cause),
         cause,

@@ -10,5 +10,5 @@ use Rattle.spl_driver.proofs.answer.answer_program.Goals as goal
 pub returns-in-Err : goal.returns-in-Err
 returns-in-Err g c =
     plain_request _ _ _ C.NoMemory c.plain.result _ _ _ _ c.plain.ensures.cause (not_run C.NoMemory refl) tt tt tt (quiet_shown C.NoMemory _ _ _ tt tt (λ n. refl))
-    (built_words c.args.request.now C.NoMemory _ _ c.requires.built) c.plain.ensures.line c.plain.ensures.ran (λ small. refl)
+    (built_words c.args.request.now C.NoMemory _ _ c.requires.built) c.plain.ensures.text c.plain.ensures.ran (λ small. refl)
     (wanting_answer begun_same _ _ _ c.plain.result.ended _ _ c.plain.ensures.cause (told_same _) (λ n. refl))

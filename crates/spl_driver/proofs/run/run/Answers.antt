@@ -3,7 +3,7 @@ use Rattle.run_report.specs.declared.cause.Cause.{Cause}
 use Rattle.run_report.specs.declared.cause.Cause.TheVariants as C
 use Rattle.spl_driver.specs.Steps.{ReasonOf}
 use Rattle.spl_driver.proofs.Showing.{at_plain}
-use Rattle.spl_driver.proofs.Running.{begun_same, unopened_files, wanting_files, unopened_counts, wanting_counts, sunk_line, sunk_files, sunk_counts, sunk_ran, sunk_reason, distinct_for, lent_behind}
+use Rattle.spl_driver.proofs.Running.{begun_same, unopened_files, wanting_files, unopened_counts, wanting_counts, sunk_text, sunk_files, sunk_counts, sunk_ran, sunk_reason, distinct_for, lent_behind}
 use Rattle.spl_driver.proofs.run.run.Goals as goal
 
 pub returns-in-OpenFailed-clause-files : goal.returns-in-OpenFailed-clause-files
@@ -43,11 +43,11 @@ returns-in-Ok-clause-counts g c =
     sunk_counts _ c.write_sinks-sunk.result c.args.checked.now c.in-Ok.sinks c.in-Ran.run' c.ended_run.result.ended _ _ _ c.requires.own.0 c.requires.own.1 c.in-Ok.ensures.sinks
     c.in-Ran.ensures.made c.in-Ran.ensures.cause c.write_sinks-sunk.ensures.cause end.ends
 
-pub returns-in-Ok-clause-line : goal.returns-in-Ok-clause-line
-returns-in-Ok-clause-line g c =
+pub returns-in-Ok-clause-text : goal.returns-in-Ok-clause-text
+returns-in-Ok-clause-text g c =
     let end = c.ended_run.ensures in
-    sunk_line _ c.write_sinks-sunk.result c.args.checked.now c.in-Ok.sinks c.in-Ran.run' c.ended_run.result.ended c.ended_run.result.line _ _ _
-    c.write_sinks-sunk.ensures.cause c.in-Ran.ensures.made end.recorded end.ends end.line
+    sunk_text c.engine_law.ensures.sinks c.args.counted _ c.write_sinks-sunk.result c.args.checked.now c.in-Ok.sinks c.in-Ran.run' c.ended_run.result.ended c.ended_run.result.text _ _ _ c.in-Ok.ensures.kept c.in-Ok.ensures.sinks
+    c.in-Ran.ensures.made c.write_sinks-sunk.ensures.count c.write_sinks-sunk.ensures.cause end.ends end.recorded end.text
 
 pub returns-in-Ok-clause-reason : goal.returns-in-Ok-clause-reason
 returns-in-Ok-clause-reason g c =

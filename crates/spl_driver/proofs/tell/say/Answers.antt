@@ -1,4 +1,4 @@
-use Rattle.std.proofs.Common.{◌≡◌, ◌∙◌, sym}
+use Rattle.std.proofs.Common.{◌∙◌, sym}
 use Rattle.spl_driver.proofs.Telling.{poured_front, poured_failed, poured_unwritten, rose_by, run_is, unwritten, unwritten_run}
 use Rattle.spl_driver.proofs.tell.say.Goals as goal
 

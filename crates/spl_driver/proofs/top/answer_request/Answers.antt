@@ -6,17 +6,14 @@ use Rattle.spl_driver.proofs.top.answer_request.Goals as goal
 pub returns-else-is_plain : goal.returns-else-is_plain
 returns-else-is_plain g c =
     not_built_request _ c.args.request.now c.plain.result _ _ (ap is_built c.in-Run.is ∙ sym c.is_plain.ensures ∙ c.if-is_plain.false)
-    c.plain.ensures.cause c.plain.ensures.line c.plain.ensures.ran
+    c.plain.ensures.cause c.plain.ensures.text c.plain.ensures.ran
 
-pub returns-in-Plan : goal.returns-in-Plan
-returns-in-Plan g c =
-    not_built_request _ c.args.request.now c.plain-in-Plan.result _ _ other c.plain-in-Plan.ensures.cause c.plain-in-Plan.ensures.line c.plain-in-Plan.ensures.ran
+pub returns-in-Replay : goal.returns-in-Replay
+returns-in-Replay g c =
+    not_built_request _ c.args.request.now c.plain-in-Replay.result _ _ other c.plain-in-Replay.ensures.cause c.plain-in-Replay.ensures.text c.plain-in-Replay.ensures.ran
   where
     other : is_built c.args.request.now ≡ false
-    other = elim c.in-Plan.is [
-      | inl plan ↦ ap is_built plan.1
-      | inr others ↦ elim others [
-        | inl replay ↦ ap is_built replay.2
-        | inr more ↦ elim more [ inl simulate ↦ ap is_built simulate.4 | inr make ↦ ap is_built make.3 ]
-      ]
+    other = elim c.in-Replay.is [
+      | inl replay ↦ ap is_built replay.2
+      | inr others ↦ elim others [ inl simulate ↦ ap is_built simulate.4 | inr make ↦ ap is_built make.3 ]
     ]

@@ -11,7 +11,7 @@ use Rattle.spl_driver.proofs.top.answer_words.Goals as goal
 
 pub returns-in-Err : goal.returns-in-Err
 returns-in-Err g c =
-    plain_request _ _ _ C.NoMemory c.plain.result _ _ _ _ c.plain.ensures.cause (not_run C.NoMemory refl) tt tt tt (quiet_shown C.NoMemory _ _ _ tt tt (λ n. refl)) (wanting_words _ _ _ (λ n. refl)) c.plain.ensures.line
+    plain_request _ _ _ C.NoMemory c.plain.result _ _ _ _ c.plain.ensures.cause (not_run C.NoMemory refl) tt tt tt (quiet_shown C.NoMemory _ _ _ tt tt (λ n. refl)) (wanting_words _ _ _ (λ n. refl)) c.plain.ensures.text
     c.plain.ensures.ran (λ small. refl) (wanting_answer begun_same _ _ _ c.plain.result.ended _ _ c.plain.ensures.cause (told_same _) (λ n. refl))
 
 pub returns-in-Ok-None : goal.returns-in-Ok-None
@@ -20,4 +20,4 @@ returns-in-Ok-None g c =
     let counts = g.H.Shelf.counts c.args.shelf.now in
     let lent = g.H.Shelf.lent c.args.shelf.now in
     subst (λ (o : Option Request). AnswersRequest o c.plain-in-Ok-None.result told told counts counts lent lent) (sym c.in-Ok-None.field-0-is ∙ c.in-Ok-None.ensures)
-    (no_request_answer told c.plain-in-Ok-None.result counts lent c.plain-in-Ok-None.ensures.cause c.plain-in-Ok-None.ensures.line c.plain-in-Ok-None.ensures.ran)
+    (no_request_answer told c.plain-in-Ok-None.result counts lent c.plain-in-Ok-None.ensures.cause c.plain-in-Ok-None.ensures.text c.plain-in-Ok-None.ensures.ran)

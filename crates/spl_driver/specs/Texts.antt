@@ -1,0 +1,134 @@
+-- What the program tells.
+use Rattle.std.specs.Prelude.{◌≡◌, ◌⊎◌, ℕ, Bool, true, false, if◌then◌else◌, List, [], ◌++◌, take, Option, Some, None, Result, Ok, Err, ⊤, IfSome}
+use Rattle.spl_value.specs.declared.memory.NoMemory.{NoMemory}
+use Rattle.feed_pour.specs.Contents.{Told}
+use Rattle.feed_pour.specs.Counts.{PerName}
+use Rattle.language_model.specs.CheckedGraph.{CheckedGraph}
+use Rattle.stream_model.specs.declared.plan.Region.{Region}
+use Rattle.stream_model.specs.declared.record.Arrivals.{Arrivals}
+use Rattle.stream_model.specs.declared.record.Counts.{Counts}
+use Rattle.stream_model.specs.CheckedMeaning.{graph_of}
+use Rattle.stream_model.specs.Ends.{run_fault}
+use Rattle.stream_model.specs.Regions.{IsPlan}
+use Rattle.run_report.specs.declared.cause.Cause.{Cause}
+use Rattle.run_report.specs.declared.cause.Cause.TheVariants as C
+use Rattle.run_report.specs.CountTexts.{counts_text}
+use Rattle.run_report.specs.PlanTexts.{plan_text}
+use Rattle.run_report.specs.Texts.{status_text, check_text}
+use Rattle.command_line.specs.declared.request.Request.{Request}
+use Rattle.command_line.specs.declared.request.Request.TheVariants as R
+use Rattle.spl_driver.specs.Answer.{IsRun, OUT, cause_of, counts_of}
+use Rattle.spl_driver.specs.Outcome.{Report, OfSize, OfPlan, RequestOutcome, Reports, Runs, IsOutcome, IsSomeProgram}
+use Rattle.spl_driver.specs.Shown.{TextShown, RanTo, ShownBy}
+
+-- What a request that is carried out may come to, whatever its files hold: to what is told of the checked graph of a program, or to a meaning
+-- that a run of it came to.
+abbrev pub MayComeTo : Option Request → Arrivals → PerName → PerName → RequestOutcome → Type 0
+MayComeTo (Some (R.Check program)) arrivals counts now (Reports OfSize c) = IsSomeProgram (R.Check program) c
+MayComeTo (Some (R.Plan program)) arrivals counts now (Reports OfPlan c) = IsSomeProgram (R.Plan program) c
+MayComeTo (Some (R.Run program options)) arrivals counts now (Runs c g m) = IsSomeProgram (R.Run program options) c × RanTo c g m arrivals counts now
+MayComeTo _ arrivals counts now _ = ⊥
+
+-- what it may come to, which is its outcome where the shelf tells its files
+abbrev pub IsToldOutcome : Option Request → Option Told → Arrivals → PerName → PerName → RequestOutcome → Type 0
+IsToldOutcome request told arrivals counts now result = MayComeTo request arrivals counts now result × IfSome told (λ t. IsOutcome t arrivals request result)
+
+-- the text of a program that isn't run: its size, or its plan, which is the one plan of its graph
+abbrev pub IsReportText : Report → CheckedGraph → List ℕ → Type 0
+IsReportText OfSize c text = text ≡ check_text c
+IsReportText OfPlan c text = (plan : List Region) × IsPlan (graph_of c) plan × (text ≡ plan_text c plan)
+
+-- the request asks for the counts of its run
+abbrev pub wants_counts : Option Request → Bool
+wants_counts (Some (R.Run program options)) = options.counts
+wants_counts _ = false
+
+-- the text of a run with these counts: they are told where they are asked for, and then how it ended
+abbrev pub run_text : Bool → CheckedGraph → Counts → Cause → List ℕ
+run_text counted c counts cause = (if counted then counts_text c counts else []) ++ status_text (Some c) cause
+
+-- the text of a request that was carried out
+abbrev pub IsOutcomeText : Bool → RequestOutcome → Cause → List ℕ → Type 0
+IsOutcomeText counted (Reports report c) cause text = IsReportText report c text
+IsOutcomeText counted (Runs c g m) cause text = text ≡ run_text counted c (counts_of g m) cause
+IsOutcomeText counted _ cause text = ⊥
+
+-- how a request ends that is carried out: a program is told of, and that is done; and a run ends with its fault, or without
+abbrev pub EndsWith : RequestOutcome → Cause → Type 0
+EndsWith (Reports report c) cause = cause ≡ C.Done
+EndsWith (Runs c g m) cause = cause ≡ cause_of (run_fault g m)
+EndsWith _ cause = ⊥
+
+-- a request of such an outcome was carried out, it ended so, and this is its text
+abbrev pub IsTextOf : Bool → (RequestOutcome → Type 0) → Cause → List ℕ → Type 0
+IsTextOf counted Is cause text = (result : RequestOutcome) × Is result × EndsWith result cause × IsOutcomeText counted result cause text
+
+-- the text of a cause; nothing is said of that of want of memory
+abbrev pub IsText : Bool → Cause → (RequestOutcome → Type 0) → List ℕ → Type 0
+IsText counted C.NoMemory Is text = ⊤
+IsText counted C.Done Is text = IsTextOf counted Is C.Done text
+IsText counted (C.Stopped fault) Is text = IsTextOf counted Is (C.Stopped fault) text
+IsText counted C.BadWords Is text = text ≡ status_text None C.BadWords
+IsText counted (C.Refused refusal) Is text = text ≡ status_text None (C.Refused refusal)
+IsText counted C.NotBuilt Is text = text ≡ status_text None C.NotBuilt
+IsText counted (C.OpenFailed name) Is text = text ≡ status_text None (C.OpenFailed name)
+IsText counted (C.ReadFailed name) Is text = text ≡ status_text None (C.ReadFailed name)
+IsText counted (C.WriteFailed name) Is text = text ≡ status_text None (C.WriteFailed name)
+
+-- these bytes were poured, or a front of them where the pour's count rose
+abbrev pub PouredText : List ℕ → List ℕ → Option (List ℕ) → Type 0 → Type 0
+PouredText bytes old now Failed = (now ≡ Some (old ++ bytes)) ⊎ (Failed × ((n : ℕ) × (now ≡ Some (old ++ take n bytes))))
+
+-- a text of a request that was carried out was poured whole
+abbrev pub PouredWhole : Bool → (RequestOutcome → Type 0) → Cause → List ℕ → Option (List ℕ) → Type 0
+PouredWhole counted Is cause old now = (text : List ℕ) × IsTextOf counted Is cause text × (now ≡ Some (old ++ text))
+
+-- or a front of it and no more, since the pour failed
+abbrev pub PouredFront : Bool → (RequestOutcome → Type 0) → List ℕ → Option (List ℕ) → Type 0 → Type 0
+PouredFront counted Is old now Failed =
+    Failed × ((cause : Cause) × (text : List ℕ) × IsTextOf counted Is cause text × (n : ℕ) × (now ≡ Some (old ++ take n text)))
+
+-- The cause's text was poured; nothing is said of want of memory. Where a write failed, that is one of a sink's file, and its text was poured; or
+-- it is that of the text that would have come, which was begun.
+abbrev pub Said : Cause → Option Request → (RequestOutcome → Type 0) → PerName → PerName → Option (List ℕ) → Option (List ℕ) → Type 0 → Type 0
+Said cause request Is counts later None now Failed = ⊤
+Said C.NoMemory request Is counts later (Some old) now Failed = ⊤
+Said C.Done request Is counts later (Some old) now Failed = PouredWhole (wants_counts request) Is C.Done old now
+Said (C.Stopped fault) request Is counts later (Some old) now Failed = PouredWhole (wants_counts request) Is (C.Stopped fault) old now
+Said C.BadWords request Is counts later (Some old) now Failed = PouredText (status_text None C.BadWords) old now Failed
+Said (C.Refused refusal) request Is counts later (Some old) now Failed = PouredText (status_text None (C.Refused refusal)) old now Failed
+Said C.NotBuilt request Is counts later (Some old) now Failed = PouredText (status_text None C.NotBuilt) old now Failed
+Said (C.OpenFailed name) request Is counts later (Some old) now Failed = PouredText (status_text None (C.OpenFailed name)) old now Failed
+Said (C.ReadFailed name) request Is counts later (Some old) now Failed = PouredText (status_text None (C.ReadFailed name)) old now Failed
+Said (C.WriteFailed name) request Is counts later (Some old) now Failed =
+    (ShownBy (C.WriteFailed name) request counts later × PouredText (status_text None (C.WriteFailed name)) old now Failed)
+    ⊎ (TextShown name request counts later Failed × PouredFront (wants_counts request) Is old now Failed)
+
+-- ---- how a text is told
+
+-- a request was carried out
+abbrev pub is_run : Cause → Bool
+is_run C.Done = true
+is_run (C.Stopped fault) = true
+is_run _ = false
+
+-- what is told of a cause becomes of it: it stays, unless memory was wanting; but where the text of a request that was carried out isn't
+-- poured, its writing failed
+abbrev pub ToldAs : Cause → Cause → Type 0 → Type 0
+ToldAs cause result Failed = (result ≡ cause) ⊎ ((result ≡ C.NoMemory) ⊎ ((result ≡ C.WriteFailed OUT) × IsRun cause × Failed))
+
+-- the text was poured whole; or a front of it, since the pour failed or memory was wanting
+pub data TextPoured (cause result : Cause) (text : List ℕ) (old : List ℕ) (now : Option (List ℕ)) (Failed : Type 0) : Type 0 where
+  whole : result ≡ cause → now ≡ Some (old ++ text) → TextPoured cause result text old now Failed
+  front : result ≡ cause → (IsRun cause → ⊥) → Failed → (n : ℕ) → now ≡ Some (old ++ take n text) → TextPoured cause result text old now Failed
+  failed : result ≡ C.WriteFailed OUT → IsRun cause → Failed → (n : ℕ) → now ≡ Some (old ++ take n text) → TextPoured cause result text old now Failed
+  wanting : result ≡ C.NoMemory → TextPoured cause result text old now Failed
+
+abbrev pub Pours : Cause → Cause → List ℕ → Option (List ℕ) → Option (List ℕ) → Type 0 → Type 0
+Pours cause result text None now Failed = ⊤
+Pours cause result text (Some old) now Failed = TextPoured cause result text old now Failed
+
+-- a text that there was memory for
+abbrev pub PoursText : Cause → Cause → Result (List ℕ) NoMemory → Option (List ℕ) → Option (List ℕ) → Type 0 → Type 0
+PoursText cause result (Ok text) old now Failed = Pours cause result text old now Failed
+PoursText cause result (Err e) old now Failed = result ≡ C.NoMemory
