@@ -99,6 +99,8 @@ composite Main {graph stream<int64 n> T = FileSource() {param file: "t.csv";} st
 @text # | fail line 1 | $ check p.spl => 2
 # a check of no program
 @none | fail line 1 | $ check p.spl => 4
+# a plan
+@pair | a.csv: 1␊2␊ | b.csv: 3␊ | fail line 1 | $ plan p.spl => 6
 # a run with nothing to tell
 @pair | a.csv: 1␊2␊ | b.csv: 3␊ | fail line 1 => 0; x.csv 1␊2␊; y.csv 3␊; counts 2:2 3:1
 # a run that ended with a fault
@@ -112,7 +114,7 @@ composite Main {graph stream<int64 n> T = FileSource() {param file: "t.csv";} st
 # a source that isn't there
 @first | fail line 1 => 4
 # a request that isn't built
-@pair | a.csv: 1␊2␊ | b.csv: 3␊ | fail line 1 | $ plan p.spl => 13
+@pair | a.csv: 1␊2␊ | b.csv: 3␊ | fail line 1 | $ replay p.spl --arrivals r.txt => 13
 # no request
 @pair | a.csv: 1␊2␊ | b.csv: 3␊ | fail line 1 | $ walk p.spl => 1
 "#;

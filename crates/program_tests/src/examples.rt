@@ -298,6 +298,44 @@ composite Main {
 }
 "#;
 
+/// Sales and what each shop took of late.
+pub(crate) const SALES: &str =
+    r#"// Sales of several shops, with their prices in cents. With each sale it is told what its shop took with its
+// last three: of busy shops in one file, of quiet ones in another. Sales of many pieces, of whatever shop, go
+// to a file of their own.
+
+type Sale = int64 second, rstring shop, int64 cents, int64 pieces;
+
+// The sales of so many pieces or more. A price of 0 or less is a mistake at the till.
+composite AtLeast(output Kept; input All) {
+  param expression<int64> $least : 1l;
+  graph
+    stream<All> Kept = Filter(All) { param filter: pieces >= $least && cents > 0l; }
+}
+
+composite Main {
+  param
+    expression<int64> $busy : 60l * 100l;
+  graph
+    stream<Sale> Sales = FileSource() { param file: "sales.csv"; format: csv; }
+    stream<Sale> Sold = AtLeast(Sales);
+    stream<Sale> Bulk = AtLeast(Sales) { param least: 20l; }
+    stream<int64 second, rstring shop, int64 taken> Takings = Functor(Sold) {
+      output Takings: taken = cents * pieces;
+    }
+    // Each shop has a window of its own. What isn't assigned is the newest sale's.
+    stream<int64 second, rstring shop, int64 sum, int32 number> Sums = Aggregate(Takings) {
+      window Takings: sliding, count(3), count(1), partitioned;
+      param partitionBy: shop;
+      output Sums: sum = Sum(taken), number = Count();
+    }
+    (stream<Sums> Quiet; stream<Sums> Busy) = Split(Sums) { param index: sum >= $busy ? 1 : 0; }
+    () as QuietOut = FileSink(Quiet) { param file: "quiet.csv"; format: csv; }
+    () as BusyOut = FileSink(Busy) { param file: "busy.csv"; format: csv; }
+    () as BulkOut = FileSink(Bulk) { param file: "bulk.csv"; format: csv; }
+}
+"#;
+
 /// Readings of which one is no number.
 pub(crate) const BAD_ROW: &str =
     r#"// Readings of a thermometer, one of which isn't a number: parsing is strict where nothing else is said, so
@@ -370,6 +408,9 @@ pub(crate) const EXAMPLES: &str = r#"
 # highest: the first price leaves with the eleventh
 @highest | $ check p.spl => 0 ok 3 operators 2 streams␊
 @highest | trades.csv: 1,A,90␊2,A,10␊3,B,7␊4,A,20␊5,A,20␊6,A,20␊7,A,20␊8,A,20␊9,A,20␊10,A,20␊11,A,20␊12,A,30␊13,A,25␊ => 0; range.csv 1,A,90,90,90␊2,A,10,90,10␊3,B,7,7,7␊4,A,20,90,10␊5,A,20,90,10␊6,A,20,90,10␊7,A,20,90,10␊8,A,20,90,10␊9,A,20,90,10␊10,A,20,90,10␊11,A,20,90,10␊12,A,30,30,10␊13,A,25,30,20␊; counts 2:13
+# sums: three sales of a shop that reach what a busy one takes, and others that don't count
+@sales | $ check p.spl => 0 ok 9 operators 7 streams␊
+@sales | sales.csv: 1,bakery,1000,2␊2,books,5000,1␊3,bakery,1000,3␊4,bakery,0,5␊5,bakery,500,2␊6,bakery,100,0␊7,bakery,100,20␊8,books,-5,30␊9,books,999,1␊ => 0; quiet.csv 1,bakery,2000,1␊2,books,5000,1␊3,bakery,5000,2␊9,books,5999,2␊; busy.csv 5,bakery,6000,3␊7,bakery,6000,3␊; bulk.csv 7,bakery,100,20␊; counts 6:4 7:2 8:1
 # bad-row
 @bad_row | $ check p.spl => 0 ok 3 operators 2 streams␊
 @bad_row | readings.csv: 1000,attic,212␊1005,cellar,121␊1010,attic,219␊1015,attic,198␊1020,cellar,n/a␊1025,attic,230␊ => 3 stopped Readings BadRow line 5␊; warm.csv 1000,attic,212␊1010,attic,219␊; counts 2:2

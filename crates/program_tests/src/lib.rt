@@ -6,6 +6,8 @@ mod aggregates;
 #[cfg(test)]
 mod ask;
 #[cfg(test)]
+mod counted;
+#[cfg(test)]
 mod devices;
 #[cfg(test)]
 mod examples;
@@ -15,6 +17,8 @@ mod faults;
 mod generated;
 #[cfg(test)]
 mod operators;
+#[cfg(test)]
+mod plans;
 #[cfg(test)]
 mod programs;
 #[cfg(test)]

@@ -8,13 +8,15 @@
 //! | `@op TYPES → TEXT` | a source `T` of these attributes, the text, and a sink of `B` |
 //! | `@two TEXT` | a composite with two sources `S` and `T`, and the text |
 //! | `@join TEXT` | two sources `L` and `R`, a Join `J` with the text as its clauses, and a sink |
-//! | `@first`, `@pair`, `@sums`, `@telemetry`, `@trades`, `@logs`, `@averages`, `@highest`, `@bad_row`, `@division`, `@wrong` | that program |
+//! | `@first`, `@pair`, `@sums`, `@telemetry`, `@trades`, `@logs`, `@averages`, `@highest`, `@sales`, `@bad_row`, `@division`, `@wrong` | that program |
 //! | `@sums OLD → NEW` | that program with the first such piece replaced |
 //! | `@nested 9` | `@first` with its attribute in nine pairs of parentheses |
 //! | `@parentheses 9`, `@sources 9`, `@chain 9`, `@padded 9 TEXT` | what `generated` says |
 //! | `@text TEXT` | the text, where it begins with `#` or `@` |
 //! | another text | the text |
-use crate::examples::{AVERAGES, BAD_ROW, DIVISION, HIGHEST, LOGS, TELEMETRY, TRADES, WRONG};
+use crate::examples::{
+    AVERAGES, BAD_ROW, DIVISION, HIGHEST, LOGS, SALES, TELEMETRY, TRADES, WRONG,
+};
 use crate::generated::{CHAIN, NESTED, PARENTHESES, SOURCES, counted, edited, padded};
 use std::alloc::{AllocError, Global};
 use test_texts::signs::without_signs;
@@ -103,6 +105,7 @@ fn named(name: &str) -> &'static str {
         "logs" => LOGS,
         "averages" => AVERAGES,
         "highest" => HIGHEST,
+        "sales" => SALES,
         "bad_row" => BAD_ROW,
         "division" => DIVISION,
         "wrong" => WRONG,

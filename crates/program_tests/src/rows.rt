@@ -1,10 +1,12 @@
 //! The tables.
 use crate::aggregates::AGGREGATES;
 use crate::ask::asked;
+use crate::counted::COUNTED;
 use crate::devices::{DEVICES, FAILING, failing};
 use crate::examples::EXAMPLES;
 use crate::faults::{FAULTS, TURNS};
 use crate::operators::OPERATORS;
+use crate::plans::PLANS;
 use crate::refusals::{CHECKS, REFUSALS};
 use crate::runs::RUNS;
 use crate::several::{JOINED, SEVERAL};
@@ -29,9 +31,13 @@ enum Question {
 
 const RUN: Question = Question::Words("run p.spl");
 
+const RUN_WITH_COUNTS: Question = Question::Words("run p.spl --counts");
+
 const CHECK: Question = Question::Words("check p.spl");
 
-const TABLES: [(Question, &str); 15] = [
+const PLAN: Question = Question::Words("plan p.spl");
+
+const TABLES: [(Question, &str); 17] = [
     (RUN, RUNS),
     (RUN, SOURCES),
     (RUN, OPERATORS),
@@ -45,6 +51,8 @@ const TABLES: [(Question, &str); 15] = [
     (CHECK, CHECKS),
     (CHECK, REFUSALS),
     (RUN, REFUSALS),
+    (PLAN, PLANS),
+    (RUN_WITH_COUNTS, COUNTED),
     (Question::Unopened, WORDS),
     (Question::Failing, FAILING),
 ];

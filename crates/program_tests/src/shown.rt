@@ -24,7 +24,8 @@ use test_texts::words::bytes;
 const MADE: &str =
     "o.csv x.csv y.csv z.csv m.csv a.txt r.txt failures.csv warm.csv hot.csv statistics.csv falls.csv \
     rises.csv cancelled.csv small.csv middle.csv large.csv holdings.csv others.csv refused.csv failed.csv \
-    paths.csv rates.csv lo.csv hi.csv big.csv means.csv range.csv";
+    paths.csv rates.csv lo.csv hi.csv big.csv means.csv range.csv \
+    quiet.csv busy.csv bulk.csv";
 
 fn add_told(text: &mut Text, seen: &Seen) {
     text.add_number(i128::from(seen.ended.status));

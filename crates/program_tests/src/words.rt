@@ -45,31 +45,40 @@ pub(crate) fn unopened<W: Threads + Wait + Sync>(
 
 /// Words with their own answers.
 pub(crate) const BUILT: &str = r#"
-# Check and run are built.
+# Check, plan and run are built, and run with counts.
 @first | t.csv: 5␊10␊11␊ | $ check p.spl => 0 ok 3 operators 2 streams␊
+@first | t.csv: 5␊10␊11␊ | $ plan p.spl => 0 single T␊region 0 merge pulses key -: B␊single Out␊
 @first | t.csv: 5␊10␊11␊ | $ run p.spl => 0; o.csv 11␊; counts 2:1
+@first | t.csv: 5␊10␊11␊ | $ run p.spl --counts => 0 sink Out tuples 1␊; o.csv 11␊; counts 2:1
+@first | t.csv: 5␊10␊11␊ | $ run --counts p.spl => 0 sink Out tuples 1␊; o.csv 11␊; counts 2:1
 
 # A program of three numbers.
 @first | t.csv: 5␊10␊11␊ | $ check t.csv => 2 refused S1 at 0␊
+@first | t.csv: 5␊10␊11␊ | $ plan t.csv => 2 refused S1 at 0␊
 @first | t.csv: 5␊10␊11␊ | $ run t.csv => 2 refused S1 at 0␊
+@first | t.csv: 5␊10␊11␊ | $ run t.csv --counts => 2 refused S1 at 0␊
 
 # Names of files that aren't there.
 @first | t.csv: 5␊10␊11␊ | $ check check => 4 cannot open check␊
+@first | t.csv: 5␊10␊11␊ | $ plan plan => 4 cannot open plan␊
 @first | t.csv: 5␊10␊11␊ | $ run run => 4 cannot open run␊
+@first | t.csv: 5␊10␊11␊ | $ run counts --counts => 4 cannot open counts␊
 @first | t.csv: 5␊10␊11␊ | $ run P.spl => 4 cannot open P.spl␊
 @first | t.csv: 5␊10␊11␊ | $ run a=b => 4 cannot open a=b␊
 @first | t.csv: 5␊10␊11␊ | $ run ␣ => 4 cannot open  ␊
 
 # A request that is not built comes before a refused program.
-@text # | $ plan p.spl => 13 not built␊
+@text # | $ replay p.spl --arrivals r.txt => 13 not built␊
+@text # | $ run p.spl --counts --width 1 => 13 not built␊
 @text # | $ walk p.spl => 1 bad words␊
 @text # | $ check p.spl => 2 refused L1 at 0␊
+@text # | $ plan p.spl => 2 refused L1 at 0␊
+@text # | $ run p.spl --counts => 2 refused L1 at 0␊
 "#;
 
 /// Words that open no file.
 pub(crate) const WORDS: &str = r#"
 # Other requests are not built.
-plan p.spl => 13 not built␊
 run p.spl --width 1 => 13 not built␊
 run p.spl --width 16 => 13 not built␊
 run --width=2 p.spl => 13 not built␊
@@ -77,8 +86,10 @@ run p.spl --workers 1 => 13 not built␊
 run p.spl --workers=64 => 13 not built␊
 run p.spl --capacity 18 => 13 not built␊
 run p.spl --capacity 4096 => 13 not built␊
-run p.spl --counts => 13 not built␊
-run --counts p.spl => 13 not built␊
+run p.spl --counts --width 1 => 13 not built␊
+run p.spl --counts --workers 1 => 13 not built␊
+run --counts --capacity=64 p.spl => 13 not built␊
+run p.spl --counts --arrivals a.txt => 13 not built␊
 run p.spl --arrivals a.txt => 13 not built␊
 run --arrivals=a.txt --width 4 p.spl --workers 3 --counts --capacity=64 => 13 not built␊
 replay p.spl --arrivals r.txt => 13 not built␊
@@ -104,6 +115,7 @@ help => 1 bad words␊
 --version => 1 bad words␊
 run => 1 bad words␊
 check => 1 bad words␊
+plan => 1 bad words␊
 run --counts => 1 bad words␊
 
 # File names.
@@ -115,11 +127,17 @@ run p.spl -- => 1 bad words␊
 run p.spl q.spl => 1 bad words␊
 check p.spl p.spl => 1 bad words␊
 check p.spl ∅ => 1 bad words␊
+plan ∅ => 1 bad words␊
+plan -p => 1 bad words␊
+plan p.spl q.spl => 1 bad words␊
 
 # Options that the command doesn't have.
 check p.spl --counts => 1 bad words␊
 check p.spl --width 1 => 1 bad words␊
 plan p.spl --width 1 => 1 bad words␊
+plan p.spl --counts => 1 bad words␊
+plan --counts p.spl => 1 bad words␊
+plan p.spl --arrivals a.txt => 1 bad words␊
 run p.spl --steps 5 => 1 bad words␊
 run p.spl --count => 1 bad words␊
 run p.spl -counts => 1 bad words␊
