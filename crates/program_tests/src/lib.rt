@@ -6,7 +6,11 @@ mod aggregates;
 #[cfg(test)]
 mod ask;
 #[cfg(test)]
+mod clauses;
+#[cfg(test)]
 mod counted;
+#[cfg(test)]
+mod customs;
 #[cfg(test)]
 mod devices;
 #[cfg(test)]
@@ -33,6 +37,8 @@ mod several;
 mod shelf;
 #[cfg(test)]
 mod shown;
+#[cfg(test)]
+mod single;
 #[cfg(test)]
 mod sources;
 #[cfg(test)]

@@ -1,7 +1,9 @@
 //! The tables.
 use crate::aggregates::AGGREGATES;
 use crate::ask::asked;
+use crate::clauses::{CLAUSES, SPENT};
 use crate::counted::COUNTED;
+use crate::customs::{CUSTOMS, LOOPS};
 use crate::devices::{DEVICES, FAILING, failing};
 use crate::examples::EXAMPLES;
 use crate::faults::{FAULTS, TURNS};
@@ -10,6 +12,7 @@ use crate::plans::PLANS;
 use crate::refusals::{CHECKS, REFUSALS};
 use crate::runs::RUNS;
 use crate::several::{JOINED, SEVERAL};
+use crate::single::SINGLE;
 use crate::sources::SOURCES;
 use crate::words::{BUILT, WORDS, unopened};
 use std::alloc::{AllocError, Global};
@@ -109,5 +112,27 @@ fn the_program_answers_as_the_rows_say(rt: HostRuntime) -> Result<(), Fail> {
 #[test]
 fn an_event_has_a_million_turns(rt: HostRuntime) -> Result<(), Fail> {
     no_others(others_of(&rt, rt.alloc(), &[(RUN, TURNS)])?)?;
+    Ok(())
+}
+
+#[test]
+fn operators_and_their_clauses_answer_as_the_rows_say(rt: HostRuntime) -> Result<(), Fail> {
+    no_others(others_of(
+        &rt,
+        rt.alloc(),
+        &[(RUN, SINGLE), (RUN, CUSTOMS), (RUN, CLAUSES)],
+    )?)?;
+    Ok(())
+}
+
+#[test]
+fn the_turns_of_an_event_are_spent_by_all_that_it_evaluates(rt: HostRuntime) -> Result<(), Fail> {
+    no_others(others_of(&rt, rt.alloc(), &[(RUN, LOOPS)])?)?;
+    Ok(())
+}
+
+#[test]
+fn a_clause_that_takes_all_turns_ends_the_run(rt: HostRuntime) -> Result<(), Fail> {
+    no_others(others_of(&rt, rt.alloc(), &[(RUN, SPENT)])?)?;
     Ok(())
 }
