@@ -1,5 +1,5 @@
 //! The tables.
-use crate::aggregates::AGGREGATES;
+use crate::aggregates::{AGGREGATES, CONTENTS};
 use crate::ask::asked;
 use crate::clauses::{CLAUSES, SPENT};
 use crate::counted::COUNTED;
@@ -40,11 +40,12 @@ const CHECK: Question = Question::Words("check p.spl");
 
 const PLAN: Question = Question::Words("plan p.spl");
 
-const TABLES: [(Question, &str); 17] = [
+const TABLES: [(Question, &str); 18] = [
     (RUN, RUNS),
     (RUN, SOURCES),
     (RUN, OPERATORS),
     (RUN, AGGREGATES),
+    (RUN, CONTENTS),
     (RUN, SEVERAL),
     (RUN, JOINED),
     (RUN, FAULTS),
