@@ -1,0 +1,6 @@
+pub mod NumberTexts
+pub mod InputTexts
+pub mod Lines
+pub mod RecordTexts
+pub mod SomeTexts
+pub mod WholeRecords

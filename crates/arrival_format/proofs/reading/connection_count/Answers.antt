@@ -1,0 +1,10 @@
+use Rattle.std.proofs.Common.{◌∙◌, ap, sym, length, List, ℕ, sum_by}
+use Rattle.std.proofs.lemmas.List.{take_all}
+use Rattle.arrival_format.proofs.Lines.{count_concat}
+use Rattle.arrival_format.proofs.reading.connection_count.Goals as goal
+
+pub returns : goal.returns
+returns c =
+    c.loop-port.invariant
+    ∙ ap (λ (xs : List (List ℕ)). sum_by length xs) (take_all c.loop-port.port-index c.as_slice-port-items.result.now c.loop-port-test.false ∙ c.as_slice-port-items.ensures)
+    ∙ sym (count_concat c.args.op.now.ins)

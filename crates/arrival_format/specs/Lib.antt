@@ -1,0 +1,4 @@
+pub mod ArrivalTexts
+pub mod FormatLaws
+pub mod steps
+pub mod examples
