@@ -9,12 +9,17 @@ ghost use Rattle.engine_tests.specs.Copying.{copying};
 
 use crate::writer::Writer;
 use language_model::Checked;
-use list_engine::{Run, run_lists};
-use spl_value::{Item, Items, NoMemory};
+use list_engine::{Order, Run, RunAnswer, run_lists};
+use spl_value::{Item, Items};
 use std::alloc::Global;
 
-/// Runs the worked graph on the rows of its source: its sink gives them to its writer.
-pub fn copied(alloc: Global, checked: &Checked, rows: Items<Item>) -> Result<Run, NoMemory>
+/// Runs the worked graph on the rows of its source: its sink gives them to its writer, in whatever order.
+pub fn copied(
+    alloc: Global,
+    checked: &Checked,
+    rows: Items<Item>,
+    order: &Order,
+) -> Result<Run, RunAnswer>
     requires graph { checked.now ≡ copying }
     requires closed { is_closed rows ≡ true }
     requires fit { TuplesFit texts rows }
@@ -27,5 +32,5 @@ pub fn copied(alloc: Global, checked: &Checked, rows: Items<Item>) -> Result<Run
     let mut all = Items::new(alloc);
     all.push(rows)?;
     all.push(Items::new(alloc))?;
-    run_lists(alloc, checked, operators, all)
+    run_lists(alloc, checked, operators, all, order)
 }

@@ -22,7 +22,7 @@ pub enum Fetched {
 }
 
 /// Reads the file of this name, up to a limit of bytes, and gives its feed back.
-pub fn fetch<H: Shelf>(alloc: Global, shelf: &mut H, name: &Name, limit: u32) -> Fetched
+pub fn fetch<H: Shelf>(alloc: Global, shelf: &mut H, name: &Name, limit: usize) -> Fetched
     ensures within { FetchedWithin result limit }
     ensures read { IfSome (H.told shelf.old) (λ t. FetchedOf (t.script name.now) result limit) }
     ensures told { WhereTold (H.told shelf.old) (H.told shelf.new) TellsSame }

@@ -21,14 +21,14 @@ pub enum ReadAll {
 }
 
 /// Reads in pieces of 8,192 bytes up to the end, a fault, or more than `limit` bytes.
-pub fn read_all<F: Feed>(alloc: Global, feed: &mut F, limit: u32) -> ReadAll
+pub fn read_all<F: Feed>(alloc: Global, feed: &mut F, limit: usize) -> ReadAll
     ensures read { AllRead (F.script feed.old) result limit }
     ensures within { ReadWithin result limit }
     ensures cause { Counted (failed_read_all result) (F.faults feed.old) (F.faults feed.new) }
 {
     let mut bytes = Vec::new(alloc);
     let mut piece = [0u8; PIECE];
-    'pieces: while bytes.len() <= limit as usize {
+    'pieces: while bytes.len() <= limit {
         match feed.read(&mut piece) {
             Ok(0) => return ReadAll::Whole(Items::from_vec(bytes)),
             Ok(n) => {

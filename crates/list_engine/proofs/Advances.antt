@@ -15,7 +15,9 @@ use Rattle.stream_model.specs.Operators.{Operator, connections}
 use Rattle.stream_model.specs.Records.{is_whole}
 use Rattle.stream_model.specs.Stages.{out}
 use Rattle.list_engine.specs.declared.operator.Given.{Given}
+use Rattle.list_engine.specs.declared.run_order.Order.{Order}
 use Rattle.list_engine.specs.declared.state.State.{State}
+use Rattle.list_engine.specs.RunOrders.{Follows}
 use Rattle.list_engine.specs.Runs.{rows_at}
 use Rattle.list_engine.specs.steps.Faults.{fault_at}
 use Rattle.list_engine.specs.steps.Keeping.{IsKept}
@@ -48,8 +50,8 @@ read_by_all (p ∷ ops) zero o s at reads =
     let same : p ≡ o = cc in or_left (reads_stream p s) (is_read ops s) (ap (λ (x : Operator). reads_stream x s) same ∙ reads)
 read_by_all (p ∷ ops) (suc n) o s at reads = or_right (reads_stream p s) (is_read ops s) (read_by_all ops n o s at reads)
 
-module _ (c : CheckedGraph) (g : Graph) (rows : List (List Item)) (later : List ℕ) (n : ℕ) (o : Operator) (given : Given) (fault : Option Fault) (old mid new : State)
-    (st : Stands c g rows (n ∷ later) old) (h : Here c g st.before later n o) (taken : HasTaken g later o old mid) (kept : IsKept o.outs n given fault mid new)
+module _ (c : CheckedGraph) (order : Order) (g : Graph) (rows : List (List Item)) (later : List ℕ) (n : ℕ) (o : Operator) (given : Given) (fault : Option Fault) (old mid new : State)
+    (st : Stands c order g rows (n ∷ later) old) (h : Here c g st.before later n o) (taken : HasTaken g later o old mid) (kept : IsKept o.outs n given fault mid new)
     (within : n < length old.inputs) (room : (o.outs ≡ [] → n < length old.sinks) × (o.outs ≡ [] → n < length old.faults))
     (several : is_some given.inputs ≡ has_several (connections o)) where
   inputs_are_set : new.inputs ≡ slice_set old.inputs n given.inputs
@@ -62,14 +64,14 @@ module _ (c : CheckedGraph) (g : Graph) (rows : List (List Item)) (later : List 
   recorded_here = ap (λ xs. recorded_at xs n) inputs_are_set ∙ ap (λ x. unwrap_or x None) (get_set_same old.inputs n given.inputs within)
 
   -- a record that agrees with all that is kept agrees with what was kept before, and with that of the operator
-  agreed_before : (entries : Entries) → Agrees (st.before ++ n ∷ []) new.inputs entries → Agrees st.before old.inputs entries
-  agreed_before entries agrees k among =
-      agrees k (Contains-append_left st.before (n ∷ []) k among)
+  agreed_before : (entries : Entries) → Agrees g (st.before ++ n ∷ []) new.inputs entries → Agrees g st.before old.inputs entries
+  agreed_before entries agrees k p among at many =
+      agrees k p (Contains-append_left st.before (n ∷ []) k among) at many
       ∙ ap (λ x. unwrap_or x []) (recorded_other k (apart_from c g st.before later n o h k among))
 
-  pub agreed_here : (entries : Entries) → Agrees (st.before ++ n ∷ []) new.inputs entries → entries n ≡ unwrap_or given.inputs []
-  agreed_here entries agrees =
-      agrees n (Contains-append_right st.before (n ∷ []) n (contains_here n [])) ∙ ap (λ x. unwrap_or x []) recorded_here
+  agreed_here : (entries : Entries) → Agrees g (st.before ++ n ∷ []) new.inputs entries → has_several (connections o) ≡ true → entries n ≡ unwrap_or given.inputs []
+  agreed_here entries agrees many =
+      agrees n o (Contains-append_right st.before (n ∷ []) n (contains_here n [])) h.at many ∙ ap (λ x. unwrap_or x []) recorded_here
 
   same_operator : (k : ℕ) (p : Operator) → n ≡ k → slice_get g.ops k ≡ Some p → o ≡ p
   same_operator k p same at = let both : Some o ≡ Some p = sym h.at ∙ ap (slice_get g.ops) same ∙ at in cc
@@ -136,9 +138,12 @@ module _ (c : CheckedGraph) (g : Graph) (rows : List (List Item)) (later : List 
       made_before : (s : ℕ) → makes_stream o s ≡ false → is_made (ops_at g later) s ≡ false → is_made (ops_at g (n ∷ later)) s ≡ false
       made_before s other fresh = ap (λ found. is_made (cons_option found (ops_at g later)) s) h.at ∙ or_from (makes_stream o s) (is_made (ops_at g later) s) other fresh
 
-  pub advances : ((entries : Entries) → Means c g (meaning g (rows_at rows) entries) entries st.before (n ∷ later) old → entries n ≡ unwrap_or given.inputs []
-      → IsRight c (meaning g (rows_at rows) entries) entries o given fault) → Stands c g rows later new
-  advances right = record {
+  pub advances : ((entries : Entries) → Means c g (meaning g (rows_at rows) entries) entries st.before (n ∷ later) old
+      → (has_several (connections o) ≡ true → entries n ≡ unwrap_or given.inputs []) → IsRight c (meaning g (rows_at rows) entries) entries o given fault)
+      → ((entries : Entries) → Means c g (meaning g (rows_at rows) entries) entries st.before (n ∷ later) old → has_several (connections o) ≡ true
+      → entries n ≡ unwrap_or given.inputs [] → Follows order o (lists_at (meaning g (rows_at rows) entries).streams (connections o)) (entries o.number))
+      → Stands c order g rows later new
+  advances right follows = record {
     before = st.before ++ n ∷ [];
     split = st.split ∙ sym (append_assoc st.before (n ∷ []) later);
     places = record {
@@ -158,4 +163,12 @@ module _ (c : CheckedGraph) (g : Graph) (rows : List (List Item)) (later : List 
     means = λ entries agrees.
         let before = st.means entries (agreed_before entries agrees) in
         means_after entries before (right entries before (agreed_here entries agrees));
+    ordered = λ entries agrees k p among at many. elim (earlier_or_this st.before n k among) [
+      | inl earlier ↦ st.ordered entries (agreed_before entries agrees) k p earlier at many
+      | inr same ↦ (
+          let is = same_operator k p same at in
+          let own : has_several (connections o) ≡ true = ap (λ (x : Operator). has_several (connections x)) is ∙ many in
+          subst (λ (x : Operator). Follows order x (lists_at (meaning g (rows_at rows) entries).streams (connections x)) (entries x.number)) is
+          (follows entries (st.means entries (agreed_before entries agrees)) own (agreed_here entries agrees own)))
+    ];
   }

@@ -88,7 +88,7 @@ open_rest x a h = go (closes x) h
     go false h = h
 
 -- in whatever order they stand
-open_reverse : (test : ℕ → Bool) (events : List Event) → any_closes (came_on test events) ≡ false → any_closes (came_on test (reverse events)) ≡ false
+pub open_reverse : (test : ℕ → Bool) (events : List Event) → any_closes (came_on test events) ≡ false → any_closes (came_on test (reverse events)) ≡ false
 open_reverse test [] h = refl
 open_reverse test (e ∷ events) h =
     ap (λ es. any_closes (came_on test es)) (reverse-append (e ∷ []) events)

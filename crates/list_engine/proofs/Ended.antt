@@ -109,6 +109,19 @@ named_front op done rest h =
     (sym (list_all-append (λ j. nat_lt j (length (ports op))) (inputs_of done) (inputs_of rest))
     ∙ ap (names_inputs op) (sym (map_append (λ (e : Event). e.input) done rest)) ∙ h)).0
 
+-- the inputs of events that end an operator are a whole record, where they take these
+pub whole_by : (op : Operator) (l : Lists) (done : List Event) (fault : Option Fault) → arrive l (inputs_of done) ≡ done → names_inputs op (inputs_of done) ≡ true
+    → EndsBy op done fault → is_whole op l (inputs_of done) ≡ true
+whole_by op l done fault takes named e = (whole_law op l (inputs_of done)).1 (record {
+  named = named;
+  found = ap length takes ∙ sym (length-inputs_of done);
+  front = e.front;
+  last = e.last;
+  are = takes ∙ e.are;
+  before = e.before;
+  ended = ap (has_ended op) (sym e.are) ∙ ended_there op done fault e;
+})
+
 -- the inputs of the events that were taken are a whole record
 pub record TakenWhole (op : Operator) (l : Lists) (done : List Event) : Type 0 where
   pub takes : arrive l (inputs_of done) ≡ done
@@ -121,13 +134,6 @@ taken_whole op l lists done rest fault count same split e =
     arrive_front (inputs_from l 0 (length lists)) l done rest (arrive_from (length lists) 0 l ∙ turns_from lists l same ∙ split) in
     record {
       takes = takes;
-      whole = (whole_law op l (inputs_of done)).1 (record {
-        named = named_front op done rest (ap (λ es. list_all (λ j. nat_lt j (length (ports op))) (inputs_of es)) (sym split) ∙ named_turns lists 0 (length (ports op)) (omega (arith, count)));
-        found = ap length takes ∙ sym (length-inputs_of done);
-        front = e.front;
-        last = e.last;
-        are = takes ∙ e.are;
-        before = e.before;
-        ended = ap (has_ended op) (sym e.are) ∙ ended_there op done fault e;
-      });
+      whole = whole_by op l done fault takes
+          (named_front op done rest (ap (λ es. list_all (λ j. nat_lt j (length (ports op))) (inputs_of es)) (sym split) ∙ named_turns lists 0 (length (ports op)) (omega (arith, count)))) e;
     }

@@ -6,6 +6,7 @@ pub mod Coming
 pub mod Taking
 pub mod Turns
 pub mod Ended
+pub mod Replaying
 pub mod Ports
 pub mod Operators
 pub mod Advancing
@@ -16,6 +17,7 @@ pub mod Recording
 pub mod Faults
 pub mod Looping
 pub mod Running
+pub mod SameRecords
 pub mod Sinks
 pub mod FaultNames
 pub mod Chained

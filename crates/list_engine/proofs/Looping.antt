@@ -17,12 +17,14 @@ use Rattle.stream_model.specs.Operators.{Operator}
 use Rattle.stream_model.specs.Stream.{Event}
 use Rattle.stream_model.specs.declared.record.ArrivalList.{ArrivalList}
 use Rattle.spl_value.proofs.Lists.{contains_here, contains_later, get_below}
+use Rattle.list_engine.specs.declared.run_order.Order.{Order}
 use Rattle.list_engine.specs.declared.state.State.{State}
+use Rattle.list_engine.specs.RunOrders.{AreInOrder}
 use Rattle.list_engine.specs.Runs.{AreOperators, AreWhole, RowsFit, SinksGiven, is_source, rows_at}
 use Rattle.list_engine.specs.steps.Faults.{kept_faults}
 use Rattle.list_engine.specs.steps.Reading.{ops_at}
 use Rattle.list_engine.specs.steps.Recording.{lists_from}
-use Rattle.list_engine.specs.steps.Running.{Advances, AreLeft, IsOther, IsSource, Means, Ready, Stands}
+use Rattle.list_engine.specs.steps.Running.{Advances, Agrees, AreLeft, IsOther, IsSource, Means, Ready, Stands}
 use Rattle.list_engine.proofs.Faults.{faults_are}
 use Rattle.list_engine.proofs.GraphOperators.{is_numbered, operator_at, operator_there, same_length, same_topo}
 use Rattle.list_engine.proofs.Orders.{made_from, not_before}
@@ -80,16 +82,16 @@ some_is_other spec stands c later n operators s k lt left there g e =
           (o.0, o.1, other, ap spec (sym same) ∙ x.2, subst (λ t. stands t []) same x.3))
     ]
 
-pub number_within : (c : CheckedGraph) (later : List ℕ) (n : ℕ) (state : State) → Keeps c → Ready c n later state → n < length c.graph.ops
-number_within c later n state k ready =
+pub number_within : (c : CheckedGraph) (order : Order) (later : List ℕ) (n : ℕ) (state : State) → Keeps c → Ready c order n later state → n < length c.graph.ops
+number_within c order later n state k ready =
     let st = (ready.1 (graph_of c) refl).1 in
     (k.graph.ordered.all n).0 (subst (λ ns. Contains ns n) (sym st.split) (Contains-append_right st.before (n ∷ later) n (contains_here n later)))
 
 -- there is a place for it among the operators
-pub operators_count : {S : Type 0} (spec : S → Operator) (stands : S → List Event → Type 0) (c : CheckedGraph) (later : List ℕ) (n : ℕ) (operators : List (Option S)) (state : State)
-    → Keeps c → ((g : Graph) → graph_of c ≡ g → AreLeft spec stands g (n ∷ later) operators) → Ready c n later state → n < length operators
-operators_count spec stands c later n operators state k left ready =
-    let within = number_within c later n state k ready in
+pub operators_count : {S : Type 0} (spec : S → Operator) (stands : S → List Event → Type 0) (c : CheckedGraph) (order : Order) (later : List ℕ) (n : ℕ) (operators : List (Option S)) (state : State)
+    → Keeps c → ((g : Graph) → graph_of c ≡ g → AreLeft spec stands g (n ∷ later) operators) → Ready c order n later state → n < length operators
+operators_count spec stands c order later n operators state k left ready =
+    let within = number_within c order later n state k ready in
     let same = same_length c (graph_of c) k refl in
     let count = (left (graph_of c) refl).count in
     omega (arith, within, same, count)
@@ -97,28 +99,28 @@ operators_count spec stands c later n operators state k left ready =
 -- ---- the loop
 
 -- the operators of the rest of the order are still to be run
-pub record Remains {S : Type 0} (spec : S → Operator) (stands : S → List Event → Type 0) (c : CheckedGraph) (rows : List (List Item)) (rest : List ℕ) (operators : List (Option S))
+pub record Remains {S : Type 0} (spec : S → Operator) (stands : S → List Event → Type 0) (c : CheckedGraph) (order : Order) (rows : List (List Item)) (rest : List ℕ) (operators : List (Option S))
     (state : State) : Type 0 where
   pub left : (g : Graph) → graph_of c ≡ g → AreLeft spec stands g rest operators
   pub fit : (g : Graph) → graph_of c ≡ g → RowsFit g rows
-  pub stood : (g : Graph) → graph_of c ≡ g → Stands c g rows rest state
+  pub stood : (g : Graph) → graph_of c ≡ g → Stands c order g rows rest state
 
-pub remains_ready : {S : Type 0} (spec : S → Operator) (stands : S → List Event → Type 0) (c : CheckedGraph) (rows : List (List Item)) (rest later : List ℕ) (n : ℕ) (operators : List (Option S))
-    (state : State) → Remains spec stands c rows rest operators state → rest ≡ n ∷ later → Ready c n later state
-remains_ready spec stands c rows rest later n operators state r next =
-    (rows, λ g e. (r.fit g e, subst (λ ns. Stands c g rows ns state) next (r.stood g e)))
+pub remains_ready : {S : Type 0} (spec : S → Operator) (stands : S → List Event → Type 0) (c : CheckedGraph) (order : Order) (rows : List (List Item)) (rest later : List ℕ) (n : ℕ) (operators : List (Option S))
+    (state : State) → Remains spec stands c order rows rest operators state → rest ≡ n ∷ later → Ready c order n later state
+remains_ready spec stands c order rows rest later n operators state r next =
+    (rows, λ g e. (r.fit g e, subst (λ ns. Stands c order g rows ns state) next (r.stood g e)))
 
-pub remains_left : {S : Type 0} (spec : S → Operator) (stands : S → List Event → Type 0) (c : CheckedGraph) (rows : List (List Item)) (rest later : List ℕ) (n : ℕ) (operators : List (Option S))
-    (state : State) → Remains spec stands c rows rest operators state → rest ≡ n ∷ later → (g : Graph) → graph_of c ≡ g → AreLeft spec stands g (n ∷ later) operators
-remains_left spec stands c rows rest later n operators state r next g e = subst (λ ns. AreLeft spec stands g ns operators) next (r.left g e)
+pub remains_left : {S : Type 0} (spec : S → Operator) (stands : S → List Event → Type 0) (c : CheckedGraph) (order : Order) (rows : List (List Item)) (rest later : List ℕ) (n : ℕ) (operators : List (Option S))
+    (state : State) → Remains spec stands c order rows rest operators state → rest ≡ n ∷ later → (g : Graph) → graph_of c ≡ g → AreLeft spec stands g (n ∷ later) operators
+remains_left spec stands c order rows rest later n operators state r next g e = subst (λ ns. AreLeft spec stands g ns operators) next (r.left g e)
 
-pub remains_next : {S : Type 0} (spec : S → Operator) (stands : S → List Event → Type 0) (c : CheckedGraph) (rows : List (List Item)) (rest later : List ℕ) (n : ℕ)
-    (operators new_operators : List (Option S)) (state new_state : State) → Remains spec stands c rows rest operators state → rest ≡ n ∷ later
-    → ((g : Graph) → graph_of c ≡ g → AreLeft spec stands g later new_operators) → Advances c n later state new_state → Remains spec stands c rows later new_operators new_state
-remains_next spec stands c rows rest later n operators new_operators state new_state r next left advances = record {
+pub remains_next : {S : Type 0} (spec : S → Operator) (stands : S → List Event → Type 0) (c : CheckedGraph) (order : Order) (rows : List (List Item)) (rest later : List ℕ) (n : ℕ)
+    (operators new_operators : List (Option S)) (state new_state : State) → Remains spec stands c order rows rest operators state → rest ≡ n ∷ later
+    → ((g : Graph) → graph_of c ≡ g → AreLeft spec stands g later new_operators) → Advances c order n later state new_state → Remains spec stands c order rows later new_operators new_state
+remains_next spec stands c order rows rest later n operators new_operators state new_state r next left advances = record {
   left = left;
   fit = r.fit;
-  stood = λ g e. advances g rows e (r.fit g e) (subst (λ ns. Stands c g rows ns state) next (r.stood g e));
+  stood = λ g e. advances g rows e (r.fit g e) (subst (λ ns. Stands c order g rows ns state) next (r.stood g e));
 }
 
 -- ---- before the first operator
@@ -148,10 +150,10 @@ many (suc n) x = let rest = many n x in omega (arith, rest)
 no_number : (n : ℕ) → Contains [] n → ⊥
 no_number n h = let lt : h.0 < 0 = h.1 in omega (arith, lt)
 
-pub begins : (c : CheckedGraph) (g : Graph) (rows : List (List Item)) (state : State) → Keeps c → graph_of c ≡ g → RowsFit g rows
+pub begins : (c : CheckedGraph) (order : Order) (g : Graph) (rows : List (List Item)) (state : State) → Keeps c → graph_of c ≡ g → RowsFit g rows
     → state.streams ≡ replicate (length c.graph.streams) [] → state.rows ≡ rows → state.sinks ≡ replicate (length c.graph.ops) [] → state.faults ≡ replicate (length c.graph.ops) None
-    → state.inputs ≡ replicate (length c.graph.ops) None → Stands c g rows g.topo state
-begins c g rows state k e fit streams same sinks faults inputs = record {
+    → state.inputs ≡ replicate (length c.graph.ops) None → Stands c order g rows g.topo state
+begins c order g rows state k e fit streams same sinks faults inputs = record {
   before = [];
   split = refl;
   places = record {
@@ -171,23 +173,24 @@ begins c g rows state k e fit streams same sinks faults inputs = record {
     faults = λ n o among at none. absurd (no_number n among);
     whole = λ n o among at several. absurd (no_number n among);
   };
+  ordered = λ entries agrees n o among at several. absurd (no_number n among);
 }
 
-pub remains_first : {S : Type 0} (spec : S → Operator) (stands : S → List Event → Type 0) (c : CheckedGraph) (rows : List (List Item)) (rest : List ℕ) (operators : List (Option S))
+pub remains_first : {S : Type 0} (spec : S → Operator) (stands : S → List Event → Type 0) (c : CheckedGraph) (order : Order) (rows : List (List Item)) (rest : List ℕ) (operators : List (Option S))
     (state : State) → Keeps c → ((g : Graph) → graph_of c ≡ g → AreOperators spec stands g operators) → ((g : Graph) → graph_of c ≡ g → RowsFit g rows) → rest ≡ c.graph.topo
     → state.streams ≡ replicate (length c.graph.streams) [] → state.rows ≡ rows → state.sinks ≡ replicate (length c.graph.ops) [] → state.faults ≡ replicate (length c.graph.ops) None
-    → state.inputs ≡ replicate (length c.graph.ops) None → Remains spec stands c rows rest operators state
-remains_first spec stands c rows rest operators state k are fit is streams same sinks faults inputs = record {
+    → state.inputs ≡ replicate (length c.graph.ops) None → Remains spec stands c order rows rest operators state
+remains_first spec stands c order rows rest operators state k are fit is streams same sinks faults inputs = record {
   left = λ g e. subst (λ ns. AreLeft spec stands g ns operators) (same_topo c g e ∙ sym is) (all_left spec stands g operators (are g e));
   fit = fit;
-  stood = λ g e. subst (λ ns. Stands c g rows ns state) (same_topo c g e ∙ sym is) (begins c g rows state k e (fit g e) streams same sinks faults inputs);
+  stood = λ g e. subst (λ ns. Stands c order g rows ns state) (same_topo c g e ∙ sym is) (begins c order g rows state k e (fit g e) streams same sinks faults inputs);
 }
 
 -- ---- behind the last operator
 
 -- what is kept is all of the meaning, under the record that was made of it
-module _ (c : CheckedGraph) (g : Graph) (rows : List (List Item)) (rest : List ℕ) (state : State) (lists : List ArrivalList) (k : Keeps c) (e : graph_of c ≡ g)
-    (stood : Stands c g rows rest state) (over : length rest < 1) (recorded : lists ≡ lists_from 0 state.inputs) where
+module _ (c : CheckedGraph) (order : Order) (g : Graph) (rows : List (List Item)) (rest : List ℕ) (state : State) (lists : List ArrivalList) (k : Keeps c) (e : graph_of c ≡ g)
+    (stood : Stands c order g rows rest state) (over : length rest < 1) (recorded : lists ≡ lists_from 0 state.inputs) where
   none_rest : rest ≡ []
   none_rest = go rest over
     where
@@ -195,8 +198,8 @@ module _ (c : CheckedGraph) (g : Graph) (rows : List (List Item)) (rest : List �
       go [] h = refl
       go (x ∷ xs) h = absurd (omega (arith, h))
 
-  st : Stands c g rows [] state
-  st = subst (λ ns. Stands c g rows ns state) none_rest stood
+  st : Stands c order g rows [] state
+  st = subst (λ ns. Stands c order g rows ns state) none_rest stood
 
   among_all : (n : ℕ) (o : Operator) → slice_get g.ops n ≡ Some o → Contains st.before n
   among_all n o at =
@@ -204,8 +207,11 @@ module _ (c : CheckedGraph) (g : Graph) (rows : List (List Item)) (rest : List �
       let same = same_length c g k e in
       subst (λ ns. Contains ns n) (sym (same_topo c g e) ∙ st.split ∙ append-nil st.before) ((k.graph.ordered.all n).1 (omega (arith, within, same)))
 
+  agrees_all : Agrees g st.before state.inputs (entries_in lists)
+  agrees_all n o among at several = ap (λ ls. entries_in ls n) recorded ∙ entries_are state.inputs n
+
   means_all : Means c g (meaning g (rows_at rows) (entries_in lists)) (entries_in lists) st.before [] state
-  means_all = st.means (entries_in lists) (λ n among. ap (λ ls. entries_in ls n) recorded ∙ entries_are state.inputs n)
+  means_all = st.means (entries_in lists) agrees_all
 
   pub sinks_given : SinksGiven g (meaning g (rows_at rows) (entries_in lists)) state.sinks
   sinks_given = record {
@@ -215,6 +221,9 @@ module _ (c : CheckedGraph) (g : Graph) (rows : List (List Item)) (rest : List �
 
   pub whole_all : AreWhole g (meaning g (rows_at rows) (entries_in lists)) (entries_in lists)
   whole_all n o at several = means_all.whole n o (among_all n o at) at several
+
+  pub ordered_all : AreInOrder order g (meaning g (rows_at rows) (entries_in lists)) (entries_in lists)
+  ordered_all n o at several = st.ordered (entries_in lists) agrees_all n o (among_all n o at) at several
 
   pub fault_all : kept_faults g state 0 g.ops ≡ run_fault g (meaning g (rows_at rows) (entries_in lists))
   fault_all = faults_are c g (meaning g (rows_at rows) (entries_in lists)) (entries_in lists) st.before state means_all among_all

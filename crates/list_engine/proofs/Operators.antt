@@ -3,7 +3,6 @@ use Rattle.std.proofs.Common.{◌≡◌, ℕ, zero, suc, ◌+◌, ◌<◌, ◌==
 use Rattle.std.specs.List.{cons_option, position_or_len}
 use Rattle.std.specs.Option.{unwrap_or}
 use Rattle.std.proofs.lemmas.Bool.{eq-eqb, ne_eqb, lt-ltb}
-use Rattle.std.proofs.lemmas.List.{length-map}
 use Rattle.std.proofs.lemmas.List.Elements.{filter_map-append}
 use Rattle.std.proofs.lemmas.Option.{slice_get_within}
 use Rattle.spl_value.specs.declared.item.Fault.{Fault}
@@ -22,7 +21,7 @@ use Rattle.stream_model.specs.Operators.{Operator, connections}
 use Rattle.stream_model.specs.Records.{is_whole}
 use Rattle.stream_model.specs.Replies.{given_attributes}
 use Rattle.stream_model.specs.Stages.{out}
-use Rattle.stream_model.specs.Stream.{Event, came, is_closed, TuplesFit}
+use Rattle.stream_model.specs.Stream.{Event, is_closed, TuplesFit}
 use Rattle.stream_model.proofs.Closings.{out_closes}
 use Rattle.stream_model.proofs.CheckedOperators.{OperatorAt}
 use Rattle.stream_model.proofs.Graphs.{graph_law, events_law}
@@ -30,11 +29,12 @@ use Rattle.list_engine.specs.declared.operator.Given.{Given}
 use Rattle.list_engine.specs.Runs.{is_source, rows_at}
 use Rattle.list_engine.specs.steps.Keeping.{kept_ports}
 use Rattle.list_engine.specs.steps.Reading.{ops_at}
-use Rattle.list_engine.specs.steps.Taking.{EndsBy, Ran, in_turn}
-use Rattle.list_engine.proofs.Ended.{ended_there, same_fault, same_out, taken_whole}
+use Rattle.list_engine.specs.declared.run_order.Order.{Order}
+use Rattle.list_engine.specs.steps.Replaying.{RanIn, Takes}
+use Rattle.list_engine.proofs.Ended.{ended_there, same_fault, same_out}
 use Rattle.list_engine.proofs.GraphOperators.{is_numbered, operator_at}
 use Rattle.list_engine.proofs.Orders.{is_ordered}
-use Rattle.list_engine.proofs.Ports.{input_count, output_schema, outs_once, some_input}
+use Rattle.list_engine.proofs.Ports.{output_schema, outs_once, some_input}
 
 -- ---- which stream an output makes
 
@@ -121,40 +121,41 @@ pub record IsRight (c : CheckedGraph) (m : Meaning) (entries : Entries) (o : Ope
   pub end_fault : o.outs ≡ [] → fault ≡ operator_fault o (m.events o.number)
   pub whole : has_several (connections o) ≡ true → is_whole o (lists_at m.streams (connections o)) (entries o.number) ≡ true
 
--- its events, where it takes the lists of its inputs one after the other
+-- its events, where it takes the lists of its inputs up to its end
 pub record TakesIn (o : Operator) (streams : Lists) (entries : List ℕ) (done : List Event) : Type 0 where
   pub more : List Event
   pub are : events_of o streams entries ≡ done ++ more
   pub whole : has_several (connections o) ≡ true → is_whole o (lists_at streams (connections o)) entries ≡ true
 
-list_is : (streams : Lists) (ss : List ℕ) (j : ℕ) (xs : List Item) → slice_get (map streams ss) j ≡ Some xs → lists_at streams ss j ≡ xs
-list_is streams [] j xs e = absurd cc
-list_is streams (s ∷ ss) zero xs e = let same : streams s ≡ xs = cc in same
-list_is streams (s ∷ ss) (suc j) xs e = list_is streams ss j xs e
-
-pub takes_in : (o : Operator) (streams : Lists) (entries : List ℕ) (done rest : List Event) (fault : Option Fault) → in_turn 0 (map streams (connections o)) ≡ done ++ rest
-    → EndsBy o done fault → 0 < length (connections o) → (has_several (connections o) ≡ true → entries ≡ inputs_of done) → TakesIn o streams entries done
-takes_in o streams entries done rest fault split ends some recorded = go (connections o) refl
+pub rows_are : (streams : Lists) (ss : List ℕ) → rows_at (map streams ss) ≡ lists_at streams ss
+rows_are streams ss = λ k i. at ss i k
   where
-    count : length (map streams (connections o)) ≡ length (connections o)
-    count = length-map (connections o) streams
+    at : (ss : List ℕ) (i : ℕ) → rows_at (map streams ss) i ≡ lists_at streams ss i
+    at [] i = refl
+    at (s ∷ ss) zero = refl
+    at (s ∷ ss) (suc i) = at ss i
 
+takes_in : (o : Operator) (streams : Lists) (entries : List ℕ) (done : List Event) → Takes o (map streams (connections o)) done → 0 < length (connections o)
+    → (has_several (connections o) ≡ true → entries ≡ inputs_of done) → TakesIn o streams entries done
+takes_in o streams entries done took some recorded = go (connections o) refl
+  where
     go : (ss : List ℕ) → connections o ≡ ss → TakesIn o streams entries done
     go [] e = absurd (let none = ap length e in omega (arith, some, none))
-    go (s ∷ []) e = record {
-      more = rest;
-      are = ap (λ ss. events_at streams ss entries) e ∙ sym (append-nil (map (came 0) (streams s))) ∙ ap (λ ss. in_turn 0 (map streams ss)) (sym e) ∙ split;
-      whole = λ more. absurd (let clash : false ≡ true = ap has_several (sym e) ∙ more in cc);
-    }
+    go (s ∷ []) e =
+        let alone = took.alone (streams s) (ap (map streams) e) in
+        record {
+          more = alone.0;
+          are = ap (λ ss. events_at streams ss entries) e ∙ alone.1;
+          whole = λ more. absurd (let clash : false ≡ true = ap has_several (sym e) ∙ more in cc);
+        }
     go (s ∷ t ∷ ss) e =
-        let several : has_several (connections o) ≡ true = ap has_several e in
-        let is = recorded several in
-        let w = taken_whole o (lists_at streams (connections o)) (map streams (connections o)) done rest fault (count ∙ sym (input_count o)) (list_is streams (connections o)) split ends in
+        let is : entries ≡ inputs_of done = recorded (ap has_several e) in
+        let rows : rows_at (map streams (connections o)) ≡ lists_at streams (connections o) = rows_are streams (connections o) in
         record {
           more = [];
-          are = ap (λ ss. events_at streams ss entries) e ∙ ap (λ l. arrive l entries) (ap (lists_at streams) (sym e)) ∙ ap (arrive (lists_at streams (connections o))) is ∙ w.takes
-              ∙ sym (append-nil done);
-          whole = λ _. ap (is_whole o (lists_at streams (connections o))) is ∙ w.whole;
+          are = ap (λ ss. events_at streams ss entries) e ∙ ap (λ l. arrive l entries) (ap (lists_at streams) (sym e)) ∙ ap (arrive (lists_at streams (connections o))) is
+              ∙ ap (λ l. arrive l (inputs_of done)) (sym rows) ∙ took.arrived ∙ sym (append-nil done);
+          whole = λ _. ap (is_whole o (lists_at streams (connections o))) is ∙ ap (λ l. is_whole o l (inputs_of done)) (sym rows) ∙ took.whole;
         }
 
 given_first : (given : Given) (xs : List Item) → slice_get given.outs 0 ≡ Some xs → rows_at given.outs 0 ≡ xs
@@ -166,11 +167,11 @@ ports_kept (x ∷ outs) p s e = slice_get_within (x ∷ outs) p s e
 
 -- an operator that took the lists of its inputs gave what the meaning says
 pub other_is_right : (c : CheckedGraph) (g : Graph) (before later : List ℕ) (n : ℕ) (o : Operator) → Here c g before later n o → is_source o.clauses ≡ false
-    → (rows : Lists) (entries : Entries) (given : Given) (fault : Option Fault) (recorded : Bool)
-    → (ran : Ran (record { op = o; ports = kept_ports o.outs; recorded = recorded }) (in_turn 0 (map (meaning g rows entries).streams (connections o))) given fault)
+    → (rows : Lists) (entries : Entries) (given : Given) (fault : Option Fault) (order : Order) (recorded : Bool)
+    → (ran : RanIn order (record { op = o; ports = kept_ports o.outs; recorded = recorded }) (map (meaning g rows entries).streams (connections o)) given fault)
     → (has_several (connections o) ≡ true → entries n ≡ inputs_of ran.done)
     → IsRight c (meaning g rows entries) entries o given fault
-other_is_right c g before later n o h other rows entries given fault recorded ran own =
+other_is_right c g before later n o h other rows entries given fault order recorded ran own =
     let m : Meaning = meaning g rows entries in
     let is = its_op c g before later n o h in
     let other_part : is_source is.part ≡ false = ap (λ (x : Operator). is_source x.clauses) (sym is.same) ∙ other in
@@ -178,7 +179,7 @@ other_is_right c g before later n o h other rows entries given fault recorded ra
     subst (λ (x : Operator). 0 < length (connections x)) (sym is.same) (some_input c n is.op is.part h.keeps is.there is.has other_part) in
     let number : o.number ≡ n = number_is c g before later n o h in
     let t : TakesIn o m.streams (entries o.number) ran.done =
-    takes_in o m.streams (entries o.number) ran.done ran.rest fault ran.split ran.ends some (λ several. ap entries number ∙ own several) in
+    takes_in o m.streams (entries o.number) ran.done ran.took some (λ several. ap entries number ∙ own several) in
     let ended : has_ended o ran.done ≡ true = ended_there o ran.done fault ran.ends in
     let events : m.events o.number ≡ ran.done ++ t.more = events_law g rows entries o n (is_numbered c g h.graph) h.at ∙ t.are in
     let gives : (p s : ℕ) → slice_get o.outs p ≡ Some s → m.streams s ≡ out o p ran.done =

@@ -3,7 +3,7 @@ use Rattle.std.proofs.Common.{◌≡◌, ℕ, zero, suc, ◌<◌, ◌^◌, nat_l
 use Rattle.std.specs.Prelude.{slice_set}
 use Rattle.std.specs.List.{concat, Contains}
 use Rattle.std.specs.Option.{unwrap_or}
-use Rattle.std.proofs.lemmas.Bool.{lt-ltb}
+use Rattle.std.proofs.lemmas.Bool.{lt-ltb, ltb-true}
 use Rattle.std.proofs.lemmas.List.{length-map}
 use Rattle.std.proofs.lemmas.List.Sums.{sum_by-cons}
 use Rattle.std.proofs.lemmas.List.Elements.{Contains-append_right}
@@ -15,33 +15,40 @@ use Rattle.language_model.specs.declared.checked.Part.{Part}
 use Rattle.language_model.specs.declared.checked.Part.TheVariants as A
 use Rattle.language_model.specs.CheckedGraph.{CheckedGraph}
 use Rattle.language_model.specs.Keeping.{Keeps}
-use Rattle.stream_model.specs.Arrivals.{has_several}
+use Rattle.stream_model.specs.Arrivals.{entries_in, has_several}
 use Rattle.stream_model.specs.CheckedMeaning.{graph_of, schema_at}
 use Rattle.stream_model.specs.Inputs.{inputs_of}
-use Rattle.stream_model.specs.Meaning.{Graph, Entries, Meaning, events_of, meaning}
+use Rattle.stream_model.specs.Meaning.{Graph, Entries, Meaning, events_of, lists_at, meaning}
 use Rattle.stream_model.specs.Operators.{Operator, connections, output_attributes}
+use Rattle.stream_model.specs.Records.{is_whole}
 use Rattle.stream_model.specs.Stream.{Event, is_closed, TuplesFit}
 use Rattle.spl_value.proofs.Lists.{at_most_sum, contains_here}
 use Rattle.list_engine.specs.declared.operator.Given.{Given}
+use Rattle.list_engine.specs.declared.run_order.Order.{Order}
+use Rattle.list_engine.specs.declared.run_order.Order.TheVariants.{InTurn, Recorded}
+use Rattle.list_engine.specs.declared.run_order.RunAnswer.{RunAnswer}
+use Rattle.list_engine.specs.declared.run_order.RunAnswer.TheVariants.{NotWhole, Memory}
 use Rattle.list_engine.specs.declared.state.State.{State}
+use Rattle.list_engine.specs.RunOrders.{Follows, IsFirstNotWhole, StopsRun}
 use Rattle.list_engine.specs.Runs.{is_source, rows_at}
 use Rattle.list_engine.specs.steps.Keeping.{GivesNothing, HasRoom, IsKept, kept_ports}
 use Rattle.list_engine.specs.steps.Recording.{entries_at}
-use Rattle.list_engine.specs.steps.Running.{Advances, HasPlaces, IsOther, IsSource, Ready, Stands}
+use Rattle.list_engine.specs.steps.Replaying.{FailsOn, RanIn, Stops}
+use Rattle.list_engine.specs.steps.Running.{Advances, HasPlaces, IsOther, IsSource, Means, Ready, Stands, StopsAt}
 use Rattle.list_engine.specs.steps.Table.{StaysFor}
-use Rattle.list_engine.specs.steps.Taking.{AreInputs, HasGiven, Ran, Task, in_turn, task_of}
+use Rattle.list_engine.specs.steps.Taking.{AreInputs, HasGiven, Task, task_of}
 use Rattle.list_engine.proofs.Advances.{advances}
 use Rattle.list_engine.proofs.Advancing.{are_inputs, inputs_are}
-use Rattle.list_engine.proofs.GraphOperators.{operator_at}
-use Rattle.list_engine.proofs.Operators.{Here, its_op, made_by_source, number_is, other_is_right, out_is}
+use Rattle.list_engine.proofs.GraphOperators.{is_numbered, operator_at}
+use Rattle.list_engine.proofs.Operators.{Here, its_op, made_by_source, number_is, other_is_right, out_is, rows_are}
 use Rattle.list_engine.proofs.Orders.{not_before}
 use Rattle.list_engine.proofs.Places.{get_set_other, set_length}
 use Rattle.list_engine.proofs.Ports.{mapped, out_within, outs_once, source_out}
 
 -- ---- places
 
-pub ready_places : (c : CheckedGraph) (later : List ℕ) (n : ℕ) (state : State) → Ready c n later state → HasPlaces c state
-ready_places c later n state ready = ((ready.1 (graph_of c) refl).1).places
+pub ready_places : (c : CheckedGraph) (order : Order) (later : List ℕ) (n : ℕ) (state : State) → Ready c order n later state → HasPlaces c state
+ready_places c order later n state ready = ((ready.1 (graph_of c) refl).1).places
 
 pub has_room : (c : CheckedGraph) (n : ℕ) (op : Op) (state : State) → Keeps c → slice_get c.graph.ops n ≡ Some op → HasPlaces c state → HasRoom op n state
 has_room c n op state k there places =
@@ -67,9 +74,9 @@ same_op c g n op o e there at =
       ap connections is.same ∙ ap (λ (x : Op). concat x.ins) same,
     )
 
-here_of : (c : CheckedGraph) (g : Graph) (rows : List (List Item)) (later : List ℕ) (n : ℕ) (o : Operator) (state : State) → Keeps c → graph_of c ≡ g → slice_get g.ops n ≡ Some o
-    → (st : Stands c g rows (n ∷ later) state) → Here c g st.before later n o
-here_of c g rows later n o state k e at st = record { keeps = k; graph = e; at = at; order = st.split }
+here_of : (c : CheckedGraph) (order : Order) (g : Graph) (rows : List (List Item)) (later : List ℕ) (n : ℕ) (o : Operator) (state : State) → Keeps c → graph_of c ≡ g → slice_get g.ops n ≡ Some o
+    → (st : Stands c order g rows (n ∷ later) state) → Here c g st.before later n o
+here_of c order g rows later n o state k e at st = record { keeps = k; graph = e; at = at; order = st.split }
 
 -- ---- a source
 
@@ -104,19 +111,19 @@ source_ports c n op k source there =
     subst (λ (x : Op). (length x.outs ≡ 1) × (length x.ins ≡ 0)) same
     (source_out c n is.op is.part k is.there is.has (ap (λ (x : Operator). is_source x.clauses) (sym is.same) ∙ o.2))
 
-pub source_advances : (c : CheckedGraph) (later : List ℕ) (n : ℕ) (op : Op) (old new : State) (items : List Item) (set_rows : List (List Item)) → Keeps c → IsSource c n
+pub source_advances : (c : CheckedGraph) (order : Order) (later : List ℕ) (n : ℕ) (op : Op) (old new : State) (items : List Item) (set_rows : List (List Item)) → Keeps c → IsSource c n
     → slice_get c.graph.ops n ≡ Some op → slice_get old.rows n ≡ Some items → set_rows ≡ slice_set old.rows n []
-    → IsKept op.outs n (record { outs = items ∷ []; inputs = None }) None (record old { rows = set_rows }) new → Advances c n later old new
-source_advances c later n op old new items set_rows k source there at_rows made kept g rows e fit st =
+    → IsKept op.outs n (record { outs = items ∷ []; inputs = None }) None (record old { rows = set_rows }) new → Advances c order n later old new
+source_advances c order later n op old new items set_rows k source there at_rows made kept g rows e fit st =
     let o = source g e in
-    let h : Here c g st.before later n o.0 = here_of c g rows later n o.0 old k e o.1 st in
+    let h : Here c g st.before later n o.0 = here_of c order g rows later n o.0 old k e o.1 st in
     let same = same_op c g n op o.0 e there o.1 in
     let ports = source_ports c n op k source there in
     let within : n < length c.graph.ops = slice_get_within c.graph.ops n op there in
     let inputs = st.places.inputs in
     let one : length o.0.outs ≡ 1 = ap length same.0 ∙ ports.0 in
     let alone : has_several (connections o.0) ≡ false = ap has_several same.1 ∙ no_ins op.ins ports.1 in
-    advances c g rows later n o.0 (record { outs = items ∷ []; inputs = None }) None old (record old { rows = set_rows }) new st h
+    advances c order g rows later n o.0 (record { outs = items ∷ []; inputs = None }) None old (record old { rows = set_rows }) new st h
     (record {
       streams = record { count = refl; others = λ s other. refl; wanted = λ s read. refl };
       rows = λ m among. ap (λ t. rows_at t m) made
@@ -155,13 +162,14 @@ source_advances c later n op old new items set_rows k source there at_rows made 
       end_fault = λ none. absurd (let zero_outs = ap length none in omega (arith, zero_outs, one));
       whole = λ several. absurd (let clash : false ≡ true = sym alone ∙ several in cc);
     })
+    (λ entries means several own. absurd (let clash : false ≡ true = sym alone ∙ several in cc))
 
 -- ---- another operator
 
-pub inputs_there : (c : CheckedGraph) (later : List ℕ) (n : ℕ) (op : Op) (state : State) (ss : List ℕ) → Keeps c → slice_get c.graph.ops n ≡ Some op → Ready c n later state → ss ≡ concat op.ins
+pub inputs_there : (c : CheckedGraph) (order : Order) (later : List ℕ) (n : ℕ) (op : Op) (state : State) (ss : List ℕ) → Keeps c → slice_get c.graph.ops n ≡ Some op → Ready c order n later state → ss ≡ concat op.ins
     → (s : ℕ) → Contains ss s → s < length state.streams
-inputs_there c later n op state ss k there ready same s among =
-    subst (λ l. s < l) (sym (ready_places c later n state ready).streams) (k.graph.taken n op there s (subst (λ xs. Contains xs s) same among))
+inputs_there c order later n op state ss k there ready same s among =
+    subst (λ l. s < l) (sym (ready_places c order later n state ready).streams) (k.graph.taken n op there s (subst (λ xs. Contains xs s) same among))
 
 count_concat : (ins : List (List ℕ)) → length (concat ins) ≡ sum_by length ins
 count_concat [] = refl
@@ -179,16 +187,16 @@ few_inputs c n op ss table lists k there same made =
     let all = k.graph.connections in
     omega (arith, count, most, all)
 
-pub takes_inputs : {S : Type 0} (spec : S → Operator) (stands : S → List Event → Type 0) (c : CheckedGraph) (later : List ℕ) (n : ℕ) (op : Op) (s : S) (state : State) (ss : List ℕ)
-    (lists : List (List Item)) → Keeps c → IsOther spec stands c n s → slice_get c.graph.ops n ≡ Some op → Ready c n later state → ss ≡ concat op.ins → lists ≡ map (rows_at state.streams) ss
+pub takes_inputs : {S : Type 0} (spec : S → Operator) (stands : S → List Event → Type 0) (c : CheckedGraph) (order : Order) (later : List ℕ) (n : ℕ) (op : Op) (s : S) (state : State) (ss : List ℕ)
+    (lists : List (List Item)) → Keeps c → IsOther spec stands c n s → slice_get c.graph.ops n ≡ Some op → Ready c order n later state → ss ≡ concat op.ins → lists ≡ map (rows_at state.streams) ss
     → AreInputs (spec s) lists
-takes_inputs spec stands c later n op s state ss lists k other there ready same made =
+takes_inputs spec stands c order later n op s state ss lists k other there ready same made =
     let g : Graph = graph_of c in
     let o = other g refl in
     let st = (ready.1 g refl).1 in
-    let h : Here c g st.before later n o.0 = here_of c g ready.0 later n o.0 state k refl o.1 st in
+    let h : Here c g st.before later n o.0 = here_of c order g ready.0 later n o.0 state k refl o.1 st in
     let entries : Entries = entries_at state.inputs in
-    let means = st.means entries (λ m among. refl) in
+    let means = st.means entries (λ m x among at many. refl) in
     let m : Meaning = meaning g (rows_at ready.0) entries in
     let lists_are : map m.streams (connections o.0) ≡ lists =
     sym (inputs_are c g st.before later n o.0 h m entries state means)
@@ -231,13 +239,18 @@ recorded_as : (several : Bool) (inputs : Option (List ℕ)) (xs : List ℕ) → 
 recorded_as true inputs xs e = ap is_some e
 recorded_as false inputs xs e = ap is_some e
 
-pub other_advances : {S : Type 0} (spec : S → Operator) (stands : S → List Event → Type 0) (c : CheckedGraph) (later : List ℕ) (n : ℕ) (op : Op) (s : S) (old new : State) (ss : List ℕ)
+-- what was recorded of an operator with several connections
+entries_of : {order : Order} {task : Task} {lists : List (List Item)} {given : Given} {fault : Option Fault} {several : Bool} (ran : RanIn order task lists given fault) → task.recorded ≡ several
+    → several ≡ true → unwrap_or given.inputs [] ≡ inputs_of ran.done
+entries_of ran recorded more = ap (λ x. unwrap_or x []) (ran.gave.inputs ∙ ap (λ b. if b then Some (inputs_of ran.done) else None) (recorded ∙ more))
+
+pub other_advances : {S : Type 0} (spec : S → Operator) (stands : S → List Event → Type 0) (c : CheckedGraph) (order : Order) (later : List ℕ) (n : ℕ) (op : Op) (s : S) (old new : State) (ss : List ℕ)
     (table lists : List (List Item)) (first given : Given) (fault : Option Fault) → Keeps c → IsOther spec stands c n s → slice_get c.graph.ops n ≡ Some op → ss ≡ concat op.ins
     → lists ≡ map (rows_at old.streams) ss → ((g : Graph) → graph_of c ≡ g → StaysFor g later ss old.streams table) → GivesNothing op.outs (length lists) first
-    → Ran (task_of (spec s) first) (in_turn 0 lists) given fault → IsKept op.outs n given fault (record old { streams = table }) new → Advances c n later old new
-other_advances spec stands c later n op s old new ss table lists first given fault k other there same made left begins ran kept g rows e fit st =
+    → RanIn order (task_of (spec s) first) lists given fault → IsKept op.outs n given fault (record old { streams = table }) new → Advances c order n later old new
+other_advances spec stands c order later n op s old new ss table lists first given fault k other there same made left begins ran kept g rows e fit st =
     let o = other g e in
-    let h : Here c g st.before later n o.0 = here_of c g rows later n o.0 old k e o.1 st in
+    let h : Here c g st.before later n o.0 = here_of c order g rows later n o.0 old k e o.1 st in
     let parts = same_op c g n op o.0 e there o.1 in
     let streams_are : ss ≡ connections o.0 = same ∙ sym parts.1 in
     let within : n < length c.graph.ops = slice_get_within c.graph.ops n op there in
@@ -248,7 +261,16 @@ other_advances spec stands c later n op s old new ss table lists first given fau
     let several : is_some first.inputs ≡ has_several (connections o.0) =
     is_recorded (nat_lt 1 (length lists)) first.inputs begins.entries ∙ ap (nat_lt 1) many ∙ more_than_one (connections o.0) in
     let kept_count : length first.outs ≡ kept_ports o.0.outs = ap length begins.lists ∙ count_nothing (kept_ports op.outs) ∙ ap kept_ports (sym parts.0) in
-    advances c g rows later n o.0 given fault old (record old { streams = table }) new st h
+    let task : Task = record { op = o.0; ports = kept_ports o.0.outs; recorded = is_some first.inputs } in
+    let task_is : task_of (spec s) first ≡ task = (let op_is : spec s ≡ o.0 = o.3 in λ i. record { op = op_is i; ports = kept_count i; recorded = is_some first.inputs }) in
+    let ran_on : (entries : Entries) → Means c g (meaning g (rows_at rows) entries) entries st.before (n ∷ later) old
+    → RanIn order task (map (meaning g (rows_at rows) entries).streams (connections o.0)) given fault = λ entries means.
+    let m : Meaning = meaning g (rows_at rows) entries in
+    let lists_are : lists ≡ map m.streams (connections o.0) =
+    made ∙ ap (map (rows_at old.streams)) streams_are ∙ inputs_are c g st.before later n o.0 h m entries old means in
+    subst (λ (t : Task). RanIn order t (map m.streams (connections o.0)) given fault) task_is
+    (subst (λ ls. RanIn order (task_of (spec s) first) ls given fault) lists_are ran) in
+    advances c order g rows later n o.0 given fault old (record old { streams = table }) new st h
     (record {
       streams = subst (λ xs. StaysFor g later xs old.streams table) streams_are (left g e);
       rows = λ m among. refl;
@@ -263,15 +285,54 @@ other_advances spec stands c later n op s old new ss table lists first given fau
     (recorded_as (is_some first.inputs) given.inputs (inputs_of ran.done) ran.gave.inputs ∙ several)
     (λ entries means own.
     let m : Meaning = meaning g (rows_at rows) entries in
-    let lists_are : lists ≡ map m.streams (connections o.0) =
-    made ∙ ap (map (rows_at old.streams)) streams_are ∙ inputs_are c g st.before later n o.0 h m entries old means in
-    let task_is : task_of (spec s) first ≡ record { op = o.0; ports = kept_ports o.0.outs; recorded = is_some first.inputs } =
-    (let op_is : spec s ≡ o.0 = o.3 in λ i. record { op = op_is i; ports = kept_count i; recorded = is_some first.inputs }) in
-    let own_ran : Ran (record { op = o.0; ports = kept_ports o.0.outs; recorded = is_some first.inputs }) (in_turn 0 (map m.streams (connections o.0))) given fault =
-    subst (λ (t : Task). Ran t (in_turn 0 (map m.streams (connections o.0))) given fault) task_is
-    (subst (λ ls. Ran (task_of (spec s) first) (in_turn 0 ls) given fault) lists_are ran) in
-    other_is_right c g st.before later n o.0 h o.2 (rows_at rows) entries given fault (is_some first.inputs) own_ran
-    (λ more. own ∙ ap (λ x. unwrap_or x []) (own_ran.gave.inputs ∙ ap (λ b. if b then Some (inputs_of own_ran.done) else None) (several ∙ more))))
+    let own_ran = ran_on entries means in
+    other_is_right c g st.before later n o.0 h o.2 (rows_at rows) entries given fault order (is_some first.inputs) own_ran
+    (λ more. own more ∙ entries_of own_ran several more))
+    (λ entries means more own.
+    let m : Meaning = meaning g (rows_at rows) entries in
+    let own_ran = ran_on entries means in
+    let count : length (map m.streams (connections o.0)) ≡ length (connections o.0) = length-map (connections o.0) m.streams in
+    let some_more : 1 < length (connections o.0) = ltb-true 1 (length (connections o.0)) (more_than_one (connections o.0) ∙ more) in
+    let number : o.0.number ≡ n = number_is c g st.before later n o.0 h in
+    subst (λ l. Follows order o.0 l (entries o.0.number)) (rows_are m.streams (connections o.0))
+    (subst (Follows order o.0 (rows_at (map m.streams (connections o.0)))) (sym (ap entries number ∙ own ∙ entries_of own_ran several more))
+    (own_ran.follows (omega (arith, count, some_more)))))
+
+-- ---- an operator whose record isn't whole
+
+pub other_stops : {S : Type 0} (spec : S → Operator) (stands : S → List Event → Type 0) (c : CheckedGraph) (order : Order) (later : List ℕ) (n : ℕ) (op : Op) (s : S) (old : State) (ss : List ℕ)
+    (lists : List (List Item)) (answer : RunAnswer) → Keeps c → IsOther spec stands c n s → slice_get c.graph.ops n ≡ Some op → ss ≡ concat op.ins → lists ≡ map (rows_at old.streams) ss
+    → Stops n (FailsOn order (spec s) lists) answer → StopsAt c order n later old answer
+other_stops spec stands c order later n op s old ss lists answer k other there same made stops g rows e st = go order answer stops st
+  where
+    go : (order : Order) (answer : RunAnswer) → Stops n (FailsOn order (spec s) lists) answer → Stands c order g rows (n ∷ later) old → StopsRun answer order g (rows_at rows)
+    go order Memory stops st = tt
+    go InTurn (NotWhole number) stops st = absurd stops.1
+    go (Recorded arrivals) (NotWhole number) stops st =
+        let o = other g e in
+        let h : Here c g st.before later n o.0 = here_of c (Recorded arrivals) g rows later n o.0 old k e o.1 st in
+        let entries : Entries = entries_in arrivals.lists in
+        let m : Meaning = meaning g (rows_at rows) entries in
+        let means = st.means entries (λ k p among at many.
+        let number_of : p.number ≡ k = is_numbered c g e k p at in
+        let own : entries_at old.inputs p.number ≡ entries p.number = st.ordered (entries_at old.inputs) (λ k p among at many. refl) k p among at many in
+        ap entries (sym number_of) ∙ sym own ∙ ap (entries_at old.inputs) number_of) in
+        let streams_are : ss ≡ connections o.0 = same ∙ sym (same_op c g n op o.0 e there o.1).1 in
+        let lists_are : lists ≡ map m.streams (connections o.0) =
+        made ∙ ap (map (rows_at old.streams)) streams_are ∙ inputs_are c g st.before later n o.0 h m entries old means in
+        let many : length lists ≡ length (connections o.0) = ap length lists_are ∙ length-map (connections o.0) m.streams in
+        let more : 1 < length lists = stops.1.0 in
+        let streams : lists_at m.streams (connections o.0) ≡ rows_at lists = sym (rows_are m.streams (connections o.0)) ∙ ap rows_at (sym lists_are) in
+        subst (IsFirstNotWhole g m entries) (sym stops.0) (record {
+          op = o.0;
+          there = o.1;
+          several = sym (more_than_one (connections o.0)) ∙ lt-ltb 1 (length (connections o.0)) (omega (arith, many, more));
+          not_whole = ap (λ l. is_whole o.0 l (entries o.0.number)) streams ∙ subst (λ (x : Operator). is_whole x (rows_at lists) (entries x.number) ≡ false) o.3 stops.1.1;
+          before = st.before;
+          behind = later;
+          order = st.split;
+          earlier = means.whole;
+        })
 
 -- ---- the places of a state of which something was taken
 

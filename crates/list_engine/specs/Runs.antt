@@ -46,7 +46,10 @@ pub record SinksGiven (g : Graph) (m : Meaning) (sinks : List (List Item)) : Typ
   pub count : length sinks ≡ length g.ops
   pub given : (n : ℕ) (op : Operator) → slice_get g.ops n ≡ Some op → op.outs ≡ [] → rows_at sinks n ≡ out op 0 (m.events op.number)
 
--- the record of each operator with several connections is whole for the streams that it reads
+-- the record of an operator is whole for the streams that it reads
+abbrev pub is_whole_at : Meaning → Entries → Operator → Bool
+is_whole_at m entries op = is_whole op (lists_at m.streams (connections op)) (entries op.number)
+
+-- that of each operator with several connections is
 abbrev pub AreWhole : Graph → Meaning → Entries → Type 0
-AreWhole g m entries = (n : ℕ) (op : Operator) → slice_get g.ops n ≡ Some op → has_several (connections op) ≡ true
-    → is_whole op (lists_at m.streams (connections op)) (entries op.number) ≡ true
+AreWhole g m entries = (n : ℕ) (op : Operator) → slice_get g.ops n ≡ Some op → has_several (connections op) ≡ true → is_whole_at m entries op ≡ true

@@ -5,14 +5,16 @@ ghost use Rattle.stream_model.specs.CheckedMeaning.{graph_of};
 ghost use Rattle.stream_model.specs.Operators.{Operator};
 ghost use Rattle.list_engine.specs.Runs.{AreOperators, RowsFit};
 ghost use Rattle.list_engine.specs.examples.Chain.{chain, chain_graph, chain_operators, chain_rows};
-ghost use Rattle.list_engine.specs.RunLaws.{OrderedLaw, SinkLaw, FaultNamesLaw};
+ghost use Rattle.list_engine.specs.RunLaws.{OrderedLaw, SinkLaw, SameRecordsLaw, FaultNamesLaw};
 
 /// The graph of operators of a checked graph is ordered, and its operators are numbered by their places, so
-/// the laws of graphs speak of each graph that is run. A sink gives its writer tuples alone. The fault of a
+/// the laws of graphs speak of each graph that is run. A sink gives its writer tuples alone. What a graph
+/// means under a record depends on what that has for the operators with several connections. The fault of a
 /// run names one of the operators, where the rows' faults name their own sources.
 pub fn engine_law()
     ensures ordered { OrderedLaw }
     ensures sinks { SinkLaw }
+    ensures records { SameRecordsLaw }
     ensures fault_names { FaultNamesLaw }
 {}
 

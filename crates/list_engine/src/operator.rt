@@ -72,7 +72,7 @@ fn note(inputs: &mut Option<Inputs>, input: u32) -> Result<(), NoMemory>
 }
 
 /// Lets an operator take an item, and keeps what it gives.
-fn step<R: React>(
+pub(crate) fn step<R: React>(
     operator: &mut R,
     input: u32,
     item: Item,

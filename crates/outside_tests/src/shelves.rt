@@ -84,7 +84,7 @@ fn add_step<H: Shelf>(
 ) -> Result<(), AllocError> {
     let (kind, what) = cut(step);
     if kind == "fetch" {
-        add_fetched(text, &fetch(alloc, shelf, name, number(what)));
+        add_fetched(text, &fetch(alloc, shelf, name, number(what) as usize));
     } else {
         let pieces = without_signs(alloc, what)?;
         add_written(text, shelf, name, pieces.as_str());

@@ -128,6 +128,11 @@ operator_name (Some c) n = option_map_or (λ op. op.name) (slice_get c.graph.ops
 abbrev pub named_text : List ℕ → List ℕ → List ℕ
 named_text text name = text ++ name ++ codes "\n"
 
+-- the operator for which an arrival record isn't whole
+abbrev pub bad_arrivals_text : Option CheckedGraph → Option ℕ → List ℕ
+bad_arrivals_text c None = codes "bad arrivals\n"
+bad_arrivals_text c (Some op) = named_text (codes "bad arrivals at ") (operator_name c op)
+
 -- nothing is told where all was done
 abbrev pub status_text : Option CheckedGraph → Cause → List ℕ
 status_text c W.Done = []
@@ -138,6 +143,7 @@ status_text c W.NotBuilt = codes "not built\n"
 status_text c (W.OpenFailed name) = named_text (codes "cannot open ") name
 status_text c (W.ReadFailed name) = named_text (codes "cannot read ") name
 status_text c (W.WriteFailed name) = named_text (codes "cannot write ") name
+status_text c (W.BadArrivals op) = bad_arrivals_text c op
 status_text c W.NoMemory = codes "no memory\n"
 
 -- ---- what was checked

@@ -14,11 +14,14 @@ pub enum Cause {
     Stopped(Fault),
     /// The file of this name couldn't be opened or created.
     OpenFailed(Name),
-    /// The program, which is in the file of this name, couldn't be read to its end.
+    /// The file of this name, which has the program or an arrival record, couldn't be read to its end.
     ReadFailed(Name),
     /// The file of this name couldn't be written or finished; or the line of a request that was carried
     /// out couldn't be written, and the name is `-`.
     WriteFailed(Name),
+    /// The file of the arrival record doesn't spell one of the program; or the record isn't whole for the
+    /// operator with this number, which is the first such in topological order.
+    BadArrivals(Option<u32>),
     /// The request asks for what isn't built.
     NotBuilt,
     /// There was no memory.

@@ -1,7 +1,7 @@
 //! The line that tells why the program ended.
 ghost use Rattle.std.specs.Prelude.{◌≡◌, [], if◌then◌else◌, IfOk};
 ghost use Rattle.std.specs.Option.{option_copied};
-ghost use Rattle.run_report.specs.Texts.{lexical_code, expansion_code, check_code, code_text, has_name, names_expansion, names_check, name_text, refusal_text, kind_text, has_line, stopped_text, operator_name, named_text, status_text};
+ghost use Rattle.run_report.specs.Texts.{lexical_code, expansion_code, check_code, code_text, has_name, names_expansion, names_check, name_text, refusal_text, kind_text, has_line, stopped_text, bad_arrivals_text, operator_name, named_text, status_text};
 
 use crate::{Cause, Code, ExpansionError, Refusal};
 use itoa::Buffer;
@@ -206,20 +206,34 @@ pub(crate) fn stopped_line(alloc: Global, name: &[u8], fault: Fault) -> Result<B
     Ok(Items::from_vec(line))
 }
 
-// The line that tells what couldn't be done with the file of a name.
-fn named_line(alloc: Global, text: &[u8], name: &Name) -> Result<Bytes, NoMemory>
+// A line of a text and a name.
+fn named_line(alloc: Global, text: &[u8], name: &[u8]) -> Result<Bytes, NoMemory>
     ensures { IfOk result (λ line. line ≡ named_text text.now name.now) }
 {
     let mut line = Vec::new(alloc);
     line.extend_from_slice(text)?;
-    line.extend_from_slice(name.as_slice())?;
+    line.extend_from_slice(name)?;
     line.push(b'\n')?;
     Ok(Items::from_vec(line))
 }
 
+// The line that tells that an arrival record is bad, and for which operator.
+fn bad_arrivals_line(
+    alloc: Global,
+    checked: Option<&Checked>,
+    op: Option<u32>,
+) -> Result<Bytes, NoMemory>
+    ensures { IfOk result (λ line. line ≡ bad_arrivals_text (option_copied checked.entry) op) }
+{
+    match op {
+        None => Ok(Items::from_slice(alloc, b"bad arrivals\n")?),
+        Some(op) => named_line(alloc, b"bad arrivals at ", operator(checked, op)),
+    }
+}
+
 /// The line that tells why the program ended. It is empty where all was done. The graph is needed where
-/// a run ended with a fault, whose operator is told by its name: the name is empty where the operator
-/// isn't there.
+/// a run ended with a fault, or an arrival record isn't whole for an operator, which is told by its name: the
+/// name is empty where the operator isn't there.
 pub fn status_text(
     alloc: Global,
     checked: Option<&Checked>,
@@ -233,9 +247,10 @@ pub fn status_text(
         Cause::Refused(refusal) => refusal_line(alloc, refusal),
         Cause::Stopped(fault) => stopped_line(alloc, operator(checked, fault.op), *fault),
         Cause::NotBuilt => Ok(Items::from_slice(alloc, b"not built\n")?),
-        Cause::OpenFailed(name) => named_line(alloc, b"cannot open ", name),
-        Cause::ReadFailed(name) => named_line(alloc, b"cannot read ", name),
-        Cause::WriteFailed(name) => named_line(alloc, b"cannot write ", name),
+        Cause::OpenFailed(name) => named_line(alloc, b"cannot open ", name.as_slice()),
+        Cause::ReadFailed(name) => named_line(alloc, b"cannot read ", name.as_slice()),
+        Cause::WriteFailed(name) => named_line(alloc, b"cannot write ", name.as_slice()),
+        Cause::BadArrivals(op) => bad_arrivals_line(alloc, checked, *op),
         Cause::NoMemory => Ok(Items::from_slice(alloc, b"no memory\n")?),
     }
 }

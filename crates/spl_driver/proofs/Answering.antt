@@ -14,21 +14,20 @@ use Rattle.run_report.specs.declared.cause.Cause.TheVariants as C
 use Rattle.run_report.specs.declared.refusal.Refusal.{Refusal}
 use Rattle.stream_model.specs.Operators.{Operator}
 use Rattle.command_line.specs.declared.request.Request.{Request}
-use Rattle.spl_driver.specs.Outcome.{RequestOutcome, NoRequest, Unreadable, Refused, NotBuilt, Reports, Runs, IsOutcome, ArePartsIn, of_unreadable}
+use Rattle.spl_driver.specs.Outcome.{RequestOutcome, NoRequest, Unreadable, Refused, NotBuilt, Reports, BadArrivals, Runs, IsOutcome, ArePartsIn, of_unreadable}
 use Rattle.std.specs.Prelude.{◌||◌}
 use Rattle.std.specs.Str.{bytes_eq}
 use Rattle.check_laws.specs.Files.{is_named}
 use Rattle.command_line.specs.declared.request.Request.TheVariants as R
 use Rattle.spl_driver.specs.Built.{is_built}
-use Rattle.spl_driver.specs.Files.{FilesOf, creates, files_of, opens, program_of, whole_files}
-use Rattle.spl_driver.specs.Answer.{AtSink, EachSink, HoldsText, HoldsPrefix, sink_text, CarriedOut, RunsTo, ReportsTo, Begun, CauseMeans, CreatingFailed, DeviceFailed, opening, reading, creating, writing, DevicesMean, ReadingFailed, WritingFailed, WroteOthers, StoppedBy, WholeReads, Answered, IsOr, IsRun, IsUnread, IsAnswer, IsComplete, Untouched, ByWords, MayBe, cause_of}
+use Rattle.spl_driver.specs.Files.{FilesOf, creates, files_of, opens, whole_files}
+use Rattle.spl_driver.specs.Answer.{AtSink, EachSink, HoldsText, HoldsPrefix, sink_text, CarriedOut, RunsTo, ReportsTo, Begun, CauseMeans, CreatingFailed, DeviceFailed, opening, reading, creating, writing, DevicesMean, ReadingFailed, WritingFailed, WroteOthers, StoppedBy, WholeReads, Answered, IsOr, IsRun, IsUnread, NeedsRecord, FollowsRecord, is_ended_run, is_refused, IsAnswer, IsComplete, Untouched, ByWords, MayBe, cause_of}
 use Rattle.source_rows.specs.Counting.{OnlyReads, OpeningFailed}
 use Rattle.spl_driver.specs.Texts.{ToldAs}
 use Rattle.spl_driver.specs.RequestLaws.{OneOutcomeLaw}
 use Rattle.spl_driver.specs.declared.ended.Ended.{Ended}
 use Rattle.spl_driver.proofs.Carrying.{creates_sinks}
-use Rattle.spl_driver.proofs.Fetching.{named_one}
-use Rattle.spl_driver.proofs.Requests.{IsUnreadable, unread}
+use Rattle.spl_driver.proofs.Requests.{IsUnreadable, unread_by}
 use Rattle.spl_driver.proofs.Showing.{with_cause}
 use Rattle.spl_driver.proofs.Running.{begun_same}
 use Rattle.spl_value.proofs.Bools.{or_true}
@@ -51,6 +50,7 @@ means_same (C.Refused refusal) Is ended cause status t u h = h
 means_same C.NotBuilt Is ended cause status t u h = h
 means_same (C.OpenFailed name) Is ended cause status t u h = h
 means_same (C.ReadFailed name) Is ended cause status t u h = h
+means_same (C.BadArrivals op) Is ended cause status t u h = h
 means_same (C.WriteFailed name) Is ended cause status t u h = h
 means_same C.NoMemory Is ended cause status t u h = h
 
@@ -89,6 +89,7 @@ weaker (C.Refused refusal) Is ended t u one (is, same) result comes = begun_same
 weaker C.NotBuilt Is ended t u one (is, same) result comes = begun_same result t u same
 weaker (C.OpenFailed name) Is ended t u one h result comes = h result comes
 weaker (C.ReadFailed name) Is ended t u one h result comes = begun_same result t u h
+weaker (C.BadArrivals op) Is ended t u one (is, same) result comes = begun_same result t u same
 weaker (C.WriteFailed name) Is ended t u one h result comes = h result comes
 weaker C.NoMemory Is ended t u one h result comes = h result comes
 
@@ -119,6 +120,7 @@ devices_same C.BadWords files counts later Text Is ended r status t u h = h
 devices_same (C.Refused refusal) files counts later Text Is ended r status t u h = h
 devices_same (C.OpenFailed name) files counts later Text Is ended r status t u h = h
 devices_same (C.ReadFailed name) files counts later Text Is ended r status t u h = h
+devices_same (C.BadArrivals op) files counts later Text Is ended r status t u h = h
 devices_same (C.WriteFailed name) files counts later Text Is ended r status t u (inl h) = inl (h.0, others_same Is counts later ended r status u h.1)
 devices_same (C.WriteFailed name) files counts later Text Is ended r status t u (inr h) = absurd h.failed
 devices_same C.NoMemory files counts later Text Is ended r status t u h = h
@@ -200,7 +202,55 @@ device_failed (C.Stopped fault) files counts later Is ended t u is h = absurd is
 device_failed C.NotBuilt files counts later Is ended t u is h = absurd is
 device_failed C.BadWords files counts later Is ended t u is h = absurd is
 device_failed (C.Refused refusal) files counts later Is ended t u is h = absurd is
+device_failed (C.BadArrivals op) files counts later Is ended t u is h = absurd is
 device_failed C.NoMemory files counts later Is ended t u is h = absurd is
+
+-- what a record is needed for, and that it is followed
+run_unrefused : (c : Cause) → IsRun c → is_refused c ≡ true → ⊥
+run_unrefused c (None, is) e = let h : false ≡ true = sym (ap is_refused is) ∙ e in cc
+run_unrefused c (Some fault, is) e = let h : false ≡ true = sym (ap is_refused is) ∙ e in cc
+
+unread_not_run : (whole : List (List ℕ)) (c : Cause) → IsUnread whole c → IsRun c → ⊥
+unread_not_run whole c (inl e) (None, is) = let h : C.NoMemory ≡ C.Done = sym e ∙ is in cc
+unread_not_run whole c (inl e) (Some fault, is) = let h : C.NoMemory ≡ C.Stopped fault = sym e ∙ is in cc
+unread_not_run whole c (inr (name, named, inl e)) (None, is) = let h : C.OpenFailed name ≡ C.Done = sym e ∙ is in cc
+unread_not_run whole c (inr (name, named, inl e)) (Some fault, is) = let h : C.OpenFailed name ≡ C.Stopped fault = sym e ∙ is in cc
+unread_not_run whole c (inr (name, named, inr e)) (None, is) = let h : C.ReadFailed name ≡ C.Done = sym e ∙ is in cc
+unread_not_run whole c (inr (name, named, inr e)) (Some fault, is) = let h : C.ReadFailed name ≡ C.Stopped fault = sym e ∙ is in cc
+
+needs_said : (whole : List (List ℕ)) (c r : Cause) (Text : Type 0) → ToldAs c r Text → (is_refused c ≡ true) ⊎ IsUnread whole c → (is_refused r ≡ true) ⊎ IsUnread whole r
+needs_said whole c r Text (inl e) h = subst (λ (k : Cause). (is_refused k ≡ true) ⊎ IsUnread whole k) (sym e) h
+needs_said whole c r Text (inr (inl e)) h = inr (inl e)
+needs_said whole c r Text (inr (inr (e, run, text))) (inl refused) = absurd (run_unrefused c run refused)
+needs_said whole c r Text (inr (inr (e, run, text))) (inr h) = absurd (unread_not_run whole c h run)
+
+needed_said : (request : Option Request) (ended : Ended) (r : Cause) (status : ℕ) (t : Told) (Text : Type 0) → ToldAs ended.cause r Text → NeedsRecord request ended t → NeedsRecord request (with_cause ended r status) t
+needed_said None ended r status t Text e h = tt
+needed_said (Some (R.Check p)) ended r status t Text e h = tt
+needed_said (Some (R.Plan p)) ended r status t Text e h = tt
+needed_said (Some (R.Run p options)) ended r status t Text e h = tt
+needed_said (Some (R.Replay p file)) ended r status t Text e h = λ fault. needs_said (p ∷ file ∷ []) ended.cause r Text e (h fault)
+needed_said (Some (R.Simulate p width schedule steps)) ended r status t Text e h = tt
+needed_said (Some (R.Make name rows start)) ended r status t Text e h = tt
+
+run_ended : (c : Cause) → IsRun c → is_ended_run c ≡ true
+run_ended c (None, is) = ap is_ended_run is
+run_ended c (Some fault, is) = ap is_ended_run is
+
+ended_before : (c r : Cause) (Text : Type 0) → ToldAs c r Text → is_ended_run r ≡ true → is_ended_run c ≡ true
+ended_before c r Text (inl e) h = ap is_ended_run (sym e) ∙ h
+ended_before c r Text (inr (inl e)) h = absurd (let bad : false ≡ true = sym (ap is_ended_run e) ∙ h in cc)
+ended_before c r Text (inr (inr (e, run, text))) h = run_ended c run
+
+followed_said : (request : Option Request) (Is : RequestOutcome → Type 0) (ended : Ended) (r : Cause) (status : ℕ) (t : Told) (Text : Type 0) → ToldAs ended.cause r Text → FollowsRecord request Is ended t
+    → FollowsRecord request Is (with_cause ended r status) t
+followed_said None Is ended r status t Text e h = tt
+followed_said (Some (R.Check p)) Is ended r status t Text e h = tt
+followed_said (Some (R.Plan p)) Is ended r status t Text e h = tt
+followed_said (Some (R.Run p options)) Is ended r status t Text e h = tt
+followed_said (Some (R.Replay p file)) Is ended r status t Text e h = λ run. h (ended_before ended.cause r Text e run)
+followed_said (Some (R.Simulate p width schedule steps)) Is ended r status t Text e h = tt
+followed_said (Some (R.Make name rows start)) Is ended r status t Text e h = tt
 
 pub answered_said : OneOutcomeLaw → (told now : Option Told) (request : Option Request) (ended : Ended) (r : Cause) (status : ℕ) (counts later : PerName) (Text : Type 0) → ToldAs ended.cause r Text
     → WhereTold told now (Answered request ended counts later ⊥) → WhereTold told now (Answered request (with_cause ended r status) counts later Text)
@@ -214,6 +264,8 @@ answered_said law (Some t) (Some u) request ended r status counts later Text e h
   stopped = λ parts are. stopped_said ended.cause r parts counts later Text e (h.stopped parts are);
   whole = λ parts are. whole_said ended.cause r (files_of request parts) counts later t Text e (h.whole parts are);
   reads = h.reads;
+  needed = needed_said request ended r status t Text e h.needed;
+  followed = followed_said request (IsOutcome t ended.arrivals request) ended r status t Text e h.followed;
 }
 
 or_not_run : (expected c : Cause) → ((fault : Option Fault) → expected ≡ cause_of fault → ⊥) → IsOr expected c → IsRun c → ⊥
@@ -252,129 +304,150 @@ may_be_said request c r Text (inr (inr (e, run, text))) h = subst (MayBe request
 -- ---- completeness
 
 -- each answer is what the request comes to
-complete_at : (k : Cause) (Is : RequestOutcome → Type 0) (result : RequestOutcome) (Failed : Type 0) (ended : Ended) (t u : Told) → IsOne Is → CauseMeans k Is ended t u
-    → (NamesFile k → Failed) → (NamesFile k → (program : List ℕ) → result ≡ Unreadable program → IsUnread program k) → Is result → IsAnswer result Failed ⊥ k
-complete_at C.Done Is result Failed ended t u one (inl (report, c, is, same, counted)) failed unread comes =
-    subst (λ (o : RequestOutcome). IsAnswer o Failed ⊥ C.Done) (one (Reports report c) result is comes) (λ none quiet. inl refl)
-complete_at C.Done Is result Failed ended t u one (inr (c, g, m, is, fault, run)) failed unread comes =
-    subst (λ (o : RequestOutcome). IsAnswer o Failed ⊥ C.Done) (one (Runs c g m) result is comes) (λ none quiet. inl (ap cause_of (sym fault)))
-complete_at (C.Stopped f) Is result Failed ended t u one (c, g, m, is, fault, run) failed unread comes =
-    subst (λ (o : RequestOutcome). IsAnswer o Failed ⊥ (C.Stopped f)) (one (Runs c g m) result is comes) (λ none quiet. inl (ap cause_of (sym fault)))
-complete_at C.BadWords Is result Failed ended t u one (is, same) failed unread comes =
-    subst (λ (o : RequestOutcome). IsAnswer o Failed ⊥ C.BadWords) (one NoRequest result is comes) (λ none. inl refl)
-complete_at (C.Refused r) Is result Failed ended t u one (is, same) failed unread comes =
-    subst (λ (o : RequestOutcome). IsAnswer o Failed ⊥ (C.Refused r)) (one (Refused r) result is comes) (λ none. inl refl)
-complete_at C.NotBuilt Is result Failed ended t u one (is, same) failed unread comes =
-    subst (λ (o : RequestOutcome). IsAnswer o Failed ⊥ C.NotBuilt) (one NotBuilt result is comes) (λ none. inl refl)
-complete_at (C.OpenFailed name) Is NoRequest Failed ended t u one h failed unread comes = λ none. absurd (none (failed tt))
-complete_at (C.OpenFailed name) Is (Unreadable program) Failed ended t u one h failed unread comes = unread tt program refl
-complete_at (C.OpenFailed name) Is (Refused r) Failed ended t u one h failed unread comes = λ none. absurd (none (failed tt))
-complete_at (C.OpenFailed name) Is NotBuilt Failed ended t u one h failed unread comes = λ none. absurd (none (failed tt))
-complete_at (C.OpenFailed name) Is (Reports report c) Failed ended t u one h failed unread comes = λ none quiet. absurd (none (failed tt))
-complete_at (C.OpenFailed name) Is (Runs c g m) Failed ended t u one h failed unread comes = λ none quiet. absurd (none (failed tt))
-complete_at (C.ReadFailed name) Is NoRequest Failed ended t u one h failed unread comes = λ none. absurd (none (failed tt))
-complete_at (C.ReadFailed name) Is (Unreadable program) Failed ended t u one h failed unread comes = unread tt program refl
-complete_at (C.ReadFailed name) Is (Refused r) Failed ended t u one h failed unread comes = λ none. absurd (none (failed tt))
-complete_at (C.ReadFailed name) Is NotBuilt Failed ended t u one h failed unread comes = λ none. absurd (none (failed tt))
-complete_at (C.ReadFailed name) Is (Reports report c) Failed ended t u one h failed unread comes = λ none quiet. absurd (none (failed tt))
-complete_at (C.ReadFailed name) Is (Runs c g m) Failed ended t u one h failed unread comes = λ none quiet. absurd (none (failed tt))
-complete_at (C.WriteFailed name) Is NoRequest Failed ended t u one h failed unread comes = λ none. absurd (none (failed tt))
-complete_at (C.WriteFailed name) Is (Unreadable program) Failed ended t u one h failed unread comes = unread tt program refl
-complete_at (C.WriteFailed name) Is (Refused r) Failed ended t u one h failed unread comes = λ none. absurd (none (failed tt))
-complete_at (C.WriteFailed name) Is NotBuilt Failed ended t u one h failed unread comes = λ none. absurd (none (failed tt))
-complete_at (C.WriteFailed name) Is (Reports report c) Failed ended t u one h failed unread comes = λ none quiet. absurd (none (failed tt))
-complete_at (C.WriteFailed name) Is (Runs c g m) Failed ended t u one h failed unread comes = λ none quiet. absurd (none (failed tt))
-complete_at C.NoMemory Is NoRequest Failed ended t u one h failed unread comes = λ none. inr refl
-complete_at C.NoMemory Is (Unreadable program) Failed ended t u one h failed unread comes = inr (inr refl)
-complete_at C.NoMemory Is (Refused r) Failed ended t u one h failed unread comes = λ none. inr refl
-complete_at C.NoMemory Is NotBuilt Failed ended t u one h failed unread comes = λ none. inr refl
-complete_at C.NoMemory Is (Reports report c) Failed ended t u one h failed unread comes = λ none quiet. inr refl
-complete_at C.NoMemory Is (Runs c g m) Failed ended t u one h failed unread comes = λ none quiet. inr refl
+complete_at : (k : Cause) (Is : RequestOutcome → Type 0) (result : RequestOutcome) (whole : List (List ℕ)) (Failed : Type 0) (ended : Ended) (t u : Told) → IsOne Is → CauseMeans k Is ended t u
+    → (NamesFile k → Failed) → (NamesFile k → (program : List ℕ) → result ≡ Unreadable program → IsUnread whole k) → Is result → IsAnswer result whole Failed ⊥ k
+complete_at C.Done Is result whole Failed ended t u one (inl (report, c, is, same, counted)) failed unread comes =
+    subst (λ (o : RequestOutcome). IsAnswer o whole Failed ⊥ C.Done) (one (Reports report c) result is comes) (λ none quiet. inl refl)
+complete_at C.Done Is result whole Failed ended t u one (inr (c, g, m, is, fault, run)) failed unread comes =
+    subst (λ (o : RequestOutcome). IsAnswer o whole Failed ⊥ C.Done) (one (Runs c g m) result is comes) (λ none quiet. inl (ap cause_of (sym fault)))
+complete_at (C.Stopped f) Is result whole Failed ended t u one (c, g, m, is, fault, run) failed unread comes =
+    subst (λ (o : RequestOutcome). IsAnswer o whole Failed ⊥ (C.Stopped f)) (one (Runs c g m) result is comes) (λ none quiet. inl (ap cause_of (sym fault)))
+complete_at C.BadWords Is result whole Failed ended t u one (is, same) failed unread comes =
+    subst (λ (o : RequestOutcome). IsAnswer o whole Failed ⊥ C.BadWords) (one NoRequest result is comes) (λ none. inl refl)
+complete_at (C.Refused r) Is result whole Failed ended t u one (is, same) failed unread comes =
+    subst (λ (o : RequestOutcome). IsAnswer o whole Failed ⊥ (C.Refused r)) (one (Refused r) result is comes) (λ none. inl refl)
+complete_at C.NotBuilt Is result whole Failed ended t u one (is, same) failed unread comes =
+    subst (λ (o : RequestOutcome). IsAnswer o whole Failed ⊥ C.NotBuilt) (one NotBuilt result is comes) (λ none. inl refl)
+complete_at (C.BadArrivals op) Is result whole Failed ended t u one ((c, is), same) failed unread comes =
+    subst (λ (o : RequestOutcome). IsAnswer o whole Failed ⊥ (C.BadArrivals op)) (one (BadArrivals c op) result is comes) (λ none. inl refl)
+complete_at (C.OpenFailed name) Is NoRequest whole Failed ended t u one h failed unread comes = λ none. absurd (none (failed tt))
+complete_at (C.OpenFailed name) Is (Unreadable program) whole Failed ended t u one h failed unread comes = unread tt program refl
+complete_at (C.OpenFailed name) Is (Refused r) whole Failed ended t u one h failed unread comes = λ none. absurd (none (failed tt))
+complete_at (C.OpenFailed name) Is NotBuilt whole Failed ended t u one h failed unread comes = λ none. absurd (none (failed tt))
+complete_at (C.OpenFailed name) Is (Reports report c) whole Failed ended t u one h failed unread comes = λ none quiet. absurd (none (failed tt))
+complete_at (C.OpenFailed name) Is (BadArrivals c op) whole Failed ended t u one h failed unread comes = λ none. absurd (none (failed tt))
+complete_at (C.OpenFailed name) Is (Runs c g m) whole Failed ended t u one h failed unread comes = λ none quiet. absurd (none (failed tt))
+complete_at (C.ReadFailed name) Is NoRequest whole Failed ended t u one h failed unread comes = λ none. absurd (none (failed tt))
+complete_at (C.ReadFailed name) Is (Unreadable program) whole Failed ended t u one h failed unread comes = unread tt program refl
+complete_at (C.ReadFailed name) Is (Refused r) whole Failed ended t u one h failed unread comes = λ none. absurd (none (failed tt))
+complete_at (C.ReadFailed name) Is NotBuilt whole Failed ended t u one h failed unread comes = λ none. absurd (none (failed tt))
+complete_at (C.ReadFailed name) Is (Reports report c) whole Failed ended t u one h failed unread comes = λ none quiet. absurd (none (failed tt))
+complete_at (C.ReadFailed name) Is (BadArrivals c op) whole Failed ended t u one h failed unread comes = λ none. absurd (none (failed tt))
+complete_at (C.ReadFailed name) Is (Runs c g m) whole Failed ended t u one h failed unread comes = λ none quiet. absurd (none (failed tt))
+complete_at (C.WriteFailed name) Is NoRequest whole Failed ended t u one h failed unread comes = λ none. absurd (none (failed tt))
+complete_at (C.WriteFailed name) Is (Unreadable program) whole Failed ended t u one h failed unread comes = unread tt program refl
+complete_at (C.WriteFailed name) Is (Refused r) whole Failed ended t u one h failed unread comes = λ none. absurd (none (failed tt))
+complete_at (C.WriteFailed name) Is NotBuilt whole Failed ended t u one h failed unread comes = λ none. absurd (none (failed tt))
+complete_at (C.WriteFailed name) Is (Reports report c) whole Failed ended t u one h failed unread comes = λ none quiet. absurd (none (failed tt))
+complete_at (C.WriteFailed name) Is (BadArrivals c op) whole Failed ended t u one h failed unread comes = λ none. absurd (none (failed tt))
+complete_at (C.WriteFailed name) Is (Runs c g m) whole Failed ended t u one h failed unread comes = λ none quiet. absurd (none (failed tt))
+complete_at C.NoMemory Is NoRequest whole Failed ended t u one h failed unread comes = λ none. inr refl
+complete_at C.NoMemory Is (Unreadable program) whole Failed ended t u one h failed unread comes = inl refl
+complete_at C.NoMemory Is (Refused r) whole Failed ended t u one h failed unread comes = λ none. inr refl
+complete_at C.NoMemory Is NotBuilt whole Failed ended t u one h failed unread comes = λ none. inr refl
+complete_at C.NoMemory Is (Reports report c) whole Failed ended t u one h failed unread comes = λ none quiet. inr refl
+complete_at C.NoMemory Is (BadArrivals c op) whole Failed ended t u one h failed unread comes = λ none. inr refl
+complete_at C.NoMemory Is (Runs c g m) whole Failed ended t u one h failed unread comes = λ none quiet. inr refl
 
 refused_not_run : (refusal : Refusal) (fault : Option Fault) → C.Refused refusal ≡ cause_of fault → ⊥
 refused_not_run refusal None e = cc
 refused_not_run refusal (Some fault) e = cc
 
-unread_not_run : (p : List ℕ) (c : Cause) → IsUnread p c → IsRun c → ⊥
-unread_not_run p c (inl e) (None, is) = let h : C.OpenFailed p ≡ C.Done = sym e ∙ is in cc
-unread_not_run p c (inl e) (Some fault, is) = let h : C.OpenFailed p ≡ C.Stopped fault = sym e ∙ is in cc
-unread_not_run p c (inr (inl e)) (None, is) = let h : C.ReadFailed p ≡ C.Done = sym e ∙ is in cc
-unread_not_run p c (inr (inl e)) (Some fault, is) = let h : C.ReadFailed p ≡ C.Stopped fault = sym e ∙ is in cc
-unread_not_run p c (inr (inr e)) (None, is) = let h : C.NoMemory ≡ C.Done = sym e ∙ is in cc
-unread_not_run p c (inr (inr e)) (Some fault, is) = let h : C.NoMemory ≡ C.Stopped fault = sym e ∙ is in cc
+bad_not_run : (op : Option ℕ) (fault : Option Fault) → C.BadArrivals op ≡ cause_of fault → ⊥
+bad_not_run op None e = cc
+bad_not_run op (Some fault) e = cc
 
 -- it stays so once it is told
-answer_said : (result : RequestOutcome) (Failed Text : Type 0) (c r : Cause) → ToldAs c r Text → IsAnswer result Failed ⊥ c → IsAnswer result Failed Text r
-answer_said NoRequest Failed Text c r (inl e) h = λ none. subst (IsOr C.BadWords) (sym e) (h none)
-answer_said (Unreadable p) Failed Text c r (inl e) h = subst (IsUnread p) (sym e) h
-answer_said (Refused s) Failed Text c r (inl e) h = λ none. subst (IsOr (C.Refused s)) (sym e) (h none)
-answer_said NotBuilt Failed Text c r (inl e) h = λ none. subst (IsOr C.NotBuilt) (sym e) (h none)
-answer_said (Reports report k) Failed Text c r (inl e) h = λ none quiet. subst (IsOr C.Done) (sym e) (h none (λ x. x))
-answer_said (Runs k g m) Failed Text c r (inl e) h = λ none quiet. subst (IsOr (cause_of (run_fault g m))) (sym e) (h none (λ x. x))
-answer_said NoRequest Failed Text c r (inr (inl e)) h = λ none. inr e
-answer_said (Unreadable p) Failed Text c r (inr (inl e)) h = inr (inr e)
-answer_said (Refused s) Failed Text c r (inr (inl e)) h = λ none. inr e
-answer_said NotBuilt Failed Text c r (inr (inl e)) h = λ none. inr e
-answer_said (Reports report k) Failed Text c r (inr (inl e)) h = λ none quiet. inr e
-answer_said (Runs k g m) Failed Text c r (inr (inl e)) h = λ none quiet. inr e
-answer_said NoRequest Failed Text c r (inr (inr (e, run, text))) h = λ none. absurd (or_not_run C.BadWords c words_not_run (h none) run)
-answer_said (Unreadable p) Failed Text c r (inr (inr (e, run, text))) h = absurd (unread_not_run p c h run)
-answer_said (Refused s) Failed Text c r (inr (inr (e, run, text))) h = λ none. absurd (or_not_run (C.Refused s) c (refused_not_run s) (h none) run)
-answer_said NotBuilt Failed Text c r (inr (inr (e, run, text))) h = λ none. absurd (or_not_run C.NotBuilt c part_not_run (h none) run)
-answer_said (Reports report k) Failed Text c r (inr (inr (e, run, text))) h = λ none quiet. absurd (quiet text)
-answer_said (Runs k g m) Failed Text c r (inr (inr (e, run, text))) h = λ none quiet. absurd (quiet text)
+answer_said : (result : RequestOutcome) (whole : List (List ℕ)) (Failed Text : Type 0) (c r : Cause) → ToldAs c r Text → IsAnswer result whole Failed ⊥ c → IsAnswer result whole Failed Text r
+answer_said NoRequest whole Failed Text c r (inl e) h = λ none. subst (IsOr C.BadWords) (sym e) (h none)
+answer_said (Unreadable p) whole Failed Text c r (inl e) h = subst (IsUnread whole) (sym e) h
+answer_said (Refused s) whole Failed Text c r (inl e) h = λ none. subst (IsOr (C.Refused s)) (sym e) (h none)
+answer_said NotBuilt whole Failed Text c r (inl e) h = λ none. subst (IsOr C.NotBuilt) (sym e) (h none)
+answer_said (Reports report k) whole Failed Text c r (inl e) h = λ none quiet. subst (IsOr C.Done) (sym e) (h none (λ x. x))
+answer_said (BadArrivals k op) whole Failed Text c r (inl e) h = λ none. subst (IsOr (C.BadArrivals op)) (sym e) (h none)
+answer_said (Runs k g m) whole Failed Text c r (inl e) h = λ none quiet. subst (IsOr (cause_of (run_fault g m))) (sym e) (h none (λ x. x))
+answer_said NoRequest whole Failed Text c r (inr (inl e)) h = λ none. inr e
+answer_said (Unreadable p) whole Failed Text c r (inr (inl e)) h = inl e
+answer_said (Refused s) whole Failed Text c r (inr (inl e)) h = λ none. inr e
+answer_said NotBuilt whole Failed Text c r (inr (inl e)) h = λ none. inr e
+answer_said (Reports report k) whole Failed Text c r (inr (inl e)) h = λ none quiet. inr e
+answer_said (BadArrivals k op) whole Failed Text c r (inr (inl e)) h = λ none. inr e
+answer_said (Runs k g m) whole Failed Text c r (inr (inl e)) h = λ none quiet. inr e
+answer_said NoRequest whole Failed Text c r (inr (inr (e, run, text))) h = λ none. absurd (or_not_run C.BadWords c words_not_run (h none) run)
+answer_said (Unreadable p) whole Failed Text c r (inr (inr (e, run, text))) h = absurd (unread_not_run whole c h run)
+answer_said (Refused s) whole Failed Text c r (inr (inr (e, run, text))) h = λ none. absurd (or_not_run (C.Refused s) c (refused_not_run s) (h none) run)
+answer_said NotBuilt whole Failed Text c r (inr (inr (e, run, text))) h = λ none. absurd (or_not_run C.NotBuilt c part_not_run (h none) run)
+answer_said (Reports report k) whole Failed Text c r (inr (inr (e, run, text))) h = λ none quiet. absurd (quiet text)
+answer_said (BadArrivals k op) whole Failed Text c r (inr (inr (e, run, text))) h = λ none. absurd (or_not_run (C.BadArrivals op) c (bad_not_run op) (h none) run)
+answer_said (Runs k g m) whole Failed Text c r (inr (inr (e, run, text))) h = λ none quiet. absurd (quiet text)
 
--- ---- a program that can't be read
-
-same_first : (program name : List ℕ) (before behind : List (List ℕ)) → program ∷ [] ≡ before ++ name ∷ behind → name ≡ program
-same_first program name [] behind e = cc
-same_first program name (m ∷ before) behind e = absurd (let bad = ap length e in let more = length-append before (name ∷ behind) in omega (arith, bad, more))
+-- ---- a file that can't be read
 
 none_split : (name : List ℕ) (before behind : List (List ℕ)) → [] ≡ before ++ name ∷ behind → ⊥
 none_split name before behind e = let bad = ap length e in let more = length-append before (name ∷ behind) in omega (arith, bad, more)
 
--- a request that is built, with no operators: it opens its program alone, and creates nothing
-program_alone : (request : Request) (program : List ℕ) → is_built request ≡ true → program_of request ≡ Some program
-    → (opens (Some request) [] ≡ program ∷ []) × (whole_files (Some request) ≡ program ∷ []) × (creates (Some request) [] ≡ [])
-program_alone (R.Check p) program built of = let same : p ≡ program = cc in (ap (λ (q : List ℕ). q ∷ []) same, ap (λ (q : List ℕ). q ∷ []) same, refl)
-program_alone (R.Run p options) program built of = let same : p ≡ program = cc in (ap (λ (q : List ℕ). q ∷ []) same, ap (λ (q : List ℕ). q ∷ []) same, creates_sinks p options [] built)
-program_alone (R.Plan p) program built of = let same : p ≡ program = cc in (ap (λ (q : List ℕ). q ∷ []) same, ap (λ (q : List ℕ). q ∷ []) same, refl)
-program_alone (R.Replay p arrivals) program built of = absurd (let bad : false ≡ true = built in cc)
-program_alone (R.Simulate p width schedule steps) program built of = absurd (let bad : false ≡ true = built in cc)
-program_alone (R.Make name rows start) program built of = absurd (let bad : false ≡ true = built in cc)
+-- a request that is built, with no operators: it opens what it reads as a whole alone, and creates nothing
+whole_alone : (request : Request) → is_built request ≡ true → (opens (Some request) [] ≡ whole_files (Some request)) × (creates (Some request) [] ≡ [])
+whole_alone (R.Check p) built = (refl, refl)
+whole_alone (R.Run p options) built = (refl, creates_sinks p options [] built)
+whole_alone (R.Plan p) built = (refl, refl)
+whole_alone (R.Replay p file) built = (refl, refl)
+whole_alone (R.Simulate p width schedule steps) built = absurd (let bad : false ≡ true = built in cc)
+whole_alone (R.Make name rows start) built = absurd (let bad : false ≡ true = built in cc)
 
-unread_cause : (k : Cause) (request : Request) (program : List ℕ) (counts later : PerName) (Is : RequestOutcome → Type 0) (ended : Ended) (t u : Told) → is_built request ≡ true → program_of request ≡ Some program
-    → NamesFile k → DevicesMean k (files_of (Some request) []) counts later ⊥ Is ended t u → IsUnread program k
-unread_cause (C.OpenFailed name) request program counts later Is ended t u built of is (inl h) =
-    inl (ap (λ (n : List ℕ). C.OpenFailed n) (same_first program name h.0.before h.0.behind (sym (program_alone request program built of).0 ∙ h.0.order)))
-unread_cause (C.OpenFailed name) request program counts later Is ended t u built of is (inr h) =
-    absurd (none_split name h.0.before h.0.behind (sym (program_alone request program built of).2 ∙ h.0.order))
-unread_cause (C.ReadFailed name) request program counts later Is ended t u built of is h =
-    inr (inl (ap (λ (n : List ℕ). C.ReadFailed n) (sym (named_one program name (sym (ap (λ (ns : List (List ℕ)). is_named ns name) (program_alone request program built of).1) ∙ h.whole)))))
-unread_cause (C.WriteFailed name) request program counts later Is ended t u built of is (inl h) =
-    absurd (none_split name h.0.before h.0.behind (sym (program_alone request program built of).2 ∙ h.0.order))
-unread_cause (C.WriteFailed name) request program counts later Is ended t u built of is (inr h) = absurd h.failed
-unread_cause C.Done request program counts later Is ended t u built of is h = absurd is
-unread_cause (C.Stopped fault) request program counts later Is ended t u built of is h = absurd is
-unread_cause C.NotBuilt request program counts later Is ended t u built of is h = absurd is
-unread_cause C.BadWords request program counts later Is ended t u built of is h = absurd is
-unread_cause (C.Refused refusal) request program counts later Is ended t u built of is h = absurd is
-unread_cause C.NoMemory request program counts later Is ended t u built of is h = absurd is
+unread_cause : (k : Cause) (request : Request) (counts later : PerName) (Is : RequestOutcome → Type 0) (ended : Ended) (t u : Told) → is_built request ≡ true
+    → NamesFile k → DevicesMean k (files_of (Some request) []) counts later ⊥ Is ended t u → IsUnread (whole_files (Some request)) k
+unread_cause (C.OpenFailed name) request counts later Is ended t u built is (inl h) =
+    inr (name, split_named h.0.before h.0.behind name (whole_files (Some request)) (sym (whole_alone request built).0 ∙ h.0.order), inl refl)
+unread_cause (C.OpenFailed name) request counts later Is ended t u built is (inr h) =
+    absurd (none_split name h.0.before h.0.behind (sym (whole_alone request built).1 ∙ h.0.order))
+unread_cause (C.ReadFailed name) request counts later Is ended t u built is h = inr (name, h.whole, inr refl)
+unread_cause (C.WriteFailed name) request counts later Is ended t u built is (inl h) =
+    absurd (none_split name h.0.before h.0.behind (sym (whole_alone request built).1 ∙ h.0.order))
+unread_cause (C.WriteFailed name) request counts later Is ended t u built is (inr h) = absurd h.failed
+unread_cause C.Done request counts later Is ended t u built is h = absurd is
+unread_cause (C.Stopped fault) request counts later Is ended t u built is h = absurd is
+unread_cause C.NotBuilt request counts later Is ended t u built is h = absurd is
+unread_cause C.BadWords request counts later Is ended t u built is h = absurd is
+unread_cause (C.Refused refusal) request counts later Is ended t u built is h = absurd is
+unread_cause (C.BadArrivals op) request counts later Is ended t u built is h = absurd is
+unread_cause C.NoMemory request counts later Is ended t u built is h = absurd is
 
--- one that names no file is no answer to it
-unread_told : (k : Cause) (request : Option Request) (program : List ℕ) (counts later : PerName) (ended : Ended) (t u : Told) → NamesFile k → IsUnreadable t request program
-    → ((parts : List Part) → ArePartsIn t request parts → DevicesMean k (files_of request parts) counts later ⊥ (IsOutcome t ended.arrivals request) ended t u) → IsUnread program k
-unread_told k request program counts later ended t u is bad device =
-    unread_cause k bad.asked program counts later (IsOutcome t ended.arrivals request) ended t u bad.built bad.of is
+not_refused : (k : Cause) → NamesFile k → is_refused k ≡ true → ⊥
+not_refused (C.OpenFailed name) named e = cc
+not_refused (C.ReadFailed name) named e = cc
+not_refused (C.WriteFailed name) named e = cc
+not_refused C.Done named e = named
+not_refused (C.Stopped fault) named e = named
+not_refused C.NotBuilt named e = named
+not_refused C.BadWords named e = named
+not_refused (C.Refused refusal) named e = named
+not_refused (C.BadArrivals op) named e = named
+not_refused C.NoMemory named e = named
+
+-- an answer that names no file is none to it
+unread_told : (k : Cause) (request : Option Request) (file : List ℕ) (counts later : PerName) (ended : Ended) (t u : Told) → ended.cause ≡ k → NamesFile k → IsUnreadable t request file
+    → ((parts : List Part) → ArePartsIn t request parts → DevicesMean k (files_of request parts) counts later ⊥ (IsOutcome t ended.arrivals request) ended t u)
+    → NeedsRecord request ended t → IsUnread (whole_files request) k
+unread_told k request file counts later ended t u e named (inl bad) device needed =
+    subst (λ (o : Option Request). IsUnread (whole_files o) k) (sym bad.is)
+    (unread_cause k bad.asked counts later (IsOutcome t ended.arrivals request) ended t u bad.built named
     (subst (λ (o : Option Request). DevicesMean k (files_of o []) counts later ⊥ (IsOutcome t ended.arrivals request) ended t u) bad.is
-    (device [] (subst (λ (o : Option Request). ArePartsIn t o []) (sym bad.is) (of_unreadable bad.asked program bad.of bad.fault))))
+    (device [] (subst (λ (o : Option Request). ArePartsIn t o []) (sym bad.is) (of_unreadable bad.asked file bad.of bad.fault)))))
+unread_told k request file counts later ended t u e named (inr bad) device needed =
+    subst (λ (o : Option Request). IsUnread (whole_files o) k) (sym bad.is)
+    (by ((subst (λ (o : Option Request). NeedsRecord o ended t) bad.is needed) bad.fault))
+  where
+    by : (is_refused ended.cause ≡ true) ⊎ IsUnread (bad.program ∷ file ∷ []) ended.cause → IsUnread (bad.program ∷ file ∷ []) k
+    by (inl refused) = absurd (not_refused k named (ap is_refused (sym e) ∙ refused))
+    by (inr h) = subst (IsUnread (bad.program ∷ file ∷ [])) e h
 
 pub complete : OneOutcomeLaw → (told now : Option Told) (request : Option Request) (ended : Ended) (r : Cause) (status : ℕ) (counts later : PerName) (Text : Type 0) → ToldAs ended.cause r Text
     → WhereTold told now (Answered request ended counts later ⊥) → IfSome told (IsComplete request (with_cause ended r status) counts later Text)
 complete law None now request ended r status counts later Text e h = tt
 complete law (Some t) None request ended r status counts later Text e h = absurd h
 complete law (Some t) (Some u) request ended r status counts later Text e h = λ result comes parts are.
-    answer_said result (DeviceFailed (files_of request parts) counts later) Text ended.cause r e
-    (complete_at ended.cause (IsOutcome t ended.arrivals request) result (DeviceFailed (files_of request parts) counts later) ended t u (law request t ended.arrivals) h.means
+    answer_said result (whole_files request) (DeviceFailed (files_of request parts) counts later) Text ended.cause r e
+    (complete_at ended.cause (IsOutcome t ended.arrivals request) result (whole_files request) (DeviceFailed (files_of request parts) counts later) ended t u (law request t ended.arrivals) h.means
     (λ named. device_failed ended.cause (files_of request parts) counts later (IsOutcome t ended.arrivals request) ended t u named (h.device parts are))
-    (λ named program is. unread_told ended.cause request program counts later ended t u named (unread t ended.arrivals request program (subst (IsOutcome t ended.arrivals request) is comes)) h.device) comes)
+    (λ named file is. unread_told ended.cause request file counts later ended t u refl named (unread_by t ended.arrivals request file (subst (IsOutcome t ended.arrivals request) is comes)) h.device h.needed) comes)

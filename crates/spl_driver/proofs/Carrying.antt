@@ -1,6 +1,6 @@
 -- What is done with an accepted program, by its request.
-use Rattle.std.proofs.Common.{◌≡◌, ◌∙◌, append-nil, ℕ, Bool, true, false, List, [], ◌∷◌, ◌++◌, refl, sym, ap, subst, inl, inr, Option, Some, None, Result, Ok, Err}
-use Rattle.std.specs.Prelude.{IfOk, ◌||◌, ◌&&◌, not}
+use Rattle.std.proofs.Common.{◌≡◌, ◌≤◌, ◌^◌, ◌∙◌, append-nil, arith, ℕ, Bool, true, false, List, [], ◌∷◌, ◌++◌, refl, sym, ap, subst, inl, inr, Option, Some, None, Result, Ok, Err}
+use Rattle.std.specs.Prelude.{IfSome, IfOk, ◌||◌, ◌&&◌, not, if◌then◌else◌}
 use Rattle.spl_value.specs.declared.memory.NoMemory.{NoMemory}
 use Rattle.feed_pour.specs.Counts.{PerName}
 use Rattle.feed_pour.specs.Contents.{Told, WhereTold}
@@ -21,22 +21,25 @@ use Rattle.check_laws.specs.Files.{source_files, sink_files, is_named}
 use Rattle.source_rows.specs.Counting.{OpeningFailed}
 use Rattle.spl_driver.specs.Built.{is_built, is_plain, is_given}
 use Rattle.spl_driver.specs.Files.{FilesOf, creates, files_of, if_given, row_files}
-use Rattle.spl_driver.specs.Outcome.{OfPlan, OfSize, Report, RequestOutcome, Reports}
-use Rattle.spl_driver.specs.Answer.{CauseMeans, CreatingFailed, DevicesMean, DevicesShow, StoppedBy, TellingFailed, WritingFailed, is_report, uncounted}
+use Rattle.spl_driver.specs.Outcome.{IsReplay, has_record_fault, OfPlan, OfSize, Report, RequestOutcome, Reports}
+use Rattle.spl_driver.specs.Answer.{CauseMeans, CreatingFailed, DevicesMean, DevicesShow, ReadingFailed, StoppedBy, WholeReads, WritingFailed, IsUnread, MayBe, NeedsRecord, is_bad_arrivals, is_ended_run, is_replay, is_report, uncounted}
 use Rattle.spl_driver.specs.Texts.{IsReportText, IsText, wants_counts}
-use Rattle.spl_driver.specs.Steps.{CountsShow, FilesShow, IsAcceptedOutcome, IsRunOf, IsToldAcceptedOutcome, MayBeOutcome, RunComes, accepted_outcome, run_files}
+use Rattle.spl_driver.specs.Steps.{CountsShow, FilesShow, FollowsFile, IsAcceptedOutcome, IsRunOf, IsToldAcceptedOutcome, MayBeOutcome, ReplayComes, RunComes, replay_files, run_files}
 use Rattle.spl_driver.specs.declared.ended.Ended.{Ended}
-use Rattle.spl_driver.proofs.Fetching.{quiet_only}
+use Rattle.arrival_format.specs.ArrivalTexts.{Spells}
+use Rattle.list_engine.specs.declared.run_order.Order.TheVariants as O
+use Rattle.spl_driver.proofs.Fetching.{fails_more, quiet_only}
 use Rattle.spl_driver.proofs.Showing.{quiet_shows}
 use Rattle.spl_driver.proofs.Standing.{IsQuiet, IsUnrun, quiet_stopped}
 use Rattle.std.specs.Str.{bytes_eq}
 use Rattle.std.proofs.lemmas.Bool.{or_parts}
+use Rattle.spl_value.proofs.Bools.{or_true}
 
 quiet_counts : (cause k : Cause) (files : FilesOf) (counts : PerName) → cause ≡ k → IsQuiet k → (k ≡ C.BadWords → ⊥) → IsUnrun k → (parts : List Part) → CountsShow cause parts files counts counts
 quiet_counts cause k files counts is quiet words unrun parts = record {
   words = λ e. words (sym is ∙ e);
   others = λ n named. refl;
-  reading = λ n named. refl;
+  reading = λ n named differs. absurd (differs refl);
   device = subst (λ (x : Cause). DevicesShow x files counts counts) (sym is) (quiet_shows k files counts counts quiet (λ n. refl));
   stopped = subst (λ (x : Cause). StoppedBy x parts counts counts) (sym is) (quiet_stopped k parts counts counts unrun);
 }
@@ -45,23 +48,25 @@ quiet_counts cause k files counts is quiet words unrun parts = record {
 
 -- the request comes to this where its program is accepted, and runs nothing
 pub record Asks (request : Request) (report : Report) (c : CheckedGraph) : Type 0 where
-  pub outcome : (t : Told) (arrivals : Arrivals) → accepted_outcome request c t arrivals ≡ Reports report c
+  pub outcome : (t : Told) (arrivals : Arrivals) → IsAcceptedOutcome request c arrivals t (Reports report c)
   pub may : (arrivals : Arrivals) (counts now : PerName) → MayBeOutcome request c arrivals counts now (Reports report c)
   pub alone : is_report (Some request) ≡ true
+  pub kinds : is_replay (Some request) ≡ false
 
 pub asks_size : (request : Request) (p : List ℕ) (c : CheckedGraph) → request ≡ R.Check p → Asks request OfSize c
-asks_size request p c e = subst (λ (q : Request). Asks q OfSize c) (sym e) (record { outcome = λ t arrivals. refl; may = λ arrivals counts now. refl; alone = refl })
+asks_size request p c e = subst (λ (q : Request). Asks q OfSize c) (sym e) (record { outcome = λ t arrivals. refl; may = λ arrivals counts now. refl; alone = refl; kinds = refl })
 
 pub asks_plan : (request : Request) (p : List ℕ) (c : CheckedGraph) → request ≡ R.Plan p → Asks request OfPlan c
-asks_plan request p c e = subst (λ (q : Request). Asks q OfPlan c) (sym e) (record { outcome = λ t arrivals. refl; may = λ arrivals counts now. refl; alone = refl })
+asks_plan request p c e = subst (λ (q : Request). Asks q OfPlan c) (sym e) (record { outcome = λ t arrivals. refl; may = λ arrivals counts now. refl; alone = refl; kinds = refl })
 
 pub reported_files : (told : Option Told) (request : Request) (report : Report) (c : CheckedGraph) (ended : Ended) (counts : PerName) → Asks request report c → ended.cause ≡ C.Done → ended.counts ≡ uncounted
     → WhereTold told told (λ t u. FilesShow (IsAcceptedOutcome request c ended.arrivals t) (files_of (Some request) c.parts) ended counts counts t u)
 reported_files None request report c ended counts asks is none = tt
 reported_files (Some t) request report c ended counts asks is none = record {
-  means = subst (λ (k : Cause). CauseMeans k (IsAcceptedOutcome request c ended.arrivals t) ended t t) (sym is) (inl (report, c, sym (asks.outcome t ended.arrivals), (λ n. refl), none));
+  means = subst (λ (k : Cause). CauseMeans k (IsAcceptedOutcome request c ended.arrivals t) ended t t) (sym is) (inl (report, c, asks.outcome t ended.arrivals, (λ n. refl), none));
   others = λ n named. refl;
   device = subst (λ (k : Cause). DevicesMean k (files_of (Some request) c.parts) counts counts ⊥ (IsAcceptedOutcome request c ended.arrivals t) ended t t) (sym is) (quiet_only (row_files (Some request) c.parts) counts counts (λ n. refl));
+  whole = λ n free differs. absurd (differs refl);
   reads = λ n differs. absurd (differs refl);
 }
 
@@ -70,7 +75,7 @@ reported_counts cause request c counts is = quiet_counts cause C.Done (files_of 
 
 reported_comes : (told : Option Told) (request : Request) (report : Report) (c : CheckedGraph) (arrivals : Arrivals) (counts now : PerName) → Asks request report c → IsToldAcceptedOutcome request c arrivals told counts now (Reports report c)
 reported_comes None request report c arrivals counts now asks = (asks.may arrivals counts now, tt)
-reported_comes (Some t) request report c arrivals counts now asks = (asks.may arrivals counts now, sym (asks.outcome t arrivals))
+reported_comes (Some t) request report c arrivals counts now asks = (asks.may arrivals counts now, asks.outcome t arrivals)
 
 pub reported_text : (told : Option Told) (request : Request) (report : Report) (c : CheckedGraph) (ended : Ended) (text : Result (List ℕ) NoMemory) (counts now : PerName) → Asks request report c → ended.cause ≡ C.Done
     → IfOk text (IsReportText report c) → IfOk text (IsText (wants_counts (Some request)) ended.cause (IsToldAcceptedOutcome request c ended.arrivals told counts now))
@@ -105,111 +110,223 @@ creates_sinks p options parts plain =
 plain_run : (request : Request) (p : List ℕ) (options : RunOptions) → request ≡ R.Run p options → is_built request ≡ true → is_plain options ≡ true
 plain_run request p options e built = sym (ap is_built e) ∙ built
 
--- the files of a run are those of its sources and sinks, with the program in front
-run_files_of : (p : List ℕ) (options : RunOptions) (c : CheckedGraph) → is_plain options ≡ true
-    → files_of (Some (R.Run p options)) c.parts ≡ record { opened = p ∷ source_files c.parts; whole = p ∷ []; rows = source_files c.parts; created = sink_files c.parts }
-run_files_of p options c plain =
-    let made = creates_sinks p options c.parts plain in
-    λ i. record { opened = p ∷ source_files c.parts; whole = p ∷ []; rows = source_files c.parts; created = made i }
+-- ---- one file more, which is opened first and read as a whole
 
-abbrev with_program : List ℕ → CheckedGraph → FilesOf
-with_program p c = record { opened = p ∷ source_files c.parts; whole = p ∷ []; rows = source_files c.parts; created = sink_files c.parts }
+abbrev pub with_file : List ℕ → List (List ℕ) → (List ℕ → ℕ) → FilesOf → FilesOf
+with_file p whole most files = record { opened = p ∷ files.opened; whole = whole; most = most; rows = files.rows; created = files.created }
 
 front_not : (p n : List ℕ) (names : List (List ℕ)) → is_named (p ∷ names) n ≡ false → is_named names n ≡ false
 front_not p n names e = (or_parts (bytes_eq p n) (is_named names n) e).1
-
-opening_wider : (p name : List ℕ) (c : CheckedGraph) (old new : PerName) → OpeningFailed (run_files c).opened name old new → OpeningFailed (with_program p c).opened name old new
-opening_wider p name c old new h = record {
-  before = p ∷ h.before;
-  behind = h.behind;
-  order = ap (λ (ns : List (List ℕ)). p ∷ ns) h.order;
-  rose = h.rose;
-  later = λ n free other. h.later n (front_not p n h.before free) other;
-  others = h.others;
-}
-
-creating_wider : (p name : List ℕ) (c : CheckedGraph) (old new : PerName) → CreatingFailed (run_files c) name old new → CreatingFailed (with_program p c) name old new
-creating_wider p name c old new h = record {
-  before = h.before;
-  behind = h.behind;
-  order = h.order;
-  rose = h.rose;
-  later = λ n free other. h.later n (front_not p n (source_files c.parts ++ h.before) free) other;
-  creating = h.creating;
-  opening = h.opening;
-}
-
-writing_wider : (p name : List ℕ) (c : CheckedGraph) (old new : PerName) → WritingFailed (run_files c) name old new → WritingFailed (with_program p c) name old new
-writing_wider p name c old new h =
-    record { before = h.before; behind = h.behind; order = h.order; rose = h.rose; first = h.first; others = h.others; creating = h.creating; opening = h.opening }
-
-devices_wider : (cause : Cause) (p : List ℕ) (c : CheckedGraph) (old new : PerName) → DevicesShow cause (run_files c) old new → DevicesShow cause (with_program p c) old new
-devices_wider C.Done p c old new h = h
-devices_wider (C.Stopped fault) p c old new h = h
-devices_wider C.NotBuilt p c old new h = h
-devices_wider C.BadWords p c old new h = h
-devices_wider (C.Refused refusal) p c old new h = h
-devices_wider (C.OpenFailed name) p c old new (inl h) = inl (opening_wider p name c old new h)
-devices_wider (C.OpenFailed name) p c old new (inr h) = inr (creating_wider p name c old new h)
-devices_wider (C.ReadFailed name) p c old new h = absurd (let bad : false ≡ true = h.whole in cc)
-devices_wider (C.WriteFailed name) p c old new h = writing_wider p name c old new h
-devices_wider C.NoMemory p c old new h = tt
-
-telling_wider : (p name : List ℕ) (c : CheckedGraph) (counts now : PerName) (Is : RequestOutcome → Type 0) (ended : Ended) (t u : Told) → TellingFailed (run_files c) name counts now ⊥ Is ended t u
-    → TellingFailed (with_program p c) name counts now ⊥ Is ended t u
-telling_wider p name c counts now Is ended t u h = absurd h.failed
-
-means_wider : (cause : Cause) (p : List ℕ) (c : CheckedGraph) (counts now : PerName) (Is : RequestOutcome → Type 0) (ended : Ended) (t u : Told) → DevicesMean cause (run_files c) counts now ⊥ Is ended t u
-    → DevicesMean cause (with_program p c) counts now ⊥ Is ended t u
-unfolding creating_wider
-means_wider C.Done p c counts now Is ended t u h = h
-means_wider (C.Stopped fault) p c counts now Is ended t u h = h
-means_wider C.NotBuilt p c counts now Is ended t u h = h
-means_wider C.BadWords p c counts now Is ended t u h = h
-means_wider (C.Refused refusal) p c counts now Is ended t u h = h
-means_wider (C.OpenFailed name) p c counts now Is ended t u (inl h) = inl (opening_wider p name c counts now h.0, h.1)
-means_wider (C.OpenFailed name) p c counts now Is ended t u (inr h) = inr (creating_wider p name c counts now h.0, h.1)
-means_wider (C.ReadFailed name) p c counts now Is ended t u h = absurd (let bad : false ≡ true = h.whole in cc)
-means_wider (C.WriteFailed name) p c counts now Is ended t u (inl h) = inl (writing_wider p name c counts now h.0, h.1)
-means_wider (C.WriteFailed name) p c counts now Is ended t u (inr h) = inr (telling_wider p name c counts now Is ended t u h)
-means_wider C.NoMemory p c counts now Is ended t u h = tt
-
-pub ran_files : (told now : Option Told) (request : Request) (p : List ℕ) (options : RunOptions) (c : CheckedGraph) (ended : Ended) (counts later : PerName) → request ≡ R.Run p options
-    → is_built request ≡ true → WhereTold told now (λ t u. FilesShow (IsRunOf c ended.arrivals t) (run_files c) ended counts later t u)
-    → WhereTold told now (λ t u. FilesShow (IsAcceptedOutcome request c ended.arrivals t) (files_of (Some request) c.parts) ended counts later t u)
-ran_files told now request p options c ended counts later e built h =
-    subst (λ (q : Request). WhereTold told now (λ t u. FilesShow (IsAcceptedOutcome q c ended.arrivals t) (files_of (Some q) c.parts) ended counts later t u)) (sym e)
-    (subst (λ (files : FilesOf). WhereTold told now (λ t u. FilesShow (IsRunOf c ended.arrivals t) files ended counts later t u))
-    (sym (run_files_of p options c (plain_run request p options e built))) (wider told now h))
-  where
-    wider : (told now : Option Told) → WhereTold told now (λ t u. FilesShow (IsRunOf c ended.arrivals t) (run_files c) ended counts later t u)
-        → WhereTold told now (λ t u. FilesShow (IsRunOf c ended.arrivals t) (with_program p c) ended counts later t u)
-    wider None now h = tt
-    wider (Some t) None h = absurd h
-    wider (Some t) (Some u) h = record {
-      means = h.means;
-      others = h.others;
-      device = means_wider ended.cause p c counts later (IsRunOf c ended.arrivals t) ended t u h.device;
-      reads = h.reads;
-    }
 
 or_rest : (a b c : Bool) → ((a || b) || c) ≡ false → (b || c) ≡ false
 or_rest true b c e = cc
 or_rest false b c e = e
 
+module _ (p : List ℕ) (whole : List (List ℕ)) (most : List ℕ → ℕ) (files : FilesOf) (named : (n : List ℕ) → is_named files.whole n ≡ true → is_named whole n ≡ true) (bound : (n : List ℕ) → files.most n ≤ most n) where
+  opening_wider : (name : List ℕ) (old new : PerName) → OpeningFailed files.opened name old new → OpeningFailed (p ∷ files.opened) name old new
+  opening_wider name old new h = record {
+    before = p ∷ h.before;
+    behind = h.behind;
+    order = ap (λ (ns : List (List ℕ)). p ∷ ns) h.order;
+    rose = h.rose;
+    later = λ n free other. h.later n (front_not p n h.before free) other;
+    others = h.others;
+  }
+
+  creating_wider : (name : List ℕ) (old new : PerName) → CreatingFailed files name old new → CreatingFailed (with_file p whole most files) name old new
+  creating_wider name old new h = record {
+    before = h.before;
+    behind = h.behind;
+    order = h.order;
+    rose = h.rose;
+    later = λ n free other. h.later n (front_not p n (files.opened ++ h.before) free) other;
+    creating = h.creating;
+    opening = h.opening;
+  }
+
+  writing_wider : (name : List ℕ) (old new : PerName) → WritingFailed files name old new → WritingFailed (with_file p whole most files) name old new
+  writing_wider name old new h =
+      record { before = h.before; behind = h.behind; order = h.order; rose = h.rose; first = h.first; others = h.others; creating = h.creating; opening = h.opening }
+
+  reading_wider : (name : List ℕ) (old new : PerName) → ReadingFailed files name old new → ReadingFailed (with_file p whole most files) name old new
+  reading_wider name old new h = record { whole = named name h.whole; rose = h.rose; only = h.only; others = h.others }
+
+  devices_wider : (cause : Cause) (old new : PerName) → DevicesShow cause files old new → DevicesShow cause (with_file p whole most files) old new
+  devices_wider C.Done old new h = h
+  devices_wider (C.Stopped fault) old new h = h
+  devices_wider C.NotBuilt old new h = h
+  devices_wider C.BadWords old new h = h
+  devices_wider (C.Refused refusal) old new h = h
+  devices_wider (C.BadArrivals op) old new h = h
+  devices_wider (C.OpenFailed name) old new (inl h) = inl (opening_wider name old new h)
+  devices_wider (C.OpenFailed name) old new (inr h) = inr (creating_wider name old new h)
+  devices_wider (C.ReadFailed name) old new h = reading_wider name old new h
+  devices_wider (C.WriteFailed name) old new h = writing_wider name old new h
+  devices_wider C.NoMemory old new h = tt
+
+  means_wider : (cause : Cause) (counts now : PerName) (Is : RequestOutcome → Type 0) (ended : Ended) (t u : Told) → DevicesMean cause files counts now ⊥ Is ended t u
+      → DevicesMean cause (with_file p whole most files) counts now ⊥ Is ended t u
+  unfolding creating_wider
+  means_wider C.Done counts now Is ended t u h = h
+  means_wider (C.Stopped fault) counts now Is ended t u h = h
+  means_wider C.NotBuilt counts now Is ended t u h = h
+  means_wider C.BadWords counts now Is ended t u h = h
+  means_wider (C.Refused refusal) counts now Is ended t u h = h
+  means_wider (C.BadArrivals op) counts now Is ended t u h = h
+  means_wider (C.OpenFailed name) counts now Is ended t u (inl h) = inl (opening_wider name counts now h.0, h.1)
+  means_wider (C.OpenFailed name) counts now Is ended t u (inr h) = inr (creating_wider name counts now h.0, h.1)
+  means_wider (C.ReadFailed name) counts now Is ended t u h = reading_wider name counts now h
+  means_wider (C.WriteFailed name) counts now Is ended t u (inl h) = inl (writing_wider name counts now h.0, h.1)
+  means_wider (C.WriteFailed name) counts now Is ended t u (inr h) = absurd h.failed
+  means_wider C.NoMemory counts now Is ended t u h = tt
+
+  whole_wider : (cause : Cause) (counts now : PerName) (t : Told) → WholeReads cause files counts now t → WholeReads cause (with_file p whole most files) counts now t
+  whole_wider cause counts now t h = λ n free differs.
+      record { fails = fails_more (files.most n) (most n) (t.script n) (bound n) (h n free differs).fails; answer = (h n free differs).answer }
+
+  pub files_wider : (told now : Option Told) (Is : Told → RequestOutcome → Type 0) (ended : Ended) (counts later : PerName) → WhereTold told now (λ t u. FilesShow (Is t) files ended counts later t u)
+      → WhereTold told now (λ t u. FilesShow (Is t) (with_file p whole most files) ended counts later t u)
+  files_wider None now Is ended counts later h = tt
+  files_wider (Some t) None Is ended counts later h = absurd h
+  files_wider (Some t) (Some u) Is ended counts later h = record {
+    means = h.means;
+    others = h.others;
+    device = means_wider ended.cause counts later (Is t) ended t u h.device;
+    whole = whole_wider ended.cause counts later t h.whole;
+    reads = h.reads;
+  }
+
+  pub counts_wider : (cause : Cause) (parts : List Part) (old new : PerName) → CountsShow cause parts files old new → CountsShow cause parts (with_file p whole most files) old new
+  counts_wider cause parts old new h = record {
+    words = h.words;
+    others = λ n free. h.others n (or_rest (bytes_eq p n) (is_named files.opened n) (is_named files.created n) free);
+    reading = h.reading;
+    device = devices_wider cause old new h.device;
+    stopped = h.stopped;
+  }
+
+-- ---- a run, behind its program
+
+-- the files of a run are those of its sources and sinks, with the program in front
+run_files_of : (p : List ℕ) (options : RunOptions) (c : CheckedGraph) → is_plain options ≡ true → files_of (Some (R.Run p options)) c.parts ≡ with_file p (p ∷ []) (λ n. 1048576) (run_files c)
+run_files_of p options c plain =
+    let made = creates_sinks p options c.parts plain in
+    λ i. record { opened = p ∷ source_files c.parts; whole = p ∷ []; most = λ n. 1048576; rows = source_files c.parts; created = made i }
+
+none_named : (p n : List ℕ) → is_named [] n ≡ true → is_named (p ∷ []) n ≡ true
+none_named p n e = absurd (let bad : false ≡ true = e in cc)
+
+pub ran_files : (told now : Option Told) (request : Request) (p : List ℕ) (options : RunOptions) (c : CheckedGraph) (ended : Ended) (counts later : PerName) → request ≡ R.Run p options
+    → is_built request ≡ true → WhereTold told now (λ t u. FilesShow (IsRunOf c O.InTurn ended.arrivals t) (run_files c) ended counts later t u)
+    → WhereTold told now (λ t u. FilesShow (IsAcceptedOutcome request c ended.arrivals t) (files_of (Some request) c.parts) ended counts later t u)
+ran_files told now request p options c ended counts later e built h =
+    subst (λ (q : Request). WhereTold told now (λ t u. FilesShow (IsAcceptedOutcome q c ended.arrivals t) (files_of (Some q) c.parts) ended counts later t u)) (sym e)
+    (subst (λ (files : FilesOf). WhereTold told now (λ t u. FilesShow (IsRunOf c O.InTurn ended.arrivals t) files ended counts later t u))
+    (sym (run_files_of p options c (plain_run request p options e built)))
+    (files_wider p (p ∷ []) (λ n. 1048576) (run_files c) (none_named p) (λ n. omega arith) told now (λ t. IsRunOf c O.InTurn ended.arrivals t) ended counts later h))
+
 pub ran_counts : (request : Request) (p : List ℕ) (options : RunOptions) (c : CheckedGraph) (cause : Cause) (old new : PerName) → request ≡ R.Run p options → is_built request ≡ true
     → CountsShow cause c.parts (run_files c) old new → CountsShow cause c.parts (files_of (Some request) c.parts) old new
 ran_counts request p options c cause old new e built h =
     subst (λ (q : Request). CountsShow cause c.parts (files_of (Some q) c.parts) old new) (sym e)
-    (subst (λ (files : FilesOf). CountsShow cause c.parts files old new) (sym (run_files_of p options c (plain_run request p options e built))) (record {
-      words = h.words;
-      others = λ n named. h.others n (or_rest _ (is_named (source_files c.parts) n) (is_named (sink_files c.parts) n) named);
-      reading = h.reading;
-      device = devices_wider cause p c old new h.device;
-      stopped = h.stopped;
-    }))
+    (subst (λ (files : FilesOf). CountsShow cause c.parts files old new) (sym (run_files_of p options c (plain_run request p options e built)))
+    (counts_wider p (p ∷ []) (λ n. 1048576) (run_files c) (none_named p) (λ n. omega arith) cause c.parts old new h))
+
+-- ---- a replay, behind its program
+
+second_named : (p file n : List ℕ) → is_named (file ∷ []) n ≡ true → is_named (p ∷ file ∷ []) n ≡ true
+second_named p file n e = ap (λ (b : Bool). bytes_eq p n || b) e ∙ or_true (bytes_eq p n)
+
+abbrev record_bound : List ℕ → List ℕ → ℕ
+record_bound file n = if bytes_eq file n then 2 ^ 32 else 1048576
+
+pub replayed_files : (told now : Option Told) (request : Request) (p file : List ℕ) (c : CheckedGraph) (ended : Ended) (counts later : PerName) → request ≡ R.Replay p file
+    → WhereTold told now (λ t u. FilesShow (IsReplay t c file) (replay_files file c) ended counts later t u)
+    → WhereTold told now (λ t u. FilesShow (IsAcceptedOutcome request c ended.arrivals t) (files_of (Some request) c.parts) ended counts later t u)
+replayed_files told now request p file c ended counts later e h =
+    subst (λ (q : Request). WhereTold told now (λ t u. FilesShow (IsAcceptedOutcome q c ended.arrivals t) (files_of (Some q) c.parts) ended counts later t u)) (sym e)
+    (files_wider p (p ∷ file ∷ []) (record_bound file) (replay_files file c) (second_named p file) (λ n. omega arith) told now (λ t. IsReplay t c file) ended counts later h)
+
+pub replayed_counts : (request : Request) (p file : List ℕ) (c : CheckedGraph) (cause : Cause) (old new : PerName) → request ≡ R.Replay p file
+    → CountsShow cause c.parts (replay_files file c) old new → CountsShow cause c.parts (files_of (Some request) c.parts) old new
+replayed_counts request p file c cause old new e h =
+    subst (λ (q : Request). CountsShow cause c.parts (files_of (Some q) c.parts) old new) (sym e)
+    (counts_wider p (p ∷ file ∷ []) (record_bound file) (replay_files file c) (second_named p file) (λ n. omega arith) cause c.parts old new h)
+
+-- its text
+pub replayed_text : (told : Option Told) (request : Request) (p file : List ℕ) (c : CheckedGraph) (ended : Ended) (text : Result (List ℕ) NoMemory) (counts now : PerName) → request ≡ R.Replay p file
+    → IfOk text (IsText false ended.cause (ReplayComes c file ended.arrivals told counts now)) → IfOk text (IsText (wants_counts (Some request)) ended.cause (IsToldAcceptedOutcome request c ended.arrivals told counts now))
+replayed_text told request p file c ended text counts now e h = subst (λ (q : Request). IfOk text (IsText (wants_counts (Some q)) ended.cause (IsToldAcceptedOutcome q c ended.arrivals told counts now))) (sym e) h
 
 -- the text of a run
 pub ran_text : (told : Option Told) (request : Request) (p : List ℕ) (options : RunOptions) (c : CheckedGraph) (ended : Ended) (text : Result (List ℕ) NoMemory) (counts now : PerName) → request ≡ R.Run p options
-    → IfOk text (IsText options.counts ended.cause (RunComes c ended.arrivals told counts now)) → IfOk text (IsText (wants_counts (Some request)) ended.cause (IsToldAcceptedOutcome request c ended.arrivals told counts now))
+    → IfOk text (IsText options.counts ended.cause (RunComes c O.InTurn ended.arrivals told counts now)) → IfOk text (IsText (wants_counts (Some request)) ended.cause (IsToldAcceptedOutcome request c ended.arrivals told counts now))
 ran_text told request p options c ended text counts now e h = subst (λ (q : Request). IfOk text (IsText (wants_counts (Some q)) ended.cause (IsToldAcceptedOutcome q c ended.arrivals told counts now))) (sym e) h
+
+-- ---- the record that is followed
+
+pub follows_unless : (told : Option Told) (request : Request) (c : CheckedGraph) (ended : Ended) → is_replay (Some request) ≡ false → IfSome told (FollowsFile request c ended)
+follows_unless None request c ended other = tt
+follows_unless (Some t) (R.Check p) c ended other = tt
+follows_unless (Some t) (R.Plan p) c ended other = tt
+follows_unless (Some t) (R.Run p options) c ended other = tt
+follows_unless (Some t) (R.Replay p file) c ended other = absurd (let bad : true ≡ false = other in cc)
+follows_unless (Some t) (R.Simulate p width schedule steps) c ended other = tt
+follows_unless (Some t) (R.Make name rows start) c ended other = tt
+
+pub follows_replay : (told : Option Told) (request : Request) (p file : List ℕ) (c : CheckedGraph) (ended : Ended) → request ≡ R.Replay p file
+    → IfSome told (λ t. is_ended_run ended.cause ≡ true → Spells c (t.script file).bytes ended.arrivals) → IfSome told (FollowsFile request c ended)
+follows_replay None request p file c ended e h = tt
+follows_replay (Some t) request p file c ended e h = subst (λ (q : Request). FollowsFile q c ended t) (sym e) h
+
+-- ---- the record that is needed
+
+pub needs_unless : (told : Option Told) (request : Request) (ended : Ended) → is_replay (Some request) ≡ false → IfSome told (NeedsRecord (Some request) ended)
+needs_unless None request ended other = tt
+needs_unless (Some t) (R.Check p) ended other = tt
+needs_unless (Some t) (R.Plan p) ended other = tt
+needs_unless (Some t) (R.Run p options) ended other = tt
+needs_unless (Some t) (R.Replay p file) ended other = absurd (let bad : true ≡ false = other in cc)
+needs_unless (Some t) (R.Simulate p width schedule steps) ended other = tt
+needs_unless (Some t) (R.Make name rows start) ended other = tt
+
+with_program : (p file : List ℕ) (cause : Cause) → IsUnread (file ∷ []) cause → IsUnread (p ∷ file ∷ []) cause
+with_program p file cause (inl e) = inl e
+with_program p file cause (inr (name, named, e)) = inr (name, second_named p file name named, e)
+
+pub needs_replay : (told : Option Told) (request : Request) (p file : List ℕ) (ended : Ended) → request ≡ R.Replay p file → IfSome told (λ t. has_record_fault (t.script file) ≡ true → IsUnread (file ∷ []) ended.cause)
+    → IfSome told (NeedsRecord (Some request) ended)
+needs_replay None request p file ended e h = tt
+needs_replay (Some t) request p file ended e h = subst (λ (q : Request). NeedsRecord (Some q) ended t) (sym e) (λ fault. inr (with_program p file ended.cause (h fault)))
+
+-- ---- the causes that a run may have
+
+pub run_kinds : (request : Request) (p : List ℕ) (options : RunOptions) (cause : Cause) → request ≡ R.Run p options → is_bad_arrivals cause ≡ false → MayBe (Some request) cause
+run_kinds request p options cause e plain = subst (λ (q : Request). MayBe (Some q) cause) (sym e) (by cause plain)
+  where
+    by : (cause : Cause) → is_bad_arrivals cause ≡ false → MayBe (Some (R.Run p options)) cause
+    by C.Done plain = tt
+    by (C.Stopped fault) plain = refl
+    by C.NotBuilt plain = refl
+    by C.BadWords plain = tt
+    by (C.Refused refusal) plain = tt
+    by (C.BadArrivals op) plain = absurd (let bad : true ≡ false = plain in cc)
+    by (C.OpenFailed name) plain = tt
+    by (C.ReadFailed name) plain = tt
+    by (C.WriteFailed name) plain = tt
+    by C.NoMemory plain = tt
+
+pub replay_kinds : (request : Request) (p file : List ℕ) (cause : Cause) → request ≡ R.Replay p file → MayBe (Some request) cause
+replay_kinds request p file cause e = subst (λ (q : Request). MayBe (Some q) cause) (sym e) (by cause)
+  where
+    by : (cause : Cause) → MayBe (Some (R.Replay p file)) cause
+    by C.Done = tt
+    by (C.Stopped fault) = refl
+    by C.NotBuilt = refl
+    by C.BadWords = tt
+    by (C.Refused refusal) = tt
+    by (C.BadArrivals op) = refl
+    by (C.OpenFailed name) = tt
+    by (C.ReadFailed name) = tt
+    by (C.WriteFailed name) = tt
+    by C.NoMemory = tt

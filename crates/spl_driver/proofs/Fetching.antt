@@ -1,5 +1,5 @@
 -- A file read as a whole: what the counts and the script show of it.
-use Rattle.std.proofs.Common.{◌≡◌, ◌≢◌, ◌<◌, ◌≤◌, ℕ, List, [], ◌∷◌, length, Bool, true, false, refl, sym, ◌∙◌, ap, subst, arith, inl, inr, Option, Some, None, nat_le}
+use Rattle.std.proofs.Common.{◌≡◌, ◌≢◌, ◌<◌, ◌≤◌, ◌^◌, ℕ, List, [], ◌∷◌, length, Bool, true, false, refl, sym, ◌∙◌, ap, subst, arith, inl, inr, Option, Some, None, nat_le}
 use Rattle.std.specs.Prelude.{IfSome, ◌||◌, ◌&&◌}
 use Rattle.std.specs.Str.{bytes_eq}
 use Rattle.std.proofs.lemmas.Slice.Eq.{bytes_eq-Decides}
@@ -12,10 +12,10 @@ use Rattle.feed_pour.specs.declared.named.Fetched.TheVariants as F
 use Rattle.check_laws.specs.Files.{is_named}
 use Rattle.source_rows.specs.Counting.{OnlyRead, OnlyReads}
 use Rattle.source_rows.specs.Sources.{ReadsFail, is_failed}
-use Rattle.spl_driver.specs.Outcome.{has_fault, is_within}
+use Rattle.spl_driver.specs.Outcome.{fails_within}
 use Rattle.spl_driver.specs.Answer.{NoCountChanged, WholeFails}
 use Rattle.spl_driver.specs.Steps.{FirstOpening, FirstReading}
-use Rattle.spl_value.proofs.Bools.{and_right}
+use Rattle.spl_value.proofs.Bools.{and_left, and_right}
 use Rattle.spl_value.proofs.Lists.{same_or_not}
 
 -- ---- counts
@@ -89,57 +89,71 @@ named_one name n h = elim (same_or_not name n) as (λ _. name ≡ n) [
 
 -- ---- scripts
 
-within : (n : ℕ) → n ≤ 1048576 → nat_le n 1048576 ≡ true
-within n le = grind arith
+within : (n most : ℕ) → n ≤ most → nat_le n most ≡ true
+within n most le = grind arith
 
-beyond : (n : ℕ) → 1048576 < n → nat_le n 1048576 ≡ false
-beyond n lt = grind arith
+beyond : (n most : ℕ) → most < n → nat_le n most ≡ false
+beyond n most lt = grind arith
 
-pub is_short : (s : Script) (bytes : List ℕ) → FetchedOf s (F.Whole bytes) 1048576 → nat_le (length s.bytes) 1048576 ≡ true
-is_short s bytes h = ap (λ (x : Script). nat_le (length x.bytes) 1048576) h.0 ∙ within (length bytes) h.1
-
-pub is_long : (s : Script) → FetchedOf s F.TooLong 1048576 → nat_le (length s.bytes) 1048576 ≡ false
-is_long s h = beyond (length s.bytes) h
-
--- a whole file has no fault
-pub no_fault : (s : Script) (bytes : List ℕ) → FetchedOf s (F.Whole bytes) 1048576 → has_fault s ≡ false
-no_fault s bytes h = ap has_fault h.0 ∙ ap (λ (b : Bool). b && false) (within (length bytes) h.1)
+-- a whole file has no fault within the bound
+pub no_fault : (most : ℕ) (s : Script) (bytes : List ℕ) → FetchedOf s (F.Whole bytes) most → fails_within most s ≡ false
+no_fault most s bytes h = ap (fails_within most) h.0 ∙ ap (λ (b : Bool). b && false) (within (length bytes) most h.1)
 
 -- neither has one that is longer
-pub long_fault : (s : Script) → FetchedOf s F.TooLong 1048576 → has_fault s ≡ false
-long_fault s h = ap (λ (b : Bool). b && is_failed s.ending) (is_long s h)
+pub long_fault : (most : ℕ) (s : Script) → FetchedOf s F.TooLong most → fails_within most s ≡ false
+long_fault most s h = ap (λ (b : Bool). b && is_failed s.ending) (beyond (length s.bytes) most h)
+
+less_more : (n a b : ℕ) → a ≤ b → nat_le n a ≡ true → nat_le n b ≡ true
+less_more n a b le h = grind arith
+
+-- a reader that fails within so many bytes fails within more
+pub fails_more : (a b : ℕ) (s : Script) → a ≤ b → fails_within a s ≡ true → fails_within b s ≡ true
+fails_more a b s le h =
+    ap (λ (x : Bool). x && is_failed s.ending) (less_more (length s.bytes) a b le (and_left (nat_le (length s.bytes) a) (is_failed s.ending) h))
+    ∙ and_right (nat_le (length s.bytes) a) (is_failed s.ending) h
 
 -- ---- counts of reading that rise
 
-reads_by : (r : Fetched) (old new : Counts) (s : Script) → Counted (read_failed r) old.reading new.reading → FetchedOf s r 1048576
-    → new.reading ≢ old.reading → has_fault s ≡ true
-reads_by (F.Whole bytes) old new s counted h differs = absurd (differs counted)
-reads_by F.TooLong old new s counted h differs = absurd (differs counted)
-reads_by F.OpenFailed old new s counted h differs = absurd (differs counted)
-reads_by F.Memory old new s counted h differs = absurd (differs counted)
-reads_by F.ReadFailed old new s counted h differs =
-    ap (λ (b : Bool). b && is_failed s.ending) (within (length s.bytes) h.1) ∙ ap is_failed h.0
+reads_by : (most : ℕ) (r : Fetched) (old new : Counts) (s : Script) → Counted (read_failed r) old.reading new.reading → FetchedOf s r most
+    → new.reading ≢ old.reading → fails_within most s ≡ true
+reads_by most (F.Whole bytes) old new s counted h differs = absurd (differs counted)
+reads_by most F.TooLong old new s counted h differs = absurd (differs counted)
+reads_by most F.OpenFailed old new s counted h differs = absurd (differs counted)
+reads_by most F.Memory old new s counted h differs = absurd (differs counted)
+reads_by most F.ReadFailed old new s counted h differs =
+    ap (λ (b : Bool). b && is_failed s.ending) (within (length s.bytes) most h.1) ∙ ap is_failed h.0
 
-reads_at : (r : Fetched) (name : List ℕ) (old new : PerName) (t : Told) → FetchCounted r old new name → FetchedOf (t.script name) r 1048576
-    → WholeFails old new t
-reads_at r name old new t counted h n differs = elim (same_or_not n name) as (λ _. has_fault (t.script n) ≡ true) [
-  | inl e ↦ ap (λ (m : List ℕ). has_fault (t.script m)) e
-      ∙ reads_by r (old name) (new name) (t.script name) counted.reading h (subst (λ (m : List ℕ). (new m).reading ≢ (old m).reading) e differs)
+-- the reader of a file fails where its count of reading changes, and no other count of reading changes
+abbrev pub FetchFails : ℕ → List ℕ → PerName → PerName → Told → Type 0
+FetchFails most file old new t = (n : List ℕ) → (new n).reading ≢ (old n).reading → (n ≡ file) × (fails_within most (t.script n) ≡ true)
+
+reads_at : (most : ℕ) (r : Fetched) (name : List ℕ) (old new : PerName) (t : Told) → FetchCounted r old new name → FetchedOf (t.script name) r most → FetchFails most name old new t
+reads_at most r name old new t counted h n differs = elim (same_or_not n name) as (λ _. (n ≡ name) × (fails_within most (t.script n) ≡ true)) [
+  | inl e ↦ (
+    e,
+    ap (λ (m : List ℕ). fails_within most (t.script m)) e
+        ∙ reads_by most r (old name) (new name) (t.script name) counted.reading h (subst (λ (m : List ℕ). (new m).reading ≢ (old m).reading) e differs),
+  )
   | inr other ↦ absurd (differs (ap (λ (c : Counts). c.reading) (counted.others n other)))
 ]
 
 pub fetch_reads : (told : Option Told) (r : Fetched) (name : List ℕ) (old new : PerName) → FetchCounted r old new name
     → IfSome told (λ t. FetchedOf (t.script name) r 1048576) → IfSome told (WholeFails old new)
 fetch_reads None r name old new counted h = tt
-fetch_reads (Some t) r name old new counted h = reads_at r name old new t counted h
+fetch_reads (Some t) r name old new counted h = λ n differs. (reads_at 1048576 r name old new t counted h n differs).1
+
+pub fetch_fails : (told : Option Told) (r : Fetched) (name : List ℕ) (old new : PerName) → FetchCounted r old new name
+    → IfSome told (λ t. FetchedOf (t.script name) r (2 ^ 32)) → IfSome told (FetchFails (2 ^ 32) name old new)
+fetch_fails None r name old new counted h = tt
+fetch_fails (Some t) r name old new counted h = reads_at (2 ^ 32) r name old new t counted h
 
 -- a reader that fails within so many bytes fails
-failed_end : (s : Script) → has_fault s ≡ true → is_failed s.ending ≡ true
-failed_end s e = and_right (is_within s) (is_failed s.ending) e
+pub failed_within : (most : ℕ) (s : Script) → fails_within most s ≡ true → is_failed s.ending ≡ true
+failed_within most s e = and_right (nat_le (length s.bytes) most) (is_failed s.ending) e
 
 pub reads_whole : (told : Option Told) (old new : PerName) → IfSome told (WholeFails old new) → IfSome told (ReadsFail old new)
 reads_whole None old new h = tt
-reads_whole (Some t) old new h = λ n differs. failed_end (t.script n) (h n differs)
+reads_whole (Some t) old new h = λ n differs. failed_within 1048576 (t.script n) (h n differs)
 
 pub quiet_reads : (told : Option Told) (old new : PerName) → NoCountChanged old new → IfSome told (ReadsFail old new)
 quiet_reads None old new quiet = tt

@@ -3,6 +3,8 @@ mod SomeFlat
 mod OneAccepted
 mod SomeAccepted
 mod Stages
+pub mod Records
+pub mod Replaying
 pub mod Requests
 pub mod Telling
 pub mod Fetching
@@ -12,7 +14,9 @@ pub mod Showing
 pub mod Operators
 pub mod SinkLemmas
 pub mod Running
+pub mod Ordering
 pub mod Carrying
+pub mod Replays
 pub mod PlainAnswers
 pub mod Preparing
 pub mod Answering

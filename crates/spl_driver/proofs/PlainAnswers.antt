@@ -16,7 +16,7 @@ use Rattle.spl_driver.specs.Texts.{wants_counts, IsText, IsToldOutcome}
 use Rattle.spl_driver.specs.Steps.{AnswersRequest}
 use Rattle.spl_driver.specs.declared.answer.Answer.{Answer}
 use Rattle.spl_driver.specs.Answer.{IsOr}
-use Rattle.spl_driver.proofs.Showing.{IsPlainCause, or_ran, or_reason, plain_ran, quiet_shown}
+use Rattle.spl_driver.proofs.Showing.{IsPlainCause, plain_record, or_ran, or_reason, plain_ran, quiet_shown}
 use Rattle.spl_driver.proofs.Running.{or_text, plain_text}
 use Rattle.spl_driver.proofs.Standing.{built_words, not_built_answer, words_answer}
 use Rattle.spl_driver.proofs.Telling.{not_run}
@@ -37,7 +37,7 @@ plain_request told now request k answer counts later lent left is other plain re
 }
   where
     text_at : (text : Result (List ℕ) NoMemory) → IfOk text (λ l. l ≡ status_text None k) → IfOk text (IsText (wants_counts request) answer.ended.cause (IsToldOutcome request told answer.ended.arrivals counts later))
-    text_at (Ok l) e = plain_text (wants_counts request) answer.ended.cause k (IsToldOutcome request told answer.ended.arrivals counts later) l is other e
+    text_at (Ok l) e = plain_text (wants_counts request) answer.ended.cause k (IsToldOutcome request told answer.ended.arrivals counts later) l is other (plain_record k plain) e
     text_at (Err x) e = tt
 
 -- the answer of a cause, or of want of memory for its name, after which no count is shown by the words
@@ -47,7 +47,7 @@ pub named_request : (told now : Option Told) (request : Request) (k : Cause) (an
 named_request told now request k answer counts later lent left is other plain reason kind shown built text none given answered = record {
   answered = answered;
   shown = shown;
-  text = or_text (wants_counts (Some request)) k answer.ended.cause (IsToldOutcome (Some request) told answer.ended.arrivals counts later) answer.text is other text;
+  text = or_text (wants_counts (Some request)) k answer.ended.cause (IsToldOutcome (Some request) told answer.ended.arrivals counts later) answer.text is other (plain_record k plain) text;
   words = built_words request answer.ended.cause counts later built;
   kinds = kinds is;
   reason = or_reason k answer.ended.cause (Some request) is reason;
@@ -77,7 +77,7 @@ not_report : (request : Request) → is_built request ≡ false → is_report (S
 not_report (R.Check p) other = cc
 not_report (R.Run p options) other = refl
 not_report (R.Plan p) other = cc
-not_report (R.Replay p arrivals) other = refl
+not_report (R.Replay p arrivals) other = cc
 not_report (R.Simulate p width schedule steps) other = refl
 not_report (R.Make name rows start) other = refl
 

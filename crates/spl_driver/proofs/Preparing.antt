@@ -1,5 +1,5 @@
 -- A run up to its sinks.
-use Rattle.std.proofs.Common.{◌≡◌, ℕ, suc, arith, Bool, List, [], ◌∷◌, map, refl, sym, ap, ◌∙◌, slice_get, Option, Some, None}
+use Rattle.std.proofs.Common.{◌≡◌, ℕ, suc, arith, Bool, List, [], ◌∷◌, map, refl, sym, ap, subst, ◌∙◌, slice_get, Option, Some, None}
 use Rattle.std.specs.Prelude.{IfSome}
 use Rattle.std.specs.List.{All}
 use Rattle.spl_value.specs.declared.item.Fault.{Fault}
@@ -16,7 +16,7 @@ use Rattle.language_model.specs.CheckedGraph.{CheckedGraph}
 use Rattle.stream_model.specs.Arrivals.{entries_in, several}
 use Rattle.stream_model.specs.CheckedMeaning.{graph_of}
 use Rattle.stream_model.specs.Ends.{run_fault}
-use Rattle.stream_model.specs.Meaning.{Graph}
+use Rattle.stream_model.specs.Meaning.{Graph, Meaning, meaning}
 use Rattle.stream_model.specs.Operators.{Operator}
 use Rattle.stream_model.proofs.CheckedOperators.{operator_from}
 use Rattle.fault_laws.specs.RunFaults.{ReadFaultLaw}
@@ -24,11 +24,17 @@ use Rattle.list_engine.specs.declared.run.Run.{Run}
 use Rattle.list_engine.specs.RunLaws.{FaultsName, OrderedLaw, SourcesName}
 use Rattle.list_engine.specs.Runs.{AreWhole, RowsFit, SinksGiven, rows_at}
 use Rattle.row_reader.specs.Reading.{NamesOperator, is_read_failed, is_read_fault}
-use Rattle.source_rows.specs.Sources.{AreRows, SourcesOf}
+use Rattle.source_rows.specs.Sources.{AreRows, SourcesOf, rows_told}
 use Rattle.source_rows.specs.declared.sources.Sources.TheVariants as S
-use Rattle.spl_driver.specs.Outcome.{Runs, meant, run_outcome}
+use Rattle.list_engine.specs.declared.run_order.Order.{Order}
+use Rattle.list_engine.specs.declared.run_order.Order.TheVariants as O
+use Rattle.list_engine.specs.declared.run_order.RunAnswer.TheVariants as L
+use Rattle.list_engine.specs.RunOrders.{AreInOrder, IsFirstNotWhole, StopsRun}
+use Rattle.spl_driver.specs.Outcome.{RequestOutcome, NotBuilt, BadArrivals, Runs, IsUnder, meant, run_outcome}
+use Rattle.spl_driver.specs.Outcome as U
 use Rattle.spl_driver.specs.Answer.{SourceUnread, StoppedBy, cause_of}
-use Rattle.spl_driver.specs.Steps.{RanFor, ran}
+use Rattle.spl_driver.specs.Steps.{IsOrderOf, NotWholeFor, RanFor, RanIn, ran}
+use Rattle.spl_driver.proofs.Records.{same_record}
 
 -- the rows of the sources that were read
 pub rows_fit : (c : CheckedGraph) (rows : List (List Item)) (told : Option Told) (counts now : PerName) → SourcesOf (S.Rows rows) c told counts now → (g : Graph) → graph_of c ≡ g → RowsFit g rows
@@ -95,3 +101,47 @@ ran_for numbered law c rows run told counts now keeps are sinks fault lists whol
   told_rows = (are (graph_of c) refl).same;
   outcome = outcome_told told c;
 }
+
+-- ---- its order
+
+-- the meaning for the rows that the shelf tells
+told_meaning : (c : CheckedGraph) (rows : List (List Item)) (t : Told) (arrivals : Arrivals) → ((n : ℕ) → rows_at rows n ≡ rows_told (graph_of c) t n)
+    → meaning (graph_of c) (rows_at rows) (entries_in arrivals.lists) ≡ meant (graph_of c) t arrivals.lists
+told_meaning c rows t arrivals same = λ i. meaning (graph_of c) (λ n. same n i) (entries_in arrivals.lists)
+
+-- a run in an order has the record that is given, if one is
+pub ran_in : (order : Order) (c : CheckedGraph) (rows : List (List Item)) (run : Run) (told : Option Told) (counts now : PerName) → IsOrderOf c order → SourcesOf (S.Rows rows) c told counts now
+    → ((g : Graph) → graph_of c ≡ g → map (λ l. l.op) run.arrivals.lists ≡ several g) → ((g : Graph) → graph_of c ≡ g → AreWhole g (ran g rows run) (entries_in run.arrivals.lists))
+    → ((g : Graph) → graph_of c ≡ g → AreInOrder order g (ran g rows run) (entries_in run.arrivals.lists)) → RanIn c order run told
+ran_in O.InTurn c rows run told counts now is are lists whole ordered = record { given = λ given e. cc; outcome = by told }
+  where
+    by : (told : Option Told) → IfSome told (λ t. run_outcome c t run.arrivals ≡ run_outcome c t run.arrivals)
+    by None = tt
+    by (Some t) = refl
+ran_in (O.Recorded arrivals) c rows run told counts now is are lists whole ordered = record {
+  given = λ given e. same ∙ (let one : arrivals ≡ given = cc in one);
+  outcome = by told (are (graph_of c) refl).same;
+}
+  where
+    same : run.arrivals ≡ arrivals
+    same = same_record c run.arrivals arrivals (lists (graph_of c) refl) is (λ n op at many. ordered (graph_of c) refl n op at many)
+
+    by : (told : Option Told) → IfSome told (λ t. (n : ℕ) → rows_at rows n ≡ rows_told (graph_of c) t n) → IfSome told (λ t. IsUnder t c arrivals (run_outcome c t run.arrivals))
+    by None rows_are = tt
+    by (Some t) rows_are = subst (λ (a : Arrivals). IsUnder t c a (run_outcome c t run.arrivals)) same (U.whole (
+        subst (λ (m : Meaning). AreWhole (graph_of c) m (entries_in run.arrivals.lists)) (told_meaning c rows t run.arrivals rows_are) (whole (graph_of c) refl)))
+
+-- a record isn't whole
+pub not_whole : (order : Order) (c : CheckedGraph) (rows : List (List Item)) (op : ℕ) (told : Option Told) (counts now : PerName) → SourcesOf (S.Rows rows) c told counts now
+    → ((g : Graph) → graph_of c ≡ g → StopsRun (L.NotWhole op) order g (rows_at rows)) → NotWholeFor c order op told
+not_whole O.InTurn c rows op told counts now are stops = absurd (stops (graph_of c) refl)
+not_whole (O.Recorded arrivals) c rows op told counts now are stops = record {
+  recorded = λ e. cc;
+  bad = (graph_of c, rows, arrivals, refl, (are (graph_of c) refl).fit, stops (graph_of c) refl);
+  outcome = by told (are (graph_of c) refl).same;
+}
+  where
+    by : (told : Option Told) → IfSome told (λ t. (n : ℕ) → rows_at rows n ≡ rows_told (graph_of c) t n) → IfSome told (λ t. (own : Arrivals) → IsUnder t c arrivals (BadArrivals c (Some op)))
+    by None rows_are = tt
+    by (Some t) rows_are = λ own. U.partial op
+        (subst (λ (m : Meaning). IsFirstNotWhole (graph_of c) m (entries_in arrivals.lists) op) (told_meaning c rows t arrivals rows_are) (stops (graph_of c) refl))

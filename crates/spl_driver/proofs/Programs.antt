@@ -28,7 +28,7 @@ pub compiled_long : (told : Option Told) (program : List ℕ) (names : List (Lis
     → IfSome told (λ t. CompiledAt (P.Refused refusal) (t.script program) names)
 compiled_long None program names refusal law h is = tt
 compiled_long (Some t) program names refusal law h is =
-    (long_fault (t.script program) h, (Lexical TooLong 1048576, law (t.script program).bytes names h, is))
+    (long_fault 1048576 (t.script program) h, (Lexical TooLong 1048576, law (t.script program).bytes names h, is))
 
 -- a program of so many bytes is too long
 abbrev SomeRefused : List (List ℕ) → Refusal → Type 0
@@ -58,14 +58,14 @@ pub compiled_whole : (told : Option Told) (program bytes : List ℕ) (names : Li
     → IfSome told (λ t. CompiledAt (P.Checked c) (t.script program) names)
 compiled_whole None program bytes names c h is = tt
 compiled_whole (Some t) program bytes names c h is =
-    (no_fault (t.script program) bytes h, subst (λ (bs : List ℕ). IsAccepted bs names (Ok c)) (bytes_read (t.script program) bytes h) is)
+    (no_fault 1048576 (t.script program) bytes h, subst (λ (bs : List ℕ). IsAccepted bs names (Ok c)) (bytes_read (t.script program) bytes h) is)
 
 pub refused_whole : (told : Option Told) (program bytes : List ℕ) (names : List (List ℕ)) (refusal : Refusal)
     → IfSome told (λ t. FetchedOf (t.script program) (F.Whole bytes) 1048576) → IsCompiled bytes names (Err (N.Refused refusal))
     → IfSome told (λ t. CompiledAt (P.Refused refusal) (t.script program) names)
 refused_whole None program bytes names refusal h is = tt
 refused_whole (Some t) program bytes names refusal h (p, is, same) =
-    (no_fault (t.script program) bytes h, (p, subst (λ (bs : List ℕ). IsAccepted bs names (Err p)) (bytes_read (t.script program) bytes h) is, same))
+    (no_fault 1048576 (t.script program) bytes h, (p, subst (λ (bs : List ℕ). IsAccepted bs names (Err p)) (bytes_read (t.script program) bytes h) is, same))
 
 was_checked : (r : Result CheckedGraph CheckRefusal) (c : CheckedGraph) → refused_check r ≡ Ok c → r ≡ Ok c
 was_checked (Ok x) c e = let is : Ok x ≡ Ok c = e in cc

@@ -1,5 +1,5 @@
 -- The outcome of a request is one, and so are the operators of its program.
-use Rattle.std.proofs.Common.{◌≡◌, ◌∙◌, ℕ, Bool, true, false, List, [], refl, sym, ap, subst, Option, Some, None, Result, Ok, Err}
+use Rattle.std.proofs.Common.{◌≡◌, ◌∙◌, ℕ, Bool, true, false, List, [], refl, sym, ap, subst, inl, inr, ◌⊎◌, Option, Some, None, Result, Ok, Err}
 use Rattle.feed_pour.specs.Contents.{Told}
 use Rattle.language_model.specs.declared.checked.Part.{Part}
 use Rattle.language_model.specs.Accepted.{ProgramRefusal, IsAccepted}
@@ -9,24 +9,27 @@ use Rattle.run_report.specs.Refusals.{refusal_of}
 use Rattle.command_line.specs.declared.request.Request.{Request}
 use Rattle.command_line.specs.declared.request.Request.TheVariants as R
 use Rattle.command_line.specs.Request.{file_names}
-use Rattle.spl_driver.specs.AcceptedLaws.{OneAcceptedLaw, SomeAcceptedLaw}
+use Rattle.language_model.specs.Keeping.{Keeps}
+use Rattle.arrival_format.specs.FormatLaws.{OneRecordLaw}
+use Rattle.spl_driver.specs.AcceptedLaws.{KeptLaw, OneAcceptedLaw, SomeAcceptedLaw}
 use Rattle.spl_driver.specs.Built.{is_built}
 use Rattle.spl_driver.specs.Files.{program_of, parts_of}
-use Rattle.spl_driver.specs.Outcome.{RequestOutcome, NoRequest, Unreadable, Refused, NotBuilt, OfPlan, OfSize, Reports, has_fault, run_outcome, IsFound, IsOutcome, no_request, not_built, unreadable, refused, checks, plans, runs, ArePartsIn, of_no_request, of_no_program, of_unreadable, of_program}
+use Rattle.spl_driver.specs.Outcome.{RequestOutcome, NoRequest, Unreadable, Refused, NotBuilt, OfPlan, OfSize, Reports, BadArrivals, has_fault, has_record_fault, run_outcome, IsFound, IsOutcome, IsReplay, IsUnder, unread, misspelt, spelled, partial, whole, no_request, not_built, unreadable, refused, checks, plans, runs, replays, ArePartsIn, of_no_request, of_no_program, of_unreadable, of_program}
 use Rattle.spl_driver.specs.RequestLaws.{OneOutcomeLaw, SomeOutcomeLaw, OnePartsLaw, SomePartsLaw}
-use Rattle.spl_driver.specs.Steps.{accepted_outcome}
+use Rattle.spl_driver.specs.Steps.{IsAcceptedOutcome}
+use Rattle.spl_driver.proofs.Replaying.{one_replay, some_replay}
 
 -- ---- the outcome, question by question
 
 -- by what is found of the program
-abbrev pub found_outcome : Request → Told → Arrivals → Result CheckedGraph ProgramRefusal → RequestOutcome
-found_outcome request t arrivals (Err refusal) = Refused (refusal_of refusal)
-found_outcome request t arrivals (Ok c) = accepted_outcome request c t arrivals
+abbrev pub IsFoundOutcome : Request → Told → Arrivals → Result CheckedGraph ProgramRefusal → RequestOutcome → Type 0
+IsFoundOutcome request t arrivals (Err refusal) r = r ≡ Refused (refusal_of refusal)
+IsFoundOutcome request t arrivals (Ok c) r = IsAcceptedOutcome request c arrivals t r
 
 -- by whether its file has a fault
 abbrev OutcomeByFault : Bool → Request → List ℕ → List ℕ → Told → Arrivals → RequestOutcome → Type 0
 OutcomeByFault true request program bytes t arrivals r = r ≡ Unreadable program
-OutcomeByFault false request program bytes t arrivals r = (found : Result CheckedGraph ProgramRefusal) × IsAccepted bytes (file_names request) found × (r ≡ found_outcome request t arrivals found)
+OutcomeByFault false request program bytes t arrivals r = (found : Result CheckedGraph ProgramRefusal) × IsAccepted bytes (file_names request) found × IsFoundOutcome request t arrivals found r
 
 -- by the program's file
 abbrev OutcomeByFile : Option (List ℕ) → Request → Told → Arrivals → RequestOutcome → Type 0
@@ -47,11 +50,11 @@ at_program : (t : Told) (arrivals : Arrivals) (request : Request) (program : Lis
 at_program t arrivals request program r built of h =
     subst (λ (b : Bool). OutcomeByWords b request t arrivals r) (sym built) (subst (λ (p : Option (List ℕ)). OutcomeByFile p request t arrivals r) (sym of) h)
 
-at_found : (t : Told) (arrivals : Arrivals) (request : Request) (program : List ℕ) (found : Result CheckedGraph ProgramRefusal) → is_built request ≡ true → program_of request ≡ Some program
-    → IsFound t program (file_names request) found → OutcomeBy (Some request) t arrivals (found_outcome request t arrivals found)
-at_found t arrivals request program found built of h =
-    at_program t arrivals request program (found_outcome request t arrivals found) built of
-    (subst (λ (b : Bool). OutcomeByFault b request program (t.script program).bytes t arrivals (found_outcome request t arrivals found)) (sym h.read) (found, h.accepted, refl))
+at_found : (t : Told) (arrivals : Arrivals) (request : Request) (program : List ℕ) (found : Result CheckedGraph ProgramRefusal) (r : RequestOutcome) → is_built request ≡ true → program_of request ≡ Some program
+    → IsFound t program (file_names request) found → IsFoundOutcome request t arrivals found r → OutcomeBy (Some request) t arrivals r
+at_found t arrivals request program found r built of h is =
+    at_program t arrivals request program r built of
+    (subst (λ (b : Bool). OutcomeByFault b request program (t.script program).bytes t arrivals r) (sym h.read) (found, h.accepted, is))
 
 by_questions : (t : Told) (arrivals : Arrivals) (request : Option Request) (r : RequestOutcome) → IsOutcome t arrivals request r → OutcomeBy request t arrivals r
 by_questions t arrivals request r no_request = refl
@@ -59,10 +62,11 @@ by_questions t arrivals request r (not_built asked other) = subst (λ (b : Bool)
 by_questions t arrivals request r (unreadable asked program built of fault) =
     at_program t arrivals asked program (Unreadable program) built of
     (subst (λ (b : Bool). OutcomeByFault b asked program (t.script program).bytes t arrivals (Unreadable program)) (sym fault) refl)
-by_questions t arrivals request r (refused asked program refusal built of found) = at_found t arrivals asked program (Err refusal) built of found
-by_questions t arrivals request r (checks program c found) = at_found t arrivals (R.Check program) program (Ok c) refl refl found
-by_questions t arrivals request r (plans program c found) = at_found t arrivals (R.Plan program) program (Ok c) refl refl found
-by_questions t arrivals request r (runs program options c plain found) = at_found t arrivals (R.Run program options) program (Ok c) plain refl found
+by_questions t arrivals request r (refused asked program refusal built of found) = at_found t arrivals asked program (Err refusal) (Refused (refusal_of refusal)) built of found refl
+by_questions t arrivals request r (checks program c found) = at_found t arrivals (R.Check program) program (Ok c) (Reports OfSize c) refl refl found refl
+by_questions t arrivals request r (plans program c found) = at_found t arrivals (R.Plan program) program (Ok c) (Reports OfPlan c) refl refl found refl
+by_questions t arrivals request r (runs program options c plain found) = at_found t arrivals (R.Run program options) program (Ok c) (run_outcome c t arrivals) plain refl found refl
+by_questions t arrivals request r (replays program file c _ found is) = at_found t arrivals (R.Replay program file) program (Ok c) r refl refl found is
 
 -- ---- and back
 
@@ -70,23 +74,24 @@ same_program : (p program : List ℕ) → Some p ≡ Some program → program �
 same_program p program e = cc
 
 -- the outcome of an accepted program
-outcome_accepted : (t : Told) (arrivals : Arrivals) (request : Request) (program : List ℕ) (c : CheckedGraph) → is_built request ≡ true → program_of request ≡ Some program
-    → IsFound t program (file_names request) (Ok c) → IsOutcome t arrivals (Some request) (accepted_outcome request c t arrivals)
-outcome_accepted t arrivals (R.Check p) program c built of found =
-    checks p c (subst (λ (q : List ℕ). IsFound t q (file_names (R.Check p)) (Ok c)) (same_program p program of) found)
-outcome_accepted t arrivals (R.Run p options) program c built of found =
-    runs p options c built (subst (λ (q : List ℕ). IsFound t q (file_names (R.Run p options)) (Ok c)) (same_program p program of) found)
-outcome_accepted t arrivals (R.Plan p) program c built of found =
-    plans p c (subst (λ (q : List ℕ). IsFound t q (file_names (R.Plan p)) (Ok c)) (same_program p program of) found)
-outcome_accepted t arrivals (R.Replay p record_name) program c built of found = cc
-outcome_accepted t arrivals (R.Simulate p width schedule steps) program c built of found = cc
-outcome_accepted t arrivals (R.Make name rows start) program c built of found = cc
+outcome_accepted : (t : Told) (arrivals : Arrivals) (request : Request) (program : List ℕ) (c : CheckedGraph) (r : RequestOutcome) → is_built request ≡ true → program_of request ≡ Some program
+    → IsFound t program (file_names request) (Ok c) → IsAcceptedOutcome request c arrivals t r → IsOutcome t arrivals (Some request) r
+outcome_accepted t arrivals (R.Check p) program c r built of found is =
+    subst (IsOutcome t arrivals (Some (R.Check p))) (sym is) (checks p c (subst (λ (q : List ℕ). IsFound t q (file_names (R.Check p)) (Ok c)) (same_program p program of) found))
+outcome_accepted t arrivals (R.Run p options) program c r built of found is =
+    subst (IsOutcome t arrivals (Some (R.Run p options))) (sym is) (runs p options c built (subst (λ (q : List ℕ). IsFound t q (file_names (R.Run p options)) (Ok c)) (same_program p program of) found))
+outcome_accepted t arrivals (R.Plan p) program c r built of found is =
+    subst (IsOutcome t arrivals (Some (R.Plan p))) (sym is) (plans p c (subst (λ (q : List ℕ). IsFound t q (file_names (R.Plan p)) (Ok c)) (same_program p program of) found))
+outcome_accepted t arrivals (R.Replay p file) program c r built of found is =
+    replays p file c r (subst (λ (q : List ℕ). IsFound t q (file_names (R.Replay p file)) (Ok c)) (same_program p program of) found) is
+outcome_accepted t arrivals (R.Simulate p width schedule steps) program c r built of found is = cc
+outcome_accepted t arrivals (R.Make name rows start) program c r built of found is = cc
 
 -- the outcome by what is found of the program
-pub outcome_found : (t : Told) (arrivals : Arrivals) (request : Request) (program : List ℕ) (found : Result CheckedGraph ProgramRefusal) → is_built request ≡ true → program_of request ≡ Some program
-    → IsFound t program (file_names request) found → IsOutcome t arrivals (Some request) (found_outcome request t arrivals found)
-outcome_found t arrivals request program (Err refusal) built of found = refused request program refusal built of found
-outcome_found t arrivals request program (Ok c) built of found = outcome_accepted t arrivals request program c built of found
+pub outcome_found : (t : Told) (arrivals : Arrivals) (request : Request) (program : List ℕ) (found : Result CheckedGraph ProgramRefusal) (r : RequestOutcome) → is_built request ≡ true → program_of request ≡ Some program
+    → IsFound t program (file_names request) found → IsFoundOutcome request t arrivals found r → IsOutcome t arrivals (Some request) r
+outcome_found t arrivals request program (Err refusal) r built of found is = subst (IsOutcome t arrivals (Some request)) (sym is) (refused request program refusal built of found)
+outcome_found t arrivals request program (Ok c) r built of found is = outcome_accepted t arrivals request program c r built of found is
 
 -- a request that is built has a program
 has_program : (request : Request) → is_built request ≡ true → program_of request ≡ None → ⊥
@@ -105,7 +110,7 @@ from_questions t arrivals (Some request) r h = by_words (is_built request) refl 
         → OutcomeByFault b request program (t.script program).bytes t arrivals r → IsOutcome t arrivals (Some request) r
     by_fault program built of true fault e = subst (IsOutcome t arrivals (Some request)) (sym e) (unreadable request program built of fault)
     by_fault program built of false quiet (found, accepted, e) =
-        subst (IsOutcome t arrivals (Some request)) (sym e) (outcome_found t arrivals request program found built of (record { read = quiet; accepted = accepted }))
+        outcome_found t arrivals request program found r built of (record { read = quiet; accepted = accepted }) e
 
     by_file : is_built request ≡ true → (o : Option (List ℕ)) → program_of request ≡ o → OutcomeByFile o request t arrivals r → IsOutcome t arrivals (Some request) r
     by_file built None none h = absurd (has_program request built none)
@@ -117,78 +122,146 @@ from_questions t arrivals (Some request) r h = by_words (is_built request) refl 
 
 -- ---- one outcome
 
-one_by_fault : OneAcceptedLaw → (b : Bool) (request : Request) (program bytes : List ℕ) (t : Told) (arrivals : Arrivals) (r s : RequestOutcome)
+-- what is known of programs and of records
+record Laws : Type 0 where
+  pub one : OneAcceptedLaw
+  pub some : SomeAcceptedLaw
+  pub kept : KeptLaw
+  pub record_one : OneRecordLaw
+
+one_accepted_outcome : OneRecordLaw → (request : Request) (c : CheckedGraph) (arrivals : Arrivals) (t : Told) (r s : RequestOutcome) → Keeps c → IsAcceptedOutcome request c arrivals t r → IsAcceptedOutcome request c arrivals t s → r ≡ s
+one_accepted_outcome law (R.Check p) c arrivals t r s k e d = e ∙ sym d
+one_accepted_outcome law (R.Plan p) c arrivals t r s k e d = e ∙ sym d
+one_accepted_outcome law (R.Run p options) c arrivals t r s k e d = e ∙ sym d
+one_accepted_outcome law (R.Replay p file) c arrivals t r s k e d = one_replay law t c file r s k e d
+one_accepted_outcome law (R.Simulate p width schedule steps) c arrivals t r s k e d = e ∙ sym d
+one_accepted_outcome law (R.Make name rows start) c arrivals t r s k e d = e ∙ sym d
+
+one_found : Laws → (request : Request) (bytes : List ℕ) (t : Told) (arrivals : Arrivals) (found : Result CheckedGraph ProgramRefusal) (r s : RequestOutcome) → IsAccepted bytes (file_names request) found
+    → IsFoundOutcome request t arrivals found r → IsFoundOutcome request t arrivals found s → r ≡ s
+one_found laws request bytes t arrivals (Err refusal) r s is e d = e ∙ sym d
+one_found laws request bytes t arrivals (Ok c) r s is e d = one_accepted_outcome laws.record_one request c arrivals t r s (laws.kept bytes (file_names request) c is) e d
+
+one_by_fault : Laws → (b : Bool) (request : Request) (program bytes : List ℕ) (t : Told) (arrivals : Arrivals) (r s : RequestOutcome)
     → OutcomeByFault b request program bytes t arrivals r → OutcomeByFault b request program bytes t arrivals s → r ≡ s
-one_by_fault law true request program bytes t arrivals r s e d = e ∙ sym d
-one_by_fault law false request program bytes t arrivals r s (x, is, e) (y, has, d) =
-    e ∙ ap (found_outcome request t arrivals) (law bytes (file_names request) x y is has) ∙ sym d
+one_by_fault laws true request program bytes t arrivals r s e d = e ∙ sym d
+one_by_fault laws false request program bytes t arrivals r s (x, is, e) (y, has, d) =
+    one_found laws request bytes t arrivals x r s is e
+    (subst (λ (found : Result CheckedGraph ProgramRefusal). IsFoundOutcome request t arrivals found s) (laws.one bytes (file_names request) y x has is) d)
 
-one_by_file : OneAcceptedLaw → (program : Option (List ℕ)) (request : Request) (t : Told) (arrivals : Arrivals) (r s : RequestOutcome)
+one_by_file : Laws → (program : Option (List ℕ)) (request : Request) (t : Told) (arrivals : Arrivals) (r s : RequestOutcome)
     → OutcomeByFile program request t arrivals r → OutcomeByFile program request t arrivals s → r ≡ s
-one_by_file law None request t arrivals r s e d = e ∙ sym d
-one_by_file law (Some p) request t arrivals r s e d = one_by_fault law (has_fault (t.script p)) request p (t.script p).bytes t arrivals r s e d
+one_by_file laws None request t arrivals r s e d = e ∙ sym d
+one_by_file laws (Some p) request t arrivals r s e d = one_by_fault laws (has_fault (t.script p)) request p (t.script p).bytes t arrivals r s e d
 
-one_by_words : OneAcceptedLaw → (b : Bool) (request : Request) (t : Told) (arrivals : Arrivals) (r s : RequestOutcome)
+one_by_words : Laws → (b : Bool) (request : Request) (t : Told) (arrivals : Arrivals) (r s : RequestOutcome)
     → OutcomeByWords b request t arrivals r → OutcomeByWords b request t arrivals s → r ≡ s
-one_by_words law true request t arrivals r s e d = one_by_file law (program_of request) request t arrivals r s e d
-one_by_words law false request t arrivals r s e d = e ∙ sym d
+one_by_words laws true request t arrivals r s e d = one_by_file laws (program_of request) request t arrivals r s e d
+one_by_words laws false request t arrivals r s e d = e ∙ sym d
 
-one_by : OneAcceptedLaw → (request : Option Request) (t : Told) (arrivals : Arrivals) (r s : RequestOutcome) → OutcomeBy request t arrivals r → OutcomeBy request t arrivals s → r ≡ s
-one_by law None t arrivals r s e d = e ∙ sym d
-one_by law (Some request) t arrivals r s e d = one_by_words law (is_built request) request t arrivals r s e d
+one_by : Laws → (request : Option Request) (t : Told) (arrivals : Arrivals) (r s : RequestOutcome) → OutcomeBy request t arrivals r → OutcomeBy request t arrivals s → r ≡ s
+one_by laws None t arrivals r s e d = e ∙ sym d
+one_by laws (Some request) t arrivals r s e d = one_by_words laws (is_built request) request t arrivals r s e d
 
-pub one_outcome : OneAcceptedLaw → OneOutcomeLaw
-one_outcome law request t arrivals r s e d = one_by law request t arrivals r s (by_questions t arrivals request r e) (by_questions t arrivals request s d)
+pub one_outcome : OneAcceptedLaw → SomeAcceptedLaw → KeptLaw → OneRecordLaw → OneOutcomeLaw
+one_outcome one some kept law request t arrivals r s e d =
+    one_by (record { one = one; some = some; kept = kept; record_one = law }) request t arrivals r s (by_questions t arrivals request r e) (by_questions t arrivals request s d)
 
-some_by_fault : SomeAcceptedLaw → (b : Bool) (request : Request) (program bytes : List ℕ) (t : Told) (arrivals : Arrivals)
+-- what a program comes to that is accepted with this graph
+pub back_found : OneAcceptedLaw → (t : Told) (arrivals : Arrivals) (request : Request) (program : List ℕ) (c : CheckedGraph) (r : RequestOutcome) → is_built request ≡ true → program_of request ≡ Some program
+    → IsFound t program (file_names request) (Ok c) → IsOutcome t arrivals (Some request) r → IsAcceptedOutcome request c arrivals t r
+back_found one t arrivals request program c r built of found is =
+    let by = subst (λ (b : Bool). OutcomeByWords b request t arrivals r) built (by_questions t arrivals (Some request) r is) in
+    let at = subst (λ (o : Option (List ℕ)). OutcomeByFile o request t arrivals r) of by in
+    let x = subst (λ (b : Bool). OutcomeByFault b request program (t.script program).bytes t arrivals r) found.read at in
+    subst (λ (f : Result CheckedGraph ProgramRefusal). IsFoundOutcome request t arrivals f r) (one (t.script program).bytes (file_names request) x.0 (Ok c) x.1 found.accepted) x.2
+
+-- ---- some outcome
+
+some_accepted_outcome : (request : Request) (c : CheckedGraph) (arrivals : Arrivals) (t : Told) → Keeps c → ((r : RequestOutcome) → IsAcceptedOutcome request c arrivals t r → ⊥) → ⊥
+some_accepted_outcome (R.Check p) c arrivals t k none = none (Reports OfSize c) refl
+some_accepted_outcome (R.Plan p) c arrivals t k none = none (Reports OfPlan c) refl
+some_accepted_outcome (R.Run p options) c arrivals t k none = none (run_outcome c t arrivals) refl
+some_accepted_outcome (R.Replay p file) c arrivals t k none = some_replay t c file k none
+some_accepted_outcome (R.Simulate p width schedule steps) c arrivals t k none = none NotBuilt refl
+some_accepted_outcome (R.Make name rows start) c arrivals t k none = none NotBuilt refl
+
+some_found : KeptLaw → (request : Request) (bytes : List ℕ) (t : Told) (arrivals : Arrivals) (found : Result CheckedGraph ProgramRefusal) → IsAccepted bytes (file_names request) found
+    → ((r : RequestOutcome) → IsFoundOutcome request t arrivals found r → ⊥) → ⊥
+some_found kept request bytes t arrivals (Err refusal) is none = none (Refused (refusal_of refusal)) refl
+some_found kept request bytes t arrivals (Ok c) is none = some_accepted_outcome request c arrivals t (kept bytes (file_names request) c is) none
+
+some_by_fault : SomeAcceptedLaw → KeptLaw → (b : Bool) (request : Request) (program bytes : List ℕ) (t : Told) (arrivals : Arrivals)
     → ((r : RequestOutcome) → OutcomeByFault b request program bytes t arrivals r → ⊥) → ⊥
-some_by_fault law true request program bytes t arrivals none = none (Unreadable program) refl
-some_by_fault law false request program bytes t arrivals none = law bytes (file_names request) (λ x is. none (found_outcome request t arrivals x) (x, is, refl))
+some_by_fault law kept true request program bytes t arrivals none = none (Unreadable program) refl
+some_by_fault law kept false request program bytes t arrivals none =
+    law bytes (file_names request) (λ x is. some_found kept request bytes t arrivals x is (λ r h. none r (x, is, h)))
 
-some_by_file : SomeAcceptedLaw → (program : Option (List ℕ)) (request : Request) (t : Told) (arrivals : Arrivals)
+some_by_file : SomeAcceptedLaw → KeptLaw → (program : Option (List ℕ)) (request : Request) (t : Told) (arrivals : Arrivals)
     → ((r : RequestOutcome) → OutcomeByFile program request t arrivals r → ⊥) → ⊥
-some_by_file law None request t arrivals none = none NotBuilt refl
-some_by_file law (Some p) request t arrivals none = some_by_fault law (has_fault (t.script p)) request p (t.script p).bytes t arrivals none
+some_by_file law kept None request t arrivals none = none NotBuilt refl
+some_by_file law kept (Some p) request t arrivals none = some_by_fault law kept (has_fault (t.script p)) request p (t.script p).bytes t arrivals none
 
-some_by_words : SomeAcceptedLaw → (b : Bool) (request : Request) (t : Told) (arrivals : Arrivals)
+some_by_words : SomeAcceptedLaw → KeptLaw → (b : Bool) (request : Request) (t : Told) (arrivals : Arrivals)
     → ((r : RequestOutcome) → OutcomeByWords b request t arrivals r → ⊥) → ⊥
-some_by_words law true request t arrivals none = some_by_file law (program_of request) request t arrivals none
-some_by_words law false request t arrivals none = none NotBuilt refl
+some_by_words law kept true request t arrivals none = some_by_file law kept (program_of request) request t arrivals none
+some_by_words law kept false request t arrivals none = none NotBuilt refl
 
-some_by : SomeAcceptedLaw → (request : Option Request) (t : Told) (arrivals : Arrivals) → ((r : RequestOutcome) → OutcomeBy request t arrivals r → ⊥) → ⊥
-some_by law None t arrivals none = none NoRequest refl
-some_by law (Some request) t arrivals none = some_by_words law (is_built request) request t arrivals none
+some_by : SomeAcceptedLaw → KeptLaw → (request : Option Request) (t : Told) (arrivals : Arrivals) → ((r : RequestOutcome) → OutcomeBy request t arrivals r → ⊥) → ⊥
+some_by law kept None t arrivals none = none NoRequest refl
+some_by law kept (Some request) t arrivals none = some_by_words law kept (is_built request) request t arrivals none
 
-pub some_outcome : SomeAcceptedLaw → SomeOutcomeLaw
-some_outcome law request t arrivals none = some_by law request t arrivals (λ r h. none r (from_questions t arrivals request r h))
+pub some_outcome : SomeAcceptedLaw → KeptLaw → SomeOutcomeLaw
+some_outcome law kept request t arrivals none = some_by law kept request t arrivals (λ r h. none r (from_questions t arrivals request r h))
 
--- ---- a program that can't be read
+-- ---- a file that can't be read
 
 -- the program of a request, where it can't be read
-pub record IsUnreadable (t : Told) (request : Option Request) (program : List ℕ) : Type 0 where
+pub record ProgramUnread (t : Told) (request : Option Request) (file : List ℕ) : Type 0 where
   pub asked : Request
   pub is : request ≡ Some asked
   pub built : is_built asked ≡ true
-  pub of : program_of asked ≡ Some program
-  pub fault : has_fault (t.script program) ≡ true
+  pub of : program_of asked ≡ Some file
+  pub fault : has_fault (t.script file) ≡ true
 
-run_not_unread : (c : CheckedGraph) (t : Told) (arrivals : Arrivals) (program : List ℕ) → run_outcome c t arrivals ≡ Unreadable program → ⊥
-run_not_unread c t arrivals program e = cc
+-- the record of a replay
+pub record RecordUnread (t : Told) (request : Option Request) (file : List ℕ) : Type 0 where
+  pub program : List ℕ
+  pub is : request ≡ Some (R.Replay program file)
+  pub fault : has_record_fault (t.script file) ≡ true
 
-unread_at : (t : Told) (arrivals : Arrivals) (request : Option Request) (r : RequestOutcome) (program : List ℕ) → IsOutcome t arrivals request r → r ≡ Unreadable program → IsUnreadable t request program
-unread_at t arrivals request r program no_request e = absurd (let bad : NoRequest ≡ Unreadable program = e in cc)
-unread_at t arrivals request r program (not_built asked other) e = absurd (let bad : NotBuilt ≡ Unreadable program = e in cc)
-unread_at t arrivals request r program (unreadable asked file built of fault) e =
-    let is : Unreadable file ≡ Unreadable program = e in
-    let same : file ≡ program = cc in
-    subst (IsUnreadable t (Some asked)) same (record { asked = asked; is = refl; built = built; of = of; fault = fault })
-unread_at t arrivals request r program (refused asked file refusal built of found) e = absurd (let bad : Refused (refusal_of refusal) ≡ Unreadable program = e in cc)
-unread_at t arrivals request r program (checks file c found) e = absurd (let bad : Reports OfSize c ≡ Unreadable program = e in cc)
-unread_at t arrivals request r program (plans file c found) e = absurd (let bad : Reports OfPlan c ≡ Unreadable program = e in cc)
-unread_at t arrivals request r program (runs file options c plain found) e = absurd (run_not_unread c t arrivals program e)
+abbrev pub IsUnreadable : Told → Option Request → List ℕ → Type 0
+IsUnreadable t request file = ProgramUnread t request file ⊎ RecordUnread t request file
 
-pub unread : (t : Told) (arrivals : Arrivals) (request : Option Request) (program : List ℕ) → IsOutcome t arrivals request (Unreadable program) → IsUnreadable t request program
-unread t arrivals request program is = unread_at t arrivals request (Unreadable program) program is refl
+run_not_unread : (c : CheckedGraph) (t : Told) (arrivals : Arrivals) (file : List ℕ) → run_outcome c t arrivals ≡ Unreadable file → ⊥
+run_not_unread c t arrivals file e = cc
+
+under_unread : (t : Told) (c : CheckedGraph) (arrivals : Arrivals) (r : RequestOutcome) (file : List ℕ) → IsUnder t c arrivals r → r ≡ Unreadable file → ⊥
+under_unread t c arrivals r file (partial n first) e = let bad : BadArrivals c (Some n) ≡ Unreadable file = e in cc
+under_unread t c arrivals r file (whole all) e = run_not_unread c t arrivals file e
+
+replay_unread : (t : Told) (c : CheckedGraph) (record_file : List ℕ) (r : RequestOutcome) (file : List ℕ) → IsReplay t c record_file r → r ≡ Unreadable file → (record_file ≡ file) × (has_record_fault (t.script record_file) ≡ true)
+replay_unread t c record_file r file (unread fault) e = let is : Unreadable record_file ≡ Unreadable file = e in (cc, fault)
+replay_unread t c record_file r file (misspelt quiet none) e = absurd (let bad : BadArrivals c None ≡ Unreadable file = e in cc)
+replay_unread t c record_file r file (spelled a _ quiet has is) e = absurd (under_unread t c a r file is e)
+
+unread_at : (t : Told) (arrivals : Arrivals) (request : Option Request) (r : RequestOutcome) (file : List ℕ) → IsOutcome t arrivals request r → r ≡ Unreadable file → IsUnreadable t request file
+unread_at t arrivals request r file no_request e = absurd (let bad : NoRequest ≡ Unreadable file = e in cc)
+unread_at t arrivals request r file (not_built asked other) e = absurd (let bad : NotBuilt ≡ Unreadable file = e in cc)
+unread_at t arrivals request r file (unreadable asked program built of fault) e =
+    let is : Unreadable program ≡ Unreadable file = e in
+    let same : program ≡ file = cc in
+    inl (subst (ProgramUnread t (Some asked)) same (record { asked = asked; is = refl; built = built; of = of; fault = fault }))
+unread_at t arrivals request r file (refused asked program refusal built of found) e = absurd (let bad : Refused (refusal_of refusal) ≡ Unreadable file = e in cc)
+unread_at t arrivals request r file (checks program c found) e = absurd (let bad : Reports OfSize c ≡ Unreadable file = e in cc)
+unread_at t arrivals request r file (plans program c found) e = absurd (let bad : Reports OfPlan c ≡ Unreadable file = e in cc)
+unread_at t arrivals request r file (runs program options c plain found) e = absurd (run_not_unread c t arrivals file e)
+unread_at t arrivals request r file (replays program record_file c _ found is) e =
+    let both = replay_unread t c record_file r file is e in
+    inr (subst (RecordUnread t (Some (R.Replay program record_file))) both.0 (record { program = program; is = refl; fault = both.1 }))
+
+pub unread_by : (t : Told) (arrivals : Arrivals) (request : Option Request) (file : List ℕ) → IsOutcome t arrivals request (Unreadable file) → IsUnreadable t request file
+unread_by t arrivals request file is = unread_at t arrivals request (Unreadable file) file is refl
 
 -- ---- the operators of its program
 

@@ -36,11 +36,11 @@ use Rattle.source_rows.specs.Counting.{OnlyOf, OnlyReads, OpeningFailed}
 use Rattle.source_rows.specs.Sources.{ReadsFail, rows_told}
 use Rattle.list_engine.specs.Runs.{rows_at}
 use Rattle.spl_driver.specs.Files.{FilesOf}
-use Rattle.spl_driver.specs.Outcome.{RequestOutcome, NoRequest, Unreadable, Refused, NotBuilt, Reports, Runs, meant, run_outcome}
-use Rattle.spl_driver.specs.Answer.{EachSink, HoldsText, HoldsPrefix, HoldsUnlessFailed, SameFiles, CarriedOut, Begun, CauseMeans, CreatingFailed, DevicesMean, DevicesShow, Emptied, IsRecordOf, WritingFailed, WroteOthers, SourceUnread, StoppedBy, cause_of, counts_of, IsOr, IsRun}
+use Rattle.spl_driver.specs.Outcome.{RequestOutcome, NoRequest, Unreadable, Refused, NotBuilt, Reports, BadArrivals, Runs, meant, run_outcome}
+use Rattle.spl_driver.specs.Answer.{EachSink, HoldsText, HoldsPrefix, HoldsUnlessFailed, SameFiles, CarriedOut, Begun, CauseMeans, CreatingFailed, DevicesMean, DevicesShow, Emptied, IsRecordOf, WritingFailed, WroteOthers, SourceUnread, StoppedBy, WholeReads, cause_of, counts_of, is_bad_arrivals, is_ended_run, IsOr, IsRun}
 use Rattle.spl_driver.specs.Texts.{IsText, run_text}
 use Rattle.spl_driver.specs.Shown.{NothingRan, Ran, RanTo}
-use Rattle.spl_driver.specs.Steps.{RanFor, RanGraph, ReasonOf, ran, IsRunOf, RunComes, CountsShow, FilesShow, EndsAs, EndsBehind, EndsRun, RecordedBy, TellsBehind, TellsRun, run_files, sinks_of, sinks_from, counts_from}
+use Rattle.spl_driver.specs.Steps.{RanFor, RanGraph, ReasonOf, ran, IsRunAs, RunComesAs, CountsShow, FilesShow, EndsAs, EndsBehind, EndsRun, RecordedBy, TellsBehind, TellsRun, run_files, sinks_of, sinks_from, counts_from}
 use Rattle.spl_driver.specs.declared.answer.Answer.{Answer}
 use Rattle.spl_driver.specs.declared.ended.Ended.{Ended}
 use Rattle.spl_driver.proofs.Fetching.{read_same}
@@ -57,46 +57,37 @@ begun_same (Unreadable program) t u same = same
 begun_same (Refused refusal) t u same = same
 begun_same NotBuilt t u same = same
 begun_same (Reports report c) t u same = same
+begun_same (BadArrivals c op) t u same = same
 begun_same (Runs c g m) t u same = same_prefixes m t u g.ops same
 
 -- ---- where no sink was created
 
 -- all files are as they were
-pub same_files : (told now : Option Told) (c : CheckedGraph) (files : FilesOf) (cause : Cause) (ended : Ended) (counts later : PerName) → ended.cause ≡ cause
-    → WhereTold told now TellsSame → IfSome told (ReadsFail counts later)
-    → ((t u : Told) → told ≡ Some t → SameFiles t u → CauseMeans cause (IsRunOf c ended.arrivals t) ended t u)
-    → ((t u : Told) → SameFiles t u → DevicesMean cause files counts later ⊥ (IsRunOf c ended.arrivals t) ended t u)
-    → WhereTold told now (λ t u. FilesShow (IsRunOf c ended.arrivals t) files ended counts later t u)
-same_files None now c files cause ended counts later is same reads stands shows = tt
-same_files (Some t) None c files cause ended counts later is same reads stands shows = same
-same_files (Some t) (Some u) c files cause ended counts later is same reads stands shows = record {
-  means = subst (λ (k : Cause). CauseMeans k (IsRunOf c ended.arrivals t) ended t u) (sym is) (stands t u refl same.holds);
+pub same_files : (told now : Option Told) (Is : Told → RequestOutcome → Type 0) (files : FilesOf) (cause : Cause) (ended : Ended) (counts later : PerName) → ended.cause ≡ cause
+    → WhereTold told now TellsSame → IfSome told (ReadsFail counts later) → IfSome told (WholeReads cause files counts later)
+    → ((t u : Told) → told ≡ Some t → SameFiles t u → CauseMeans cause (Is t) ended t u)
+    → ((t u : Told) → SameFiles t u → DevicesMean cause files counts later ⊥ (Is t) ended t u)
+    → WhereTold told now (λ t u. FilesShow (Is t) files ended counts later t u)
+same_files None now Is files cause ended counts later is same reads whole stands shows = tt
+same_files (Some t) None Is files cause ended counts later is same reads whole stands shows = same
+same_files (Some t) (Some u) Is files cause ended counts later is same reads whole stands shows = record {
+  means = subst (λ (k : Cause). CauseMeans k (Is t) ended t u) (sym is) (stands t u refl same.holds);
   others = λ n named. same.holds n;
-  device = subst (λ (k : Cause). DevicesMean k files counts later ⊥ (IsRunOf c ended.arrivals t) ended t u) (sym is) (shows t u same.holds);
+  device = subst (λ (k : Cause). DevicesMean k files counts later ⊥ (Is t) ended t u) (sym is) (shows t u same.holds);
+  whole = subst (λ (k : Cause). WholeReads k files counts later t) (sym is) whole;
   reads = reads;
 }
 
-pub wanting_files : BegunSame → (told now : Option Told) (c : CheckedGraph) (files : FilesOf) (ended : Ended) (counts later : PerName) → ended.cause ≡ C.NoMemory
-    → WhereTold told now TellsSame → IfSome told (ReadsFail counts later)
-    → WhereTold told now (λ t u. FilesShow (IsRunOf c ended.arrivals t) files ended counts later t u)
-wanting_files begun told now c files ended counts later is same reads =
-    same_files told now c files C.NoMemory ended counts later is same reads (λ t u e held r comes. begun r t u held) (λ t u held. tt)
+-- nothing was read as a whole
+pub only_rows : (told : Option Told) (cause : Cause) (files : FilesOf) (counts later : PerName) → ((n : List ℕ) → is_named files.rows n ≡ false → (later n).reading ≡ (counts n).reading) → IfSome told (WholeReads cause files counts later)
+only_rows None cause files counts later same = tt
+only_rows (Some t) cause files counts later same = λ n free differs. absurd (differs (same n free))
 
--- a source couldn't be opened
-pub unopened_files : BegunSame → (told now : Option Told) (c : CheckedGraph) (files : FilesOf) (name : List ℕ) (ended : Ended) (counts later : PerName) → ended.cause ≡ C.OpenFailed name
-    → WhereTold told now TellsSame → IfSome told (ReadsFail counts later) → OpeningFailed files.opened name counts later
-    → WhereTold told now (λ t u. FilesShow (IsRunOf c ended.arrivals t) files ended counts later t u)
-unopened_files begun told now c files name ended counts later is same reads counted =
-    same_files told now c files (C.OpenFailed name) ended counts later is same reads (λ t u e held r comes. begun r t u held) (λ t u held. inl (counted, held))
-
-pub wanting_counts : (cause : Cause) (files : FilesOf) (old new : PerName) → cause ≡ C.NoMemory → OnlyOf files.rows old new → files.opened ≡ files.rows → (parts : List Part) → CountsShow cause parts files old new
-wanting_counts cause files old new is counted opened parts = record {
-  words = λ e. absurd (let h : C.NoMemory ≡ C.BadWords = sym is ∙ e in cc);
-  others = λ n named. counted n (ap (λ (ns : List (List ℕ)). is_named ns n) (sym opened) ∙ or_first (is_named files.opened n) (is_named files.created n) named);
-  reading = λ n named. ap (λ k. k.reading) (counted n named);
-  device = subst (λ (k : Cause). DevicesShow k files old new) (sym is) tt;
-  stopped = subst (λ (k : Cause). StoppedBy k parts old new) (sym is) tt;
-}
+pub wanting_files : BegunSame → (told now : Option Told) (Is : Told → RequestOutcome → Type 0) (files : FilesOf) (ended : Ended) (counts later : PerName) → ended.cause ≡ C.NoMemory
+    → WhereTold told now TellsSame → IfSome told (ReadsFail counts later) → OnlyOf files.rows counts later
+    → WhereTold told now (λ t u. FilesShow (Is t) files ended counts later t u)
+wanting_files begun told now Is files ended counts later is same reads only =
+    same_files told now Is files C.NoMemory ended counts later is same reads (only_rows told C.NoMemory files counts later (λ n free. ap (λ k. k.reading) (only n free))) (λ t u e held r comes. begun r t u held) (λ t u held. tt)
 
 not_named : (before behind : List (List ℕ)) (name n : List ℕ) → is_named (before ++ name ∷ behind) n ≡ false → (is_named before n ≡ false) × (n ≢ name)
 not_named before behind name n free =
@@ -104,19 +95,58 @@ not_named before behind name n free =
     let q = or_parts (bytes_eq name n) (is_named behind n) p.1 in
     (p.0, λ e. let same : bytes_eq name n ≡ true = ap (λ (m : List ℕ). bytes_eq name m) e ∙ same_name name in let bad : true ≡ false = sym same ∙ q.0 in cc)
 
+-- where a file couldn't be opened, nothing was counted of one that isn't opened
+unopened_others : (files : FilesOf) (name : List ℕ) (old new : PerName) → OpeningFailed files.opened name old new → (n : List ℕ) → is_named files.opened n ≡ false → new n ≡ old n
+unopened_others files name old new counted n free =
+    let p = not_named counted.before counted.behind name n (ap (λ (ns : List (List ℕ)). is_named ns n) (sym counted.order) ∙ free) in
+    counted.later n p.0 p.1
+
+unopened_rows : (files : FilesOf) (name : List ℕ) (old new : PerName) → OpeningFailed files.opened name old new → files.opened ≡ files.rows → (n : List ℕ) → is_named files.rows n ≡ false → (new n).reading ≡ (old n).reading
+unopened_rows files name old new counted opened n free =
+    ap (λ k. k.reading) (unopened_others files name old new counted n (ap (λ (ns : List (List ℕ)). is_named ns n) opened ∙ free))
+
+-- a source couldn't be opened
+pub unopened_files : BegunSame → (told now : Option Told) (Is : Told → RequestOutcome → Type 0) (files : FilesOf) (name : List ℕ) (ended : Ended) (counts later : PerName) → ended.cause ≡ C.OpenFailed name
+    → WhereTold told now TellsSame → IfSome told (ReadsFail counts later) → OpeningFailed files.opened name counts later → files.opened ≡ files.rows
+    → WhereTold told now (λ t u. FilesShow (Is t) files ended counts later t u)
+unopened_files begun told now Is files name ended counts later is same reads counted opened =
+    same_files told now Is files (C.OpenFailed name) ended counts later is same reads (only_rows told (C.OpenFailed name) files counts later (unopened_rows files name counts later counted opened))
+    (λ t u e held r comes. begun r t u held) (λ t u held. inl (counted, held))
+
+-- a record isn't whole
+pub partial_files : (told now : Option Told) (c : CheckedGraph) (Is : Told → RequestOutcome → Type 0) (op : Option ℕ) (files : FilesOf) (ended : Ended) (counts later : PerName) → ended.cause ≡ C.BadArrivals op
+    → WhereTold told now TellsSame → IfSome told (ReadsFail counts later) → OnlyReads files.rows counts later → IfSome told (λ t. Is t (BadArrivals c op))
+    → WhereTold told now (λ t u. FilesShow (Is t) files ended counts later t u)
+partial_files told now c Is op files ended counts later is same reads only comes =
+    same_files told now Is files (C.BadArrivals op) ended counts later is same reads (only_rows told (C.BadArrivals op) files counts later (λ n free. ap (λ k. k.reading) (only.others n free)))
+    (λ t u e held. ((c, subst (λ (o : Option Told). IfSome o (λ x. Is x (BadArrivals c op))) e comes), held)) (λ t u held. only)
+
+pub partial_counts : (cause : Cause) (op : Option ℕ) (files : FilesOf) (old new : PerName) → cause ≡ C.BadArrivals op → OnlyReads files.rows old new → files.opened ≡ files.rows → (parts : List Part) → CountsShow cause parts files old new
+partial_counts cause op files old new is only opened parts = record {
+  words = λ e. absurd (let h : C.BadArrivals op ≡ C.BadWords = sym is ∙ e in cc);
+  others = λ n named. only.others n (ap (λ (ns : List (List ℕ)). is_named ns n) (sym opened) ∙ or_first (is_named files.opened n) (is_named files.created n) named);
+  reading = λ n free differs. absurd (differs (ap (λ k. k.reading) (only.others n free)));
+  device = subst (λ (k : Cause). DevicesShow k files old new) (sym is) only;
+  stopped = subst (λ (k : Cause). StoppedBy k parts old new) (sym is) tt;
+}
+
+pub wanting_counts : (cause : Cause) (files : FilesOf) (old new : PerName) → cause ≡ C.NoMemory → OnlyOf files.rows old new → files.opened ≡ files.rows → (parts : List Part) → CountsShow cause parts files old new
+wanting_counts cause files old new is counted opened parts = record {
+  words = λ e. absurd (let h : C.NoMemory ≡ C.BadWords = sym is ∙ e in cc);
+  others = λ n named. counted n (ap (λ (ns : List (List ℕ)). is_named ns n) (sym opened) ∙ or_first (is_named files.opened n) (is_named files.created n) named);
+  reading = λ n named differs. absurd (differs (ap (λ k. k.reading) (counted n named)));
+  device = subst (λ (k : Cause). DevicesShow k files old new) (sym is) tt;
+  stopped = subst (λ (k : Cause). StoppedBy k parts old new) (sym is) tt;
+}
+
 pub unopened_counts : (cause : Cause) (files : FilesOf) (name : List ℕ) (old new : PerName) → cause ≡ C.OpenFailed name → OpeningFailed files.opened name old new → files.opened ≡ files.rows → (parts : List Part) → CountsShow cause parts files old new
 unopened_counts cause files name old new is counted opened parts = record {
   words = λ e. absurd (let h : C.OpenFailed name ≡ C.BadWords = sym is ∙ e in cc);
-  others = λ n named. unopened_others n (or_first (is_named files.opened n) (is_named files.created n) named);
-  reading = λ n named. ap (λ k. k.reading) (unopened_others n (ap (λ (ns : List (List ℕ)). is_named ns n) opened ∙ named));
+  others = λ n named. unopened_others files name old new counted n (or_first (is_named files.opened n) (is_named files.created n) named);
+  reading = λ n free differs. absurd (differs (unopened_rows files name old new counted opened n free));
   device = subst (λ (k : Cause). DevicesShow k files old new) (sym is) (inl counted);
   stopped = subst (λ (k : Cause). StoppedBy k parts old new) (sym is) tt;
 }
-  where
-    unopened_others : (n : List ℕ) → is_named files.opened n ≡ false → new n ≡ old n
-    unopened_others n free =
-        let p = not_named counted.before counted.behind name n (ap (λ (ns : List (List ℕ)). is_named ns n) (sym counted.order) ∙ free) in
-        counted.later n p.0 p.1
 
 -- ---- behind the sinks
 
@@ -130,7 +160,7 @@ runs_as None Is c g m ended t u is e h = inr (c, g, m, is, e, h)
 runs_as (Some fault) Is c g m ended t u is e h = (c, g, m, is, e, h)
 
 -- what a run comes to behind its sinks, and what stands then
-record Sunken (law : SinkLaw) (r : Sunk) (c : CheckedGraph) (run : Run) (ended : Ended) (before mid counts now : PerName) (t u : Told) : Type 0 where
+pub record Sunken (law : SinkLaw) (r : Sunk) (c : CheckedGraph) (run : Run) (ended : Ended) (before mid counts now : PerName) (t u : Told) : Type 0 where
   pub keeps : Keeps c
   pub made : RanFor c run (Some t) before mid
   pub written : SinksWritten r (sinks_of c) run.sinks counts now t u
@@ -144,7 +174,7 @@ module _ (law : SinkLaw) (r : Sunk) (c : CheckedGraph) (run : Run) (ended : Ende
   abbrev the_meaning : Meaning
   the_meaning = meant h.made.graph t ended.arrivals.lists
 
-  comes_of : IsRunOf c ended.arrivals t (Runs c the_graph the_meaning)
+  comes_of : IsRunAs c ended.arrivals t (Runs c the_graph the_meaning)
   comes_of = sym (h.made.outcome ended.arrivals)
 
   same_of : ran h.made.graph h.made.rows run ≡ the_meaning
@@ -155,7 +185,7 @@ module _ (law : SinkLaw) (r : Sunk) (c : CheckedGraph) (run : Run) (ended : Ende
       (subst (λ (a : Arrivals). IsRecordOf h.made.graph (ran h.made.graph h.made.rows run) a) (sym recorded) h.made.recorded)
 
   -- each file is as it was or holds a prefix of its text
-  begun_of : (result : RequestOutcome) → IsRunOf c ended.arrivals t result → Begun result t u
+  begun_of : (result : RequestOutcome) → IsRunAs c ended.arrivals t result → Begun result t u
   begun_of result e =
       subst (λ (o : RequestOutcome). Begun o t u) (comes_of ∙ sym e)
       (subst (λ (x : Meaning). EachSink (HoldsPrefix x t u) h.made.graph.ops) same_of
@@ -181,46 +211,46 @@ done_of law ns c run ended before mid counts now t u h is counted =
     }
 
 -- the sink that failed
-abbrev SinkAt : Sunk → List Sink → Type 0
+abbrev pub SinkAt : Sunk → List Sink → Type 0
 SinkAt (S.NotCreated place) sinks = (s : Sink) × (slice_get sinks place ≡ Some s)
 SinkAt (S.NotWritten place) sinks = (s : Sink) × (slice_get sinks place ≡ Some s)
 SinkAt (S.Done ns) sinks = Unit {0}
 SinkAt S.Memory sinks = Unit {0}
 
-sink_at : (r : Sunk) (sinks : List Sink) (old new : PerName) → SinksCounted r sinks old new → SinkAt r sinks
+pub sink_at : (r : Sunk) (sinks : List Sink) (old new : PerName) → SinksCounted r sinks old new → SinkAt r sinks
 sink_at (S.NotCreated place) sinks old new h = (h.cause.0, h.cause.1.sink)
 sink_at (S.NotWritten place) sinks old new h = (h.cause.0, h.cause.1.sink)
 sink_at (S.Done ns) sinks old new h = tt
 sink_at S.Memory sinks old new h = tt
 
-at_cause : (k : Cause) (Is : RequestOutcome → Type 0) (ended : Ended) (t u : Told) → ended.cause ≡ k → CauseMeans k Is ended t u → CauseMeans ended.cause Is ended t u
+pub at_cause : (k : Cause) (Is : RequestOutcome → Type 0) (ended : Ended) (t u : Told) → ended.cause ≡ k → CauseMeans k Is ended t u → CauseMeans ended.cause Is ended t u
 at_cause k Is ended t u is h = subst (λ (x : Cause). CauseMeans x Is ended t u) (sym is) h
 
--- where a file wasn't created
-begun_empty : (law : SinkLaw) (place : ℕ) (c : CheckedGraph) (run : Run) (ended : Ended) (before mid counts now : PerName) (t u : Told) → Sunken law (S.NotCreated place) c run ended before mid counts now t u
-    → (result : RequestOutcome) → IsRunOf c ended.arrivals t result → Begun result t u
-begun_empty law place c run ended before mid counts now t u h result e =
-    subst (λ (o : RequestOutcome). Begun o t u) (sym (h.made.outcome ended.arrivals) ∙ sym e)
-    (empty_prefixes c h.made.graph (meant h.made.graph t ended.arrivals.lists) place t u h.made.is h.written.holds)
+-- where a file wasn't created, whatever the record
+pub begun_empty : (law : SinkLaw) (place : ℕ) (c : CheckedGraph) (run : Run) (ended : Ended) (before mid counts now : PerName) (t u : Told) (arrivals : Arrivals) → Sunken law (S.NotCreated place) c run ended before mid counts now t u
+    → (result : RequestOutcome) → IsRunAs c arrivals t result → Begun result t u
+begun_empty law place c run ended before mid counts now t u arrivals h result e =
+    subst (λ (o : RequestOutcome). Begun o t u) (sym (h.made.outcome arrivals) ∙ sym e)
+    (empty_prefixes c h.made.graph (meant h.made.graph t arrivals.lists) place t u h.made.is h.written.holds)
 
 sunk_stands : (law : SinkLaw) (r : Sunk) (c : CheckedGraph) (run : Run) (ended : Ended) (before mid counts now : PerName) (t u : Told)
-    → Sunken law r c run ended before mid counts now t u → RecordedBy r ended run.arrivals → SinkAt r (sinks_of c) → EndsBehind r run.fault c (sinks_of c) ended → CauseMeans ended.cause (IsRunOf c ended.arrivals t) ended t u
+    → Sunken law r c run ended before mid counts now t u → RecordedBy r ended run.arrivals → SinkAt r (sinks_of c) → EndsBehind r run.fault c (sinks_of c) ended → CauseMeans ended.cause (IsRunAs c ended.arrivals t) ended t u
 sunk_stands law (S.Done ns) c run ended before mid counts now t u h rec at (inl (is, counts_are)) =
-    at_cause (cause_of run.fault) (IsRunOf c ended.arrivals t) ended t u is
-    (runs_as run.fault (IsRunOf c ended.arrivals t) c h.made.graph (meant h.made.graph t ended.arrivals.lists) ended t u (comes_of law (S.Done ns) c run ended before mid counts now t u h rec)
+    at_cause (cause_of run.fault) (IsRunAs c ended.arrivals t) ended t u is
+    (runs_as run.fault (IsRunAs c ended.arrivals t) c h.made.graph (meant h.made.graph t ended.arrivals.lists) ended t u (comes_of law (S.Done ns) c run ended before mid counts now t u h rec)
     (fault_is law (S.Done ns) c run ended before mid counts now t u h rec) (done_of law ns c run ended before mid counts now t u h rec counts_are))
-sunk_stands law (S.Done ns) c run ended before mid counts now t u h rec at (inr is) = at_cause C.NoMemory (IsRunOf c ended.arrivals t) ended t u is (begun_of law (S.Done ns) c run ended before mid counts now t u h rec)
+sunk_stands law (S.Done ns) c run ended before mid counts now t u h rec at (inr is) = at_cause C.NoMemory (IsRunAs c ended.arrivals t) ended t u is (begun_of law (S.Done ns) c run ended before mid counts now t u h rec)
 sunk_stands law (S.NotCreated place) c run ended before mid counts now t u h rec (s, at) ends = by (ends s at)
   where
-    by : IsOr (C.OpenFailed s.file) ended.cause → CauseMeans ended.cause (IsRunOf c ended.arrivals t) ended t u
-    by (inl is) = at_cause (C.OpenFailed s.file) (IsRunOf c ended.arrivals t) ended t u is (begun_empty law place c run ended before mid counts now t u h)
-    by (inr is) = at_cause C.NoMemory (IsRunOf c ended.arrivals t) ended t u is (begun_empty law place c run ended before mid counts now t u h)
+    by : IsOr (C.OpenFailed s.file) ended.cause → CauseMeans ended.cause (IsRunAs c ended.arrivals t) ended t u
+    by (inl is) = at_cause (C.OpenFailed s.file) (IsRunAs c ended.arrivals t) ended t u is (begun_empty law place c run ended before mid counts now t u ended.arrivals h)
+    by (inr is) = at_cause C.NoMemory (IsRunAs c ended.arrivals t) ended t u is (begun_empty law place c run ended before mid counts now t u ended.arrivals h)
 sunk_stands law (S.NotWritten place) c run ended before mid counts now t u h rec (s, at) ends = by (ends s at)
   where
-    by : IsOr (C.WriteFailed s.file) ended.cause → CauseMeans ended.cause (IsRunOf c ended.arrivals t) ended t u
-    by (inl is) = at_cause (C.WriteFailed s.file) (IsRunOf c ended.arrivals t) ended t u is (begun_of law (S.NotWritten place) c run ended before mid counts now t u h rec)
-    by (inr is) = at_cause C.NoMemory (IsRunOf c ended.arrivals t) ended t u is (begun_of law (S.NotWritten place) c run ended before mid counts now t u h rec)
-sunk_stands law S.Memory c run ended before mid counts now t u h rec at is = at_cause C.NoMemory (IsRunOf c ended.arrivals t) ended t u is (begun_of law S.Memory c run ended before mid counts now t u h rec)
+    by : IsOr (C.WriteFailed s.file) ended.cause → CauseMeans ended.cause (IsRunAs c ended.arrivals t) ended t u
+    by (inl is) = at_cause (C.WriteFailed s.file) (IsRunAs c ended.arrivals t) ended t u is (begun_of law (S.NotWritten place) c run ended before mid counts now t u h rec)
+    by (inr is) = at_cause C.NoMemory (IsRunAs c ended.arrivals t) ended t u is (begun_of law (S.NotWritten place) c run ended before mid counts now t u h rec)
+sunk_stands law S.Memory c run ended before mid counts now t u h rec at is = at_cause C.NoMemory (IsRunAs c ended.arrivals t) ended t u is (begun_of law S.Memory c run ended before mid counts now t u h rec)
 
 -- ---- which device failed
 
@@ -357,7 +387,7 @@ counts_behind r c fault ended old mid new names own reads h ends stopped = recor
   others = λ n named.
       let p = or_parts (is_named (source_files c.parts) n) (is_named (sink_files c.parts) n) named in
       h.others n (is_file_named c n ∙ p.1) ∙ reads.others n p.0;
-  reading = λ n free. h.reading n ∙ ap (λ k. k.reading) (reads.others n free);
+  reading = λ n free differs. absurd (differs (h.reading n ∙ ap (λ k. k.reading) (reads.others n free)));
   device = sunk_devices r c fault ended old mid new names own reads h ends;
   stopped = sunk_stopped r c fault ended old mid new h ends stopped;
 }
@@ -373,28 +403,28 @@ emptied c place t u h = record {
 
 sunk_means : (law : SinkLaw) (r : Sunk) (c : CheckedGraph) (run : Run) (ended : Ended) (counts between later : PerName) (t u : Told) (names : List (List ℕ))
     → OwnFiles names c.parts → OnlyReads (source_files c.parts) counts between → Sunken law r c run ended counts between counts later t u → RecordedBy r ended run.arrivals → SinksCounted r (sinks_of c) between later
-    → EndsBehind r run.fault c (sinks_of c) ended → DevicesMean ended.cause (run_files c) counts later ⊥ (IsRunOf c ended.arrivals t) ended t u
+    → EndsBehind r run.fault c (sinks_of c) ended → DevicesMean ended.cause (run_files c) counts later ⊥ (IsRunAs c ended.arrivals t) ended t u
 unfolding creating_failed
 sunk_means law (S.Done ns) c run ended counts between later t u names own reads h rec counted (inl (is, sinks)) =
-    subst (λ (k : Cause). DevicesMean k (run_files c) counts later ⊥ (IsRunOf c ended.arrivals t) ended t u) (sym is) (by run.fault)
+    subst (λ (k : Cause). DevicesMean k (run_files c) counts later ⊥ (IsRunAs c ended.arrivals t) ended t u) (sym is) (by run.fault)
   where
     only : OnlyReads (source_files c.parts) counts later
     only = record { others = λ n free. counted.cause n ∙ reads.others n free; reads = λ n. read_same (counts n) (between n) (later n) (reads.reads n) (counted.cause n) }
 
-    by : (fault : Option Fault) → DevicesMean (cause_of fault) (run_files c) counts later ⊥ (IsRunOf c ended.arrivals t) ended t u
+    by : (fault : Option Fault) → DevicesMean (cause_of fault) (run_files c) counts later ⊥ (IsRunAs c ended.arrivals t) ended t u
     by None = only
     by (Some f) = only
 sunk_means law (S.Done ns) c run ended counts between later t u names own reads h rec counted (inr is) =
-    subst (λ (k : Cause). DevicesMean k (run_files c) counts later ⊥ (IsRunOf c ended.arrivals t) ended t u) (sym is) tt
+    subst (λ (k : Cause). DevicesMean k (run_files c) counts later ⊥ (IsRunAs c ended.arrivals t) ended t u) (sym is) tt
 sunk_means law (S.NotCreated place) c run ended counts between later t u names own reads h rec counted ends = by (ends counted.cause.0 counted.cause.1.sink)
   where
-    by : IsOr (C.OpenFailed counted.cause.0.file) ended.cause → DevicesMean ended.cause (run_files c) counts later ⊥ (IsRunOf c ended.arrivals t) ended t u
-    by (inl is) = subst (λ (k : Cause). DevicesMean k (run_files c) counts later ⊥ (IsRunOf c ended.arrivals t) ended t u) (sym is)
+    by : IsOr (C.OpenFailed counted.cause.0.file) ended.cause → DevicesMean ended.cause (run_files c) counts later ⊥ (IsRunAs c ended.arrivals t) ended t u
+    by (inl is) = subst (λ (k : Cause). DevicesMean k (run_files c) counts later ⊥ (IsRunAs c ended.arrivals t) ended t u) (sym is)
         (inr (creating_failed c place counts between later counted.cause.0 reads counted.opening counted.cause.1, emptied c place t u h.written.holds))
-    by (inr is) = subst (λ (k : Cause). DevicesMean k (run_files c) counts later ⊥ (IsRunOf c ended.arrivals t) ended t u) (sym is) tt
+    by (inr is) = subst (λ (k : Cause). DevicesMean k (run_files c) counts later ⊥ (IsRunAs c ended.arrivals t) ended t u) (sym is) tt
 sunk_means law (S.NotWritten place) c run ended counts between later t u names own reads h rec counted ends = by (ends counted.cause.0 counted.cause.1.sink)
   where
-    others : WroteOthers (IsRunOf c ended.arrivals t) counts later ended u
+    others : WroteOthers (IsRunAs c ended.arrivals t) counts later ended u
     others = record {
       checked = c;
       graph = h.made.graph;
@@ -405,11 +435,11 @@ sunk_means law (S.NotWritten place) c run ended counts between later t u names o
       recorded = record_of law (S.NotWritten place) c run ended counts between counts later t u h rec;
     }
 
-    by : IsOr (C.WriteFailed counted.cause.0.file) ended.cause → DevicesMean ended.cause (run_files c) counts later ⊥ (IsRunOf c ended.arrivals t) ended t u
-    by (inl is) = subst (λ (k : Cause). DevicesMean k (run_files c) counts later ⊥ (IsRunOf c ended.arrivals t) ended t u) (sym is)
+    by : IsOr (C.WriteFailed counted.cause.0.file) ended.cause → DevicesMean ended.cause (run_files c) counts later ⊥ (IsRunAs c ended.arrivals t) ended t u
+    by (inl is) = subst (λ (k : Cause). DevicesMean k (run_files c) counts later ⊥ (IsRunAs c ended.arrivals t) ended t u) (sym is)
         (inl (writing_failed c place counts between later counted.cause.0 names own reads counted counted.cause.1, others))
-    by (inr is) = subst (λ (k : Cause). DevicesMean k (run_files c) counts later ⊥ (IsRunOf c ended.arrivals t) ended t u) (sym is) tt
-sunk_means law S.Memory c run ended counts between later t u names own reads h rec counted is = subst (λ (k : Cause). DevicesMean k (run_files c) counts later ⊥ (IsRunOf c ended.arrivals t) ended t u) (sym is) tt
+    by (inr is) = subst (λ (k : Cause). DevicesMean k (run_files c) counts later ⊥ (IsRunAs c ended.arrivals t) ended t u) (sym is) tt
+sunk_means law S.Memory c run ended counts between later t u names own reads h rec counted is = subst (λ (k : Cause). DevicesMean k (run_files c) counts later ⊥ (IsRunAs c ended.arrivals t) ended t u) (sym is) tt
 
 -- what the sinks' files hold, by the counts before the sources were read
 held_from : (r : Sunk) (c : CheckedGraph) (streams : List (List Item)) (counts between later : PerName) (t u : Told) (names : List (List ℕ)) → OwnFiles names c.parts
@@ -421,26 +451,34 @@ held_from (S.NotWritten place) c streams counts between later t u names own read
     subst (λ (x : Counts). Y.HoldsUnlessFailed (Y.sink_text streams s) x (later s.file) (u.holds s.file)) (reads.others s.file (sink_free c names own k d small)) (h k d small)
 held_from S.Memory c streams counts between later t u names own reads h = h
 
+pub sunken_of : (law : SinkLaw) (r : Sunk) (c : CheckedGraph) (run : Run) (ended : Ended) (counts between later : PerName) (t u : Told) (names : List (List ℕ)) → Keeps c → OwnFiles names c.parts → RanFor c run (Some t) counts between
+    → OnlyReads (source_files c.parts) counts between → SinksWritten r (sinks_of c) run.sinks between later t u → SinksCount r (sinks_of c) run.sinks → Sunken law r c run ended counts between counts later t u
+sunken_of law r c run ended counts between later t u names keeps own p reads w count = record {
+  keeps = keeps;
+  made = p;
+  written = record { holds = held_from r c run.sinks counts between later t u names own reads w.holds; others = w.others; scripts = w.scripts };
+  count = count;
+}
+
 files_behind : SinkLaw → (told mid now : Option Told) (r : Sunk) (c : CheckedGraph) (run : Run) (ended : Ended) (counts between later : PerName) (names : List (List ℕ)) → Keeps c
     → OwnFiles names c.parts → RanFor c run told counts between → WhereTold told mid TellsSame → IfSome told (ReadsFail counts between) → OnlyReads (source_files c.parts) counts between
     → WhereTold mid now (SinksWritten r (sinks_of c) run.sinks between later) → SinksCount r (sinks_of c) run.sinks → SinksCounted r (sinks_of c) between later
     → EndsBehind r run.fault c (sinks_of c) ended → RecordedBy r ended run.arrivals
-    → WhereTold told now (λ t u. FilesShow (IsRunOf c ended.arrivals t) (run_files c) ended counts later t u)
+    → WhereTold told now (λ t u. FilesShow (IsRunAs c ended.arrivals t) (run_files c) ended counts later t u)
 files_behind law None mid now r c run ended counts between later names keeps own p told failing reads h count counted ends recorded = tt
 files_behind law (Some t) None now r c run ended counts between later names keeps own p told failing reads h count counted ends recorded = absurd told
 files_behind law (Some t) (Some s) None r c run ended counts between later names keeps own p told failing reads h count counted ends recorded = absurd h
 files_behind law (Some t) (Some s) (Some u) r c run ended counts between later names keeps own p told failing reads h count counted ends recorded =
     go (subst (λ (x : Told). SinksWritten r (sinks_of c) run.sinks between later x u) (same_told t s told) h)
   where
-    go : SinksWritten r (sinks_of c) run.sinks between later t u → FilesShow (IsRunOf c ended.arrivals t) (run_files c) ended counts later t u
+    go : SinksWritten r (sinks_of c) run.sinks between later t u → FilesShow (IsRunAs c ended.arrivals t) (run_files c) ended counts later t u
     go w =
-        let from : SinksWritten r (sinks_of c) run.sinks counts later t u =
-        record { holds = held_from r c run.sinks counts between later t u names own reads w.holds; others = w.others; scripts = w.scripts } in
-        let sunken : Sunken law r c run ended counts between counts later t u = record { keeps = keeps; made = p; written = from; count = count } in
+        let sunken = sunken_of law r c run ended counts between later t u names keeps own p reads w count in
         record {
           means = sunk_stands law r c run ended counts between counts later t u sunken recorded (sink_at r (sinks_of c) between later counted) ends;
           others = λ n named. w.others n (is_file_named c n ∙ named);
           device = sunk_means law r c run ended counts between later t u names own reads sunken recorded counted ends;
+          whole = λ n free differs. absurd (differs (counted.reading n ∙ ap (λ k. k.reading) (reads.others n free)));
           reads = λ n differs. failing n (λ e. differs (counted.reading n ∙ e));
         }
 
@@ -455,7 +493,7 @@ pub sunk_files : SinkLaw → (told mid now : Option Told) (r : Sunk) (c : Checke
     → Keeps c → OwnFiles names c.parts → sinks ≡ sinks_of c → RanFor c run told counts between → WhereTold told mid TellsSame → IfSome told (ReadsFail counts between) → OnlyReads (source_files c.parts) counts between
     → WhereTold mid now (SinksWritten r sinks run.sinks between later) → SinksCount r sinks run.sinks → SinksCounted r sinks between later
     → EndsBehind r run.fault c sinks ended → RecordedBy r ended run.arrivals
-    → WhereTold told now (λ t u. FilesShow (IsRunOf c ended.arrivals t) (run_files c) ended counts later t u)
+    → WhereTold told now (λ t u. FilesShow (IsRunAs c ended.arrivals t) (run_files c) ended counts later t u)
 sunk_files law told mid now r c sinks run ended counts between later names keeps own e p same failing reads h count counted ends recorded =
     files_behind law told mid now r c run ended counts between later names keeps own p same failing reads
     (subst (λ (ss : List Sink). WhereTold mid now (SinksWritten r ss run.sinks between later)) e h) (subst (λ (ss : List Sink). SinksCount r ss run.sinks) e count)
@@ -509,14 +547,14 @@ ran_on told c run arrivals counts between later p is same = record {
 
 -- what the run comes to
 comes_for : (told : Option Told) (c : CheckedGraph) (run : Run) (arrivals : Arrivals) (counts between later : PerName) → arrivals ≡ run.arrivals → ((n : List ℕ) → (later n).reading ≡ (between n).reading)
-    → (p : RanFor c run told counts between) → RunComes c arrivals told counts later (Runs c p.graph (ran p.graph p.rows run))
+    → (p : RanFor c run told counts between) → RunComesAs c arrivals told counts later (Runs c p.graph (ran p.graph p.rows run))
 comes_for told c run arrivals counts between later is same p = ((p.graph, m, ran_on told c run arrivals counts between later p is same, refl), by told p.told_rows p.outcome)
   where
     m : Meaning
     m = ran p.graph p.rows run
 
     by : (told : Option Told) → IfSome told (λ t. (n : ℕ) → rows_at p.rows n ≡ rows_told p.graph t n)
-        → IfSome told (λ t. (a : Arrivals) → run_outcome c t a ≡ Runs c p.graph (meant p.graph t a.lists)) → IfSome told (λ t. IsRunOf c arrivals t (Runs c p.graph m))
+        → IfSome told (λ t. (a : Arrivals) → run_outcome c t a ≡ Runs c p.graph (meant p.graph t a.lists)) → IfSome told (λ t. IsRunAs c arrivals t (Runs c p.graph m))
     by None rows outcome = tt
     by (Some t) rows outcome = ap (λ (x : Meaning). Runs c p.graph x) (meaning_same p.graph p.rows t run arrivals is rows) ∙ sym (outcome arrivals)
 
@@ -534,39 +572,40 @@ text_of_fault counted (Some fault) Is c g m text is ends e = (Runs c g m, is, ap
 -- the text of a run that was carried out
 run_text_of : (law : SinkLaw) (counted : Bool) (told : Option Told) (c : CheckedGraph) (run : Run) (ns : List ℕ) (ended : Ended) (text : List ℕ) (counts between later : PerName) → Keeps c → SinksCount (S.Done ns) (sinks_of c) run.sinks
     → RanFor c run told counts between → ended.arrivals ≡ run.arrivals → ((n : List ℕ) → (later n).reading ≡ (between n).reading) → EndsAs run.fault (counts_from 0 c.parts ns) ended → TellsRun counted c ended text
-    → IsText counted ended.cause (RunComes c ended.arrivals told counts later) text
-run_text_of law counted told c run ns ended text counts between later keeps count p recorded same (inr is) tells = subst (λ (k : Cause). IsText counted k (RunComes c ended.arrivals told counts later) text) (sym is) tt
-run_text_of law counted told c run ns ended text counts between later keeps count p recorded same (inl ends) (inr wanting) = subst (λ (k : Cause). IsText counted k (RunComes c ended.arrivals told counts later) text) (sym wanting) tt
+    → IsText counted ended.cause (RunComesAs c ended.arrivals told counts later) text
+run_text_of law counted told c run ns ended text counts between later keeps count p recorded same (inr is) tells = subst (λ (k : Cause). IsText counted k (RunComesAs c ended.arrivals told counts later) text) (sym is) tt
+run_text_of law counted told c run ns ended text counts between later keeps count p recorded same (inl ends) (inr wanting) = subst (λ (k : Cause). IsText counted k (RunComesAs c ended.arrivals told counts later) text) (sym wanting) tt
 run_text_of law counted told c run ns ended text counts between later keeps count p recorded same (inl (is, sinks)) (inl e) =
     let comes = comes_for told c run ended.arrivals counts between later recorded same p in
     let m = ran p.graph p.rows run in
-    subst (λ (k : Cause). IsText counted k (RunComes c ended.arrivals told counts later) text) (sym is)
-    (text_of_fault counted run.fault (RunComes c ended.arrivals told counts later) c p.graph m text comes p.fault
+    subst (λ (k : Cause). IsText counted k (RunComesAs c ended.arrivals told counts later) text) (sym is)
+    (text_of_fault counted run.fault (RunComesAs c ended.arrivals told counts later) c p.graph m text comes p.fault
     (e ∙ ap (λ (k : Cause). run_text counted c ended.counts k) is ∙ ap (λ (ks : RunCounts). run_text counted c ks (cause_of run.fault)) (counted_as law ns told c run ended counts between p keeps count sinks)))
 
 -- the text of another cause
-pub plain_text : (counted : Bool) (cause k : Cause) (Is : RequestOutcome → Type 0) (text : List ℕ) → cause ≡ k → (IsRun k → ⊥) → text ≡ status_text None k → IsText counted cause Is text
-plain_text counted cause k Is text is other e = subst (λ (x : Cause). IsText counted x Is text) (sym is) (go k other e)
+pub plain_text : (counted : Bool) (cause k : Cause) (Is : RequestOutcome → Type 0) (text : List ℕ) → cause ≡ k → (IsRun k → ⊥) → is_bad_arrivals k ≡ false → text ≡ status_text None k → IsText counted cause Is text
+plain_text counted cause k Is text is other plain e = subst (λ (x : Cause). IsText counted x Is text) (sym is) (go k other plain e)
   where
-    go : (k : Cause) → (IsRun k → ⊥) → text ≡ status_text None k → IsText counted k Is text
-    go C.Done other e = absurd (other (None, refl))
-    go (C.Stopped fault) other e = absurd (other (Some fault, refl))
-    go C.NoMemory other e = tt
-    go C.BadWords other e = e
-    go (C.Refused refusal) other e = e
-    go C.NotBuilt other e = e
-    go (C.OpenFailed name) other e = e
-    go (C.ReadFailed name) other e = e
-    go (C.WriteFailed name) other e = e
+    go : (k : Cause) → (IsRun k → ⊥) → is_bad_arrivals k ≡ false → text ≡ status_text None k → IsText counted k Is text
+    go C.Done other plain e = absurd (other (None, refl))
+    go (C.Stopped fault) other plain e = absurd (other (Some fault, refl))
+    go C.NoMemory other plain e = tt
+    go C.BadWords other plain e = e
+    go (C.Refused refusal) other plain e = e
+    go C.NotBuilt other plain e = e
+    go (C.OpenFailed name) other plain e = e
+    go (C.ReadFailed name) other plain e = e
+    go (C.BadArrivals op) other plain e = cc
+    go (C.WriteFailed name) other plain e = e
 
 -- the text of a cause that is this one or want of memory
-or_text_of : (counted : Bool) (expected cause : Cause) (Is : RequestOutcome → Type 0) (text : List ℕ) → IsOr expected cause → (IsRun expected → ⊥) → text ≡ status_text None cause → IsText counted cause Is text
-or_text_of counted expected cause Is text (inl is) other e = plain_text counted cause expected Is text is other (e ∙ ap (status_text None) is)
-or_text_of counted expected cause Is text (inr is) other e = subst (λ (x : Cause). IsText counted x Is text) (sym is) tt
+or_text_of : (counted : Bool) (expected cause : Cause) (Is : RequestOutcome → Type 0) (text : List ℕ) → IsOr expected cause → (IsRun expected → ⊥) → is_bad_arrivals expected ≡ false → text ≡ status_text None cause → IsText counted cause Is text
+or_text_of counted expected cause Is text (inl is) other plain e = plain_text counted cause expected Is text is other plain (e ∙ ap (status_text None) is)
+or_text_of counted expected cause Is text (inr is) other plain e = subst (λ (x : Cause). IsText counted x Is text) (sym is) tt
 
-pub or_text : (counted : Bool) (expected cause : Cause) (Is : RequestOutcome → Type 0) (text : Result (List ℕ) NoMemory) → IsOr expected cause → (IsRun expected → ⊥) → IfOk text (λ l. l ≡ status_text None cause) → IfOk text (IsText counted cause Is)
-or_text counted expected cause Is (Ok text) is other e = or_text_of counted expected cause Is text is other e
-or_text counted expected cause Is (Err x) is other e = tt
+pub or_text : (counted : Bool) (expected cause : Cause) (Is : RequestOutcome → Type 0) (text : Result (List ℕ) NoMemory) → IsOr expected cause → (IsRun expected → ⊥) → is_bad_arrivals expected ≡ false → IfOk text (λ l. l ≡ status_text None cause) → IfOk text (IsText counted cause Is)
+or_text counted expected cause Is (Ok text) is other plain e = or_text_of counted expected cause Is text is other plain e
+or_text counted expected cause Is (Err x) is other plain e = tt
 
 open_not_run : (name : List ℕ) → IsRun (C.OpenFailed name) → ⊥
 open_not_run name (None, is) = cc
@@ -580,26 +619,33 @@ write_not_run name (Some fault, is) = cc
 module _ (law : SinkLaw) (counted : Bool) (told : Option Told) (c : CheckedGraph) (sinks : List Sink) (run : Run) (ended : Ended) (counts between later : PerName) (keeps : Keeps c) (are : sinks ≡ sinks_of c)
     (p : RanFor c run told counts between) (same : (n : List ℕ) → (later n).reading ≡ (between n).reading) where
   abbrev Comes : RequestOutcome → Type 0
-  Comes = RunComes c ended.arrivals told counts later
+  Comes = RunComesAs c ended.arrivals told counts later
 
   sunk_text_of : (r : Sunk) (text : List ℕ) → SinkAt r sinks → SinksCount r sinks run.sinks → RecordedBy r ended run.arrivals → EndsBehind r run.fault c sinks ended → TellsBehind r counted c ended text → IsText counted ended.cause Comes text
   sunk_text_of (S.Done ns) text at count recorded ends tells =
       run_text_of law counted told c run ns ended text counts between later keeps (subst (λ (ss : List Sink). SinksCount (S.Done ns) ss run.sinks) are count) p recorded same ends tells
-  sunk_text_of (S.NotCreated place) text (s, at) count recorded ends tells = or_text_of counted (C.OpenFailed s.file) ended.cause Comes text (ends s at) (open_not_run s.file) tells
-  sunk_text_of (S.NotWritten place) text (s, at) count recorded ends tells = or_text_of counted (C.WriteFailed s.file) ended.cause Comes text (ends s at) (write_not_run s.file) tells
+  sunk_text_of (S.NotCreated place) text (s, at) count recorded ends tells = or_text_of counted (C.OpenFailed s.file) ended.cause Comes text (ends s at) (open_not_run s.file) refl tells
+  sunk_text_of (S.NotWritten place) text (s, at) count recorded ends tells = or_text_of counted (C.WriteFailed s.file) ended.cause Comes text (ends s at) (write_not_run s.file) refl tells
   sunk_text_of S.Memory text at count recorded ends tells = subst (λ (x : Cause). IsText counted x Comes text) (sym ends) tt
 
 pub sunk_text : SinkLaw → (counted : Bool) (told : Option Told) (r : Sunk) (c : CheckedGraph) (sinks : List Sink) (run : Run) (ended : Ended) (text : Result (List ℕ) NoMemory) (counts between later : PerName) → Keeps c → sinks ≡ sinks_of c
     → RanFor c run told counts between → SinksCount r sinks run.sinks → SinksCounted r sinks between later → EndsBehind r run.fault c sinks ended → RecordedBy r ended run.arrivals → IfOk text (TellsBehind r counted c ended)
-    → IfOk text (IsText counted ended.cause (RunComes c ended.arrivals told counts later))
+    → IfOk text (IsText counted ended.cause (RunComesAs c ended.arrivals told counts later))
 sunk_text law counted told r c sinks run ended (Ok text) counts between later keeps are p count rose ends recorded tells =
     sunk_text_of law counted told c sinks run ended counts between later keeps are p rose.reading r text (sink_at r sinks between later rose) count recorded ends tells
 sunk_text law counted told r c sinks run ended (Err x) counts between later keeps are p count rose ends recorded tells = tt
 
 -- ---- what ran
 
+-- a cause that is this one is no bad record, and ends no run, as this one
+pub not_bad : (cause k : Cause) → cause ≡ k → is_bad_arrivals k ≡ false → is_bad_arrivals cause ≡ false
+not_bad cause k is e = ap is_bad_arrivals is ∙ e
+
+pub ends_at : (cause k : Cause) → cause ≡ k → is_ended_run k ≡ false → is_ended_run cause ≡ false
+ends_at cause k is e = ap is_ended_run is ∙ e
+
 -- a fact of each cause that a run may end with
-sunk_each : (P : Cause → Type 0) → ((fault : Option Fault) → P (cause_of fault)) → ((name : List ℕ) → P (C.OpenFailed name)) → ((name : List ℕ) → P (C.WriteFailed name)) → P C.NoMemory
+pub sunk_each : (P : Cause → Type 0) → ((fault : Option Fault) → P (cause_of fault)) → ((name : List ℕ) → P (C.OpenFailed name)) → ((name : List ℕ) → P (C.WriteFailed name)) → P C.NoMemory
     → (r : Sunk) (c : CheckedGraph) (fault : Option Fault) (sinks : List Sink) (ended : Ended) → SinkAt r sinks → EndsBehind r fault c sinks ended → P ended.cause
 sunk_each P done opened written wanting (S.Done ns) c fault sinks ended at (inl (is, counts)) = subst P (sym is) (done fault)
 sunk_each P done opened written wanting (S.Done ns) c fault sinks ended at (inr is) = subst P (sym is) wanting

@@ -1,5 +1,5 @@
 -- What an answer shows at every shelf: of the counts, of the program and of its run.
-use Rattle.std.proofs.Common.{◌≡◌, ◌≢◌, ◌∙◌, ℕ, true, List, [], refl, sym, ap, subst, inl, inr, ◌⊎◌, Option, Some, None}
+use Rattle.std.proofs.Common.{◌≡◌, ◌≢◌, ◌∙◌, ℕ, true, false, List, [], refl, sym, ap, subst, inl, inr, ◌⊎◌, Option, Some, None}
 use Rattle.spl_value.specs.declared.item.Fault.{Fault}
 use Rattle.feed_pour.specs.Counts.{Counts, PerName}
 use Rattle.language_model.specs.declared.checked.Part.{Part}
@@ -10,7 +10,7 @@ use Rattle.command_line.specs.declared.request.Request.{Request}
 use Rattle.command_line.specs.declared.request.Request.TheVariants as R
 use Rattle.command_line.specs.declared.request.RunOptions.{RunOptions}
 use Rattle.source_rows.specs.Counting.{OnlyReads}
-use Rattle.spl_driver.specs.Answer.{DevicesShow, IsRun, OUT, NoCountChanged, cause_of, is_report}
+use Rattle.spl_driver.specs.Answer.{DevicesShow, IsRun, OUT, NoCountChanged, cause_of, is_bad_arrivals, is_report}
 use Rattle.spl_driver.specs.Built.{is_built}
 use Rattle.spl_driver.specs.Files.{FilesOf, files_of, program_of, row_files}
 use Rattle.spl_driver.specs.Texts.{ToldAs}
@@ -31,6 +31,7 @@ quiet_shows (C.Stopped fault) files old new is quiet = quiet_only files.rows old
 quiet_shows C.NotBuilt files old new is quiet = quiet
 quiet_shows C.BadWords files old new is quiet = quiet
 quiet_shows (C.Refused refusal) files old new is quiet = quiet
+quiet_shows (C.BadArrivals op) files old new is quiet = quiet_only files.rows old new quiet
 quiet_shows C.NoMemory files old new is quiet = tt
 quiet_shows (C.OpenFailed name) files old new is quiet = absurd is
 quiet_shows (C.ReadFailed name) files old new is quiet = absurd is
@@ -96,6 +97,7 @@ shown_of C.BadWords request old new Text other h = absurd (other refl)
 shown_of (C.Refused refusal) request old new Text other h = h
 shown_of (C.OpenFailed name) request old new Text other h = h
 shown_of (C.ReadFailed name) request old new Text other h = h
+shown_of (C.BadArrivals op) request old new Text other h = h
 shown_of (C.WriteFailed name) request old new Text other h = inl h
 shown_of C.NoMemory request old new Text other h = h
 
@@ -108,7 +110,7 @@ shown_after cause request c old mid new Text program quiet h =
       device = h.device;
       stopped = h.stopped;
       others = h.others;
-      reading = λ n free differs. absurd (differs (h.reading n free));
+      reading = h.reading;
     }))
 
 -- ---- once the text is told
@@ -136,6 +138,7 @@ wanting_shown C.BadWords request counts later Text h = quiet_shown C.NoMemory re
 wanting_shown (C.Refused refusal) request counts later Text h = wanting_by (C.Refused refusal) request counts later h
 wanting_shown (C.OpenFailed name) request counts later Text h = wanting_by (C.OpenFailed name) request counts later h
 wanting_shown (C.ReadFailed name) request counts later Text h = wanting_by (C.ReadFailed name) request counts later h
+wanting_shown (C.BadArrivals op) request counts later Text h = wanting_by (C.BadArrivals op) request counts later h
 wanting_shown (C.WriteFailed name) request counts later Text (inl h) = wanting_by (C.WriteFailed name) request counts later h
 wanting_shown (C.WriteFailed name) request counts later Text (inr h) = absurd h.failed
 wanting_shown C.NoMemory request counts later Text h = h
@@ -148,6 +151,7 @@ shown_text (C.Refused refusal) request counts later Text h = h
 shown_text C.NotBuilt request counts later Text h = h
 shown_text (C.OpenFailed name) request counts later Text h = h
 shown_text (C.ReadFailed name) request counts later Text h = h
+shown_text (C.BadArrivals op) request counts later Text h = h
 shown_text (C.WriteFailed name) request counts later Text (inl h) = inl h
 shown_text (C.WriteFailed name) request counts later Text (inr h) = absurd h.failed
 shown_text C.NoMemory request counts later Text h = h
@@ -173,6 +177,7 @@ reason_of (C.Stopped fault) request c program h = tt
 reason_of C.BadWords request c program h = tt
 reason_of (C.OpenFailed name) request c program h = tt
 reason_of (C.ReadFailed name) request c program h = tt
+reason_of (C.BadArrivals op) request c program h = (c, program, h)
 reason_of (C.WriteFailed name) request c program h = tt
 reason_of C.NoMemory request c program h = tt
 
@@ -196,6 +201,7 @@ run_map C.BadWords P Q A B ended counts now to check none = none
 run_map (C.Refused refusal) P Q A B ended counts now to check none = none
 run_map C.NotBuilt P Q A B ended counts now to check none = none
 run_map (C.ReadFailed name) P Q A B ended counts now to check none = none
+run_map (C.BadArrivals op) P Q A B ended counts now to check none = none
 
 -- a request of which nothing ran
 abbrev pub IsPlainCause : Cause → Type 0
@@ -208,6 +214,7 @@ IsPlainCause (C.Refused refusal) = Unit {0}
 IsPlainCause C.NoMemory = Unit {0}
 IsPlainCause (C.OpenFailed name) = Unit {0}
 IsPlainCause (C.ReadFailed name) = Unit {0}
+IsPlainCause (C.BadArrivals op) = ⊥
 
 pub plain_ran : (cause : Cause) (Program : CheckedGraph → Type 0) (Check : Type 0) (ended : Ended) (counts now : PerName) → IsPlainCause cause → NothingRan ended → RunShown cause Program Check ended counts now
 plain_ran C.Done Program Check ended counts now is none = absurd is
@@ -219,6 +226,24 @@ plain_ran (C.Refused refusal) Program Check ended counts now is none = none
 plain_ran C.NoMemory Program Check ended counts now is none = inl none.lists
 plain_ran (C.OpenFailed name) Program Check ended counts now is none = none
 plain_ran (C.ReadFailed name) Program Check ended counts now is none = none
+plain_ran (C.BadArrivals op) Program Check ended counts now is none = absurd is
+
+-- none of these is a bad record
+pub plain_record : (cause : Cause) → IsPlainCause cause → is_bad_arrivals cause ≡ false
+plain_record C.Done is = absurd is
+plain_record (C.Stopped fault) is = absurd is
+plain_record (C.WriteFailed name) is = absurd is
+plain_record (C.BadArrivals op) is = absurd is
+plain_record C.NotBuilt is = refl
+plain_record C.BadWords is = refl
+plain_record (C.Refused refusal) is = refl
+plain_record C.NoMemory is = refl
+plain_record (C.OpenFailed name) is = refl
+plain_record (C.ReadFailed name) is = refl
+
+-- nothing ran under one either
+pub bad_ran : (cause : Cause) (op : Option ℕ) (Program : CheckedGraph → Type 0) (Check : Type 0) (ended : Ended) (counts now : PerName) → cause ≡ C.BadArrivals op → NothingRan ended → RunShown cause Program Check ended counts now
+bad_ran cause op Program Check ended counts now is none = subst (λ (k : Cause). RunShown k Program Check ended counts now) (sym is) none
 
 -- of an answer with such a cause
 pub at_plain : (cause k : Cause) (Program : CheckedGraph → Type 0) (Check : Type 0) (ended : Ended) (counts now : PerName) → cause ≡ k → IsPlainCause k → NothingRan ended → RunShown cause Program Check ended counts now
@@ -241,6 +266,10 @@ report_ran cause request c ended counts now alone is none =
 pub graph_ran : (cause : Cause) (request : Request) (p : List ℕ) (options : RunOptions) (c : CheckedGraph) (ended : Ended) (counts now : PerName) → request ≡ R.Run p options → RanGraph cause c ended counts now
     → RanAccepted cause request c ended counts now
 graph_ran cause request p options c ended counts now e h =
+    run_map cause (λ x. x ≡ c) (IsRunGraph request c) ⊥ (is_report (Some request) ≡ true) ended counts now (λ x is. (ap (λ (q : Request). is_report (Some q)) e, is)) (λ never. absurd never) h
+
+pub replay_ran : (cause : Cause) (request : Request) (p file : List ℕ) (c : CheckedGraph) (ended : Ended) (counts now : PerName) → request ≡ R.Replay p file → RanGraph cause c ended counts now → RanAccepted cause request c ended counts now
+replay_ran cause request p file c ended counts now e h =
     run_map cause (λ x. x ≡ c) (IsRunGraph request c) ⊥ (is_report (Some request) ≡ true) ended counts now (λ x is. (ap (λ (q : Request). is_report (Some q)) e, is)) (λ never. absurd never) h
 
 -- the request ran its program
@@ -272,6 +301,7 @@ run_same C.BadWords Program Check ended r status counts now none = none_same end
 run_same (C.Refused refusal) Program Check ended r status counts now none = none_same ended r status none
 run_same C.NotBuilt Program Check ended r status counts now none = none_same ended r status none
 run_same (C.ReadFailed name) Program Check ended r status counts now none = none_same ended r status none
+run_same (C.BadArrivals op) Program Check ended r status counts now none = none_same ended r status none
 
 -- memory was wanting behind it
 run_wanting : (cause : Cause) (Program : CheckedGraph → Type 0) (Check : Type 0) (ended : Ended) (counts now : PerName) → RunShown cause Program Check ended counts now → (ended.arrivals.lists ≡ []) ⊎ Ran Program ended counts now
@@ -286,6 +316,7 @@ run_wanting C.BadWords Program Check ended counts now none = inl none.lists
 run_wanting (C.Refused refusal) Program Check ended counts now none = inl none.lists
 run_wanting C.NotBuilt Program Check ended counts now none = inl none.lists
 run_wanting (C.ReadFailed name) Program Check ended counts now none = inl none.lists
+run_wanting (C.BadArrivals op) Program Check ended counts now none = inl none.lists
 
 -- its text wasn't written
 run_unwritten : (fault : Option Fault) (Program : CheckedGraph → Type 0) (Check : Type 0) (ended : Ended) (r : Cause) (status : ℕ) (counts now : PerName) → RunShown (cause_of fault) Program Check ended counts now

@@ -1,6 +1,7 @@
 -- What each answer means, from what the steps of a request did.
-use Rattle.std.proofs.Common.{◌≡◌, ◌≢◌, ◌∙◌, ◌<◌, ◌-◌, ◌^◌, arith, ℕ, Bool, true, false, List, [], ◌∷◌, refl, sym, ap, subst, inl, inr, ◌⊎◌, Option, Some, None, Result, Ok, Err}
-use Rattle.std.specs.Prelude.{IfSome, ◌||◌, IfOk}
+use Rattle.std.proofs.Common.{◌≡◌, ◌≢◌, ◌∙◌, ◌<◌, ◌≤◌, ◌-◌, ◌^◌, arith, ℕ, Bool, true, false, List, [], ◌∷◌, refl, sym, ap, subst, inl, inr, ◌⊎◌, Option, Some, None, Result, Ok, Err}
+use Rattle.std.specs.Prelude.{IfSome, ◌||◌, IfOk, if◌then◌else◌}
+use Rattle.std.specs.Str.{bytes_eq}
 use Rattle.feed_pour.specs.Counts.{PerName}
 use Rattle.feed_pour.specs.Contents.{Told, WhereTold, TellsSame}
 use Rattle.spl_value.specs.declared.memory.NoMemory.{NoMemory}
@@ -18,18 +19,21 @@ use Rattle.check_laws.specs.Files.{is_named, source_files}
 use Rattle.spl_value.specs.declared.item.Fault.{Fault}
 use Rattle.source_rows.specs.Counting.{OpeningFailed}
 use Rattle.spl_driver.specs.Built.{is_built}
-use Rattle.spl_driver.specs.Files.{FilesOf, files_of, opens, creates, row_files, whole_files, program_of}
-use Rattle.spl_driver.specs.Outcome.{RequestOutcome, NoRequest, Refused, NotBuilt, Reports, Runs, has_fault, IsOutcome, IsSomeProgram, no_request, not_built, ArePartsIn, of_program}
-use Rattle.spl_driver.specs.Answer.{SameFiles, Begun, CauseMeans, ReportsTo, RunsTo, WroteOthers, TellingFailed, DevicesMean, ReadingFailed, ReadingAnswered, WholeReads, WholeFails, NoCountChanged, StoppedBy, Answered, ByWords, IsOr}
+use Rattle.spl_driver.specs.Files.{FilesOf, files_of, opens, creates, most_bytes, row_files, whole_files, program_of}
+use Rattle.spl_driver.specs.Outcome.{RequestOutcome, NoRequest, Refused, NotBuilt, Reports, BadArrivals, Runs, fails_within, has_fault, IsOutcome, IsSomeProgram, no_request, not_built, ArePartsIn, of_program}
+use Rattle.spl_driver.specs.Answer.{SameFiles, Begun, CauseMeans, ReportsTo, RunsTo, WroteOthers, TellingFailed, DevicesMean, ReadingFailed, ReadingAnswered, WholeReads, WholeFails, NoCountChanged, StoppedBy, Answered, ByWords, FollowsRecord, IsOr, IsUnread, NeedsRecord, is_ended_run, is_refused}
 use Rattle.spl_driver.specs.Texts.{wants_counts, EndsWith, IsToldOutcome, IsText, IsTextOf, MayComeTo}
-use Rattle.spl_driver.specs.RequestLaws.{OneOutcomeLaw, OnePartsLaw}
-use Rattle.spl_driver.specs.Steps.{FirstOpening, FirstReading, MayBeOutcome, CompiledAt, accepted_outcome, IsAcceptedOutcome, IsToldAcceptedOutcome, CountsShow, FilesShow}
+use Rattle.spl_driver.specs.RequestLaws.{OnePartsLaw}
+use Rattle.spl_driver.specs.AcceptedLaws.{OneAcceptedLaw}
+use Rattle.arrival_format.specs.ArrivalTexts.{Spells}
+use Rattle.spl_driver.specs.Steps.{FirstOpening, FirstReading, MayBeOutcome, CompiledAt, FollowsFile, IsAcceptedOutcome, IsToldAcceptedOutcome, CountsShow, FilesShow}
 use Rattle.spl_driver.specs.declared.compiled.Compiled.TheVariants as P
 use Rattle.spl_driver.specs.declared.ended.Ended.{Ended}
-use Rattle.spl_driver.proofs.Fetching.{other_name, own_name, quiet_only, read_itself, read_same, reads_whole}
-use Rattle.spl_driver.proofs.Requests.{outcome_found, found_outcome}
+use Rattle.spl_driver.proofs.Fetching.{fails_more, other_name, own_name, quiet_only, read_itself, read_same, reads_whole}
+use Rattle.spl_driver.proofs.Replaying.{replay_graph}
+use Rattle.spl_driver.proofs.Requests.{IsFoundOutcome, back_found, outcome_found}
 use Rattle.spl_value.proofs.Bools.{or_false as or_none}
-use Rattle.spl_value.proofs.Lists.{same_or_not}
+use Rattle.spl_value.proofs.Lists.{same_name, same_or_not}
 
 -- ---- shelves that tell the same
 
@@ -61,6 +65,7 @@ means_map (C.Refused refusal) Is Js ended t u to from (is, same) = (to (Refused 
 means_map C.NotBuilt Is Js ended t u to from (is, same) = (to NotBuilt is, same)
 means_map (C.OpenFailed name) Is Js ended t u to from h = λ r js. h r (from r js)
 means_map (C.ReadFailed name) Is Js ended t u to from h = h
+means_map (C.BadArrivals op) Is Js ended t u to from ((c, is), same) = ((c, to (BadArrivals c op) is), same)
 means_map (C.WriteFailed name) Is Js ended t u to from h = λ r js. h r (from r js)
 means_map C.NoMemory Is Js ended t u to from h = λ r js. h r (from r js)
 
@@ -100,6 +105,7 @@ devices_map C.NotBuilt files counts now Text Is Js ended t u to h = h
 devices_map C.BadWords files counts now Text Is Js ended t u to h = h
 devices_map (C.Refused refusal) files counts now Text Is Js ended t u to h = h
 devices_map (C.ReadFailed name) files counts now Text Is Js ended t u to h = h
+devices_map (C.BadArrivals op) files counts now Text Is Js ended t u to h = h
 devices_map C.NoMemory files counts now Text Is Js ended t u to h = h
 
 text_of_map : (counted : Bool) (Is Js : RequestOutcome → Type 0) (cause : Cause) (text : List ℕ) → ((r : RequestOutcome) → EndsWith r cause → Is r → Js r) → IsTextOf counted Is cause text → IsTextOf counted Js cause text
@@ -114,6 +120,7 @@ text_map counted (C.Refused refusal) Is Js text to is = is
 text_map counted C.NotBuilt Is Js text to is = is
 text_map counted (C.OpenFailed name) Is Js text to is = is
 text_map counted (C.ReadFailed name) Is Js text to is = is
+text_map counted (C.BadArrivals op) Is Js text to is = text_of_map counted Is Js (C.BadArrivals op) text to is
 text_map counted (C.WriteFailed name) Is Js text to is = is
 
 -- ---- answers before anything was done
@@ -133,6 +140,7 @@ IsQuiet (C.Refused refusal) = Unit {0}
 IsQuiet C.NoMemory = Unit {0}
 IsQuiet (C.OpenFailed name) = ⊥
 IsQuiet (C.ReadFailed name) = ⊥
+IsQuiet (C.BadArrivals op) = Unit {0}
 IsQuiet (C.WriteFailed name) = ⊥
 
 pub quiet_devices : (cause : Cause) (files : FilesOf) (counts now : PerName) (Text : Type 0) (Is : RequestOutcome → Type 0) (ended : Ended) (t u : Told) → IsQuiet cause → NoCountChanged counts now
@@ -142,6 +150,7 @@ quiet_devices (C.Stopped fault) files counts now Text Is ended t u is quiet = qu
 quiet_devices C.NotBuilt files counts now Text Is ended t u is quiet = quiet
 quiet_devices C.BadWords files counts now Text Is ended t u is quiet = quiet
 quiet_devices (C.Refused refusal) files counts now Text Is ended t u is quiet = quiet
+quiet_devices (C.BadArrivals op) files counts now Text Is ended t u is quiet = quiet_only files.rows counts now quiet
 quiet_devices C.NoMemory files counts now Text Is ended t u is quiet = tt
 quiet_devices (C.OpenFailed name) files counts now Text Is ended t u is quiet = absurd is
 quiet_devices (C.ReadFailed name) files counts now Text Is ended t u is quiet = absurd is
@@ -157,6 +166,7 @@ IsUnrun (C.Refused refusal) = Unit {0}
 IsUnrun C.NoMemory = Unit {0}
 IsUnrun (C.OpenFailed name) = Unit {0}
 IsUnrun (C.ReadFailed name) = Unit {0}
+IsUnrun (C.BadArrivals op) = Unit {0}
 IsUnrun (C.WriteFailed name) = Unit {0}
 
 pub quiet_stopped : (cause : Cause) (parts : List Part) (counts now : PerName) → IsUnrun cause → StoppedBy cause parts counts now
@@ -168,16 +178,50 @@ quiet_stopped (C.Refused refusal) parts counts now is = tt
 quiet_stopped C.NoMemory parts counts now is = tt
 quiet_stopped (C.OpenFailed name) parts counts now is = tt
 quiet_stopped (C.ReadFailed name) parts counts now is = tt
+quiet_stopped (C.BadArrivals op) parts counts now is = tt
 quiet_stopped (C.WriteFailed name) parts counts now is = tt
 
+-- ---- records
+
+-- what a record is needed for, by the requests that have one
+pub needs_by : (request : Option Request) (ended : Ended) (t : Told) → ((p file : List ℕ) → request ≡ Some (R.Replay p file) → (is_refused ended.cause ≡ true) ⊎ IsUnread (p ∷ file ∷ []) ended.cause) → NeedsRecord request ended t
+needs_by None ended t h = tt
+needs_by (Some (R.Check p)) ended t h = tt
+needs_by (Some (R.Plan p)) ended t h = tt
+needs_by (Some (R.Run p options)) ended t h = tt
+needs_by (Some (R.Replay p file)) ended t h = λ fault. h p file refl
+needs_by (Some (R.Simulate p width schedule steps)) ended t h = tt
+needs_by (Some (R.Make name rows start)) ended t h = tt
+
+-- where no run ended none is followed
+pub follows_none : (request : Option Request) (Is : RequestOutcome → Type 0) (ended : Ended) (t : Told) → is_ended_run ended.cause ≡ false → FollowsRecord request Is ended t
+follows_none None Is ended t e = tt
+follows_none (Some (R.Check p)) Is ended t e = tt
+follows_none (Some (R.Plan p)) Is ended t e = tt
+follows_none (Some (R.Run p options)) Is ended t e = tt
+follows_none (Some (R.Replay p file)) Is ended t e = λ run. absurd (let bad : false ≡ true = sym e ∙ run in cc)
+follows_none (Some (R.Simulate p width schedule steps)) Is ended t e = tt
+follows_none (Some (R.Make name rows start)) Is ended t e = tt
+
+unbuilt_record : (request : Request) → is_built request ≡ false → (p file : List ℕ) → Some request ≡ Some (R.Replay p file) → ⊥
+unbuilt_record request other p file e = let same : request ≡ R.Replay p file = cc in let bad : true ≡ false = sym (ap is_built same) ∙ other in cc
+
+-- the program is the first file that is read as a whole
+pub named_first : (request : Request) (program : List ℕ) → program_of request ≡ Some program → (p file : List ℕ) → Some request ≡ Some (R.Replay p file) → is_named (p ∷ file ∷ []) program ≡ true
+named_first request program of p file e =
+    let same : request ≡ R.Replay p file = cc in
+    let is : Some p ≡ Some program = sym (ap program_of same) ∙ of in
+    let one : p ≡ program = cc in
+    ap (λ (q : List ℕ). bytes_eq q program || (bytes_eq file program || false)) one ∙ ap (λ (b : Bool). b || (bytes_eq file program || false)) (same_name program)
+
 -- an answer after which all files are as they were and no count changed
-pub quiet_answer : (told now : Option Told) (request : Option Request) (cause : Cause) (ended : Ended) (counts later : PerName) → ended.cause ≡ cause → IsQuiet cause → IsUnrun cause
-    → WhereTold told now TellsSame → NoCountChanged counts later
+pub quiet_answer : (told now : Option Told) (request : Option Request) (cause : Cause) (ended : Ended) (counts later : PerName) → ended.cause ≡ cause → IsQuiet cause → IsUnrun cause → is_ended_run cause ≡ false
+    → ((p file : List ℕ) → request ≡ Some (R.Replay p file) → (is_refused cause ≡ true) ⊎ IsUnread (p ∷ file ∷ []) cause) → WhereTold told now TellsSame → NoCountChanged counts later
     → ((t u : Told) → told ≡ Some t → SameFiles t u → CauseMeans cause (IsOutcome t ended.arrivals request) ended t u)
     → WhereTold told now (Answered request ended counts later ⊥)
-quiet_answer None now request cause ended counts later is other unread same quiet stands = tt
-quiet_answer (Some t) None request cause ended counts later is other unread same quiet stands = same
-quiet_answer (Some t) (Some u) request cause ended counts later is other unread same quiet stands = record {
+quiet_answer None now request cause ended counts later is other unread none needs same quiet stands = tt
+quiet_answer (Some t) None request cause ended counts later is other unread none needs same quiet stands = same
+quiet_answer (Some t) (Some u) request cause ended counts later is other unread none needs same quiet stands = record {
   means = subst (λ (c : Cause). CauseMeans c (IsOutcome t ended.arrivals request) ended t u) (sym is) (stands t u refl same.holds);
   others = λ parts are n named. same.holds n;
   counted = λ parts are n named. quiet n;
@@ -186,32 +230,34 @@ quiet_answer (Some t) (Some u) request cause ended counts later is other unread 
   stopped = λ parts are. subst (λ (c : Cause). StoppedBy c parts counts later) (sym is) (quiet_stopped cause parts counts later unread);
   whole = λ parts are n named differs. absurd (differs (ap (λ c. c.reading) (quiet n)));
   reads = λ n differs. absurd (differs (ap (λ c. c.reading) (quiet n)));
+  needed = needs_by request ended t (λ p file e. subst (λ (k : Cause). (is_refused k ≡ true) ⊎ IsUnread (p ∷ file ∷ []) k) (sym is) (needs p file e));
+  followed = follows_none request (IsOutcome t ended.arrivals request) ended t (ap is_ended_run is ∙ none);
 }
 
 -- want of memory
 pub wanting_answer : BegunSame → (told now : Option Told) (request : Option Request) (ended : Ended) (counts later : PerName) → ended.cause ≡ C.NoMemory
     → WhereTold told now TellsSame → NoCountChanged counts later → WhereTold told now (Answered request ended counts later ⊥)
 wanting_answer begun told now request ended counts later is same quiet =
-    quiet_answer told now request C.NoMemory ended counts later is tt tt same quiet (λ t u e files r comes. begun r t u files)
+    quiet_answer told now request C.NoMemory ended counts later is tt tt refl (λ p file e. inr (inl refl)) same quiet (λ t u e files r comes. begun r t u files)
 
 -- no request
 pub words_answer : (told : Option Told) (ended : Ended) (counts : PerName) → ended.cause ≡ C.BadWords → WhereTold told told (Answered None ended counts counts ⊥)
-words_answer told ended counts is = quiet_answer told told None C.BadWords ended counts counts is tt tt (told_same told) (λ n. refl) (λ t u e files. (no_request, files))
+words_answer told ended counts is = quiet_answer told told None C.BadWords ended counts counts is tt tt refl (λ p file e. cc) (told_same told) (λ n. refl) (λ t u e files. (no_request, files))
 
 -- a request that isn't built by its words
 pub not_built_answer : (told : Option Told) (request : Request) (ended : Ended) (counts : PerName) → is_built request ≡ false → ended.cause ≡ C.NotBuilt
     → WhereTold told told (Answered (Some request) ended counts counts ⊥)
 not_built_answer told request ended counts no_part is =
-    quiet_answer told told (Some request) C.NotBuilt ended counts counts is tt tt (told_same told) (λ n. refl)
+    quiet_answer told told (Some request) C.NotBuilt ended counts counts is tt tt refl (λ p file e. absurd (unbuilt_record request no_part p file e)) (told_same told) (λ n. refl)
     (λ t u e files. (not_built request no_part, files))
 
 -- ---- answers by the program
 
 -- the outcome of the request is that of its program
-outcome_of : (t : Told) (request : Request) (program : List ℕ) (arrivals : Arrivals) (found : Result CheckedGraph ProgramRefusal) → is_built request ≡ true → program_of request ≡ Some program
-    → has_fault (t.script program) ≡ false → IsAccepted (t.script program).bytes (file_names request) found → IsOutcome t arrivals (Some request) (found_outcome request t arrivals found)
-outcome_of t request program arrivals found built of quiet accepted =
-    outcome_found t arrivals request program found built of (record { read = quiet; accepted = accepted })
+outcome_of : (t : Told) (request : Request) (program : List ℕ) (arrivals : Arrivals) (found : Result CheckedGraph ProgramRefusal) (r : RequestOutcome) → is_built request ≡ true → program_of request ≡ Some program
+    → has_fault (t.script program) ≡ false → IsAccepted (t.script program).bytes (file_names request) found → IsFoundOutcome request t arrivals found r → IsOutcome t arrivals (Some request) r
+outcome_of t request program arrivals found r built of quiet accepted is =
+    outcome_found t arrivals request program found r built of (record { read = quiet; accepted = accepted }) is
 
 parts_in : (t : Told) (request : Request) (program : List ℕ) (found : Result CheckedGraph ProgramRefusal) → program_of request ≡ Some program → has_fault (t.script program) ≡ false
     → IsAccepted (t.script program).bytes (file_names request) found → ArePartsIn t (Some request) (Rattle.spl_driver.specs.Files.parts_of found)
@@ -241,22 +287,31 @@ pub refused_answer : (told now : Option Told) (request : Request) (program : Lis
     → IfSome told (λ t. CompiledAt (P.Refused refusal) (t.script program) (file_names request))
     → WhereTold told now TellsSame → NoCountChanged counts later → WhereTold told now (Answered (Some request) ended counts later ⊥)
 refused_answer told now request program refusal ended counts later built of is made same quiet =
-    quiet_answer told now (Some request) (C.Refused refusal) ended counts later is tt tt same quiet (λ t u e files. (go t e, files))
+    quiet_answer told now (Some request) (C.Refused refusal) ended counts later is tt tt refl (λ p file e. inl refl) same quiet (λ t u e files. (go t e, files))
   where
     go : (t : Told) → told ≡ Some t → IsOutcome t ended.arrivals (Some request) (Refused refusal)
     go t e =
         let at = subst (λ (o : Option Told). IfSome o (λ t. CompiledAt (P.Refused refusal) (t.script program) (file_names request))) e made in
-        subst (λ (r : Refusal). IsOutcome t ended.arrivals (Some request) (Refused r)) (sym at.1.2)
-        (outcome_of t request program ended.arrivals (Err at.1.0) built of at.0 at.1.1)
+        outcome_of t request program ended.arrivals (Err at.1.0) (Refused refusal) built of at.0 at.1.1 (ap (λ (r : Refusal). Refused r) at.1.2)
 
--- the program is the file that is read as a whole
-whole_program : (request : Request) (program : List ℕ) → is_built request ≡ true → program_of request ≡ Some program → whole_files (Some request) ≡ program ∷ []
-whole_program (R.Check p) program built of = let same : p ≡ program = cc in ap (λ (q : List ℕ). q ∷ []) same
-whole_program (R.Run p options) program built of = let same : p ≡ program = cc in ap (λ (q : List ℕ). q ∷ []) same
-whole_program (R.Plan p) program built of = let same : p ≡ program = cc in ap (λ (q : List ℕ). q ∷ []) same
-whole_program (R.Replay p arrivals) program built of = absurd (let bad : false ≡ true = built in cc)
+-- the program is read as a whole
+whole_program : (request : Request) (program : List ℕ) → is_built request ≡ true → program_of request ≡ Some program → is_named (whole_files (Some request)) program ≡ true
+whole_program (R.Check p) program built of = let same : p ≡ program = cc in ap (λ (q : List ℕ). is_named (q ∷ []) program) same ∙ own_name program
+whole_program (R.Run p options) program built of = let same : p ≡ program = cc in ap (λ (q : List ℕ). is_named (q ∷ []) program) same ∙ own_name program
+whole_program (R.Plan p) program built of = let same : p ≡ program = cc in ap (λ (q : List ℕ). is_named (q ∷ []) program) same ∙ own_name program
+whole_program (R.Replay p file) program built of = named_first (R.Replay p file) program of p file refl
 whole_program (R.Simulate p width schedule steps) program built of = absurd (let bad : false ≡ true = built in cc)
 whole_program (R.Make name rows start) program built of = absurd (let bad : false ≡ true = built in cc)
+
+-- each file that is read as a whole may have as many bytes as a program
+pub least_bound : (request : Option Request) (n : List ℕ) → 1048576 ≤ most_bytes request n
+least_bound None n = omega arith
+least_bound (Some (R.Check p)) n = omega arith
+least_bound (Some (R.Run p options)) n = omega arith
+least_bound (Some (R.Plan p)) n = omega arith
+least_bound (Some (R.Replay p file)) n = elim (bytes_eq file n) as (λ b. 1048576 ≤ (if b then 2 ^ 32 else 1048576)) [ true ↦ omega arith | false ↦ omega arith ]
+least_bound (Some (R.Simulate p width schedule steps)) n = omega arith
+least_bound (Some (R.Make name rows start)) n = omega arith
 
 -- a name that isn't opened isn't the program
 pub outside : (request : Request) (program : List ℕ) (parts : List Part) (n : List ℕ) → program_of request ≡ Some program
@@ -281,46 +336,52 @@ opening_of request program parts old new of h =
 pub reading_of : (request : Request) (program : List ℕ) (parts : List Part) (old new : PerName) → is_built request ≡ true → program_of request ≡ Some program → FirstReading program old new
     → ReadingFailed (files_of (Some request) parts) program old new
 reading_of request program parts old new built of h = record {
-  whole = ap (λ (ns : List (List ℕ)). is_named ns program) (whole_program request program built of) ∙ own_name program;
+  whole = whole_program request program built of;
   rose = h.rose;
   only = h.only;
   others = h.others;
 }
 
 -- a file other than the program wasn't read
-whole_only : (cause : Cause) (files : FilesOf) (program : List ℕ) (old new : PerName) (t : Told) → ((n : List ℕ) → n ≢ program → new n ≡ old n) → WholeFails old new t
-    → (cause ≡ C.ReadFailed program) ⊎ ((new program).reading ≡ (old program).reading) → WholeReads cause files old new t
-whole_only cause files program old new t others fails at n named differs = elim (same_or_not n program) as (λ _. ReadingAnswered cause t n) [
+whole_only : (cause : Cause) (request : Request) (parts : List Part) (program : List ℕ) (old new : PerName) (t : Told) → ((n : List ℕ) → n ≢ program → new n ≡ old n) → WholeFails old new t
+    → (cause ≡ C.NoMemory) ⊎ ((cause ≡ C.ReadFailed program) ⊎ ((new program).reading ≡ (old program).reading)) → WholeReads cause (files_of (Some request) parts) old new t
+whole_only cause request parts program old new t others fails at n named differs = elim (same_or_not n program) as (λ _. ReadingAnswered cause (most_bytes (Some request) n) t n) [
   | inl e ↦ here e at
   | inr other ↦ absurd (differs (ap (λ c. c.reading) (others n other)))
 ]
   where
-    here : n ≡ program → (cause ≡ C.ReadFailed program) ⊎ ((new program).reading ≡ (old program).reading) → ReadingAnswered cause t n
-    here e (inl is) = record { fails = fails n differs; answer = inl (is ∙ ap (λ (m : List ℕ). C.ReadFailed m) (sym e)) }
-    here e (inr same) = absurd (differs (ap (λ (m : List ℕ). (new m).reading) e ∙ same ∙ sym (ap (λ (m : List ℕ). (old m).reading) e)))
+    bad : fails_within (most_bytes (Some request) n) (t.script n) ≡ true
+    bad = fails_more 1048576 (most_bytes (Some request) n) (t.script n) (least_bound (Some request) n) (fails n differs)
+
+    here : n ≡ program → (cause ≡ C.NoMemory) ⊎ ((cause ≡ C.ReadFailed program) ⊎ ((new program).reading ≡ (old program).reading)) → ReadingAnswered cause (most_bytes (Some request) n) t n
+    here e (inl wanting) = record { fails = bad; answer = inr wanting }
+    here e (inr (inl is)) = record { fails = bad; answer = inl (is ∙ ap (λ (m : List ℕ). C.ReadFailed m) (sym e)) }
+    here e (inr (inr same)) = absurd (differs (ap (λ (m : List ℕ). (new m).reading) e ∙ same ∙ sym (ap (λ (m : List ℕ). (old m).reading) e)))
 
 -- an answer after which all files are as they were, and the counts changed of the program alone
 program_answer : (told now : Option Told) (request : Request) (program : List ℕ) (cause : Cause) (ended : Ended) (counts later : PerName) → program_of request ≡ Some program → ended.cause ≡ cause → IsUnrun cause
-    → WhereTold told now TellsSame → IfSome told (WholeFails counts later) → ((n : List ℕ) → n ≢ program → later n ≡ counts n)
+    → is_ended_run cause ≡ false → (cause ≡ C.NoMemory) ⊎ ((cause ≡ C.OpenFailed program) ⊎ (cause ≡ C.ReadFailed program)) → WhereTold told now TellsSame → IfSome told (WholeFails counts later) → ((n : List ℕ) → n ≢ program → later n ≡ counts n)
     → (cause ≡ C.NoMemory) ⊎ ((cause ≡ C.ReadFailed program) ⊎ ((later program).reading ≡ (counts program).reading))
     → ((t u : Told) → SameFiles t u → CauseMeans cause (IsOutcome t ended.arrivals (Some request)) ended t u)
     → ((t u : Told) (parts : List Part) → SameFiles t u → DevicesMean cause (files_of (Some request) parts) counts later ⊥ (IsOutcome t ended.arrivals (Some request)) ended t u)
     → WhereTold told now (Answered (Some request) ended counts later ⊥)
-program_answer None now request program cause ended counts later of is unread same reads others at stands shows = tt
-program_answer (Some t) None request program cause ended counts later of is unread same reads others at stands shows = same
-program_answer (Some t) (Some u) request program cause ended counts later of is unread same reads others at stands shows = record {
+program_answer None now request program cause ended counts later of is unread none names same reads others at stands shows = tt
+program_answer (Some t) None request program cause ended counts later of is unread none names same reads others at stands shows = same
+program_answer (Some t) (Some u) request program cause ended counts later of is unread none names same reads others at stands shows = record {
   means = subst (λ (c : Cause). CauseMeans c (IsOutcome t ended.arrivals (Some request)) ended t u) (sym is) (stands t u same.holds);
   others = λ parts are n named. same.holds n;
   counted = λ parts are n named. others n (outside request program parts n of named);
   device = λ parts are. subst (λ (c : Cause). DevicesMean c (files_of (Some request) parts) counts later ⊥ (IsOutcome t ended.arrivals (Some request)) ended t u) (sym is) (shows t u parts same.holds);
   stopped = λ parts are. subst (λ (c : Cause). StoppedBy c parts counts later) (sym is) (quiet_stopped cause parts counts later unread);
-  whole = λ parts are. subst (λ (c : Cause). WholeReads c (files_of (Some request) parts) counts later t) (sym is) (reading parts at);
+  whole = λ parts are. subst (λ (c : Cause). WholeReads c (files_of (Some request) parts) counts later t) (sym is) (whole_only cause request parts program counts later t others reads at);
   reads = reads_whole (Some t) counts later reads;
+  needed = needs_by (Some request) ended t (λ p file e. inr (subst (IsUnread (p ∷ file ∷ [])) (sym is) (by_names p file e names)));
+  followed = follows_none (Some request) (IsOutcome t ended.arrivals (Some request)) ended t (ap is_ended_run is ∙ none);
 }
   where
-    reading : (parts : List Part) → (cause ≡ C.NoMemory) ⊎ ((cause ≡ C.ReadFailed program) ⊎ ((later program).reading ≡ (counts program).reading)) → WholeReads cause (files_of (Some request) parts) counts later t
-    reading parts (inl wanting) = λ n named differs. record { fails = reads n differs; answer = inr wanting }
-    reading parts (inr h) = whole_only cause (files_of (Some request) parts) program counts later t others reads h
+    by_names : (p file : List ℕ) → Some request ≡ Some (R.Replay p file) → (cause ≡ C.NoMemory) ⊎ ((cause ≡ C.OpenFailed program) ⊎ (cause ≡ C.ReadFailed program)) → IsUnread (p ∷ file ∷ []) cause
+    by_names p file e (inl wanting) = inl wanting
+    by_names p file e (inr by) = inr (program, named_first request program of p file e, by)
 
 -- the same where memory was wanting for the name
 or_wanting : (expected cause : Cause) (Good : Cause → Type 0) → IsOr expected cause → Good expected → Good C.NoMemory → Good cause
@@ -331,53 +392,69 @@ pub unopened_answer : BegunSame → (told now : Option Told) (request : Request)
     → IsOr (C.OpenFailed program) ended.cause → FirstOpening program counts later → WhereTold told now TellsSame → IfSome told (WholeFails counts later)
     → WhereTold told now (Answered (Some request) ended counts later ⊥)
 unopened_answer begun told now request program ended counts later of (inl is) counted same reads =
-    program_answer told now request program (C.OpenFailed program) ended counts later of is tt same reads counted.others (inr (inr counted.reading)) (λ t u files r comes. begun r t u files)
+    program_answer told now request program (C.OpenFailed program) ended counts later of is tt refl (inr (inl refl)) same reads counted.others (inr (inr counted.reading)) (λ t u files r comes. begun r t u files)
     (λ t u parts files. inl (opening_of request program parts counts later of counted, files))
 unopened_answer begun told now request program ended counts later of (inr is) counted same reads =
-    program_answer told now request program C.NoMemory ended counts later of is tt same reads counted.others (inl refl) (λ t u files r comes. begun r t u files) (λ t u parts files. tt)
+    program_answer told now request program C.NoMemory ended counts later of is tt refl (inl refl) same reads counted.others (inl refl) (λ t u files r comes. begun r t u files) (λ t u parts files. tt)
 
 pub unread_answer : BegunSame → (told now : Option Told) (request : Request) (program : List ℕ) (ended : Ended) (counts later : PerName) → is_built request ≡ true → program_of request ≡ Some program
     → IsOr (C.ReadFailed program) ended.cause → FirstReading program counts later → WhereTold told now TellsSame → IfSome told (WholeFails counts later)
     → WhereTold told now (Answered (Some request) ended counts later ⊥)
 unread_answer begun told now request program ended counts later built of (inl is) counted same reads =
-    program_answer told now request program (C.ReadFailed program) ended counts later of is tt same reads counted.others (inr (inl refl)) (λ t u files. files)
+    program_answer told now request program (C.ReadFailed program) ended counts later of is tt refl (inr (inr refl)) same reads counted.others (inr (inl refl)) (λ t u files. files)
     (λ t u parts files. reading_of request program parts counts later built of counted)
 unread_answer begun told now request program ended counts later built of (inr is) counted same reads =
-    program_answer told now request program C.NoMemory ended counts later of is tt same reads counted.others (inl refl) (λ t u files r comes. begun r t u files) (λ t u parts files. tt)
+    program_answer told now request program C.NoMemory ended counts later of is tt refl (inl refl) same reads counted.others (inl refl) (λ t u files r comes. begun r t u files) (λ t u parts files. tt)
 
 -- ---- answers after the program is read
 
+-- the outcome of an accepted program is that of its graph
+outcome_back : OneAcceptedLaw → (t : Told) (request : Request) (program : List ℕ) (c : CheckedGraph) (arrivals : Arrivals) (r : RequestOutcome) → is_built request ≡ true → program_of request ≡ Some program
+    → has_fault (t.script program) ≡ false → IsAccepted (t.script program).bytes (file_names request) (Ok c) → IsOutcome t arrivals (Some request) r → IsAcceptedOutcome request c arrivals t r
+outcome_back one t request program c arrivals r built of quiet accepted is =
+    back_found one t arrivals request program c r built of (record { read = quiet; accepted = accepted }) is
+
+-- a replay that ended has the record of its file
+follows_told : (request : Request) (c : CheckedGraph) (ended : Ended) (t : Told) (program : List ℕ) → OneAcceptedLaw → program_of request ≡ Some program
+    → has_fault (t.script program) ≡ false → IsAccepted (t.script program).bytes (file_names request) (Ok c) → FollowsFile request c ended t → FollowsRecord (Some request) (IsOutcome t ended.arrivals (Some request)) ended t
+follows_told (R.Check p) c ended t program one of quiet accepted h = tt
+follows_told (R.Plan p) c ended t program one of quiet accepted h = tt
+follows_told (R.Run p options) c ended t program one of quiet accepted h = tt
+follows_told (R.Replay p file) c ended t program one of quiet accepted h = λ run x g m is.
+    subst (λ (y : CheckedGraph). Spells y (t.script file).bytes ended.arrivals) (sym (replay_graph t c file x g m (back_found one t ended.arrivals (R.Replay p file) program c (Runs x g m) refl of (record { read = quiet; accepted = accepted }) is))) (h run)
+follows_told (R.Simulate p width schedule steps) c ended t program one of quiet accepted h = tt
+follows_told (R.Make name rows start) c ended t program one of quiet accepted h = tt
+
 -- what was done with an accepted program, from its reading on
-pub accepted_answer : OneOutcomeLaw → OnePartsLaw → (told mid now : Option Told) (request : Request) (program : List ℕ) (c : CheckedGraph) (ended : Ended) (counts between later : PerName)
+pub accepted_answer : OneAcceptedLaw → OnePartsLaw → (told mid now : Option Told) (request : Request) (program : List ℕ) (c : CheckedGraph) (ended : Ended) (counts between later : PerName)
     → is_built request ≡ true → program_of request ≡ Some program
     → IfSome told (λ t. CompiledAt (P.Checked c) (t.script program) (file_names request))
     → WhereTold told mid TellsSame → NoCountChanged counts between
     → WhereTold mid now (λ t u. FilesShow (IsAcceptedOutcome request c ended.arrivals t) (files_of (Some request) c.parts) ended between later t u)
-    → CountsShow ended.cause c.parts (files_of (Some request) c.parts) between later
+    → CountsShow ended.cause c.parts (files_of (Some request) c.parts) between later → IfSome mid (NeedsRecord (Some request) ended) → IfSome mid (FollowsFile request c ended)
     → WhereTold told now (Answered (Some request) ended counts later ⊥)
-accepted_answer one parts_one None mid now request program c ended counts between later built of made same quiet files shown = tt
-accepted_answer one parts_one (Some t) None now request program c ended counts between later built of made same quiet files shown = absurd same
-accepted_answer one parts_one (Some t) (Some s) None request program c ended counts between later built of made same quiet files shown = files
-accepted_answer one parts_one (Some t) (Some s) (Some u) request program c ended counts between later built of made same quiet files shown =
+accepted_answer one parts_one None mid now request program c ended counts between later built of made same quiet files shown needed followed = tt
+accepted_answer one parts_one (Some t) None now request program c ended counts between later built of made same quiet files shown needed followed = absurd same
+accepted_answer one parts_one (Some t) (Some s) None request program c ended counts between later built of made same quiet files shown needed followed = files
+accepted_answer one parts_one (Some t) (Some s) (Some u) request program c ended counts between later built of made same quiet files shown needed followed =
     go (subst (λ (k : PerName). FilesShow (IsAcceptedOutcome request c ended.arrivals t) (files_of (Some request) c.parts) ended k later t u) (same_counts counts between quiet)
     (subst (λ (x : Told). FilesShow (IsAcceptedOutcome request c ended.arrivals x) (files_of (Some request) c.parts) ended between later x u) (same_told t s same) files))
     (subst (λ (k : PerName). CountsShow ended.cause c.parts (files_of (Some request) c.parts) k later) (same_counts counts between quiet) shown)
   where
-    comes : IsOutcome t ended.arrivals (Some request) (accepted_outcome request c t ended.arrivals)
-    comes = outcome_of t request program ended.arrivals (Ok c) built of made.0 made.1
-
     parts_are : (parts : List Part) → ArePartsIn t (Some request) parts → c.parts ≡ parts
     parts_are parts are = parts_one (Some request) t c.parts parts (parts_in t request program (Ok c) of made.0 made.1) are
 
     to : (r : RequestOutcome) → IsAcceptedOutcome request c ended.arrivals t r → IsOutcome t ended.arrivals (Some request) r
-    to r e = subst (IsOutcome t ended.arrivals (Some request)) (sym e) comes
+    to r is = outcome_of t request program ended.arrivals (Ok c) r built of made.0 made.1 is
+
+    from : (r : RequestOutcome) → IsOutcome t ended.arrivals (Some request) r → IsAcceptedOutcome request c ended.arrivals t r
+    from r is = outcome_back one t request program c ended.arrivals r built of made.0 made.1 is
 
     go : FilesShow (IsAcceptedOutcome request c ended.arrivals t) (files_of (Some request) c.parts) ended counts later t u
         → CountsShow ended.cause c.parts (files_of (Some request) c.parts) counts later
         → Answered (Some request) ended counts later ⊥ t u
     go f k = record {
-      means = means_map ended.cause (IsAcceptedOutcome request c ended.arrivals t) (IsOutcome t ended.arrivals (Some request)) ended t u to
-          (λ r is. one (Some request) t ended.arrivals r _ is comes) f.means;
+      means = means_map ended.cause (IsAcceptedOutcome request c ended.arrivals t) (IsOutcome t ended.arrivals (Some request)) ended t u to from f.means;
       others = λ parts are n named. f.others n (ap (λ (ps : List Part). is_named (creates (Some request) ps) n) (parts_are parts are) ∙ named);
       counted = λ parts are n named.
           k.others n (ap (λ (ps : List Part). is_named (opens (Some request) ps) n || is_named (creates (Some request) ps) n) (parts_are parts are) ∙ named);
@@ -385,9 +462,10 @@ accepted_answer one parts_one (Some t) (Some s) (Some u) request program c ended
           subst (λ (ps : List Part). DevicesMean ended.cause (files_of (Some request) ps) counts later ⊥ (IsOutcome t ended.arrivals (Some request)) ended t u) (parts_are parts are)
           (devices_map ended.cause (files_of (Some request) c.parts) counts later ⊥ (IsAcceptedOutcome request c ended.arrivals t) (IsOutcome t ended.arrivals (Some request)) ended t u to f.device);
       stopped = λ parts are. subst (λ (ps : List Part). StoppedBy ended.cause ps counts later) (parts_are parts are) k.stopped;
-      whole = λ parts are n named differs.
-          absurd (differs (k.reading n (ap (λ (ps : List Part). is_named (row_files (Some request) ps) n) (parts_are parts are) ∙ named)));
+      whole = λ parts are. subst (λ (ps : List Part). WholeReads ended.cause (files_of (Some request) ps) counts later t) (parts_are parts are) f.whole;
       reads = f.reads;
+      needed = subst (NeedsRecord (Some request) ended) (same_told t s same) needed;
+      followed = follows_told request c ended t program one of made.0 made.1 (subst (FollowsFile request c ended) (same_told t s same) followed);
     }
 
 -- the text of what was done
@@ -396,7 +474,8 @@ may_come : (request : Request) (c : CheckedGraph) (arrivals : Arrivals) (counts 
 may_come (R.Check p) c arrivals counts now r from e = subst (MayComeTo (Some (R.Check p)) arrivals counts now) (sym e) from
 may_come (R.Run p options) c arrivals counts now r from (g, m, ran, e) = subst (MayComeTo (Some (R.Run p options)) arrivals counts now) (sym e) (from, ran)
 may_come (R.Plan p) c arrivals counts now r from e = subst (MayComeTo (Some (R.Plan p)) arrivals counts now) (sym e) from
-may_come (R.Replay p file) c arrivals counts now r from h = absurd h
+may_come (R.Replay p file) c arrivals counts now r from (inl (g, m, ran, e)) = subst (MayComeTo (Some (R.Replay p file)) arrivals counts now) (sym e) (from, ran)
+may_come (R.Replay p file) c arrivals counts now r from (inr (op, bad, e)) = subst (MayComeTo (Some (R.Replay p file)) arrivals counts now) (sym e) (from, bad)
 may_come (R.Simulate p width schedule steps) c arrivals counts now r from h = absurd h
 may_come (R.Make name rows start) c arrivals counts now r from h = absurd h
 
@@ -406,8 +485,7 @@ told_outcome : (told mid : Option Told) (request : Request) (program : List ℕ)
 told_outcome None mid request program c arrivals r built of made same e = tt
 told_outcome (Some t) None request program c arrivals r built of made same e = absurd same
 told_outcome (Some t) (Some s) request program c arrivals r built of made same e =
-    subst (IsOutcome t arrivals (Some request)) (sym (e ∙ ap (λ (x : Told). accepted_outcome request c x arrivals) (same_told t s same)))
-    (outcome_of t request program arrivals (Ok c) built of made.0 made.1)
+    outcome_of t request program arrivals (Ok c) r built of made.0 made.1 (subst (λ (x : Told). IsAcceptedOutcome request c arrivals x r) (same_told t s same) e)
 
 accepted_text_of : (told mid : Option Told) (request : Request) (program : List ℕ) (c : CheckedGraph) (cause : Cause) (arrivals : Arrivals) (text : List ℕ) (counts now : PerName)
     → is_built request ≡ true → program_of request ≡ Some program → IsSomeProgram request c

@@ -26,6 +26,7 @@ run_is (C.Refused refusal) e = cc
 run_is C.NotBuilt e = cc
 run_is (C.OpenFailed name) e = cc
 run_is (C.ReadFailed name) e = cc
+run_is (C.BadArrivals op) e = cc
 run_is (C.WriteFailed name) e = cc
 run_is C.NoMemory e = cc
 
@@ -92,6 +93,7 @@ said_whole (C.Refused refusal) request Is counts later text old now Failed shows
 said_whole C.NotBuilt request Is counts later text old now Failed shows is held = text_whole _ text old now Failed is held
 said_whole (C.OpenFailed name) request Is counts later text old now Failed shows is held = text_whole _ text old now Failed is held
 said_whole (C.ReadFailed name) request Is counts later text old now Failed shows is held = text_whole _ text old now Failed is held
+said_whole (C.BadArrivals op) request Is counts later text old now Failed shows is held = (text, is, inl held)
 said_whole (C.WriteFailed name) request Is counts later text old now Failed shows is held = inl (shows.0 name refl, text_whole _ text old now Failed is held)
 
 said_front : (cause : Cause) (request : Option Request) (Is : RequestOutcome → Type 0) (counts later : PerName) (text old : List ℕ) (now : Option (List ℕ)) (Failed : Type 0) → ShelfShows cause request counts later Failed
@@ -104,6 +106,7 @@ said_front (C.Refused refusal) request Is counts later text old now Failed shows
 said_front C.NotBuilt request Is counts later text old now Failed shows is other rises n held = text_front _ text old now Failed is rises n held
 said_front (C.OpenFailed name) request Is counts later text old now Failed shows is other rises n held = text_front _ text old now Failed is rises n held
 said_front (C.ReadFailed name) request Is counts later text old now Failed shows is other rises n held = text_front _ text old now Failed is rises n held
+said_front (C.BadArrivals op) request Is counts later text old now Failed shows is other rises n held = (text, is, inr (rises, (n, held)))
 said_front (C.WriteFailed name) request Is counts later text old now Failed shows is other rises n held = inl (shows.0 name refl, text_front _ text old now Failed is rises n held)
 
 said_poured : (cause r : Cause) (request : Option Request) (Is : RequestOutcome → Type 0) (counts later : PerName) (text old : List ℕ) (now : Option (List ℕ)) (Failed : Type 0) → ShelfShows cause request counts later Failed

@@ -1,6 +1,7 @@
 -- Which answer a request gets, and what each answer means.
 use Rattle.std.specs.Prelude.{◌≡◌, ◌≢◌, ◌-◌, ◌^◌, ◌⊎◌, ◌||◌, min, ℕ, Bool, List, [], ◌∷◌, ◌++◌, codes, map, length, take, false, true, Option, Some, None, ⊤, slice_get}
 use Rattle.std.specs.List.{All, filter_map}
+use Rattle.arrival_format.specs.ArrivalTexts.{Spells}
 use Rattle.feed_pour.specs.Counts.{PerName, Rose}
 use Rattle.feed_pour.specs.Contents.{Told}
 use Rattle.spl_value.specs.declared.item.Fault.{Fault}
@@ -25,8 +26,8 @@ use Rattle.check_laws.specs.Files.{is_named}
 use Rattle.source_rows.specs.Counting.{OnlyRead, OnlyReads, OpeningFailed}
 use Rattle.source_rows.specs.Sources.{ReadsFail}
 use Rattle.spl_driver.specs.Built.{is_built}
-use Rattle.spl_driver.specs.Files.{FilesOf, opens, creates, files_of}
-use Rattle.spl_driver.specs.Outcome.{Report, RequestOutcome, NoRequest, Unreadable, Refused, NotBuilt, Reports, Runs, IsOutcome, ArePartsIn, has_fault}
+use Rattle.spl_driver.specs.Files.{FilesOf, opens, creates, files_of, whole_files}
+use Rattle.spl_driver.specs.Outcome.{Report, RequestOutcome, NoRequest, Unreadable, Refused, NotBuilt, Reports, BadArrivals, Runs, IsOutcome, ArePartsIn, fails_within, has_fault, has_record_fault}
 use Rattle.spl_driver.specs.declared.ended.Ended.{Ended}
 
 -- ---- a run that was carried out
@@ -104,6 +105,7 @@ CauseMeans (C.Stopped fault) Is ended old new = RunsTo (Some fault) Is ended new
 CauseMeans C.BadWords Is ended old new = Is NoRequest × SameFiles old new
 CauseMeans (C.Refused refusal) Is ended old new = Is (Refused refusal) × SameFiles old new
 CauseMeans C.NotBuilt Is ended old new = Is NotBuilt × SameFiles old new
+CauseMeans (C.BadArrivals op) Is ended old new = ((c : CheckedGraph) × Is (BadArrivals c op)) × SameFiles old new
 CauseMeans (C.OpenFailed name) Is ended old new = (result : RequestOutcome) → Is result → Begun result old new
 CauseMeans (C.ReadFailed name) Is ended old new = SameFiles old new
 CauseMeans (C.WriteFailed name) Is ended old new = (result : RequestOutcome) → Is result → Begun result old new
@@ -150,6 +152,7 @@ DevicesShow (C.Stopped fault) files old new = OnlyReads files.rows old new
 DevicesShow C.NotBuilt files old new = NoCountChanged old new
 DevicesShow C.BadWords files old new = NoCountChanged old new
 DevicesShow (C.Refused refusal) files old new = NoCountChanged old new
+DevicesShow (C.BadArrivals op) files old new = OnlyReads files.rows old new
 DevicesShow (C.OpenFailed name) files old new = OpeningFailed files.opened name old new ⊎ CreatingFailed files name old new
 DevicesShow (C.ReadFailed name) files old new = ReadingFailed files name old new
 DevicesShow (C.WriteFailed name) files old new = WritingFailed files name old new
@@ -171,6 +174,7 @@ StoppedBy C.Done parts old new = ⊤
 StoppedBy C.NotBuilt parts old new = ⊤
 StoppedBy C.BadWords parts old new = ⊤
 StoppedBy (C.Refused refusal) parts old new = ⊤
+StoppedBy (C.BadArrivals op) parts old new = ⊤
 StoppedBy (C.OpenFailed name) parts old new = ⊤
 StoppedBy (C.ReadFailed name) parts old new = ⊤
 StoppedBy (C.WriteFailed name) parts old new = ⊤
@@ -219,6 +223,7 @@ DevicesMean (C.Stopped fault) files counts now TextFailed Is ended old new = Onl
 DevicesMean C.NotBuilt files counts now TextFailed Is ended old new = NoCountChanged counts now
 DevicesMean C.BadWords files counts now TextFailed Is ended old new = NoCountChanged counts now
 DevicesMean (C.Refused refusal) files counts now TextFailed Is ended old new = NoCountChanged counts now
+DevicesMean (C.BadArrivals op) files counts now TextFailed Is ended old new = OnlyReads files.rows counts now
 DevicesMean (C.ReadFailed name) files counts now TextFailed Is ended old new = ReadingFailed files name counts now
 DevicesMean C.NoMemory files counts now TextFailed Is ended old new = ⊤
 
@@ -226,13 +231,40 @@ DevicesMean C.NoMemory files counts now TextFailed Is ended old new = ⊤
 abbrev pub WholeFails : PerName → PerName → Told → Type 0
 WholeFails counts now old = (n : List ℕ) → (now n).reading ≢ (counts n).reading → has_fault (old.script n) ≡ true
 
--- the count of reading changed of a file that is read as a whole: its reader fails, and the answer names it, or memory was wanting
-pub record ReadingAnswered (cause : Cause) (old : Told) (name : List ℕ) : Type 0 where
-  pub fails : has_fault (old.script name) ≡ true
+-- the count of reading changed of a file that is read as a whole: its reader fails within its bound, and the answer names it, or memory was wanting
+pub record ReadingAnswered (cause : Cause) (most : ℕ) (old : Told) (name : List ℕ) : Type 0 where
+  pub fails : fails_within most (old.script name) ≡ true
   pub answer : (cause ≡ C.ReadFailed name) ⊎ (cause ≡ C.NoMemory)
 
 abbrev pub WholeReads : Cause → FilesOf → PerName → PerName → Told → Type 0
-WholeReads cause files counts now old = (n : List ℕ) → is_named files.rows n ≡ false → (now n).reading ≢ (counts n).reading → ReadingAnswered cause old n
+WholeReads cause files counts now old = (n : List ℕ) → is_named files.rows n ≡ false → (now n).reading ≢ (counts n).reading → ReadingAnswered cause (files.most n) old n
+
+-- the request was carried out, or it was run and what it gave couldn't be written
+abbrev pub is_ended_run : Cause → Bool
+is_ended_run C.Done = true
+is_ended_run (C.Stopped fault) = true
+is_ended_run (C.WriteFailed name) = true
+is_ended_run _ = false
+
+-- one of these files, which are read as a whole, couldn't be opened or read, or memory was wanting
+abbrev pub IsUnread : List (List ℕ) → Cause → Type 0
+IsUnread whole cause = (cause ≡ C.NoMemory) ⊎ ((name : List ℕ) × (is_named whole name ≡ true) × ((cause ≡ C.OpenFailed name) ⊎ (cause ≡ C.ReadFailed name)))
+
+abbrev pub is_refused : Cause → Bool
+is_refused (C.Refused refusal) = true
+is_refused _ = false
+
+-- a replay whose record can't be read ends by that, or since its program can't be read or is refused
+abbrev pub NeedsRecord : Option Request → Ended → Told → Type 0
+NeedsRecord (Some (R.Replay program file)) ended old =
+    has_record_fault (old.script file) ≡ true → (is_refused ended.cause ≡ true) ⊎ IsUnread (program ∷ file ∷ []) ended.cause
+NeedsRecord _ ended old = ⊤
+
+-- a replay returns the record that its file spells for its program
+abbrev pub FollowsRecord : Option Request → (RequestOutcome → Type 0) → Ended → Told → Type 0
+FollowsRecord (Some (R.Replay program file)) Is ended old =
+    is_ended_run ended.cause ≡ true → (c : CheckedGraph) (g : Graph) (m : Meaning) → Is (Runs c g m) → Spells c (old.script file).bytes ended.arrivals
+FollowsRecord _ Is ended old = ⊤
 
 -- the answer to a request at a shelf that tells its files, where the count of the text's pour rose or not
 pub record Answered (request : Option Request) (ended : Ended) (counts now : PerName) (TextFailed : Type 0) (old new : Told) : Type 0 where
@@ -245,6 +277,8 @@ pub record Answered (request : Option Request) (ended : Ended) (counts now : Per
   pub stopped : (parts : List Part) → ArePartsIn old request parts → StoppedBy ended.cause parts counts now
   pub whole : (parts : List Part) → ArePartsIn old request parts → WholeReads ended.cause (files_of request parts) counts now old
   pub reads : ReadsFail counts now old
+  pub needed : NeedsRecord request ended old
+  pub followed : FollowsRecord request (IsOutcome old ended.arrivals request) ended old
 
 -- ---- what the request alone shows
 
@@ -255,8 +289,17 @@ is_report (Some (R.Check program)) = true
 is_report (Some (R.Plan program)) = true
 is_report (Some _) = false
 
--- such a request ends with no fault, and is built
+abbrev pub is_bad_arrivals : Cause → Bool
+is_bad_arrivals (C.BadArrivals op) = true
+is_bad_arrivals _ = false
+
+abbrev pub is_replay : Option Request → Bool
+is_replay (Some (R.Replay program arrivals)) = true
+is_replay _ = false
+
+-- such a request ends with no fault, and is built; and a replay alone has a record that may be bad
 abbrev pub MayBe : Option Request → Cause → Type 0
+MayBe request (C.BadArrivals op) = is_replay request ≡ true
 MayBe request (C.Stopped fault) = is_report request ≡ false
 MayBe request C.NotBuilt = is_report request ≡ false
 MayBe request C.Done = ⊤
@@ -277,6 +320,7 @@ status_of (C.Stopped fault) = 3
 status_of (C.OpenFailed name) = 4
 status_of (C.ReadFailed name) = 5
 status_of (C.WriteFailed name) = 6
+status_of (C.BadArrivals op) = 7
 status_of C.NoMemory = 9
 status_of C.NotBuilt = 13
 
@@ -301,24 +345,21 @@ pub data DeviceFailed (files : FilesOf) (old new : PerName) : Type 0 where
   creating : (n : List ℕ) → is_named files.created n ≡ true → Rose (old n).creating (new n).creating → DeviceFailed files old new
   writing : (n : List ℕ) → is_named files.created n ≡ true → Rose (old n).writing (new n).writing → DeviceFailed files old new
 
--- a program that can't be read couldn't be opened or read
-abbrev pub IsUnread : List ℕ → Cause → Type 0
-IsUnread program cause = (cause ≡ C.OpenFailed program) ⊎ ((cause ≡ C.ReadFailed program) ⊎ (cause ≡ C.NoMemory))
-
 -- where no device failed, the outcome of the request is the answer, or memory was wanting
-abbrev pub IsAnswer : RequestOutcome → Type 0 → Type 0 → Cause → Type 0
-IsAnswer NoRequest Failed TextFailed cause = (Failed → ⊥) → IsOr C.BadWords cause
-IsAnswer (Unreadable program) Failed TextFailed cause = IsUnread program cause
-IsAnswer (Refused refusal) Failed TextFailed cause = (Failed → ⊥) → IsOr (C.Refused refusal) cause
-IsAnswer NotBuilt Failed TextFailed cause = (Failed → ⊥) → IsOr C.NotBuilt cause
-IsAnswer (Reports report c) Failed TextFailed cause = (Failed → ⊥) → (TextFailed → ⊥) → IsOr C.Done cause
-IsAnswer (Runs c g m) Failed TextFailed cause = (Failed → ⊥) → (TextFailed → ⊥) → IsOr (cause_of (run_fault g m)) cause
+abbrev pub IsAnswer : RequestOutcome → List (List ℕ) → Type 0 → Type 0 → Cause → Type 0
+IsAnswer NoRequest whole Failed TextFailed cause = (Failed → ⊥) → IsOr C.BadWords cause
+IsAnswer (Unreadable file) whole Failed TextFailed cause = IsUnread whole cause
+IsAnswer (Refused refusal) whole Failed TextFailed cause = (Failed → ⊥) → IsOr (C.Refused refusal) cause
+IsAnswer NotBuilt whole Failed TextFailed cause = (Failed → ⊥) → IsOr C.NotBuilt cause
+IsAnswer (Reports report c) whole Failed TextFailed cause = (Failed → ⊥) → (TextFailed → ⊥) → IsOr C.Done cause
+IsAnswer (BadArrivals c op) whole Failed TextFailed cause = (Failed → ⊥) → IsOr (C.BadArrivals op) cause
+IsAnswer (Runs c g m) whole Failed TextFailed cause = (Failed → ⊥) → (TextFailed → ⊥) → IsOr (cause_of (run_fault g m)) cause
 
 -- whatever the outcome of the request
 abbrev pub IsComplete : Option Request → Ended → PerName → PerName → Type 0 → Told → Type 0
 IsComplete request ended counts now TextFailed told =
     (result : RequestOutcome) → IsOutcome told ended.arrivals request result → (parts : List Part) → ArePartsIn told request parts
-    → IsAnswer result (DeviceFailed (files_of request parts) counts now) TextFailed ended.cause
+    → IsAnswer result (whole_files request) (DeviceFailed (files_of request parts) counts now) TextFailed ended.cause
 
 -- the cause is this one, or memory was wanting, and nothing was touched
 pub record Untouched (expected cause : Cause) (old new : PerName) : Type 0 where

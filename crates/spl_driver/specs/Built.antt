@@ -13,9 +13,10 @@ abbrev pub is_plain : RunOptions → Bool
 is_plain options =
     not (is_given options.width) && (not (is_given options.workers) && (not (is_given options.capacity) && not (is_given options.arrivals)))
 
--- `check`, `plan`, and `run` with no option but `--counts`
+-- `check`, `plan`, `replay`, and `run` with no option but `--counts`
 abbrev pub is_built : Request → Bool
 is_built (R.Check program) = true
 is_built (R.Plan program) = true
 is_built (R.Run program options) = is_plain options
+is_built (R.Replay program arrivals) = true
 is_built _ = false

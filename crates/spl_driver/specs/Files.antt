@@ -1,5 +1,6 @@
 -- The files that a request opens and creates, by the clauses of the operators of its program.
-use Rattle.std.specs.Prelude.{ℕ, List, [], ◌∷◌, ◌++◌, Option, Some, None, Result, Ok, Err}
+use Rattle.std.specs.Prelude.{◌^◌, ℕ, List, [], ◌∷◌, ◌++◌, if◌then◌else◌, Option, Some, None, Result, Ok, Err}
+use Rattle.std.specs.Str.{bytes_eq}
 use Rattle.language_model.specs.declared.checked.Part.{Part}
 use Rattle.language_model.specs.Accepted.{ProgramRefusal}
 use Rattle.language_model.specs.CheckedGraph.{CheckedGraph}
@@ -57,12 +58,20 @@ creates (Some (R.Replay program arrivals)) parts = sink_files parts
 creates (Some (R.Simulate program width schedule steps)) parts = sink_files parts
 creates (Some (R.Make name rows start)) parts = name ∷ []
 
--- the files of a request: those that it opens, in order, those of them that it reads as a whole and row by row, and those that it creates, in order
+-- how many bytes a file may have that is read as a whole: the file of a program, or that of an arrival record
+abbrev pub most_bytes : Option Request → List ℕ → ℕ
+most_bytes (Some (R.Replay program arrivals)) name = if bytes_eq arrivals name then 2 ^ 32 else 1048576
+most_bytes _ name = 1048576
+
+-- the files of a request: those that it opens, in order, those of them that it reads as a whole, with their bounds, and row by row, and those that it
+-- creates, in order
 pub record FilesOf : Type 0 where
   pub opened : List (List ℕ)
   pub whole : List (List ℕ)
+  pub most : List ℕ → ℕ
   pub rows : List (List ℕ)
   pub created : List (List ℕ)
 
 abbrev pub files_of : Option Request → List Part → FilesOf
-files_of request parts = record { opened = opens request parts; whole = whole_files request; rows = row_files request parts; created = creates request parts }
+files_of request parts =
+    record { opened = opens request parts; whole = whole_files request; most = most_bytes request; rows = row_files request parts; created = creates request parts }

@@ -1,5 +1,5 @@
 -- The outcome of a request, with ample memory and devices that give what the shelf tells.
-use Rattle.std.specs.Prelude.{◌≡◌, ℕ, ◌&&◌, nat_le, List, [], length, Bool, true, false, Option, Some, None, Result, Ok, Err}
+use Rattle.std.specs.Prelude.{◌≡◌, ◌^◌, ℕ, ◌&&◌, nat_le, List, [], length, Bool, true, false, Option, Some, None, Result, Ok, Err}
 use Rattle.spl_value.specs.Script.{Script}
 use Rattle.feed_pour.specs.Contents.{Told}
 use Rattle.language_model.specs.declared.checked.Part.{Part}
@@ -10,6 +10,9 @@ use Rattle.language_model.specs.CheckedGraph.{CheckedGraph}
 use Rattle.stream_model.specs.Arrivals.{entries_in}
 use Rattle.stream_model.specs.CheckedMeaning.{graph_of}
 use Rattle.stream_model.specs.Meaning.{Graph, Meaning, meaning}
+use Rattle.arrival_format.specs.ArrivalTexts.{Spells}
+use Rattle.list_engine.specs.RunOrders.{IsFirstNotWhole}
+use Rattle.list_engine.specs.Runs.{AreWhole}
 use Rattle.source_rows.specs.Sources.{is_failed, rows_told}
 use Rattle.run_report.specs.declared.refusal.Refusal.{Refusal}
 use Rattle.run_report.specs.Refusals.{refusal_of}
@@ -33,23 +36,29 @@ pub data Report : Type 0 where
   OfSize : Report
   OfPlan : Report
 
--- The words are no request; the program in this file can't be read; it is refused; the request isn't built; the program is checked, has
--- this graph, and this is told of it; or its graph runs, and has this meaning.
+-- The words are no request; this file, which is read as a whole, can't be read; the program is refused; the request isn't built; the
+-- program is checked, has this graph, and this is told of it; the record that its run is to follow isn't one, or isn't whole for this
+-- operator; or its graph runs, and has this meaning.
 pub data RequestOutcome : Type 0 where
   NoRequest : RequestOutcome
-  Unreadable : (program : List ℕ) → RequestOutcome
+  Unreadable : (file : List ℕ) → RequestOutcome
   Refused : Refusal → RequestOutcome
   NotBuilt : RequestOutcome
   Reports : Report → (checked : CheckedGraph) → RequestOutcome
+  BadArrivals : (checked : CheckedGraph) → Option ℕ → RequestOutcome
   Runs : (checked : CheckedGraph) (graph : Graph) (meaning : Meaning) → RequestOutcome
 
--- a file has at most 1,048,576 bytes
-abbrev pub is_within : Script → Bool
-is_within script = nat_le (length script.bytes) 1048576
+-- a read of a file fails before it is known to have more than so many bytes
+abbrev pub fails_within : ℕ → Script → Bool
+fails_within most script = nat_le (length script.bytes) most && is_failed script.ending
 
--- a read of the file fails before it is known to be longer
+-- that of a program's file, which may have 1,048,576
 abbrev pub has_fault : Script → Bool
-has_fault script = is_within script && is_failed script.ending
+has_fault script = fails_within 1048576 script
+
+-- and that of the file of an arrival record
+abbrev pub has_record_fault : Script → Bool
+has_record_fault script = fails_within (2 ^ 32) script
 
 -- the outcome of a run of an accepted program, under the record with which it takes its inputs
 abbrev pub run_outcome : CheckedGraph → Told → Arrivals → RequestOutcome
@@ -68,8 +77,22 @@ IsSomeProgram request c = (bytes : List ℕ) × IsAccepted bytes (file_names req
 abbrev pub IsSomeRefusal : Request → Refusal → Type 0
 IsSomeRefusal request refusal = (bytes : List ℕ) × (p : ProgramRefusal) × IsAccepted bytes (file_names request) (Err p) × (refusal ≡ refusal_of p)
 
+-- What a run of an accepted program under a record comes to: it isn't whole for an operator, of which this is the first in topological
+-- order; or it is.
+pub data IsUnder (told : Told) (c : CheckedGraph) (arrivals : Arrivals) : RequestOutcome → Type 0 where
+  partial : (n : ℕ) → IsFirstNotWhole (graph_of c) (meant (graph_of c) told arrivals.lists) (entries_in arrivals.lists) n
+      → IsUnder told c arrivals (BadArrivals c (Some n))
+  whole : AreWhole (graph_of c) (meant (graph_of c) told arrivals.lists) (entries_in arrivals.lists) → IsUnder told c arrivals (run_outcome c told arrivals)
+
+-- What a replay of an accepted program comes to, by the file of its record: it can't be read; it spells none; or what it spells is followed.
+pub data IsReplay (told : Told) (c : CheckedGraph) (file : List ℕ) : RequestOutcome → Type 0 where
+  unread : has_record_fault (told.script file) ≡ true → IsReplay told c file (Unreadable file)
+  misspelt : has_record_fault (told.script file) ≡ false → ((arrivals : Arrivals) → Spells c (told.script file).bytes arrivals → ⊥) → IsReplay told c file (BadArrivals c None)
+  spelled : (arrivals : Arrivals) (result : RequestOutcome) → has_record_fault (told.script file) ≡ false → Spells c (told.script file).bytes arrivals
+      → IsUnder told c arrivals result → IsReplay told c file result
+
 -- A request with ample memory has one outcome, by its case: the words are no request; they ask for what isn't built; the program can't be read; it
--- is refused; its size is told; its regions are told; it is run.
+-- is refused; its size is told; its regions are told; it is run, in the order that the record says; it is run under a record that is given.
 pub data IsOutcome (told : Told) (arrivals : Arrivals) : Option Request → RequestOutcome → Type 0 where
   no_request : IsOutcome told arrivals None NoRequest
   not_built : (request : Request) → is_built request ≡ false → IsOutcome told arrivals (Some request) NotBuilt
@@ -83,6 +106,8 @@ pub data IsOutcome (told : Told) (arrivals : Arrivals) : Option Request → Requ
       → IsOutcome told arrivals (Some (R.Plan program)) (Reports OfPlan c)
   runs : (program : List ℕ) (options : RunOptions) (c : CheckedGraph) → is_plain options ≡ true → IsFound told program (file_names (R.Run program options)) (Ok c)
       → IsOutcome told arrivals (Some (R.Run program options)) (run_outcome c told arrivals)
+  replays : (program file : List ℕ) (c : CheckedGraph) (result : RequestOutcome) → IsFound told program (file_names (R.Replay program file)) (Ok c) → IsReplay told c file result
+      → IsOutcome told arrivals (Some (R.Replay program file)) result
 
 -- ---- the operators of its program
 

@@ -10,6 +10,7 @@ use Rattle.stream_model.specs.Arrivals.{entries_in}
 use Rattle.stream_model.specs.CheckedMeaning.{graph_of}
 use Rattle.stream_model.specs.Ends.{run_fault}
 use Rattle.stream_model.specs.Meaning.{Graph, Meaning, meaning}
+use Rattle.list_engine.specs.RunOrders.{IsFirstNotWhole}
 use Rattle.list_engine.specs.Runs.{RowsFit, rows_at}
 use Rattle.source_rows.specs.Counting.{OnlyReads}
 use Rattle.source_rows.specs.Sources.{FaultsNameSources, ReadsCounted}
@@ -34,12 +35,21 @@ IsProgramOf (Some request) c = IsSomeProgram request c
 abbrev pub ArePartsOf : Option Request → List Part → Type 0
 ArePartsOf request parts = (parts ≡ []) ⊎ ((c : CheckedGraph) × IsProgramOf request c × (parts ≡ c.parts))
 
--- why a request isn't carried out: its program has this refusal, or its words ask for what isn't built
+-- a record isn't whole for this operator in the meaning of the graph for some closed rows of its sources; of one that isn't spelled nothing is said
+abbrev pub IsBadFor : CheckedGraph → Option ℕ → Type 0
+IsBadFor c None = ⊤
+IsBadFor c (Some n) =
+    (g : Graph) × (rows : List (List Item)) × (arrivals : Arrivals) × (graph_of c ≡ g) × RowsFit g rows
+    × IsFirstNotWhole g (meaning g (rows_at rows) (entries_in arrivals.lists)) (entries_in arrivals.lists) n
+
+-- why a request isn't carried out: its program has this refusal, its words ask for what isn't built, or its record is bad
 abbrev pub IsReason : Cause → Option Request → Type 0
 IsReason (C.Refused refusal) None = ⊥
 IsReason (C.Refused refusal) (Some request) = IsSomeRefusal request refusal
 IsReason C.NotBuilt None = ⊥
 IsReason C.NotBuilt (Some request) = is_built request ≡ false
+IsReason (C.BadArrivals op) None = ⊥
+IsReason (C.BadArrivals op) (Some request) = (c : CheckedGraph) × IsSomeProgram request c × IsBadFor c op
 IsReason C.Done request = ⊤
 IsReason (C.Stopped fault) request = ⊤
 IsReason C.BadWords request = ⊤
@@ -77,6 +87,7 @@ Shown (C.Refused refusal) request old new TextFailed = ShownBy (C.Refused refusa
 Shown C.NotBuilt request old new TextFailed = ShownBy C.NotBuilt request old new
 Shown (C.OpenFailed name) request old new TextFailed = ShownBy (C.OpenFailed name) request old new
 Shown (C.ReadFailed name) request old new TextFailed = ShownBy (C.ReadFailed name) request old new
+Shown (C.BadArrivals op) request old new TextFailed = ShownBy (C.BadArrivals op) request old new
 Shown C.NoMemory request old new TextFailed = ShownBy C.NoMemory request old new
 
 -- ---- the run
@@ -117,6 +128,7 @@ RunShown C.BadWords Program Alone ended counts now = NothingRan ended
 RunShown (C.Refused refusal) Program Alone ended counts now = NothingRan ended
 RunShown C.NotBuilt Program Alone ended counts now = NothingRan ended
 RunShown (C.ReadFailed name) Program Alone ended counts now = NothingRan ended
+RunShown (C.BadArrivals op) Program Alone ended counts now = NothingRan ended
 
 -- the request runs a program with this graph; it asks for what is told of one
 abbrev pub IsRunProgram : Option Request → CheckedGraph → Type 0

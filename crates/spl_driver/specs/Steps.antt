@@ -1,6 +1,7 @@
 -- What the steps of a request come to: the program compiled, its graph run, its sinks written.
 use Prim.Native.Nat.{suc}
-use Rattle.std.specs.Prelude.{◌≡◌, ◌≢◌, ◌<◌, ◌-◌, ◌^◌, ◌⊎◌, ◌||◌, ℕ, List, [], ◌∷◌, Bool, true, false, ⊤, Option, Some, None, Ok, Err, IfOk, IfSome, slice_get}
+use Rattle.std.specs.Prelude.{◌≡◌, ◌≢◌, ◌<◌, ◌-◌, ◌^◌, ◌⊎◌, ◌||◌, ℕ, List, [], ◌∷◌, ◌++◌, map, if◌then◌else◌, Bool, true, false, ⊤, Option, Some, None, Ok, Err, IfOk, IfSome, slice_get}
+use Rattle.std.specs.Str.{bytes_eq}
 use Rattle.spl_value.specs.declared.item.Fault.{Fault}
 use Rattle.spl_value.specs.declared.item.Item.{Item}
 use Rattle.spl_value.specs.Script.{Script}
@@ -12,6 +13,7 @@ use Rattle.stream_model.specs.declared.record.Arrivals.{Arrivals}
 use Rattle.stream_model.specs.declared.record.SinkCount.{SinkCount}
 use Rattle.language_model.specs.Accepted.{ProgramRefusal, IsAccepted}
 use Rattle.language_model.specs.CheckedGraph.{CheckedGraph}
+use Rattle.stream_model.specs.Arrivals.{several}
 use Rattle.stream_model.specs.CheckedMeaning.{graph_of}
 use Rattle.stream_model.specs.Ends.{run_fault}
 use Rattle.stream_model.specs.Meaning.{Graph, Meaning}
@@ -23,14 +25,17 @@ use Rattle.check_laws.specs.Files.{source_files, sink_files, is_named, OwnFiles}
 use Rattle.file_adapters.specs.declared.sinks.Sink.{Sink}
 use Rattle.file_adapters.specs.declared.sinks.Sunk.{Sunk}
 use Rattle.file_adapters.specs.declared.sinks.Sunk.TheVariants as W
+use Rattle.arrival_format.specs.ArrivalTexts.{Spells}
 use Rattle.list_engine.specs.declared.run.Run.{Run}
+use Rattle.list_engine.specs.declared.run_order.Order.{Order}
+use Rattle.list_engine.specs.declared.run_order.Order.TheVariants as O
 use Rattle.list_engine.specs.Runs.{RowsFit, SinksGiven, rows_at}
 use Rattle.list_engine.specs.Runs as L
 use Rattle.source_rows.specs.Counting.{OnlyOf, OnlyRead, OnlyReads, OpeningFailed}
 use Rattle.source_rows.specs.Sources.{FaultsNameSources, ReadsCounted, ReadsFail, rows_told}
-use Rattle.spl_driver.specs.Outcome.{RequestOutcome, NotBuilt, OfPlan, OfSize, Reports, Runs, has_fault, meant, run_outcome}
-use Rattle.spl_driver.specs.Answer.{Answered, ByWords, CauseMeans, DevicesMean, DevicesShow, IsRecordOf, MayBe, NoCountChanged, IsOr, StoppedBy, cause_of, is_report}
-use Rattle.spl_driver.specs.Shown.{IsReason, NothingRan, RanShown, RanTo, RunShown, Shown}
+use Rattle.spl_driver.specs.Outcome.{RequestOutcome, NotBuilt, OfPlan, OfSize, Reports, BadArrivals, Runs, IsReplay, IsUnder, has_fault, has_record_fault, meant, run_outcome}
+use Rattle.spl_driver.specs.Answer.{IsUnread, WholeReads, Answered, ByWords, CauseMeans, DevicesMean, DevicesShow, IsRecordOf, MayBe, NoCountChanged, IsOr, StoppedBy, cause_of, is_bad_arrivals, is_ended_run, is_report}
+use Rattle.spl_driver.specs.Shown.{IsBadFor, IsReason, NothingRan, RanShown, RanTo, RunShown, Shown}
 use Rattle.spl_driver.specs.Files.{FilesOf}
 use Rattle.spl_driver.specs.Texts.{IsText, IsToldOutcome, run_text, wants_counts}
 use Rattle.spl_driver.specs.declared.answer.Answer.{Answer}
@@ -40,6 +45,8 @@ use Rattle.command_line.specs.declared.request.Request.{Request}
 use Rattle.command_line.specs.declared.request.Request.TheVariants as R
 use Rattle.spl_driver.specs.declared.prepare.Prepared.{Prepared}
 use Rattle.spl_driver.specs.declared.prepare.Prepared.TheVariants as Q
+use Rattle.spl_driver.specs.declared.record.RecordRead.{RecordRead}
+use Rattle.spl_driver.specs.declared.record.RecordRead.TheVariants as D
 use Rattle.spl_driver.specs.declared.ended.Ended.{Ended}
 
 -- ---- counts of files that are opened and read
@@ -55,9 +62,17 @@ pub record FirstReading (name : List ℕ) (old new : PerName) : Type 0 where
   pub only : OnlyRead (old name) (new name)
   pub others : (n : List ℕ) → n ≢ name → new n ≡ old n
 
--- the files of a run, which reads no other file than those of its sources
+-- the files of a run that reads these files as a whole, in order, before those of its sources
+abbrev pub files_behind : List (List ℕ) → (List ℕ → ℕ) → CheckedGraph → FilesOf
+files_behind whole most c = record { opened = whole ++ source_files c.parts; whole = whole; most = most; rows = source_files c.parts; created = sink_files c.parts }
+
+-- one that reads no other file than those of its sources
 abbrev pub run_files : CheckedGraph → FilesOf
-run_files c = record { opened = source_files c.parts; whole = []; rows = source_files c.parts; created = sink_files c.parts }
+run_files c = files_behind [] (λ n. 0) c
+
+-- one that reads the file of its record before
+abbrev pub replay_files : List ℕ → CheckedGraph → FilesOf
+replay_files file c = files_behind (file ∷ []) (λ n. if bytes_eq file n then 2 ^ 32 else 1048576) c
 
 -- ---- the program
 
@@ -86,6 +101,40 @@ CompiledAt P.OpenFailed script names = ⊤
 CompiledAt P.ReadFailed script names = ⊤
 CompiledAt P.Memory script names = ⊤
 
+-- ---- the record that a replay follows
+
+-- what the counts show of the reading of a record in this file
+abbrev pub RecordCounted : RecordRead → List ℕ → PerName → PerName → Type 0
+RecordCounted (D.Order order) file old new = NoCountChanged old new
+RecordCounted D.OpenFailed file old new = FirstOpening file old new
+RecordCounted D.ReadFailed file old new = FirstReading file old new
+RecordCounted D.Bad file old new = NoCountChanged old new
+RecordCounted D.Memory file old new = NoCountChanged old new
+
+-- its reader fails where its count of reading changes, and no other count of reading changes
+abbrev pub RecordFails : List ℕ → PerName → PerName → Told → Type 0
+RecordFails file counts now old = (n : List ℕ) → (now n).reading ≢ (counts n).reading → (n ≡ file) × (has_record_fault (old.script n) ≡ true)
+
+-- what the file comes to
+abbrev pub RecordAt : RecordRead → Script → CheckedGraph → Type 0
+RecordAt (D.Order O.InTurn) script c = ⊥
+RecordAt (D.Order (O.Recorded arrivals)) script c = (has_record_fault script ≡ false) × Spells c script.bytes arrivals
+RecordAt D.OpenFailed script c = ⊤
+RecordAt D.ReadFailed script c = ⊤
+RecordAt D.Bad script c = (has_record_fault script ≡ false) × ((arrivals : Arrivals) → Spells c script.bytes arrivals → ⊥)
+RecordAt D.Memory script c = ⊤
+
+-- an order is one for a graph: a record has a list for each operator with several connections
+abbrev pub IsOrderOf : CheckedGraph → Order → Type 0
+IsOrderOf c O.InTurn = ⊤
+IsOrderOf c (O.Recorded arrivals) = map (λ l. l.op) arrivals.lists ≡ several (graph_of c)
+
+abbrev pub IsOrderFor : RecordRead → CheckedGraph → Type 0
+IsOrderFor (D.Order order) c = IsOrderOf c order
+IsOrderFor _ c = ⊤
+
+-- ---- files of the sinks
+
 -- the sinks of an accepted program have files of their own
 abbrev pub HasOwnFiles : Compiled → List (List ℕ) → Type 0
 HasOwnFiles (P.Checked c) names = OwnFiles names c.parts
@@ -112,14 +161,36 @@ pub record RanFor (c : CheckedGraph) (run : Run) (told : Option Told) (counts no
   pub told_rows : IfSome told (λ t. (n : ℕ) → rows_at rows n ≡ rows_told graph t n)
   pub outcome : IfSome told (λ t. (arrivals : Arrivals) → run_outcome c t arrivals ≡ Runs c graph (meant graph t arrivals.lists))
 
-abbrev pub PreparedOf : Prepared → CheckedGraph → Option Told → PerName → PerName → Type 0
-PreparedOf (Q.Ran run) c told counts now = RanFor c run told counts now
-PreparedOf (Q.OpenFailed name) c told counts now = ⊤
-PreparedOf Q.Memory c told counts now = ⊤
+-- the outcome of an accepted program under this record
+abbrev pub IsRunAs : CheckedGraph → Arrivals → Told → RequestOutcome → Type 0
+IsRunAs c arrivals told result = result ≡ run_outcome c told arrivals
+
+-- and where it is run in this order, and its run has this record
+abbrev pub IsRunOf : CheckedGraph → Order → Arrivals → Told → RequestOutcome → Type 0
+IsRunOf c O.InTurn arrivals told result = IsRunAs c arrivals told result
+IsRunOf c (O.Recorded given) arrivals told result = IsUnder told c given result
+
+-- a run follows its order: its record is the one that is given, if one is, and that is whole
+pub record RanIn (c : CheckedGraph) (order : Order) (run : Run) (told : Option Told) : Type 0 where
+  pub given : (given : Arrivals) → order ≡ O.Recorded given → run.arrivals ≡ given
+  pub outcome : IfSome told (λ t. IsRunOf c order run.arrivals t (run_outcome c t run.arrivals))
+
+-- the record of the order isn't whole for this operator
+pub record NotWholeFor (c : CheckedGraph) (order : Order) (op : ℕ) (told : Option Told) : Type 0 where
+  pub recorded : order ≡ O.InTurn → ⊥
+  pub bad : IsBadFor c (Some op)
+  pub outcome : IfSome told (λ t. (arrivals : Arrivals) → IsRunOf c order arrivals t (BadArrivals c (Some op)))
+
+abbrev pub PreparedOf : Prepared → CheckedGraph → Order → Option Told → PerName → PerName → Type 0
+PreparedOf (Q.Ran run) c order told counts now = RanFor c run told counts now × RanIn c order run told
+PreparedOf (Q.NotWhole op) c order told counts now = NotWholeFor c order op told
+PreparedOf (Q.OpenFailed name) c order told counts now = ⊤
+PreparedOf Q.Memory c order told counts now = ⊤
 
 -- and what the counts show of it
 abbrev pub PreparedCounted : Prepared → FilesOf → PerName → PerName → Type 0
 PreparedCounted (Q.Ran run) files old new = OnlyReads files.rows old new
+PreparedCounted (Q.NotWhole op) files old new = OnlyReads files.rows old new
 PreparedCounted (Q.OpenFailed name) files old new = OpeningFailed files.opened name old new
 PreparedCounted Q.Memory files old new = OnlyOf files.rows old new
 
@@ -141,32 +212,41 @@ counts_from n (A.FileSink file ∷ parts) [] = []
 counts_from n (A.FileSink file ∷ parts) (k ∷ rows) = record { op = n; tuples = k } ∷ counts_from (suc n) parts rows
 counts_from n (_ ∷ parts) rows = counts_from (suc n) parts rows
 
--- the outcome of an accepted program where it is run
-abbrev pub IsRunOf : CheckedGraph → Arrivals → Told → RequestOutcome → Type 0
-IsRunOf c arrivals told result = result ≡ run_outcome c told arrivals
-
 -- some run of it
 abbrev pub IsSomeRun : CheckedGraph → Arrivals → PerName → PerName → RequestOutcome → Type 0
 IsSomeRun c arrivals counts now result = (g : Graph) × (m : Meaning) × RanTo c g m arrivals counts now × (result ≡ Runs c g m)
 
-abbrev pub RunComes : CheckedGraph → Arrivals → Option Told → PerName → PerName → RequestOutcome → Type 0
-RunComes c arrivals told counts now result = IsSomeRun c arrivals counts now result × IfSome told (λ t. IsRunOf c arrivals t result)
+-- or a record that is bad for it
+abbrev pub IsSomeReplay : CheckedGraph → Arrivals → PerName → PerName → RequestOutcome → Type 0
+IsSomeReplay c arrivals counts now result = IsSomeRun c arrivals counts now result ⊎ ((op : Option ℕ) × IsBadFor c op × (result ≡ BadArrivals c op))
+
+-- what it may come to in this order
+abbrev pub IsSomeIn : Order → CheckedGraph → Arrivals → PerName → PerName → RequestOutcome → Type 0
+IsSomeIn O.InTurn c arrivals counts now result = IsSomeRun c arrivals counts now result
+IsSomeIn (O.Recorded given) c arrivals counts now result = IsSomeReplay c arrivals counts now result
+
+-- what a run with this record may come to
+abbrev pub RunComesAs : CheckedGraph → Arrivals → Option Told → PerName → PerName → RequestOutcome → Type 0
+RunComesAs c arrivals told counts now result = IsSomeRun c arrivals counts now result × IfSome told (λ t. IsRunAs c arrivals t result)
+
+-- and one in this order
+abbrev pub RunComes : CheckedGraph → Order → Arrivals → Option Told → PerName → PerName → RequestOutcome → Type 0
+RunComes c order arrivals told counts now result = IsSomeIn order c arrivals counts now result × IfSome told (λ t. IsRunOf c order arrivals t result)
 
 -- the outcome of an accepted program, by its request
-abbrev pub accepted_outcome : Request → CheckedGraph → Told → Arrivals → RequestOutcome
-accepted_outcome (R.Check program) c told arrivals = Reports OfSize c
-accepted_outcome (R.Plan program) c told arrivals = Reports OfPlan c
-accepted_outcome (R.Run program options) c told arrivals = run_outcome c told arrivals
-accepted_outcome _ c told arrivals = NotBuilt
-
 abbrev pub IsAcceptedOutcome : Request → CheckedGraph → Arrivals → Told → RequestOutcome → Type 0
-IsAcceptedOutcome request c arrivals told result = result ≡ accepted_outcome request c told arrivals
+IsAcceptedOutcome (R.Check program) c arrivals told result = result ≡ Reports OfSize c
+IsAcceptedOutcome (R.Plan program) c arrivals told result = result ≡ Reports OfPlan c
+IsAcceptedOutcome (R.Run program options) c arrivals told result = result ≡ run_outcome c told arrivals
+IsAcceptedOutcome (R.Replay program file) c arrivals told result = IsReplay told c file result
+IsAcceptedOutcome _ c arrivals told result = result ≡ NotBuilt
 
 -- what it may come to, whatever the files hold
 abbrev pub MayBeOutcome : Request → CheckedGraph → Arrivals → PerName → PerName → RequestOutcome → Type 0
 MayBeOutcome (R.Check program) c arrivals counts now result = result ≡ Reports OfSize c
 MayBeOutcome (R.Plan program) c arrivals counts now result = result ≡ Reports OfPlan c
 MayBeOutcome (R.Run program options) c arrivals counts now result = IsSomeRun c arrivals counts now result
+MayBeOutcome (R.Replay program file) c arrivals counts now result = IsSomeReplay c arrivals counts now result
 MayBeOutcome _ c arrivals counts now result = ⊥
 
 abbrev pub IsToldAcceptedOutcome : Request → CheckedGraph → Arrivals → Option Told → PerName → PerName → RequestOutcome → Type 0
@@ -176,6 +256,7 @@ IsToldAcceptedOutcome request c arrivals told counts now result = MayBeOutcome r
 abbrev pub ReasonOf : Cause → CheckedGraph → Type 0
 ReasonOf (C.Refused refusal) c = ⊥
 ReasonOf C.NotBuilt c = ⊥
+ReasonOf (C.BadArrivals op) c = IsBadFor c op
 ReasonOf C.Done c = ⊤
 ReasonOf (C.Stopped fault) c = ⊤
 ReasonOf C.BadWords c = ⊤
@@ -195,13 +276,28 @@ RanAccepted cause request c ended counts now = RunShown cause (IsRunGraph reques
 abbrev pub RanGraph : Cause → CheckedGraph → Ended → PerName → PerName → Type 0
 RanGraph cause c ended counts now = RunShown cause (λ x. x ≡ c) ⊥ ended counts now
 
+-- a run under no record that is given isn't ended by a bad one
+abbrev pub MayEndIn : Order → Cause → Type 0
+MayEndIn O.InTurn cause = is_bad_arrivals cause ≡ false
+MayEndIn (O.Recorded given) cause = ⊤
+
+-- a run that was carried out under a record, or of which what it gave couldn't be written, has that record
+abbrev pub FollowsOrder : Order → Ended → Type 0
+FollowsOrder O.InTurn ended = ⊤
+FollowsOrder (O.Recorded given) ended = is_ended_run ended.cause ≡ true → ended.arrivals ≡ given
+
+-- and a replay that which its file spells
+abbrev pub FollowsFile : Request → CheckedGraph → Ended → Told → Type 0
+FollowsFile (R.Replay program file) c ended old = is_ended_run ended.cause ≡ true → Spells c (old.script file).bytes ended.arrivals
+FollowsFile _ c ended old = ⊤
+
 -- ---- an answer
 
 -- what the counts of faults show of an answer to what ran these operators, and opened and created these files
 pub record CountsShow (cause : Cause) (parts : List Part) (files : FilesOf) (old new : PerName) : Type 0 where
   pub words : cause ≡ C.BadWords → ⊥
   pub others : (n : List ℕ) → (is_named files.opened n || is_named files.created n) ≡ false → new n ≡ old n
-  pub reading : (n : List ℕ) → is_named files.rows n ≡ false → (new n).reading ≡ (old n).reading
+  pub reading : (n : List ℕ) → is_named files.rows n ≡ false → (new n).reading ≢ (old n).reading → (cause ≡ C.ReadFailed n) ⊎ (cause ≡ C.NoMemory)
   pub device : DevicesShow cause files old new
   pub stopped : StoppedBy cause parts old new
 
@@ -210,6 +306,7 @@ pub record FilesShow (Is : RequestOutcome → Type 0) (files : FilesOf) (ended :
   pub means : CauseMeans ended.cause Is ended old new
   pub others : (n : List ℕ) → is_named files.created n ≡ false → new.holds n ≡ old.holds n
   pub device : DevicesMean ended.cause files counts now ⊥ Is ended old new
+  pub whole : WholeReads ended.cause files counts now old
   pub reads : ReadsFail counts now old
 
 -- a run with this fault, or none, ends with these counts, unless memory was wanting for them
@@ -246,6 +343,21 @@ pub record EndsRun (sunk : Sunk) (counted : Bool) (c : CheckedGraph) (sinks : Li
   pub ends : EndsBehind sunk fault c sinks answer.ended
   pub text : IfOk answer.text (TellsBehind sunk counted c answer.ended)
   pub recorded : RecordedBy sunk answer.ended arrivals
+
+-- what a replay of an accepted program may come to, which is its outcome where the shelf tells its files
+abbrev pub ReplayComes : CheckedGraph → List ℕ → Arrivals → Option Told → PerName → PerName → RequestOutcome → Type 0
+ReplayComes c file arrivals told counts now result = IsSomeReplay c arrivals counts now result × IfSome told (λ t. IsReplay t c file result)
+
+-- what is known of a replay of an accepted program before it is told
+pub record Replays (file : List ℕ) (c : CheckedGraph) (answer : Answer) (told now : Option Told) (counts later : PerName) (before after : ℕ) : Type 0 where
+  pub files : WhereTold told now (λ old new. FilesShow (IsReplay old c file) (replay_files file c) answer.ended counts later old new)
+  pub counted : CountsShow answer.ended.cause c.parts (replay_files file c) counts later
+  pub text : IfOk answer.text (IsText false answer.ended.cause (ReplayComes c file answer.ended.arrivals told counts later))
+  pub reason : ReasonOf answer.ended.cause c
+  pub ran : RanGraph answer.ended.cause c answer.ended counts later
+  pub needed : IfSome told (λ t. has_record_fault (t.script file) ≡ true → IsUnread (file ∷ []) answer.ended.cause)
+  pub followed : IfSome told (λ t. is_ended_run answer.ended.cause ≡ true → Spells c (t.script file).bytes answer.ended.arrivals)
+  pub lent : before < 2 ^ 64 - 256 → after ≡ before
 
 -- what is known of the answer to a request before it is told, with what the shelf tells and counts before and after, and what it has lent
 pub record AnswersRequest (request : Option Request) (answer : Answer) (told now : Option Told) (counts later : PerName) (before after : ℕ) : Type 0 where

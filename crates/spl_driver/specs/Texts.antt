@@ -18,15 +18,17 @@ use Rattle.run_report.specs.Texts.{status_text, check_text}
 use Rattle.command_line.specs.declared.request.Request.{Request}
 use Rattle.command_line.specs.declared.request.Request.TheVariants as R
 use Rattle.spl_driver.specs.Answer.{IsRun, OUT, cause_of, counts_of}
-use Rattle.spl_driver.specs.Outcome.{Report, OfSize, OfPlan, RequestOutcome, Reports, Runs, IsOutcome, IsSomeProgram}
-use Rattle.spl_driver.specs.Shown.{TextShown, RanTo, ShownBy}
+use Rattle.spl_driver.specs.Outcome.{Report, OfSize, OfPlan, RequestOutcome, Reports, BadArrivals, Runs, IsOutcome, IsSomeProgram}
+use Rattle.spl_driver.specs.Shown.{IsBadFor, TextShown, RanTo, ShownBy}
 
--- What a request that is carried out may come to, whatever its files hold: to what is told of the checked graph of a program, or to a meaning
--- that a run of it came to.
+-- What a request whose program is accepted may come to, whatever its files hold: to what is told of the checked graph of a program, to a meaning
+-- that a run of it came to, or to a record that isn't one or isn't whole.
 abbrev pub MayComeTo : Option Request → Arrivals → PerName → PerName → RequestOutcome → Type 0
 MayComeTo (Some (R.Check program)) arrivals counts now (Reports OfSize c) = IsSomeProgram (R.Check program) c
 MayComeTo (Some (R.Plan program)) arrivals counts now (Reports OfPlan c) = IsSomeProgram (R.Plan program) c
 MayComeTo (Some (R.Run program options)) arrivals counts now (Runs c g m) = IsSomeProgram (R.Run program options) c × RanTo c g m arrivals counts now
+MayComeTo (Some (R.Replay program file)) arrivals counts now (Runs c g m) = IsSomeProgram (R.Replay program file) c × RanTo c g m arrivals counts now
+MayComeTo (Some (R.Replay program file)) arrivals counts now (BadArrivals c op) = IsSomeProgram (R.Replay program file) c × IsBadFor c op
 MayComeTo _ arrivals counts now _ = ⊥
 
 -- what it may come to, which is its outcome where the shelf tells its files
@@ -47,19 +49,21 @@ wants_counts _ = false
 abbrev pub run_text : Bool → CheckedGraph → Counts → Cause → List ℕ
 run_text counted c counts cause = (if counted then counts_text c counts else []) ++ status_text (Some c) cause
 
--- the text of a request that was carried out
+-- the text of a request whose program is accepted
 abbrev pub IsOutcomeText : Bool → RequestOutcome → Cause → List ℕ → Type 0
 IsOutcomeText counted (Reports report c) cause text = IsReportText report c text
 IsOutcomeText counted (Runs c g m) cause text = text ≡ run_text counted c (counts_of g m) cause
+IsOutcomeText counted (BadArrivals c op) cause text = text ≡ status_text (Some c) cause
 IsOutcomeText counted _ cause text = ⊥
 
--- how a request ends that is carried out: a program is told of, and that is done; and a run ends with its fault, or without
+-- how such a request ends: a program is told of, and that is done; a run ends with its fault, or without; or a record is bad
 abbrev pub EndsWith : RequestOutcome → Cause → Type 0
 EndsWith (Reports report c) cause = cause ≡ C.Done
 EndsWith (Runs c g m) cause = cause ≡ cause_of (run_fault g m)
+EndsWith (BadArrivals c op) cause = cause ≡ C.BadArrivals op
 EndsWith _ cause = ⊥
 
--- a request of such an outcome was carried out, it ended so, and this is its text
+-- a request of such an outcome ended so, and this is its text
 abbrev pub IsTextOf : Bool → (RequestOutcome → Type 0) → Cause → List ℕ → Type 0
 IsTextOf counted Is cause text = (result : RequestOutcome) × Is result × EndsWith result cause × IsOutcomeText counted result cause text
 
@@ -72,6 +76,7 @@ IsText counted C.BadWords Is text = text ≡ status_text None C.BadWords
 IsText counted (C.Refused refusal) Is text = text ≡ status_text None (C.Refused refusal)
 IsText counted C.NotBuilt Is text = text ≡ status_text None C.NotBuilt
 IsText counted (C.OpenFailed name) Is text = text ≡ status_text None (C.OpenFailed name)
+IsText counted (C.BadArrivals op) Is text = IsTextOf counted Is (C.BadArrivals op) text
 IsText counted (C.ReadFailed name) Is text = text ≡ status_text None (C.ReadFailed name)
 IsText counted (C.WriteFailed name) Is text = text ≡ status_text None (C.WriteFailed name)
 
@@ -98,6 +103,7 @@ Said (C.Stopped fault) request Is counts later (Some old) now Failed = PouredWho
 Said C.BadWords request Is counts later (Some old) now Failed = PouredText (status_text None C.BadWords) old now Failed
 Said (C.Refused refusal) request Is counts later (Some old) now Failed = PouredText (status_text None (C.Refused refusal)) old now Failed
 Said C.NotBuilt request Is counts later (Some old) now Failed = PouredText (status_text None C.NotBuilt) old now Failed
+Said (C.BadArrivals op) request Is counts later (Some old) now Failed = (text : List ℕ) × IsTextOf (wants_counts request) Is (C.BadArrivals op) text × PouredText text old now Failed
 Said (C.OpenFailed name) request Is counts later (Some old) now Failed = PouredText (status_text None (C.OpenFailed name)) old now Failed
 Said (C.ReadFailed name) request Is counts later (Some old) now Failed = PouredText (status_text None (C.ReadFailed name)) old now Failed
 Said (C.WriteFailed name) request Is counts later (Some old) now Failed =

@@ -1,24 +1,28 @@
 //! The answer to a request, and its text.
-ghost use Rattle.std.specs.Prelude.{◌≡◌, ◌<◌, ◌-◌, ◌^◌, true, IfOk, Some, None};
+ghost use Rattle.std.specs.Prelude.{◌≡◌, ◌<◌, ◌-◌, ◌^◌, ℕ, List, true, IfOk, IfSome, Some, None};
 ghost use Rattle.feed_pour.specs.Contents.{WhereTold};
 ghost use Rattle.run_report.specs.Texts.{status_text};
 ghost use Rattle.command_line.specs.Request.{file_names};
 ghost use Rattle.check_laws.specs.Files.{OwnFiles};
-ghost use Rattle.spl_driver.specs.Answer.{MayBe};
+ghost use Rattle.spl_driver.specs.Answer.{MayBe, NeedsRecord};
 ghost use Rattle.spl_driver.specs.Shown.{NothingRan};
 ghost use Rattle.spl_driver.specs.Built.{is_built};
 ghost use Rattle.spl_driver.specs.Files.{files_of, program_of};
 ghost use Rattle.spl_driver.specs.Outcome.{OfPlan, OfSize};
 ghost use Rattle.spl_driver.specs.Texts.{IsReportText, IsText, wants_counts};
-ghost use Rattle.spl_driver.specs.Steps.{AnswersRequest, IsAcceptedOutcome, IsToldAcceptedOutcome, CountsShow, FilesShow, RanAccepted, ReasonOf};
+ghost use Rattle.spl_driver.specs.Steps.{AnswersRequest, CountsShow, FilesShow, FollowsFile, IsAcceptedOutcome, IsToldAcceptedOutcome, RanAccepted, ReasonOf, Replays};
 
 use crate::compiled::{Compiled, compile_file};
 use crate::ended::{Ended, open_failed, read_failed, uncounted_end};
-use crate::laws::outcome_law;
+use crate::laws::{accepted_law, outcome_law};
+use crate::prepare::kept;
+use crate::record::{RecordRead, read_record};
 use crate::run::run;
+use arrival_format::format_law;
 use command_line::{Request, file_names};
 use feed_pour::Shelf;
 use language_model::Checked;
+use list_engine::Order;
 use region_choice::choose;
 use run_report::{Cause, check_text, plan_text, status_text};
 use spl_value::{Bytes, Items, Name, NoMemory};
@@ -38,6 +42,21 @@ pub fn plain(alloc: Global, cause: Cause) -> Answer
     ensures ran { NothingRan result.ended }
 {
     let text = status_text(alloc, None, &cause);
+    Answer {
+        ended: uncounted_end(alloc, cause),
+        text,
+    }
+}
+
+/// The answer where a record isn't one of the program, or isn't whole for this operator of it.
+pub fn bad_arrivals(alloc: Global, checked: &Checked, op: Option<u32>) -> Answer
+    ensures cause { result.ended.cause ≡ Cause.BadArrivals op }
+    ensures text { IfOk result.text
+        (λ text. text ≡ status_text (Some checked.now) (Cause.BadArrivals op)) }
+    ensures ran { NothingRan result.ended }
+{
+    let cause = Cause::BadArrivals(op);
+    let text = status_text(alloc, Some(checked), &cause);
     Answer {
         ended: uncounted_end(alloc, cause),
         text,
@@ -71,6 +90,23 @@ fn regions(alloc: Global, checked: &Checked) -> Result<Bytes, NoMemory>
     plan_text(alloc, checked, &plan)
 }
 
+// Runs an accepted program under the record in the file of this name.
+fn replay<H: Shelf>(alloc: Global, shelf: &mut H, accepted: &Checked, file: &Name) -> Answer
+    requires own { (names : List (List ℕ)) × OwnFiles names accepted.now.parts }
+    ensures { Replays file.now accepted.now result (H.told shelf.old) (H.told shelf.new)
+        (H.counts shelf.old) (H.counts shelf.new) (H.lent shelf.old) (H.lent shelf.new) }
+{
+    format_law();
+    kept(accepted);
+    match read_record(alloc, shelf, accepted, file) {
+        RecordRead::OpenFailed => plain(alloc, open_failed(alloc, file.as_slice())),
+        RecordRead::ReadFailed => plain(alloc, read_failed(alloc, file.as_slice())),
+        RecordRead::Bad => bad_arrivals(alloc, accepted, None),
+        RecordRead::Memory => plain(alloc, Cause::NoMemory),
+        RecordRead::Order(order) => run(alloc, shelf, accepted, &order, false),
+    }
+}
+
 // What is done with an accepted program.
 fn answer_accepted<H: Shelf>(
     alloc: Global,
@@ -91,6 +127,8 @@ fn answer_accepted<H: Shelf>(
         (IsToldAcceptedOutcome request.now accepted.now result.ended.arrivals (H.told shelf.old)
         (H.counts shelf.old) (H.counts shelf.new))) }
     ensures kinds { MayBe (Some request.now) result.ended.cause }
+    ensures needed { IfSome (H.told shelf.old) (NeedsRecord (Some request.now) result.ended) }
+    ensures followed { IfSome (H.told shelf.old) (FollowsFile request.now accepted.now result.ended) }
     ensures reason { ReasonOf result.ended.cause accepted.now }
     ensures ran { RanAccepted result.ended.cause request.now accepted.now result.ended (H.counts shelf.old) (H.counts shelf.new) }
     ensures lent { H.lent shelf.old < 2 ^ 64 - 256 → H.lent shelf.new ≡ H.lent shelf.old }
@@ -98,7 +136,10 @@ fn answer_accepted<H: Shelf>(
     match request {
         Request::Check(_) => reported(alloc, size(alloc, accepted)),
         Request::Plan(_) => reported(alloc, regions(alloc, accepted)),
-        Request::Run { options, .. } => run(alloc, shelf, accepted, options.counts),
+        Request::Run { options, .. } => {
+            run(alloc, shelf, accepted, &Order::InTurn, options.counts)
+        }
+        Request::Replay { arrivals, .. } => replay(alloc, shelf, accepted, arrivals),
         _ => plain(alloc, Cause::NotBuilt),
     }
 }
@@ -117,6 +158,7 @@ fn answer_file<H: Shelf>(
     ensures { AnswersRequest (Some request.now) result (H.told shelf.old) (H.told shelf.new)
         (H.counts shelf.old) (H.counts shelf.new) (H.lent shelf.old) (H.lent shelf.new) }
 {
+    accepted_law();
     outcome_law();
     match compile_file(alloc, shelf, program, names) {
         Compiled::Refused(refusal) => plain(alloc, Cause::Refused(refusal)),

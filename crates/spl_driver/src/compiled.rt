@@ -59,7 +59,7 @@ pub fn compile_file<H: Shelf>(
 {
     accepted_law();
     own_files_law();
-    match fetch(alloc, shelf, program, MOST_BYTES) {
+    match fetch(alloc, shelf, program, MOST_BYTES as usize) {
         Fetched::OpenFailed => Compiled::OpenFailed,
         Fetched::ReadFailed => Compiled::ReadFailed,
         Fetched::Memory => Compiled::Memory,

@@ -30,6 +30,7 @@ pub(crate) fn status(cause: &Cause) -> u8
         Cause::OpenFailed(_) => 4,
         Cause::ReadFailed(_) => 5,
         Cause::WriteFailed(_) => 6,
+        Cause::BadArrivals(_) => 7,
         Cause::NoMemory => 9,
         Cause::NotBuilt => 13,
     }

@@ -2,6 +2,7 @@
 ghost use Rattle.spl_driver.specs.AcceptedLaws.{KeptLaw, OneAcceptedLaw, SomeAcceptedLaw, TooLongLaw};
 ghost use Rattle.spl_driver.specs.RequestLaws.{OneOutcomeLaw, SomeOutcomeLaw, OnePartsLaw, SomePartsLaw};
 
+use arrival_format::format_law;
 use check_laws::keeps_law;
 use language_model::flat_law;
 use unit_parser::units_law;
@@ -27,4 +28,5 @@ pub fn outcome_law()
     ensures some_parts { SomePartsLaw }
 {
     accepted_law();
+    format_law();
 }

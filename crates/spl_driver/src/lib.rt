@@ -9,6 +9,7 @@ mod compiling;
 mod ended;
 mod laws;
 mod prepare;
+mod record;
 mod run;
 mod sinks;
 mod tell;

@@ -4,17 +4,17 @@ ghost use Rattle.feed_pour.specs.Contents.{WhereTold};
 ghost use Rattle.check_laws.specs.Files.{OwnFiles};
 ghost use Rattle.spl_driver.specs.Answer.{cause_of};
 ghost use Rattle.spl_driver.specs.Texts.{IsText, run_text};
-ghost use Rattle.spl_driver.specs.Steps.{run_files, IsRunOf, RunComes, CountsShow, FilesShow, EndsAs, EndsRun, RanGraph, ReasonOf, TellsRun, counts_from};
+ghost use Rattle.spl_driver.specs.Steps.{CountsShow, EndsAs, EndsRun, FilesShow, FollowsOrder, IsOrderOf, IsRunOf, MayEndIn, RanGraph, ReasonOf, RunComes, TellsRun, counts_from, run_files};
 ghost use Rattle.run_report.specs.Texts.{status_text};
 
-use crate::answer::{Answer, plain};
+use crate::answer::{Answer, bad_arrivals, plain};
 use crate::ended::{Ended, open_failed, status, uncounted_after, write_failed};
 use crate::prepare::{Prepared, prepare};
 use crate::sinks::{sink_counts, sink_file, sinks_of};
 use feed_pour::Shelf;
 use file_adapters::{Sink, Sunk, write_sinks};
 use language_model::Checked;
-use list_engine::{Run, engine_law};
+use list_engine::{Order, Run, engine_law};
 use run_report::{Cause, counts_text, status_text};
 use spl_value::{Bytes, Fault, Items, NoMemory};
 use std::alloc::Global;
@@ -123,24 +123,34 @@ fn ended_run(
     }
 }
 
-/// Runs a checked graph: reads its sources, and writes its sinks. Its counts are told where `counted` asks
-/// for them.
-pub fn run<H: Shelf>(alloc: Global, shelf: &mut H, checked: &Checked, counted: bool) -> Answer
+/// Runs a checked graph in this order: reads its sources, and writes its sinks. Its counts are told where
+/// `counted` asks for them.
+pub fn run<H: Shelf>(
+    alloc: Global,
+    shelf: &mut H,
+    checked: &Checked,
+    order: &Order,
+    counted: bool,
+) -> Answer
+    requires order { IsOrderOf checked.now order.now }
     requires own { (names : List (List ℕ)) × OwnFiles names checked.now.parts }
     ensures files { WhereTold (H.told shelf.old) (H.told shelf.new)
-        (λ old new. FilesShow (IsRunOf checked.now result.ended.arrivals old) (run_files checked.now)
+        (λ old new. FilesShow (IsRunOf checked.now order.now result.ended.arrivals old) (run_files checked.now)
         result.ended (H.counts shelf.old) (H.counts shelf.new) old new) }
     ensures counts { CountsShow result.ended.cause checked.now.parts (run_files checked.now)
         (H.counts shelf.old) (H.counts shelf.new) }
     ensures text { IfOk result.text (IsText counted result.ended.cause
-        (RunComes checked.now result.ended.arrivals (H.told shelf.old) (H.counts shelf.old) (H.counts shelf.new))) }
+        (RunComes checked.now order.now result.ended.arrivals (H.told shelf.old) (H.counts shelf.old) (H.counts shelf.new))) }
+    ensures kinds { MayEndIn order.now result.ended.cause }
+    ensures followed { FollowsOrder order.now result.ended }
     ensures reason { ReasonOf result.ended.cause checked.now }
     ensures ran { RanGraph result.ended.cause checked.now result.ended (H.counts shelf.old) (H.counts shelf.new) }
     ensures lent { H.lent shelf.old < 2 ^ 64 - 256 → H.lent shelf.new ≡ H.lent shelf.old }
 {
     engine_law();
-    match prepare(alloc, shelf, checked) {
+    match prepare(alloc, shelf, checked, order) {
         Prepared::OpenFailed(name) => plain(alloc, Cause::OpenFailed(name)),
+        Prepared::NotWhole(op) => bad_arrivals(alloc, checked, Some(op)),
         Prepared::Memory => plain(alloc, Cause::NoMemory),
         Prepared::Ran(run) => match sinks_of(alloc, checked) {
             Err(_) => plain(alloc, Cause::NoMemory),

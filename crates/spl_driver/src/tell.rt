@@ -20,6 +20,7 @@ fn is_run(cause: &Cause) -> bool
         | Cause::OpenFailed(_)
         | Cause::ReadFailed(_)
         | Cause::WriteFailed(_)
+        | Cause::BadArrivals(_)
         | Cause::NotBuilt
         | Cause::NoMemory => false,
     }

@@ -28,9 +28,8 @@ fn answer_request<H: Shelf>(alloc: Global, shelf: &mut H, request: &Request) -> 
         (H.counts shelf.old) (H.counts shelf.new) (H.lent shelf.old) (H.lent shelf.new) }
 {
     match request {
-        Request::Check(program) | Request::Plan(program) => {
-            answer_program(alloc, shelf, request, program)
-        }
+        Request::Check(program) | Request::Plan(program) | Request::Replay { program, .. } =>
+            answer_program(alloc, shelf, request, program),
         Request::Run { program, options } => {
             if is_plain(options) {
                 answer_program(alloc, shelf, request, program)
@@ -38,9 +37,7 @@ fn answer_request<H: Shelf>(alloc: Global, shelf: &mut H, request: &Request) -> 
                 plain(alloc, Cause::NotBuilt)
             }
         }
-        Request::Replay { .. } | Request::Simulate { .. } | Request::Make { .. } => {
-            plain(alloc, Cause::NotBuilt)
-        }
+        Request::Simulate { .. } | Request::Make { .. } => plain(alloc, Cause::NotBuilt),
     }
 }
 

@@ -9,11 +9,13 @@ use Rattle.stream_model.specs.Ends.{is_read, operator_fault}
 use Rattle.stream_model.specs.Laws.{is_made}
 use Rattle.stream_model.specs.Meaning.{Graph, Entries, Meaning, lists_at, meaning}
 use Rattle.stream_model.specs.Operators.{Operator, connections}
-use Rattle.stream_model.specs.Records.{is_whole}
 use Rattle.stream_model.specs.Stages.{out}
 use Rattle.stream_model.specs.Stream.{Event, is_closed, TuplesFit}
+use Rattle.list_engine.specs.declared.run_order.Order.{Order}
+use Rattle.list_engine.specs.declared.run_order.RunAnswer.{RunAnswer}
 use Rattle.list_engine.specs.declared.state.State.{State}
-use Rattle.list_engine.specs.Runs.{RowsFit, is_source, rows_at}
+use Rattle.list_engine.specs.RunOrders.{Follows, StopsRun}
+use Rattle.list_engine.specs.Runs.{RowsFit, is_source, is_whole_at, rows_at}
 use Rattle.list_engine.specs.steps.Faults.{fault_at}
 use Rattle.list_engine.specs.steps.Reading.{ops_at}
 use Rattle.list_engine.specs.steps.Recording.{entries_at, recorded_at}
@@ -51,11 +53,16 @@ pub record Means (c : CheckedGraph) (g : Graph) (m : Meaning) (entries : Entries
   pub sinks : (n : ℕ) (o : Operator) → Contains before n → slice_get g.ops n ≡ Some o → o.outs ≡ [] → rows_at state.sinks n ≡ out o 0 (m.events o.number)
   pub faults : (n : ℕ) (o : Operator) → Contains before n → slice_get g.ops n ≡ Some o → o.outs ≡ [] → fault_at state.faults n ≡ operator_fault o (m.events o.number)
   pub whole : (n : ℕ) (o : Operator) → Contains before n → slice_get g.ops n ≡ Some o → has_several (connections o) ≡ true
-      → is_whole o (lists_at m.streams (connections o)) (entries o.number) ≡ true
+      → is_whole_at m entries o ≡ true
 
--- the record of each of these operators is the one that is kept
-abbrev pub Agrees : List ℕ → List (Option (List ℕ)) → Entries → Type 0
-Agrees before recorded entries = (n : ℕ) → Contains before n → entries n ≡ entries_at recorded n
+-- the record of each of these operators that has several connections is the one that is kept
+abbrev pub Agrees : Graph → List ℕ → List (Option (List ℕ)) → Entries → Type 0
+Agrees g before recorded entries = (n : ℕ) (o : Operator) → Contains before n → slice_get g.ops n ≡ Some o → has_several (connections o) ≡ true → entries n ≡ entries_at recorded n
+
+-- and as the order says
+abbrev pub InOrder : Order → Graph → Meaning → List ℕ → Entries → Type 0
+InOrder order g m before entries = (n : ℕ) (o : Operator) → Contains before n → slice_get g.ops n ≡ Some o → has_several (connections o) ≡ true
+    → Follows order o (lists_at m.streams (connections o)) (entries o.number)
 
 -- a list for each stream, and a place for each operator
 pub record HasPlaces (c : CheckedGraph) (state : State) : Type 0 where
@@ -66,18 +73,25 @@ pub record HasPlaces (c : CheckedGraph) (state : State) : Type 0 where
   pub inputs : length state.inputs ≡ length c.graph.ops
 
 -- the operators with the numbers of the rest are still to be run, on these rows
-pub record Stands (c : CheckedGraph) (g : Graph) (rows : List (List Item)) (rest : List ℕ) (state : State) : Type 0 where
+pub record Stands (c : CheckedGraph) (order : Order) (g : Graph) (rows : List (List Item)) (rest : List ℕ) (state : State) : Type 0 where
   pub before : List ℕ
   pub split : g.topo ≡ before ++ rest
   pub places : HasPlaces c state
   pub left : (n : ℕ) → Contains rest n → rows_at state.rows n ≡ rows_at rows n
   pub recorded : (n : ℕ) (o : Operator) → Contains before n → slice_get g.ops n ≡ Some o → is_some (recorded_at state.inputs n) ≡ has_several (connections o)
-  pub means : (entries : Entries) → Agrees before state.inputs entries → Means c g (meaning g (rows_at rows) entries) entries before rest state
+  pub means : (entries : Entries) → Agrees g before state.inputs entries → Means c g (meaning g (rows_at rows) entries) entries before rest state
+  pub ordered : (entries : Entries) → Agrees g before state.inputs entries → InOrder order g (meaning g (rows_at rows) entries) before entries
 
 -- the operator with this number is the next to be run
-abbrev pub Ready : CheckedGraph → ℕ → List ℕ → State → Type 0
-Ready c n later state = (rows : List (List Item)) × ((g : Graph) → graph_of c ≡ g → RowsFit g rows × Stands c g rows (n ∷ later) state)
+abbrev pub Ready : CheckedGraph → Order → ℕ → List ℕ → State → Type 0
+Ready c order n later state = (rows : List (List Item)) × ((g : Graph) → graph_of c ≡ g → RowsFit g rows × Stands c order g rows (n ∷ later) state)
 
 -- it was run
-abbrev pub Advances : CheckedGraph → ℕ → List ℕ → State → State → Type 0
-Advances c n later old new = (g : Graph) (rows : List (List Item)) → graph_of c ≡ g → RowsFit g rows → Stands c g rows (n ∷ later) old → Stands c g rows later new
+abbrev pub Advances : CheckedGraph → Order → ℕ → List ℕ → State → State → Type 0
+Advances c order n later old new =
+    (g : Graph) (rows : List (List Item)) → graph_of c ≡ g → RowsFit g rows → Stands c order g rows (n ∷ later) old → Stands c order g rows later new
+
+-- the run stops there
+abbrev pub StopsAt : CheckedGraph → Order → ℕ → List ℕ → State → RunAnswer → Type 0
+StopsAt c order n later state answer =
+    (g : Graph) (rows : List (List Item)) → graph_of c ≡ g → Stands c order g rows (n ∷ later) state → StopsRun answer order g (rows_at rows)

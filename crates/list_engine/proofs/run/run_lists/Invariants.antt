@@ -7,4 +7,4 @@ decreases-operators g l = length l.rest
 
 -- the rest of the order is still to be run
 abbrev pub invariant-operators : goal.invariant-operators
-invariant-operators g l = Remains g.R.React.spec g.R.React.stands l.checked l.fn.rows l.rest l.operators l.state
+invariant-operators g l = Remains g.R.React.spec g.R.React.stands l.checked l.order l.fn.rows l.rest l.operators l.state

@@ -7,7 +7,7 @@ use Rattle.list_engine.proofs.run.run_source.Goals as goal
 
 pub take-items-requires : goal.take-items-requires
 take-items-requires c =
-    let rows = (ready_places c.args.checked.now c.requires.ready.0 c.args.number c.args.state.now c.requires.ready.1).rows in
+    let rows = (ready_places c.args.checked.now c.requires.ready.0 c.requires.ready.1 c.args.number c.args.state.now c.requires.ready.2).rows in
     let within = c.requires.number in
     omega (arith, rows, within)
 
@@ -24,13 +24,13 @@ keep-requires-clause-room c =
     let there = ap (λ (x : CheckedGraph). slice_get x.graph.ops c.args.number) (sym c.checked.view_is) ∙ sym c.in-Some.ensures.value in
     has_room c.args.checked.now c.args.number c.in-Some.op.now _ k there
     (rows_taken c.args.checked.now c.args.number c.args.state.now c.take-items.new.lists
-    (ready_places c.args.checked.now c.requires.ready.0 c.args.number c.args.state.now c.requires.ready.1) c.take-items.ensures.others)
+    (ready_places c.args.checked.now c.requires.ready.0 c.requires.ready.1 c.args.number c.args.state.now c.requires.ready.2) c.take-items.ensures.others)
 
 pub returns : goal.returns
-returns c = λ later.
+returns c = λ order later.
     let k = subst Keeps c.checked.view_is c.checked.invariant in
     let there = ap (λ (x : CheckedGraph). slice_get x.graph.ops c.args.number) (sym c.checked.view_is) ∙ sym c.in-Some.ensures.value in
     let alone = c.in_ok-push.ensures.ok ∙ ap (λ xs. xs ++ c.take-items.result ∷ []) c.new-outs.ensures in
-    source_advances c.args.checked.now later c.args.number c.in-Some.op.now c.args.state.now c.keep.new.state c.take-items.result c.take-items.new.lists k c.requires.is_source there
+    source_advances c.args.checked.now order later c.args.number c.in-Some.op.now c.args.state.now c.keep.new.state c.take-items.result c.take-items.new.lists k c.requires.is_source there
     c.take-items.ensures.list c.take-items.ensures.others
     (subst (λ xs. IsKept c.in-Some.op.now.outs c.args.number (record { outs = xs; inputs = None }) None (record c.args.state.now { rows = c.take-items.new.lists }) c.keep.new.state) alone c.keep.ensures)

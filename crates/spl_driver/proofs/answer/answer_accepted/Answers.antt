@@ -1,12 +1,14 @@
-use Rattle.std.proofs.Common.{sym, subst}
+use Rattle.std.proofs.Common.{ap, Some, sym, subst}
 use Rattle.std.specs.Prelude.{IfOk, List, ℕ, Result}
 use Rattle.spl_value.specs.declared.memory.NoMemory.{NoMemory}
 use Rattle.run_report.specs.declared.cause.Cause.{Cause}
 use Rattle.spl_driver.specs.Outcome.{OfPlan, OfSize}
+use Rattle.command_line.specs.declared.request.Request.{Request}
+use Rattle.spl_driver.specs.Answer.{is_replay}
 use Rattle.spl_driver.specs.Steps.{ReasonOf}
 use Rattle.spl_driver.specs.Texts.{IsReportText}
-use Rattle.spl_driver.proofs.Showing.{graph_ran, report_ran}
-use Rattle.spl_driver.proofs.Carrying.{asks_plan, asks_size, ran_counts, ran_files, ran_text, reported_counts, reported_files, reported_text}
+use Rattle.spl_driver.proofs.Showing.{graph_ran, replay_ran, report_ran}
+use Rattle.spl_driver.proofs.Carrying.{asks_plan, asks_size, follows_replay, follows_unless, needs_replay, needs_unless, replay_kinds, replayed_counts, replayed_files, replayed_text, ran_counts, ran_files, ran_text, run_kinds, reported_counts, reported_files, reported_text}
 use Rattle.spl_driver.proofs.answer.answer_accepted.Goals as goal
 
 -- ---- its size
@@ -70,3 +72,60 @@ returns-in-Run-clause-text g c =
 
 pub returns-in-Run-clause-ran : goal.returns-in-Run-clause-ran
 returns-in-Run-clause-ran g c = graph_ran c.run.result.ended.cause c.args.request.now c.in-Run.program c.in-Run.options c.args.accepted.now c.run.result.ended _ _ c.in-Run.is c.run.ensures.ran
+
+-- ---- its replay
+
+pub returns-in-Replay-clause-files : goal.returns-in-Replay-clause-files
+returns-in-Replay-clause-files g c =
+    replayed_files _ _ c.args.request.now c.in-Replay.program c.in-Replay.arrivals c.args.accepted.now c.replay.result.ended _ _ c.in-Replay.is c.replay.ensures.files
+
+pub returns-in-Replay-clause-counts : goal.returns-in-Replay-clause-counts
+returns-in-Replay-clause-counts g c =
+    replayed_counts c.args.request.now c.in-Replay.program c.in-Replay.arrivals c.args.accepted.now c.replay.result.ended.cause _ _ c.in-Replay.is c.replay.ensures.counted
+
+pub returns-in-Replay-clause-text : goal.returns-in-Replay-clause-text
+returns-in-Replay-clause-text g c =
+    replayed_text _ c.args.request.now c.in-Replay.program c.in-Replay.arrivals c.args.accepted.now c.replay.result.ended c.replay.result.text _ _ c.in-Replay.is c.replay.ensures.text
+
+pub returns-in-Replay-clause-ran : goal.returns-in-Replay-clause-ran
+returns-in-Replay-clause-ran g c =
+    replay_ran c.replay.result.ended.cause c.args.request.now c.in-Replay.program c.in-Replay.arrivals c.args.accepted.now c.replay.result.ended _ _ c.in-Replay.is c.replay.ensures.ran
+
+pub returns-in-Replay-clause-reason : goal.returns-in-Replay-clause-reason
+returns-in-Replay-clause-reason g c = c.replay.ensures.reason
+
+-- ---- the record that is followed
+
+pub returns-in-Check-clause-followed : goal.returns-in-Check-clause-followed
+returns-in-Check-clause-followed g c = follows_unless _ c.args.request.now c.args.accepted.now c.reported.result.ended (asks_size c.args.request.now c.in-Check.field-0 c.args.accepted.now c.in-Check.is).kinds
+
+pub returns-in-Plan-clause-followed : goal.returns-in-Plan-clause-followed
+returns-in-Plan-clause-followed g c = follows_unless _ c.args.request.now c.args.accepted.now c.reported-in-Plan.result.ended (asks_plan c.args.request.now c.in-Plan.field-0 c.args.accepted.now c.in-Plan.is).kinds
+
+pub returns-in-Run-clause-followed : goal.returns-in-Run-clause-followed
+returns-in-Run-clause-followed g c = follows_unless _ c.args.request.now c.args.accepted.now c.run.result.ended (ap (λ (q : Request). is_replay (Some q)) c.in-Run.is)
+
+pub returns-in-Replay-clause-followed : goal.returns-in-Replay-clause-followed
+returns-in-Replay-clause-followed g c = follows_replay _ c.args.request.now c.in-Replay.program c.in-Replay.arrivals c.args.accepted.now c.replay.result.ended c.in-Replay.is c.replay.ensures.followed
+
+-- ---- and needed
+
+pub returns-in-Check-clause-needed : goal.returns-in-Check-clause-needed
+returns-in-Check-clause-needed g c = needs_unless _ c.args.request.now c.reported.result.ended (asks_size c.args.request.now c.in-Check.field-0 c.args.accepted.now c.in-Check.is).kinds
+
+pub returns-in-Plan-clause-needed : goal.returns-in-Plan-clause-needed
+returns-in-Plan-clause-needed g c = needs_unless _ c.args.request.now c.reported-in-Plan.result.ended (asks_plan c.args.request.now c.in-Plan.field-0 c.args.accepted.now c.in-Plan.is).kinds
+
+pub returns-in-Run-clause-needed : goal.returns-in-Run-clause-needed
+returns-in-Run-clause-needed g c = needs_unless _ c.args.request.now c.run.result.ended (ap (λ (q : Request). is_replay (Some q)) c.in-Run.is)
+
+pub returns-in-Replay-clause-needed : goal.returns-in-Replay-clause-needed
+returns-in-Replay-clause-needed g c = needs_replay _ c.args.request.now c.in-Replay.program c.in-Replay.arrivals c.replay.result.ended c.in-Replay.is c.replay.ensures.needed
+
+-- ---- the causes that it may have
+
+pub returns-in-Run-clause-kinds : goal.returns-in-Run-clause-kinds
+returns-in-Run-clause-kinds g c = run_kinds c.args.request.now c.in-Run.program c.in-Run.options c.run.result.ended.cause c.in-Run.is c.run.ensures.kinds
+
+pub returns-in-Replay-clause-kinds : goal.returns-in-Replay-clause-kinds
+returns-in-Replay-clause-kinds g c = replay_kinds c.args.request.now c.in-Replay.program c.in-Replay.arrivals c.replay.result.ended.cause c.in-Replay.is

@@ -8,12 +8,9 @@ returns-else-is_plain g c =
     not_built_request _ c.args.request.now c.plain.result _ _ (ap is_built c.in-Run.is ∙ sym c.is_plain.ensures ∙ c.if-is_plain.false)
     c.plain.ensures.cause c.plain.ensures.text c.plain.ensures.ran
 
-pub returns-in-Replay : goal.returns-in-Replay
-returns-in-Replay g c =
-    not_built_request _ c.args.request.now c.plain-in-Replay.result _ _ other c.plain-in-Replay.ensures.cause c.plain-in-Replay.ensures.text c.plain-in-Replay.ensures.ran
+pub returns-in-Simulate : goal.returns-in-Simulate
+returns-in-Simulate g c =
+    not_built_request _ c.args.request.now c.plain-in-Simulate.result _ _ other c.plain-in-Simulate.ensures.cause c.plain-in-Simulate.ensures.text c.plain-in-Simulate.ensures.ran
   where
     other : is_built c.args.request.now ≡ false
-    other = elim c.in-Replay.is [
-      | inl replay ↦ ap is_built replay.2
-      | inr others ↦ elim others [ inl simulate ↦ ap is_built simulate.4 | inr make ↦ ap is_built make.3 ]
-    ]
+    other = elim c.in-Simulate.is [ inl simulate ↦ ap is_built simulate.4 | inr make ↦ ap is_built make.3 ]
