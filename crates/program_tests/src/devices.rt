@@ -114,7 +114,7 @@ composite Main {graph stream<int64 n> T = FileSource() {param file: "t.csv";} st
 # a source that isn't there
 @first | fail line 1 => 4
 # a request that isn't built
-@pair | a.csv: 1␊2␊ | b.csv: 3␊ | fail line 1 | $ replay p.spl --arrivals r.txt => 13
+@pair | a.csv: 1␊2␊ | b.csv: 3␊ | fail line 1 | $ simulate p.spl --width 1 --schedule 0 => 13
 # no request
 @pair | a.csv: 1␊2␊ | b.csv: 3␊ | fail line 1 | $ walk p.spl => 1
 "#;

@@ -336,6 +336,35 @@ composite Main {
 }
 "#;
 
+/// Bookings of two offices, for fewer seats than they want.
+pub(crate) const BOOKINGS: &str =
+    r#"// Two offices book the seats of one boat, of which there are five. Who comes first has them, so it depends on the
+// order in which the bookings of both came. `run` takes all of the north office and then those of the south one,
+// and `replay` takes them in the order of a record.
+
+type Booking = int64 number, rstring office, rstring name, int32 seats;
+
+composite Main {
+  graph
+    stream<Booking> North = FileSource() { param file: "north.csv"; format: csv; }
+    stream<Booking> South = FileSource() { param file: "south.csv"; format: csv; }
+    stream<Booking> Bookings = Union(North; South);
+    // A booking has all of its seats, or none.
+    (stream<Booking> Booked; stream<Booking> Refused) as Seats = Custom(Bookings) {
+      logic
+        state: { mutable int32 free = 5; }
+        onTuple Bookings: {
+          if (seats <= free) {
+            free -= seats;
+            submit(Bookings, Booked);
+          } else submit(Bookings, Refused);
+        }
+    }
+    () as BookedOut = FileSink(Booked) { param file: "booked.csv"; format: csv; }
+    () as RefusedOut = FileSink(Refused) { param file: "refused.csv"; format: csv; }
+}
+"#;
+
 /// Readings of which one is no number.
 pub(crate) const BAD_ROW: &str =
     r#"// Readings of a thermometer, one of which isn't a number: parsing is strict where nothing else is said, so
@@ -411,6 +440,10 @@ pub(crate) const EXAMPLES: &str = r#"
 # sums: three sales of a shop that reach what a busy one takes, and others that don't count
 @sales | $ check p.spl => 0 ok 9 operators 7 streams␊
 @sales | sales.csv: 1,bakery,1000,2␊2,books,5000,1␊3,bakery,1000,3␊4,bakery,0,5␊5,bakery,500,2␊6,bakery,100,0␊7,bakery,100,20␊8,books,-5,30␊9,books,999,1␊ => 0; quiet.csv 1,bakery,2000,1␊2,books,5000,1␊3,bakery,5000,2␊9,books,5999,2␊; busy.csv 5,bakery,6000,3␊7,bakery,6000,3␊; bulk.csv 7,bakery,100,20␊; counts 6:4 7:2 8:1
+# replay: input after input, and in the order of a record
+@bookings | $ check p.spl => 0 ok 6 operators 5 streams␊
+@bookings | north.csv: 101,north,Ames,2␊102,north,Chen,2␊103,north,Diaz,1␊ | south.csv: 201,south,Frey,1␊202,south,Gall,3␊203,south,Hahn,1␊ => 0; refused.csv 201,south,Frey,1␊202,south,Gall,3␊203,south,Hahn,1␊; booked.csv 101,north,Ames,2␊102,north,Chen,2␊103,north,Diaz,1␊; counts 4:3 5:3; record 2 0 0 0 0 0 1 1 1 1 1
+@bookings | north.csv: 101,north,Ames,2␊102,north,Chen,2␊103,north,Diaz,1␊ | south.csv: 201,south,Frey,1␊202,south,Gall,3␊203,south,Hahn,1␊ | arrivals.txt: arrivals 1␊Bookings 1 0 1 0 1 0 0 0 1 1␊ | $ replay p.spl --arrivals arrivals.txt => 0; refused.csv 202,south,Gall,3␊203,south,Hahn,1␊103,north,Diaz,1␊; booked.csv 201,south,Frey,1␊101,north,Ames,2␊102,north,Chen,2␊; counts 4:3 5:3; record 2 1 0 1 0 1 0 0 0 1 1
 # bad-row
 @bad_row | $ check p.spl => 0 ok 3 operators 2 streams␊
 @bad_row | readings.csv: 1000,attic,212␊1005,cellar,121␊1010,attic,219␊1015,attic,198␊1020,cellar,n/a␊1025,attic,230␊ => 3 stopped Readings BadRow line 5␊; warm.csv 1000,attic,212␊1010,attic,219␊; counts 2:2

@@ -1,7 +1,7 @@
 //! Programs and files that are too long for a row.
 use std::alloc::{AllocError, Global};
 use test_texts::signs::without_signs;
-use test_texts::spelled::spread;
+use test_texts::spelled::{spelled_out, spread};
 use test_texts::words::{cut, number};
 
 /// The text with its first such piece replaced.
@@ -56,7 +56,7 @@ fn times(alloc: Global, asked: &str) -> Result<String, AllocError> {
 /// What a file of a row holds.
 pub(crate) fn held_of(alloc: Global, held: &str) -> Result<String, AllocError> {
     match held.strip_prefix("@times ") {
-        None => without_signs(alloc, held),
+        None => spelled_out(alloc, held),
         Some(asked) => times(alloc, asked),
     }
 }

@@ -116,6 +116,7 @@ composite Main {graph stream<rstring a, rstring b, int64 v> T = FileSource() {pa
 # Whole programs.
 @sums => 0 single In␊region 0 merge pulses key sym: C1.Good V A␊region 1 merge pulses key -: C2.Good␊single Lo␊single LoOut␊single HiOut␊single BigOut␊
 @sales => 0 single Sales␊region 0 merge pulses key shop: Sold.Kept Takings Sums␊region 1 merge pulses key -: Bulk.Kept␊single Quiet␊single QuietOut␊single BusyOut␊single BulkOut␊
+@bookings => 0 single North␊single South␊single Bookings␊single Seats␊single BookedOut␊single RefusedOut␊
 @averages => 0 single All␊region 0 merge pulses key sensor: Measured Sums Means␊single MeansOut␊
 @highest => 0 single Trades␊region 0 merge numbers key symbol: Range␊single RangeOut␊
 @trades => 0 single Trades␊region 0 merge pulses key -: Cancelled␊region 1 merge pulses key -: Valued.Valued␊single Small␊single Holdings␊single CancelledOut␊single SmallOut␊single MiddleOut␊single LargeOut␊single HoldingsOut␊

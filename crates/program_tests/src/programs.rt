@@ -7,15 +7,16 @@
 //! | `@rows TYPES`, `@permissive TYPES` | a source `T` of these attributes, strict or not, and a sink |
 //! | `@op TYPES → TEXT` | a source `T` of these attributes, the text, and a sink of `B` |
 //! | `@two TEXT` | a composite with two sources `S` and `T`, and the text |
+//! | `@three TEXT` | a composite with three sources `A`, `B` and `C`, and the text |
 //! | `@join TEXT` | two sources `L` and `R`, a Join `J` with the text as its clauses, and a sink |
-//! | `@first`, `@pair`, `@sums`, `@telemetry`, `@trades`, `@logs`, `@averages`, `@highest`, `@sales`, `@bad_row`, `@division`, `@wrong` | that program |
+//! | `@first`, `@pair`, `@union`, `@unions`, `@sums`, `@telemetry`, `@trades`, `@logs`, `@averages`, `@highest`, `@sales`, `@bookings`, `@bad_row`, `@division`, `@wrong` | that program |
 //! | `@sums OLD → NEW` | that program with the first such piece replaced |
 //! | `@nested 9` | `@first` with its attribute in nine pairs of parentheses |
 //! | `@parentheses 9`, `@sources 9`, `@chain 9`, `@padded 9 TEXT` | what `generated` says |
 //! | `@text TEXT` | the text, where it begins with `#` or `@` |
 //! | another text | the text |
 use crate::examples::{
-    AVERAGES, BAD_ROW, DIVISION, HIGHEST, LOGS, SALES, TELEMETRY, TRADES, WRONG,
+    AVERAGES, BAD_ROW, BOOKINGS, DIVISION, HIGHEST, LOGS, SALES, TELEMETRY, TRADES, WRONG,
 };
 use crate::generated::{CHAIN, NESTED, PARENTHESES, SOURCES, counted, edited, padded};
 use std::alloc::{AllocError, Global};
@@ -44,6 +45,9 @@ const OPERATOR: &str =
 const TWO: &str =
     r#"composite Main {graph stream<int64 n> S = FileSource() {param file: "s.csv";} stream<int64 n> T = FileSource() {param file: "t.csv";} FIRST}"#;
 
+const THREE: &str =
+    r#"composite Main {graph stream<int64 n> A = FileSource() {param file: "a.csv";} stream<int64 n> B = FileSource() {param file: "b.csv";} stream<int64 n> C = FileSource() {param file: "c.csv";} FIRST}"#;
+
 const JOIN: &str =
     r#"composite Main {graph stream<rstring k> L = FileSource() {param file: "l.csv";} stream<rstring k, int64 v> R = FileSource() {param file: "r.csv";} stream<rstring k, int64 v> J = Join(L; R) {FIRST} () as Out = FileSink(J) {param file: "o.csv";}}"#;
 
@@ -63,6 +67,28 @@ const PAIR: &str = r#"composite Main {
     stream<int64 n> B = FileSource() { param file: "b.csv"; }
     () as X = FileSink(A) { param file: "x.csv"; }
     () as Y = FileSink(B) { param file: "y.csv"; }
+}
+"#;
+
+// Two sources, a Union of them, and a sink.
+const UNION: &str = r#"composite Main {
+  graph
+    stream<int64 n> A = FileSource() { param file: "a.csv"; }
+    stream<int64 n> B = FileSource() { param file: "b.csv"; }
+    stream<int64 n> U = Union(A; B);
+    () as Out = FileSink(U) { param file: "o.csv"; }
+}
+"#;
+
+// Three sources, and two Unions one behind the other.
+const UNIONS: &str = r#"composite Main {
+  graph
+    stream<int64 n> A = FileSource() { param file: "a.csv"; }
+    stream<int64 n> B = FileSource() { param file: "b.csv"; }
+    stream<int64 n> C = FileSource() { param file: "c.csv"; }
+    stream<int64 n> U = Union(A; B);
+    stream<int64 n> V = Union(U; C);
+    () as Out = FileSink(V) { param file: "o.csv"; }
 }
 "#;
 
@@ -99,6 +125,8 @@ fn named(name: &str) -> &'static str {
     match name {
         "first" => FIRST,
         "pair" => PAIR,
+        "union" => UNION,
+        "unions" => UNIONS,
         "sums" => SUMS,
         "telemetry" => TELEMETRY,
         "trades" => TRADES,
@@ -106,6 +134,7 @@ fn named(name: &str) -> &'static str {
         "averages" => AVERAGES,
         "highest" => HIGHEST,
         "sales" => SALES,
+        "bookings" => BOOKINGS,
         "bad_row" => BAD_ROW,
         "division" => DIVISION,
         "wrong" => WRONG,
@@ -151,6 +180,7 @@ fn program_by_name(alloc: Global, name: &str, text: &str) -> Result<String, Allo
         "permissive" => filled(alloc, PERMISSIVE, text),
         "op" => filled(alloc, OPERATOR, text),
         "two" => filled(alloc, TWO, text),
+        "three" => filled(alloc, THREE, text),
         "join" => filled(alloc, JOIN, text),
         "nested" => nested_of(alloc, text),
         "parentheses" => counted(alloc, PARENTHESES, text),

@@ -10,6 +10,7 @@ use crate::faults::{FAULTS, TURNS};
 use crate::operators::OPERATORS;
 use crate::plans::PLANS;
 use crate::refusals::{CHECKS, REFUSALS};
+use crate::replays::{INTERLEAVED, LONG_RECORDS, NOT_WHOLE, RECORDS, REPLAYS, STOPPED_REPLAYS};
 use crate::runs::RUNS;
 use crate::several::{JOINED, SEVERAL};
 use crate::single::SINGLE;
@@ -35,6 +36,8 @@ enum Question {
 const RUN: Question = Question::Words("run p.spl");
 
 const RUN_WITH_COUNTS: Question = Question::Words("run p.spl --counts");
+
+const REPLAY: Question = Question::Words("replay p.spl --arrivals r.txt");
 
 const CHECK: Question = Question::Words("check p.spl");
 
@@ -107,6 +110,34 @@ fn others_of<W: Threads + Wait + Sync>(
 #[test]
 fn the_program_answers_as_the_rows_say(rt: HostRuntime) -> Result<(), Fail> {
     no_others(others_of(&rt, rt.alloc(), &TABLES)?)?;
+    Ok(())
+}
+
+#[test]
+fn a_replay_follows_its_record(rt: HostRuntime) -> Result<(), Fail> {
+    no_others(others_of(
+        &rt,
+        rt.alloc(),
+        &[
+            (REPLAY, INTERLEAVED),
+            (REPLAY, REPLAYS),
+            (REPLAY, LONG_RECORDS),
+        ],
+    )?)?;
+    Ok(())
+}
+
+#[test]
+fn a_replay_is_refused_in_order(rt: HostRuntime) -> Result<(), Fail> {
+    no_others(others_of(
+        &rt,
+        rt.alloc(),
+        &[
+            (REPLAY, RECORDS),
+            (REPLAY, NOT_WHOLE),
+            (REPLAY, STOPPED_REPLAYS),
+        ],
+    )?)?;
     Ok(())
 }
 

@@ -9,7 +9,7 @@
 //! | `; t.csv changed` | a file that was there before, and isn't as it was |
 //! | `; t.csv unread` | of status 4, a file of which a read failed |
 //! | `; counts 2:1 3:0` | of a run with status 0 or 3, each sink's number and the rows that it wrote |
-//! | `; record 2 0 0 1` | the inputs of the events of an operator with several, by its number |
+//! | `; record 2 0 0 1` | the inputs of the events of an operator with several, by its number, or how many events, `of 1200 inputs` |
 //! | `; channels` | counts of channels |
 use crate::ask::Seen;
 use crate::shelf::File;
@@ -22,10 +22,10 @@ use test_texts::words::bytes;
 
 // The files that a row's request may make.
 const MADE: &str =
-    "o.csv x.csv y.csv z.csv m.csv a.txt r.txt failures.csv warm.csv hot.csv statistics.csv falls.csv \
+    "o.csv x.csv y.csv z.csv m.csv a.txt failures.csv warm.csv hot.csv statistics.csv falls.csv \
     rises.csv cancelled.csv small.csv middle.csv large.csv holdings.csv others.csv refused.csv failed.csv \
     paths.csv rates.csv lo.csv hi.csv big.csv means.csv range.csv \
-    quiet.csv busy.csv bulk.csv";
+    quiet.csv busy.csv bulk.csv booked.csv";
 
 fn add_told(text: &mut Text, seen: &Seen) {
     text.add_number(i128::from(seen.ended.status));
@@ -99,14 +99,25 @@ fn add_counts(text: &mut Text, ended: &Ended) {
     }
 }
 
+// The inputs of a list, or how many there are.
+fn add_inputs(text: &mut Text, inputs: &[u32]) {
+    if inputs.len() > 1000 {
+        text.add(" of ");
+        text.add_number(inputs.len() as i128);
+        text.add(" inputs");
+        return;
+    }
+    for input in inputs {
+        text.add(" ");
+        text.add_number(i128::from(*input));
+    }
+}
+
 fn add_record(text: &mut Text, ended: &Ended) {
     for list in ended.arrivals.lists.as_slice() {
         text.add("; record ");
         text.add_number(i128::from(list.op));
-        for input in list.inputs.as_slice() {
-            text.add(" ");
-            text.add_number(i128::from(*input));
-        }
+        add_inputs(text, list.inputs.as_slice());
     }
 }
 

@@ -45,35 +45,40 @@ pub(crate) fn unopened<W: Threads + Wait + Sync>(
 
 /// Words with their own answers.
 pub(crate) const BUILT: &str = r#"
-# Check, plan and run are built, and run with counts.
+# Check, plan, run and replay are built, and run with counts.
 @first | t.csv: 5␊10␊11␊ | $ check p.spl => 0 ok 3 operators 2 streams␊
 @first | t.csv: 5␊10␊11␊ | $ plan p.spl => 0 single T␊region 0 merge pulses key -: B␊single Out␊
 @first | t.csv: 5␊10␊11␊ | $ run p.spl => 0; o.csv 11␊; counts 2:1
 @first | t.csv: 5␊10␊11␊ | $ run p.spl --counts => 0 sink Out tuples 1␊; o.csv 11␊; counts 2:1
 @first | t.csv: 5␊10␊11␊ | $ run --counts p.spl => 0 sink Out tuples 1␊; o.csv 11␊; counts 2:1
+@first | t.csv: 5␊10␊11␊ | r.txt: arrivals 1␊ | $ replay p.spl --arrivals r.txt => 0; o.csv 11␊; counts 2:1
 
 # A program of three numbers.
 @first | t.csv: 5␊10␊11␊ | $ check t.csv => 2 refused S1 at 0␊
 @first | t.csv: 5␊10␊11␊ | $ plan t.csv => 2 refused S1 at 0␊
 @first | t.csv: 5␊10␊11␊ | $ run t.csv => 2 refused S1 at 0␊
 @first | t.csv: 5␊10␊11␊ | $ run t.csv --counts => 2 refused S1 at 0␊
+@first | t.csv: 5␊10␊11␊ | r.txt: arrivals 1␊ | $ replay t.csv --arrivals r.txt => 2 refused S1 at 0␊
 
 # Names of files that aren't there.
 @first | t.csv: 5␊10␊11␊ | $ check check => 4 cannot open check␊
 @first | t.csv: 5␊10␊11␊ | $ plan plan => 4 cannot open plan␊
 @first | t.csv: 5␊10␊11␊ | $ run run => 4 cannot open run␊
 @first | t.csv: 5␊10␊11␊ | $ run counts --counts => 4 cannot open counts␊
+@first | t.csv: 5␊10␊11␊ | r.txt: arrivals 1␊ | $ replay replay --arrivals r.txt => 4 cannot open replay␊
+@first | t.csv: 5␊10␊11␊ | r.txt: arrivals 1␊ | $ replay p.spl --arrivals arrivals => 4 cannot open arrivals␊
 @first | t.csv: 5␊10␊11␊ | $ run P.spl => 4 cannot open P.spl␊
 @first | t.csv: 5␊10␊11␊ | $ run a=b => 4 cannot open a=b␊
 @first | t.csv: 5␊10␊11␊ | $ run ␣ => 4 cannot open  ␊
 
 # A request that is not built comes before a refused program.
-@text # | $ replay p.spl --arrivals r.txt => 13 not built␊
+@text # | $ simulate p.spl --width 1 --schedule 0 => 13 not built␊
 @text # | $ run p.spl --counts --width 1 => 13 not built␊
 @text # | $ walk p.spl => 1 bad words␊
 @text # | $ check p.spl => 2 refused L1 at 0␊
 @text # | $ plan p.spl => 2 refused L1 at 0␊
 @text # | $ run p.spl --counts => 2 refused L1 at 0␊
+@text # | $ replay p.spl --arrivals r.txt => 2 refused L1 at 0␊
 "#;
 
 /// Words that open no file.
@@ -92,8 +97,6 @@ run --counts --capacity=64 p.spl => 13 not built␊
 run p.spl --counts --arrivals a.txt => 13 not built␊
 run p.spl --arrivals a.txt => 13 not built␊
 run --arrivals=a.txt --width 4 p.spl --workers 3 --counts --capacity=64 => 13 not built␊
-replay p.spl --arrivals r.txt => 13 not built␊
-replay --arrivals=r.txt p.spl => 13 not built␊
 simulate p.spl --width 2 --schedule 0 => 13 not built␊
 simulate --steps 1 --schedule=2147483647 p.spl --width 16 => 13 not built␊
 simulate p.spl --width 1 --schedule 0 --steps 1000000000 => 13 not built␊
@@ -181,6 +184,7 @@ run p.spl --counts= => 1 bad words␊
 run p.spl --arrivals p.spl => 1 bad words␊
 run p.spl --arrivals -a => 1 bad words␊
 run p.spl --arrivals= => 1 bad words␊
+replay p.spl --arrivals p.spl => 1 bad words␊
 replay p.spl --arrivals=p.spl => 1 bad words␊
 replay p.spl --arrivals => 1 bad words␊
 simulate p.spl --width 2 --schedule 2147483648 => 1 bad words␊
