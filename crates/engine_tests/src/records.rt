@@ -1,0 +1,184 @@
+//! Runs in the order of a record.
+ghost use Rattle.std.specs.Prelude.{◌≤◌, length};
+
+use clause_rules::check;
+use composite_expand::expand;
+use graph_run::run_graph;
+use language_model::Checked;
+use list_engine::{Order, Run, RunAnswer};
+use memory_files::MemoryShelf;
+use source_rows::{Sources, read_sources};
+use spl_lexer::lex;
+use spl_tree::{Tokens, Unit};
+use spl_value::{Inputs, Item, Items, Name, NoMemory, Value};
+use std::alloc::{AllocError, Global};
+use std::test::Fail;
+use stream_model::{ArrivalList, Arrivals};
+use test_texts::rows::{Answers, expect};
+use test_texts::spelled::spelled_out;
+use test_texts::text::Text;
+use test_texts::words::{bytes, number};
+use unit_parser::parse_unit;
+
+/// Two sources, with a Union that a sink reads, and with a sink that reads them by itself. These two have the
+/// numbers 2 and 4.
+const PROGRAM: &str = r#"composite Main {graph
+stream<int64 n> A = FileSource() {param file: "a";}
+stream<int64 n> B = FileSource() {param file: "b";}
+stream<int64 n> U = Union(A; B);
+() as X = FileSink(U) {param file: "x";}
+() as Y = FileSink(A, B) {param file: "y";}}"#;
+
+/// The files of both sources, and the record: `1␊ | 2␊3␊ | 2 0 0 0 1 1 1 1 | 4 1 1 1 1 0 0 0` has a list
+/// for the Union and one for the sink. The answer has what the sinks are given, and who ended with a fault, or
+/// whose list isn't whole.
+const ROWS: &str = "\
+# Any order of the items of several inputs, where each comes after those before it in its own input.
+1␊2␊ | 5␊ | 2 0 0 0 0 1 1 1 | 4 0 0 0 0 1 1 1 => 1 2 5; 1 2 5
+1␊2␊ | 5␊ | 2 1 1 1 0 0 0 0 | 4 0 1 0 1 0 0 1 => 5 1 2; 1 5 2
+1␊2␊ | 5␊ | 2 0 1 0 0 0 1 1 | 4 1 0 0 0 0 1 1 => 1 5 2; 5 1 2
+# The lists may stand in any order, and those of other operators say nothing.
+1␊ | 5␊ | 4 1 1 1 0 0 0 | 3 7 | 2 0 1 0 1 0 1 => 1 5; 5 1
+# An operator has no more entries than it has items that it takes.
+1␊x␊ | 5␊ | 2 1 0 0 | 4 0 0 => 5 1; 1; fault of 0
+1␊x␊ | 5␊ | 2 1 0 0 1 | 4 0 0 => 2 isn't whole
+# Entries that are over before the end, and none at all.
+1␊2␊ | 5␊ | 2 0 0 0 0 1 1 | 4 0 0 0 0 1 1 1 => 2 isn't whole
+1␊2␊ | 5␊ | 4 0 0 0 0 1 1 1 => 2 isn't whole
+1␊2␊ | 5␊ | 2 0 0 0 0 1 1 1 => 4 isn't whole
+# Entries behind the end.
+1␊2␊ | 5␊ | 2 0 0 0 0 1 1 1 1 | 4 0 0 0 0 1 1 1 => 2 isn't whole
+1␊2␊ | 5␊ | 2 0 0 0 0 1 1 1 | 4 0 0 0 0 1 1 1 0 => 4 isn't whole
+# An input that there isn't, and one that is used up.
+1␊2␊ | 5␊ | 2 0 0 2 0 0 1 1 1 | 4 0 0 0 0 1 1 1 => 2 isn't whole
+1␊2␊ | 5␊ | 2 1 1 1 1 0 0 0 0 | 4 0 0 0 0 1 1 1 => 2 isn't whole
+1␊2␊ | 5␊ | 2 0 0 0 0 1 1 1 | 4 0 0 0 0 0 1 1 => 4 isn't whole
+# The first of two.
+1␊2␊ | 5␊ | 2 0 | 4 0 => 2 isn't whole
+";
+
+/// The record of a row.
+struct Recorded;
+
+impl Answers for Recorded {
+    fn answer(&self, alloc: Global, text: &str) -> Result<String, AllocError> {
+        let Ok(tokens) = lex(alloc, PROGRAM.as_bytes()) else {
+            return "no tokens".to_string(alloc);
+        };
+        if tokens.list.len() > 1_048_576 {
+            return "too many tokens".to_string(alloc);
+        }
+        parsed(alloc, &tokens, text)
+    }
+}
+
+fn parsed(alloc: Global, tokens: &Tokens, row: &str) -> Result<String, AllocError>
+    requires { length tokens.now.list ≤ 1048576 }
+{
+    match parse_unit(alloc, tokens) {
+        Ok(unit) => expanded(alloc, &unit, row),
+        Err(_) => "no tree".to_string(alloc),
+    }
+}
+
+fn expanded(alloc: Global, unit: &Unit, row: &str) -> Result<String, AllocError> {
+    let names = Items::new(alloc);
+    let Ok(graph) = expand(alloc, unit, &names) else {
+        return "no graph".to_string(alloc);
+    };
+    match check(alloc, unit, graph) {
+        Ok(checked) => from_files(alloc, &checked, row),
+        Err(_) => "refused".to_string(alloc),
+    }
+}
+
+fn put(alloc: Global, shelf: &mut MemoryShelf, name: &str, text: &str) -> Result<(), NoMemory> {
+    let name: Name = bytes(alloc, name)?;
+    let text = spelled_out(alloc, text)?;
+    shelf.put_file(&name, bytes(alloc, text.as_str())?)
+}
+
+/// The run of a row.
+fn from_files(alloc: Global, checked: &Checked, row: &str) -> Result<String, AllocError> {
+    let mut shelf = MemoryShelf::new(alloc);
+    let (first, rest) = row.split_once(" | ").unwrap_or((row, ""));
+    let (second, lists) = rest.split_once(" | ").unwrap_or((rest, ""));
+    if put(alloc, &mut shelf, "a", first).is_err() || put(alloc, &mut shelf, "b", second).is_err() {
+        return "memory".to_string(alloc);
+    }
+    let order = Order::Recorded(record_of(alloc, lists)?);
+    match read_sources(alloc, &mut shelf, checked) {
+        Sources::Rows(rows) => shown(alloc, run_graph(alloc, checked, rows, &order)),
+        Sources::OpenFailed(_) => "no file".to_string(alloc),
+        Sources::Memory => "memory".to_string(alloc),
+    }
+}
+
+fn inputs_of(alloc: Global, words: &str) -> Result<Inputs, AllocError> {
+    let mut inputs = Items::new(alloc);
+    for word in words.split(' ') {
+        inputs.push(number(word))?;
+    }
+    Ok(inputs)
+}
+
+/// The lists of a record, each with the operator's number in front of it.
+fn record_of(alloc: Global, lists: &str) -> Result<Arrivals, AllocError> {
+    let mut arrivals = Items::new(alloc);
+    for list in lists.split(" | ") {
+        if let Some((op, words)) = list.split_once(' ') {
+            arrivals.push(ArrivalList {
+                op: number(op),
+                inputs: inputs_of(alloc, words)?,
+            })?;
+        }
+    }
+    Ok(Arrivals { lists: arrivals })
+}
+
+fn add_items(text: &mut Text, items: &[Item]) {
+    for (at, item) in items.iter().enumerate() {
+        text.add_between(at, " ");
+        match item {
+            Item::Tuple(values) => match values.get(0) {
+                Some(Value::Int(number)) => text.add_number(*number),
+                _ => text.add("?"),
+            },
+            _ => text.add("?"),
+        }
+    }
+}
+
+fn add_sink(text: &mut Text, run: &Run, number: usize) {
+    match run.sinks.get(number) {
+        Some(items) => add_items(text, items.as_slice()),
+        None => text.add("?"),
+    }
+}
+
+fn shown(alloc: Global, answer: Result<Run, RunAnswer>) -> Result<String, AllocError> {
+    let mut text = Text::new(alloc);
+    match answer {
+        Ok(run) => {
+            add_sink(&mut text, &run, 3);
+            text.add("; ");
+            add_sink(&mut text, &run, 4);
+            if let Some(fault) = run.fault {
+                text.add("; fault of ");
+                text.add_number(i128::from(fault.op));
+            }
+        }
+        Err(RunAnswer::NotWhole(op)) => {
+            text.add_number(i128::from(op));
+            text.add(" isn't whole");
+        }
+        Err(RunAnswer::Memory) => text.add("memory"),
+    }
+    text.finish()
+}
+
+#[test]
+fn runs_follow_whole_records_alone(rt: HostRuntime) -> Result<(), Fail> {
+    expect(rt.alloc(), &Recorded, &[ROWS])?;
+    Ok(())
+}
