@@ -8,21 +8,20 @@ use Rattle.feed_pour.specs.Counts.{Counts, PerName, CreatingCounted}
 use Rattle.feed_pour.specs.Contents.{Told, WhereTold, TellsSame, Created, Empties}
 use Rattle.feed_pour.specs.declared.outside.PourAnswer.{PourAnswer}
 use Rattle.feed_pour.specs.declared.outside.PourAnswer.TheVariants as P
-use Rattle.file_adapters.specs.Sinks.{EmptyBefore, is_file}
-use Rattle.file_adapters.specs.steps.Steps.{CreateCounted, CreateCause}
+use Rattle.file_adapters.specs.steps.Steps.{CreateCounted, CreateCause, SinksEmptied, is_file}
 use Rattle.file_adapters.specs.declared.sinks.Sink.{Sink}
 use Rattle.file_adapters.proofs.Files.{out_of_more, among_not, told_then, told_itself}
 use Rattle.spl_value.proofs.Lists.{same_or_not as one_or_other}
 
-pub none_created : (told : Option Told) (sinks : List Sink) → WhereTold told told (EmptyBefore 0 sinks)
-none_created told sinks = told_itself told (EmptyBefore 0 sinks) (λ t. record {
+pub none_created : (told : Option Told) (sinks : List Sink) → WhereTold told told (SinksEmptied 0 sinks)
+none_created told sinks = told_itself told (SinksEmptied 0 sinks) (λ t. record {
   empty = λ k d within. absurd (omega arith);
   others = λ n out. refl;
   scripts = λ n out. refl;
 })
 
 -- one more file is empty
-empty_more : (sinks : List Sink) (i : ℕ) (x : Sink) (a b c : Told) → i < length sinks → x ≡ get_or sinks i x → EmptyBefore i sinks a b → Empties x.file b c → EmptyBefore (i + 1) sinks a c
+empty_more : (sinks : List Sink) (i : ℕ) (x : Sink) (a b c : Told) → i < length sinks → x ≡ get_or sinks i x → SinksEmptied i sinks a b → Empties x.file b c → SinksEmptied (i + 1) sinks a c
 empty_more sinks i x a b c within is before now = record {
   empty =
       All-more (λ s. c.holds s.file ≡ Some []) sinks i x within (All-weaker (λ s. b.holds s.file ≡ Some []) (λ s. c.holds s.file ≡ Some []) kept (take i sinks) before.empty)
@@ -38,19 +37,19 @@ empty_more sinks i x a b c within is before now = record {
     parts n out = let p = out_of_more sinks n i x within out in (p.0, λ same. p.1 (same ∙ ap (λ (s : Sink). s.file) is))
 
 pub one_created : (a b c : Option Told) (sinks : List Sink) (i : ℕ) (x : Sink) → i < length sinks → x ≡ get_or sinks i x
-    → WhereTold a b (EmptyBefore i sinks) → WhereTold b c (Created true x.file) → WhereTold a c (EmptyBefore (i + 1) sinks)
+    → WhereTold a b (SinksEmptied i sinks) → WhereTold b c (Created true x.file) → WhereTold a c (SinksEmptied (i + 1) sinks)
 one_created a b c sinks i x within is before now =
-    told_then a b c (EmptyBefore i sinks) (Created true x.file) (EmptyBefore (i + 1) sinks) before now (λ t u v. empty_more sinks i x t u v within is)
+    told_then a b c (SinksEmptied i sinks) (Created true x.file) (SinksEmptied (i + 1) sinks) before now (λ t u v. empty_more sinks i x t u v within is)
 
-empty_same : (sinks : List Sink) (i : ℕ) (a b c : Told) → EmptyBefore i sinks a b → TellsSame b c → EmptyBefore i sinks a c
+empty_same : (sinks : List Sink) (i : ℕ) (a b c : Told) → SinksEmptied i sinks a b → TellsSame b c → SinksEmptied i sinks a c
 empty_same sinks i a b c before now = record {
   empty = All-weaker (λ s. b.holds s.file ≡ Some []) (λ s. c.holds s.file ≡ Some []) (λ s h. now.holds s.file ∙ h) (take i sinks) before.empty;
   others = λ n out. now.holds n ∙ before.others n out;
   scripts = λ n out. now.script n ∙ before.scripts n out;
 }
 
-pub not_created : (a b c : Option Told) (sinks : List Sink) (i count : ℕ) → count ≡ i → WhereTold a b (EmptyBefore i sinks) → WhereTold b c TellsSame → WhereTold a c (EmptyBefore count sinks)
-not_created a b c sinks i count is before now = told_then a b c (EmptyBefore i sinks) TellsSame (EmptyBefore count sinks) before now (λ t u v. rw is (empty_same sinks i t u v))
+pub not_created : (a b c : Option Told) (sinks : List Sink) (i count : ℕ) → count ≡ i → WhereTold a b (SinksEmptied i sinks) → WhereTold b c TellsSame → WhereTold a c (SinksEmptied count sinks)
+not_created a b c sinks i count is before now = told_then a b c (SinksEmptied i sinks) TellsSame (SinksEmptied count sinks) before now (λ t u v. rw is (empty_same sinks i t u v))
 
 -- the pours have taken nothing yet
 pub poured_none : {W : Type 0} (poured : W → Option (List ℕ)) (a b : Option Told) (R : Told → Told → Type 0) (pours : List W) (p : W) → WhereTold a b R

@@ -1,14 +1,21 @@
 -- The files of sinks: which names they are, and that no two sinks have one.
-use Rattle.std.proofs.Common.{◌≡◌, ◌≢◌, ℕ, ◌+◌, ◌-◌, ◌<◌, ◌≤◌, List, [], ◌∷◌, ◌++◌, length, take, drop, get_or, map, true, false, Option, Some, None, refl, sym, ◌∙◌, ap, arith, length-drop}
+use Rattle.std.proofs.Common.{◌≡◌, ◌≢◌, ℕ, slice_get, subst, ◌+◌, ◌-◌, ◌<◌, ◌≤◌, List, [], ◌∷◌, ◌++◌, length, take, drop, get_or, map, true, false, Option, Some, None, refl, sym, ◌∙◌, ap, arith, length-drop}
+use Rattle.std.specs.Option.{option_map}
 use Rattle.std.specs.Bool.{Decides}
 use Rattle.std.specs.Str.{bytes_eq}
 use Rattle.std.proofs.lemmas.Bool.{or_parts}
-use Rattle.std.proofs.lemmas.List.{take-append-drop, drop_more, get_or-map, get_or-drop, get_or-take, length-map, length-take}
-use Rattle.std.proofs.lemmas.List.Folds.{list_any_at, list_any_none, list_any_more}
+use Rattle.std.proofs.lemmas.Option.{slice_get-map}
+use Rattle.std.specs.List.{All}
+use Rattle.std.proofs.lemmas.List.{take-append-drop, take-append-le, take-map, drop_more, get_or-map, get_or-drop, get_or-take, length-map, length-take}
+use Rattle.std.proofs.lemmas.List.Elements.{All-map}
+use Rattle.std.proofs.lemmas.List.Folds.{list_any-append, list_any_at, list_any_none, list_any_more}
 use Rattle.std.proofs.lemmas.Slice.Eq.{bytes_eq-Decides}
-use Rattle.feed_pour.specs.Contents.{WhereTold}
-use Rattle.file_adapters.specs.Sinks.{AreDistinct, is_file}
+use Rattle.feed_pour.specs.Contents.{Told, WhereTold}
+use Rattle.file_adapters.specs.Sinks.{AreDistinct, EmptyBefore, HasOwnFile, is_among, names_of, sink_names}
+use Rattle.file_adapters.specs.steps.Steps.{SinksEmptied, is_file}
+use Rattle.file_adapters.specs.declared.text.TextFile.{TextFile}
 use Rattle.file_adapters.specs.declared.sinks.Sink.{Sink}
+use Rattle.spl_value.proofs.Lists.{any_map, append_front, append_last}
 
 same_name : (a b : List ℕ) → a ≡ b → bytes_eq a b ≡ true
 same_name a b same = (bytes_eq-Decides a b).1 same
@@ -62,6 +69,60 @@ later_out sinks i j e distinct before within =
     let size = length-take i sinks in
     let below : k < i = omega (arith, size, small) in
     λ same. apart sinks k j d e distinct (omega arith) within (sym (ap (λ (s : Sink). s.file) (get_or-take i sinks k d below)) ∙ same))
+
+-- the file of all sinks, and of their front
+pub out_of_front : (sinks : List Sink) (count : ℕ) (n : List ℕ) → is_file sinks n ≡ false → is_file (take count sinks) n ≡ false
+out_of_front sinks count n out = not_among (take count sinks) n (λ i d small same.
+    let size = length-take count sinks in
+    among_not sinks n i d out (omega (arith, size, small)) (ap (λ (s : Sink). s.file) (sym (get_or-take count sinks i d (omega (arith, size, small)))) ∙ same))
+
+-- ---- the names of sinks and of the text after them
+
+pub named : (sinks : List Sink) (n : List ℕ) → is_among (sink_names sinks) n ≡ is_file sinks n
+named sinks n = any_map (λ (m : List ℕ). bytes_eq m n) (λ (s : Sink). s.file) sinks
+
+-- a name that none of more names is
+pub with_text : (names : List (List ℕ)) (x n : List ℕ) → is_among (names ++ x ∷ []) n ≡ false → (is_among names n ≡ false) × (n ≢ x)
+with_text names x n out =
+    let p = or_parts (is_among names n) (is_among (x ∷ []) n) (sym (list_any-append (λ (m : List ℕ). bytes_eq m n) names (x ∷ [])) ∙ out) in
+    let q = or_parts (bytes_eq x n) false p.1 in
+    (p.0, λ same. from_test x n q.0 (sym same))
+
+pub outside : (sinks : List Sink) (last : Option TextFile) (n : List ℕ) → is_among (names_of sinks last) n ≡ false → is_file sinks n ≡ false
+outside sinks None n out = sym (named sinks n) ∙ out
+outside sinks (Some text) n out = sym (named sinks n) ∙ (with_text (sink_names sinks) text.file n out).0
+
+-- the first names are those of the first sinks
+pub taken : (sinks : List Sink) (last : Option TextFile) (place : ℕ) → place ≤ length sinks → take place (names_of sinks last) ≡ sink_names (take place sinks)
+taken sinks None place within = take-map (λ (s : Sink). s.file) place sinks
+taken sinks (Some text) place within =
+    take-append-le place (sink_names sinks) (text.file ∷ []) (let size = length-map sinks (λ (s : Sink). s.file) in omega (arith, size, within))
+    ∙ take-map (λ (s : Sink). s.file) place sinks
+
+pub named_at : (sinks : List Sink) (place : ℕ) (s : Sink) → slice_get sinks place ≡ Some s → slice_get (sink_names sinks) place ≡ Some s.file
+named_at sinks place s e = slice_get-map (λ (s : Sink). s.file) sinks place ∙ ap (option_map (λ (s : Sink). s.file)) e
+
+pub named_of : (sinks : List Sink) (last : Option TextFile) (place : ℕ) (s : Sink) → slice_get sinks place ≡ Some s → slice_get (names_of sinks last) place ≡ Some s.file
+named_of sinks None place s e = named_at sinks place s e
+named_of sinks (Some text) place s e = append_front (sink_names sinks) (text.file ∷ []) place s.file (named_at sinks place s e)
+
+pub named_last : (sinks : List Sink) (text : TextFile) → slice_get (names_of sinks (Some text)) (length sinks) ≡ Some text.file
+named_last sinks text =
+    ap (λ (k : ℕ). slice_get (names_of sinks (Some text)) k) (sym (length-map sinks (λ (s : Sink). s.file))) ∙ append_last (sink_names sinks) text.file
+
+-- a sink's file isn't that of the text
+pub apart_from : (sinks : List Sink) (text : TextFile) (k : ℕ) (d : Sink) → HasOwnFile sinks (Some text) → k < length sinks → (get_or sinks k d).file ≢ text.file
+apart_from sinks text k d free within = among_not sinks text.file k d (sym (named sinks text.file) ∙ free) within
+
+-- the files of the first sinks are those of the first names
+pub emptied : (sinks : List Sink) (last : Option TextFile) (place : ℕ) (old new : Told) → place ≤ length sinks → SinksEmptied place sinks old new → EmptyBefore place (names_of sinks last) old new
+emptied sinks last place old new within h =
+    let same : take place (names_of sinks last) ≡ sink_names (take place sinks) = taken sinks last place within in
+    record {
+      empty = subst (All (λ n. new.holds n ≡ Some [])) (sym same) (All-map (λ n. new.holds n ≡ Some []) (λ (s : Sink). s.file) (take place sinks) h.empty);
+      others = λ n out. h.others n (sym (named (take place sinks) n) ∙ ap (λ (ns : List (List ℕ)). is_among ns n) (sym same) ∙ out);
+      scripts = λ n out. h.scripts n (sym (named (take place sinks) n) ∙ ap (λ (ns : List (List ℕ)). is_among ns n) (sym same) ∙ out);
+    }
 
 -- ---- what is told, one change behind another
 

@@ -9,8 +9,8 @@ use Rattle.std.proofs.lemmas.Option.{slice_get-get_or, get_or_from_slice_get}
 use Rattle.feed_pour.specs.Counts.{Counts, PerName, WritingCounted, Rose}
 use Rattle.feed_pour.specs.Contents.{Told, WhereTold, Finished, HeldAfter, failed_read}
 use Rattle.feed_pour.specs.declared.outside.Failed.{Failed}
-use Rattle.file_adapters.specs.Sinks.{AreDistinct, is_file}
-use Rattle.file_adapters.specs.steps.Steps.{EachFinished, FileFinished, FinishCause, FinishCounted, IsFrom, first_failed}
+use Rattle.file_adapters.specs.Sinks.{AreDistinct}
+use Rattle.file_adapters.specs.steps.Steps.{is_file, EachFinished, FileFinished, FinishCause, FinishCounted, IsFrom, first_failed}
 use Rattle.file_adapters.specs.declared.sinks.Sink.{Sink}
 use Rattle.file_adapters.proofs.Files.{out_of_more, apart, later_out, told_then, told_itself}
 use Rattle.spl_value.proofs.Lists.{same_or_not as one_or_other}
@@ -37,7 +37,7 @@ from_here None i h = omega arith
 
 -- ---- counts of one more file
 
-same_counts : (old new : PerName) (name : List ℕ) → WritingCounted false old new name → (n : List ℕ) → new n ≡ old n
+pub same_counts : (old new : PerName) (name : List ℕ) → WritingCounted false old new name → (n : List ℕ) → new n ≡ old n
 same_counts old new name c n = elim (one_or_other n name) [
   | inl same ↦ ap new same ∙ (λ i. record { opening = c.opening i; creating = c.creating i; reading = c.reading i; writing = c.count i }) ∙ ap old (sym same)
   | inr other ↦ c.others n other

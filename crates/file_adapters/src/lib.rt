@@ -1,8 +1,10 @@
-//! Rows of files: a source's file as its stream, and streams as the rows of several sinks' files.
+//! Rows of files: a source's file as its stream, and streams as the rows of several sinks' files, with a text's file after them.
 #![tactic(auto)]
 
 mod sinks;
+mod text;
 
 pub use row_reader::{Rows, read_rows};
 pub use row_writer::{PutAnswer, RowWriter, write_rows};
 pub use sinks::{Sink, Sunk, write_sinks};
+pub use text::TextFile;

@@ -90,11 +90,11 @@ fn sunk_of(
     streams: &Items<Items<Item>>,
 ) -> Result<Sunk, AllocError> {
     if sinks == "none" {
-        return Ok(write_sinks(alloc, shelf, &no_sinks(alloc), streams));
+        return Ok(write_sinks(alloc, shelf, &no_sinks(alloc), streams, &None));
     }
     let (first, second) = cut(sinks);
     let sinks = two_sinks(alloc, number(first), number(second))?;
-    Ok(write_sinks(alloc, shelf, &sinks, streams))
+    Ok(write_sinks(alloc, shelf, &sinks, streams, &None))
 }
 
 fn shown_row(alloc: Global, shelf: &MemoryShelf, sunk: &Sunk) -> Result<String, AllocError> {

@@ -27,8 +27,8 @@ pub(crate) struct Seen {
     pub files: Vec<File>,
 }
 
-// What is answered to words beside these files, where the calls fail that are told beside them.
-fn answered<W: Threads + Wait + Sync>(
+/// What is answered to words beside these files, where the calls fail that are told beside them.
+pub(crate) fn answered<W: Threads + Wait + Sync>(
     rt: &W,
     alloc: Global,
     beside: &str,

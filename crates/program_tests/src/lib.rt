@@ -26,6 +26,8 @@ mod plans;
 #[cfg(test)]
 mod programs;
 #[cfg(test)]
+mod recorded;
+#[cfg(test)]
 mod refusals;
 #[cfg(test)]
 mod replays;

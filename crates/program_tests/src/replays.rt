@@ -141,7 +141,7 @@ composite Main {graph stream<rstring s> A = FileSource() {param file: "r.txt";} 
 @source () as Out = FileSink(T) {param file: "a.txt";} | t.csv: 1␊ | r.txt: arrivals 1␊ => 0; a.txt 1␊; counts 1:1
 "#;
 
-/// Records of 100,000 events.
+/// Records of 100,000 events and more.
 pub(crate) const LONG_RECORDS: &str = r#"
 # Two inputs in turn. A Custom counts where a tuple came out of turn.
 @two stream<int64 n> D = Custom(S; T) {logic state: {mutable int64 s = 0l; mutable int64 t = 0l; mutable int64 wrong = 0l;} onTuple S: {if (s != t) wrong += 1l; s += 1l;} onTuple T: {t += 1l; if (s != t) wrong += 1l;} onPunct T: {if (currentPunct() == Sys.FinalMarker) {submit({n = wrong}, D); submit({n = s + t}, D);}}} () as Out = FileSink(D) {param file: "o.csv";} | s.csv: @times 49998 1␊ | t.csv: @times 49998 2␊ | r.txt: arrivals 1␊D«0 50000  0 1»␊ => 0; o.csv 0␊99996␊; counts 3:2; record 2 of 100000 inputs
@@ -153,6 +153,8 @@ pub(crate) const LONG_RECORDS: &str = r#"
 @two stream<int64 n> D = Custom(S; T) {logic state: {mutable int64 s = 0l; mutable int64 t = 0l; mutable int64 wrong = 0l;} onTuple S: {if (s != t) wrong += 1l; s += 1l;} onTuple T: {t += 1l; if (s != t) wrong += 1l;} onPunct T: {if (currentPunct() == Sys.FinalMarker) {submit({n = wrong}, D); submit({n = s + t}, D);}}} () as Out = FileSink(D) {param file: "o.csv";} | s.csv: @times 49998 1␊ | t.csv: @times 49998 2␊ | r.txt: arrivals 1␊D«0 50000  0 1» 2␊ => 7 bad arrivals␊
 # a Union of them
 @two stream<int64 n> U = Union(S; T); () as Out = FileSink(U) {param file: "o.csv";} | s.csv: @times 49998 1␊ | t.csv: @times 49998 2␊ | r.txt: arrivals 1␊U«0 50000  1 0»␊ => 0; o.csv of 199992 bytes; counts 3:99996; record 2 of 100000 inputs
+# a megabyte of entries
+@two stream<int64 n> U = Union(S; T); () as Out = FileSink(U) {param file: "o.csv";} | s.csv: @times 262142 1␊ | t.csv: @times 262142 2␊ | r.txt: arrivals 1␊U«0 262144  1 0»␊ => 0; o.csv of 1048568 bytes; counts 3:524284; record 2 of 524288 inputs
 "#;
 
 /// Files that spell no record of their program.
@@ -439,6 +441,4 @@ composite Main {graph stream<rstring s> A = FileSource() {param file: "r.txt";} 
 @union | a.csv: 1␊2␊ | b.csv: 3␊ | r.txt: arrivals 1␊U 0 1 0 0 0 1 1␊ | $ replay p.spl --arrivals r.txt --arrivals=a.txt => 1 bad words␊
 @union | a.csv: 1␊2␊ | b.csv: 3␊ | r.txt: arrivals 1␊U 0 1 0 0 0 1 1␊ | $ replay p.spl --Arrivals r.txt => 1 bad words␊
 @union | a.csv: 1␊2␊ | b.csv: 3␊ | r.txt: arrivals 1␊U 0 1 0 0 0 1 1␊ | $ Replay p.spl --arrivals r.txt => 1 bad words␊
-# a record can't be written yet
-@union | a.csv: 1␊2␊ | b.csv: 3␊ | r.txt: arrivals 1␊U 0 1 0 0 0 1 1␊ | $ run p.spl --arrivals r.txt => 13 not built␊
 "#;

@@ -9,6 +9,7 @@ use crate::examples::EXAMPLES;
 use crate::faults::{FAULTS, TURNS};
 use crate::operators::OPERATORS;
 use crate::plans::PLANS;
+use crate::recorded::{WRITTEN, recorded};
 use crate::refusals::{CHECKS, REFUSALS};
 use crate::replays::{INTERLEAVED, LONG_RECORDS, NOT_WHOLE, RECORDS, REPLAYS, STOPPED_REPLAYS};
 use crate::runs::RUNS;
@@ -31,11 +32,15 @@ enum Question {
     Unopened,
     /// A run in which the call of the row fails.
     Failing,
+    /// A run that writes its record, and a replay of that.
+    Recorded,
 }
 
 const RUN: Question = Question::Words("run p.spl");
 
 const RUN_WITH_COUNTS: Question = Question::Words("run p.spl --counts");
+
+const RECORD: Question = Question::Words("run p.spl --arrivals a.txt");
 
 const REPLAY: Question = Question::Words("replay p.spl --arrivals r.txt");
 
@@ -74,6 +79,7 @@ fn answer<W: Threads + Wait + Sync>(
         Question::Words(words) => asked(rt, alloc, words, text),
         Question::Unopened => unopened(rt, alloc, text),
         Question::Failing => failing(rt, alloc, text),
+        Question::Recorded => recorded(rt, alloc, text),
     }
 }
 
@@ -122,6 +128,28 @@ fn a_replay_follows_its_record(rt: HostRuntime) -> Result<(), Fail> {
             (REPLAY, INTERLEAVED),
             (REPLAY, REPLAYS),
             (REPLAY, LONG_RECORDS),
+        ],
+    )?)?;
+    Ok(())
+}
+
+#[test]
+fn a_run_writes_its_record(rt: HostRuntime) -> Result<(), Fail> {
+    no_others(others_of(&rt, rt.alloc(), &[(RECORD, WRITTEN)])?)?;
+    Ok(())
+}
+
+#[test]
+fn a_replay_gives_what_the_run_gave_that_wrote_its_record(rt: HostRuntime) -> Result<(), Fail> {
+    no_others(others_of(
+        &rt,
+        rt.alloc(),
+        &[
+            (Question::Recorded, SEVERAL),
+            (Question::Recorded, JOINED),
+            (Question::Recorded, CUSTOMS),
+            (Question::Recorded, CLAUSES),
+            (Question::Recorded, EXAMPLES),
         ],
     )?)?;
     Ok(())

@@ -50,8 +50,16 @@ fn add_made(text: &mut Text, name: &str, held: &[u8]) {
     }
 }
 
-fn add_all_made(alloc: Global, text: &mut Text, shelf: &MemoryShelf) -> Result<(), AllocError> {
+fn add_all_made(
+    alloc: Global,
+    text: &mut Text,
+    shelf: &MemoryShelf,
+    but: &str,
+) -> Result<(), AllocError> {
     for name in MADE.split(' ') {
+        if name == but {
+            continue;
+        }
         if let Some(held) = shelf.file(&bytes(alloc, name)?) {
             add_made(text, name, held);
         }
@@ -121,11 +129,11 @@ fn add_record(text: &mut Text, ended: &Ended) {
     }
 }
 
-/// What was answered.
-pub(crate) fn shown(alloc: Global, seen: &Seen) -> Result<String, AllocError> {
+/// What was answered, beside the file of this name.
+pub(crate) fn shown_but(alloc: Global, seen: &Seen, but: &str) -> Result<String, AllocError> {
     let mut text = Text::new(alloc);
     add_told(&mut text, seen);
-    add_all_made(alloc, &mut text, &seen.shelf)?;
+    add_all_made(alloc, &mut text, &seen.shelf, but)?;
     add_changed(&mut text, &seen.shelf, seen.files.as_slice());
     if seen.ended.status == 4 {
         add_unread(&mut text, &seen.shelf, seen.files.as_slice());
@@ -135,4 +143,9 @@ pub(crate) fn shown(alloc: Global, seen: &Seen) -> Result<String, AllocError> {
     }
     add_record(&mut text, &seen.ended);
     with_signs(alloc, text.finish()?.as_str())
+}
+
+/// What was answered.
+pub(crate) fn shown(alloc: Global, seen: &Seen) -> Result<String, AllocError> {
+    shown_but(alloc, seen, "")
 }

@@ -94,8 +94,7 @@ run p.spl --capacity 4096 => 13 not built␊
 run p.spl --counts --width 1 => 13 not built␊
 run p.spl --counts --workers 1 => 13 not built␊
 run --counts --capacity=64 p.spl => 13 not built␊
-run p.spl --counts --arrivals a.txt => 13 not built␊
-run p.spl --arrivals a.txt => 13 not built␊
+run p.spl --width 1 --arrivals a.txt => 13 not built␊
 run --arrivals=a.txt --width 4 p.spl --workers 3 --counts --capacity=64 => 13 not built␊
 simulate p.spl --width 2 --schedule 0 => 13 not built␊
 simulate --steps 1 --schedule=2147483647 p.spl --width 16 => 13 not built␊

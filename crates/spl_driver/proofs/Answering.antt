@@ -1,5 +1,5 @@
 -- What the answer of a request means once its text is told.
-use Rattle.std.proofs.Common.{◌≡◌, ◌∙◌, ℕ, Bool, true, false, List, [], ◌∷◌, ◌++◌, length, length-append, arith, refl, sym, ap, subst, inl, inr, ◌⊎◌, Option, Some, None}
+use Rattle.std.proofs.Common.{◌≡◌, ◌∙◌, ℕ, Bool, true, false, List, [], ◌∷◌, ◌++◌, length, take, refl, sym, ap, subst, inl, inr, ◌⊎◌, Option, Some, None, Ok}
 use Rattle.std.specs.Prelude.{IfSome}
 use Rattle.std.proofs.Math.Seq.{take-length}
 use Rattle.spl_value.specs.declared.item.Fault.{Fault}
@@ -7,6 +7,8 @@ use Rattle.feed_pour.specs.Counts.{PerName}
 use Rattle.feed_pour.specs.Contents.{Told, WhereTold}
 use Rattle.language_model.specs.declared.checked.Part.{Part}
 use Rattle.language_model.specs.declared.checked.Part.TheVariants as A
+use Rattle.language_model.specs.CheckedGraph.{CheckedGraph}
+use Rattle.arrival_format.specs.ArrivalTexts.{arrivals_text}
 use Rattle.stream_model.specs.Ends.{run_fault}
 use Rattle.stream_model.specs.Meaning.{Graph, Meaning}
 use Rattle.run_report.specs.declared.cause.Cause.{Cause}
@@ -14,19 +16,21 @@ use Rattle.run_report.specs.declared.cause.Cause.TheVariants as C
 use Rattle.run_report.specs.declared.refusal.Refusal.{Refusal}
 use Rattle.stream_model.specs.Operators.{Operator}
 use Rattle.command_line.specs.declared.request.Request.{Request}
-use Rattle.spl_driver.specs.Outcome.{RequestOutcome, NoRequest, Unreadable, Refused, NotBuilt, Reports, BadArrivals, Runs, IsOutcome, ArePartsIn, of_unreadable}
+use Rattle.spl_driver.specs.Outcome.{RequestOutcome, NoRequest, Unreadable, Refused, NotBuilt, Reports, BadArrivals, Runs, IsFound, IsOutcome, ArePartsIn, of_program, of_unreadable}
 use Rattle.std.specs.Prelude.{◌||◌}
 use Rattle.std.specs.Str.{bytes_eq}
 use Rattle.check_laws.specs.Files.{is_named}
 use Rattle.command_line.specs.declared.request.Request.TheVariants as R
 use Rattle.spl_driver.specs.Built.{is_built}
-use Rattle.spl_driver.specs.Files.{FilesOf, creates, files_of, opens, whole_files}
-use Rattle.spl_driver.specs.Answer.{AtSink, EachSink, HoldsText, HoldsPrefix, sink_text, CarriedOut, RunsTo, ReportsTo, Begun, CauseMeans, CreatingFailed, DeviceFailed, opening, reading, creating, writing, DevicesMean, ReadingFailed, WritingFailed, WroteOthers, StoppedBy, WholeReads, Answered, IsOr, IsRun, IsUnread, NeedsRecord, FollowsRecord, is_ended_run, is_refused, IsAnswer, IsComplete, Untouched, ByWords, MayBe, cause_of}
+use Rattle.spl_driver.specs.Files.{FilesOf, files_of, opens, whole_files}
+use Rattle.spl_driver.specs.Answer.{AtSink, EachSink, HoldsText, HoldsPrefix, sink_text, CarriedOut, RunsTo, ReportsTo, Begun, CauseMeans, CreatingFailed, DeviceFailed, opening, reading, creating, writing, DevicesMean, ReadingFailed, WritingFailed, WroteOthers, StoppedBy, WholeReads, Answered, IsOr, IsRun, IsUnread, NeedsRecord, FollowsRecord, RecordHolds, WritesRecord, of_record, of_sink, of_telling, is_ended_run, is_refused, IsAnswer, IsComplete, Untouched, ByWords, MayBe, cause_of}
 use Rattle.source_rows.specs.Counting.{OnlyReads, OpeningFailed}
 use Rattle.spl_driver.specs.Texts.{ToldAs}
 use Rattle.spl_driver.specs.RequestLaws.{OneOutcomeLaw}
 use Rattle.spl_driver.specs.declared.ended.Ended.{Ended}
-use Rattle.spl_driver.proofs.Carrying.{creates_sinks}
+use Rattle.command_line.specs.declared.request.RunOptions.{RunOptions}
+use Rattle.command_line.specs.Request.{file_names}
+use Rattle.spl_driver.proofs.ReplayLaw.{run_at}
 use Rattle.spl_driver.proofs.Requests.{IsUnreadable, unread_by}
 use Rattle.spl_driver.proofs.Showing.{with_cause}
 use Rattle.spl_driver.proofs.Running.{begun_same}
@@ -193,7 +197,7 @@ NamesFile _ = ⊥
 device_failed : (k : Cause) (files : FilesOf) (counts later : PerName) (Is : RequestOutcome → Type 0) (ended : Ended) (t u : Told) → NamesFile k → DevicesMean k files counts later ⊥ Is ended t u
     → DeviceFailed files counts later
 device_failed (C.OpenFailed name) files counts later Is ended t u is (inl h) = failed_opening files name counts later h.0
-device_failed (C.OpenFailed name) files counts later Is ended t u is (inr h) = failed_creating files name counts later h.0
+device_failed (C.OpenFailed name) files counts later Is ended t u is (inr h) = failed_creating files name counts later h.failed
 device_failed (C.ReadFailed name) files counts later Is ended t u is h = failed_reading files name counts later h
 device_failed (C.WriteFailed name) files counts later Is ended t u is (inl h) = failed_writing files name counts later h.0
 device_failed (C.WriteFailed name) files counts later Is ended t u is (inr h) = absurd h.failed
@@ -252,6 +256,76 @@ followed_said (Some (R.Replay p file)) Is ended r status t Text e h = λ run. h 
 followed_said (Some (R.Simulate p width schedule steps)) Is ended r status t Text e h = tt
 followed_said (Some (R.Make name rows start)) Is ended r status t Text e h = tt
 
+-- the file of the record that a run writes
+record_text : (k : Cause) (parts : List Part) (file text : List ℕ) (counts now : PerName) (Text Sinks : Type 0) (t u : Told) → RecordHolds k parts file text counts now ⊥ Sinks t u → RecordHolds k parts file text counts now Text Sinks t u
+record_text C.Done parts file text counts now Text Sinks t u h = h
+record_text (C.Stopped fault) parts file text counts now Text Sinks t u h = h
+record_text (C.WriteFailed name) parts file text counts now Text Sinks t u (of_sink named rose empty) = of_sink named rose empty
+record_text (C.WriteFailed name) parts file text counts now Text Sinks t u (of_record is rose sinks n front) = of_record is rose sinks n front
+record_text (C.WriteFailed name) parts file text counts now Text Sinks t u (of_telling is bad quiet sinks whole) = absurd bad
+record_text C.NoMemory parts file text counts now Text Sinks t u h = h
+record_text C.BadWords parts file text counts now Text Sinks t u h = h
+record_text (C.Refused refusal) parts file text counts now Text Sinks t u h = h
+record_text C.NotBuilt parts file text counts now Text Sinks t u h = h
+record_text (C.OpenFailed name) parts file text counts now Text Sinks t u h = h
+record_text (C.ReadFailed name) parts file text counts now Text Sinks t u h = h
+record_text (C.BadArrivals op) parts file text counts now Text Sinks t u h = h
+
+whole_front : (file text : List ℕ) (u : Told) → u.holds file ≡ Some text → (n : ℕ) × (u.holds file ≡ Some (take n text))
+whole_front file text u h = (length text, h ∙ ap (λ (x : List ℕ). Some x) (sym (take-length text)))
+
+record_weaker : (k : Cause) (parts : List Part) (file text : List ℕ) (counts now : PerName) (Sinks : Type 0) (t u : Told) → RecordHolds k parts file text counts now ⊥ Sinks t u → RecordHolds C.NoMemory parts file text counts now ⊥ Sinks t u
+record_weaker C.Done parts file text counts now Sinks t u h = inr (inr (h.0, whole_front file text u h.1))
+record_weaker (C.Stopped fault) parts file text counts now Sinks t u h = inr (inr (h.0, whole_front file text u h.1))
+record_weaker (C.WriteFailed name) parts file text counts now Sinks t u (of_sink named rose empty) = inr (inl empty)
+record_weaker (C.WriteFailed name) parts file text counts now Sinks t u (of_record is rose sinks n front) = inr (inr (sinks, (n, front)))
+record_weaker (C.WriteFailed name) parts file text counts now Sinks t u (of_telling is bad quiet sinks whole) = absurd bad
+record_weaker C.NoMemory parts file text counts now Sinks t u h = h
+record_weaker C.BadWords parts file text counts now Sinks t u h = inl h
+record_weaker (C.Refused refusal) parts file text counts now Sinks t u h = inl h
+record_weaker C.NotBuilt parts file text counts now Sinks t u h = inl h
+record_weaker (C.OpenFailed name) parts file text counts now Sinks t u h = inl h
+record_weaker (C.ReadFailed name) parts file text counts now Sinks t u h = inl h
+record_weaker (C.BadArrivals op) parts file text counts now Sinks t u h = inl h
+
+record_run : (fault : Option Fault) (parts : List Part) (file text : List ℕ) (counts now : PerName) (Sinks : Type 0) (t u : Told) → RecordHolds (cause_of fault) parts file text counts now ⊥ Sinks t u → Sinks × (u.holds file ≡ Some text)
+record_run None parts file text counts now Sinks t u h = h
+record_run (Some fault) parts file text counts now Sinks t u h = h
+
+record_said : (k r : Cause) (parts : List Part) (file text : List ℕ) (counts now : PerName) (Text Sinks : Type 0) (t u : Told) → ToldAs k r Text → ((fault : Option Fault) → k ≡ cause_of fault → (n : List ℕ) → (now n).writing ≡ (counts n).writing)
+    → RecordHolds k parts file text counts now ⊥ Sinks t u → RecordHolds r parts file text counts now Text Sinks t u
+record_said k r parts file text counts now Text Sinks t u (inl e) quiet h = subst (λ (x : Cause). RecordHolds x parts file text counts now Text Sinks t u) (sym e) (record_text k parts file text counts now Text Sinks t u h)
+record_said k r parts file text counts now Text Sinks t u (inr (inl e)) quiet h =
+    subst (λ (x : Cause). RecordHolds x parts file text counts now Text Sinks t u) (sym e) (record_weaker k parts file text counts now Sinks t u h)
+record_said k r parts file text counts now Text Sinks t u (inr (inr (e, (fault, run), failed))) quiet h =
+    let both = record_run fault parts file text counts now Sinks t u (subst (λ (x : Cause). RecordHolds x parts file text counts now ⊥ Sinks t u) run h) in
+    subst (λ (x : Cause). RecordHolds x parts file text counts now Text Sinks t u) (sym e) (of_telling refl failed (quiet fault run) both.0 both.1)
+
+-- a run that was carried out counts no fault of writing
+abbrev DevicesKnown : Option Request → PerName → PerName → Ended → Told → Told → Type 0
+DevicesKnown request counts now ended t u =
+    (parts : List Part) → ArePartsIn t request parts → DevicesMean ended.cause (files_of request parts) counts now ⊥ (IsOutcome t ended.arrivals request) ended t u
+
+quiet_writing : (t u : Told) (p : List ℕ) (options : RunOptions) (ended : Ended) (counts now : PerName) (c : CheckedGraph) → IsFound t p (file_names (R.Run p options)) (Ok c) → DevicesKnown (Some (R.Run p options)) counts now ended t u
+    → (fault : Option Fault) → ended.cause ≡ cause_of fault → (n : List ℕ) → (now n).writing ≡ (counts n).writing
+quiet_writing t u p options ended counts now c found device fault is n =
+    let here = device c.parts (of_program (R.Run p options) p (Ok c) refl found) in
+    let only = devices_run fault (files_of (Some (R.Run p options)) c.parts) counts now (IsOutcome t ended.arrivals (Some (R.Run p options))) ended t u
+    (subst (λ (k : Cause). DevicesMean k (files_of (Some (R.Run p options)) c.parts) counts now ⊥ (IsOutcome t ended.arrivals (Some (R.Run p options))) ended t u) is here) in
+    (only.reads n).writing
+
+recorded_said : (request : Option Request) (ended : Ended) (r : Cause) (status : ℕ) (counts now : PerName) (Text : Type 0) (t u : Told) → ToldAs ended.cause r Text → DevicesKnown request counts now ended t u
+    → WritesRecord request (IsOutcome t ended.arrivals request) ended counts now ⊥ t u → WritesRecord request (IsOutcome t ended.arrivals request) (with_cause ended r status) counts now Text t u
+recorded_said None ended r status counts now Text t u e device h = tt
+recorded_said (Some (R.Check p)) ended r status counts now Text t u e device h = tt
+recorded_said (Some (R.Plan p)) ended r status counts now Text t u e device h = tt
+recorded_said (Some (R.Run p options)) ended r status counts now Text t u e device h = λ file given c g m is.
+    record_said ended.cause r c.parts file (arrivals_text c ended.arrivals) counts now Text (EachSink (HoldsText m u) g.ops) t u e
+    (quiet_writing t u p options ended counts now c (run_at t ended.arrivals (Some (R.Run p options)) (Runs c g m) p options c g m is refl refl).found device) (h file given c g m is)
+recorded_said (Some (R.Replay p file)) ended r status counts now Text t u e device h = tt
+recorded_said (Some (R.Simulate p width schedule steps)) ended r status counts now Text t u e device h = tt
+recorded_said (Some (R.Make name rows start)) ended r status counts now Text t u e device h = tt
+
 pub answered_said : OneOutcomeLaw → (told now : Option Told) (request : Option Request) (ended : Ended) (r : Cause) (status : ℕ) (counts later : PerName) (Text : Type 0) → ToldAs ended.cause r Text
     → WhereTold told now (Answered request ended counts later ⊥) → WhereTold told now (Answered request (with_cause ended r status) counts later Text)
 answered_said law None now request ended r status counts later Text e h = tt
@@ -259,6 +333,7 @@ answered_said law (Some t) None request ended r status counts later Text e h = h
 answered_said law (Some t) (Some u) request ended r status counts later Text e h = record {
   means = means_said (IsOutcome t ended.arrivals request) ended r status Text t u (law request t ended.arrivals) e h.means;
   others = h.others;
+  scripts = h.scripts;
   counted = h.counted;
   device = λ parts are. devices_said (files_of request parts) counts later Text (IsOutcome t ended.arrivals request) ended r status t u e h.means (h.device parts are);
   stopped = λ parts are. stopped_said ended.cause r parts counts later Text e (h.stopped parts are);
@@ -266,6 +341,7 @@ answered_said law (Some t) (Some u) request ended r status counts later Text e h
   reads = h.reads;
   needed = needed_said request ended r status t Text e h.needed;
   followed = followed_said request (IsOutcome t ended.arrivals request) ended r status t Text e h.followed;
+  recorded = recorded_said request ended r status counts later Text t u e h.device h.recorded;
 }
 
 or_not_run : (expected c : Cause) → ((fault : Option Fault) → expected ≡ cause_of fault → ⊥) → IsOr expected c → IsRun c → ⊥
@@ -383,35 +459,37 @@ answer_said (Runs k g m) whole Failed Text c r (inr (inr (e, run, text))) h = λ
 
 -- ---- a file that can't be read
 
-none_split : (name : List ℕ) (before behind : List (List ℕ)) → [] ≡ before ++ name ∷ behind → ⊥
-none_split name before behind e = let bad = ap length e in let more = length-append before (name ∷ behind) in omega (arith, bad, more)
-
--- a request that is built, with no operators: it opens what it reads as a whole alone, and creates nothing
-whole_alone : (request : Request) → is_built request ≡ true → (opens (Some request) [] ≡ whole_files (Some request)) × (creates (Some request) [] ≡ [])
-whole_alone (R.Check p) built = (refl, refl)
-whole_alone (R.Run p options) built = (refl, creates_sinks p options [] built)
-whole_alone (R.Plan p) built = (refl, refl)
-whole_alone (R.Replay p file) built = (refl, refl)
+-- a request that is built, with no operators, opens what it reads as a whole alone
+whole_alone : (request : Request) → is_built request ≡ true → opens (Some request) [] ≡ whole_files (Some request)
+whole_alone (R.Check p) built = refl
+whole_alone (R.Run p options) built = refl
+whole_alone (R.Plan p) built = refl
+whole_alone (R.Replay p file) built = refl
 whole_alone (R.Simulate p width schedule steps) built = absurd (let bad : false ≡ true = built in cc)
 whole_alone (R.Make name rows start) built = absurd (let bad : false ≡ true = built in cc)
 
-unread_cause : (k : Cause) (request : Request) (counts later : PerName) (Is : RequestOutcome → Type 0) (ended : Ended) (t u : Told) → is_built request ≡ true
+-- no graph is run
+abbrev IsUnrunOf : (RequestOutcome → Type 0) → Type 0
+IsUnrunOf Is = (c : CheckedGraph) (g : Graph) (m : Meaning) → Is (Runs c g m) → ⊥
+
+not_run_of : (Is : RequestOutcome → Type 0) → IsUnrunOf Is → ((c : CheckedGraph) × (g : Graph) × (m : Meaning) × Is (Runs c g m)) → ⊥
+not_run_of Is unrun (c, g, m, is) = unrun c g m is
+
+unread_cause : (k : Cause) (request : Request) (counts later : PerName) (Is : RequestOutcome → Type 0) (ended : Ended) (t u : Told) → is_built request ≡ true → IsUnrunOf Is
     → NamesFile k → DevicesMean k (files_of (Some request) []) counts later ⊥ Is ended t u → IsUnread (whole_files (Some request)) k
-unread_cause (C.OpenFailed name) request counts later Is ended t u built is (inl h) =
-    inr (name, split_named h.0.before h.0.behind name (whole_files (Some request)) (sym (whole_alone request built).0 ∙ h.0.order), inl refl)
-unread_cause (C.OpenFailed name) request counts later Is ended t u built is (inr h) =
-    absurd (none_split name h.0.before h.0.behind (sym (whole_alone request built).1 ∙ h.0.order))
-unread_cause (C.ReadFailed name) request counts later Is ended t u built is h = inr (name, h.whole, inr refl)
-unread_cause (C.WriteFailed name) request counts later Is ended t u built is (inl h) =
-    absurd (none_split name h.0.before h.0.behind (sym (whole_alone request built).1 ∙ h.0.order))
-unread_cause (C.WriteFailed name) request counts later Is ended t u built is (inr h) = absurd h.failed
-unread_cause C.Done request counts later Is ended t u built is h = absurd is
-unread_cause (C.Stopped fault) request counts later Is ended t u built is h = absurd is
-unread_cause C.NotBuilt request counts later Is ended t u built is h = absurd is
-unread_cause C.BadWords request counts later Is ended t u built is h = absurd is
-unread_cause (C.Refused refusal) request counts later Is ended t u built is h = absurd is
-unread_cause (C.BadArrivals op) request counts later Is ended t u built is h = absurd is
-unread_cause C.NoMemory request counts later Is ended t u built is h = absurd is
+unread_cause (C.OpenFailed name) request counts later Is ended t u built unrun is (inl h) =
+    inr (name, split_named h.0.before h.0.behind name (whole_files (Some request)) (sym (whole_alone request built) ∙ h.0.order), inl refl)
+unread_cause (C.OpenFailed name) request counts later Is ended t u built unrun is (inr h) = absurd (not_run_of Is unrun h.runs)
+unread_cause (C.ReadFailed name) request counts later Is ended t u built unrun is h = inr (name, h.whole, inr refl)
+unread_cause (C.WriteFailed name) request counts later Is ended t u built unrun is (inl h) = absurd (unrun h.1.checked h.1.graph h.1.meaning h.1.comes)
+unread_cause (C.WriteFailed name) request counts later Is ended t u built unrun is (inr h) = absurd h.failed
+unread_cause C.Done request counts later Is ended t u built unrun is h = absurd is
+unread_cause (C.Stopped fault) request counts later Is ended t u built unrun is h = absurd is
+unread_cause C.NotBuilt request counts later Is ended t u built unrun is h = absurd is
+unread_cause C.BadWords request counts later Is ended t u built unrun is h = absurd is
+unread_cause (C.Refused refusal) request counts later Is ended t u built unrun is h = absurd is
+unread_cause (C.BadArrivals op) request counts later Is ended t u built unrun is h = absurd is
+unread_cause C.NoMemory request counts later Is ended t u built unrun is h = absurd is
 
 not_refused : (k : Cause) → NamesFile k → is_refused k ≡ true → ⊥
 not_refused (C.OpenFailed name) named e = cc
@@ -426,21 +504,24 @@ not_refused (C.BadArrivals op) named e = named
 not_refused C.NoMemory named e = named
 
 -- an answer that names no file is none to it
-unread_told : (k : Cause) (request : Option Request) (file : List ℕ) (counts later : PerName) (ended : Ended) (t u : Told) → ended.cause ≡ k → NamesFile k → IsUnreadable t request file
+unread_told : (k : Cause) (request : Option Request) (file : List ℕ) (counts later : PerName) (ended : Ended) (t u : Told) → ended.cause ≡ k → NamesFile k → IsUnrunOf (IsOutcome t ended.arrivals request) → IsUnreadable t request file
     → ((parts : List Part) → ArePartsIn t request parts → DevicesMean k (files_of request parts) counts later ⊥ (IsOutcome t ended.arrivals request) ended t u)
     → NeedsRecord request ended t → IsUnread (whole_files request) k
-unread_told k request file counts later ended t u e named (inl bad) device needed =
+unread_told k request file counts later ended t u e named unrun (inl bad) device needed =
     subst (λ (o : Option Request). IsUnread (whole_files o) k) (sym bad.is)
-    (unread_cause k bad.asked counts later (IsOutcome t ended.arrivals request) ended t u bad.built named
+    (unread_cause k bad.asked counts later (IsOutcome t ended.arrivals request) ended t u bad.built unrun named
     (subst (λ (o : Option Request). DevicesMean k (files_of o []) counts later ⊥ (IsOutcome t ended.arrivals request) ended t u) bad.is
     (device [] (subst (λ (o : Option Request). ArePartsIn t o []) (sym bad.is) (of_unreadable bad.asked file bad.of bad.fault)))))
-unread_told k request file counts later ended t u e named (inr bad) device needed =
+unread_told k request file counts later ended t u e named unrun (inr bad) device needed =
     subst (λ (o : Option Request). IsUnread (whole_files o) k) (sym bad.is)
     (by ((subst (λ (o : Option Request). NeedsRecord o ended t) bad.is needed) bad.fault))
   where
     by : (is_refused ended.cause ≡ true) ⊎ IsUnread (bad.program ∷ file ∷ []) ended.cause → IsUnread (bad.program ∷ file ∷ []) k
     by (inl refused) = absurd (not_refused k named (ap is_refused (sym e) ∙ refused))
     by (inr h) = subst (IsUnread (bad.program ∷ file ∷ [])) e h
+
+run_unread : (c : CheckedGraph) (g : Graph) (m : Meaning) (file : List ℕ) → Runs c g m ≡ Unreadable file → ⊥
+run_unread c g m file e = cc
 
 pub complete : OneOutcomeLaw → (told now : Option Told) (request : Option Request) (ended : Ended) (r : Cause) (status : ℕ) (counts later : PerName) (Text : Type 0) → ToldAs ended.cause r Text
     → WhereTold told now (Answered request ended counts later ⊥) → IfSome told (IsComplete request (with_cause ended r status) counts later Text)
@@ -450,4 +531,5 @@ complete law (Some t) (Some u) request ended r status counts later Text e h = λ
     answer_said result (whole_files request) (DeviceFailed (files_of request parts) counts later) Text ended.cause r e
     (complete_at ended.cause (IsOutcome t ended.arrivals request) result (whole_files request) (DeviceFailed (files_of request parts) counts later) ended t u (law request t ended.arrivals) h.means
     (λ named. device_failed ended.cause (files_of request parts) counts later (IsOutcome t ended.arrivals request) ended t u named (h.device parts are))
-    (λ named file is. unread_told ended.cause request file counts later ended t u refl named (unread_by t ended.arrivals request file (subst (IsOutcome t ended.arrivals request) is comes)) h.device h.needed) comes)
+    (λ named file is. unread_told ended.cause request file counts later ended t u refl named
+    (λ c g m run. run_unread c g m file (law request t ended.arrivals (Runs c g m) result run comes ∙ is)) (unread_by t ended.arrivals request file (subst (IsOutcome t ended.arrivals request) is comes)) h.device h.needed) comes)

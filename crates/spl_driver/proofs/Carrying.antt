@@ -1,6 +1,6 @@
 -- What is done with an accepted program, by its request.
 use Rattle.std.proofs.Common.{◌≡◌, ◌≤◌, ◌^◌, ◌∙◌, append-nil, arith, ℕ, Bool, true, false, List, [], ◌∷◌, ◌++◌, refl, sym, ap, subst, inl, inr, Option, Some, None, Result, Ok, Err}
-use Rattle.std.specs.Prelude.{IfSome, IfOk, ◌||◌, ◌&&◌, not, if◌then◌else◌}
+use Rattle.std.specs.Prelude.{IfSome, IfOk, ◌||◌, if◌then◌else◌}
 use Rattle.spl_value.specs.declared.memory.NoMemory.{NoMemory}
 use Rattle.feed_pour.specs.Counts.{PerName}
 use Rattle.feed_pour.specs.Contents.{Told, WhereTold}
@@ -17,14 +17,15 @@ use Rattle.run_report.specs.declared.cause.Cause.TheVariants as C
 use Rattle.command_line.specs.declared.request.Request.{Request}
 use Rattle.command_line.specs.declared.request.Request.TheVariants as R
 use Rattle.command_line.specs.declared.request.RunOptions.{RunOptions}
+use Rattle.std.specs.List.{cons_option}
+use Rattle.command_line.specs.Request.{file_names}
 use Rattle.check_laws.specs.Files.{source_files, sink_files, is_named}
 use Rattle.source_rows.specs.Counting.{OpeningFailed}
-use Rattle.spl_driver.specs.Built.{is_built, is_plain, is_given}
 use Rattle.spl_driver.specs.Files.{FilesOf, creates, files_of, if_given, row_files}
 use Rattle.spl_driver.specs.Outcome.{IsReplay, has_record_fault, OfPlan, OfSize, Report, RequestOutcome, Reports}
 use Rattle.spl_driver.specs.Answer.{CauseMeans, CreatingFailed, DevicesMean, DevicesShow, ReadingFailed, StoppedBy, WholeReads, WritingFailed, IsUnread, MayBe, NeedsRecord, is_bad_arrivals, is_ended_run, is_replay, is_report, uncounted}
 use Rattle.spl_driver.specs.Texts.{IsReportText, IsText, wants_counts}
-use Rattle.spl_driver.specs.Steps.{CountsShow, FilesShow, FollowsFile, IsAcceptedOutcome, IsRunOf, IsToldAcceptedOutcome, MayBeOutcome, ReplayComes, RunComes, replay_files, run_files}
+use Rattle.spl_driver.specs.Steps.{CountsShow, FilesShow, FollowsFile, IsAcceptedOutcome, IsNamedBy, IsRunOf, IsToldAcceptedOutcome, MayBeOutcome, ReplayComes, RecordFor, RecordOf, RunComes, created_by, replay_files, run_files}
 use Rattle.spl_driver.specs.declared.ended.Ended.{Ended}
 use Rattle.arrival_format.specs.ArrivalTexts.{Spells}
 use Rattle.list_engine.specs.declared.run_order.Order.TheVariants as O
@@ -34,6 +35,7 @@ use Rattle.spl_driver.proofs.Standing.{IsQuiet, IsUnrun, quiet_stopped}
 use Rattle.std.specs.Str.{bytes_eq}
 use Rattle.std.proofs.lemmas.Bool.{or_parts}
 use Rattle.spl_value.proofs.Bools.{or_true}
+use Rattle.spl_value.proofs.Lists.{same_name}
 
 quiet_counts : (cause k : Cause) (files : FilesOf) (counts : PerName) → cause ≡ k → IsQuiet k → (k ≡ C.BadWords → ⊥) → IsUnrun k → (parts : List Part) → CountsShow cause parts files counts counts
 quiet_counts cause k files counts is quiet words unrun parts = record {
@@ -65,6 +67,7 @@ reported_files None request report c ended counts asks is none = tt
 reported_files (Some t) request report c ended counts asks is none = record {
   means = subst (λ (k : Cause). CauseMeans k (IsAcceptedOutcome request c ended.arrivals t) ended t t) (sym is) (inl (report, c, asks.outcome t ended.arrivals, (λ n. refl), none));
   others = λ n named. refl;
+  scripts = λ n named. refl;
   device = subst (λ (k : Cause). DevicesMean k (files_of (Some request) c.parts) counts counts ⊥ (IsAcceptedOutcome request c ended.arrivals t) ended t t) (sym is) (quiet_only (row_files (Some request) c.parts) counts counts (λ n. refl));
   whole = λ n free differs. absurd (differs refl);
   reads = λ n differs. absurd (differs refl);
@@ -90,25 +93,6 @@ plan_told c plan (Ok text) is e = (plan, is (graph_of c) refl, e)
 plan_told c plan (Err x) is e = tt
 
 -- ---- a run
-
-fourth : (a b c d : Bool) → (not a && (not b && (not c && not d))) ≡ true → d ≡ false
-fourth true b c d h = cc
-fourth false true c d h = cc
-fourth false false true d h = cc
-fourth false false false true h = cc
-fourth false false false false h = refl
-
-none_given : (o : Option (List ℕ)) → is_given o ≡ false → if_given o ≡ []
-none_given None h = refl
-none_given (Some name) h = cc
-
--- a run without an arrivals file creates the sinks alone
-pub creates_sinks : (p : List ℕ) (options : RunOptions) (parts : List Part) → is_plain options ≡ true → creates (Some (R.Run p options)) parts ≡ sink_files parts
-creates_sinks p options parts plain =
-    ap (λ (ns : List (List ℕ)). sink_files parts ++ ns) (none_given options.arrivals (fourth (is_given options.width) (is_given options.workers) (is_given options.capacity) (is_given options.arrivals) plain)) ∙ append-nil (sink_files parts)
-
-plain_run : (request : Request) (p : List ℕ) (options : RunOptions) → request ≡ R.Run p options → is_built request ≡ true → is_plain options ≡ true
-plain_run request p options e built = sym (ap is_built e) ∙ built
 
 -- ---- one file more, which is opened first and read as a whole
 
@@ -140,6 +124,7 @@ module _ (p : List ℕ) (whole : List (List ℕ)) (most : List ℕ → ℕ) (fil
     order = h.order;
     rose = h.rose;
     later = λ n free other. h.later n (front_not p n (files.opened ++ h.before) free) other;
+    others = h.others;
     creating = h.creating;
     opening = h.opening;
   }
@@ -174,7 +159,7 @@ module _ (p : List ℕ) (whole : List (List ℕ)) (most : List ℕ → ℕ) (fil
   means_wider (C.Refused refusal) counts now Is ended t u h = h
   means_wider (C.BadArrivals op) counts now Is ended t u h = h
   means_wider (C.OpenFailed name) counts now Is ended t u (inl h) = inl (opening_wider name counts now h.0, h.1)
-  means_wider (C.OpenFailed name) counts now Is ended t u (inr h) = inr (creating_wider name counts now h.0, h.1)
+  means_wider (C.OpenFailed name) counts now Is ended t u (inr h) = inr (record { failed = creating_wider name counts now h.failed; emptied = h.emptied; runs = h.runs })
   means_wider (C.ReadFailed name) counts now Is ended t u h = reading_wider name counts now h
   means_wider (C.WriteFailed name) counts now Is ended t u (inl h) = inl (writing_wider name counts now h.0, h.1)
   means_wider (C.WriteFailed name) counts now Is ended t u (inr h) = absurd h.failed
@@ -191,6 +176,7 @@ module _ (p : List ℕ) (whole : List (List ℕ)) (most : List ℕ → ℕ) (fil
   files_wider (Some t) (Some u) Is ended counts later h = record {
     means = h.means;
     others = h.others;
+    scripts = h.scripts;
     device = means_wider ended.cause counts later (Is t) ended t u h.device;
     whole = whole_wider ended.cause counts later t h.whole;
     reads = h.reads;
@@ -207,30 +193,61 @@ module _ (p : List ℕ) (whole : List (List ℕ)) (most : List ℕ → ℕ) (fil
 
 -- ---- a run, behind its program
 
--- the files of a run are those of its sources and sinks, with the program in front
-run_files_of : (p : List ℕ) (options : RunOptions) (c : CheckedGraph) → is_plain options ≡ true → files_of (Some (R.Run p options)) c.parts ≡ with_file p (p ∷ []) (λ n. 1048576) (run_files c)
-run_files_of p options c plain =
-    let made = creates_sinks p options c.parts plain in
+-- the files of a run are those of its sources, its sinks and its record, with the program in front
+creates_are : (p : List ℕ) (options : RunOptions) (c : CheckedGraph) (o : Option (List ℕ)) → options.arrivals ≡ o → creates (Some (R.Run p options)) c.parts ≡ created_by options.arrivals c
+creates_are p options c None e = ap (λ (o : Option (List ℕ)). sink_files c.parts ++ if_given o) e ∙ append-nil (sink_files c.parts) ∙ ap (λ (o : Option (List ℕ)). created_by o c) (sym e)
+creates_are p options c (Some file) e = ap (λ (o : Option (List ℕ)). sink_files c.parts ++ if_given o) e ∙ ap (λ (o : Option (List ℕ)). created_by o c) (sym e)
+
+run_files_of : (p : List ℕ) (options : RunOptions) (c : CheckedGraph) → files_of (Some (R.Run p options)) c.parts ≡ with_file p (p ∷ []) (λ n. 1048576) (run_files options.arrivals c)
+run_files_of p options c =
+    let made = creates_are p options c options.arrivals refl in
     λ i. record { opened = p ∷ source_files c.parts; whole = p ∷ []; most = λ n. 1048576; rows = source_files c.parts; created = made i }
 
 none_named : (p n : List ℕ) → is_named [] n ≡ true → is_named (p ∷ []) n ≡ true
 none_named p n e = absurd (let bad : false ≡ true = e in cc)
 
 pub ran_files : (told now : Option Told) (request : Request) (p : List ℕ) (options : RunOptions) (c : CheckedGraph) (ended : Ended) (counts later : PerName) → request ≡ R.Run p options
-    → is_built request ≡ true → WhereTold told now (λ t u. FilesShow (IsRunOf c O.InTurn ended.arrivals t) (run_files c) ended counts later t u)
+    → WhereTold told now (λ t u. FilesShow (IsRunOf c O.InTurn ended.arrivals t) (run_files options.arrivals c) ended counts later t u)
     → WhereTold told now (λ t u. FilesShow (IsAcceptedOutcome request c ended.arrivals t) (files_of (Some request) c.parts) ended counts later t u)
-ran_files told now request p options c ended counts later e built h =
+ran_files told now request p options c ended counts later e h =
     subst (λ (q : Request). WhereTold told now (λ t u. FilesShow (IsAcceptedOutcome q c ended.arrivals t) (files_of (Some q) c.parts) ended counts later t u)) (sym e)
     (subst (λ (files : FilesOf). WhereTold told now (λ t u. FilesShow (IsRunOf c O.InTurn ended.arrivals t) files ended counts later t u))
-    (sym (run_files_of p options c (plain_run request p options e built)))
-    (files_wider p (p ∷ []) (λ n. 1048576) (run_files c) (none_named p) (λ n. omega arith) told now (λ t. IsRunOf c O.InTurn ended.arrivals t) ended counts later h))
+    (sym (run_files_of p options c))
+    (files_wider p (p ∷ []) (λ n. 1048576) (run_files options.arrivals c) (none_named p) (λ n. omega arith) told now (λ t. IsRunOf c O.InTurn ended.arrivals t) ended counts later h))
 
-pub ran_counts : (request : Request) (p : List ℕ) (options : RunOptions) (c : CheckedGraph) (cause : Cause) (old new : PerName) → request ≡ R.Run p options → is_built request ≡ true
-    → CountsShow cause c.parts (run_files c) old new → CountsShow cause c.parts (files_of (Some request) c.parts) old new
-ran_counts request p options c cause old new e built h =
+pub ran_counts : (request : Request) (p : List ℕ) (options : RunOptions) (c : CheckedGraph) (cause : Cause) (old new : PerName) → request ≡ R.Run p options
+    → CountsShow cause c.parts (run_files options.arrivals c) old new → CountsShow cause c.parts (files_of (Some request) c.parts) old new
+ran_counts request p options c cause old new e h =
     subst (λ (q : Request). CountsShow cause c.parts (files_of (Some q) c.parts) old new) (sym e)
-    (subst (λ (files : FilesOf). CountsShow cause c.parts files old new) (sym (run_files_of p options c (plain_run request p options e built)))
-    (counts_wider p (p ∷ []) (λ n. 1048576) (run_files c) (none_named p) (λ n. omega arith) cause c.parts old new h))
+    (subst (λ (files : FilesOf). CountsShow cause c.parts files old new) (sym (run_files_of p options c))
+    (counts_wider p (p ∷ []) (λ n. 1048576) (run_files options.arrivals c) (none_named p) (λ n. omega arith) cause c.parts old new h))
+
+pub ran_record : (told now : Option Told) (request : Request) (p : List ℕ) (options : RunOptions) (c : CheckedGraph) (ended : Ended) (counts later : PerName) → request ≡ R.Run p options
+    → WhereTold told now (RecordOf options.arrivals c ended counts later) → WhereTold told now (RecordFor request c ended counts later)
+ran_record told now request p options c ended counts later e h = subst (λ (q : Request). WhereTold told now (RecordFor q c ended counts later)) (sym e) h
+
+-- the record's name is one of those of the command line
+pub run_named : (request : Request) (p : List ℕ) (options : RunOptions) → request ≡ R.Run p options → IsNamedBy options.arrivals (file_names request)
+run_named request p options e = by options.arrivals (ap file_names e)
+  where
+    by : (o : Option (List ℕ)) → file_names request ≡ p ∷ cons_option o [] → IsNamedBy o (file_names request)
+    by None is = tt
+    by (Some file) is = ap (λ (ns : List (List ℕ)). is_named ns file) is ∙ ap (λ (b : Bool). bytes_eq p file || (b || false)) (same_name file) ∙ or_true (bytes_eq p file)
+
+-- where nothing is run no record is written
+pub none_written : (told now : Option Told) (request : Request) (c : CheckedGraph) (ended : Ended) (counts later : PerName) → WhereTold told now (λ t u. Unit {0}) → ((p : List ℕ) (options : RunOptions) → request ≡ R.Run p options → ⊥)
+    → WhereTold told now (RecordFor request c ended counts later)
+none_written None now request c ended counts later h other = tt
+none_written (Some t) None request c ended counts later h other = h
+none_written (Some t) (Some u) request c ended counts later h other = by request other
+  where
+    by : (q : Request) → ((p : List ℕ) (options : RunOptions) → q ≡ R.Run p options → ⊥) → RecordFor q c ended counts later t u
+    by (R.Check p) other = tt
+    by (R.Plan p) other = tt
+    by (R.Run p options) other = absurd (other p options refl)
+    by (R.Replay p file) other = tt
+    by (R.Simulate p width schedule steps) other = tt
+    by (R.Make name rows start) other = tt
 
 -- ---- a replay, behind its program
 

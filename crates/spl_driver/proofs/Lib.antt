@@ -19,4 +19,5 @@ pub mod Carrying
 pub mod Replays
 pub mod PlainAnswers
 pub mod Preparing
+pub mod ReplayLaw
 pub mod Answering

@@ -8,6 +8,7 @@ use Rattle.feed_pour.specs.Contents.{Told, WhereTold, TellsSame}
 use Rattle.language_model.specs.CheckedGraph.{CheckedGraph}
 use Rattle.language_model.specs.Keeping.{Keeps}
 use Rattle.stream_model.specs.declared.record.Arrivals.{Arrivals}
+use Rattle.stream_model.specs.CheckedMeaning.{graph_of}
 use Rattle.stream_model.specs.Ends.{run_fault}
 use Rattle.run_report.specs.declared.cause.Cause.{Cause}
 use Rattle.run_report.specs.declared.cause.Cause.TheVariants as C
@@ -16,34 +17,36 @@ use Rattle.check_laws.specs.Files.{source_files, OwnFiles}
 use Rattle.file_adapters.specs.declared.sinks.Sink.{Sink}
 use Rattle.file_adapters.specs.declared.sinks.Sunk.{Sunk}
 use Rattle.file_adapters.specs.declared.sinks.Sunk.TheVariants as S
-use Rattle.file_adapters.specs.Sinks.{SinksWritten, SinksCount, SinksCounted}
+use Rattle.file_adapters.specs.Sinks.{FilesCounted, FilesWritten, SinksCount, SinksHold, names_of}
+use Rattle.file_adapters.specs.declared.text.TextFile.{TextFile}
 use Rattle.list_engine.specs.declared.run.Run.{Run}
 use Rattle.list_engine.specs.declared.run_order.Order.{Order}
 use Rattle.list_engine.specs.declared.run_order.Order.TheVariants as O
 use Rattle.list_engine.specs.RunLaws.{SinkLaw}
 use Rattle.source_rows.specs.Counting.{OnlyReads}
 use Rattle.source_rows.specs.Sources.{ReadsFail}
-use Rattle.spl_driver.specs.Outcome.{RequestOutcome, BadArrivals, IsUnder, run_outcome}
+use Rattle.spl_driver.specs.Outcome.{RequestOutcome, BadArrivals, IsUnder, meant, run_outcome}
 use Rattle.spl_driver.specs.Answer.{Begun, CauseMeans, DevicesMean, IsOr, cause_of, is_bad_arrivals, is_ended_run}
 use Rattle.spl_driver.specs.Texts.{EndsWith, IsText}
-use Rattle.spl_driver.specs.Steps.{EndsBehind, FilesShow, FollowsOrder, IsRunAs, IsRunOf, MayEndIn, NotWholeFor, RanFor, RanIn, RecordedBy, RunComes, RunComesAs, run_files, sinks_of}
+use Rattle.spl_driver.specs.Steps.{EndsBehind, FilesShow, FollowsOrder, IsRunAs, IsRunOf, MayEndIn, NotWholeFor, RanFor, RanIn, RecordedBy, RunComes, RunComesAs, created_by, run_files, sinks_of}
 use Rattle.spl_driver.specs.declared.ended.Ended.{Ended}
 use Rattle.spl_driver.proofs.Replaying.{one_under}
-use Rattle.spl_driver.proofs.Running.{SinkAt, at_cause, begun_empty, sink_at, sunk_each, sunk_files, sunken_of}
+use Rattle.spl_driver.proofs.Running.{AreCreated, FileAt, at_cause, begun_empty, file_at, sunk_each, sunk_files, sunken_of, wrote}
 use Rattle.spl_driver.proofs.Standing.{devices_map, means_map, same_told, text_map}
 
 -- ---- what the files hold
 
 -- what the files show of a run under a record that is given, by what they show of it under its own
-module _ (law : SinkLaw) (given : Arrivals) (c : CheckedGraph) (run : Run) (ended : Ended) (counts between later : PerName) (names : List (List ℕ)) (keeps : Keeps c) (own : OwnFiles names c.parts) (t u : Told)
+module _ (law : SinkLaw) (given : Arrivals) (written : Option (List ℕ)) (c : CheckedGraph) (run : Run) (ended : Ended) (counts between later : PerName) (names : List (List ℕ)) (keeps : Keeps c) (own : OwnFiles names c.parts) (t u : Told)
     (p : RanFor c run (Some t) counts between) (same : run.arrivals ≡ given) (under : IsUnder t c given (run_outcome c t run.arrivals)) (reads : OnlyReads (source_files c.parts) counts between)
-    (f : FilesShow (IsRunAs c ended.arrivals t) (run_files c) ended counts later t u) where
+    (f : FilesShow (IsRunAs c ended.arrivals t) (run_files written c) ended counts later t u) where
   -- the run has the record
-  with_record : ended.arrivals ≡ run.arrivals → FilesShow (IsUnder t c given) (run_files c) ended counts later t u
+  with_record : ended.arrivals ≡ run.arrivals → FilesShow (IsUnder t c given) (run_files written c) ended counts later t u
   with_record recorded = record {
     means = means_map ended.cause (IsRunAs c ended.arrivals t) (IsUnder t c given) ended t u to from f.means;
     others = f.others;
-    device = devices_map ended.cause (run_files c) counts later ⊥ (IsRunAs c ended.arrivals t) (IsUnder t c given) ended t u to f.device;
+    scripts = f.scripts;
+    device = devices_map ended.cause (run_files written c) counts later ⊥ (IsRunAs c ended.arrivals t) (IsUnder t c given) ended t u to f.device;
     whole = f.whole;
     reads = f.reads;
   }
@@ -55,11 +58,12 @@ module _ (law : SinkLaw) (given : Arrivals) (c : CheckedGraph) (run : Run) (ende
       from r is = one_under t c given r (run_outcome c t run.arrivals) is under ∙ ap (run_outcome c t) (sym recorded)
 
   -- a file wasn't created
-  without_record : (place : ℕ) → SinksWritten (S.NotCreated place) (sinks_of c) run.sinks between later t u → SinksCount (S.NotCreated place) (sinks_of c) run.sinks
-      → (s : Sink) → IsOr (C.OpenFailed s.file) ended.cause → FilesShow (IsUnder t c given) (run_files c) ended counts later t u
-  without_record place w count s ends = record {
+  without_record : (place : ℕ) → SinksHold (S.NotCreated place) (sinks_of c) (created_by written c) run.sinks between later t u → SinksCount (S.NotCreated place) (sinks_of c) run.sinks
+      → (name : List ℕ) → IsOr (C.OpenFailed name) ended.cause → FilesShow (IsUnder t c given) (run_files written c) ended counts later t u
+  without_record place w count name ends = record {
     means = by_means ends;
     others = f.others;
+    scripts = f.scripts;
     device = by_device ends;
     whole = f.whole;
     reads = f.reads;
@@ -67,39 +71,43 @@ module _ (law : SinkLaw) (given : Arrivals) (c : CheckedGraph) (run : Run) (ende
     where
       begun : (r : RequestOutcome) → IsUnder t c given r → Begun r t u
       begun r is =
-          begun_empty law place c run ended counts between counts later t u run.arrivals
-          (sunken_of law (S.NotCreated place) c run ended counts between later t u names keeps own p reads w count) r (one_under t c given r (run_outcome c t run.arrivals) is under)
+          begun_empty law place written c run ended counts between counts later t u run.arrivals
+          (sunken_of law (S.NotCreated place) written c run ended counts between later t u names keeps own p reads w count) r (one_under t c given r (run_outcome c t run.arrivals) is under)
 
-      by_means : IsOr (C.OpenFailed s.file) ended.cause → CauseMeans ended.cause (IsUnder t c given) ended t u
-      by_means (inl is) = at_cause (C.OpenFailed s.file) (IsUnder t c given) ended t u is begun
+      stopped : DevicesMean (C.OpenFailed name) (run_files written c) counts later ⊥ (IsRunAs c ended.arrivals t) ended t u → DevicesMean (C.OpenFailed name) (run_files written c) counts later ⊥ (IsUnder t c given) ended t u
+      stopped (inl h) = inl h
+      stopped (inr h) = inr (record { failed = h.failed; emptied = h.emptied; runs = (c, graph_of c, meant (graph_of c) t run.arrivals.lists, under) })
+
+      by_means : IsOr (C.OpenFailed name) ended.cause → CauseMeans ended.cause (IsUnder t c given) ended t u
+      by_means (inl is) = at_cause (C.OpenFailed name) (IsUnder t c given) ended t u is begun
       by_means (inr is) = at_cause C.NoMemory (IsUnder t c given) ended t u is begun
 
-      by_device : IsOr (C.OpenFailed s.file) ended.cause → DevicesMean ended.cause (run_files c) counts later ⊥ (IsUnder t c given) ended t u
-      by_device (inl is) = subst (λ (k : Cause). DevicesMean k (run_files c) counts later ⊥ (IsUnder t c given) ended t u) (sym is)
-          (subst (λ (k : Cause). DevicesMean k (run_files c) counts later ⊥ (IsRunAs c ended.arrivals t) ended t u) is f.device)
-      by_device (inr is) = subst (λ (k : Cause). DevicesMean k (run_files c) counts later ⊥ (IsUnder t c given) ended t u) (sym is) tt
+      by_device : IsOr (C.OpenFailed name) ended.cause → DevicesMean ended.cause (run_files written c) counts later ⊥ (IsUnder t c given) ended t u
+      by_device (inl is) = subst (λ (k : Cause). DevicesMean k (run_files written c) counts later ⊥ (IsUnder t c given) ended t u) (sym is)
+          (stopped (subst (λ (k : Cause). DevicesMean k (run_files written c) counts later ⊥ (IsRunAs c ended.arrivals t) ended t u) is f.device))
+      by_device (inr is) = subst (λ (k : Cause). DevicesMean k (run_files written c) counts later ⊥ (IsUnder t c given) ended t u) (sym is) tt
 
-pub sunk_in_order : (order : Order) → SinkLaw → (told mid now : Option Told) (r : Sunk) (c : CheckedGraph) (sinks : List Sink) (run : Run) (ended : Ended) (counts between later : PerName) (names : List (List ℕ))
-    → Keeps c → OwnFiles names c.parts → sinks ≡ sinks_of c → RanFor c run told counts between → RanIn c order run told → WhereTold told mid TellsSame → IfSome told (ReadsFail counts between)
-    → OnlyReads (source_files c.parts) counts between → WhereTold mid now (SinksWritten r sinks run.sinks between later) → SinksCount r sinks run.sinks → SinksCounted r sinks between later
-    → EndsBehind r run.fault c sinks ended → RecordedBy r ended run.arrivals
-    → WhereTold told now (λ t u. FilesShow (IsRunOf c order ended.arrivals t) (run_files c) ended counts later t u)
-sunk_in_order O.InTurn law told mid now r c sinks run ended counts between later names keeps own e p into same failing reads h count counted ends recorded =
-    sunk_files law told mid now r c sinks run ended counts between later names keeps own e p same failing reads h count counted ends recorded
-sunk_in_order (O.Recorded given) law None mid now r c sinks run ended counts between later names keeps own e p into same failing reads h count counted ends recorded = tt
-sunk_in_order (O.Recorded given) law (Some t) None now r c sinks run ended counts between later names keeps own e p into same failing reads h count counted ends recorded = absurd same
-sunk_in_order (O.Recorded given) law (Some t) (Some s) None r c sinks run ended counts between later names keeps own e p into same failing reads h count counted ends recorded = absurd h
-sunk_in_order (O.Recorded given) law (Some t) (Some s) (Some u) r c sinks run ended counts between later names keeps own e p into same failing reads h count counted ends recorded =
-    by r (sunk_files law (Some t) (Some s) (Some u) r c sinks run ended counts between later names keeps own e p same failing reads h count counted ends recorded)
-    (subst (λ (ss : List Sink). SinksWritten r ss run.sinks between later t u) e (subst (λ (x : Told). SinksWritten r sinks run.sinks between later x u) (same_told t s same) h))
-    (subst (λ (ss : List Sink). SinksCount r ss run.sinks) e count) (sink_at r sinks between later counted) ends recorded
+pub sunk_in_order : (order : Order) → SinkLaw → (told mid now : Option Told) (r : Sunk) (sinks : List Sink) (last : Option TextFile) (written : Option (List ℕ)) (c : CheckedGraph) (run : Run) (ended : Ended) (counts between later : PerName) (names : List (List ℕ))
+    → Keeps c → OwnFiles names c.parts → AreCreated sinks last written c run.arrivals → RanFor c run told counts between → RanIn c order run told → WhereTold told mid TellsSame → IfSome told (ReadsFail counts between)
+    → OnlyReads (source_files c.parts) counts between → WhereTold mid now (FilesWritten r sinks run.sinks last between later) → SinksCount r sinks run.sinks → FilesCounted r (names_of sinks last) between later
+    → EndsBehind r run.fault c (names_of sinks last) ended → RecordedBy r ended run.arrivals
+    → WhereTold told now (λ t u. FilesShow (IsRunOf c order ended.arrivals t) (run_files written c) ended counts later t u)
+sunk_in_order O.InTurn law told mid now r sinks last written c run ended counts between later names keeps own are p into same failing reads h count counted ends recorded =
+    sunk_files law told mid now r sinks last written c run ended counts between later names keeps own are p same failing reads h count counted ends recorded
+sunk_in_order (O.Recorded given) law None mid now r sinks last written c run ended counts between later names keeps own are p into same failing reads h count counted ends recorded = tt
+sunk_in_order (O.Recorded given) law (Some t) None now r sinks last written c run ended counts between later names keeps own are p into same failing reads h count counted ends recorded = absurd same
+sunk_in_order (O.Recorded given) law (Some t) (Some s) None r sinks last written c run ended counts between later names keeps own are p into same failing reads h count counted ends recorded = absurd h
+sunk_in_order (O.Recorded given) law (Some t) (Some s) (Some u) r sinks last written c run ended counts between later names keeps own are p into same failing reads h count counted ends recorded =
+    by r (sunk_files law (Some t) (Some s) (Some u) r sinks last written c run ended counts between later names keeps own are p same failing reads h count counted ends recorded)
+    (wrote r sinks last written c run.arrivals run.sinks between later t u are (subst (λ (x : Told). FilesWritten r sinks run.sinks last between later x u) (same_told t s same) h)).0
+    (subst (λ (ss : List Sink). SinksCount r ss run.sinks) are.sinks_are count) (file_at r (names_of sinks last) between later counted) ends recorded
   where
-    by : (r : Sunk) → FilesShow (IsRunAs c ended.arrivals t) (run_files c) ended counts later t u → SinksWritten r (sinks_of c) run.sinks between later t u → SinksCount r (sinks_of c) run.sinks → SinkAt r sinks
-        → EndsBehind r run.fault c sinks ended → RecordedBy r ended run.arrivals → FilesShow (IsUnder t c given) (run_files c) ended counts later t u
-    by (S.Done ns) f w n at ends recorded = with_record law given c run ended counts between later names keeps own t u p (into.given given refl) into.outcome reads f recorded
-    by (S.NotCreated place) f w n (x, at) ends recorded = without_record law given c run ended counts between later names keeps own t u p (into.given given refl) into.outcome reads f place w n x (ends x at)
-    by (S.NotWritten place) f w n at ends recorded = with_record law given c run ended counts between later names keeps own t u p (into.given given refl) into.outcome reads f recorded
-    by S.Memory f w n at ends recorded = with_record law given c run ended counts between later names keeps own t u p (into.given given refl) into.outcome reads f recorded
+    by : (r : Sunk) → FilesShow (IsRunAs c ended.arrivals t) (run_files written c) ended counts later t u → SinksHold r (sinks_of c) (created_by written c) run.sinks between later t u → SinksCount r (sinks_of c) run.sinks
+        → FileAt r (names_of sinks last) → EndsBehind r run.fault c (names_of sinks last) ended → RecordedBy r ended run.arrivals → FilesShow (IsUnder t c given) (run_files written c) ended counts later t u
+    by (S.Done ns) f w n at ends recorded = with_record law given written c run ended counts between later names keeps own t u p (into.given given refl) into.outcome reads f recorded
+    by (S.NotCreated place) f w n (x, at) ends recorded = without_record law given written c run ended counts between later names keeps own t u p (into.given given refl) into.outcome reads f place w n x (ends x at)
+    by (S.NotWritten place) f w n at ends recorded = with_record law given written c run ended counts between later names keeps own t u p (into.given given refl) into.outcome reads f recorded
+    by S.Memory f w n at ends recorded = with_record law given written c run ended counts between later names keeps own t u p (into.given given refl) into.outcome reads f recorded
 
 -- ---- its record
 
@@ -116,26 +124,26 @@ not_ended expected cause none (inl is) run = let bad : false ≡ true = sym none
 not_ended expected cause none (inr is) run = let bad : false ≡ true = ap is_ended_run (sym is) ∙ run in cc
 
 -- a run that ended has its record, also where what it gave couldn't be written
-recorded_run : (r : Sunk) (c : CheckedGraph) (fault : Option Fault) (sinks : List Sink) (ended : Ended) (arrivals : Arrivals) → SinkAt r sinks → EndsBehind r fault c sinks ended → RecordedBy r ended arrivals
+recorded_run : (r : Sunk) (c : CheckedGraph) (fault : Option Fault) (names : List (List ℕ)) (ended : Ended) (arrivals : Arrivals) → FileAt r names → EndsBehind r fault c names ended → RecordedBy r ended arrivals
     → is_ended_run ended.cause ≡ true → ended.arrivals ≡ arrivals
-recorded_run (S.Done ns) c fault sinks ended arrivals at ends recorded run = recorded
-recorded_run (S.NotCreated place) c fault sinks ended arrivals (s, at) ends recorded run = absurd (not_ended (C.OpenFailed s.file) ended.cause refl (ends s at) run)
-recorded_run (S.NotWritten place) c fault sinks ended arrivals at ends recorded run = recorded
-recorded_run S.Memory c fault sinks ended arrivals at ends recorded run = recorded
+recorded_run (S.Done ns) c fault names ended arrivals at ends recorded run = recorded
+recorded_run (S.NotCreated place) c fault names ended arrivals (name, at) ends recorded run = absurd (not_ended (C.OpenFailed name) ended.cause refl (ends name at) run)
+recorded_run (S.NotWritten place) c fault names ended arrivals at ends recorded run = recorded
+recorded_run S.Memory c fault names ended arrivals at ends recorded run = recorded
 
-pub sunk_follows : (order : Order) (told : Option Told) (r : Sunk) (c : CheckedGraph) (sinks : List Sink) (run : Run) (ended : Ended) (old new : PerName) → SinksCounted r sinks old new → RanIn c order run told
-    → EndsBehind r run.fault c sinks ended → RecordedBy r ended run.arrivals → FollowsOrder order ended
-sunk_follows O.InTurn told r c sinks run ended old new counted into ends recorded = tt
-sunk_follows (O.Recorded given) told r c sinks run ended old new counted into ends recorded =
-    λ ran. recorded_run r c run.fault sinks ended run.arrivals (sink_at r sinks old new counted) ends recorded ran ∙ into.given given refl
+pub sunk_follows : (order : Order) (told : Option Told) (r : Sunk) (c : CheckedGraph) (names : List (List ℕ)) (run : Run) (ended : Ended) (old new : PerName) → FilesCounted r names old new → RanIn c order run told
+    → EndsBehind r run.fault c names ended → RecordedBy r ended run.arrivals → FollowsOrder order ended
+sunk_follows O.InTurn told r c names run ended old new counted into ends recorded = tt
+sunk_follows (O.Recorded given) told r c names run ended old new counted into ends recorded =
+    λ ran. recorded_run r c run.fault names ended run.arrivals (file_at r names old new counted) ends recorded ran ∙ into.given given refl
 
 done_kinds : (fault : Option Fault) → is_bad_arrivals (cause_of fault) ≡ false
 done_kinds None = refl
 done_kinds (Some f) = refl
 
-pub sunk_kinds : (order : Order) (r : Sunk) (c : CheckedGraph) (fault : Option Fault) (sinks : List Sink) (ended : Ended) (old new : PerName) → SinksCounted r sinks old new → EndsBehind r fault c sinks ended → MayEndIn order ended.cause
-sunk_kinds order r c fault sinks ended old new counted ends =
-    may_end order ended.cause (sunk_each (λ k. is_bad_arrivals k ≡ false) done_kinds (λ name. refl) (λ name. refl) refl r c fault sinks ended (sink_at r sinks old new counted) ends)
+pub sunk_kinds : (order : Order) (r : Sunk) (c : CheckedGraph) (fault : Option Fault) (names : List (List ℕ)) (ended : Ended) (old new : PerName) → FilesCounted r names old new → EndsBehind r fault c names ended → MayEndIn order ended.cause
+sunk_kinds order r c fault names ended old new counted ends =
+    may_end order ended.cause (sunk_each (λ k. is_bad_arrivals k ≡ false) done_kinds (λ name. refl) (λ name. refl) refl r c fault names ended (file_at r names old new counted) ends)
 
 -- ---- what is told of it
 
@@ -155,13 +163,13 @@ comes_in (O.Recorded given) told c run ended counts now into recorded result end
     by None own under = tt
     by (Some t) own under = subst (IsUnder t c given) (sym (own ∙ ap (run_outcome c t) same)) under
 
-pub text_in_order : (order : Order) (counted : Bool) (told : Option Told) (r : Sunk) (c : CheckedGraph) (sinks : List Sink) (run : Run) (ended : Ended) (text : Result (List ℕ) NoMemory) (counts between now : PerName) → SinksCounted r sinks between now
-    → RanIn c order run told → EndsBehind r run.fault c sinks ended → RecordedBy r ended run.arrivals → IfOk text (IsText counted ended.cause (RunComesAs c ended.arrivals told counts now))
+pub text_in_order : (order : Order) (counted : Bool) (told : Option Told) (r : Sunk) (c : CheckedGraph) (names : List (List ℕ)) (run : Run) (ended : Ended) (text : Result (List ℕ) NoMemory) (counts between now : PerName) → FilesCounted r names between now
+    → RanIn c order run told → EndsBehind r run.fault c names ended → RecordedBy r ended run.arrivals → IfOk text (IsText counted ended.cause (RunComesAs c ended.arrivals told counts now))
     → IfOk text (IsText counted ended.cause (RunComes c order ended.arrivals told counts now))
-text_in_order order counted told r c sinks run ended (Err x) counts between now rose into ends recorded h = tt
-text_in_order order counted told r c sinks run ended (Ok text) counts between now rose into ends recorded h =
+text_in_order order counted told r c names run ended (Err x) counts between now rose into ends recorded h = tt
+text_in_order order counted told r c names run ended (Ok text) counts between now rose into ends recorded h =
     text_map counted ended.cause (RunComesAs c ended.arrivals told counts now) (RunComes c order ended.arrivals told counts now) text
-    (comes_in order told c run ended counts now into (recorded_run r c run.fault sinks ended run.arrivals (sink_at r sinks between now rose) ends recorded)) h
+    (comes_in order told c run ended counts now into (recorded_run r c run.fault names ended run.arrivals (file_at r names between now rose) ends recorded)) h
 
 -- ---- a record that isn't whole
 

@@ -24,7 +24,7 @@ use Rattle.spl_driver.proofs.Telling.{not_run}
 -- the answer of a cause of which nothing was carried out
 pub plain_request : (told now : Option Told) (request : Option Request) (k : Cause) (answer : Answer) (counts later : PerName) (lent left : ℕ) → answer.ended.cause ≡ k → (IsRun k → ⊥)
     → IsPlainCause k → IsReason k request → MayBe request k → Shown k request counts later ⊥ → ByWords request k counts later → IfOk answer.text (λ l. l ≡ status_text None k) → NothingRan answer.ended
-    → (lent < 2 ^ 64 - 256 → left ≡ lent) → WhereTold told now (Answered request answer.ended counts later ⊥) → AnswersRequest request answer told now counts later lent left
+    → (lent < 2 ^ 64 - 257 → left ≡ lent) → WhereTold told now (Answered request answer.ended counts later ⊥) → AnswersRequest request answer told now counts later lent left
 plain_request told now request k answer counts later lent left is other plain reason kind shown words text none given answered = record {
   answered = answered;
   shown = subst (λ (c : Cause). Shown c request counts later ⊥) (sym is) shown;
@@ -43,7 +43,7 @@ plain_request told now request k answer counts later lent left is other plain re
 -- the answer of a cause, or of want of memory for its name, after which no count is shown by the words
 pub named_request : (told now : Option Told) (request : Request) (k : Cause) (answer : Answer) (counts later : PerName) (lent left : ℕ) → IsOr k answer.ended.cause → (IsRun k → ⊥) → IsPlainCause k → IsReason k (Some request)
     → MayBe (Some request) k → Shown answer.ended.cause (Some request) counts later ⊥ → is_built request ≡ true → IfOk answer.text (λ l. l ≡ status_text None answer.ended.cause) → NothingRan answer.ended
-    → (lent < 2 ^ 64 - 256 → left ≡ lent) → WhereTold told now (Answered (Some request) answer.ended counts later ⊥) → AnswersRequest (Some request) answer told now counts later lent left
+    → (lent < 2 ^ 64 - 257 → left ≡ lent) → WhereTold told now (Answered (Some request) answer.ended counts later ⊥) → AnswersRequest (Some request) answer told now counts later lent left
 named_request told now request k answer counts later lent left is other plain reason kind shown built text none given answered = record {
   answered = answered;
   shown = shown;
@@ -66,7 +66,7 @@ same_or expected found cause e (inr is) = inr (e ∙ is)
 
 pub named_cause : (told now : Option Told) (request : Request) (k : Cause) (answer : Answer) (found : Cause) (counts later : PerName) (lent left : ℕ) → answer.ended.cause ≡ found → IsOr k found → (IsRun k → ⊥) → IsPlainCause k → IsReason k (Some request)
     → MayBe (Some request) k → (IsOr k answer.ended.cause → Shown answer.ended.cause (Some request) counts later ⊥) → is_built request ≡ true → IfOk answer.text (λ l. l ≡ status_text None found)
-    → NothingRan answer.ended → (lent < 2 ^ 64 - 256 → left ≡ lent) → (IsOr k answer.ended.cause → WhereTold told now (Answered (Some request) answer.ended counts later ⊥))
+    → NothingRan answer.ended → (lent < 2 ^ 64 - 257 → left ≡ lent) → (IsOr k answer.ended.cause → WhereTold told now (Answered (Some request) answer.ended counts later ⊥))
     → AnswersRequest (Some request) answer told now counts later lent left
 named_cause told now request k answer found counts later lent left same is other plain reason kind shown built text none given answered =
     let or = same_or k found answer.ended.cause same is in

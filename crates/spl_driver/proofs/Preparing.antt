@@ -57,7 +57,7 @@ names_of n m (I.Final ∷ items) e h = names_of n m items e (rest_names m I.Fina
 names_of n m (I.Bad f ∷ items) e h = (h 0 (I.Bad f) (omega arith) ∙ e, names_of n m items e (rest_names m (I.Bad f) items h))
 
 -- the clauses of an operator of the graph stand at its number
-part_there : (c : CheckedGraph) (n : ℕ) (op : Operator) (file : List ℕ) (strict : Bool) → slice_get (graph_of c).ops n ≡ Some op → op.clauses ≡ A.FileSource file strict → slice_get c.parts n ≡ Some (A.FileSource file strict)
+pub part_there : (c : CheckedGraph) (n : ℕ) (op : Operator) (file : List ℕ) (strict : Bool) → slice_get (graph_of c).ops n ≡ Some op → op.clauses ≡ A.FileSource file strict → slice_get c.parts n ≡ Some (A.FileSource file strict)
 part_there c n op file strict at is =
     let found = operator_from c 0 c.graph.ops c.parts n op at in
     found.has ∙ ap (λ (p : Part). Some p) (sym (ap (λ (o : Operator). o.clauses) found.same) ∙ is)

@@ -144,7 +144,7 @@ memory_not_run (Some fault, is) = cc
 tells_found : (text : Result (List ℕ) NoMemory) (cause found : Cause) → cause ≡ found → IfOk text (λ l. l ≡ status_text None found) → IfOk text (λ l. l ≡ status_text None cause)
 tells_found text cause found is h = subst (λ (k : Cause). IfOk text (λ l. l ≡ status_text None k)) (sym is) h
 
-module _ (told now : Option Told) (file : List ℕ) (c : CheckedGraph) (answer : Answer) (counts later : PerName) (before after : ℕ) (given : before < 2 ^ 64 - 256 → after ≡ before) (same : WhereTold told now TellsSame)
+module _ (told now : Option Told) (file : List ℕ) (c : CheckedGraph) (answer : Answer) (counts later : PerName) (before after : ℕ) (given : before < 2 ^ 64 - 257 → after ≡ before) (same : WhereTold told now TellsSame)
     (reads : IfSome told (RecordFails file counts later)) (none : NothingRan answer.ended) where
   abbrev Comes : RequestOutcome → Type 0
   Comes = ReplayComes c file answer.ended.arrivals told counts later
@@ -211,7 +211,7 @@ misspelt_text told file c ended (Err x) counts later h is e = tt
 misspelt_text told file c ended (Ok text) counts later h is e =
     subst (λ (k : Cause). IsText false k (ReplayComes c file ended.arrivals told counts later) text) (sym is) (BadArrivals c None, misspelt_comes told file c ended.arrivals counts later h, refl, e)
 
-pub misspelt_replay : (told now : Option Told) (file : List ℕ) (c : CheckedGraph) (answer : Answer) (counts later : PerName) (before after : ℕ) → (before < 2 ^ 64 - 256 → after ≡ before) → WhereTold told now TellsSame
+pub misspelt_replay : (told now : Option Told) (file : List ℕ) (c : CheckedGraph) (answer : Answer) (counts later : PerName) (before after : ℕ) → (before < 2 ^ 64 - 257 → after ≡ before) → WhereTold told now TellsSame
     → IfSome told (RecordFails file counts later) → NothingRan answer.ended → answer.ended.cause ≡ C.BadArrivals None → NoCountChanged counts later → IfSome told (λ t. RecordAt D.Bad (t.script file) c)
     → IfOk answer.text (λ l. l ≡ status_text (Some c) (C.BadArrivals None)) → Replays file c answer told now counts later before after
 misspelt_replay told now file c answer counts later before after given same reads none is quiet at text = record {
@@ -241,13 +241,14 @@ from_replay law c file t (O.Recorded given) arrivals r keeps (quiet, has) (missp
 from_replay law c file t (O.Recorded given) arrivals r keeps (quiet, has) (spelled a _ d is under) = subst (λ (x : Arrivals). IsUnder t c x r) (law c (t.script file).bytes a given keeps is has) under
 
 replay_files_by : OneRecordLaw → (told now : Option Told) (file : List ℕ) (c : CheckedGraph) (order : Order) (ended : Ended) (counts later : PerName) → Keeps c → IfSome told (λ t. RecordAt (D.Order order) (t.script file) c)
-    → WhereTold told now (λ t u. FilesShow (IsRunOf c order ended.arrivals t) (run_files c) ended counts later t u) → WhereTold told now (λ t u. FilesShow (IsReplay t c file) (run_files c) ended counts later t u)
+    → WhereTold told now (λ t u. FilesShow (IsRunOf c order ended.arrivals t) (run_files None c) ended counts later t u) → WhereTold told now (λ t u. FilesShow (IsReplay t c file) (run_files None c) ended counts later t u)
 replay_files_by law None now file c order ended counts later keeps at f = tt
 replay_files_by law (Some t) None file c order ended counts later keeps at f = absurd f
 replay_files_by law (Some t) (Some u) file c order ended counts later keeps at f = record {
   means = means_map ended.cause (IsRunOf c order ended.arrivals t) (IsReplay t c file) ended t u (λ r is. to_replay c file t order ended.arrivals r at is) (λ r is. from_replay law c file t order ended.arrivals r keeps at is) f.means;
   others = f.others;
-  device = devices_map ended.cause (run_files c) counts later ⊥ (IsRunOf c order ended.arrivals t) (IsReplay t c file) ended t u (λ r is. to_replay c file t order ended.arrivals r at is) f.device;
+  scripts = f.scripts;
+  device = devices_map ended.cause (run_files None c) counts later ⊥ (IsRunOf c order ended.arrivals t) (IsReplay t c file) ended t u (λ r is. to_replay c file t order ended.arrivals r at is) f.device;
   whole = f.whole;
   reads = f.reads;
 }
@@ -286,19 +287,19 @@ least file n = omega arith
 
 -- what is known of a run at the shelf before it, and by the counts before it
 record RunKnown (c : CheckedGraph) (order : Order) (answer : Answer) (told now : Option Told) (counts later : PerName) : Type 0 where
-  pub files : WhereTold told now (λ t u. FilesShow (IsRunOf c order answer.ended.arrivals t) (run_files c) answer.ended counts later t u)
-  pub counted : CountsShow answer.ended.cause c.parts (run_files c) counts later
+  pub files : WhereTold told now (λ t u. FilesShow (IsRunOf c order answer.ended.arrivals t) (run_files None c) answer.ended counts later t u)
+  pub counted : CountsShow answer.ended.cause c.parts (run_files None c) counts later
   pub text : IfOk answer.text (IsText false answer.ended.cause (RunComes c order answer.ended.arrivals told counts later))
   pub reason : ReasonOf answer.ended.cause c
   pub ran : RanGraph answer.ended.cause c answer.ended counts later
   pub followed : FollowsOrder order answer.ended
 
 replay_known : OneRecordLaw → (told now : Option Told) (file : List ℕ) (c : CheckedGraph) (order : Order) (answer : Answer) (counts later : PerName) (before after : ℕ) → Keeps c → IfSome told (λ t. RecordAt (D.Order order) (t.script file) c)
-    → (before < 2 ^ 64 - 256 → after ≡ before) → RunKnown c order answer told now counts later → Replays file c answer told now counts later before after
+    → (before < 2 ^ 64 - 257 → after ≡ before) → RunKnown c order answer told now counts later → Replays file c answer told now counts later before after
 replay_known law told now file c order answer counts later before after keeps at given h = record {
-  files = files_wider file (file ∷ []) (λ n. if bytes_eq file n then 2 ^ 32 else 1048576) (run_files c) (unnamed file) (least file) told now (λ t. IsReplay t c file) answer.ended counts later
+  files = files_wider file (file ∷ []) (λ n. if bytes_eq file n then 2 ^ 32 else 1048576) (run_files None c) (unnamed file) (least file) told now (λ t. IsReplay t c file) answer.ended counts later
       (replay_files_by law told now file c order answer.ended counts later keeps at h.files);
-  counted = counts_wider file (file ∷ []) (λ n. if bytes_eq file n then 2 ^ 32 else 1048576) (run_files c) (unnamed file) (least file) answer.ended.cause c.parts counts later h.counted;
+  counted = counts_wider file (file ∷ []) (λ n. if bytes_eq file n then 2 ^ 32 else 1048576) (run_files None c) (unnamed file) (least file) answer.ended.cause c.parts counts later h.counted;
   text = replay_text told file c order answer.ended answer.text counts later at h.text;
   reason = h.reason;
   ran = h.ran;
@@ -319,8 +320,8 @@ known_at (Some t) None now c order answer counts later same h = absurd same
 known_at (Some t) (Some s) now c order answer counts later same h = subst (λ (x : Told). RunKnown c order answer (Some x) now counts later) (same_told t s same) h
 
 pub ran_replay : OneRecordLaw → (told mid now : Option Told) (file : List ℕ) (c : CheckedGraph) (order : Order) (answer : Answer) (counts between later : PerName) (before after : ℕ) → Keeps c
-    → WhereTold told mid TellsSame → NoCountChanged counts between → IfSome told (λ t. RecordAt (D.Order order) (t.script file) c) → (before < 2 ^ 64 - 256 → after ≡ before)
-    → WhereTold mid now (λ t u. FilesShow (IsRunOf c order answer.ended.arrivals t) (run_files c) answer.ended between later t u) → CountsShow answer.ended.cause c.parts (run_files c) between later
+    → WhereTold told mid TellsSame → NoCountChanged counts between → IfSome told (λ t. RecordAt (D.Order order) (t.script file) c) → (before < 2 ^ 64 - 257 → after ≡ before)
+    → WhereTold mid now (λ t u. FilesShow (IsRunOf c order answer.ended.arrivals t) (run_files None c) answer.ended between later t u) → CountsShow answer.ended.cause c.parts (run_files None c) between later
     → IfOk answer.text (IsText false answer.ended.cause (RunComes c order answer.ended.arrivals mid between later)) → ReasonOf answer.ended.cause c → RanGraph answer.ended.cause c answer.ended between later
     → FollowsOrder order answer.ended → Replays file c answer told now counts later before after
 ran_replay law told mid now file c order answer counts between later before after keeps same quiet at given files counted text reason ran followed =

@@ -1,11 +1,11 @@
 -- What stands behind a run, from its streams and what was written of them.
-use Rattle.std.proofs.Common.{◌≡◌, ◌≢◌, ◌∙◌, ◌<◌, ◌≤◌, ◌+◌, ◌-◌, ◌^◌, ℕ, zero, suc, arith, slice_get, slice_index_or, Bool, true, false, List, [], ◌∷◌, ◌++◌, map, length, take, drop, refl, sym, ap, subst, inl, inr, Option, Some, None, Result, Ok, Err}
-use Rattle.std.specs.Prelude.{IfSome, IfOk, ◌||◌}
-use Rattle.std.specs.List.{All}
+use Rattle.std.proofs.Common.{◌≡◌, ◌≢◌, ◌∙◌, ◌<◌, ◌≤◌, ◌+◌, ◌-◌, ◌^◌, ℕ, zero, suc, arith, slice_get, slice_index_or, Bool, true, false, List, [], ◌∷◌, ◌++◌, length, take, drop, refl, sym, ap, subst, inl, inr, Option, Some, None, Result, Ok, Err}
+use Rattle.std.specs.Prelude.{IfSome, IfOk, ◌⊎◌}
 use Rattle.std.specs.Str.{bytes_eq}
 use Rattle.std.proofs.lemmas.Bool.{or_parts}
-use Rattle.std.proofs.lemmas.List.{get_or-take, length-take}
-use Rattle.std.proofs.lemmas.List.Folds.{list_any-append}
+use Rattle.std.proofs.lemmas.List.{get_or-map, get_or-take, get_or_append_left, length-append, length-map, length-take, take_all}
+use Rattle.std.proofs.lemmas.List.Folds.{list_any-append, list_any_at}
+use Rattle.std.proofs.lemmas.Option.{get_or_from_slice_get, slice_get_within}
 use Rattle.spl_value.specs.declared.item.Fault.{Fault}
 use Rattle.spl_value.specs.declared.item.Item.{Item}
 use Rattle.spl_value.specs.declared.memory.NoMemory.{NoMemory}
@@ -20,6 +20,7 @@ use Rattle.language_model.specs.CheckedGraph.{CheckedGraph}
 use Rattle.stream_model.specs.Ends.{run_fault}
 use Rattle.language_model.specs.Keeping.{Keeps}
 use Rattle.stream_model.specs.Arrivals.{entries_in}
+use Rattle.stream_model.specs.CheckedMeaning.{graph_of}
 use Rattle.stream_model.specs.Meaning.{Graph, Meaning, meaning}
 use Rattle.run_report.specs.declared.cause.Cause.{Cause}
 use Rattle.run_report.specs.declared.cause.Cause.TheVariants as C
@@ -29,7 +30,8 @@ use Rattle.file_adapters.specs.declared.sinks.Sink.{Sink}
 use Rattle.file_adapters.specs.declared.sinks.Sunk.{Sunk}
 use Rattle.file_adapters.specs.declared.sinks.Sunk.TheVariants as S
 use Rattle.file_adapters.specs.Sinks as Y
-use Rattle.file_adapters.specs.Sinks.{AreDistinct, EmptyBefore, SinksHold, SinksWritten, SinksCount, SinksCounted, is_file}
+use Rattle.file_adapters.specs.Sinks.{AllHold, AreDistinct, EmptyBefore, FilesCounted, FilesWritten, HasOwnFile, LastHolds, OtherNamesStay, SinksHold, SinksCount, TextHolds, names_of, sink_names}
+use Rattle.file_adapters.specs.declared.text.TextFile.{TextFile}
 use Rattle.list_engine.specs.declared.run.Run.{Run}
 use Rattle.list_engine.specs.RunLaws.{SinkLaw}
 use Rattle.source_rows.specs.Counting.{OnlyOf, OnlyReads, OpeningFailed}
@@ -37,18 +39,19 @@ use Rattle.source_rows.specs.Sources.{ReadsFail, rows_told}
 use Rattle.list_engine.specs.Runs.{rows_at}
 use Rattle.spl_driver.specs.Files.{FilesOf}
 use Rattle.spl_driver.specs.Outcome.{RequestOutcome, NoRequest, Unreadable, Refused, NotBuilt, Reports, BadArrivals, Runs, meant, run_outcome}
-use Rattle.spl_driver.specs.Answer.{EachSink, HoldsText, HoldsPrefix, HoldsUnlessFailed, SameFiles, CarriedOut, Begun, CauseMeans, CreatingFailed, DevicesMean, DevicesShow, Emptied, IsRecordOf, WritingFailed, WroteOthers, SourceUnread, StoppedBy, WholeReads, cause_of, counts_of, is_bad_arrivals, is_ended_run, IsOr, IsRun}
+use Rattle.spl_driver.specs.Answer.{EachSink, HoldsText, HoldsPrefix, HoldsUnlessFailed, SameFiles, CarriedOut, Begun, CauseMeans, CreatingFailed, DevicesMean, DevicesShow, Emptied, IsRecordOf, RecordHolds, of_sink, of_record, of_telling, WritingFailed, WroteOthers, SourceUnread, StoppedBy, WholeReads, cause_of, counts_of, is_bad_arrivals, is_ended_run, IsOr, IsRun}
+use Rattle.arrival_format.specs.ArrivalTexts.{arrivals_text}
 use Rattle.spl_driver.specs.Texts.{IsText, run_text}
 use Rattle.spl_driver.specs.Shown.{NothingRan, Ran, RanTo}
-use Rattle.spl_driver.specs.Steps.{RanFor, RanGraph, ReasonOf, ran, IsRunAs, RunComesAs, CountsShow, FilesShow, EndsAs, EndsBehind, EndsRun, RecordedBy, TellsBehind, TellsRun, run_files, sinks_of, sinks_from, counts_from}
+use Rattle.spl_driver.specs.Steps.{RanFor, RanGraph, ReasonOf, ran, IsRunAs, RunComesAs, CountsShow, FilesShow, EndsAs, EndsBehind, EndsRun, RecordOf, RecordedBy, TellsBehind, TellsRun, IsNamedBy, created_by, last_of, run_files, sinks_of, sinks_from, counts_from}
 use Rattle.spl_driver.specs.declared.answer.Answer.{Answer}
 use Rattle.spl_driver.specs.declared.ended.Ended.{Ended}
 use Rattle.spl_driver.proofs.Fetching.{read_same}
 use Rattle.spl_driver.proofs.Showing.{or_ran}
-use Rattle.spl_driver.proofs.SinkLemmas.{empty_prefixes, texts, prefixes, wrote_others, same_prefixes, counts_are, is_file_named, files_from, distinct}
-use Rattle.spl_driver.proofs.Standing.{BegunSame, same_told}
-use Rattle.spl_value.proofs.Bools.{or_first, or_true}
-use Rattle.spl_value.proofs.Lists.{same_name}
+use Rattle.spl_driver.proofs.SinkLemmas.{empty_prefixes, texts, prefixes, wrote_others, same_prefixes, counts_are, files_from, distinct, names_are, own_file}
+use Rattle.spl_driver.proofs.Standing.{BegunSame, record_kept, same_told}
+use Rattle.spl_value.proofs.Bools.{or_first}
+use Rattle.spl_value.proofs.Lists.{append_cases, same_name}
 
 -- files that stay hold prefixes of any text
 pub begun_same : BegunSame
@@ -73,6 +76,7 @@ same_files (Some t) None Is files cause ended counts later is same reads whole s
 same_files (Some t) (Some u) Is files cause ended counts later is same reads whole stands shows = record {
   means = subst (λ (k : Cause). CauseMeans k (Is t) ended t u) (sym is) (stands t u refl same.holds);
   others = λ n named. same.holds n;
+  scripts = λ n named. same.script n;
   device = subst (λ (k : Cause). DevicesMean k files counts later ⊥ (Is t) ended t u) (sym is) (shows t u same.holds);
   whole = subst (λ (k : Cause). WholeReads k files counts later t) (sym is) whole;
   reads = reads;
@@ -160,13 +164,13 @@ runs_as None Is c g m ended t u is e h = inr (c, g, m, is, e, h)
 runs_as (Some fault) Is c g m ended t u is e h = (c, g, m, is, e, h)
 
 -- what a run comes to behind its sinks, and what stands then
-pub record Sunken (law : SinkLaw) (r : Sunk) (c : CheckedGraph) (run : Run) (ended : Ended) (before mid counts now : PerName) (t u : Told) : Type 0 where
+pub record Sunken (law : SinkLaw) (r : Sunk) (written : Option (List ℕ)) (c : CheckedGraph) (run : Run) (ended : Ended) (before mid counts now : PerName) (t u : Told) : Type 0 where
   pub keeps : Keeps c
   pub made : RanFor c run (Some t) before mid
-  pub written : SinksWritten r (sinks_of c) run.sinks counts now t u
+  pub holds : SinksHold r (sinks_of c) (created_by written c) run.sinks counts now t u
   pub count : SinksCount r (sinks_of c) run.sinks
 
-module _ (law : SinkLaw) (r : Sunk) (c : CheckedGraph) (run : Run) (ended : Ended) (before mid counts now : PerName) (t u : Told) (h : Sunken law r c run ended before mid counts now t u) (recorded : ended.arrivals ≡ run.arrivals) where
+module _ (law : SinkLaw) (r : Sunk) (written : Option (List ℕ)) (c : CheckedGraph) (run : Run) (ended : Ended) (before mid counts now : PerName) (t u : Told) (h : Sunken law r written c run ended before mid counts now t u) (recorded : ended.arrivals ≡ run.arrivals) where
   -- the meaning under the record
   abbrev the_graph : Graph
   the_graph = h.made.graph
@@ -189,160 +193,164 @@ module _ (law : SinkLaw) (r : Sunk) (c : CheckedGraph) (run : Run) (ended : Ende
   begun_of result e =
       subst (λ (o : RequestOutcome). Begun o t u) (comes_of ∙ sym e)
       (subst (λ (x : Meaning). EachSink (HoldsPrefix x t u) h.made.graph.ops) same_of
-      (prefixes c h.made.graph (ran h.made.graph h.made.rows run) run.sinks h.keeps h.made.is law h.made.sinks r counts now t u h.written))
+      (prefixes c h.made.graph (ran h.made.graph h.made.rows run) run.sinks h.keeps h.made.is law h.made.sinks r (created_by written c) counts now t u h.holds))
 
   -- the run's fault
   fault_is : run_fault the_graph the_meaning ≡ run.fault
   fault_is = sym (h.made.fault ∙ ap (run_fault h.made.graph) same_of)
 
-done_of : (law : SinkLaw) (ns : List ℕ) (c : CheckedGraph) (run : Run) (ended : Ended) (before mid counts now : PerName) (t u : Told) (h : Sunken law (S.Done ns) c run ended before mid counts now t u)
+done_of : (law : SinkLaw) (ns : List ℕ) (written : Option (List ℕ)) (c : CheckedGraph) (run : Run) (ended : Ended) (before mid counts now : PerName) (t u : Told) (h : Sunken law (S.Done ns) written c run ended before mid counts now t u)
     → ended.arrivals ≡ run.arrivals → ended.counts ≡ record { channels = []; sinks = counts_from 0 c.parts ns } → CarriedOut h.made.graph (meant h.made.graph t ended.arrivals.lists) ended u
-done_of law ns c run ended before mid counts now t u h is counted =
+done_of law ns written c run ended before mid counts now t u h is counted =
     let p = h.made in
-    let same = same_of law (S.Done ns) c run ended before mid counts now t u h is in
+    let same = same_of law (S.Done ns) written c run ended before mid counts now t u h is in
     record {
       texts = subst (λ (x : Meaning). EachSink (HoldsText x u) p.graph.ops) same
-          (texts c p.graph (ran p.graph p.rows run) run.sinks h.keeps p.is law p.sinks ns counts now t u h.written);
+          (texts c p.graph (ran p.graph p.rows run) run.sinks h.keeps p.is law p.sinks ns (created_by written c) counts now t u h.holds);
       counts = counted
           ∙ ap (λ (ks : List SinkCount). record { channels = []; sinks = ks })
           (counts_are c p.graph (ran p.graph p.rows run) run.sinks h.keeps p.is law p.sinks ns h.count)
           ∙ ap (counts_of p.graph) same;
-      recorded = record_of law (S.Done ns) c run ended before mid counts now t u h is;
+      recorded = record_of law (S.Done ns) written c run ended before mid counts now t u h is;
     }
 
--- the sink that failed
-abbrev pub SinkAt : Sunk → List Sink → Type 0
-SinkAt (S.NotCreated place) sinks = (s : Sink) × (slice_get sinks place ≡ Some s)
-SinkAt (S.NotWritten place) sinks = (s : Sink) × (slice_get sinks place ≡ Some s)
-SinkAt (S.Done ns) sinks = Unit {0}
-SinkAt S.Memory sinks = Unit {0}
+-- the file that failed
+abbrev pub FileAt : Sunk → List (List ℕ) → Type 0
+FileAt (S.NotCreated place) names = (name : List ℕ) × (slice_get names place ≡ Some name)
+FileAt (S.NotWritten place) names = (name : List ℕ) × (slice_get names place ≡ Some name)
+FileAt (S.Done ns) names = Unit {0}
+FileAt S.Memory names = Unit {0}
 
-pub sink_at : (r : Sunk) (sinks : List Sink) (old new : PerName) → SinksCounted r sinks old new → SinkAt r sinks
-sink_at (S.NotCreated place) sinks old new h = (h.cause.0, h.cause.1.sink)
-sink_at (S.NotWritten place) sinks old new h = (h.cause.0, h.cause.1.sink)
-sink_at (S.Done ns) sinks old new h = tt
-sink_at S.Memory sinks old new h = tt
+pub file_at : (r : Sunk) (names : List (List ℕ)) (old new : PerName) → FilesCounted r names old new → FileAt r names
+file_at (S.NotCreated place) names old new h = (h.cause.0, h.cause.1.at)
+file_at (S.NotWritten place) names old new h = (h.cause.0, h.cause.1.at)
+file_at (S.Done ns) names old new h = tt
+file_at S.Memory names old new h = tt
 
 pub at_cause : (k : Cause) (Is : RequestOutcome → Type 0) (ended : Ended) (t u : Told) → ended.cause ≡ k → CauseMeans k Is ended t u → CauseMeans ended.cause Is ended t u
 at_cause k Is ended t u is h = subst (λ (x : Cause). CauseMeans x Is ended t u) (sym is) h
 
 -- where a file wasn't created, whatever the record
-pub begun_empty : (law : SinkLaw) (place : ℕ) (c : CheckedGraph) (run : Run) (ended : Ended) (before mid counts now : PerName) (t u : Told) (arrivals : Arrivals) → Sunken law (S.NotCreated place) c run ended before mid counts now t u
+pub begun_empty : (law : SinkLaw) (place : ℕ) (written : Option (List ℕ)) (c : CheckedGraph) (run : Run) (ended : Ended) (before mid counts now : PerName) (t u : Told) (arrivals : Arrivals) → Sunken law (S.NotCreated place) written c run ended before mid counts now t u
     → (result : RequestOutcome) → IsRunAs c arrivals t result → Begun result t u
-begun_empty law place c run ended before mid counts now t u arrivals h result e =
+begun_empty law place written c run ended before mid counts now t u arrivals h result e =
     subst (λ (o : RequestOutcome). Begun o t u) (sym (h.made.outcome arrivals) ∙ sym e)
-    (empty_prefixes c h.made.graph (meant h.made.graph t arrivals.lists) place t u h.made.is h.written.holds)
+    (empty_prefixes c h.made.graph (meant h.made.graph t arrivals.lists) place (created_by written c) t u h.made.is h.holds)
 
-sunk_stands : (law : SinkLaw) (r : Sunk) (c : CheckedGraph) (run : Run) (ended : Ended) (before mid counts now : PerName) (t u : Told)
-    → Sunken law r c run ended before mid counts now t u → RecordedBy r ended run.arrivals → SinkAt r (sinks_of c) → EndsBehind r run.fault c (sinks_of c) ended → CauseMeans ended.cause (IsRunAs c ended.arrivals t) ended t u
-sunk_stands law (S.Done ns) c run ended before mid counts now t u h rec at (inl (is, counts_are)) =
+sunk_stands : (law : SinkLaw) (r : Sunk) (written : Option (List ℕ)) (c : CheckedGraph) (run : Run) (ended : Ended) (before mid counts now : PerName) (t u : Told)
+    → Sunken law r written c run ended before mid counts now t u → RecordedBy r ended run.arrivals → FileAt r (created_by written c) → EndsBehind r run.fault c (created_by written c) ended → CauseMeans ended.cause (IsRunAs c ended.arrivals t) ended t u
+sunk_stands law (S.Done ns) written c run ended before mid counts now t u h rec at (inl (is, counts_are)) =
     at_cause (cause_of run.fault) (IsRunAs c ended.arrivals t) ended t u is
-    (runs_as run.fault (IsRunAs c ended.arrivals t) c h.made.graph (meant h.made.graph t ended.arrivals.lists) ended t u (comes_of law (S.Done ns) c run ended before mid counts now t u h rec)
-    (fault_is law (S.Done ns) c run ended before mid counts now t u h rec) (done_of law ns c run ended before mid counts now t u h rec counts_are))
-sunk_stands law (S.Done ns) c run ended before mid counts now t u h rec at (inr is) = at_cause C.NoMemory (IsRunAs c ended.arrivals t) ended t u is (begun_of law (S.Done ns) c run ended before mid counts now t u h rec)
-sunk_stands law (S.NotCreated place) c run ended before mid counts now t u h rec (s, at) ends = by (ends s at)
+    (runs_as run.fault (IsRunAs c ended.arrivals t) c h.made.graph (meant h.made.graph t ended.arrivals.lists) ended t u (comes_of law (S.Done ns) written c run ended before mid counts now t u h rec)
+    (fault_is law (S.Done ns) written c run ended before mid counts now t u h rec) (done_of law ns written c run ended before mid counts now t u h rec counts_are))
+sunk_stands law (S.Done ns) written c run ended before mid counts now t u h rec at (inr is) = at_cause C.NoMemory (IsRunAs c ended.arrivals t) ended t u is (begun_of law (S.Done ns) written c run ended before mid counts now t u h rec)
+sunk_stands law (S.NotCreated place) written c run ended before mid counts now t u h rec (name, at) ends = by (ends name at)
   where
-    by : IsOr (C.OpenFailed s.file) ended.cause → CauseMeans ended.cause (IsRunAs c ended.arrivals t) ended t u
-    by (inl is) = at_cause (C.OpenFailed s.file) (IsRunAs c ended.arrivals t) ended t u is (begun_empty law place c run ended before mid counts now t u ended.arrivals h)
-    by (inr is) = at_cause C.NoMemory (IsRunAs c ended.arrivals t) ended t u is (begun_empty law place c run ended before mid counts now t u ended.arrivals h)
-sunk_stands law (S.NotWritten place) c run ended before mid counts now t u h rec (s, at) ends = by (ends s at)
+    by : IsOr (C.OpenFailed name) ended.cause → CauseMeans ended.cause (IsRunAs c ended.arrivals t) ended t u
+    by (inl is) = at_cause (C.OpenFailed name) (IsRunAs c ended.arrivals t) ended t u is (begun_empty law place written c run ended before mid counts now t u ended.arrivals h)
+    by (inr is) = at_cause C.NoMemory (IsRunAs c ended.arrivals t) ended t u is (begun_empty law place written c run ended before mid counts now t u ended.arrivals h)
+sunk_stands law (S.NotWritten place) written c run ended before mid counts now t u h rec (name, at) ends = by (ends name at)
   where
-    by : IsOr (C.WriteFailed s.file) ended.cause → CauseMeans ended.cause (IsRunAs c ended.arrivals t) ended t u
-    by (inl is) = at_cause (C.WriteFailed s.file) (IsRunAs c ended.arrivals t) ended t u is (begun_of law (S.NotWritten place) c run ended before mid counts now t u h rec)
-    by (inr is) = at_cause C.NoMemory (IsRunAs c ended.arrivals t) ended t u is (begun_of law (S.NotWritten place) c run ended before mid counts now t u h rec)
-sunk_stands law S.Memory c run ended before mid counts now t u h rec at is = at_cause C.NoMemory (IsRunAs c ended.arrivals t) ended t u is (begun_of law S.Memory c run ended before mid counts now t u h rec)
+    by : IsOr (C.WriteFailed name) ended.cause → CauseMeans ended.cause (IsRunAs c ended.arrivals t) ended t u
+    by (inl is) = at_cause (C.WriteFailed name) (IsRunAs c ended.arrivals t) ended t u is (begun_of law (S.NotWritten place) written c run ended before mid counts now t u h rec)
+    by (inr is) = at_cause C.NoMemory (IsRunAs c ended.arrivals t) ended t u is (begun_of law (S.NotWritten place) written c run ended before mid counts now t u h rec)
+sunk_stands law S.Memory written c run ended before mid counts now t u h rec at is = at_cause C.NoMemory (IsRunAs c ended.arrivals t) ended t u is (begun_of law S.Memory written c run ended before mid counts now t u h rec)
 
 -- ---- which device failed
 
--- the files before a place, the one there, and those behind it
-files_at : (sinks : List Sink) (place : ℕ) (s : Sink) → slice_get sinks place ≡ Some s
-    → map (λ (x : Sink). x.file) sinks ≡ map (λ (x : Sink). x.file) (take place sinks) ++ s.file ∷ map (λ (x : Sink). x.file) (drop (suc place) sinks)
-files_at [] place s e = cc
-files_at (x ∷ sinks) zero s e = let is : Some x ≡ Some s = e in let same : x ≡ s = cc in ap (λ (y : Sink). y.file ∷ map (λ (z : Sink). z.file) sinks) same
-files_at (x ∷ sinks) (suc place) s e = ap (λ (ns : List (List ℕ)). x.file ∷ ns) (files_at sinks place s e)
-
-named_files : (sinks : List Sink) (n : List ℕ) → is_named (map (λ (x : Sink). x.file) sinks) n ≡ is_file sinks n
-named_files [] n = refl
-named_files (s ∷ sinks) n = ap (λ (b : Bool). bytes_eq s.file n || b) (named_files sinks n)
+-- the names before a place, the one there, and those behind it
+names_at : (names : List (List ℕ)) (place : ℕ) (name : List ℕ) → slice_get names place ≡ Some name → names ≡ take place names ++ name ∷ drop (suc place) names
+names_at [] place name e = cc
+names_at (m ∷ names) zero name e = let is : Some m ≡ Some name = e in let same : m ≡ name = cc in ap (λ (n : List ℕ). n ∷ names) same
+names_at (m ∷ names) (suc place) name e = ap (λ (ns : List (List ℕ)). m ∷ ns) (names_at names place name e)
 
 right_free : (a b : List (List ℕ)) (n : List ℕ) → is_named (a ++ b) n ≡ false → (is_named a n ≡ false) × (is_named b n ≡ false)
 right_free a b n free = or_parts (is_named a n) (is_named b n) (sym (list_any-append (λ (m : List ℕ). bytes_eq m n) a b) ∙ free)
 
-all_files : (P : List ℕ → Type 0) (sinks : List Sink) → All (λ s. P s.file) sinks → All P (map (λ (x : Sink). x.file) sinks)
-all_files P [] h k n small = absurd (omega (arith, small))
-all_files P (s ∷ sinks) h zero n small = h 0 s (omega arith)
-all_files P (s ∷ sinks) h (suc k) n small = all_files P sinks (λ i d l. h (suc i) d (omega (arith, l))) k n (omega (arith, small))
-
-among : (sinks : List Sink) (k : ℕ) (s : Sink) → k < length sinks → is_file sinks (slice_index_or sinks k s).file ≡ true
-among [] k s lt = let bad : ⊥ = omega (arith, lt) in absurd bad
-among (x ∷ sinks) zero s lt = ap (λ (b : Bool). b || is_file sinks x.file) (same_name x.file)
-among (x ∷ sinks) (suc k) s lt =
-    let rest = among sinks k s (omega (arith, lt)) in ap (λ (b : Bool). bytes_eq x.file (slice_index_or sinks k s).file || b) rest ∙ or_true (bytes_eq x.file (slice_index_or sinks k s).file)
-
 -- a sink's file is no source's
+named_free : (c : CheckedGraph) (names : List (List ℕ)) → OwnFiles names c.parts → (k : ℕ) (d : List ℕ) → k < length (sink_files c.parts) → is_named (source_files c.parts) (slice_index_or (sink_files c.parts) k d) ≡ false
+named_free c names own k d small =
+    let file = slice_index_or (sink_files c.parts) k d in
+    own.apart file (list_any_at (λ (m : List ℕ). bytes_eq m file) (sink_files c.parts) k d small (same_name file))
+
 sink_free : (c : CheckedGraph) (names : List (List ℕ)) → OwnFiles names c.parts → (k : ℕ) (s : Sink) → k < length (sinks_of c)
     → is_named (source_files c.parts) (slice_index_or (sinks_of c) k s).file ≡ false
 sink_free c names own k s small =
-    let file = (slice_index_or (sinks_of c) k s).file in own.apart file (sym (is_file_named c file) ∙ among (sinks_of c) k s small)
+    let size : length (sink_files c.parts) ≡ length (sinks_of c) = ap length (sym (files_from 0 c.parts)) ∙ length-map (sinks_of c) (λ (x : Sink). x.file) in
+    let same : slice_index_or (sink_files c.parts) k [] ≡ (slice_index_or (sinks_of c) k s).file = ap (λ (ns : List (List ℕ)). slice_index_or ns k []) (sym (files_from 0 c.parts)) ∙ get_or-map (λ (x : Sink). x.file) (sinks_of c) k s [] small in
+    ap (is_named (source_files c.parts)) (sym same) ∙ named_free c names own k [] (omega (arith, size, small))
 
--- a sink's file that couldn't be created, behind sources that were read
-creating_failed : (c : CheckedGraph) (place : ℕ) (old mid new : PerName) (s : Sink) → OnlyReads (source_files c.parts) old mid
-    → ((n : List ℕ) → (new n).opening ≡ (mid n).opening) → Y.CreatingFailed place (sinks_of c) s mid new → CreatingFailed (run_files c) s.file old new
-creating_failed c place old mid new s reads opening h = record {
-  before = map (λ (x : Sink). x.file) (take place (sinks_of c));
-  behind = map (λ (x : Sink). x.file) (drop (suc place) (sinks_of c));
-  order = sym (files_from 0 c.parts) ∙ files_at (sinks_of c) place s h.sink;
-  rose = subst (λ (k : ℕ). Rose k (new s.file).creating) (reads.reads s.file).creating h.rose;
+-- the names before one of these are sinks' files
+before_last : (written : Option (List ℕ)) (c : CheckedGraph) (place k : ℕ) (name d : List ℕ) → slice_get (created_by written c) place ≡ Some name → k < place
+    → (k < length (sink_files c.parts)) × (slice_index_or (created_by written c) k d ≡ slice_index_or (sink_files c.parts) k d)
+before_last None c place k name d at less = let within = slice_get_within (sink_files c.parts) place name at in (omega (arith, within, less), refl)
+before_last (Some file) c place k name d at less =
+    let within = slice_get_within (sink_files c.parts ++ file ∷ []) place name at in
+    let size = length-append (sink_files c.parts) (file ∷ []) in
+    let small : k < length (sink_files c.parts) = omega (arith, within, size, less) in
+    (small, get_or_append_left (sink_files c.parts) (file ∷ []) d k small)
+
+-- a file that couldn't be created, behind sources that were read
+creating_failed : (written : Option (List ℕ)) (c : CheckedGraph) (place : ℕ) (old mid new : PerName) (name : List ℕ) → OnlyReads (source_files c.parts) old mid
+    → ((n : List ℕ) → (new n).opening ≡ (mid n).opening) → Y.CreatingFailed place (created_by written c) name mid new → CreatingFailed (run_files written c) name old new
+creating_failed written c place old mid new name reads opening h = record {
+  before = take place (created_by written c);
+  behind = drop (suc place) (created_by written c);
+  order = names_at (created_by written c) place name h.at;
+  rose = subst (λ (k : ℕ). Rose k (new name).creating) (reads.reads name).creating h.rose;
   later = λ n free other.
-      let p = right_free (source_files c.parts) (map (λ (x : Sink). x.file) (take place (sinks_of c))) n free in
-      h.later n (sym (named_files (take place (sinks_of c)) n) ∙ p.1) other ∙ reads.others n p.0;
+      let p = right_free (source_files c.parts) (take place (created_by written c)) n free in
+      h.later n p.1 other ∙ reads.others n p.0;
+  others = λ n free other. read_same (old n) (mid n) (new n) (reads.reads n) (h.later n free other);
   creating = λ n other. h.creating n other ∙ (reads.reads n).creating;
   opening = λ n. opening n ∙ (reads.reads n).opening;
 }
 
 -- and one that couldn't be written or finished
-writing_failed : (c : CheckedGraph) (place : ℕ) (old mid new : PerName) (s : Sink) (names : List (List ℕ)) → OwnFiles names c.parts → OnlyReads (source_files c.parts) old mid
-    → SinksCounted (S.NotWritten place) (sinks_of c) mid new → Y.WritingFailed place (sinks_of c) s mid new → WritingFailed (run_files c) s.file old new
-writing_failed c place old mid new s names own reads counted h = record {
-  before = map (λ (x : Sink). x.file) (take place (sinks_of c));
-  behind = map (λ (x : Sink). x.file) (drop (suc place) (sinks_of c));
-  order = sym (files_from 0 c.parts) ∙ files_at (sinks_of c) place s h.sink;
-  rose = subst (λ (k : ℕ). Rose k (new s.file).writing) (reads.reads s.file).writing h.rose;
-  first = all_files (λ n. new n ≡ old n) (take place (sinks_of c)) (λ k t small. h.before k t small ∙ unread k t small);
-  others = λ n free. read_same (old n) (mid n) (new n) (reads.reads n) (counted.others n (is_file_named c n ∙ free));
+writing_failed : (written : Option (List ℕ)) (c : CheckedGraph) (place : ℕ) (old mid new : PerName) (name : List ℕ) (names : List (List ℕ)) → OwnFiles names c.parts → OnlyReads (source_files c.parts) old mid
+    → FilesCounted (S.NotWritten place) (created_by written c) mid new → Y.WritingFailed place (created_by written c) name mid new → WritingFailed (run_files written c) name old new
+writing_failed written c place old mid new name names own reads counted h = record {
+  before = take place (created_by written c);
+  behind = drop (suc place) (created_by written c);
+  order = names_at (created_by written c) place name h.at;
+  rose = subst (λ (k : ℕ). Rose k (new name).writing) (reads.reads name).writing h.rose;
+  first = λ k n small. h.before k n small ∙ unread k n small;
+  others = λ n free. read_same (old n) (mid n) (new n) (reads.reads n) (counted.others n free);
   creating = λ n. h.creating n ∙ (reads.reads n).creating;
   opening = λ n. counted.opening n ∙ (reads.reads n).opening;
 }
   where
-    unread : (k : ℕ) (t : Sink) → k < length (take place (sinks_of c)) → mid (slice_index_or (take place (sinks_of c)) k t).file ≡ old (slice_index_or (take place (sinks_of c)) k t).file
-    unread k t small =
-        let size = length-take place (sinks_of c) in
-        let at : slice_index_or (take place (sinks_of c)) k t ≡ slice_index_or (sinks_of c) k t = get_or-take place (sinks_of c) k t (omega (arith, size, small)) in
-        ap (λ (x : Sink). mid x.file) at ∙ reads.others (slice_index_or (sinks_of c) k t).file (sink_free c names own k t (omega (arith, size, small))) ∙ ap (λ (x : Sink). old x.file) (sym at)
+    unread : (k : ℕ) (n : List ℕ) → k < length (take place (created_by written c)) → mid (slice_index_or (take place (created_by written c)) k n) ≡ old (slice_index_or (take place (created_by written c)) k n)
+    unread k n small =
+        let size = length-take place (created_by written c) in
+        let less : k < place = omega (arith, size, small) in
+        let b = before_last written c place k name n h.at less in
+        let at : slice_index_or (take place (created_by written c)) k n ≡ slice_index_or (sink_files c.parts) k n = get_or-take place (created_by written c) k n less ∙ b.1 in
+        ap mid at ∙ reads.others (slice_index_or (sink_files c.parts) k n) (named_free c names own k n b.0) ∙ ap old (sym at)
 
 -- what the counts show behind the sinks
-sunk_devices : (r : Sunk) (c : CheckedGraph) (fault : Option Fault) (ended : Ended) (old mid new : PerName) (names : List (List ℕ)) → OwnFiles names c.parts
-    → OnlyReads (source_files c.parts) old mid → SinksCounted r (sinks_of c) mid new → EndsBehind r fault c (sinks_of c) ended → DevicesShow ended.cause (run_files c) old new
-sunk_devices (S.Done ns) c fault ended old mid new names own reads counted (inl (is, sinks)) = subst (λ (k : Cause). DevicesShow k (run_files c) old new) (sym is) (by fault)
+sunk_devices : (r : Sunk) (written : Option (List ℕ)) (c : CheckedGraph) (fault : Option Fault) (ended : Ended) (old mid new : PerName) (names : List (List ℕ)) → OwnFiles names c.parts
+    → OnlyReads (source_files c.parts) old mid → FilesCounted r (created_by written c) mid new → EndsBehind r fault c (created_by written c) ended → DevicesShow ended.cause (run_files written c) old new
+sunk_devices (S.Done ns) written c fault ended old mid new names own reads counted (inl (is, sinks)) = subst (λ (k : Cause). DevicesShow k (run_files written c) old new) (sym is) (by fault)
   where
     only : OnlyReads (source_files c.parts) old new
     only = record { others = λ n free. counted.cause n ∙ reads.others n free; reads = λ n. read_same (old n) (mid n) (new n) (reads.reads n) (counted.cause n) }
 
-    by : (fault : Option Fault) → DevicesShow (cause_of fault) (run_files c) old new
+    by : (fault : Option Fault) → DevicesShow (cause_of fault) (run_files written c) old new
     by None = only
     by (Some f) = only
-sunk_devices (S.Done ns) c fault ended old mid new names own reads counted (inr is) = subst (λ (k : Cause). DevicesShow k (run_files c) old new) (sym is) tt
-sunk_devices (S.NotCreated place) c fault ended old mid new names own reads counted ends = by (ends counted.cause.0 counted.cause.1.sink)
+sunk_devices (S.Done ns) written c fault ended old mid new names own reads counted (inr is) = subst (λ (k : Cause). DevicesShow k (run_files written c) old new) (sym is) tt
+sunk_devices (S.NotCreated place) written c fault ended old mid new names own reads counted ends = by (ends counted.cause.0 counted.cause.1.at)
   where
-    by : IsOr (C.OpenFailed counted.cause.0.file) ended.cause → DevicesShow ended.cause (run_files c) old new
-    by (inl is) = subst (λ (k : Cause). DevicesShow k (run_files c) old new) (sym is) (inr (creating_failed c place old mid new counted.cause.0 reads counted.opening counted.cause.1))
-    by (inr is) = subst (λ (k : Cause). DevicesShow k (run_files c) old new) (sym is) tt
-sunk_devices (S.NotWritten place) c fault ended old mid new names own reads counted ends = by (ends counted.cause.0 counted.cause.1.sink)
+    by : IsOr (C.OpenFailed counted.cause.0) ended.cause → DevicesShow ended.cause (run_files written c) old new
+    by (inl is) = subst (λ (k : Cause). DevicesShow k (run_files written c) old new) (sym is) (inr (creating_failed written c place old mid new counted.cause.0 reads counted.opening counted.cause.1))
+    by (inr is) = subst (λ (k : Cause). DevicesShow k (run_files written c) old new) (sym is) tt
+sunk_devices (S.NotWritten place) written c fault ended old mid new names own reads counted ends = by (ends counted.cause.0 counted.cause.1.at)
   where
-    by : IsOr (C.WriteFailed counted.cause.0.file) ended.cause → DevicesShow ended.cause (run_files c) old new
-    by (inl is) = subst (λ (k : Cause). DevicesShow k (run_files c) old new) (sym is) (writing_failed c place old mid new counted.cause.0 names own reads counted counted.cause.1)
-    by (inr is) = subst (λ (k : Cause). DevicesShow k (run_files c) old new) (sym is) tt
-sunk_devices S.Memory c fault ended old mid new names own reads counted is = subst (λ (k : Cause). DevicesShow k (run_files c) old new) (sym is) tt
+    by : IsOr (C.WriteFailed counted.cause.0) ended.cause → DevicesShow ended.cause (run_files written c) old new
+    by (inl is) = subst (λ (k : Cause). DevicesShow k (run_files written c) old new) (sym is) (writing_failed written c place old mid new counted.cause.0 names own reads counted counted.cause.1)
+    by (inr is) = subst (λ (k : Cause). DevicesShow k (run_files written c) old new) (sym is) tt
+sunk_devices S.Memory written c fault ended old mid new names own reads counted is = subst (λ (k : Cause). DevicesShow k (run_files written c) old new) (sym is) tt
 
 ran_words : (fault : Option Fault) → cause_of fault ≡ C.BadWords → ⊥
 ran_words None e = cc
@@ -352,12 +360,12 @@ or_words : (expected cause : Cause) → (expected ≡ C.BadWords → ⊥) → Is
 or_words expected cause other (inl is) e = other (sym is ∙ e)
 or_words expected cause other (inr is) e = let h : C.NoMemory ≡ C.BadWords = sym is ∙ e in cc
 
-sinks_words : (r : Sunk) (c : CheckedGraph) (fault : Option Fault) (ended : Ended) (old new : PerName) → SinksCounted r (sinks_of c) old new → EndsBehind r fault c (sinks_of c) ended → ended.cause ≡ C.BadWords → ⊥
-sinks_words (S.Done ns) c fault ended old new counted (inl (is, counts)) e = ran_words fault (sym is ∙ e)
-sinks_words (S.Done ns) c fault ended old new counted (inr is) e = let h : C.NoMemory ≡ C.BadWords = sym is ∙ e in cc
-sinks_words S.Memory c fault ended old new counted is e = let h : C.NoMemory ≡ C.BadWords = sym is ∙ e in cc
-sinks_words (S.NotCreated place) c fault ended old new counted ends e = or_words (C.OpenFailed counted.cause.0.file) ended.cause (λ bad. cc) (ends counted.cause.0 counted.cause.1.sink) e
-sinks_words (S.NotWritten place) c fault ended old new counted ends e = or_words (C.WriteFailed counted.cause.0.file) ended.cause (λ bad. cc) (ends counted.cause.0 counted.cause.1.sink) e
+sinks_words : (r : Sunk) (written : Option (List ℕ)) (c : CheckedGraph) (fault : Option Fault) (ended : Ended) (old new : PerName) → FilesCounted r (created_by written c) old new → EndsBehind r fault c (created_by written c) ended → ended.cause ≡ C.BadWords → ⊥
+sinks_words (S.Done ns) written c fault ended old new counted (inl (is, counts)) e = ran_words fault (sym is ∙ e)
+sinks_words (S.Done ns) written c fault ended old new counted (inr is) e = let h : C.NoMemory ≡ C.BadWords = sym is ∙ e in cc
+sinks_words S.Memory written c fault ended old new counted is e = let h : C.NoMemory ≡ C.BadWords = sym is ∙ e in cc
+sinks_words (S.NotCreated place) written c fault ended old new counted ends e = or_words (C.OpenFailed counted.cause.0) ended.cause (λ bad. cc) (ends counted.cause.0 counted.cause.1.at) e
+sinks_words (S.NotWritten place) written c fault ended old new counted ends e = or_words (C.WriteFailed counted.cause.0) ended.cause (λ bad. cc) (ends counted.cause.0 counted.cause.1.at) e
 
 -- a run that stops at a read that failed, behind the sinks
 unread_on : (parts : List Part) (op : ℕ) (old mid new : PerName) → ((n : List ℕ) → (new n).reading ≡ (mid n).reading) → SourceUnread parts op old mid → SourceUnread parts op old new
@@ -372,135 +380,171 @@ or_stopped : (expected cause : Cause) (parts : List Part) (old new : PerName) �
 or_stopped expected cause parts old new (inl is) h = subst (λ (k : Cause). StoppedBy k parts old new) (sym is) h
 or_stopped expected cause parts old new (inr is) h = subst (λ (k : Cause). StoppedBy k parts old new) (sym is) tt
 
-sunk_stopped : (r : Sunk) (c : CheckedGraph) (fault : Option Fault) (ended : Ended) (old mid new : PerName) → SinksCounted r (sinks_of c) mid new → EndsBehind r fault c (sinks_of c) ended
+sunk_stopped : (r : Sunk) (written : Option (List ℕ)) (c : CheckedGraph) (fault : Option Fault) (ended : Ended) (old mid new : PerName) → FilesCounted r (created_by written c) mid new → EndsBehind r fault c (created_by written c) ended
     → StoppedBy (cause_of fault) c.parts old mid → StoppedBy ended.cause c.parts old new
-sunk_stopped (S.Done ns) c fault ended old mid new counted (inl (is, sinks)) h = subst (λ (k : Cause). StoppedBy k c.parts old new) (sym is) (fault_on fault c.parts old mid new counted.reading h)
-sunk_stopped (S.Done ns) c fault ended old mid new counted (inr is) h = subst (λ (k : Cause). StoppedBy k c.parts old new) (sym is) tt
-sunk_stopped (S.NotCreated place) c fault ended old mid new counted ends h = or_stopped (C.OpenFailed counted.cause.0.file) ended.cause c.parts old new (ends counted.cause.0 counted.cause.1.sink) tt
-sunk_stopped (S.NotWritten place) c fault ended old mid new counted ends h = or_stopped (C.WriteFailed counted.cause.0.file) ended.cause c.parts old new (ends counted.cause.0 counted.cause.1.sink) tt
-sunk_stopped S.Memory c fault ended old mid new counted is h = subst (λ (k : Cause). StoppedBy k c.parts old new) (sym is) tt
+sunk_stopped (S.Done ns) written c fault ended old mid new counted (inl (is, sinks)) h = subst (λ (k : Cause). StoppedBy k c.parts old new) (sym is) (fault_on fault c.parts old mid new counted.reading h)
+sunk_stopped (S.Done ns) written c fault ended old mid new counted (inr is) h = subst (λ (k : Cause). StoppedBy k c.parts old new) (sym is) tt
+sunk_stopped (S.NotCreated place) written c fault ended old mid new counted ends h = or_stopped (C.OpenFailed counted.cause.0) ended.cause c.parts old new (ends counted.cause.0 counted.cause.1.at) tt
+sunk_stopped (S.NotWritten place) written c fault ended old mid new counted ends h = or_stopped (C.WriteFailed counted.cause.0) ended.cause c.parts old new (ends counted.cause.0 counted.cause.1.at) tt
+sunk_stopped S.Memory written c fault ended old mid new counted is h = subst (λ (k : Cause). StoppedBy k c.parts old new) (sym is) tt
 
-counts_behind : (r : Sunk) (c : CheckedGraph) (fault : Option Fault) (ended : Ended) (old mid new : PerName) (names : List (List ℕ)) → OwnFiles names c.parts
-    → OnlyReads (source_files c.parts) old mid → SinksCounted r (sinks_of c) mid new → EndsBehind r fault c (sinks_of c) ended → StoppedBy (cause_of fault) c.parts old mid → CountsShow ended.cause c.parts (run_files c) old new
-counts_behind r c fault ended old mid new names own reads h ends stopped = record {
-  words = sinks_words r c fault ended mid new h ends;
+counts_behind : (r : Sunk) (written : Option (List ℕ)) (c : CheckedGraph) (fault : Option Fault) (ended : Ended) (old mid new : PerName) (names : List (List ℕ)) → OwnFiles names c.parts
+    → OnlyReads (source_files c.parts) old mid → FilesCounted r (created_by written c) mid new → EndsBehind r fault c (created_by written c) ended → StoppedBy (cause_of fault) c.parts old mid → CountsShow ended.cause c.parts (run_files written c) old new
+counts_behind r written c fault ended old mid new names own reads h ends stopped = record {
+  words = sinks_words r written c fault ended mid new h ends;
   others = λ n named.
-      let p = or_parts (is_named (source_files c.parts) n) (is_named (sink_files c.parts) n) named in
-      h.others n (is_file_named c n ∙ p.1) ∙ reads.others n p.0;
+      let p = or_parts (is_named (source_files c.parts) n) (is_named (created_by written c) n) named in
+      h.others n p.1 ∙ reads.others n p.0;
   reading = λ n free differs. absurd (differs (h.reading n ∙ ap (λ k. k.reading) (reads.others n free)));
-  device = sunk_devices r c fault ended old mid new names own reads h ends;
-  stopped = sunk_stopped r c fault ended old mid new h ends stopped;
+  device = sunk_devices r written c fault ended old mid new names own reads h ends;
+  stopped = sunk_stopped r written c fault ended old mid new h ends stopped;
 }
 
 -- ---- and what the files hold
 
 -- the files before a place are empty
-emptied : (c : CheckedGraph) (place : ℕ) (t u : Told) → EmptyBefore place (sinks_of c) t u → Emptied (map (λ (x : Sink). x.file) (take place (sinks_of c))) t u
-emptied c place t u h = record {
-  empty = all_files (λ n. u.holds n ≡ Some []) (take place (sinks_of c)) h.empty;
-  others = λ n free. h.others n (sym (named_files (take place (sinks_of c)) n) ∙ free);
-}
+emptied : (names : List (List ℕ)) (place : ℕ) (t u : Told) → EmptyBefore place names t u → Emptied (take place names) t u
+emptied names place t u h = record { empty = h.empty; others = h.others }
 
-sunk_means : (law : SinkLaw) (r : Sunk) (c : CheckedGraph) (run : Run) (ended : Ended) (counts between later : PerName) (t u : Told) (names : List (List ℕ))
-    → OwnFiles names c.parts → OnlyReads (source_files c.parts) counts between → Sunken law r c run ended counts between counts later t u → RecordedBy r ended run.arrivals → SinksCounted r (sinks_of c) between later
-    → EndsBehind r run.fault c (sinks_of c) ended → DevicesMean ended.cause (run_files c) counts later ⊥ (IsRunAs c ended.arrivals t) ended t u
+sunk_means : (law : SinkLaw) (r : Sunk) (written : Option (List ℕ)) (c : CheckedGraph) (run : Run) (ended : Ended) (counts between later : PerName) (t u : Told) (names : List (List ℕ))
+    → OwnFiles names c.parts → OnlyReads (source_files c.parts) counts between → Sunken law r written c run ended counts between counts later t u → RecordedBy r ended run.arrivals → FilesCounted r (created_by written c) between later
+    → EndsBehind r run.fault c (created_by written c) ended → DevicesMean ended.cause (run_files written c) counts later ⊥ (IsRunAs c ended.arrivals t) ended t u
 unfolding creating_failed
-sunk_means law (S.Done ns) c run ended counts between later t u names own reads h rec counted (inl (is, sinks)) =
-    subst (λ (k : Cause). DevicesMean k (run_files c) counts later ⊥ (IsRunAs c ended.arrivals t) ended t u) (sym is) (by run.fault)
+sunk_means law (S.Done ns) written c run ended counts between later t u names own reads h rec counted (inl (is, sinks)) =
+    subst (λ (k : Cause). DevicesMean k (run_files written c) counts later ⊥ (IsRunAs c ended.arrivals t) ended t u) (sym is) (by run.fault)
   where
     only : OnlyReads (source_files c.parts) counts later
     only = record { others = λ n free. counted.cause n ∙ reads.others n free; reads = λ n. read_same (counts n) (between n) (later n) (reads.reads n) (counted.cause n) }
 
-    by : (fault : Option Fault) → DevicesMean (cause_of fault) (run_files c) counts later ⊥ (IsRunAs c ended.arrivals t) ended t u
+    by : (fault : Option Fault) → DevicesMean (cause_of fault) (run_files written c) counts later ⊥ (IsRunAs c ended.arrivals t) ended t u
     by None = only
     by (Some f) = only
-sunk_means law (S.Done ns) c run ended counts between later t u names own reads h rec counted (inr is) =
-    subst (λ (k : Cause). DevicesMean k (run_files c) counts later ⊥ (IsRunAs c ended.arrivals t) ended t u) (sym is) tt
-sunk_means law (S.NotCreated place) c run ended counts between later t u names own reads h rec counted ends = by (ends counted.cause.0 counted.cause.1.sink)
+sunk_means law (S.Done ns) written c run ended counts between later t u names own reads h rec counted (inr is) =
+    subst (λ (k : Cause). DevicesMean k (run_files written c) counts later ⊥ (IsRunAs c ended.arrivals t) ended t u) (sym is) tt
+sunk_means law (S.NotCreated place) written c run ended counts between later t u names own reads h rec counted ends = by (ends counted.cause.0 counted.cause.1.at)
   where
-    by : IsOr (C.OpenFailed counted.cause.0.file) ended.cause → DevicesMean ended.cause (run_files c) counts later ⊥ (IsRunAs c ended.arrivals t) ended t u
-    by (inl is) = subst (λ (k : Cause). DevicesMean k (run_files c) counts later ⊥ (IsRunAs c ended.arrivals t) ended t u) (sym is)
-        (inr (creating_failed c place counts between later counted.cause.0 reads counted.opening counted.cause.1, emptied c place t u h.written.holds))
-    by (inr is) = subst (λ (k : Cause). DevicesMean k (run_files c) counts later ⊥ (IsRunAs c ended.arrivals t) ended t u) (sym is) tt
-sunk_means law (S.NotWritten place) c run ended counts between later t u names own reads h rec counted ends = by (ends counted.cause.0 counted.cause.1.sink)
+    by : IsOr (C.OpenFailed counted.cause.0) ended.cause → DevicesMean ended.cause (run_files written c) counts later ⊥ (IsRunAs c ended.arrivals t) ended t u
+    by (inl is) = subst (λ (k : Cause). DevicesMean k (run_files written c) counts later ⊥ (IsRunAs c ended.arrivals t) ended t u) (sym is)
+        (inr (record {
+          failed = creating_failed written c place counts between later counted.cause.0 reads counted.opening counted.cause.1;
+          emptied = emptied (created_by written c) place t u h.holds;
+          runs = (c, h.made.graph, meant h.made.graph t ended.arrivals.lists, sym (h.made.outcome ended.arrivals));
+        }))
+    by (inr is) = subst (λ (k : Cause). DevicesMean k (run_files written c) counts later ⊥ (IsRunAs c ended.arrivals t) ended t u) (sym is) tt
+sunk_means law (S.NotWritten place) written c run ended counts between later t u names own reads h rec counted ends = by (ends counted.cause.0 counted.cause.1.at)
   where
     others : WroteOthers (IsRunAs c ended.arrivals t) counts later ended u
     others = record {
       checked = c;
       graph = h.made.graph;
       meaning = meant h.made.graph t ended.arrivals.lists;
-      comes = comes_of law (S.NotWritten place) c run ended counts between counts later t u h rec;
-      texts = subst (λ (x : Meaning). EachSink (HoldsUnlessFailed x counts later u) h.made.graph.ops) (same_of law (S.NotWritten place) c run ended counts between counts later t u h rec)
-          (wrote_others c h.made.graph (ran h.made.graph h.made.rows run) run.sinks h.keeps h.made.is law h.made.sinks place counts later t u h.written);
-      recorded = record_of law (S.NotWritten place) c run ended counts between counts later t u h rec;
+      comes = comes_of law (S.NotWritten place) written c run ended counts between counts later t u h rec;
+      texts = subst (λ (x : Meaning). EachSink (HoldsUnlessFailed x counts later u) h.made.graph.ops) (same_of law (S.NotWritten place) written c run ended counts between counts later t u h rec)
+          (wrote_others c h.made.graph (ran h.made.graph h.made.rows run) run.sinks h.keeps h.made.is law h.made.sinks place (created_by written c) counts later t u h.holds);
+      recorded = record_of law (S.NotWritten place) written c run ended counts between counts later t u h rec;
     }
 
-    by : IsOr (C.WriteFailed counted.cause.0.file) ended.cause → DevicesMean ended.cause (run_files c) counts later ⊥ (IsRunAs c ended.arrivals t) ended t u
-    by (inl is) = subst (λ (k : Cause). DevicesMean k (run_files c) counts later ⊥ (IsRunAs c ended.arrivals t) ended t u) (sym is)
-        (inl (writing_failed c place counts between later counted.cause.0 names own reads counted counted.cause.1, others))
-    by (inr is) = subst (λ (k : Cause). DevicesMean k (run_files c) counts later ⊥ (IsRunAs c ended.arrivals t) ended t u) (sym is) tt
-sunk_means law S.Memory c run ended counts between later t u names own reads h rec counted is = subst (λ (k : Cause). DevicesMean k (run_files c) counts later ⊥ (IsRunAs c ended.arrivals t) ended t u) (sym is) tt
+    by : IsOr (C.WriteFailed counted.cause.0) ended.cause → DevicesMean ended.cause (run_files written c) counts later ⊥ (IsRunAs c ended.arrivals t) ended t u
+    by (inl is) = subst (λ (k : Cause). DevicesMean k (run_files written c) counts later ⊥ (IsRunAs c ended.arrivals t) ended t u) (sym is)
+        (inl (writing_failed written c place counts between later counted.cause.0 names own reads counted counted.cause.1, others))
+    by (inr is) = subst (λ (k : Cause). DevicesMean k (run_files written c) counts later ⊥ (IsRunAs c ended.arrivals t) ended t u) (sym is) tt
+sunk_means law S.Memory written c run ended counts between later t u names own reads h rec counted is = subst (λ (k : Cause). DevicesMean k (run_files written c) counts later ⊥ (IsRunAs c ended.arrivals t) ended t u) (sym is) tt
 
 -- what the sinks' files hold, by the counts before the sources were read
-held_from : (r : Sunk) (c : CheckedGraph) (streams : List (List Item)) (counts between later : PerName) (t u : Told) (names : List (List ℕ)) → OwnFiles names c.parts
-    → OnlyReads (source_files c.parts) counts between → SinksHold r (sinks_of c) streams between later t u → SinksHold r (sinks_of c) streams counts later t u
-held_from (S.Done ns) c streams counts between later t u names own reads h = h
-held_from (S.NotCreated place) c streams counts between later t u names own reads h = h
-held_from (S.NotWritten place) c streams counts between later t u names own reads h = λ k d small.
+held_from : (r : Sunk) (written : Option (List ℕ)) (c : CheckedGraph) (streams : List (List Item)) (counts between later : PerName) (t u : Told) (names : List (List ℕ)) → OwnFiles names c.parts
+    → OnlyReads (source_files c.parts) counts between → SinksHold r (sinks_of c) (created_by written c) streams between later t u → SinksHold r (sinks_of c) (created_by written c) streams counts later t u
+held_from (S.Done ns) written c streams counts between later t u names own reads h = h
+held_from (S.NotCreated place) written c streams counts between later t u names own reads h = h
+held_from (S.NotWritten place) written c streams counts between later t u names own reads h = λ k d small.
     let s = slice_index_or (sinks_of c) k d in
     subst (λ (x : Counts). Y.HoldsUnlessFailed (Y.sink_text streams s) x (later s.file) (u.holds s.file)) (reads.others s.file (sink_free c names own k d small)) (h k d small)
-held_from S.Memory c streams counts between later t u names own reads h = h
+held_from S.Memory written c streams counts between later t u names own reads h = h
 
-pub sunken_of : (law : SinkLaw) (r : Sunk) (c : CheckedGraph) (run : Run) (ended : Ended) (counts between later : PerName) (t u : Told) (names : List (List ℕ)) → Keeps c → OwnFiles names c.parts → RanFor c run (Some t) counts between
-    → OnlyReads (source_files c.parts) counts between → SinksWritten r (sinks_of c) run.sinks between later t u → SinksCount r (sinks_of c) run.sinks → Sunken law r c run ended counts between counts later t u
-sunken_of law r c run ended counts between later t u names keeps own p reads w count = record {
+pub sunken_of : (law : SinkLaw) (r : Sunk) (written : Option (List ℕ)) (c : CheckedGraph) (run : Run) (ended : Ended) (counts between later : PerName) (t u : Told) (names : List (List ℕ)) → Keeps c → OwnFiles names c.parts → RanFor c run (Some t) counts between
+    → OnlyReads (source_files c.parts) counts between → SinksHold r (sinks_of c) (created_by written c) run.sinks between later t u → SinksCount r (sinks_of c) run.sinks → Sunken law r written c run ended counts between counts later t u
+sunken_of law r written c run ended counts between later t u names keeps own p reads holds count = record {
   keeps = keeps;
   made = p;
-  written = record { holds = held_from r c run.sinks counts between later t u names own reads w.holds; others = w.others; scripts = w.scripts };
+  holds = held_from r written c run.sinks counts between later t u names own reads holds;
   count = count;
 }
 
-files_behind : SinkLaw → (told mid now : Option Told) (r : Sunk) (c : CheckedGraph) (run : Run) (ended : Ended) (counts between later : PerName) (names : List (List ℕ)) → Keeps c
+-- what a shelf tells after the writing of the sinks, and of a record
+abbrev pub Wrote : Sunk → Option (List ℕ) → CheckedGraph → List (List Item) → PerName → PerName → Told → Told → Type 0
+Wrote r written c streams counts now t u =
+    SinksHold r (sinks_of c) (created_by written c) streams counts now t u × OtherNamesStay (created_by written c) t.holds u.holds × OtherNamesStay (created_by written c) t.script u.script
+
+files_behind : SinkLaw → (told mid now : Option Told) (r : Sunk) (written : Option (List ℕ)) (c : CheckedGraph) (run : Run) (ended : Ended) (counts between later : PerName) (names : List (List ℕ)) → Keeps c
     → OwnFiles names c.parts → RanFor c run told counts between → WhereTold told mid TellsSame → IfSome told (ReadsFail counts between) → OnlyReads (source_files c.parts) counts between
-    → WhereTold mid now (SinksWritten r (sinks_of c) run.sinks between later) → SinksCount r (sinks_of c) run.sinks → SinksCounted r (sinks_of c) between later
-    → EndsBehind r run.fault c (sinks_of c) ended → RecordedBy r ended run.arrivals
-    → WhereTold told now (λ t u. FilesShow (IsRunAs c ended.arrivals t) (run_files c) ended counts later t u)
-files_behind law None mid now r c run ended counts between later names keeps own p told failing reads h count counted ends recorded = tt
-files_behind law (Some t) None now r c run ended counts between later names keeps own p told failing reads h count counted ends recorded = absurd told
-files_behind law (Some t) (Some s) None r c run ended counts between later names keeps own p told failing reads h count counted ends recorded = absurd h
-files_behind law (Some t) (Some s) (Some u) r c run ended counts between later names keeps own p told failing reads h count counted ends recorded =
-    go (subst (λ (x : Told). SinksWritten r (sinks_of c) run.sinks between later x u) (same_told t s told) h)
+    → WhereTold mid now (Wrote r written c run.sinks between later) → SinksCount r (sinks_of c) run.sinks → FilesCounted r (created_by written c) between later
+    → EndsBehind r run.fault c (created_by written c) ended → RecordedBy r ended run.arrivals
+    → WhereTold told now (λ t u. FilesShow (IsRunAs c ended.arrivals t) (run_files written c) ended counts later t u)
+files_behind law None mid now r written c run ended counts between later names keeps own p told failing reads h count counted ends recorded = tt
+files_behind law (Some t) None now r written c run ended counts between later names keeps own p told failing reads h count counted ends recorded = absurd told
+files_behind law (Some t) (Some s) None r written c run ended counts between later names keeps own p told failing reads h count counted ends recorded = absurd h
+files_behind law (Some t) (Some s) (Some u) r written c run ended counts between later names keeps own p told failing reads h count counted ends recorded =
+    go (subst (λ (x : Told). Wrote r written c run.sinks between later x u) (same_told t s told) h)
   where
-    go : SinksWritten r (sinks_of c) run.sinks between later t u → FilesShow (IsRunAs c ended.arrivals t) (run_files c) ended counts later t u
+    go : Wrote r written c run.sinks between later t u → FilesShow (IsRunAs c ended.arrivals t) (run_files written c) ended counts later t u
     go w =
-        let sunken = sunken_of law r c run ended counts between later t u names keeps own p reads w count in
+        let sunken = sunken_of law r written c run ended counts between later t u names keeps own p reads w.0 count in
         record {
-          means = sunk_stands law r c run ended counts between counts later t u sunken recorded (sink_at r (sinks_of c) between later counted) ends;
-          others = λ n named. w.others n (is_file_named c n ∙ named);
-          device = sunk_means law r c run ended counts between later t u names own reads sunken recorded counted ends;
+          means = sunk_stands law r written c run ended counts between counts later t u sunken recorded (file_at r (created_by written c) between later counted) ends;
+          others = w.1;
+          scripts = w.2;
+          device = sunk_means law r written c run ended counts between later t u names own reads sunken recorded counted ends;
           whole = λ n free differs. absurd (differs (counted.reading n ∙ ap (λ k. k.reading) (reads.others n free)));
           reads = λ n differs. failing n (λ e. differs (counted.reading n ∙ e));
         }
 
--- the same of the list of sinks that was made
+-- ---- the files that were created, by those of the run
 
-pub sunk_counts : (told : Option Told) (r : Sunk) (c : CheckedGraph) (sinks : List Sink) (run : Run) (ended : Ended) (old mid new : PerName) (names : List (List ℕ)) → OwnFiles names c.parts → sinks ≡ sinks_of c
-    → RanFor c run told old mid → OnlyReads (source_files c.parts) old mid → SinksCounted r sinks mid new → EndsBehind r run.fault c sinks ended → CountsShow ended.cause c.parts (run_files c) old new
-sunk_counts told r c sinks run ended old mid new names own e p reads h ends =
-    counts_behind r c run.fault ended old mid new names own reads (subst (λ (ss : List Sink). SinksCounted r ss mid new) e h) (subst (λ (ss : List Sink). EndsBehind r run.fault c ss ended) e ends) p.stopped
+-- they are those of the graph's sinks, and that of the record's text
+pub record AreCreated (sinks : List Sink) (last : Option TextFile) (written : Option (List ℕ)) (c : CheckedGraph) (arrivals : Arrivals) : Type 0 where
+  pub sinks_are : sinks ≡ sinks_of c
+  pub last_is : last ≡ last_of written (arrivals_text c arrivals)
 
-pub sunk_files : SinkLaw → (told mid now : Option Told) (r : Sunk) (c : CheckedGraph) (sinks : List Sink) (run : Run) (ended : Ended) (counts between later : PerName) (names : List (List ℕ))
-    → Keeps c → OwnFiles names c.parts → sinks ≡ sinks_of c → RanFor c run told counts between → WhereTold told mid TellsSame → IfSome told (ReadsFail counts between) → OnlyReads (source_files c.parts) counts between
-    → WhereTold mid now (SinksWritten r sinks run.sinks between later) → SinksCount r sinks run.sinks → SinksCounted r sinks between later
-    → EndsBehind r run.fault c sinks ended → RecordedBy r ended run.arrivals
-    → WhereTold told now (λ t u. FilesShow (IsRunAs c ended.arrivals t) (run_files c) ended counts later t u)
-sunk_files law told mid now r c sinks run ended counts between later names keeps own e p same failing reads h count counted ends recorded =
-    files_behind law told mid now r c run ended counts between later names keeps own p same failing reads
-    (subst (λ (ss : List Sink). WhereTold mid now (SinksWritten r ss run.sinks between later)) e h) (subst (λ (ss : List Sink). SinksCount r ss run.sinks) e count)
-    (subst (λ (ss : List Sink). SinksCounted r ss between later) e counted) (subst (λ (ss : List Sink). EndsBehind r run.fault c ss ended) e ends) recorded
+pub created_names : (sinks : List Sink) (last : Option TextFile) (written : Option (List ℕ)) (c : CheckedGraph) (arrivals : Arrivals) → AreCreated sinks last written c arrivals → names_of sinks last ≡ created_by written c
+created_names sinks last written c arrivals h = (λ i. names_of (h.sinks_are i) (h.last_is i)) ∙ names_are written (arrivals_text c arrivals) c
 
-pub distinct_for : (c : CheckedGraph) (sinks : List Sink) → sinks ≡ sinks_of c → (names : List (List ℕ)) → OwnFiles names c.parts → AreDistinct (map (λ (s : Sink). s.file) sinks)
-distinct_for c sinks e names own = subst (λ (ss : List Sink). AreDistinct (map (λ (s : Sink). s.file) ss)) (sym e) (distinct c names own)
+pub wrote : (r : Sunk) (sinks : List Sink) (last : Option TextFile) (written : Option (List ℕ)) (c : CheckedGraph) (arrivals : Arrivals) (streams : List (List Item)) (counts now : PerName) (t u : Told) → AreCreated sinks last written c arrivals
+    → FilesWritten r sinks streams last counts now t u → Wrote r written c streams counts now t u
+wrote r sinks last written c arrivals streams counts now t u h w =
+    subst (λ (names : List (List ℕ)). SinksHold r (sinks_of c) names streams counts now t u × OtherNamesStay names t.holds u.holds × OtherNamesStay names t.script u.script) (created_names sinks last written c arrivals h)
+    (subst (λ (ss : List Sink). SinksHold r ss (names_of sinks last) streams counts now t u) h.sinks_are w.holds, w.others, w.scripts)
+
+pub wrote_told : (r : Sunk) (sinks : List Sink) (last : Option TextFile) (written : Option (List ℕ)) (c : CheckedGraph) (arrivals : Arrivals) (streams : List (List Item)) (counts now : PerName) (t u : Option Told) → AreCreated sinks last written c arrivals
+    → WhereTold t u (FilesWritten r sinks streams last counts now) → WhereTold t u (Wrote r written c streams counts now)
+wrote_told r sinks last written c arrivals streams counts now None u h w = tt
+wrote_told r sinks last written c arrivals streams counts now (Some t) None h w = w
+wrote_told r sinks last written c arrivals streams counts now (Some t) (Some u) h w = wrote r sinks last written c arrivals streams counts now t u h w
+
+pub sunk_counts : (told : Option Told) (r : Sunk) (sinks : List Sink) (last : Option TextFile) (written : Option (List ℕ)) (c : CheckedGraph) (run : Run) (ended : Ended) (old mid new : PerName) (names : List (List ℕ)) → OwnFiles names c.parts
+    → AreCreated sinks last written c run.arrivals → RanFor c run told old mid → OnlyReads (source_files c.parts) old mid → FilesCounted r (names_of sinks last) mid new → EndsBehind r run.fault c (names_of sinks last) ended
+    → CountsShow ended.cause c.parts (run_files written c) old new
+sunk_counts told r sinks last written c run ended old mid new names own are p reads h ends =
+    let same = created_names sinks last written c run.arrivals are in
+    counts_behind r written c run.fault ended old mid new names own reads (subst (λ (ns : List (List ℕ)). FilesCounted r ns mid new) same h) (subst (λ (ns : List (List ℕ)). EndsBehind r run.fault c ns ended) same ends) p.stopped
+
+pub sunk_files : SinkLaw → (told mid now : Option Told) (r : Sunk) (sinks : List Sink) (last : Option TextFile) (written : Option (List ℕ)) (c : CheckedGraph) (run : Run) (ended : Ended) (counts between later : PerName) (names : List (List ℕ))
+    → Keeps c → OwnFiles names c.parts → AreCreated sinks last written c run.arrivals → RanFor c run told counts between → WhereTold told mid TellsSame → IfSome told (ReadsFail counts between)
+    → OnlyReads (source_files c.parts) counts between
+    → WhereTold mid now (FilesWritten r sinks run.sinks last between later) → SinksCount r sinks run.sinks → FilesCounted r (names_of sinks last) between later
+    → EndsBehind r run.fault c (names_of sinks last) ended → RecordedBy r ended run.arrivals
+    → WhereTold told now (λ t u. FilesShow (IsRunAs c ended.arrivals t) (run_files written c) ended counts later t u)
+sunk_files law told mid now r sinks last written c run ended counts between later names keeps own are p same failing reads h count counted ends recorded =
+    let names_same = created_names sinks last written c run.arrivals are in
+    files_behind law told mid now r written c run ended counts between later names keeps own p same failing reads
+    (wrote_told r sinks last written c run.arrivals run.sinks between later mid now are h) (subst (λ (ss : List Sink). SinksCount r ss run.sinks) are.sinks_are count)
+    (subst (λ (ns : List (List ℕ)). FilesCounted r ns between later) names_same counted) (subst (λ (ns : List (List ℕ)). EndsBehind r run.fault c ns ended) names_same ends) recorded
+
+pub distinct_for : (c : CheckedGraph) (sinks : List Sink) → sinks ≡ sinks_of c → (names : List (List ℕ)) → OwnFiles names c.parts → AreDistinct (sink_names sinks)
+distinct_for c sinks e names own = subst (λ (ss : List Sink). AreDistinct (sink_names ss)) (sym e) (distinct c names own)
+
+pub own_for : (sinks : List Sink) (last : Option TextFile) (written : Option (List ℕ)) (c : CheckedGraph) (arrivals : Arrivals) → AreCreated sinks last written c arrivals → (names : List (List ℕ)) → OwnFiles names c.parts → IsNamedBy written names
+    → HasOwnFile sinks last
+own_for sinks last written c arrivals are names own named =
+    subst (λ (ss : List Sink). HasOwnFile ss last) (sym are.sinks_are) (subst (λ (l : Option TextFile). HasOwnFile (sinks_of c) l) (sym are.last_is) (own_file written (arrivals_text c arrivals) c names own named))
 
 -- there are no more sinks than operators
 few_from : (n : ℕ) (parts : List Part) → length (sinks_from n parts) ≤ length parts
@@ -521,13 +565,13 @@ few_sinks c sinks keeps e =
     let few = few_from 0 c.parts in let same = keeps.parts in let most = keeps.graph.operators in
     let count : length sinks ≡ length (sinks_of c) = ap length e in omega (arith, few, same, most, count)
 
-pub lent_behind : (c : CheckedGraph) (sinks : List Sink) (old mid new : ℕ) → Keeps c → sinks ≡ sinks_of c → (old < 2 ^ 64 - 1 → mid ≡ old) → (mid + length sinks < 2 ^ 64 → new ≡ mid)
-    → old < 2 ^ 64 - 256 → new ≡ old
+pub lent_behind : (c : CheckedGraph) (sinks : List Sink) (old mid new : ℕ) → Keeps c → sinks ≡ sinks_of c → (old < 2 ^ 64 - 1 → mid ≡ old) → (mid + length sinks + 1 < 2 ^ 64 → new ≡ mid)
+    → old < 2 ^ 64 - 257 → new ≡ old
 lent_behind c sinks old mid new keeps e first second small =
     let few = few_sinks c sinks keeps e in
     let less : old < 2 ^ 64 - 1 = omega (arith, small) in
     let same = first less in
-    let room : mid + length sinks < 2 ^ 64 = omega (arith, few, same, small) in
+    let room : mid + length sinks + 1 < 2 ^ 64 = omega (arith, few, same, small) in
     second room ∙ same
 
 -- ---- texts
@@ -616,24 +660,24 @@ write_not_run name (None, is) = cc
 write_not_run name (Some fault, is) = cc
 
 -- the text of a run, by what became of its sinks
-module _ (law : SinkLaw) (counted : Bool) (told : Option Told) (c : CheckedGraph) (sinks : List Sink) (run : Run) (ended : Ended) (counts between later : PerName) (keeps : Keeps c) (are : sinks ≡ sinks_of c)
+module _ (law : SinkLaw) (counted : Bool) (told : Option Told) (c : CheckedGraph) (names : List (List ℕ)) (run : Run) (ended : Ended) (counts between later : PerName) (keeps : Keeps c)
     (p : RanFor c run told counts between) (same : (n : List ℕ) → (later n).reading ≡ (between n).reading) where
   abbrev Comes : RequestOutcome → Type 0
   Comes = RunComesAs c ended.arrivals told counts later
 
-  sunk_text_of : (r : Sunk) (text : List ℕ) → SinkAt r sinks → SinksCount r sinks run.sinks → RecordedBy r ended run.arrivals → EndsBehind r run.fault c sinks ended → TellsBehind r counted c ended text → IsText counted ended.cause Comes text
+  sunk_text_of : (r : Sunk) (text : List ℕ) → FileAt r names → SinksCount r (sinks_of c) run.sinks → RecordedBy r ended run.arrivals → EndsBehind r run.fault c names ended → TellsBehind r counted c ended text → IsText counted ended.cause Comes text
   sunk_text_of (S.Done ns) text at count recorded ends tells =
-      run_text_of law counted told c run ns ended text counts between later keeps (subst (λ (ss : List Sink). SinksCount (S.Done ns) ss run.sinks) are count) p recorded same ends tells
-  sunk_text_of (S.NotCreated place) text (s, at) count recorded ends tells = or_text_of counted (C.OpenFailed s.file) ended.cause Comes text (ends s at) (open_not_run s.file) refl tells
-  sunk_text_of (S.NotWritten place) text (s, at) count recorded ends tells = or_text_of counted (C.WriteFailed s.file) ended.cause Comes text (ends s at) (write_not_run s.file) refl tells
+      run_text_of law counted told c run ns ended text counts between later keeps count p recorded same ends tells
+  sunk_text_of (S.NotCreated place) text (name, at) count recorded ends tells = or_text_of counted (C.OpenFailed name) ended.cause Comes text (ends name at) (open_not_run name) refl tells
+  sunk_text_of (S.NotWritten place) text (name, at) count recorded ends tells = or_text_of counted (C.WriteFailed name) ended.cause Comes text (ends name at) (write_not_run name) refl tells
   sunk_text_of S.Memory text at count recorded ends tells = subst (λ (x : Cause). IsText counted x Comes text) (sym ends) tt
 
-pub sunk_text : SinkLaw → (counted : Bool) (told : Option Told) (r : Sunk) (c : CheckedGraph) (sinks : List Sink) (run : Run) (ended : Ended) (text : Result (List ℕ) NoMemory) (counts between later : PerName) → Keeps c → sinks ≡ sinks_of c
-    → RanFor c run told counts between → SinksCount r sinks run.sinks → SinksCounted r sinks between later → EndsBehind r run.fault c sinks ended → RecordedBy r ended run.arrivals → IfOk text (TellsBehind r counted c ended)
+pub sunk_text : SinkLaw → (counted : Bool) (told : Option Told) (r : Sunk) (c : CheckedGraph) (sinks : List Sink) (names : List (List ℕ)) (run : Run) (ended : Ended) (text : Result (List ℕ) NoMemory) (counts between later : PerName) → Keeps c → sinks ≡ sinks_of c
+    → RanFor c run told counts between → SinksCount r sinks run.sinks → FilesCounted r names between later → EndsBehind r run.fault c names ended → RecordedBy r ended run.arrivals → IfOk text (TellsBehind r counted c ended)
     → IfOk text (IsText counted ended.cause (RunComesAs c ended.arrivals told counts later))
-sunk_text law counted told r c sinks run ended (Ok text) counts between later keeps are p count rose ends recorded tells =
-    sunk_text_of law counted told c sinks run ended counts between later keeps are p rose.reading r text (sink_at r sinks between later rose) count recorded ends tells
-sunk_text law counted told r c sinks run ended (Err x) counts between later keeps are p count rose ends recorded tells = tt
+sunk_text law counted told r c sinks names run ended (Ok text) counts between later keeps are p count rose ends recorded tells =
+    sunk_text_of law counted told c names run ended counts between later keeps p rose.reading r text (file_at r names between later rose) (subst (λ (ss : List Sink). SinksCount r ss run.sinks) are count) recorded ends tells
+sunk_text law counted told r c sinks names run ended (Err x) counts between later keeps are p count rose ends recorded tells = tt
 
 -- ---- what ran
 
@@ -646,28 +690,28 @@ ends_at cause k is e = ap is_ended_run is ∙ e
 
 -- a fact of each cause that a run may end with
 pub sunk_each : (P : Cause → Type 0) → ((fault : Option Fault) → P (cause_of fault)) → ((name : List ℕ) → P (C.OpenFailed name)) → ((name : List ℕ) → P (C.WriteFailed name)) → P C.NoMemory
-    → (r : Sunk) (c : CheckedGraph) (fault : Option Fault) (sinks : List Sink) (ended : Ended) → SinkAt r sinks → EndsBehind r fault c sinks ended → P ended.cause
-sunk_each P done opened written wanting (S.Done ns) c fault sinks ended at (inl (is, counts)) = subst P (sym is) (done fault)
-sunk_each P done opened written wanting (S.Done ns) c fault sinks ended at (inr is) = subst P (sym is) wanting
-sunk_each P done opened written wanting (S.NotCreated place) c fault sinks ended (s, at) ends = by (ends s at)
+    → (r : Sunk) (c : CheckedGraph) (fault : Option Fault) (names : List (List ℕ)) (ended : Ended) → FileAt r names → EndsBehind r fault c names ended → P ended.cause
+sunk_each P done opened written wanting (S.Done ns) c fault names ended at (inl (is, counts)) = subst P (sym is) (done fault)
+sunk_each P done opened written wanting (S.Done ns) c fault names ended at (inr is) = subst P (sym is) wanting
+sunk_each P done opened written wanting (S.NotCreated place) c fault names ended (name, at) ends = by (ends name at)
   where
-    by : IsOr (C.OpenFailed s.file) ended.cause → P ended.cause
-    by (inl is) = subst P (sym is) (opened s.file)
+    by : IsOr (C.OpenFailed name) ended.cause → P ended.cause
+    by (inl is) = subst P (sym is) (opened name)
     by (inr is) = subst P (sym is) wanting
-sunk_each P done opened written wanting (S.NotWritten place) c fault sinks ended (s, at) ends = by (ends s at)
+sunk_each P done opened written wanting (S.NotWritten place) c fault names ended (name, at) ends = by (ends name at)
   where
-    by : IsOr (C.WriteFailed s.file) ended.cause → P ended.cause
-    by (inl is) = subst P (sym is) (written s.file)
+    by : IsOr (C.WriteFailed name) ended.cause → P ended.cause
+    by (inl is) = subst P (sym is) (written name)
     by (inr is) = subst P (sym is) wanting
-sunk_each P done opened written wanting S.Memory c fault sinks ended at is = subst P (sym is) wanting
+sunk_each P done opened written wanting S.Memory c fault names ended at is = subst P (sym is) wanting
 
 done_reason : (c : CheckedGraph) (fault : Option Fault) → ReasonOf (cause_of fault) c
 done_reason c None = tt
 done_reason c (Some f) = tt
 
-pub sunk_reason : (r : Sunk) (c : CheckedGraph) (fault : Option Fault) (sinks : List Sink) (ended : Ended) (old new : PerName) → SinksCounted r sinks old new → EndsBehind r fault c sinks ended → ReasonOf ended.cause c
-sunk_reason r c fault sinks ended old new counted ends =
-    sunk_each (λ k. ReasonOf k c) (done_reason c) (λ name. tt) (λ name. tt) tt r c fault sinks ended (sink_at r sinks old new counted) ends
+pub sunk_reason : (r : Sunk) (c : CheckedGraph) (fault : Option Fault) (names : List (List ℕ)) (ended : Ended) (old new : PerName) → FilesCounted r names old new → EndsBehind r fault c names ended → ReasonOf ended.cause c
+sunk_reason r c fault names ended old new counted ends =
+    sunk_each (λ k. ReasonOf k c) (done_reason c) (λ name. tt) (λ name. tt) tt r c fault names ended (file_at r names old new counted) ends
 
 -- what a run came to behind its sinks
 module _ (law : SinkLaw) (told : Option Told) (c : CheckedGraph) (run : Run) (ended : Ended) (counts between later : PerName) (keeps : Keeps c) (p : RanFor c run told counts between)
@@ -685,60 +729,211 @@ module _ (law : SinkLaw) (told : Option Told) (c : CheckedGraph) (run : Run) (en
   at_memory : ended.arrivals ≡ run.arrivals → ended.cause ≡ C.NoMemory → RanGraph ended.cause c ended counts later
   at_memory recorded is = subst (λ (k : Cause). RanGraph k c ended counts later) (sym is) (inr (some_ran recorded))
 
-  ran_behind : (r : Sunk) (sinks : List Sink) → SinkAt r sinks → EndsBehind r run.fault c sinks ended → SinksCount r (sinks_of c) run.sinks → RecordedBy r ended run.arrivals → RanGraph ended.cause c ended counts later
-  ran_behind (S.Done ns) sinks at (inl (is, counted)) count recorded =
+  ran_behind : (r : Sunk) (names : List (List ℕ)) → FileAt r names → EndsBehind r run.fault c names ended → SinksCount r (sinks_of c) run.sinks → RecordedBy r ended run.arrivals → RanGraph ended.cause c ended counts later
+  ran_behind (S.Done ns) names at (inl (is, counted)) count recorded =
       subst (λ (k : Cause). RanGraph k c ended counts later) (sym is) (done_ran run.fault refl recorded (counted_as law ns told c run ended counts between p keeps count counted))
-  ran_behind (S.Done ns) sinks at (inr is) count recorded = at_memory recorded is
-  ran_behind (S.NotCreated place) sinks (s, at) ends count none = or_ran (C.OpenFailed s.file) ended.cause (λ x. x ≡ c) ⊥ ended counts later (ends s at) tt none
-  ran_behind (S.NotWritten place) sinks (s, at) ends count recorded = by (ends s at)
+  ran_behind (S.Done ns) names at (inr is) count recorded = at_memory recorded is
+  ran_behind (S.NotCreated place) names (name, at) ends count none = or_ran (C.OpenFailed name) ended.cause (λ x. x ≡ c) ⊥ ended counts later (ends name at) tt none
+  ran_behind (S.NotWritten place) names (name, at) ends count recorded = by (ends name at)
     where
-      by : IsOr (C.WriteFailed s.file) ended.cause → RanGraph ended.cause c ended counts later
+      by : IsOr (C.WriteFailed name) ended.cause → RanGraph ended.cause c ended counts later
       by (inl is) = subst (λ (k : Cause). RanGraph k c ended counts later) (sym is) (inr (some_ran recorded))
       by (inr is) = at_memory recorded is
-  ran_behind S.Memory sinks at is count recorded = at_memory recorded is
+  ran_behind S.Memory names at is count recorded = at_memory recorded is
 
-pub sunk_ran : SinkLaw → (told : Option Told) (r : Sunk) (c : CheckedGraph) (sinks : List Sink) (run : Run) (ended : Ended) (counts between later : PerName) → Keeps c → sinks ≡ sinks_of c → RanFor c run told counts between
-    → SinksCount r sinks run.sinks → SinksCounted r sinks between later → EndsBehind r run.fault c sinks ended → RecordedBy r ended run.arrivals → RanGraph ended.cause c ended counts later
-sunk_ran law told r c sinks run ended counts between later keeps e p count counted ends recorded =
-    ran_behind law told c run ended counts between later keeps p counted.reading r sinks (sink_at r sinks between later counted) ends (subst (λ (ss : List Sink). SinksCount r ss run.sinks) e count) recorded
+pub sunk_ran : SinkLaw → (told : Option Told) (r : Sunk) (c : CheckedGraph) (sinks : List Sink) (names : List (List ℕ)) (run : Run) (ended : Ended) (counts between later : PerName) → Keeps c → sinks ≡ sinks_of c → RanFor c run told counts between
+    → SinksCount r sinks run.sinks → FilesCounted r names between later → EndsBehind r run.fault c names ended → RecordedBy r ended run.arrivals → RanGraph ended.cause c ended counts later
+sunk_ran law told r c sinks names run ended counts between later keeps e p count counted ends recorded =
+    ran_behind law told c run ended counts between later keeps p counted.reading r names (file_at r names between later counted) ends (subst (λ (ss : List Sink). SinksCount r ss run.sinks) e count) recorded
 
--- ---- the answer of a run, by what became of its sinks
+-- ---- the answer of a run, by what became of the files that it created
 
-same_sink : (expected : List ℕ → Cause) (sinks : List Sink) (place : ℕ) (file : List ℕ) (cause found : Cause) → ((s : Sink) → slice_get sinks place ≡ Some s → file ≡ s.file) → IsOr (expected file) found → cause ≡ found
-    → (s : Sink) → slice_get sinks place ≡ Some s → IsOr (expected s.file) cause
-same_sink expected sinks place file cause found named (inl e) is s at = inl (is ∙ e ∙ ap expected (named s at))
-same_sink expected sinks place file cause found named (inr e) is s at = inr (is ∙ e)
+same_file : (expected : List ℕ → Cause) (names : List (List ℕ)) (place : ℕ) (file : List ℕ) (cause found : Cause) → ((name : List ℕ) → slice_get names place ≡ Some name → file ≡ name) → IsOr (expected file) found → cause ≡ found
+    → (name : List ℕ) → slice_get names place ≡ Some name → IsOr (expected name) cause
+same_file expected names place file cause found named (inl e) is name at = inl (is ∙ e ∙ ap expected (named name at))
+same_file expected names place file cause found named (inr e) is name at = inr (is ∙ e)
 
 tells_same : (text : Result (List ℕ) NoMemory) (found cause : Cause) → cause ≡ found → IfOk text (λ l. l ≡ status_text None found) → IfOk text (λ l. l ≡ status_text None cause)
 tells_same text found cause is h = subst (λ (k : Cause). IfOk text (λ l. l ≡ status_text None k)) (sym is) h
 
-pub ends_not_created : (sunk : Sunk) (place : ℕ) (counted : Bool) (c : CheckedGraph) (sinks : List Sink) (fault : Option Fault) (arrivals : Arrivals) (answer : Answer) (file : List ℕ) (found : Cause) → sunk ≡ S.NotCreated place
-    → ((s : Sink) → slice_get sinks place ≡ Some s → file ≡ s.file) → IsOr (C.OpenFailed file) found → answer.ended.cause ≡ found → IfOk answer.text (λ l. l ≡ status_text None found)
-    → NothingRan answer.ended → EndsRun sunk counted c sinks fault arrivals answer
-ends_not_created sunk place counted c sinks fault arrivals answer file found e named is same text recorded = subst (λ (r : Sunk). EndsRun r counted c sinks fault arrivals answer) (sym e) (record {
-  ends = same_sink (λ n. C.OpenFailed n) sinks place file answer.ended.cause found named is same;
+pub ends_not_created : (sunk : Sunk) (place : ℕ) (counted : Bool) (c : CheckedGraph) (names : List (List ℕ)) (fault : Option Fault) (arrivals : Arrivals) (answer : Answer) (file : List ℕ) (found : Cause) → sunk ≡ S.NotCreated place
+    → ((name : List ℕ) → slice_get names place ≡ Some name → file ≡ name) → IsOr (C.OpenFailed file) found → answer.ended.cause ≡ found → IfOk answer.text (λ l. l ≡ status_text None found)
+    → NothingRan answer.ended → EndsRun sunk counted c names fault arrivals answer
+ends_not_created sunk place counted c names fault arrivals answer file found e named is same text recorded = subst (λ (r : Sunk). EndsRun r counted c names fault arrivals answer) (sym e) (record {
+  ends = same_file (λ n. C.OpenFailed n) names place file answer.ended.cause found named is same;
   text = tells_same answer.text found answer.ended.cause same text;
   recorded = recorded;
 })
 
-pub ends_not_written : (sunk : Sunk) (place : ℕ) (counted : Bool) (c : CheckedGraph) (sinks : List Sink) (fault : Option Fault) (arrivals : Arrivals) (answer : Answer) (file : List ℕ) (found : Cause) → sunk ≡ S.NotWritten place
-    → ((s : Sink) → slice_get sinks place ≡ Some s → file ≡ s.file) → IsOr (C.WriteFailed file) found → answer.ended.cause ≡ found → IfOk answer.text (λ l. l ≡ status_text None found)
-    → answer.ended.arrivals ≡ arrivals → EndsRun sunk counted c sinks fault arrivals answer
-ends_not_written sunk place counted c sinks fault arrivals answer file found e named is same text recorded = subst (λ (r : Sunk). EndsRun r counted c sinks fault arrivals answer) (sym e) (record {
-  ends = same_sink (λ n. C.WriteFailed n) sinks place file answer.ended.cause found named is same;
+pub ends_not_written : (sunk : Sunk) (place : ℕ) (counted : Bool) (c : CheckedGraph) (names : List (List ℕ)) (fault : Option Fault) (arrivals : Arrivals) (answer : Answer) (file : List ℕ) (found : Cause) → sunk ≡ S.NotWritten place
+    → ((name : List ℕ) → slice_get names place ≡ Some name → file ≡ name) → IsOr (C.WriteFailed file) found → answer.ended.cause ≡ found → IfOk answer.text (λ l. l ≡ status_text None found)
+    → answer.ended.arrivals ≡ arrivals → EndsRun sunk counted c names fault arrivals answer
+ends_not_written sunk place counted c names fault arrivals answer file found e named is same text recorded = subst (λ (r : Sunk). EndsRun r counted c names fault arrivals answer) (sym e) (record {
+  ends = same_file (λ n. C.WriteFailed n) names place file answer.ended.cause found named is same;
   text = tells_same answer.text found answer.ended.cause same text;
   recorded = recorded;
 })
 
-pub ends_wanting : (sunk : Sunk) (counted : Bool) (c : CheckedGraph) (sinks : List Sink) (fault : Option Fault) (arrivals : Arrivals) (answer : Answer) → sunk ≡ S.Memory → answer.ended.cause ≡ C.NoMemory
-    → IfOk answer.text (λ l. l ≡ status_text None C.NoMemory) → answer.ended.arrivals ≡ arrivals → EndsRun sunk counted c sinks fault arrivals answer
-ends_wanting sunk counted c sinks fault arrivals answer e is text recorded = subst (λ (r : Sunk). EndsRun r counted c sinks fault arrivals answer) (sym e) (record {
+pub ends_wanting : (sunk : Sunk) (counted : Bool) (c : CheckedGraph) (names : List (List ℕ)) (fault : Option Fault) (arrivals : Arrivals) (answer : Answer) → sunk ≡ S.Memory → answer.ended.cause ≡ C.NoMemory
+    → IfOk answer.text (λ l. l ≡ status_text None C.NoMemory) → answer.ended.arrivals ≡ arrivals → EndsRun sunk counted c names fault arrivals answer
+ends_wanting sunk counted c names fault arrivals answer e is text recorded = subst (λ (r : Sunk). EndsRun r counted c names fault arrivals answer) (sym e) (record {
   ends = is;
   text = tells_same answer.text C.NoMemory answer.ended.cause is text;
   recorded = recorded;
 })
 
-pub ends_done : (sunk : Sunk) (ns : List ℕ) (counted : Bool) (c : CheckedGraph) (sinks : List Sink) (fault : Option Fault) (arrivals : Arrivals) (answer : Answer) → sunk ≡ S.Done ns
-    → EndsAs fault (counts_from 0 c.parts ns) answer.ended → IfOk answer.text (TellsRun counted c answer.ended) → answer.ended.arrivals ≡ arrivals → EndsRun sunk counted c sinks fault arrivals answer
-ends_done sunk ns counted c sinks fault arrivals answer e ends text recorded =
-    subst (λ (r : Sunk). EndsRun r counted c sinks fault arrivals answer) (sym e) (record { ends = ends; text = text; recorded = recorded })
+pub ends_done : (sunk : Sunk) (ns : List ℕ) (counted : Bool) (c : CheckedGraph) (names : List (List ℕ)) (fault : Option Fault) (arrivals : Arrivals) (answer : Answer) → sunk ≡ S.Done ns
+    → EndsAs fault (counts_from 0 c.parts ns) answer.ended → IfOk answer.text (TellsRun counted c answer.ended) → answer.ended.arrivals ≡ arrivals → EndsRun sunk counted c names fault arrivals answer
+ends_done sunk ns counted c names fault arrivals answer e ends text recorded =
+    subst (λ (r : Sunk). EndsRun r counted c names fault arrivals answer) (sym e) (record { ends = ends; text = text; recorded = recorded })
+
+-- ---- its record
+
+-- a fact of the sinks' files in what the record's holds
+record_map : (k : Cause) (parts : List Part) (file text : List ℕ) (counts now : PerName) (TextFailed Sinks Others : Type 0) (t u : Told) → (Sinks → Others) → RecordHolds k parts file text counts now TextFailed Sinks t u
+    → RecordHolds k parts file text counts now TextFailed Others t u
+record_map C.Done parts file text counts now TextFailed Sinks Others t u to h = (to h.0, h.1)
+record_map (C.Stopped fault) parts file text counts now TextFailed Sinks Others t u to h = (to h.0, h.1)
+record_map (C.WriteFailed name) parts file text counts now TextFailed Sinks Others t u to (of_sink named rose empty) = of_sink named rose empty
+record_map (C.WriteFailed name) parts file text counts now TextFailed Sinks Others t u to (of_record is rose sinks n front) = of_record is rose (to sinks) n front
+record_map (C.WriteFailed name) parts file text counts now TextFailed Sinks Others t u to (of_telling is failed quiet sinks whole) = of_telling is failed quiet (to sinks) whole
+record_map C.NoMemory parts file text counts now TextFailed Sinks Others t u to (inl same) = inl same
+record_map C.NoMemory parts file text counts now TextFailed Sinks Others t u to (inr (inl empty)) = inr (inl empty)
+record_map C.NoMemory parts file text counts now TextFailed Sinks Others t u to (inr (inr (sinks, front))) = inr (inr (to sinks, front))
+record_map C.BadWords parts file text counts now TextFailed Sinks Others t u to h = h
+record_map (C.Refused refusal) parts file text counts now TextFailed Sinks Others t u to h = h
+record_map C.NotBuilt parts file text counts now TextFailed Sinks Others t u to h = h
+record_map (C.OpenFailed name) parts file text counts now TextFailed Sinks Others t u to h = h
+record_map (C.ReadFailed name) parts file text counts now TextFailed Sinks Others t u to h = h
+record_map (C.BadArrivals op) parts file text counts now TextFailed Sinks Others t u to h = h
+
+-- the sinks' files hold their texts
+abbrev SinksTold : CheckedGraph → Arrivals → Told → Told → Type 0
+SinksTold c arrivals t u = EachSink (HoldsText (meant (graph_of c) t arrivals.lists) u) (graph_of c).ops
+
+record_same : (written : Option (List ℕ)) (c : CheckedGraph) (k : Cause) (ended : Ended) (counts now : PerName) (t u : Told) → ended.cause ≡ k → is_ended_run k ≡ false → SameFiles t u → RecordOf written c ended counts now t u
+record_same None c k ended counts now t u is none same = tt
+record_same (Some file) c k ended counts now t u is none same =
+    subst (λ (x : Cause). RecordHolds x c.parts file (arrivals_text c ended.arrivals) counts now ⊥ (SinksTold c ended.arrivals t u) t u) (sym is)
+    (record_kept k c.parts file (arrivals_text c ended.arrivals) counts now ⊥ (SinksTold c ended.arrivals t u) t u none (same file))
+
+-- where no sink was created
+pub same_record : (told now : Option Told) (written : Option (List ℕ)) (c : CheckedGraph) (k : Cause) (ended : Ended) (counts later : PerName) → ended.cause ≡ k → is_ended_run k ≡ false → WhereTold told now TellsSame
+    → WhereTold told now (RecordOf written c ended counts later)
+same_record None now written c k ended counts later is none same = tt
+same_record (Some t) None written c k ended counts later is none same = same
+same_record (Some t) (Some u) written c k ended counts later is none same = record_same written c k ended counts later t u is none same.holds
+
+-- a file is created by a sink, or it is the record's, which stands after them
+created_at : (sinks : List Sink) (text : TextFile) (place : ℕ) (name : List ℕ) → slice_get (names_of sinks (Some text)) place ≡ Some name
+    → ((place < length sinks) × (slice_get (sink_names sinks) place ≡ Some name)) ⊎ ((place ≡ length sinks) × (name ≡ text.file))
+created_at sinks text place name at = by (append_cases (sink_names sinks) text.file place name at)
+  where
+    size : length (sink_names sinks) ≡ length sinks
+    size = length-map sinks (λ (x : Sink). x.file)
+
+    by : (slice_get (sink_names sinks) place ≡ Some name) ⊎ ((place ≡ length (sink_names sinks)) × (text.file ≡ name)) → ((place < length sinks) × (slice_get (sink_names sinks) place ≡ Some name)) ⊎ ((place ≡ length sinks) × (name ≡ text.file))
+    by (inl front) = inl (let small = slice_get_within (sink_names sinks) place name front in omega (arith, size, small), front)
+    by (inr (last, same)) = inr (last ∙ size, sym same)
+
+named_of : (names : List (List ℕ)) (place : ℕ) (name : List ℕ) → slice_get names place ≡ Some name → is_named names name ≡ true
+named_of names place name at =
+    let within = slice_get_within names place name at in
+    list_any_at (λ (m : List ℕ). bytes_eq m name) names place name within (ap (λ (m : List ℕ). bytes_eq m name) (get_or_from_slice_get names place name name at) ∙ same_name name)
+
+module _ (sinks : List Sink) (streams : List (List Item)) (text : TextFile) (c : CheckedGraph) (ended : Ended) (counts between now : PerName) (t u : Told) (are : sink_names sinks ≡ sink_files c.parts)
+    (reads : OnlyReads (source_files c.parts) counts between) where
+  abbrev Holds : Cause → Type 0
+  Holds k = RecordHolds k c.parts text.file text.text counts now ⊥ (AllHold sinks streams u) t u
+
+  rose_from : (name : List ℕ) → Rose (between name).writing (now name).writing → Rose (counts name).writing (now name).writing
+  rose_from name rose = subst (λ (k : ℕ). Rose k (now name).writing) (reads.reads name).writing rose
+
+  unwritten_record : (place : ℕ) (name : List ℕ) → Y.WritingFailed place (names_of sinks (Some text)) name between now → TextHolds (S.NotWritten place) sinks streams text t u → Holds (C.WriteFailed name)
+  unwritten_record place name failed (inl (before, empty)) = by (created_at sinks text place name failed.at)
+    where
+      by : ((place < length sinks) × (slice_get (sink_names sinks) place ≡ Some name)) ⊎ ((place ≡ length sinks) × (name ≡ text.file)) → Holds (C.WriteFailed name)
+      by (inl (small, at)) = of_sink (ap (λ (ns : List (List ℕ)). is_named ns name) (sym are) ∙ named_of (sink_names sinks) place name at) (rose_from name failed.rose) empty
+      by (inr (last, same)) = absurd (omega (arith, before, last))
+  unwritten_record place name failed (inr (last, all, (n, front))) = by (created_at sinks text place name failed.at)
+    where
+      by : ((place < length sinks) × (slice_get (sink_names sinks) place ≡ Some name)) ⊎ ((place ≡ length sinks) × (name ≡ text.file)) → Holds (C.WriteFailed name)
+      by (inl (small, at)) = absurd (omega (arith, small, last))
+      by (inr (here, same)) = of_record same (subst (λ (m : List ℕ). Rose (counts m).writing (now m).writing) same (rose_from name failed.rose)) all n front
+
+  ended_record : (fault : Option Fault) → AllHold sinks streams u → u.holds text.file ≡ Some text.text → Holds (cause_of fault)
+  ended_record None all h = (all, h)
+  ended_record (Some f) all h = (all, h)
+
+  -- a file wasn't created, whatever the record
+  uncreated : (place : ℕ) (words : List ℕ) (Sinks : Type 0) → u.holds text.file ≡ t.holds text.file → FilesCounted (S.NotCreated place) (names_of sinks (Some text)) between now
+      → ((name : List ℕ) → slice_get (names_of sinks (Some text)) place ≡ Some name → IsOr (C.OpenFailed name) ended.cause) → RecordHolds ended.cause c.parts text.file words counts now ⊥ Sinks t u
+  uncreated place words Sinks holds counted ends = by (ends counted.cause.0 counted.cause.1.at)
+    where
+      by : IsOr (C.OpenFailed counted.cause.0) ended.cause → RecordHolds ended.cause c.parts text.file words counts now ⊥ Sinks t u
+      by (inl is) = subst (λ (k : Cause). RecordHolds k c.parts text.file words counts now ⊥ Sinks t u) (sym is) holds
+      by (inr is) = subst (λ (k : Cause). RecordHolds k c.parts text.file words counts now ⊥ Sinks t u) (sym is) (inl holds)
+
+  record_after : (r : Sunk) (fault : Option Fault) (names : List (List ℕ)) (a b : PerName) → SinksHold r sinks names streams a b t u → TextHolds r sinks streams text t u → FilesCounted r (names_of sinks (Some text)) between now
+      → EndsBehind r fault c (names_of sinks (Some text)) ended → Holds ended.cause
+  record_after (S.Done ns) fault names a b all holds counted (inl (is, sinks_counted)) = subst Holds (sym is) (ended_record fault all holds)
+  record_after (S.Done ns) fault names a b all holds counted (inr is) =
+      subst Holds (sym is) (inr (inr (all, (length text.text, holds ∙ ap (λ (x : List ℕ). Some x) (sym (take_all (length text.text) text.text (omega arith)))))))
+  record_after (S.NotCreated place) fault names a b all holds counted ends = uncreated place text.text (AllHold sinks streams u) holds counted ends
+  record_after (S.NotWritten place) fault names a b all holds counted ends = by (ends counted.cause.0 counted.cause.1.at) holds
+    where
+      by : IsOr (C.WriteFailed counted.cause.0) ended.cause → TextHolds (S.NotWritten place) sinks streams text t u → Holds ended.cause
+      by (inl is) h = subst Holds (sym is) (unwritten_record place counted.cause.0 counted.cause.1 h)
+      by (inr is) (inl (before, empty)) = subst Holds (sym is) (inr (inl empty))
+      by (inr is) (inr (last, all, front)) = subst Holds (sym is) (inr (inr (all, front)))
+  record_after S.Memory fault names a b all holds counted is = subst Holds (sym is) holds
+
+module _ (law : SinkLaw) (sinks : List Sink) (file : List ℕ) (c : CheckedGraph) (run : Run) (ended : Ended) (counts between later : PerName) (t u : Told) (keeps : Keeps c) (p : RanFor c run (Some t) counts between)
+    (are : sinks ≡ sinks_of c) (reads : OnlyReads (source_files c.parts) counts between) where
+  abbrev text_of : TextFile
+  text_of = record { file = file; text = arrivals_text c run.arrivals }
+
+  files_are : sink_names sinks ≡ sink_files c.parts
+  files_are = ap sink_names are ∙ files_from 0 c.parts
+
+  -- the sinks' texts are those of the meaning
+  told_of : ended.arrivals ≡ run.arrivals → AllHold sinks run.sinks u → SinksTold c ended.arrivals t u
+  told_of recorded all =
+      subst (λ (g : Graph). EachSink (HoldsText (meant g t ended.arrivals.lists) u) g.ops) (sym p.is)
+      (subst (λ (x : Meaning). EachSink (HoldsText x u) p.graph.ops) (meaning_same p.graph p.rows t run ended.arrivals recorded p.told_rows)
+      (texts c p.graph (ran p.graph p.rows run) run.sinks keeps p.is law p.sinks [] [] counts later t u (subst (λ (ss : List Sink). AllHold ss run.sinks u) are all)))
+
+  after_of : (r : Sunk) (names : List (List ℕ)) → SinksHold r sinks names run.sinks between later t u → TextHolds r sinks run.sinks text_of t u → FilesCounted r (names_of sinks (Some text_of)) between later
+      → EndsBehind r run.fault c (names_of sinks (Some text_of)) ended → ended.arrivals ≡ run.arrivals → RecordOf (Some file) c ended counts later t u
+  after_of r names all holds counted ends recorded =
+      subst (λ (a : Arrivals). RecordHolds ended.cause c.parts file (arrivals_text c a) counts later ⊥ (SinksTold c ended.arrivals t u) t u) (sym recorded)
+      (record_map ended.cause c.parts file (arrivals_text c run.arrivals) counts later ⊥ (AllHold sinks run.sinks u) (SinksTold c ended.arrivals t u) t u (told_of recorded)
+      (record_after sinks run.sinks text_of c ended counts between later t u files_are reads r run.fault names between later all holds counted ends))
+
+  record_of_run : (r : Sunk) (names : List (List ℕ)) → SinksHold r sinks names run.sinks between later t u → TextHolds r sinks run.sinks text_of t u → FilesCounted r (names_of sinks (Some text_of)) between later
+      → EndsBehind r run.fault c (names_of sinks (Some text_of)) ended → RecordedBy r ended run.arrivals → RecordOf (Some file) c ended counts later t u
+  record_of_run (S.Done ns) names all holds counted ends recorded = after_of (S.Done ns) names all holds counted ends recorded
+  record_of_run (S.NotCreated place) names all holds counted ends recorded =
+      uncreated sinks run.sinks text_of c ended counts between later t u files_are reads place (arrivals_text c ended.arrivals) (SinksTold c ended.arrivals t u) holds counted ends
+  record_of_run (S.NotWritten place) names all holds counted ends recorded = after_of (S.NotWritten place) names all holds counted ends recorded
+  record_of_run S.Memory names all holds counted ends recorded = after_of S.Memory names all holds counted ends recorded
+
+record_at : (law : SinkLaw) (r : Sunk) (sinks : List Sink) (last : Option TextFile) (written : Option (List ℕ)) (c : CheckedGraph) (run : Run) (ended : Ended) (counts between later : PerName) (t u : Told) → Keeps c → RanFor c run (Some t) counts between
+    → AreCreated sinks last written c run.arrivals → OnlyReads (source_files c.parts) counts between → FilesWritten r sinks run.sinks last between later t u → FilesCounted r (names_of sinks last) between later
+    → EndsBehind r run.fault c (names_of sinks last) ended → RecordedBy r ended run.arrivals → RecordOf written c ended counts later t u
+record_at law r sinks last None c run ended counts between later t u keeps p are reads w counted ends recorded = tt
+record_at law r sinks last (Some file) c run ended counts between later t u keeps p are reads w counted ends recorded =
+    record_of_run law sinks file c run ended counts between later t u keeps p are.sinks_are reads r (names_of sinks last) w.holds
+    (subst (λ (l : Option TextFile). LastHolds r sinks run.sinks l t u) are.last_is w.last_holds)
+    (subst (λ (l : Option TextFile). FilesCounted r (names_of sinks l) between later) are.last_is counted)
+    (subst (λ (l : Option TextFile). EndsBehind r run.fault c (names_of sinks l) ended) are.last_is ends) recorded
+
+pub sunk_record : SinkLaw → (told mid now : Option Told) (r : Sunk) (sinks : List Sink) (last : Option TextFile) (written : Option (List ℕ)) (c : CheckedGraph) (run : Run) (ended : Ended) (counts between later : PerName) → Keeps c → RanFor c run told counts between
+    → AreCreated sinks last written c run.arrivals → WhereTold told mid TellsSame → OnlyReads (source_files c.parts) counts between → WhereTold mid now (FilesWritten r sinks run.sinks last between later)
+    → FilesCounted r (names_of sinks last) between later → EndsBehind r run.fault c (names_of sinks last) ended → RecordedBy r ended run.arrivals → WhereTold told now (RecordOf written c ended counts later)
+sunk_record law None mid now r sinks last written c run ended counts between later keeps p are same reads h counted ends recorded = tt
+sunk_record law (Some t) None now r sinks last written c run ended counts between later keeps p are same reads h counted ends recorded = absurd same
+sunk_record law (Some t) (Some s) None r sinks last written c run ended counts between later keeps p are same reads h counted ends recorded = absurd h
+sunk_record law (Some t) (Some s) (Some u) r sinks last written c run ended counts between later keeps p are same reads h counted ends recorded =
+    record_at law r sinks last written c run ended counts between later t u keeps p are reads
+    (subst (λ (x : Told). FilesWritten r sinks run.sinks last between later x u) (same_told t s same) h) counted ends recorded

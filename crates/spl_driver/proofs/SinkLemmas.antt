@@ -25,11 +25,11 @@ use Rattle.file_adapters.specs.declared.sinks.Sink.{Sink}
 use Rattle.file_adapters.specs.declared.sinks.Sunk.{Sunk}
 use Rattle.file_adapters.specs.declared.sinks.Sunk.TheVariants as W
 use Rattle.file_adapters.specs.Sinks as S
-use Rattle.file_adapters.specs.Sinks.{AreDistinct, EmptyBefore, HoldsFront, SinksCount, SinksWritten, is_file, sink_rows, stream_at}
+use Rattle.file_adapters.specs.Sinks.{AreDistinct, EmptyBefore, HasOwnFile, HoldsFront, SinksCount, SinksHold, names_of, sink_names, sink_rows, stream_at}
 use Rattle.list_engine.specs.RunLaws.{SinkLaw}
 use Rattle.list_engine.specs.Runs.{SinksGiven}
 use Rattle.spl_driver.specs.Answer.{AtSink, EachSink, HoldsPrefix, HoldsText, HoldsUnlessFailed, SameFiles, sink_count, sink_text, tuples_of}
-use Rattle.spl_driver.specs.Steps.{counts_from, sinks_from, sinks_of}
+use Rattle.spl_driver.specs.Steps.{IsNamedBy, counts_from, created_by, last_of, sinks_from, sinks_of}
 use Rattle.spl_driver.proofs.Operators.{operator_at, ops_made}
 
 -- ---- files that stay
@@ -107,17 +107,24 @@ behind [] file after (b ∷ before) e = absurd cc
 behind (part ∷ parts) file after before e = behind_from part parts file after (sink_file part) refl (λ b h. behind parts file after b h) before e
 
 -- each sink has a file of its own
-pub distinct : (c : CheckedGraph) (names : List (List ℕ)) → OwnFiles names c.parts → AreDistinct (map (λ (s : Sink). s.file) (sinks_of c))
+pub distinct : (c : CheckedGraph) (names : List (List ℕ)) → OwnFiles names c.parts → AreDistinct (sink_names (sinks_of c))
 distinct c names own before after file e =
     let b = behind c.parts file after before (sym (files_from 0 c.parts) ∙ e) in
     ap (λ ns. is_named ns file) (sym b.rest) ∙ own.once b.front b.back file b.whole
 
-named_file : (sinks : List Sink) (n : List ℕ) → is_file sinks n ≡ is_named (map (λ (s : Sink). s.file) sinks) n
-named_file [] n = refl
-named_file (s ∷ sinks) n = ap (λ b. bytes_eq s.file n || b) (named_file sinks n)
+-- the names of the files that a run creates
+pub names_are : (written : Option (List ℕ)) (text : List ℕ) (c : CheckedGraph) → names_of (sinks_of c) (last_of written text) ≡ created_by written c
+names_are None text c = files_from 0 c.parts
+names_are (Some file) text c = ap (λ (names : List (List ℕ)). names ++ file ∷ []) (files_from 0 c.parts)
 
-pub is_file_named : (c : CheckedGraph) (n : List ℕ) → is_file (sinks_of c) n ≡ is_named (sink_files c.parts) n
-is_file_named c n = named_file (sinks_of c) n ∙ ap (λ (files : List (List ℕ)). is_named files n) (files_from 0 c.parts)
+-- a name that is one of those of the command line is no sink's
+not_sink : (c : CheckedGraph) (names : List (List ℕ)) (file : List ℕ) (b : Bool) → is_named (sink_files c.parts) file ≡ b → OwnFiles names c.parts → is_named names file ≡ true → is_named (sink_files c.parts) file ≡ false
+not_sink c names file false is own named = is
+not_sink c names file true is own named = let bad : true ≡ false = sym named ∙ own.free file is in cc
+
+pub own_file : (written : Option (List ℕ)) (text : List ℕ) (c : CheckedGraph) (names : List (List ℕ)) → OwnFiles names c.parts → IsNamedBy written names → HasOwnFile (sinks_of c) (last_of written text)
+own_file None text c names own named = tt
+own_file (Some file) text c names own named = ap (λ (ns : List (List ℕ)). is_named ns file) (files_from 0 c.parts) ∙ not_sink c names file (is_named (sink_files c.parts) file) refl own named
 
 -- ---- the sinks of a list of operators
 
@@ -182,29 +189,29 @@ text_is c g m lists n op file k e law are there has = ap text_of (sym (given c g
 
 -- each sink's file holds its text
 pub texts : (c : CheckedGraph) (g : Graph) (m : Meaning) (lists : List (List Item)) → Keeps c → graph_of c ≡ g → SinkLaw → SinksGiven g m lists
-    → (ns : List ℕ) (counts now : PerName) (t u : Told) → SinksWritten (W.Done ns) (sinks_of c) lists counts now t u → EachSink (HoldsText m u) g.ops
-texts c g m lists k e law are ns counts now t u w =
+    → (ns : List ℕ) (names : List (List ℕ)) (counts now : PerName) (t u : Told) → SinksHold (W.Done ns) (sinks_of c) names lists counts now t u → EachSink (HoldsText m u) g.ops
+texts c g m lists k e law are ns names counts now t u holds =
     each_of (HoldsText m u) (λ s. u.holds s.file ≡ Some (S.sink_text lists s)) c g e
-    (λ n op file there has h. h ∙ ap (λ x. Some x) (sym (text_is c g m lists n op file k e law are there has))) w.holds
+    (λ n op file there has h. h ∙ ap (λ x. Some x) (sym (text_is c g m lists n op file k e law are there has))) holds
 
 front_held : (m : Meaning) (t u : Told) (op : Operator) (file given : List ℕ) → sink_text m op ≡ given
     → (u.holds file ≡ t.holds file) ⊎ HoldsFront given (u.holds file) → HoldsPrefix m t u op file
 front_held m t u op file given e (inl same) = inl same
 front_held m t u op file given e (inr front) = inr (front.0, front.1 ∙ ap (λ x. Some (take front.0 x)) (sym e))
 
--- a name that is one of the sinks' files is that of one of them
-abbrev SomeNamed : List Sink → List ℕ → Type 0
-SomeNamed ss n = (x : Sink) × ((k : ℕ) × (k < length ss) × (slice_index_or ss k x ≡ x)) × (x.file ≡ n)
+-- a name that is one of these stands at one of their places
+abbrev SomeNamed : List (List ℕ) → List ℕ → Type 0
+SomeNamed names n = (x : List ℕ) × ((k : ℕ) × (k < length names) × (slice_index_or names k x ≡ x)) × (x ≡ n)
 
-named_by : (s : Sink) (ss : List Sink) (n : List ℕ) (b : Bool) → bytes_eq s.file n ≡ b → (is_file ss n ≡ true → SomeNamed ss n) → is_file (s ∷ ss) n ≡ true → SomeNamed (s ∷ ss) n
-named_by s ss n true same rest e = (s, (0, omega arith, refl), (bytes_eq-Decides s.file n).0 same)
-named_by s ss n false other rest e =
-    let found = rest (ap (λ (b : Bool). b || is_file ss n) (sym other) ∙ e) in
+named_by : (m : List ℕ) (names : List (List ℕ)) (n : List ℕ) (b : Bool) → bytes_eq m n ≡ b → (is_named names n ≡ true → SomeNamed names n) → is_named (m ∷ names) n ≡ true → SomeNamed (m ∷ names) n
+named_by m names n true same rest e = (m, (0, omega arith, refl), (bytes_eq-Decides m n).0 same)
+named_by m names n false other rest e =
+    let found = rest (ap (λ (b : Bool). b || is_named names n) (sym other) ∙ e) in
     (found.0, (suc found.1.0, omega (arith, found.1.1), found.1.2), found.2)
 
-some_named : (ss : List Sink) (n : List ℕ) → is_file ss n ≡ true → SomeNamed ss n
+some_named : (names : List (List ℕ)) (n : List ℕ) → is_named names n ≡ true → SomeNamed names n
 some_named [] n e = cc
-some_named (s ∷ ss) n e = named_by s ss n (bytes_eq s.file n) refl (some_named ss n) e
+some_named (m ∷ names) n e = named_by m names n (bytes_eq m n) refl (some_named names n) e
 
 -- what each sink's file holds, by the text of its stream
 abbrev FrontOrSame : List (List Item) → Told → Told → Sink → Type 0
@@ -223,45 +230,45 @@ unless_front streams counts now t u s (inr (rose, front)) = inr front
 abbrev EmptyOrSame : Told → Told → Sink → Type 0
 EmptyOrSame t u s = (u.holds s.file ≡ t.holds s.file) ⊎ (u.holds s.file ≡ Some [])
 
-empty_at : (u : Told) (ss : List Sink) (x : Sink) → ((k : ℕ) × (k < length ss) × (slice_index_or ss k x ≡ x)) → All (λ y. u.holds y.file ≡ Some []) ss → u.holds x.file ≡ Some []
-empty_at u ss x (k, small, at) all = ap (λ (y : Sink). u.holds y.file) (sym at) ∙ all k x small
+empty_at : (u : Told) (names : List (List ℕ)) (x : List ℕ) → ((k : ℕ) × (k < length names) × (slice_index_or names k x ≡ x)) → All (λ n. u.holds n ≡ Some []) names → u.holds x ≡ Some []
+empty_at u names x (k, small, at) all = ap u.holds (sym at) ∙ all k x small
 
-empty_or : (place : ℕ) (sinks : List Sink) (t u : Told) → EmptyBefore place sinks t u → (s : Sink) → EmptyOrSame t u s
-empty_or place sinks t u empty s = go (is_file (take place sinks) s.file) refl
+empty_or : (place : ℕ) (names : List (List ℕ)) (t u : Told) → EmptyBefore place names t u → (s : Sink) → EmptyOrSame t u s
+empty_or place names t u empty s = go (is_named (take place names) s.file) refl
   where
-    go : (b : Bool) → is_file (take place sinks) s.file ≡ b → EmptyOrSame t u s
+    go : (b : Bool) → is_named (take place names) s.file ≡ b → EmptyOrSame t u s
     go false out = inl (empty.others s.file out)
     go true named =
-        let found = some_named (take place sinks) s.file named in
-        inr (ap u.holds (sym found.2) ∙ empty_at u (take place sinks) found.0 found.1 empty.empty)
+        let found = some_named (take place names) s.file named in
+        inr (ap u.holds (sym found.2) ∙ empty_at u (take place names) found.0 found.1 empty.empty)
 
-empty_front : (streams : List (List Item)) (place : ℕ) (sinks : List Sink) (t u : Told) → EmptyBefore place sinks t u → (s : Sink) → FrontOrSame streams t u s
-empty_front streams place sinks t u empty s = elim (empty_or place sinks t u empty s) [ inl same ↦ inl same | inr none ↦ inr (0, none) ]
+empty_front : (streams : List (List Item)) (place : ℕ) (names : List (List ℕ)) (t u : Told) → EmptyBefore place names t u → (s : Sink) → FrontOrSame streams t u s
+empty_front streams place names t u empty s = elim (empty_or place names t u empty s) [ inl same ↦ inl same | inr none ↦ inr (0, none) ]
 
 prefix_or : (m : Meaning) (t u : Told) (op : Operator) (file : List ℕ) → (u.holds file ≡ t.holds file) ⊎ (u.holds file ≡ Some []) → HoldsPrefix m t u op file
 prefix_or m t u op file (inl same) = inl same
 prefix_or m t u op file (inr none) = inr (0, none)
 
 -- where one couldn't be created, each file is as it was or empty, and so holds a prefix of any text
-pub empty_prefixes : (c : CheckedGraph) (g : Graph) (m : Meaning) (place : ℕ) (t u : Told) → graph_of c ≡ g → EmptyBefore place (sinks_of c) t u → EachSink (HoldsPrefix m t u) g.ops
-empty_prefixes c g m place t u e empty =
+pub empty_prefixes : (c : CheckedGraph) (g : Graph) (m : Meaning) (place : ℕ) (names : List (List ℕ)) (t u : Told) → graph_of c ≡ g → EmptyBefore place names t u → EachSink (HoldsPrefix m t u) g.ops
+empty_prefixes c g m place names t u e empty =
     each_of (HoldsPrefix m t u) (EmptyOrSame t u) c g e (λ n op file there has h. prefix_or m t u (operator_with c n op (A.FileSink file)) file h)
-    (λ k d small. empty_or place (sinks_of c) t u empty (slice_index_or (sinks_of c) k d))
+    (λ k d small. empty_or place names t u empty (slice_index_or (sinks_of c) k d))
 
-fronts_of : (r : Sunk) (streams : List (List Item)) (sinks : List Sink) (counts now : PerName) (t u : Told) → SinksWritten r sinks streams counts now t u → All (FrontOrSame streams t u) sinks
-fronts_of (W.Done ns) streams sinks counts now t u w = all_fronts streams t u sinks w.holds
-fronts_of (W.NotCreated place) streams sinks counts now t u w = λ k d small. empty_front streams place sinks t u w.holds (slice_index_or sinks k d)
-fronts_of (W.NotWritten place) streams sinks counts now t u w =
-    All-weaker (λ (s : Sink). S.HoldsUnlessFailed (S.sink_text streams s) (counts s.file) (now s.file) (u.holds s.file)) (FrontOrSame streams t u) (unless_front streams counts now t u) sinks w.holds
-fronts_of W.Memory streams sinks counts now t u w = w.holds
+fronts_of : (r : Sunk) (streams : List (List Item)) (sinks : List Sink) (names : List (List ℕ)) (counts now : PerName) (t u : Told) → SinksHold r sinks names streams counts now t u → All (FrontOrSame streams t u) sinks
+fronts_of (W.Done ns) streams sinks names counts now t u holds = all_fronts streams t u sinks holds
+fronts_of (W.NotCreated place) streams sinks names counts now t u holds = λ k d small. empty_front streams place names t u holds (slice_index_or sinks k d)
+fronts_of (W.NotWritten place) streams sinks names counts now t u holds =
+    All-weaker (λ (s : Sink). S.HoldsUnlessFailed (S.sink_text streams s) (counts s.file) (now s.file) (u.holds s.file)) (FrontOrSame streams t u) (unless_front streams counts now t u) sinks holds
+fronts_of W.Memory streams sinks names counts now t u holds = holds
 
 -- each sink's file is as it was, or holds a prefix of its text
 pub prefixes : (c : CheckedGraph) (g : Graph) (m : Meaning) (lists : List (List Item)) → Keeps c → graph_of c ≡ g → SinkLaw → SinksGiven g m lists
-    → (result : Sunk) (counts now : PerName) (t u : Told) → SinksWritten result (sinks_of c) lists counts now t u → EachSink (HoldsPrefix m t u) g.ops
-prefixes c g m lists k e law are result counts now t u w =
+    → (result : Sunk) (names : List (List ℕ)) (counts now : PerName) (t u : Told) → SinksHold result (sinks_of c) names lists counts now t u → EachSink (HoldsPrefix m t u) g.ops
+prefixes c g m lists k e law are result names counts now t u holds =
     each_of (HoldsPrefix m t u) (FrontOrSame lists t u) c g e
     (λ n op file there has h. front_held m t u (operator_with c n op (A.FileSink file)) file (S.sink_text lists (sink_with n file))
-    (text_is c g m lists n op file k e law are there has) h) (fronts_of result lists (sinks_of c) counts now t u w)
+    (text_is c g m lists n op file k e law are there has) h) (fronts_of result lists (sinks_of c) names counts now t u holds)
 
 unless_held : (m : Meaning) (counts now : PerName) (u : Told) (op : Operator) (file given : List ℕ) → sink_text m op ≡ given → S.HoldsUnlessFailed given (counts file) (now file) (u.holds file)
     → HoldsUnlessFailed m counts now u op file
@@ -270,11 +277,11 @@ unless_held m counts now u op file given e (inr (rose, front)) = inr (rose, (fro
 
 -- each holds its text, or a prefix where its count of writing rose
 pub wrote_others : (c : CheckedGraph) (g : Graph) (m : Meaning) (lists : List (List Item)) → Keeps c → graph_of c ≡ g → SinkLaw → SinksGiven g m lists
-    → (place : ℕ) (counts now : PerName) (t u : Told) → SinksWritten (W.NotWritten place) (sinks_of c) lists counts now t u → EachSink (HoldsUnlessFailed m counts now u) g.ops
-wrote_others c g m lists k e law are place counts now t u w =
+    → (place : ℕ) (names : List (List ℕ)) (counts now : PerName) (t u : Told) → SinksHold (W.NotWritten place) (sinks_of c) names lists counts now t u → EachSink (HoldsUnlessFailed m counts now u) g.ops
+wrote_others c g m lists k e law are place names counts now t u holds =
     each_of (HoldsUnlessFailed m counts now u) (λ s. S.HoldsUnlessFailed (S.sink_text lists s) (counts s.file) (now s.file) (u.holds s.file)) c g e
     (λ n op file there has h. unless_held m counts now u (operator_with c n op (A.FileSink file)) file (S.sink_text lists (sink_with n file))
-    (text_is c g m lists n op file k e law are there has) h) w.holds
+    (text_is c g m lists n op file k e law are there has) h) holds
 
 -- ---- their rows
 

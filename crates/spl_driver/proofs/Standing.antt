@@ -7,6 +7,8 @@ use Rattle.feed_pour.specs.Contents.{Told, WhereTold, TellsSame}
 use Rattle.spl_value.specs.declared.memory.NoMemory.{NoMemory}
 use Rattle.language_model.specs.declared.checked.Part.{Part}
 use Rattle.stream_model.specs.declared.record.Arrivals.{Arrivals}
+use Rattle.stream_model.specs.CheckedMeaning.{graph_of}
+use Rattle.stream_model.specs.Meaning.{Graph, Meaning}
 use Rattle.language_model.specs.Accepted.{ProgramRefusal, IsAccepted}
 use Rattle.language_model.specs.CheckedGraph.{CheckedGraph}
 use Rattle.run_report.specs.declared.cause.Cause.{Cause}
@@ -20,13 +22,13 @@ use Rattle.spl_value.specs.declared.item.Fault.{Fault}
 use Rattle.source_rows.specs.Counting.{OpeningFailed}
 use Rattle.spl_driver.specs.Built.{is_built}
 use Rattle.spl_driver.specs.Files.{FilesOf, files_of, opens, creates, most_bytes, row_files, whole_files, program_of}
-use Rattle.spl_driver.specs.Outcome.{RequestOutcome, NoRequest, Refused, NotBuilt, Reports, BadArrivals, Runs, fails_within, has_fault, IsOutcome, IsSomeProgram, no_request, not_built, ArePartsIn, of_program}
-use Rattle.spl_driver.specs.Answer.{SameFiles, Begun, CauseMeans, ReportsTo, RunsTo, WroteOthers, TellingFailed, DevicesMean, ReadingFailed, ReadingAnswered, WholeReads, WholeFails, NoCountChanged, StoppedBy, Answered, ByWords, FollowsRecord, IsOr, IsUnread, NeedsRecord, is_ended_run, is_refused}
+use Rattle.spl_driver.specs.Outcome.{RequestOutcome, NoRequest, Refused, NotBuilt, Reports, BadArrivals, Runs, fails_within, has_fault, IsOutcome, IsSomeProgram, no_request, not_built, ArePartsIn, of_program, meant}
+use Rattle.spl_driver.specs.Answer.{EachSink, HoldsText, SameFiles, Begun, CauseMeans, ReportsTo, RunsTo, WroteOthers, StoppedCreating, TellingFailed, DevicesMean, ReadingFailed, ReadingAnswered, WholeReads, WholeFails, NoCountChanged, StoppedBy, Answered, ByWords, FollowsRecord, IsOr, IsUnread, NeedsRecord, RecordHolds, WritesRecord, is_ended_run, is_refused}
 use Rattle.spl_driver.specs.Texts.{wants_counts, EndsWith, IsToldOutcome, IsText, IsTextOf, MayComeTo}
 use Rattle.spl_driver.specs.RequestLaws.{OnePartsLaw}
 use Rattle.spl_driver.specs.AcceptedLaws.{OneAcceptedLaw}
-use Rattle.arrival_format.specs.ArrivalTexts.{Spells}
-use Rattle.spl_driver.specs.Steps.{FirstOpening, FirstReading, MayBeOutcome, CompiledAt, FollowsFile, IsAcceptedOutcome, IsToldAcceptedOutcome, CountsShow, FilesShow}
+use Rattle.arrival_format.specs.ArrivalTexts.{Spells, arrivals_text}
+use Rattle.spl_driver.specs.Steps.{FirstOpening, FirstReading, MayBeOutcome, CompiledAt, FollowsFile, IsAcceptedOutcome, IsToldAcceptedOutcome, CountsShow, FilesShow, RecordFor, RecordOf}
 use Rattle.spl_driver.specs.declared.compiled.Compiled.TheVariants as P
 use Rattle.spl_driver.specs.declared.ended.Ended.{Ended}
 use Rattle.spl_driver.proofs.Fetching.{fails_more, other_name, own_name, quiet_only, read_itself, read_same, reads_whole}
@@ -94,9 +96,16 @@ telling_map : (files : FilesOf) (name : List ℕ) (counts now : PerName) (Text :
     → TellingFailed files name counts now Text Is ended t u → TellingFailed files name counts now Text Js ended t u
 telling_map files name counts now Text Is Js ended t u to h = record { named = h.named; failed = h.failed; counted = h.counted; ran = ran_map Is Js ended t u to h.ran }
 
+created_map : (Is Js : RequestOutcome → Type 0) (files : FilesOf) (name : List ℕ) (counts now : PerName) (t u : Told) → ((r : RequestOutcome) → Is r → Js r) → StoppedCreating Is files name counts now t u → StoppedCreating Js files name counts now t u
+created_map Is Js files name counts now t u to h = by h.runs
+  where
+    by : ((c : CheckedGraph) × (g : Graph) × (m : Meaning) × Is (Runs c g m)) → StoppedCreating Js files name counts now t u
+    by (c, g, m, is) = record { failed = h.failed; emptied = h.emptied; runs = (c, g, m, to (Runs c g m) is) }
+
 pub devices_map : (cause : Cause) (files : FilesOf) (counts now : PerName) (Text : Type 0) (Is Js : RequestOutcome → Type 0) (ended : Ended) (t u : Told) → ((r : RequestOutcome) → Is r → Js r)
     → DevicesMean cause files counts now Text Is ended t u → DevicesMean cause files counts now Text Js ended t u
-devices_map (C.OpenFailed name) files counts now Text Is Js ended t u to h = h
+devices_map (C.OpenFailed name) files counts now Text Is Js ended t u to (inl h) = inl h
+devices_map (C.OpenFailed name) files counts now Text Is Js ended t u to (inr h) = inr (created_map Is Js files name counts now t u to h)
 devices_map (C.WriteFailed name) files counts now Text Is Js ended t u to (inl h) = inl (h.0, others_map Is Js counts now ended u to h.1)
 devices_map (C.WriteFailed name) files counts now Text Is Js ended t u to (inr h) = inr (telling_map files name counts now Text Is Js ended t u to h)
 devices_map C.Done files counts now Text Is Js ended t u to h = h
@@ -203,6 +212,29 @@ follows_none (Some (R.Replay p file)) Is ended t e = λ run. absurd (let bad : f
 follows_none (Some (R.Simulate p width schedule steps)) Is ended t e = tt
 follows_none (Some (R.Make name rows start)) Is ended t e = tt
 
+-- where no run ended, the file that a record is written into holds what it held
+pub record_kept : (k : Cause) (parts : List Part) (file text : List ℕ) (counts now : PerName) (TextFailed Sinks : Type 0) (t u : Told) → is_ended_run k ≡ false → u.holds file ≡ t.holds file → RecordHolds k parts file text counts now TextFailed Sinks t u
+record_kept C.Done parts file text counts now TextFailed Sinks t u none same = cc
+record_kept (C.Stopped fault) parts file text counts now TextFailed Sinks t u none same = cc
+record_kept (C.WriteFailed name) parts file text counts now TextFailed Sinks t u none same = cc
+record_kept C.NoMemory parts file text counts now TextFailed Sinks t u none same = inl same
+record_kept C.BadWords parts file text counts now TextFailed Sinks t u none same = same
+record_kept (C.Refused refusal) parts file text counts now TextFailed Sinks t u none same = same
+record_kept C.NotBuilt parts file text counts now TextFailed Sinks t u none same = same
+record_kept (C.OpenFailed name) parts file text counts now TextFailed Sinks t u none same = same
+record_kept (C.ReadFailed name) parts file text counts now TextFailed Sinks t u none same = same
+record_kept (C.BadArrivals op) parts file text counts now TextFailed Sinks t u none same = same
+
+pub writes_none : (request : Option Request) (Is : RequestOutcome → Type 0) (ended : Ended) (counts now : PerName) (TextFailed : Type 0) (t u : Told) → is_ended_run ended.cause ≡ false → SameFiles t u
+    → WritesRecord request Is ended counts now TextFailed t u
+writes_none None Is ended counts now TextFailed t u none same = tt
+writes_none (Some (R.Check p)) Is ended counts now TextFailed t u none same = tt
+writes_none (Some (R.Plan p)) Is ended counts now TextFailed t u none same = tt
+writes_none (Some (R.Run p options)) Is ended counts now TextFailed t u none same = λ file given c g m is. record_kept ended.cause c.parts file (arrivals_text c ended.arrivals) counts now TextFailed (EachSink (HoldsText m u) g.ops) t u none (same file)
+writes_none (Some (R.Replay p file)) Is ended counts now TextFailed t u none same = tt
+writes_none (Some (R.Simulate p width schedule steps)) Is ended counts now TextFailed t u none same = tt
+writes_none (Some (R.Make name rows start)) Is ended counts now TextFailed t u none same = tt
+
 unbuilt_record : (request : Request) → is_built request ≡ false → (p file : List ℕ) → Some request ≡ Some (R.Replay p file) → ⊥
 unbuilt_record request other p file e = let same : request ≡ R.Replay p file = cc in let bad : true ≡ false = sym (ap is_built same) ∙ other in cc
 
@@ -224,6 +256,7 @@ quiet_answer (Some t) None request cause ended counts later is other unread none
 quiet_answer (Some t) (Some u) request cause ended counts later is other unread none needs same quiet stands = record {
   means = subst (λ (c : Cause). CauseMeans c (IsOutcome t ended.arrivals request) ended t u) (sym is) (stands t u refl same.holds);
   others = λ parts are n named. same.holds n;
+  scripts = λ parts are n named. same.script n;
   counted = λ parts are n named. quiet n;
   device = λ parts are. subst (λ (c : Cause). DevicesMean c (files_of request parts) counts later ⊥ (IsOutcome t ended.arrivals request) ended t u) (sym is)
       (quiet_devices cause (files_of request parts) counts later ⊥ (IsOutcome t ended.arrivals request) ended t u other quiet);
@@ -232,6 +265,7 @@ quiet_answer (Some t) (Some u) request cause ended counts later is other unread 
   reads = λ n differs. absurd (differs (ap (λ c. c.reading) (quiet n)));
   needed = needs_by request ended t (λ p file e. subst (λ (k : Cause). (is_refused k ≡ true) ⊎ IsUnread (p ∷ file ∷ []) k) (sym is) (needs p file e));
   followed = follows_none request (IsOutcome t ended.arrivals request) ended t (ap is_ended_run is ∙ none);
+  recorded = writes_none request (IsOutcome t ended.arrivals request) ended counts later ⊥ t u (ap is_ended_run is ∙ none) same.holds;
 }
 
 -- want of memory
@@ -370,6 +404,7 @@ program_answer (Some t) None request program cause ended counts later of is unre
 program_answer (Some t) (Some u) request program cause ended counts later of is unread none names same reads others at stands shows = record {
   means = subst (λ (c : Cause). CauseMeans c (IsOutcome t ended.arrivals (Some request)) ended t u) (sym is) (stands t u same.holds);
   others = λ parts are n named. same.holds n;
+  scripts = λ parts are n named. same.script n;
   counted = λ parts are n named. others n (outside request program parts n of named);
   device = λ parts are. subst (λ (c : Cause). DevicesMean c (files_of (Some request) parts) counts later ⊥ (IsOutcome t ended.arrivals (Some request)) ended t u) (sym is) (shows t u parts same.holds);
   stopped = λ parts are. subst (λ (c : Cause). StoppedBy c parts counts later) (sym is) (quiet_stopped cause parts counts later unread);
@@ -377,6 +412,7 @@ program_answer (Some t) (Some u) request program cause ended counts later of is 
   reads = reads_whole (Some t) counts later reads;
   needed = needs_by (Some request) ended t (λ p file e. inr (subst (IsUnread (p ∷ file ∷ [])) (sym is) (by_names p file e names)));
   followed = follows_none (Some request) (IsOutcome t ended.arrivals (Some request)) ended t (ap is_ended_run is ∙ none);
+  recorded = writes_none (Some request) (IsOutcome t ended.arrivals (Some request)) ended counts later ⊥ t u (ap is_ended_run is ∙ none) same.holds;
 }
   where
     by_names : (p file : List ℕ) → Some request ≡ Some (R.Replay p file) → (cause ≡ C.NoMemory) ⊎ ((cause ≡ C.OpenFailed program) ⊎ (cause ≡ C.ReadFailed program)) → IsUnread (p ∷ file ∷ []) cause
@@ -425,6 +461,31 @@ follows_told (R.Replay p file) c ended t program one of quiet accepted h = λ ru
 follows_told (R.Simulate p width schedule steps) c ended t program one of quiet accepted h = tt
 follows_told (R.Make name rows start) c ended t program one of quiet accepted h = tt
 
+-- and a run writes the record that it returns
+record_again : (ended : Ended) (file : List ℕ) (counts now : PerName) (t u : Told) (x c : CheckedGraph) (g h : Graph) (m k : Meaning) → Runs x g m ≡ Runs c h k
+    → RecordHolds ended.cause c.parts file (arrivals_text c ended.arrivals) counts now ⊥ (EachSink (HoldsText k u) h.ops) t u
+    → RecordHolds ended.cause x.parts file (arrivals_text x ended.arrivals) counts now ⊥ (EachSink (HoldsText m u) g.ops) t u
+record_again ended file counts now t u x c g h m k e held =
+    let first : x ≡ c = cc in
+    let second : g ≡ h = cc in
+    let third : m ≡ k = cc in
+    subst (λ (y : CheckedGraph). RecordHolds ended.cause y.parts file (arrivals_text y ended.arrivals) counts now ⊥ (EachSink (HoldsText m u) g.ops) t u) (sym first)
+    (subst (λ (y : Graph). RecordHolds ended.cause c.parts file (arrivals_text c ended.arrivals) counts now ⊥ (EachSink (HoldsText m u) y.ops) t u) (sym second)
+    (subst (λ (y : Meaning). RecordHolds ended.cause c.parts file (arrivals_text c ended.arrivals) counts now ⊥ (EachSink (HoldsText y u) h.ops) t u) (sym third) held))
+
+writes_told : (request : Request) (c : CheckedGraph) (ended : Ended) (counts now : PerName) (t u : Told) (program : List ℕ) → OneAcceptedLaw → is_built request ≡ true → program_of request ≡ Some program
+    → has_fault (t.script program) ≡ false → IsAccepted (t.script program).bytes (file_names request) (Ok c) → RecordFor request c ended counts now t u
+    → WritesRecord (Some request) (IsOutcome t ended.arrivals (Some request)) ended counts now ⊥ t u
+writes_told (R.Check p) c ended counts now t u program one built of quiet accepted h = tt
+writes_told (R.Plan p) c ended counts now t u program one built of quiet accepted h = tt
+writes_told (R.Run p options) c ended counts now t u program one built of quiet accepted h = λ file given x g m is.
+    record_again ended file counts now t u x c g (graph_of c) m (meant (graph_of c) t ended.arrivals.lists)
+    (back_found one t ended.arrivals (R.Run p options) program c (Runs x g m) built of (record { read = quiet; accepted = accepted }) is)
+    (subst (λ (o : Option (List ℕ)). RecordOf o c ended counts now t u) given h)
+writes_told (R.Replay p file) c ended counts now t u program one built of quiet accepted h = tt
+writes_told (R.Simulate p width schedule steps) c ended counts now t u program one built of quiet accepted h = tt
+writes_told (R.Make name rows start) c ended counts now t u program one built of quiet accepted h = tt
+
 -- what was done with an accepted program, from its reading on
 pub accepted_answer : OneAcceptedLaw → OnePartsLaw → (told mid now : Option Told) (request : Request) (program : List ℕ) (c : CheckedGraph) (ended : Ended) (counts between later : PerName)
     → is_built request ≡ true → program_of request ≡ Some program
@@ -432,11 +493,11 @@ pub accepted_answer : OneAcceptedLaw → OnePartsLaw → (told mid now : Option 
     → WhereTold told mid TellsSame → NoCountChanged counts between
     → WhereTold mid now (λ t u. FilesShow (IsAcceptedOutcome request c ended.arrivals t) (files_of (Some request) c.parts) ended between later t u)
     → CountsShow ended.cause c.parts (files_of (Some request) c.parts) between later → IfSome mid (NeedsRecord (Some request) ended) → IfSome mid (FollowsFile request c ended)
-    → WhereTold told now (Answered (Some request) ended counts later ⊥)
-accepted_answer one parts_one None mid now request program c ended counts between later built of made same quiet files shown needed followed = tt
-accepted_answer one parts_one (Some t) None now request program c ended counts between later built of made same quiet files shown needed followed = absurd same
-accepted_answer one parts_one (Some t) (Some s) None request program c ended counts between later built of made same quiet files shown needed followed = files
-accepted_answer one parts_one (Some t) (Some s) (Some u) request program c ended counts between later built of made same quiet files shown needed followed =
+    → WhereTold mid now (RecordFor request c ended between later) → WhereTold told now (Answered (Some request) ended counts later ⊥)
+accepted_answer one parts_one None mid now request program c ended counts between later built of made same quiet files shown needed followed recorded = tt
+accepted_answer one parts_one (Some t) None now request program c ended counts between later built of made same quiet files shown needed followed recorded = absurd same
+accepted_answer one parts_one (Some t) (Some s) None request program c ended counts between later built of made same quiet files shown needed followed recorded = files
+accepted_answer one parts_one (Some t) (Some s) (Some u) request program c ended counts between later built of made same quiet files shown needed followed recorded =
     go (subst (λ (k : PerName). FilesShow (IsAcceptedOutcome request c ended.arrivals t) (files_of (Some request) c.parts) ended k later t u) (same_counts counts between quiet)
     (subst (λ (x : Told). FilesShow (IsAcceptedOutcome request c ended.arrivals x) (files_of (Some request) c.parts) ended between later x u) (same_told t s same) files))
     (subst (λ (k : PerName). CountsShow ended.cause c.parts (files_of (Some request) c.parts) k later) (same_counts counts between quiet) shown)
@@ -456,6 +517,7 @@ accepted_answer one parts_one (Some t) (Some s) (Some u) request program c ended
     go f k = record {
       means = means_map ended.cause (IsAcceptedOutcome request c ended.arrivals t) (IsOutcome t ended.arrivals (Some request)) ended t u to from f.means;
       others = λ parts are n named. f.others n (ap (λ (ps : List Part). is_named (creates (Some request) ps) n) (parts_are parts are) ∙ named);
+      scripts = λ parts are n named. f.scripts n (ap (λ (ps : List Part). is_named (creates (Some request) ps) n) (parts_are parts are) ∙ named);
       counted = λ parts are n named.
           k.others n (ap (λ (ps : List Part). is_named (opens (Some request) ps) n || is_named (creates (Some request) ps) n) (parts_are parts are) ∙ named);
       device = λ parts are.
@@ -466,6 +528,8 @@ accepted_answer one parts_one (Some t) (Some s) (Some u) request program c ended
       reads = f.reads;
       needed = subst (NeedsRecord (Some request) ended) (same_told t s same) needed;
       followed = follows_told request c ended t program one of made.0 made.1 (subst (FollowsFile request c ended) (same_told t s same) followed);
+      recorded = writes_told request c ended counts later t u program one built of made.0 made.1
+          (subst (λ (k : PerName). RecordFor request c ended k later t u) (same_counts counts between quiet) (subst (λ (x : Told). RecordFor request c ended between later x u) (same_told t s same) recorded));
     }
 
 -- the text of what was done
@@ -514,7 +578,7 @@ wanting_words None old new quiet = record { answer = inr refl; counts = quiet }
 wanting_words (Some request) old new quiet = λ other. record { answer = inr refl; counts = quiet }
 
 -- what was lent is given back by the first step and by the second
-pub lent_after : (old mid new : ℕ) → (old < 2 ^ 64 - 1 → mid ≡ old) → (mid < 2 ^ 64 - 256 → new ≡ mid) → old < 2 ^ 64 - 256 → new ≡ old
+pub lent_after : (old mid new : ℕ) → (old < 2 ^ 64 - 1 → mid ≡ old) → (mid < 2 ^ 64 - 257 → new ≡ mid) → old < 2 ^ 64 - 257 → new ≡ old
 lent_after old mid new first second small =
     let same = first (omega (arith, small)) in
     second (omega (arith, same, small)) ∙ same

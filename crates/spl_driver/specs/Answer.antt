@@ -1,7 +1,7 @@
 -- Which answer a request gets, and what each answer means.
 use Rattle.std.specs.Prelude.{◌≡◌, ◌≢◌, ◌-◌, ◌^◌, ◌⊎◌, ◌||◌, min, ℕ, Bool, List, [], ◌∷◌, ◌++◌, codes, map, length, take, false, true, Option, Some, None, ⊤, slice_get}
 use Rattle.std.specs.List.{All, filter_map}
-use Rattle.arrival_format.specs.ArrivalTexts.{Spells}
+use Rattle.arrival_format.specs.ArrivalTexts.{Spells, arrivals_text}
 use Rattle.feed_pour.specs.Counts.{PerName, Rose}
 use Rattle.feed_pour.specs.Contents.{Told}
 use Rattle.spl_value.specs.declared.item.Fault.{Fault}
@@ -22,7 +22,7 @@ use Rattle.run_report.specs.declared.cause.Cause.{Cause}
 use Rattle.run_report.specs.declared.cause.Cause.TheVariants as C
 use Rattle.command_line.specs.declared.request.Request.{Request}
 use Rattle.command_line.specs.declared.request.Request.TheVariants as R
-use Rattle.check_laws.specs.Files.{is_named}
+use Rattle.check_laws.specs.Files.{is_named, sink_files}
 use Rattle.source_rows.specs.Counting.{OnlyRead, OnlyReads, OpeningFailed}
 use Rattle.source_rows.specs.Sources.{ReadsFail}
 use Rattle.spl_driver.specs.Built.{is_built}
@@ -131,6 +131,7 @@ pub record CreatingFailed (files : FilesOf) (name : List ℕ) (old new : PerName
   pub order : files.created ≡ before ++ name ∷ behind
   pub rose : Rose (old name).creating (new name).creating
   pub later : (n : List ℕ) → is_named (files.opened ++ before) n ≡ false → n ≢ name → new n ≡ old n
+  pub others : (n : List ℕ) → is_named before n ≡ false → n ≢ name → OnlyRead (old n) (new n)
   pub creating : (n : List ℕ) → n ≢ name → (new n).creating ≡ (old n).creating
   pub opening : (n : List ℕ) → (new n).opening ≡ (old n).opening
 
@@ -187,12 +188,18 @@ pub record Emptied (files : List (List ℕ)) (old new : Told) : Type 0 where
   pub empty : All (λ n. new.holds n ≡ Some []) files
   pub others : (n : List ℕ) → is_named files n ≡ false → new.holds n ≡ old.holds n
 
+-- A file that is created couldn't be: the request runs a graph, and those before it are empty.
+pub record StoppedCreating (Is : RequestOutcome → Type 0) (files : FilesOf) (name : List ℕ) (counts now : PerName) (old new : Told) : Type 0 where
+  pub failed : CreatingFailed files name counts now
+  pub emptied : Emptied failed.before old new
+  pub runs : (c : CheckedGraph) × (g : Graph) × (m : Meaning) × Is (Runs c g m)
+
 -- the file holds the sink's text, and nothing was counted of it; or its count of writing rose, and it holds a prefix
 abbrev pub HoldsUnlessFailed : Meaning → PerName → PerName → Told → Operator → List ℕ → Type 0
 HoldsUnlessFailed m counts now new op file =
     ((now file ≡ counts file) × HoldsText m new op file) ⊎ (Rose (counts file).writing (now file).writing × ((n : ℕ) × (new.holds file ≡ Some (take n (sink_text m op)))))
 
--- The run of a graph ended, but some sink's file wasn't written or finished; the others hold their texts.
+-- The run of a graph ended, but some file that it created wasn't written or finished. The sinks' files of which nothing was counted hold their texts.
 pub record WroteOthers (Is : RequestOutcome → Type 0) (counts now : PerName) (ended : Ended) (new : Told) : Type 0 where
   pub checked : CheckedGraph
   pub graph : Graph
@@ -215,7 +222,7 @@ pub record TellingFailed (files : FilesOf) (name : List ℕ) (counts now : PerNa
 -- what the counts and the files show of each cause
 abbrev pub DevicesMean : Cause → FilesOf → PerName → PerName → Type 0 → (RequestOutcome → Type 0) → Ended → Told → Told → Type 0
 DevicesMean (C.OpenFailed name) files counts now TextFailed Is ended old new =
-    (OpeningFailed files.opened name counts now × SameFiles old new) ⊎ ((f : CreatingFailed files name counts now) × Emptied f.before old new)
+    (OpeningFailed files.opened name counts now × SameFiles old new) ⊎ StoppedCreating Is files name counts now old new
 DevicesMean (C.WriteFailed name) files counts now TextFailed Is ended old new =
     (WritingFailed files name counts now × WroteOthers Is counts now ended new) ⊎ TellingFailed files name counts now TextFailed Is ended old new
 DevicesMean C.Done files counts now TextFailed Is ended old new = OnlyReads files.rows counts now
@@ -266,10 +273,46 @@ FollowsRecord (Some (R.Replay program file)) Is ended old =
     is_ended_run ended.cause ≡ true → (c : CheckedGraph) (g : Graph) (m : Meaning) → Is (Runs c g m) → Spells c (old.script file).bytes ended.arrivals
 FollowsRecord _ Is ended old = ⊤
 
+-- ---- the record that a run writes
+
+-- Some file couldn't be written, the first of which has this name. That of the record is empty where it is a sink's; it holds a prefix of its
+-- text, and the sinks' files hold theirs, where it is this one; and its text, where the name is that of standard output.
+pub data RecordUnwritten (name : List ℕ) (parts : List Part) (file text : List ℕ) (counts now : PerName) (TextFailed Sinks : Type 0) (new : Told) : Type 0 where
+  of_sink : is_named (sink_files parts) name ≡ true → Rose (counts name).writing (now name).writing → new.holds file ≡ Some []
+      → RecordUnwritten name parts file text counts now TextFailed Sinks new
+  of_record : name ≡ file → Rose (counts file).writing (now file).writing → Sinks → (n : ℕ) → new.holds file ≡ Some (take n text)
+      → RecordUnwritten name parts file text counts now TextFailed Sinks new
+  of_telling : name ≡ OUT → TextFailed → ((n : List ℕ) → (now n).writing ≡ (counts n).writing) → Sinks → new.holds file ≡ Some text
+      → RecordUnwritten name parts file text counts now TextFailed Sinks new
+
+-- What this file holds, into which a run writes its record, by how the run ends: the record's text, where the run was carried out, beside the texts
+-- of the sinks; where a file couldn't be written, as above; where memory was wanting, what it held, or nothing, or a prefix of the text beside
+-- those of the sinks; and else what it held.
+abbrev pub RecordHolds : Cause → List Part → List ℕ → List ℕ → PerName → PerName → Type 0 → Type 0 → Told → Told → Type 0
+RecordHolds C.Done parts file text counts now TextFailed Sinks old new = Sinks × (new.holds file ≡ Some text)
+RecordHolds (C.Stopped fault) parts file text counts now TextFailed Sinks old new = Sinks × (new.holds file ≡ Some text)
+RecordHolds (C.WriteFailed name) parts file text counts now TextFailed Sinks old new = RecordUnwritten name parts file text counts now TextFailed Sinks new
+RecordHolds C.NoMemory parts file text counts now TextFailed Sinks old new =
+    (new.holds file ≡ old.holds file) ⊎ ((new.holds file ≡ Some []) ⊎ (Sinks × ((n : ℕ) × (new.holds file ≡ Some (take n text)))))
+RecordHolds C.BadWords parts file text counts now TextFailed Sinks old new = new.holds file ≡ old.holds file
+RecordHolds (C.Refused refusal) parts file text counts now TextFailed Sinks old new = new.holds file ≡ old.holds file
+RecordHolds C.NotBuilt parts file text counts now TextFailed Sinks old new = new.holds file ≡ old.holds file
+RecordHolds (C.OpenFailed name) parts file text counts now TextFailed Sinks old new = new.holds file ≡ old.holds file
+RecordHolds (C.ReadFailed name) parts file text counts now TextFailed Sinks old new = new.holds file ≡ old.holds file
+RecordHolds (C.BadArrivals op) parts file text counts now TextFailed Sinks old new = new.holds file ≡ old.holds file
+
+-- a run that is asked for its record writes the one that it returns
+abbrev pub WritesRecord : Option Request → (RequestOutcome → Type 0) → Ended → PerName → PerName → Type 0 → Told → Told → Type 0
+WritesRecord (Some (R.Run program options)) Is ended counts now TextFailed old new =
+    (file : List ℕ) → options.arrivals ≡ Some file → (c : CheckedGraph) (g : Graph) (m : Meaning) → Is (Runs c g m)
+    → RecordHolds ended.cause c.parts file (arrivals_text c ended.arrivals) counts now TextFailed (EachSink (HoldsText m new) g.ops) old new
+WritesRecord _ Is ended counts now TextFailed old new = ⊤
+
 -- the answer to a request at a shelf that tells its files, where the count of the text's pour rose or not
 pub record Answered (request : Option Request) (ended : Ended) (counts now : PerName) (TextFailed : Type 0) (old new : Told) : Type 0 where
   pub means : CauseMeans ended.cause (IsOutcome old ended.arrivals request) ended old new
   pub others : (parts : List Part) → ArePartsIn old request parts → (n : List ℕ) → is_named (creates request parts) n ≡ false → new.holds n ≡ old.holds n
+  pub scripts : (parts : List Part) → ArePartsIn old request parts → (n : List ℕ) → is_named (creates request parts) n ≡ false → new.script n ≡ old.script n
   pub counted : (parts : List Part) → ArePartsIn old request parts → (n : List ℕ)
       → (is_named (opens request parts) n || is_named (creates request parts) n) ≡ false → now n ≡ counts n
   pub device : (parts : List Part) → ArePartsIn old request parts
@@ -279,6 +322,7 @@ pub record Answered (request : Option Request) (ended : Ended) (counts now : Per
   pub reads : ReadsFail counts now old
   pub needed : NeedsRecord request ended old
   pub followed : FollowsRecord request (IsOutcome old ended.arrivals request) ended old
+  pub recorded : WritesRecord request (IsOutcome old ended.arrivals request) ended counts now TextFailed old new
 
 -- ---- what the request alone shows
 

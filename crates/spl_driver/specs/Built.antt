@@ -8,12 +8,11 @@ abbrev pub is_given : {A : Type 0} → Option A → Bool
 is_given None = false
 is_given (Some x) = true
 
--- no option with a value is given
+-- no width, workers or capacity are given
 abbrev pub is_plain : RunOptions → Bool
-is_plain options =
-    not (is_given options.width) && (not (is_given options.workers) && (not (is_given options.capacity) && not (is_given options.arrivals)))
+is_plain options = not (is_given options.width) && (not (is_given options.workers) && not (is_given options.capacity))
 
--- `check`, `plan`, `replay`, and `run` with no option but `--counts`
+-- `check`, `plan`, `replay`, and `run` with no options but `--arrivals` and `--counts`
 abbrev pub is_built : Request → Bool
 is_built (R.Check program) = true
 is_built (R.Plan program) = true

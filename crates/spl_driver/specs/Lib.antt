@@ -9,3 +9,4 @@ pub mod Shown
 pub mod Texts
 pub mod Steps
 pub mod RequestLaws
+pub mod ReplayLaws

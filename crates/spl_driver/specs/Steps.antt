@@ -25,7 +25,8 @@ use Rattle.check_laws.specs.Files.{source_files, sink_files, is_named, OwnFiles}
 use Rattle.file_adapters.specs.declared.sinks.Sink.{Sink}
 use Rattle.file_adapters.specs.declared.sinks.Sunk.{Sunk}
 use Rattle.file_adapters.specs.declared.sinks.Sunk.TheVariants as W
-use Rattle.arrival_format.specs.ArrivalTexts.{Spells}
+use Rattle.file_adapters.specs.declared.text.TextFile.{TextFile}
+use Rattle.arrival_format.specs.ArrivalTexts.{Spells, arrivals_text}
 use Rattle.list_engine.specs.declared.run.Run.{Run}
 use Rattle.list_engine.specs.declared.run_order.Order.{Order}
 use Rattle.list_engine.specs.declared.run_order.Order.TheVariants as O
@@ -34,7 +35,7 @@ use Rattle.list_engine.specs.Runs as L
 use Rattle.source_rows.specs.Counting.{OnlyOf, OnlyRead, OnlyReads, OpeningFailed}
 use Rattle.source_rows.specs.Sources.{FaultsNameSources, ReadsCounted, ReadsFail, rows_told}
 use Rattle.spl_driver.specs.Outcome.{RequestOutcome, NotBuilt, OfPlan, OfSize, Reports, BadArrivals, Runs, IsReplay, IsUnder, has_fault, has_record_fault, meant, run_outcome}
-use Rattle.spl_driver.specs.Answer.{IsUnread, WholeReads, Answered, ByWords, CauseMeans, DevicesMean, DevicesShow, IsRecordOf, MayBe, NoCountChanged, IsOr, StoppedBy, cause_of, is_bad_arrivals, is_ended_run, is_report}
+use Rattle.spl_driver.specs.Answer.{IsUnread, WholeReads, Answered, ByWords, CauseMeans, DevicesMean, DevicesShow, EachSink, HoldsText, IsRecordOf, MayBe, NoCountChanged, IsOr, RecordHolds, StoppedBy, cause_of, is_bad_arrivals, is_ended_run, is_report}
 use Rattle.spl_driver.specs.Shown.{IsBadFor, IsReason, NothingRan, RanShown, RanTo, RunShown, Shown}
 use Rattle.spl_driver.specs.Files.{FilesOf}
 use Rattle.spl_driver.specs.Texts.{IsText, IsToldOutcome, run_text, wants_counts}
@@ -62,17 +63,22 @@ pub record FirstReading (name : List ℕ) (old new : PerName) : Type 0 where
   pub only : OnlyRead (old name) (new name)
   pub others : (n : List ℕ) → n ≢ name → new n ≡ old n
 
+-- the files that a run creates, in order: those of its sinks, and that of its record, where one is written
+abbrev pub created_by : Option (List ℕ) → CheckedGraph → List (List ℕ)
+created_by None c = sink_files c.parts
+created_by (Some file) c = sink_files c.parts ++ file ∷ []
+
 -- the files of a run that reads these files as a whole, in order, before those of its sources
-abbrev pub files_behind : List (List ℕ) → (List ℕ → ℕ) → CheckedGraph → FilesOf
-files_behind whole most c = record { opened = whole ++ source_files c.parts; whole = whole; most = most; rows = source_files c.parts; created = sink_files c.parts }
+abbrev pub files_behind : List (List ℕ) → (List ℕ → ℕ) → Option (List ℕ) → CheckedGraph → FilesOf
+files_behind whole most written c = record { opened = whole ++ source_files c.parts; whole = whole; most = most; rows = source_files c.parts; created = created_by written c }
 
 -- one that reads no other file than those of its sources
-abbrev pub run_files : CheckedGraph → FilesOf
-run_files c = files_behind [] (λ n. 0) c
+abbrev pub run_files : Option (List ℕ) → CheckedGraph → FilesOf
+run_files written c = files_behind [] (λ n. 0) written c
 
 -- one that reads the file of its record before
 abbrev pub replay_files : List ℕ → CheckedGraph → FilesOf
-replay_files file c = files_behind (file ∷ []) (λ n. if bytes_eq file n then 2 ^ 32 else 1048576) c
+replay_files file c = files_behind (file ∷ []) (λ n. if bytes_eq file n then 2 ^ 32 else 1048576) None c
 
 -- ---- the program
 
@@ -139,6 +145,16 @@ IsOrderFor _ c = ⊤
 abbrev pub HasOwnFiles : Compiled → List (List ℕ) → Type 0
 HasOwnFiles (P.Checked c) names = OwnFiles names c.parts
 HasOwnFiles _ names = ⊤
+
+-- the record that is written is one of these names
+abbrev pub IsNamedBy : Option (List ℕ) → List (List ℕ) → Type 0
+IsNamedBy None names = ⊤
+IsNamedBy (Some file) names = is_named names file ≡ true
+
+-- the text of the record, for its file
+abbrev pub last_of : Option (List ℕ) → List ℕ → Option TextFile
+last_of None text = None
+last_of (Some file) text = Some (record { file = file; text = text })
 
 -- ---- its run
 
@@ -291,6 +307,19 @@ abbrev pub FollowsFile : Request → CheckedGraph → Ended → Told → Type 0
 FollowsFile (R.Replay program file) c ended old = is_ended_run ended.cause ≡ true → Spells c (old.script file).bytes ended.arrivals
 FollowsFile _ c ended old = ⊤
 
+-- ---- the record that is written
+
+-- what the file of a run's record holds, before the run is told of
+abbrev pub RecordOf : Option (List ℕ) → CheckedGraph → Ended → PerName → PerName → Told → Told → Type 0
+RecordOf None c ended counts now old new = ⊤
+RecordOf (Some file) c ended counts now old new =
+    RecordHolds ended.cause c.parts file (arrivals_text c ended.arrivals) counts now ⊥ (EachSink (HoldsText (meant (graph_of c) old ended.arrivals.lists) new) (graph_of c).ops) old new
+
+-- and by its request
+abbrev pub RecordFor : Request → CheckedGraph → Ended → PerName → PerName → Told → Told → Type 0
+RecordFor (R.Run program options) c ended counts now old new = RecordOf options.arrivals c ended counts now old new
+RecordFor _ c ended counts now old new = ⊤
+
 -- ---- an answer
 
 -- what the counts of faults show of an answer to what ran these operators, and opened and created these files
@@ -305,6 +334,7 @@ pub record CountsShow (cause : Cause) (parts : List Part) (files : FilesOf) (old
 pub record FilesShow (Is : RequestOutcome → Type 0) (files : FilesOf) (ended : Ended) (counts now : PerName) (old new : Told) : Type 0 where
   pub means : CauseMeans ended.cause Is ended old new
   pub others : (n : List ℕ) → is_named files.created n ≡ false → new.holds n ≡ old.holds n
+  pub scripts : (n : List ℕ) → is_named files.created n ≡ false → new.script n ≡ old.script n
   pub device : DevicesMean ended.cause files counts now ⊥ Is ended old new
   pub whole : WholeReads ended.cause files counts now old
   pub reads : ReadsFail counts now old
@@ -319,28 +349,28 @@ TellsRun counted c ended text = (text ≡ run_text counted c ended.counts ended.
 
 -- ---- the end of a run
 
--- how a run with this fault, or none, ends by what became of its sinks
-abbrev pub EndsBehind : Sunk → Option Fault → CheckedGraph → List Sink → Ended → Type 0
-EndsBehind (W.Done ns) fault c sinks ended = EndsAs fault (counts_from 0 c.parts ns) ended
-EndsBehind (W.NotCreated place) fault c sinks ended = (s : Sink) → slice_get sinks place ≡ Some s → IsOr (C.OpenFailed s.file) ended.cause
-EndsBehind (W.NotWritten place) fault c sinks ended = (s : Sink) → slice_get sinks place ≡ Some s → IsOr (C.WriteFailed s.file) ended.cause
-EndsBehind W.Memory fault c sinks ended = ended.cause ≡ C.NoMemory
+-- how a run with this fault, or none, ends by what became of the files that it created
+abbrev pub EndsBehind : Sunk → Option Fault → CheckedGraph → List (List ℕ) → Ended → Type 0
+EndsBehind (W.Done ns) fault c names ended = EndsAs fault (counts_from 0 c.parts ns) ended
+EndsBehind (W.NotCreated place) fault c names ended = (name : List ℕ) → slice_get names place ≡ Some name → IsOr (C.OpenFailed name) ended.cause
+EndsBehind (W.NotWritten place) fault c names ended = (name : List ℕ) → slice_get names place ≡ Some name → IsOr (C.WriteFailed name) ended.cause
+EndsBehind W.Memory fault c names ended = ended.cause ≡ C.NoMemory
 
 -- and what is told of it
 abbrev pub TellsBehind : Sunk → Bool → CheckedGraph → Ended → List ℕ → Type 0
 TellsBehind (W.Done ns) counted c ended text = TellsRun counted c ended text
 TellsBehind _ counted c ended text = text ≡ status_text None ended.cause
 
--- it has the run's record, unless a file couldn't be created: the rows that the sinks were given are then lost
+-- it has the run's record, unless a file couldn't be created: then no run began
 abbrev pub RecordedBy : Sunk → Ended → Arrivals → Type 0
 RecordedBy (W.Done ns) ended arrivals = ended.arrivals ≡ arrivals
 RecordedBy (W.NotCreated place) ended arrivals = NothingRan ended
 RecordedBy (W.NotWritten place) ended arrivals = ended.arrivals ≡ arrivals
 RecordedBy W.Memory ended arrivals = ended.arrivals ≡ arrivals
 
--- the answer of a run, by what became of its sinks
-pub record EndsRun (sunk : Sunk) (counted : Bool) (c : CheckedGraph) (sinks : List Sink) (fault : Option Fault) (arrivals : Arrivals) (answer : Answer) : Type 0 where
-  pub ends : EndsBehind sunk fault c sinks answer.ended
+-- the answer of a run, by what became of them
+pub record EndsRun (sunk : Sunk) (counted : Bool) (c : CheckedGraph) (names : List (List ℕ)) (fault : Option Fault) (arrivals : Arrivals) (answer : Answer) : Type 0 where
+  pub ends : EndsBehind sunk fault c names answer.ended
   pub text : IfOk answer.text (TellsBehind sunk counted c answer.ended)
   pub recorded : RecordedBy sunk answer.ended arrivals
 
@@ -357,7 +387,7 @@ pub record Replays (file : List ℕ) (c : CheckedGraph) (answer : Answer) (told 
   pub ran : RanGraph answer.ended.cause c answer.ended counts later
   pub needed : IfSome told (λ t. has_record_fault (t.script file) ≡ true → IsUnread (file ∷ []) answer.ended.cause)
   pub followed : IfSome told (λ t. is_ended_run answer.ended.cause ≡ true → Spells c (t.script file).bytes answer.ended.arrivals)
-  pub lent : before < 2 ^ 64 - 256 → after ≡ before
+  pub lent : before < 2 ^ 64 - 257 → after ≡ before
 
 -- what is known of the answer to a request before it is told, with what the shelf tells and counts before and after, and what it has lent
 pub record AnswersRequest (request : Option Request) (answer : Answer) (told now : Option Told) (counts later : PerName) (before after : ℕ) : Type 0 where
@@ -368,4 +398,4 @@ pub record AnswersRequest (request : Option Request) (answer : Answer) (told now
   pub kinds : MayBe request answer.ended.cause
   pub reason : IsReason answer.ended.cause request
   pub ran : RanShown answer.ended.cause request answer.ended counts later
-  pub lent : before < 2 ^ 64 - 256 → after ≡ before
+  pub lent : before < 2 ^ 64 - 257 → after ≡ before

@@ -93,7 +93,7 @@ abbrev pub PouredFront : Bool → (RequestOutcome → Type 0) → List ℕ → O
 PouredFront counted Is old now Failed =
     Failed × ((cause : Cause) × (text : List ℕ) × IsTextOf counted Is cause text × (n : ℕ) × (now ≡ Some (old ++ take n text)))
 
--- The cause's text was poured; nothing is said of want of memory. Where a write failed, that is one of a sink's file, and its text was poured; or
+-- The cause's text was poured; nothing is said of want of memory. Where a write failed, that is one of a file that the request creates, and its text was poured; or
 -- it is that of the text that would have come, which was begun.
 abbrev pub Said : Cause → Option Request → (RequestOutcome → Type 0) → PerName → PerName → Option (List ℕ) → Option (List ℕ) → Type 0 → Type 0
 Said cause request Is counts later None now Failed = ⊤

@@ -10,7 +10,7 @@ ghost use Rattle.spl_driver.specs.Built.{is_built};
 ghost use Rattle.spl_driver.specs.Files.{files_of, program_of};
 ghost use Rattle.spl_driver.specs.Outcome.{OfPlan, OfSize};
 ghost use Rattle.spl_driver.specs.Texts.{IsReportText, IsText, wants_counts};
-ghost use Rattle.spl_driver.specs.Steps.{AnswersRequest, CountsShow, FilesShow, FollowsFile, IsAcceptedOutcome, IsToldAcceptedOutcome, RanAccepted, ReasonOf, Replays};
+ghost use Rattle.spl_driver.specs.Steps.{AnswersRequest, CountsShow, FilesShow, FollowsFile, IsAcceptedOutcome, IsToldAcceptedOutcome, RanAccepted, ReasonOf, RecordFor, Replays};
 
 use crate::compiled::{Compiled, compile_file};
 use crate::ended::{Ended, open_failed, read_failed, uncounted_end};
@@ -103,7 +103,7 @@ fn replay<H: Shelf>(alloc: Global, shelf: &mut H, accepted: &Checked, file: &Nam
         RecordRead::ReadFailed => plain(alloc, read_failed(alloc, file.as_slice())),
         RecordRead::Bad => bad_arrivals(alloc, accepted, None),
         RecordRead::Memory => plain(alloc, Cause::NoMemory),
-        RecordRead::Order(order) => run(alloc, shelf, accepted, &order, false),
+        RecordRead::Order(order) => run(alloc, shelf, accepted, &order, &None, false),
     }
 }
 
@@ -129,15 +129,25 @@ fn answer_accepted<H: Shelf>(
     ensures kinds { MayBe (Some request.now) result.ended.cause }
     ensures needed { IfSome (H.told shelf.old) (NeedsRecord (Some request.now) result.ended) }
     ensures followed { IfSome (H.told shelf.old) (FollowsFile request.now accepted.now result.ended) }
+    ensures recorded { WhereTold (H.told shelf.old) (H.told shelf.new)
+        (RecordFor request.now accepted.now result.ended (H.counts shelf.old) (H.counts shelf.new)) }
     ensures reason { ReasonOf result.ended.cause accepted.now }
     ensures ran { RanAccepted result.ended.cause request.now accepted.now result.ended (H.counts shelf.old) (H.counts shelf.new) }
-    ensures lent { H.lent shelf.old < 2 ^ 64 - 256 → H.lent shelf.new ≡ H.lent shelf.old }
+    ensures lent { H.lent shelf.old < 2 ^ 64 - 257 → H.lent shelf.new ≡ H.lent shelf.old }
 {
     match request {
         Request::Check(_) => reported(alloc, size(alloc, accepted)),
         Request::Plan(_) => reported(alloc, regions(alloc, accepted)),
         Request::Run { options, .. } => {
-            run(alloc, shelf, accepted, &Order::InTurn, options.counts)
+            let written = &options.arrivals;
+            run(
+                alloc,
+                shelf,
+                accepted,
+                &Order::InTurn,
+                written,
+                options.counts,
+            )
         }
         Request::Replay { arrivals, .. } => replay(alloc, shelf, accepted, arrivals),
         _ => plain(alloc, Cause::NotBuilt),

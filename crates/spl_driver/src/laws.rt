@@ -1,5 +1,6 @@
 //! What programs and requests come to.
 ghost use Rattle.spl_driver.specs.AcceptedLaws.{KeptLaw, OneAcceptedLaw, SomeAcceptedLaw, TooLongLaw};
+ghost use Rattle.spl_driver.specs.ReplayLaws.{ReplayLaw, SameFilesLaw};
 ghost use Rattle.spl_driver.specs.RequestLaws.{OneOutcomeLaw, SomeOutcomeLaw, OnePartsLaw, SomePartsLaw};
 
 use arrival_format::format_law;
@@ -28,5 +29,16 @@ pub fn outcome_law()
     ensures some_parts { SomePartsLaw }
 {
     accepted_law();
+    format_law();
+}
+
+/// A replay of the record that a run wrote comes to what the run came to, if the program and the sources are
+/// read alike: where both are carried out, they end alike, and each sink's file holds the same after both.
+pub fn replay_law()
+    ensures outcome { ReplayLaw }
+    ensures files { SameFilesLaw }
+{
+    accepted_law();
+    outcome_law();
     format_law();
 }

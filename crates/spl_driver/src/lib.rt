@@ -18,5 +18,5 @@ mod top;
 pub use compile_answer::CompileAnswer;
 pub use compiling::compile;
 pub use ended::Ended;
-pub use laws::{accepted_law, outcome_law};
+pub use laws::{accepted_law, outcome_law, replay_law};
 pub use top::spl;

@@ -1,5 +1,5 @@
 //! A run up to its sinks: the sources read, and the graph run.
-ghost use Rattle.std.specs.Prelude.{◌≡◌, ◌<◌, ◌-◌, ◌^◌, true, IfSome};
+ghost use Rattle.std.specs.Prelude.{◌≡◌, ◌<◌, ◌-◌, ◌^◌, true, IfSome, None};
 ghost use Rattle.feed_pour.specs.Contents.{WhereTold, TellsSame};
 ghost use Rattle.language_model.specs.Keeping.{Keeps};
 ghost use Rattle.source_rows.specs.Sources.{ReadsFail};
@@ -40,7 +40,7 @@ pub fn prepare<H: Shelf>(alloc: Global, shelf: &mut H, checked: &Checked, order:
         (H.counts shelf.old) (H.counts shelf.new) }
     ensures told { WhereTold (H.told shelf.old) (H.told shelf.new) TellsSame }
     ensures reads { IfSome (H.told shelf.old) (ReadsFail (H.counts shelf.old) (H.counts shelf.new)) }
-    ensures cause { PreparedCounted result (run_files checked.now) (H.counts shelf.old)
+    ensures cause { PreparedCounted result (run_files None checked.now) (H.counts shelf.old)
         (H.counts shelf.new) }
     ensures lent { H.lent shelf.old < 2 ^ 64 - 1 → H.lent shelf.new ≡ H.lent shelf.old }
 {

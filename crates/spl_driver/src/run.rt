@@ -2,21 +2,22 @@
 ghost use Rattle.std.specs.Prelude.{◌≡◌, ◌<◌, ◌-◌, ◌^◌, true, ℕ, List, IfOk};
 ghost use Rattle.feed_pour.specs.Contents.{WhereTold};
 ghost use Rattle.check_laws.specs.Files.{OwnFiles};
+ghost use Rattle.file_adapters.specs.Sinks.{names_of};
 ghost use Rattle.spl_driver.specs.Answer.{cause_of};
 ghost use Rattle.spl_driver.specs.Texts.{IsText, run_text};
-ghost use Rattle.spl_driver.specs.Steps.{CountsShow, EndsAs, EndsRun, FilesShow, FollowsOrder, IsOrderOf, IsRunOf, MayEndIn, RanGraph, ReasonOf, RunComes, TellsRun, counts_from, run_files};
+ghost use Rattle.spl_driver.specs.Steps.{CountsShow, EndsAs, EndsRun, FilesShow, FollowsOrder, IsNamedBy, IsOrderOf, IsRunOf, MayEndIn, RanGraph, ReasonOf, RecordOf, RunComes, TellsRun, counts_from, run_files};
 ghost use Rattle.run_report.specs.Texts.{status_text};
 
 use crate::answer::{Answer, bad_arrivals, plain};
 use crate::ended::{Ended, open_failed, status, uncounted_after, write_failed};
 use crate::prepare::{Prepared, prepare};
-use crate::sinks::{sink_counts, sink_file, sinks_of};
+use crate::sinks::{RunFiles, files_of_run, name_at, sink_counts};
 use feed_pour::Shelf;
-use file_adapters::{Sink, Sunk, write_sinks};
+use file_adapters::{Sunk, write_sinks};
 use language_model::Checked;
 use list_engine::{Order, Run, engine_law};
 use run_report::{Cause, counts_text, status_text};
-use spl_value::{Bytes, Fault, Items, NoMemory};
+use spl_value::{Bytes, Fault, Items, Name, NoMemory};
 use std::alloc::Global;
 use stream_model::{Arrivals, Counts};
 
@@ -97,47 +98,48 @@ fn carried_out(
     }
 }
 
-// The answer of a run, by what became of its sinks.
+// The answer of a run, by what became of the files that it created.
 fn ended_run(
     alloc: Global,
     counted: bool,
     checked: &Checked,
-    sinks: &Items<Sink>,
+    files: &RunFiles,
     fault: Option<Fault>,
     arrivals: Arrivals,
     sunk: &Sunk,
 ) -> Answer
-    ensures { EndsRun sunk.now counted checked.now sinks.now fault arrivals result }
+    ensures { EndsRun sunk.now counted checked.now (names_of files.now.sinks files.now.last) fault
+        arrivals result }
 {
     match sunk {
-        Sunk::NotCreated(place) => plain(alloc, open_failed(alloc, sink_file(sinks, *place))),
+        Sunk::NotCreated(place) => plain(alloc, open_failed(alloc, name_at(files, *place))),
         Sunk::NotWritten(place) => {
-            unfinished(
-                alloc,
-                write_failed(alloc, sink_file(sinks, *place)),
-                arrivals,
-            )
+            unfinished(alloc, write_failed(alloc, name_at(files, *place)), arrivals)
         }
         Sunk::Memory => unfinished(alloc, Cause::NoMemory, arrivals),
         Sunk::Done(rows) => carried_out(alloc, counted, checked, rows, fault, arrivals),
     }
 }
 
-/// Runs a checked graph in this order: reads its sources, and writes its sinks. Its counts are told where
-/// `counted` asks for them.
+/// Runs a checked graph in this order: reads its sources, and writes its sinks, and then the record of its
+/// arrivals into the file of this name, where there is one. Its counts are told where `counted` asks for them.
 pub fn run<H: Shelf>(
     alloc: Global,
     shelf: &mut H,
     checked: &Checked,
     order: &Order,
+    written: &Option<Name>,
     counted: bool,
 ) -> Answer
     requires order { IsOrderOf checked.now order.now }
-    requires own { (names : List (List ℕ)) × OwnFiles names checked.now.parts }
+    requires own { (names : List (List ℕ)) × OwnFiles names checked.now.parts
+        × IsNamedBy written.now names }
     ensures files { WhereTold (H.told shelf.old) (H.told shelf.new)
-        (λ old new. FilesShow (IsRunOf checked.now order.now result.ended.arrivals old) (run_files checked.now)
-        result.ended (H.counts shelf.old) (H.counts shelf.new) old new) }
-    ensures counts { CountsShow result.ended.cause checked.now.parts (run_files checked.now)
+        (λ old new. FilesShow (IsRunOf checked.now order.now result.ended.arrivals old)
+        (run_files written.now checked.now) result.ended (H.counts shelf.old) (H.counts shelf.new) old new) }
+    ensures recorded { WhereTold (H.told shelf.old) (H.told shelf.new)
+        (RecordOf written.now checked.now result.ended (H.counts shelf.old) (H.counts shelf.new)) }
+    ensures counts { CountsShow result.ended.cause checked.now.parts (run_files written.now checked.now)
         (H.counts shelf.old) (H.counts shelf.new) }
     ensures text { IfOk result.text (IsText counted result.ended.cause
         (RunComes checked.now order.now result.ended.arrivals (H.told shelf.old) (H.counts shelf.old) (H.counts shelf.new))) }
@@ -145,23 +147,23 @@ pub fn run<H: Shelf>(
     ensures followed { FollowsOrder order.now result.ended }
     ensures reason { ReasonOf result.ended.cause checked.now }
     ensures ran { RanGraph result.ended.cause checked.now result.ended (H.counts shelf.old) (H.counts shelf.new) }
-    ensures lent { H.lent shelf.old < 2 ^ 64 - 256 → H.lent shelf.new ≡ H.lent shelf.old }
+    ensures lent { H.lent shelf.old < 2 ^ 64 - 257 → H.lent shelf.new ≡ H.lent shelf.old }
 {
     engine_law();
     match prepare(alloc, shelf, checked, order) {
         Prepared::OpenFailed(name) => plain(alloc, Cause::OpenFailed(name)),
         Prepared::NotWhole(op) => bad_arrivals(alloc, checked, Some(op)),
         Prepared::Memory => plain(alloc, Cause::NoMemory),
-        Prepared::Ran(run) => match sinks_of(alloc, checked) {
+        Prepared::Ran(run) => match files_of_run(alloc, checked, written, &run.arrivals) {
             Err(_) => plain(alloc, Cause::NoMemory),
-            Ok(sinks) => {
+            Ok(files) => {
                 let Run {
                     sinks: streams,
                     arrivals,
                     fault,
                 } = run;
-                let sunk = write_sinks(alloc, shelf, &sinks, &streams);
-                ended_run(alloc, counted, checked, &sinks, fault, arrivals, &sunk)
+                let sunk = write_sinks(alloc, shelf, &files.sinks, &streams, &files.last);
+                ended_run(alloc, counted, checked, &files, fault, arrivals, &sunk)
             }
         },
     }

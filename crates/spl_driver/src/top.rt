@@ -104,7 +104,7 @@ pub fn spl<W: Threads + Wait + Sync, H: Shelf, S: Starter, G: Gate, P: Pour>(
         (Rose (P.faults out.old) (P.faults out.new)) }
 
     // Every feed and every pour is given back.
-    ensures lent { H.lent shelf.old < 2 ^ 64 - 256 → H.lent shelf.new ≡ H.lent shelf.old }
+    ensures lent { H.lent shelf.old < 2 ^ 64 - 257 → H.lent shelf.new ≡ H.lent shelf.old }
 
     // Why a program is refused, or not run.
     ensures reason { IsReason result.cause (request_of words.now) }

@@ -1,16 +1,34 @@
 -- What the steps of writing sinks come to: the files created, their rows written, and the files finished.
-use Rattle.std.specs.Prelude.{◌≡◌, ◌≢◌, ◌<◌, ◌≤◌, ◌⊎◌, ℕ, List, ◌++◌, length, take, Bool, true, false, Option, Some, None, Result, Ok, Err, ⊤, slice_get}
-use Rattle.std.specs.List.{All, Any, slice_index_or}
+use Rattle.std.specs.Prelude.{◌≡◌, ◌≢◌, ◌<◌, ◌≤◌, ◌⊎◌, ℕ, List, [], ◌++◌, length, take, Bool, true, false, Option, Some, None, Result, Ok, Err, ⊤, slice_get}
+use Rattle.std.specs.List.{All, Any, list_any, slice_index_or}
+use Rattle.std.specs.Str.{bytes_eq}
 use Rattle.spl_value.specs.declared.item.Item.{Item}
 use Rattle.spl_value.specs.declared.memory.NoMemory.{NoMemory}
-use Rattle.feed_pour.specs.Counts.{Counts, PerName, Rose}
-use Rattle.feed_pour.specs.Contents.{Told, HeldAfter}
+use Rattle.feed_pour.specs.Counts.{Counts, OthersStay, PerName, Rose}
+use Rattle.feed_pour.specs.Contents.{Told, TellsOthers, AllPoured, HeldAfter}
 use Rattle.feed_pour.specs.declared.outside.PourAnswer.{PourAnswer}
 use Rattle.feed_pour.specs.declared.outside.PourAnswer.TheVariants as P
 use Rattle.file_adapters.specs.declared.sinks.Sink.{Sink}
 use Rattle.file_adapters.specs.declared.sinks.Sunk.{Sunk}
 use Rattle.file_adapters.specs.declared.sinks.Sunk.TheVariants as S
-use Rattle.file_adapters.specs.Sinks.{OtherFilesStay, sink_text}
+use Rattle.file_adapters.specs.declared.text.TextFile.{TextFile}
+use Rattle.file_adapters.specs.Sinks.{HoldsFront, sink_text}
+
+-- ---- files
+
+-- the name is the file of one of these sinks
+abbrev pub is_file : List Sink → List ℕ → Bool
+is_file sinks name = list_any (λ s. bytes_eq s.file name) sinks
+
+-- only what is told of these sinks' files changes
+abbrev pub OtherFilesStay : {A : Type 0} → List Sink → (List ℕ → A) → (List ℕ → A) → Type 0
+OtherFilesStay sinks old new = (n : List ℕ) → is_file sinks n ≡ false → new n ≡ old n
+
+-- the files of the first sinks are empty, and nothing else that is told changed
+pub record SinksEmptied (place : ℕ) (sinks : List Sink) (old : Told) (new : Told) : Type 0 where
+  pub empty : All (λ s. new.holds s.file ≡ Some []) (take place sinks)
+  pub others : OtherFilesStay (take place sinks) old.holds new.holds
+  pub scripts : OtherFilesStay (take place sinks) old.script new.script
 
 -- ---- creating
 
@@ -124,3 +142,73 @@ sunk_of (Ok counts) (Some place) = S.NotWritten place
 abbrev pub not_created : PourAnswer → ℕ → Sunk
 not_created P.Failed place = S.NotCreated place
 not_created P.Memory place = S.Memory
+
+-- ---- the text after the sinks
+
+-- how the writing of so many sinks may end whose files were created
+abbrev pub IsFilled : Sunk → ℕ → Type 0
+IsFilled (S.Done ns) count = ⊤
+IsFilled (S.NotCreated place) count = ⊥
+IsFilled (S.NotWritten place) count = place < count
+IsFilled S.Memory count = ⊤
+
+-- and how that of all may, where the files of these sinks were: the file after them may not have been
+abbrev pub IsAfter : Sunk → ℕ → Type 0
+IsAfter (S.NotCreated place) count = place ≡ count
+IsAfter _ count = ⊤
+
+-- the text was poured where the sinks were written, and else nothing
+abbrev pub LastGiven : Sunk → Option (List ℕ) → Option (List ℕ) → Result (Unit {0}) PourAnswer → List ℕ → Type 0
+LastGiven (S.Done ns) old now r text = AllPoured old now r text
+LastGiven _ old now r text = (now ≡ old) × (r ≡ Ok tt)
+
+-- how the writing of all ended, with how that of the sinks did, whether the text was poured, and whether the finishing of its file failed
+abbrev pub text_sunk : Sunk → Result (Unit {0}) PourAnswer → Bool → ℕ → Sunk
+text_sunk (S.Done ns) (Err P.Memory) failed place = S.Memory
+text_sunk (S.Done ns) (Err P.Failed) failed place = S.NotWritten place
+text_sunk (S.Done ns) (Ok u) true place = S.NotWritten place
+text_sunk (S.Done ns) (Ok u) false place = S.Done ns
+text_sunk (S.NotCreated at) r failed place = S.NotCreated at
+text_sunk (S.NotWritten at) r failed place = S.NotWritten at
+text_sunk S.Memory r failed place = S.Memory
+
+-- what came of the sinks stays, unless the text failed after them
+abbrev pub EndsText : Sunk → Sunk → ℕ → Type 0
+EndsText (S.Done ns) (S.Done ms) place = ms ≡ ns
+EndsText (S.Done ns) (S.NotWritten at) place = at ≡ place
+EndsText (S.Done ns) (S.NotCreated at) place = ⊥
+EndsText (S.Done ns) S.Memory place = ⊤
+EndsText sunk r place = r ≡ sunk
+
+-- the sinks were written
+abbrev pub IsDone : Sunk → Type 0
+IsDone (S.Done ns) = ⊤
+IsDone _ = ⊥
+
+-- what the text's file holds, by what came of the sinks and of all
+abbrev pub LastLeft : Sunk → Sunk → ℕ → List ℕ → Option (List ℕ) → Type 0
+LastLeft sunk (S.Done ns) place text holds = holds ≡ Some text
+LastLeft sunk (S.NotCreated at) place text holds = ⊤
+LastLeft sunk (S.NotWritten at) place text holds = ((at < place) × (holds ≡ Some [])) ⊎ ((at ≡ place) × IsDone sunk × HoldsFront text holds)
+LastLeft sunk S.Memory place text holds = (holds ≡ Some []) ⊎ (IsDone sunk × HoldsFront text holds)
+
+-- the text's file was finished, and nothing else that is told changed
+pub record LastFinished (sunk r : Sunk) (place : ℕ) (last : TextFile) (old : Told) (new : Told) : Type 0 where
+  pub ends : EndsText sunk r place
+  pub others : TellsOthers old new last.file
+  pub holds : LastLeft sunk r place last.text (new.holds last.file)
+
+-- its finishing failed, where that came of all
+abbrev pub LastCause : Sunk → Sunk → List ℕ → PerName → PerName → Type 0
+LastCause (S.Done ns) (S.Done ms) name old new = (n : List ℕ) → new n ≡ old n
+LastCause (S.Done ns) (S.NotWritten at) name old new = Rose (old name).writing (new name).writing
+LastCause _ r name old new = ⊤
+
+-- and counted faults of writing under its name alone
+pub record LastCounted (sunk r : Sunk) (place : ℕ) (name : List ℕ) (old new : PerName) : Type 0 where
+  pub ends : EndsText sunk r place
+  pub others : OthersStay old new name
+  pub opening : (n : List ℕ) → (new n).opening ≡ (old n).opening
+  pub creating : (n : List ℕ) → (new n).creating ≡ (old n).creating
+  pub reading : (n : List ℕ) → (new n).reading ≡ (old n).reading
+  pub cause : LastCause sunk r name old new

@@ -3,13 +3,13 @@ use Rattle.std.specs.Prelude.{IfSome}
 use Rattle.std.specs.List.{All}
 use Rattle.std.specs.Vec.{vec_capacity}
 use Rattle.feed_pour.specs.Contents.{WhereTold}
-use Rattle.file_adapters.specs.Sinks.{EmptyBefore}
+use Rattle.file_adapters.specs.steps.Steps.{SinksEmptied}
 use Rattle.file_adapters.proofs.sinks.create_each.Given as goal
 
 abbrev pub invariant-loop-sink : goal.invariant-loop-sink
 invariant-loop-sink g l = record {
   count : length l.pours.items ≡ l.sink-index;
-  told : WhereTold ((g.H.Shelf).told l.initial.shelf) ((g.H.Shelf).told l.shelf) (EmptyBefore l.sink-index l.sinks);
+  told : WhereTold ((g.H.Shelf).told l.initial.shelf) ((g.H.Shelf).told l.shelf) (SinksEmptied l.sink-index l.sinks);
   poured : IfSome ((g.H.Shelf).told l.initial.shelf) (λ t. All (λ p. (g.H.Writer.Pour).poured p ≡ Some []) l.pours.items);
   created : All (λ s. (g.H.Shelf).created l.shelf s.file) (take l.sink-index l.sinks);
   counts : (n : List ℕ) → (g.H.Shelf).counts l.shelf n ≡ (g.H.Shelf).counts l.initial.shelf n;

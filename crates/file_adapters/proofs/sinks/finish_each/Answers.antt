@@ -31,6 +31,7 @@ pours-preserved g c =
           before.told (rw (sym c.index-sinks-at.is) at c.finish-finished.ensures.told));
       created = All-weaker (λ (t : Sink). (g.H.Shelf).created c.pours.shelf t.file) (λ (t : Sink). (g.H.Shelf).created c.finish-finished.new.self t.file) (λ t h. c.finish-finished.ensures.keeps_created t.file h)
           (take (length pours) sinks) before.created;
+      keeps = λ n h. c.finish-finished.ensures.keeps_created n (before.keeps n h);
       counts = rw now (one_counted first (failed_read r) _ _ _ sinks i s within c.index-sinks-at.is c.requires.distinct before.place before.counts (rw (sym c.index-sinks-at.is) at c.finish-finished.ensures.cause));
       faults = rw now (no_faults_more (g.H.Writer.Pour).faults first pours i x r turn.within turn.is before.faults c.finish-finished.ensures.fault);
       lent = λ room. let was = before.lent room in let back = c.finish-finished.ensures.lent (omega (arith, was, room, turn.within)) in omega (arith, was, back);

@@ -8,7 +8,7 @@ use Rattle.spl_driver.specs.Answer.{is_replay}
 use Rattle.spl_driver.specs.Steps.{ReasonOf}
 use Rattle.spl_driver.specs.Texts.{IsReportText}
 use Rattle.spl_driver.proofs.Showing.{graph_ran, replay_ran, report_ran}
-use Rattle.spl_driver.proofs.Carrying.{asks_plan, asks_size, follows_replay, follows_unless, needs_replay, needs_unless, replay_kinds, replayed_counts, replayed_files, replayed_text, ran_counts, ran_files, ran_text, run_kinds, reported_counts, reported_files, reported_text}
+use Rattle.spl_driver.proofs.Carrying.{asks_plan, asks_size, follows_replay, follows_unless, needs_replay, needs_unless, replay_kinds, replayed_counts, replayed_files, replayed_text, ran_counts, ran_files, ran_record, ran_text, run_kinds, reported_counts, reported_files, reported_text}
 use Rattle.spl_driver.proofs.answer.answer_accepted.Goals as goal
 
 -- ---- its size
@@ -58,12 +58,12 @@ returns-in-Plan-clause-reason g c = subst (λ (k : Cause). ReasonOf k c.args.acc
 
 pub returns-in-Run-clause-files : goal.returns-in-Run-clause-files
 returns-in-Run-clause-files g c =
-    ran_files _ _ c.args.request.now c.in-Run.program c.in-Run.options c.args.accepted.now c.run.result.ended _ _ c.in-Run.is c.requires.built
+    ran_files _ _ c.args.request.now c.in-Run.program c.in-Run.options c.args.accepted.now c.run.result.ended _ _ c.in-Run.is
     c.run.ensures.files
 
 pub returns-in-Run-clause-counts : goal.returns-in-Run-clause-counts
 returns-in-Run-clause-counts g c =
-    ran_counts c.args.request.now c.in-Run.program c.in-Run.options c.args.accepted.now c.run.result.ended.cause _ _ c.in-Run.is c.requires.built
+    ran_counts c.args.request.now c.in-Run.program c.in-Run.options c.args.accepted.now c.run.result.ended.cause _ _ c.in-Run.is
     c.run.ensures.counts
 
 pub returns-in-Run-clause-text : goal.returns-in-Run-clause-text
@@ -129,3 +129,8 @@ returns-in-Run-clause-kinds g c = run_kinds c.args.request.now c.in-Run.program 
 
 pub returns-in-Replay-clause-kinds : goal.returns-in-Replay-clause-kinds
 returns-in-Replay-clause-kinds g c = replay_kinds c.args.request.now c.in-Replay.program c.in-Replay.arrivals c.replay.result.ended.cause c.in-Replay.is
+
+-- ---- the record that is written
+
+pub returns-in-Run-clause-recorded : goal.returns-in-Run-clause-recorded
+returns-in-Run-clause-recorded g c = ran_record _ _ c.args.request.now c.in-Run.program c.in-Run.options c.args.accepted.now c.run.result.ended _ _ c.in-Run.is c.run.ensures.recorded

@@ -45,7 +45,7 @@ pub returns-in-Checked : goal.returns-in-Checked
 returns-in-Checked g c = record {
   answered = accepted_answer c.accepted_law.ensures.one c.outcome_law.ensures.one_parts _ _ _ c.args.request.now c.args.program.now c.in-Checked.accepted c.answer_accepted.result.ended _ _ _
       c.requires.built c.requires.program (rw (← c.requires.names) c.in-Checked.ensures.made) c.in-Checked.ensures.told c.in-Checked.ensures.cause
-      c.answer_accepted.ensures.files c.answer_accepted.ensures.counts c.answer_accepted.ensures.needed c.answer_accepted.ensures.followed;
+      c.answer_accepted.ensures.files c.answer_accepted.ensures.counts c.answer_accepted.ensures.needed c.answer_accepted.ensures.followed c.answer_accepted.ensures.recorded;
   shown = shown_after c.answer_accepted.result.ended.cause c.args.request.now c.in-Checked.accepted _ _ _ _ (rw (← c.requires.names) c.in-Checked.ensures.from) c.in-Checked.ensures.cause
       c.answer_accepted.ensures.counts;
   text = accepted_text _ _ c.args.request.now c.args.program.now c.in-Checked.accepted c.answer_accepted.result.ended.cause c.answer_accepted.result.ended.arrivals c.answer_accepted.result.text _ _ _

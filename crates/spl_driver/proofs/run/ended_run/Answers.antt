@@ -1,22 +1,23 @@
+use Rattle.file_adapters.specs.Sinks.{names_of}
 use Rattle.spl_driver.proofs.Running.{ends_not_created, ends_not_written, ends_wanting, ends_done}
 use Rattle.spl_driver.proofs.run.ended_run.Goals as goal
 
 pub returns-in-NotCreated : goal.returns-in-NotCreated
 returns-in-NotCreated c =
-    ends_not_created c.args.sunk.now c.in-NotCreated.place c.args.counted c.args.checked.now c.args.sinks.now c.args.fault c.args.arrivals c.plain.result c.sink_file.result.now _ c.in-NotCreated.is
-    c.sink_file.ensures c.open_failed.ensures c.plain.ensures.cause c.plain.ensures.text c.plain.ensures.ran
+    ends_not_created c.args.sunk.now c.in-NotCreated.place c.args.counted c.args.checked.now (names_of c.args.files.now.sinks c.args.files.now.last) c.args.fault c.args.arrivals c.plain.result c.name_at.result.now _ c.in-NotCreated.is
+    c.name_at.ensures c.open_failed.ensures c.plain.ensures.cause c.plain.ensures.text c.plain.ensures.ran
 
 pub returns-in-NotWritten : goal.returns-in-NotWritten
 returns-in-NotWritten c =
-    ends_not_written c.args.sunk.now c.in-NotWritten.place c.args.counted c.args.checked.now c.args.sinks.now c.args.fault c.args.arrivals c.unfinished.result c.sink_file-in-NotWritten.result.now _ c.in-NotWritten.is
-    c.sink_file-in-NotWritten.ensures c.write_failed.ensures c.unfinished.ensures.cause c.unfinished.ensures.text c.unfinished.ensures.recorded
+    ends_not_written c.args.sunk.now c.in-NotWritten.place c.args.counted c.args.checked.now (names_of c.args.files.now.sinks c.args.files.now.last) c.args.fault c.args.arrivals c.unfinished.result c.name_at-in-NotWritten.result.now _ c.in-NotWritten.is
+    c.name_at-in-NotWritten.ensures c.write_failed.ensures c.unfinished.ensures.cause c.unfinished.ensures.text c.unfinished.ensures.recorded
 
 pub returns-in-Memory : goal.returns-in-Memory
 returns-in-Memory c =
-    ends_wanting c.args.sunk.now c.args.counted c.args.checked.now c.args.sinks.now c.args.fault c.args.arrivals c.unfinished-in-Memory.result c.in-Memory.is c.unfinished-in-Memory.ensures.cause
+    ends_wanting c.args.sunk.now c.args.counted c.args.checked.now (names_of c.args.files.now.sinks c.args.files.now.last) c.args.fault c.args.arrivals c.unfinished-in-Memory.result c.in-Memory.is c.unfinished-in-Memory.ensures.cause
     c.unfinished-in-Memory.ensures.text c.unfinished-in-Memory.ensures.recorded
 
 pub returns-in-Done : goal.returns-in-Done
 returns-in-Done c =
-    ends_done c.args.sunk.now c.in-Done.rows c.args.counted c.args.checked.now c.args.sinks.now c.args.fault c.args.arrivals c.carried_out.result c.in-Done.is
+    ends_done c.args.sunk.now c.in-Done.rows c.args.counted c.args.checked.now (names_of c.args.files.now.sinks c.args.files.now.last) c.args.fault c.args.arrivals c.carried_out.result c.in-Done.is
     c.carried_out.ensures.ends c.carried_out.ensures.text c.carried_out.ensures.recorded
