@@ -1,0 +1,10 @@
+mod Growing
+mod Stepping
+mod Heads
+mod Expanding
+mod Graphs
+mod Ways
+mod Declaring
+mod Outputs
+mod Meanings
+mod Orders

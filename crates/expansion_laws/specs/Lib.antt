@@ -1,0 +1,4 @@
+pub mod Bodies
+pub mod Standing
+pub mod Order
+pub mod Laws

@@ -1,0 +1,40 @@
+//! Where operators stand in the text, how they are named, and what they take.
+ghost use Rattle.std.specs.Prelude.{[], ◌∷◌, codes};
+ghost use Rattle.language_model.specs.examples.FlatGraphs.{reversed, reversed_graph};
+ghost use Rattle.expansion_laws.specs.Bodies.{IsBefore, Lies};
+ghost use Rattle.expansion_laws.specs.Laws.{InputLaw, NameLaw, OneStandingLaw, OrderLaw, SiteLaw, TextLaw};
+ghost use Rattle.expansion_laws.specs.Standing.{IsOutput, StandsFor, site};
+
+/// Each invocation in a body is one operator at most. Operators stand in the order of the text: the bodies of composites lie
+/// where they are invoked. The name of an operator is its alias or else its first output stream, behind the names of
+/// the invocations that lead to it, with a dot after each.
+pub fn sites_law()
+    ensures sites { SiteLaw }
+    ensures names { NameLaw }
+    ensures in_text { TextLaw }
+{}
+
+/// At an input an operator takes exactly the streams that the names there stand for, in order, and a name
+/// stands for one list of streams. It is a stream that an invocation beside it makes, where that is one of a composite the stream
+/// in its graph that has the name of the output; or it is an input of the head, and stands for what the names at this
+/// input do where the composite is invoked.
+pub fn inputs_law()
+    ensures inputs { InputLaw }
+    ensures one { OneStandingLaw }
+{}
+
+/// A graph has the topological order, in which again and again the first operator comes whose streams are all made by
+/// those that came. There is no other such order.
+pub fn order_law()
+    ensures order { OrderLaw }
+{}
+
+/// In the graph of a program that invokes a composite twice: where an operator lies, the stream that the output of a composite is, and
+/// those that the input of its head has, which come from two names.
+pub fn inputs_on_literals()
+    ensures lies { Lies reversed reversed_graph 1 (1 ∷ []) (codes "Y.") }
+    ensures before { IsBefore (1 ∷ 1 ∷ []) (2 ∷ 0 ∷ []) }
+    ensures around { IsBefore (1 ∷ 1 ∷ []) (1 ∷ []) → ⊥ }
+    ensures output { IsOutput reversed reversed_graph (site 0 1) 0 1 }
+    ensures inputs { StandsFor reversed reversed_graph 1 (codes "I") (3 ∷ 4 ∷ []) }
+{}
