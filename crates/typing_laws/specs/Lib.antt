@@ -1,0 +1,2 @@
+pub mod Unwanted
+pub mod Places
