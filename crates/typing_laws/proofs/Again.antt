@@ -1,5 +1,5 @@
 -- What an expression is by itself, it is where that is wanted.
-use Rattle.std.specs.Prelude.{◌≡◌, ◌==◌, ◌&&◌, ℕ, suc, Bool, true, false, not, List, [], ◌∷◌, length, map, Option, Some, None, is_some, Ok, Err, if◌then◌else◌}
+use Rattle.std.specs.Prelude.{◌≡◌, ◌&&◌, ℕ, suc, Bool, true, false, not, List, [], ◌∷◌, length, Some, None, is_some, Ok, Err, if◌then◌else◌}
 use Rattle.std.specs.Cmp.Lexicographic.{bytes_decides}
 use Rattle.std.specs.List.{AllByRecursion, list_all}
 use Rattle.std.specs.Str.{bytes_eq}
@@ -22,9 +22,9 @@ use Rattle.spl_tree.specs.Grammar.{Expr}
 use Rattle.spl_tree.proofs.Induction.{ExprSteps, OfExpr, OfEntry, OfField, expr_ind}
 use Rattle.language_model.specs.declared.scope.Scope.{Scope}
 use Rattle.language_model.specs.declared.scope.Typed.{Typed}
-use Rattle.language_model.specs.Scopes.{At, at_place, first_from, attribute_of}
-use Rattle.language_model.specs.Typing.{Wanted, Found, after, mismatch, as_wanted, same_types, typed, Part, part_typed, Anything, This, level_element, level_pair, level_schema, elements_typed, list_typed, wants_list, entries_typed, map_typed, wants_map, are_distinct, gives_each, field_typed, fields_typed, own_fields, tuple_typed, wants_tuple, branch_wanted, conditional_typed, level_typed, part}
-use Rattle.language_model.specs.TypingLaws.{parted, parts, entry_part, entry_parts, field_part, field_parts, step_parts}
+use Rattle.language_model.specs.Scopes.{at_place, first_from, attribute_of}
+use Rattle.language_model.specs.Typing.{Wanted, Found, after, mismatch, as_wanted, typed, Part, part_typed, Anything, level_element, level_pair, level_schema, elements_typed, list_typed, wants_list, entries_typed, map_typed, wants_map, are_distinct, gives_each, field_typed, fields_typed, own_fields, tuple_typed, wants_tuple, conditional_typed, level_typed, part}
+use Rattle.language_model.specs.TypingLaws.{parted, parts, entry_parts, field_parts, step_parts}
 use Rattle.language_model.proofs.TypingLaws as L
 use Rattle.language_model.proofs.TypingLaws.{same_types_law}
 use Rattle.typing_laws.specs.Unwanted.{UnwantedLaw}

@@ -1,5 +1,5 @@
 -- A refusal stands at a place of its expression.
-use Rattle.std.specs.Prelude.{◌≡◌, ◌⊎◌, ◌==◌, ◌&&◌, ℕ, suc, nat_lt, Bool, true, false, List, [], ◌∷◌, ◌++◌, flat_map, length, map, Option, Some, None, Ok, Err, if◌then◌else◌}
+use Rattle.std.specs.Prelude.{◌≡◌, ◌⊎◌, ◌==◌, ℕ, suc, nat_lt, Bool, true, false, List, [], ◌∷◌, ◌++◌, flat_map, length, map, Option, Some, None, Ok, Err, if◌then◌else◌}
 use Rattle.std.specs.List.{AllByRecursion}
 use Rattle.std.proofs.Common.{refl, sym, ap, subst, ◌∙◌, inl, inr}
 use Rattle.spl_value.specs.declared.types.Named.{Named}
@@ -36,8 +36,8 @@ use Rattle.language_model.specs.declared.scope.Scope.{Scope}
 use Rattle.language_model.specs.declared.scope.Signature.{Signature}
 use Rattle.language_model.specs.declared.scope.Typed.{Typed}
 use Rattle.language_model.specs.Scopes.{At, Meant, OfVariable, OfAttribute, OfPort, Nothing, meant, attribute_of, dollar_of, function_of, unresolved_of}
-use Rattle.language_model.specs.Typing.{Wanted, Found, after, mismatch, as_wanted, same_types, Part, part_typed, meant_typed, dollar_typed, number_typed, Wants, Anything, This, Another, elements_typed, list_typed, wants_list, entries_typed, map_typed, wants_map, are_distinct, gives_each, field_typed, fields_typed, own_fields, tuple_typed, wants_tuple, level_index, member_typed, level_step, steps_typed, select_typed, port_attribute, of_port, of_base, prefix_typed, prefixes_at, prefixes_typed, level_prefix, unary_typed, operands_typed, level_operator, level_in, binary_typed, marker_asked, binary_or_marker, branch_wanted, conditional_typed, arguments_typed, value_given, not_callable, function_typed, call_of, OnFirst, level_first, first_typed, level_changed, is_mutable, if_mutable, changed_typed, argument_count, int32, no_value, arguments_of, built_in_typed, call_typed, level_typed, part, typing}
-use Rattle.language_model.specs.TypingLaws.{parted, parts, entry_part, entry_parts, field_part, field_parts, step_part, step_parts}
+use Rattle.language_model.specs.Typing.{Wanted, Found, after, mismatch, as_wanted, same_types, Part, part_typed, meant_typed, dollar_typed, number_typed, Wants, Anything, This, Another, elements_typed, list_typed, wants_list, entries_typed, map_typed, wants_map, are_distinct, gives_each, field_typed, fields_typed, own_fields, tuple_typed, wants_tuple, level_index, member_typed, level_step, steps_typed, select_typed, port_attribute, of_port, of_base, prefix_typed, prefixes_at, prefixes_typed, level_prefix, unary_typed, operands_typed, level_operator, level_in, binary_typed, binary_or_marker, branch_wanted, conditional_typed, arguments_typed, value_given, not_callable, function_typed, call_of, OnFirst, level_first, first_typed, level_changed, is_mutable, if_mutable, changed_typed, argument_count, int32, no_value, arguments_of, call_typed, level_typed, part}
+use Rattle.language_model.specs.TypingLaws.{parted, parts, entry_parts, field_parts, step_part, step_parts}
 use Rattle.language_model.proofs.TypingLaws as L
 use Rattle.typing_laws.specs.Places.{Inside, inside, step_places, level_places, kind_places, places, IsAmong, IsHandedOn, of_dollar, of_function, PlaceLaw}
 
