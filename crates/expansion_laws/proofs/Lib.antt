@@ -8,3 +8,4 @@ mod Declaring
 mod Outputs
 mod Meanings
 mod Orders
+mod Words

@@ -3,15 +3,17 @@ ghost use Rattle.std.specs.Prelude.{[], ◌∷◌, codes};
 ghost use Rattle.language_model.specs.examples.FlatGraphs.{reversed, reversed_graph};
 ghost use Rattle.expansion_laws.specs.Bodies.{IsBefore, Lies};
 ghost use Rattle.expansion_laws.specs.Laws.{InputLaw, NameLaw, OneStandingLaw, OrderLaw, SiteLaw, TextLaw};
+ghost use Rattle.expansion_laws.specs.Names.{DottedLaw};
 ghost use Rattle.expansion_laws.specs.Standing.{IsOutput, StandsFor, site};
 
 /// Each invocation in a body is one operator at most. Operators stand in the order of the text: the bodies of composites lie
 /// where they are invoked. The name of an operator is its alias or else its first output stream, behind the names of
-/// the invocations that lead to it, with a dot after each.
+/// the invocations that lead to it, with a dot after each: words with dots between them.
 pub fn sites_law()
     ensures sites { SiteLaw }
     ensures names { NameLaw }
     ensures in_text { TextLaw }
+    ensures dotted { DottedLaw }
 {}
 
 /// At an input an operator takes exactly the streams that the names there stand for, in order, and a name
