@@ -18,3 +18,4 @@ mod ValueTypes
 mod Truths
 mod Placing
 mod PlacedFields
+mod MovedFields

@@ -1,10 +1,10 @@
 -- Values put at their places, each place once, make the tuple.
-use Rattle.std.specs.Prelude.{◌≡◌, ◌+◌, ◌<◌, ◌≤◌, ◌==◌, ℕ, zero, suc, nat_lt, true, false, cond, List, [], ◌∷◌, ◌++◌, length, Some, slice_get, slice_set}
+use Rattle.std.specs.Prelude.{◌≡◌, ◌+◌, ◌<◌, ◌≤◌, ◌==◌, ℕ, zero, suc, nat_lt, true, false, cond, List, [], ◌∷◌, ◌++◌, length, map, Some, slice_get, slice_set}
 use Rattle.std.specs.List.{AllByRecursion, count_by}
 use Rattle.std.specs.Option.{option_map, option_and_then}
 use Rattle.std.proofs.Common.{refl, sym, ap, subst, ◌∙◌, arith}
 use Rattle.std.proofs.lemmas.Bool.{eqb-true, eqb-false, le-ltb, lt-ltb}
-use Rattle.std.proofs.lemmas.List.{length-set}
+use Rattle.std.proofs.lemmas.List.{length-map, length-set}
 use Rattle.std.proofs.lemmas.List.Recursion.{is_count_by}
 use Rattle.spl_value.specs.declared.value.Value.{Value}
 use Rattle.language_model.specs.Evaluation.{field_at, tuple_from, tuple_of}
@@ -81,12 +81,12 @@ place_below n (g ∷ fs) h (suc i) f e = place_below n fs h.1 i f e
 
 -- ---- what is at a place
 
-set_here : (vs : List Value) (i : ℕ) (v : Value) → i < length vs → slice_get (slice_set vs i v) i ≡ Some v
+pub set_here : (vs : List Value) (i : ℕ) (v : Value) → i < length vs → slice_get (slice_set vs i v) i ≡ Some v
 set_here [] i v lt = absurd (omega arith)
 set_here (w ∷ vs) zero v lt = refl
 set_here (w ∷ vs) (suc i) v lt = set_here vs i v (omega arith)
 
-set_elsewhere : (vs : List Value) (i j : ℕ) (v : Value) → (j ≡ i → ⊥) → slice_get (slice_set vs j v) i ≡ slice_get vs i
+pub set_elsewhere : (vs : List Value) (i j : ℕ) (v : Value) → (j ≡ i → ⊥) → slice_get (slice_set vs j v) i ≡ slice_get vs i
 set_elsewhere [] i j v other = refl
 set_elsewhere (w ∷ vs) zero zero v other = absurd (other refl)
 set_elsewhere (w ∷ vs) zero (suc j) v other = refl
@@ -136,6 +136,33 @@ tuple_placed fs vs h long = from_places fs 0 (length fs) (placed fs vs) (placed_
     at_place j k e lt =
         let same : k ≡ j = omega arith in
         placed_once fs vs k (once_each fs h k lt) (omega arith) ∙ ap (λ i. field_at i fs) same
+
+-- a field of those by which a tuple is made is at its place there
+stands : (fs : List (ℕ × Value)) (i : ℕ) (f : ℕ × Value) → slice_get fs i ≡ Some f → 1 ≤ how_often f.0 fs
+unfolding how_often
+stands [] i f e = absurd cc
+stands (g ∷ fs) zero f e = let same : g ≡ f = cc in subst (λ (g : ℕ × Value). 1 ≤ cond (g.0 == f.0) (1 + how_often f.0 fs) (how_often f.0 fs)) (sym same) (grind arith)
+stands (g ∷ fs) (suc i) f e = let rest : 1 ≤ how_often f.0 fs = stands fs i f e in grind arith
+
+found : (fs : List (ℕ × Value)) (i : ℕ) (f : ℕ × Value) → slice_get fs i ≡ Some f → how_often f.0 fs ≡ 1 → field_at f.0 fs ≡ Some f.1
+unfolding how_often
+found [] i f e once = absurd cc
+found (g ∷ fs) zero f e once = let same : g ≡ f = cc in subst (λ (g : ℕ × Value). cond (g.0 == f.0) (Some g.1) (field_at f.0 fs) ≡ Some f.1) (sym same) (grind arith)
+found (g ∷ fs) (suc i) f e once =
+    elim (g.0 == f.0) as (λ b. cond b (1 + how_often f.0 fs) (how_often f.0 fs) ≡ 1 → cond b (Some g.1) (field_at f.0 fs) ≡ Some f.1) [
+      | true ↦ λ once. let more : 1 ≤ how_often f.0 fs = stands fs i f e in absurd (omega (arith, once, more))
+      | false ↦ λ once. found fs i f e once
+    ] once
+
+pub at_its_place : (fs : List (ℕ × Value)) (tuple : List Value) → tuple_of fs ≡ Some tuple → HaveEachPlace fs → (i : ℕ) (f : ℕ × Value) → slice_get fs i ≡ Some f → f.0 < length fs
+    → slice_get tuple f.0 ≡ Some f.1
+at_its_place fs tuple is each i f e lt =
+    let blanks : List Value = map (λ g. g.1) fs in
+    let long : length blanks ≡ length fs = length-map fs (λ g. g.1) in
+    let both : Some (placed fs blanks) ≡ Some tuple = sym (tuple_placed fs blanks each long) ∙ is in
+    let same : placed fs blanks ≡ tuple = cc in
+    let once : how_often f.0 fs ≡ 1 = once_each fs each f.0 lt in
+    ap (λ vs. slice_get vs f.0) (sym same) ∙ placed_once fs blanks f.0 once (subst (λ (n : ℕ). f.0 < n) (sym long) lt) ∙ found fs i f e once
 
 -- ---- one field after another
 

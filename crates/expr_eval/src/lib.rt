@@ -4,6 +4,7 @@
 mod context;
 mod evaluate;
 mod flow;
+mod moving;
 mod run;
 mod statements;
 mod truth;
@@ -12,6 +13,7 @@ mod variables;
 
 pub use evaluate::{DEEPEST, eval};
 pub use language_model::{Env, Tuples};
+pub use moving::tuple_moving;
 pub use run::{Ran, run_body};
 pub use truth::holds;
 pub use tuple::tuple_into;
