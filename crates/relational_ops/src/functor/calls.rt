@@ -7,12 +7,14 @@ ghost use Rattle.language_model.specs.declared.checked.Part.TheVariants as A;
 ghost use Rattle.stream_model.specs.Bodies.{at_tuple, functor_body};
 ghost use Rattle.stream_model.specs.CheckedMeaning.{graph_of, operator_with};
 ghost use Rattle.stream_model.specs.React.{answer};
+ghost use Rattle.expr_eval.specs.Moving.{MovesFit};
 ghost use Rattle.port_reacts.specs.Bodies.{RepliesTo, RepliesToItem};
 ghost use Rattle.relational_ops.specs.Idle.{idle};
 ghost use Rattle.relational_ops.specs.Fitting.{MakingFits, WhereTuple};
 
 use crate::functor::Functor;
 use crate::functor::making::{Mapped, map_tuple};
+use crate::functor::moves::moves_of;
 use crate::judging::idle_env;
 use language_model::{Checked, Env, Part};
 use port_reacts::{CheckedOperator, OnPort, given_first, given_none};
@@ -28,10 +30,12 @@ fn on_tuple(
     functions: &Functions,
     condition: &Option<Code<Slot>>,
     output: &Code<Slot>,
+    moves: &[Option<u32>],
     env: &mut Env,
     values: Values,
 ) -> Reply
     requires fit { MakingFits functions.now condition.now output.now (at_tuple values) }
+    requires moves { MovesFit output.now moves.now }
     requires idle { env.old ≡ idle }
     ensures replies { RepliesTo at.now.number (length at.now.op.now.outs)
         (answer (functor_body functions.now condition.now output.now (I.Tuple values))) result }
@@ -40,7 +44,7 @@ fn on_tuple(
     if env.inputs.push(values).is_err() {
         return Reply::Memory;
     }
-    let mapped = map_tuple(alloc, functions, condition, output, env);
+    let mapped = map_tuple(alloc, functions, condition, output, moves, env);
     env.inputs.clear();
     match mapped {
         Mapped::To(values) => given_first(alloc, Item::Tuple(values)),
@@ -57,17 +61,21 @@ fn on_item(
     functions: &Functions,
     condition: &Option<Code<Slot>>,
     output: &Code<Slot>,
+    moves: &[Option<u32>],
     env: &mut Env,
     item: Item,
 ) -> Reply
     requires fit { WhereTuple (λ vs. MakingFits functions.now condition.now output.now (at_tuple vs)) item }
+    requires moves { MovesFit output.now moves.now }
     requires idle { env.old ≡ idle }
     ensures replies { RepliesToItem at.now.number (length at.now.op.now.outs)
         (answer (functor_body functions.now condition.now output.now item)) item result }
     ensures idle { env.new ≡ env.old }
 {
     match item {
-        Item::Tuple(values) => on_tuple(alloc, at, functions, condition, output, env, values),
+        Item::Tuple(values) => {
+            on_tuple(alloc, at, functions, condition, output, moves, env, values)
+        }
         Item::Window => given_first(alloc, Item::Window),
         Item::Final => given_none(alloc),
         Item::Bad(fault) => at.ended_by(alloc, fault),
@@ -77,7 +85,7 @@ fn on_item(
 impl<'c> OnPort for Functor<'c> {
     ghost spec = { λ s. operator_with s.at.checked.now s.at.number s.at.op.now s.at.part.now };
 
-    ghost stands = { λ s h. (s.at.part.now ≡ A.Functor s.condition.now s.output.now) × (s.env ≡ idle) };
+    ghost stands = { λ s h. (s.at.part.now ≡ A.Functor s.condition.now s.output.now) × (s.env ≡ idle) × MovesFit s.output.now s.moves };
 
     fn on_port(&mut self, port: u32, item: Item) -> Reply {
         fits_law();
@@ -88,6 +96,7 @@ impl<'c> OnPort for Functor<'c> {
             &checked.functions,
             self.condition,
             self.output,
+            self.moves.as_slice(),
             &mut self.env,
             item,
         )
@@ -111,6 +120,7 @@ impl<'c> Functor<'c> {
             at,
             condition,
             output,
+            moves: moves_of(alloc, output)?,
             env: idle_env(alloc)?,
         })
     }

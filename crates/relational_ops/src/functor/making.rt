@@ -1,14 +1,15 @@
 //! The tuple that a Functor makes of one that came.
-ghost use Rattle.std.specs.Prelude.{◌≡◌};
+ghost use Rattle.std.specs.Prelude.{◌≡◌, ◌<◌, length};
 ghost use Rattle.spl_value.specs.declared.types.SplType.TheVariants as T;
 ghost use Rattle.language_model.specs.StreamTypes.{Attributes};
 ghost use Rattle.language_model.specs.WorldFits.{Fits};
 ghost use Rattle.stream_model.specs.Bodies.{made_where, most_turns, passes, tuple_by};
 ghost use Rattle.relational_ops.specs.Fitting.{PassesFit};
+ghost use Rattle.expr_eval.specs.Moving.{MovesFit};
 ghost use Rattle.value_operations.specs.Answers.{IsMadeAs, IsSo};
 ghost use Rattle.relational_ops.specs.steps.Making.{MakesAs};
 
-use expr_eval::{Made, Truth, holds, tuple_into};
+use expr_eval::{Made, Truth, holds, tuple_moving};
 use language_model::Env;
 use port_reacts::MOST_TURNS;
 use spl_tree::{Code, Functions, Slot};
@@ -56,33 +57,44 @@ fn made(
     alloc: Global,
     functions: &Functions,
     output: &Code<Slot>,
-    env: &Env,
+    moves: &[Option<u32>],
+    env: &mut Env,
     turns: &mut u32,
 ) -> Made
-    requires { (schema : Attributes) × Fits functions.now output.now env.now (T.Tuple schema) }
-    ensures { IsMadeAs (tuple_by functions.now output.now env.now turns.old) result turns.new }
+    requires fit { (schema : Attributes) × Fits functions.now output.now env.old (T.Tuple schema) }
+    requires moves { MovesFit output.now moves.now }
+    requires came { 0 < length env.old.inputs }
+    ensures made { IsMadeAs (tuple_by functions.now output.now env.old turns.old) result turns.new }
+    ensures vars { env.new.vars ≡ env.old.vars }
+    ensures punct { env.new.punct ≡ env.old.punct }
 {
     match Items::with_capacity(alloc, width(output)) {
-        Ok(room) => tuple_into(alloc, functions, output, env, turns, room),
+        Ok(room) => tuple_moving(alloc, functions, output, moves, env, turns, room),
         Err(_) => Made::Memory,
     }
 }
 
-/// What is made where the tuple has come: first the condition is evaluated, and then the output.
+/// What is made where the tuple has come: first the condition is evaluated, and then the output. The tuple
+/// isn't used any more.
 pub(crate) fn map_tuple(
     alloc: Global,
     functions: &Functions,
     condition: &Option<Code<Slot>>,
     output: &Code<Slot>,
-    env: &Env,
+    moves: &[Option<u32>],
+    env: &mut Env,
 ) -> Mapped
-    requires condition { PassesFit functions.now condition.now env.now }
-    requires output { (schema : Attributes) × Fits functions.now output.now env.now (T.Tuple schema) }
-    ensures { MakesAs (made_where functions.now condition.now output.now env.now most_turns) result }
+    requires condition { PassesFit functions.now condition.now env.old }
+    requires output { (schema : Attributes) × Fits functions.now output.now env.old (T.Tuple schema) }
+    requires moves { MovesFit output.now moves.now }
+    requires came { 0 < length env.old.inputs }
+    ensures made { MakesAs (made_where functions.now condition.now output.now env.old most_turns) result }
+    ensures vars { env.new.vars ≡ env.old.vars }
+    ensures punct { env.new.punct ≡ env.old.punct }
 {
     let mut turns = MOST_TURNS;
     match passes(alloc, functions, condition, env, &mut turns) {
-        Truth::Is(true) => match made(alloc, functions, output, env, &mut turns) {
+        Truth::Is(true) => match made(alloc, functions, output, moves, env, &mut turns) {
             Made::Tuple(values) => Mapped::To(values),
             Made::Bad(kind) => Mapped::Faulted(kind),
             Made::Memory => Mapped::Memory,
