@@ -32,6 +32,9 @@ use Rattle.list_engine.proofs.Coming.{may_take}
 pub adds_none : (lists : List (List Item)) → Adds [] lists lists
 adds_none lists = record { count = refl; each = λ p items at. at ∙ ap (λ xs. Some xs) (sym (append-nil items)) }
 
+pub adds_empty : (caused : List Output) (lists : List (List Item)) → caused ≡ [] → Adds caused lists lists
+adds_empty caused lists none = subst (λ outputs. Adds outputs lists lists) (sym none) (adds_none lists)
+
 pub adds_more : (a b : List Output) (x y z : List (List Item)) → Adds a x y → Adds b y z → Adds (a ++ b) x z
 adds_more a b x y z first second = record {
   count = second.count ∙ first.count;

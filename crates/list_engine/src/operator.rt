@@ -27,6 +27,7 @@ pub(crate) enum Standing {
 }
 
 /// Adds an item on its port. One on a port that there isn't is let go of.
+#[inline(always)]
 fn add_output(output: Output, outs: &mut Items<Items<Item>>) -> Result<(), NoMemory>
     ensures { IfOk result (λ _. Adds (output ∷ []) outs.old outs.new) }
 {
@@ -38,6 +39,8 @@ fn add_output(output: Output, outs: &mut Items<Items<Item>>) -> Result<(), NoMem
 }
 
 /// Adds items, each on its port.
+#[cold]
+#[inline(never)]
 fn add_all(outputs: Items<Output>, outs: &mut Items<Items<Item>>) -> Result<(), NoMemory>
     ensures { IfOk result (λ _. Adds outputs outs.old outs.new) }
 {
@@ -47,21 +50,35 @@ fn add_all(outputs: Items<Output>, outs: &mut Items<Items<Item>>) -> Result<(), 
     Ok(())
 }
 
+/// Adds what is caused behind a first item. Mostly there is nothing.
+#[inline(always)]
+#[tactic(auto, using(crate::proofs::Taking::adds_empty))]
+fn add_rest(rest: Items<Output>, outs: &mut Items<Items<Item>>) -> Result<(), NoMemory>
+    ensures { IfOk result (λ _. Adds rest outs.old outs.new) }
+{
+    if rest.is_empty() {
+        return Ok(());
+    }
+    add_all(rest, outs)
+}
+
 /// Adds what an event causes, each item on its port.
+#[inline(always)]
 fn add_outputs(caused: Outs, outs: &mut Items<Items<Item>>) -> Result<(), NoMemory>
     ensures { IfOk result (λ _. Adds caused outs.old outs.new) }
 {
     let (first, rest) = caused.into_parts();
     match first {
-        None => add_all(rest, outs),
+        None => add_rest(rest, outs),
         Some(output) => {
             add_output(output, outs)?;
-            add_all(rest, outs)
+            add_rest(rest, outs)
         }
     }
 }
 
 /// Records the input of an event, where that is wanted.
+#[inline(always)]
 fn note(inputs: &mut Option<Inputs>, input: u32) -> Result<(), NoMemory>
     ensures { IfOk result (λ _. inputs.new ≡ noted input inputs.old) }
 {
@@ -72,6 +89,7 @@ fn note(inputs: &mut Option<Inputs>, input: u32) -> Result<(), NoMemory>
 }
 
 /// Lets an operator take an item, and keeps what it gives.
+#[inline(always)]
 pub(crate) fn step<R: React>(
     operator: &mut R,
     input: u32,
