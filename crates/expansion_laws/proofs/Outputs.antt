@@ -20,7 +20,7 @@ use Rattle.language_model.specs.Flat.{graph_of}
 use Rattle.language_model.specs.Invoking.{stream_names, is_among}
 use Rattle.language_model.specs.Numbering.{numbers_from, first_stream, Output, outputs_from, graph_outputs, is_site, site_at, operator_at, expansion_at, output_place, operator_or_expansion, stream_of, op_of, expansion_of}
 use Rattle.language_model.specs.Scopes.{At, at_place, first_from}
-use Rattle.language_model.proofs.Flattening.{behind, op_there}
+use Rattle.language_model.proofs.Flattening.{behind, op_there, numbers_length}
 use Rattle.language_model.proofs.Inlining.{Holds}
 use Rattle.language_model.proofs.Standing.{Stands, first_stands}
 use Rattle.spl_value.proofs.Lists.{append_front, get_below}
@@ -62,10 +62,6 @@ numbers_at n zero k lt = absurd (omega arith)
 numbers_at n (suc count) zero lt = let same : n ≡ n + 0 = omega arith in ap Some same
 numbers_at n (suc count) (suc k) lt = let same : suc n + k ≡ n + suc k = omega arith in numbers_at (suc n) count k (omega arith) ∙ ap Some same
 
-numbers_count : (n count : ℕ) → length (numbers_from n count) ≡ count
-numbers_count n zero = refl
-numbers_count n (suc count) = ap suc (numbers_count (suc n) count)
-
 -- an output of the invocations that begin at a number
 record IsThere (number : ℕ) (is : List Invocation) (name : List ℕ) (o : Output) : Type 0 where
   pub at : ℕ
@@ -94,7 +90,7 @@ there_in number (i ∷ is) k name e = elim (cases_lt k (length i.outputs)) [ inl
     own_count = length-map i.outputs (λ (o : OutputStream). o.name.what)
 
     out_count : length (map (output number) (numbers_from 0 (length i.outputs))) ≡ length i.outputs
-    out_count = length-map (numbers_from 0 (length i.outputs)) (output number) ∙ numbers_count 0 (length i.outputs)
+    out_count = length-map (numbers_from 0 (length i.outputs)) (output number) ∙ numbers_length 0 (length i.outputs)
 
     later : length i.outputs ≤ k → slice_get (names_of is) (k - length i.outputs) ≡ Some name
     later le = sym (behind own (names_of is) k (k - length i.outputs) (omega (arith, own_count))) ∙ e

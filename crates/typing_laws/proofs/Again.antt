@@ -6,6 +6,7 @@ use Rattle.std.specs.Str.{bytes_eq}
 use Rattle.std.proofs.Common.{refl, sym, ap, subst, ◌∙◌, inl, inr, eq-eqb}
 use Rattle.std.proofs.lemmas.Bool.{cases_Bool}
 use Rattle.spl_value.proofs.Bools.{and_left, and_right}
+use Rattle.spl_value.proofs.Lists.{same_name}
 use Rattle.spl_value.specs.declared.types.Named.{Named}
 use Rattle.spl_value.specs.declared.types.SplType.{SplType}
 use Rattle.spl_value.specs.declared.types.SplType.TheVariants as S
@@ -100,13 +101,10 @@ PartField = Field (Placed Part)
 abbrev IsFrom : List (Named SplType) → ℕ → List (Named SplType) → PartField → Type 0
 IsFrom schema i others f = attribute_of schema f.name.what ≡ first_from (λ a. bytes_eq a.name f.name.what) i others
 
-itself : (name : List ℕ) → bytes_eq name name ≡ true
-itself name = (bytes_decides name name).1 refl
-
 -- a name that isn't another one isn't it the other way round
 apart : (a b : List ℕ) → bytes_eq a b ≡ false → bytes_eq b a ≡ false
 apart a b e = elim (cases_Bool (bytes_eq b a)) [
-  | inl is ↦ (let same : b ≡ a = (bytes_decides b a).0 is in let bad : false ≡ true = sym e ∙ ap (bytes_eq a) same ∙ itself a in cc)
+  | inl is ↦ (let same : b ≡ a = (bytes_decides b a).0 is in let bad : false ≡ true = sym e ∙ ap (bytes_eq a) same ∙ same_name a in cc)
   | inr other ↦ other
 ]
 
@@ -151,7 +149,7 @@ fields_again scope schema i (f ∷ fs) own e distinct h from =
     let others = fields_again scope schema (suc i) fs rest.0 rest.1 (and_right (list_all (λ g. not (bytes_eq g.name.what f.name.what)) fs) (are_distinct fs) distinct) h.1
     (behind_first schema rest.0.0 i attribute f.name.what fs refl alone moved.1) in
     let here : attribute_of schema f.name.what ≡ Some (at_place i attribute) =
-    moved.0 ∙ ap (λ b. if b then Some (at_place i attribute) else first_from (λ a. bytes_eq a.name f.name.what) (suc i) rest.0.0) (itself f.name.what) in
+    moved.0 ∙ ap (λ b. if b then Some (at_place i attribute) else first_from (λ a. bytes_eq a.name f.name.what) (suc i) rest.0.0) (same_name f.name.what) in
     let own_code : field_typed scope schema f (attribute_of schema f.name.what) ≡ Ok code =
     ap (field_typed scope schema f) here ∙ goes {B = ℕ × Code Slot} (part_typed f.value scope (Some x.0.kind)) (λ y. Ok (i, y.code)) x.0 code (h.0 f.value.at scope x.0 x.1) refl in
     subst (AreGiven scope schema (f ∷ fs)) same record {
