@@ -3,7 +3,7 @@ use Rattle.std.proofs.Common.{◌≡◌, ◌∙◌, ℕ, ◌+◌, ◌-◌, ◌<�
 use Rattle.std.specs.List.{position_from}
 use Rattle.std.proofs.lemmas.List.{take_rest, at_drop_more, at_drop_all, drop-drop}
 use Rattle.spl_tree.specs.declared.token.Token.{Token}
-use Rattle.spl_tree.specs.Weights.{Effect, Nothing, Adds, Opens, Separates, Closes, effect, next_adds, Opened, level_start, Weighing, after_closing, after_token, weights_from, weights, most_weight}
+use Rattle.spl_tree.specs.Weights.{Effect, Nothing, Adds, Opens, Separates, Closes, effect, next_adds, Opened, level_start, Weighing, after_closing, after_token, weight_at, weights_from, weights, most_weight}
 use Rattle.expr_parser.specs.declared.weight.Weighing as code
 use Rattle.expr_parser.specs.Weighed.{weighing_of, kept_weight, kept, kept_start, kept_closing, kept_after, Leads}
 
@@ -40,9 +40,9 @@ after_kept Opens next_adds d = ap (λ w. record { weight = w; opened = map kept_
 after_kept Separates next_adds d = ap (λ w. record { weight = w; opened = map kept_weight d.opened }) (start_kept d.opened)
 after_kept (Closes brace) next_adds d = closing_kept brace next_adds d d.opened
 
-module _ (ts : List Token) (i : ℕ) (t : Token) (lt : i < length ts) (is : t ≡ get_or ts i t) (w u : code.Weighing) (k : Effect) (adds : Bool)
+module _ (ts : List Token) (i : ℕ) (t : Token) (lt : i < length ts) (is : t ≡ get_or ts i t) (w u : code.Weighing) (own : ℕ) (k : Effect) (adds : Bool)
     (kind : k ≡ effect t.kind) (next : adds ≡ next_adds (take (length ts - (i + 1)) (drop (i + 1) ts)))
-    (after : weighing_of u ≡ kept_after k adds (weighing_of w)) (leads : Leads ts i w) where
+    (after : weighing_of u ≡ kept_after k adds (weighing_of w)) (owns : own ≡ (kept_after k true (weighing_of w)).weight) (leads : Leads ts i w) where
   abbrev behind : List Token
   behind = drop (i + 1) ts
 
@@ -56,7 +56,17 @@ module _ (ts : List Token) (i : ℕ) (t : Token) (lt : i < length ts) (is : t �
       ∙ ap (λ (d : Weighing). kept_after (effect t.kind) (next_adds behind) d) leads.is
       ∙ after_kept (effect t.kind) (next_adds behind) leads.weighing
 
-  here : drop i (weights ts) ≡ now.weight ∷ weights_from now behind
+  -- what the token weighs itself
+  abbrev itself : ℕ
+  itself = weight_at (effect t.kind) leads.weighing
+
+  own_kept : own ≡ kept_weight itself
+  own_kept =
+      owns ∙ ap (λ (k : Effect). (kept_after k true (weighing_of w)).weight) kind
+      ∙ ap (λ (d : Weighing). (kept_after (effect t.kind) true d).weight) leads.is
+      ∙ ap (λ (d : Weighing). d.weight) (after_kept (effect t.kind) true leads.weighing)
+
+  here : drop i (weights ts) ≡ itself ∷ weights_from now behind
   here =
       sym leads.on ∙ at_drop_more (λ us. weights_from leads.weighing us) ts i t lt
       ∙ ap (λ (u : Token). weights_from leads.weighing (u ∷ behind)) (sym is)
@@ -67,21 +77,21 @@ module _ (ts : List Token) (i : ℕ) (t : Token) (lt : i < length ts) (is : t �
   pub leads_on : Leads ts (i + 1) u
   leads_on = record { weighing = now; is = now_kept; on = sym later }
 
-  same_heavy : too_heavy u.weight ≡ too_heavy now.weight
-  same_heavy = ap (λ (d : Weighing). too_heavy d.weight) now_kept ∙ kept_heavy now.weight
+  same_heavy : too_heavy own ≡ too_heavy itself
+  same_heavy = ap too_heavy own_kept ∙ kept_heavy itself
 
-  first : position_from too_heavy i (drop i (weights ts)) ≡ cond (too_heavy now.weight) (Some i) (position_from too_heavy (i + 1) (drop (i + 1) (weights ts)))
+  first : position_from too_heavy i (drop i (weights ts)) ≡ cond (too_heavy itself) (Some i) (position_from too_heavy (i + 1) (drop (i + 1) (weights ts)))
   first =
       ap (position_from too_heavy i) here
-      ∙ ap (λ ws. cond (too_heavy now.weight) (Some i) (position_from too_heavy (i + 1) ws)) (sym later)
+      ∙ ap (λ ws. cond (too_heavy itself) (Some i) (position_from too_heavy (i + 1) ws)) (sym later)
 
   -- a token that isn't too deep
-  pub weighs_light : too_heavy u.weight ≡ false → position_from too_heavy i (drop i (weights ts)) ≡ position_from too_heavy (i + 1) (drop (i + 1) (weights ts))
+  pub weighs_light : too_heavy own ≡ false → position_from too_heavy i (drop i (weights ts)) ≡ position_from too_heavy (i + 1) (drop (i + 1) (weights ts))
   weighs_light small =
       first ∙ ap (λ (b : Bool). cond b (Some i) (position_from too_heavy (i + 1) (drop (i + 1) (weights ts)))) (sym same_heavy ∙ small)
 
   -- one that is
-  pub weighs_heavy : too_heavy u.weight ≡ true → position_from too_heavy i (drop i (weights ts)) ≡ Some i
+  pub weighs_heavy : too_heavy own ≡ true → position_from too_heavy i (drop i (weights ts)) ≡ Some i
   weighs_heavy large =
       first ∙ ap (λ (b : Bool). cond b (Some i) (position_from too_heavy (i + 1) (drop (i + 1) (weights ts)))) (sym same_heavy ∙ large)
 

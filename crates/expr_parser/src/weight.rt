@@ -1,5 +1,5 @@
 //! How much tokens weigh.
-ghost use Rattle.std.specs.Prelude.{◌≡◌, ◌≤◌, length, IfOk};
+ghost use Rattle.std.specs.Prelude.{◌≡◌, ◌≤◌, true, length, IfOk};
 ghost use Rattle.spl_tree.specs.Weights.{symbol_effect, effect, Closes, next_adds, too_deep_from};
 ghost use Rattle.expr_parser.specs.Weighed.{effect_of, brackets, weighing_of, kept_start, kept_after};
 
@@ -75,23 +75,27 @@ fn level_start(before: &[u8]) -> u8
 }
 
 impl Weighing {
-    /// Weighs a closing bracket.
-    fn close(&mut self, brace: bool, next_adds: bool)
-        ensures { weighing_of self.new ≡ kept_after (Closes brace) next_adds (weighing_of self.old) }
+    /// Weighs a closing bracket, and returns its own weight.
+    fn close(&mut self, brace: bool, next_adds: bool) -> u8
+        ensures after { weighing_of self.new ≡ kept_after (Closes brace) next_adds (weighing_of self.old) }
+        ensures own { result ≡ (kept_after (Closes brace) true (weighing_of self.old)).weight }
     {
         let Some(before) = self.before.pop() else {
-            return;
+            return self.weight;
         };
         self.weight = if brace && !next_adds {
             level_start(self.before.as_slice())
         } else {
             before
         };
+        before
     }
 
-    /// Weighs a token that does this.
-    fn weigh(&mut self, effect: Effect, next_adds: bool) -> Result<(), AllocError>
-        ensures { IfOk result (λ _. weighing_of self.new ≡ kept_after (effect_of effect) next_adds (weighing_of self.old)) }
+    /// Weighs a token that does this, and returns its own weight. That of a closing brace may be more than the weight
+    /// after it.
+    fn weigh(&mut self, effect: Effect, next_adds: bool) -> Result<u8, AllocError>
+        ensures after { IfOk result (λ _. weighing_of self.new ≡ kept_after (effect_of effect) next_adds (weighing_of self.old)) }
+        ensures own { IfOk result (λ own. own ≡ (kept_after (effect_of effect) true (weighing_of self.old)).weight) }
     {
         match effect {
             Effect::Nothing => {}
@@ -100,10 +104,10 @@ impl Weighing {
                 self.before.push(self.weight)?;
                 self.weight = self.weight.saturating_add(1);
             }
-            Effect::Closes(brace) => self.close(brace, next_adds),
+            Effect::Closes(brace) => return Ok(self.close(brace, next_adds)),
             Effect::Separates => self.weight = level_start(self.before.as_slice()),
         }
-        Ok(())
+        Ok(self.weight)
     }
 }
 
@@ -118,11 +122,11 @@ pub fn too_deep(alloc: Global, tokens: &[Token], from: usize) -> Result<Option<u
         before: Items::new(alloc),
     };
     for (i, token) in tokens.iter().enumerate() {
-        weighing.weigh(kind_effect(&token.kind), next_adds(&tokens[i + 1..]))?;
+        let own = weighing.weigh(kind_effect(&token.kind), next_adds(&tokens[i + 1..]))?;
         if i < from {
             continue;
         }
-        if weighing.weight > MOST_WEIGHT {
+        if own > MOST_WEIGHT {
             return Ok(Some(i));
         }
     }

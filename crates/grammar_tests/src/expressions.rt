@@ -265,6 +265,11 @@ a ; «0 201 ( »a @ 203 => too deep 406
 «0 201 ( »«0 201 ) »; a @ 201 => unexpected 402
 «0 201 ( »«0 201 ) »; a @ 403 => a 404
 «0 201 ( »«0 201 ) »; a @ 404 => unexpected 807
+# A closing brace weighs what stood before its opening one, and what follows it starts the level anew
+«0 200 + »{ } ; a @ 201 => unexpected 402
+«0 201 + »{ } ; a @ 202 => too deep 404
+«0 201 + »{ } ; a @ 203 => unexpected 406
+«0 201 + »{ } ; a @ 204 => a 205
 # Nesting without weight is bounded by memory
 «0 3000 { } [ 0 ] + »a => memory
 «0 300 { } [ 0 ] ? b : »a => memory

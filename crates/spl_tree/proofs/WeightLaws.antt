@@ -2,7 +2,7 @@
 use Rattle.std.proofs.Common.{◌≡◌, ℕ, suc, ◌+◌, ◌<◌, ◌≤◌, nat_lt, not, Bool, true, false, List, [], ◌∷◌, length, refl, ap, arith, le-ltb}
 use Rattle.std.specs.List.{prefix_len, position_or_len}
 use Rattle.spl_tree.specs.declared.token.Token.{Token}
-use Rattle.spl_tree.specs.Weights.{Effect, Nothing, Adds, Opens, Closes, Separates, effect, next_adds, Opened, level_start, Weighing, after_closing, after_token, weights_from, weights, most_weight}
+use Rattle.spl_tree.specs.Weights.{Effect, Nothing, Adds, Opens, Closes, Separates, effect, next_adds, Opened, level_start, Weighing, after_closing, after_token, weight_at, weights_from, weights, most_weight}
 use Rattle.spl_tree.specs.Laws.{WeightsLaw, ShallowLaw}
 
 -- behind other tokens too, each token has a weight
@@ -58,7 +58,8 @@ light most d [] within le = refl
 light most d (t ∷ ts) within le =
     let e = after_token (effect t.kind) (next_adds ts) d in
     let more = after_token-within most (effect t.kind) (next_adds ts) d within in
-    let small : nat_lt most_weight e.weight ≡ false = le-ltb most_weight e.weight (omega arith) in
+    let here = after_token-within most (effect t.kind) true d within in
+    let small : nat_lt most_weight (weight_at (effect t.kind) d) ≡ false = le-ltb most_weight (weight_at (effect t.kind) d) (omega (arith, here.weight)) in
     rw small (let rest = light (most + 1) e ts more (omega arith) in omega arith)
 
 -- so few tokens are never too deep

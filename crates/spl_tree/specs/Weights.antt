@@ -61,9 +61,9 @@ pub record Weighing : Type 0 where
   pub weight : ℕ
   pub opened : Opened
 
--- a closing bracket without an opening one changes nothing; behind a closing brace that no token
--- follows which adds, the weight is the start of the level that the brace stands in, and else it is
--- what it was before the opening bracket
+-- a closing bracket without an opening one changes nothing. After another one the weight is what it was before the
+-- opening bracket, but after a brace that no token follows which adds it is the start of the level that the brace
+-- stands in
 abbrev pub after_closing : (brace next_adds : Bool) → Weighing → Opened → Weighing
 after_closing brace next_adds d [] = d
 after_closing true false d (before ∷ outer) = record { weight = level_start outer; opened = outer }
@@ -76,10 +76,15 @@ after_token Opens next_adds d = record { weight = d.weight + 1; opened = d.weigh
 after_token Separates next_adds d = record { weight = level_start d.opened; opened = d.opened }
 after_token (Closes brace) next_adds d = after_closing brace next_adds d d.opened
 
--- the weight of each token, behind tokens that lead to a weight with its open brackets
+-- the weight of a token itself, which doesn't depend on the next one: a closing brace weighs what it would if a token
+-- followed that adds
+abbrev pub weight_at : Effect → Weighing → ℕ
+weight_at e d = (after_token e true d).weight
+
+-- the weight of each token, after tokens that lead to a weight with its open brackets
 abbrev pub weights_from : Weighing → List Token → List ℕ
 weights_from d [] = []
-weights_from d (t ∷ ts) = let e = after_token (effect t.kind) (next_adds ts) d in e.weight ∷ weights_from e ts
+weights_from d (t ∷ ts) = weight_at (effect t.kind) d ∷ weights_from (after_token (effect t.kind) (next_adds ts) d) ts
 
 -- the weight of each token
 abbrev pub weights : List Token → List ℕ

@@ -78,7 +78,7 @@ pub fn weights_on_literals()
     ensures levels { IsOkAnd (tokens (codes "f(a, [b]) + {c} - d ; e in x")) (λ ts. weights ts.list
         ≡ 0 ∷ 1 ∷ 1 ∷ 1 ∷ 2 ∷ 2 ∷ 1 ∷ 0 ∷ 1 ∷ 2 ∷ 2 ∷ 1 ∷ 2 ∷ 2 ∷ 0 ∷ 0 ∷ 1 ∷ 1 ∷ []) }
     ensures block_ends { IsOkAnd (tokens (codes "{a = b + {c} d}")) (λ ts. weights ts.list
-        ≡ 1 ∷ 1 ∷ 2 ∷ 2 ∷ 3 ∷ 4 ∷ 4 ∷ 1 ∷ 1 ∷ 0 ∷ []) }
+        ≡ 1 ∷ 1 ∷ 2 ∷ 2 ∷ 3 ∷ 4 ∷ 4 ∷ 3 ∷ 1 ∷ 0 ∷ []) }
 {}
 
 /// Units that the tokens of some bytes spell: attributes behind the name of a type, an `else` that

@@ -17,26 +17,26 @@ loop-i-init c = record {
 pub loop-i-preserved-then-i-from : goal.loop-i-preserved-then-i-from
 loop-i-preserved-then-i-from c = record {
   leads =
-      leads_on c.args.tokens.now c.loop-i.i c.index-tokens-i.result c.loop-i-test.true c.index-tokens-i.is c.loop-i.weighing c.weigh.new.self
-      (effect_of c.kind_effect.result) c.next_adds.result c.kind_effect.ensures c.next_adds.ensures c.in_ok-weigh.ensures c.loop-i.invariant.leads;
+      leads_on c.args.tokens.now c.loop-i.i c.index-tokens-i.result c.loop-i-test.true c.index-tokens-i.is c.loop-i.weighing c.weigh.new.self c.in_ok-own.own
+      (effect_of c.kind_effect.result) c.next_adds.result c.kind_effect.ensures c.next_adds.ensures c.in_ok-own.ensures.after c.in_ok-own.ensures.own c.loop-i.invariant.leads;
   first = λ le. looks_from c.args.from (c.loop-i.i + 1) (weights c.args.tokens.now) (omega (arith, le, c.if-i-from.true));
 }
 
 pub loop-i-preserved : goal.loop-i-preserved
 loop-i-preserved c = record {
   leads =
-      leads_on c.args.tokens.now c.loop-i.i c.index-tokens-i.result c.loop-i-test.true c.index-tokens-i.is c.loop-i.weighing c.weigh.new.self
-      (effect_of c.kind_effect.result) c.next_adds.result c.kind_effect.ensures c.next_adds.ensures c.in_ok-weigh.ensures c.loop-i.invariant.leads;
+      leads_on c.args.tokens.now c.loop-i.i c.index-tokens-i.result c.loop-i-test.true c.index-tokens-i.is c.loop-i.weighing c.weigh.new.self c.in_ok-own.own
+      (effect_of c.kind_effect.result) c.next_adds.result c.kind_effect.ensures c.next_adds.ensures c.in_ok-own.ensures.after c.in_ok-own.ensures.own c.loop-i.invariant.leads;
   first = λ le.
-      sym (weighs_light c.args.tokens.now c.loop-i.i c.index-tokens-i.result c.loop-i-test.true c.index-tokens-i.is c.loop-i.weighing c.weigh.new.self
-      (effect_of c.kind_effect.result) c.next_adds.result c.kind_effect.ensures c.next_adds.ensures c.in_ok-weigh.ensures c.loop-i.invariant.leads (le-ltb _ _ c.if-weighing-gt-MOST_WEIGHT.false))
+      sym (weighs_light c.args.tokens.now c.loop-i.i c.index-tokens-i.result c.loop-i-test.true c.index-tokens-i.is c.loop-i.weighing c.weigh.new.self c.in_ok-own.own
+      (effect_of c.kind_effect.result) c.next_adds.result c.kind_effect.ensures c.next_adds.ensures c.in_ok-own.ensures.after c.in_ok-own.ensures.own c.loop-i.invariant.leads (le-ltb _ _ c.if-own-gt-MOST_WEIGHT.false))
       ∙ c.loop-i.invariant.first (omega (arith, c.if-i-from.false));
 }
 
-pub returns-then-weighing-gt-MOST_WEIGHT : goal.returns-then-weighing-gt-MOST_WEIGHT
-returns-then-weighing-gt-MOST_WEIGHT c =
-    sym (weighs_heavy c.args.tokens.now c.loop-i.i c.index-tokens-i.result c.loop-i-test.true c.index-tokens-i.is c.loop-i.weighing c.weigh.new.self
-    (effect_of c.kind_effect.result) c.next_adds.result c.kind_effect.ensures c.next_adds.ensures c.in_ok-weigh.ensures c.loop-i.invariant.leads (lt-ltb _ _ c.if-weighing-gt-MOST_WEIGHT.true))
+pub returns-then-own-gt-MOST_WEIGHT : goal.returns-then-own-gt-MOST_WEIGHT
+returns-then-own-gt-MOST_WEIGHT c =
+    sym (weighs_heavy c.args.tokens.now c.loop-i.i c.index-tokens-i.result c.loop-i-test.true c.index-tokens-i.is c.loop-i.weighing c.weigh.new.self c.in_ok-own.own
+    (effect_of c.kind_effect.result) c.next_adds.result c.kind_effect.ensures c.next_adds.ensures c.in_ok-own.ensures.after c.in_ok-own.ensures.own c.loop-i.invariant.leads (lt-ltb _ _ c.if-own-gt-MOST_WEIGHT.true))
     ∙ c.loop-i.invariant.first (omega (arith, c.if-i-from.false))
 
 pub returns : goal.returns
