@@ -34,7 +34,3 @@ ConstantLaw = (dollars : List Dollar) (code : Code Slot) (t : SplType) → CodeF
 -- which is the wanted one
 abbrev pub WantedLaw : Type 0
 WantedLaw = (scope : Scope) (e : Expr) (u : SplType) (t : Typed) → typing scope e (Some u) ≡ Ok t → t.kind ≡ u
-
--- there is no second
-abbrev pub OneTypeLaw : Type 0
-OneTypeLaw = (scope : Scope) (e : Expr) (wanted : Wanted) (t u : Typed) → typing scope e wanted ≡ Ok t → typing scope e wanted ≡ Ok u → t ≡ u

@@ -13,7 +13,7 @@ ghost use Rattle.std.specs.Prelude.{◌≡◌, [], ◌∷◌, Some, None, Ok, Er
 ghost use Rattle.spl_value.specs.declared.types.IntKind.TheVariants as N;
 ghost use Rattle.spl_value.specs.declared.types.SplType.TheVariants as T;
 ghost use Rattle.spl_value.specs.declared.value.Value.TheVariants as V;
-ghost use Rattle.language_model.specs.FitLaws.{ClosedLaw, ConstantLaw, DollarsFit, FitLaw, WantedLaw, OneTypeLaw};
+ghost use Rattle.language_model.specs.FitLaws.{ClosedLaw, ConstantLaw, DollarsFit, FitLaw, WantedLaw};
 ghost use Rattle.language_model.specs.DollarLaws.{MentionedLaw, UnusedLaw};
 ghost use Rattle.spl_tree.specs.declared.code.BinaryCode.TheVariants as D;
 ghost use Rattle.spl_tree.specs.declared.code.Code.TheVariants as C;
@@ -34,10 +34,9 @@ ghost use Rattle.language_model.specs.SubmitsLaws.{SubmitsLaw};
 ghost use Rattle.language_model.specs.TurnsLaws.{ValueTurnsLaw, ValueFaultsLaw, RunsTurnsLaw, RunsFaultsLaw};
 ghost use Rattle.language_model.specs.Written.{Bare, Of, stands_for, written, renamed};
 
-/// An expression has at most one type and one code in a scope, under the type that its place wants.
-/// It is the wanted type, and the code fits the scope at it where what stands for `$` parameters fits.
+/// The type of an expression is the one that its place wants, where it wants one, and the code fits the scope at it
+/// where what stands for `$` parameters fits.
 pub fn typing_law()
-    ensures one { OneTypeLaw }
     ensures wanted { WantedLaw }
     ensures fits { FitLaw }
 {}
