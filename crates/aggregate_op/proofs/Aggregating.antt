@@ -1,5 +1,5 @@
 -- An Aggregate by its port.
-use Rattle.std.proofs.Common.{◌≡◌, ◌<◌, ◌==◌, ◌&&◌, ℕ, zero, suc, Bool, true, false, List, [], ◌∷◌, ◌++◌, map, length, slice_get, Option, Some, None, refl, sym, ap, subst, ◌∙◌, arith}
+use Rattle.std.proofs.Common.{◌≡◌, ◌<◌, ◌==◌, ℕ, suc, true, false, List, [], ◌∷◌, ◌++◌, map, length, slice_get, Option, Some, None, refl, sym, ap, subst, ◌∙◌, arith}
 use Rattle.std.specs.Prelude.{IsTrue, ⊤}
 use Rattle.std.specs.Cmp.Lexicographic.{pointwise}
 use Rattle.std.specs.List.{AllByRecursion}
@@ -45,22 +45,24 @@ use Rattle.stream_model.specs.Windows.{WindowEvent, Insert, Mark, fired_at, inte
 use Rattle.stream_model.specs.WindowLaws.{AllKeep, Keeps, mapped, mapped_event}
 use Rattle.stream_model.specs.Fitting.{FitsAt, HasPort, HistoryFits, IsFitting, MakesFit, NoneFaulted, is_given}
 use Rattle.stream_model.proofs.ContentMembers.{AllInserted, ItemIs, all_fired, all_if, inserted_of}
-use Rattle.stream_model.proofs.FittingCodes.{TuplesHave, tuples_env}
+use Rattle.stream_model.proofs.FittingCodes.{tuples_env}
 use Rattle.stream_model.proofs.GroupTuples.{ArgumentsThere, arguments_there}
 use Rattle.stream_model.proofs.MappedWindows.{behind_law, mapped_firing_law}
 use Rattle.window_policy.specs.declared.window.Window.{Window}
 use Rattle.window_policy.specs.Answers.{IsAllowed}
 use Rattle.window_policy.specs.Standing.{Stands}
 use Rattle.port_reacts.specs.Bodies.{RepliesToItem}
-use Rattle.port_reacts.specs.PortReplies.{MayTakeAt, RepliesAt}
+use Rattle.port_reacts.specs.PortReplies.{MayTakeAt, RepliesAt, WhereOut}
 use Rattle.port_reacts.proofs.Replying.{none_faulted, outs_fit, replies_by}
 use Rattle.aggregate_op.specs.declared.clauses.Clauses.{Clauses}
 use Rattle.aggregate_op.specs.Arguments.{ArgumentFits, ArgumentsFit, blank, idle}
 use Rattle.aggregate_op.specs.Standing.{AggregateStands, came_into, operator_of}
-use Rattle.aggregate_op.specs.steps.Firing.{MayCome, WhereOut, behind, item_makes, key_of_tuple, tuple_behind, tuple_event}
+use Rattle.aggregate_op.specs.steps.Firing.{MayCome, behind, item_makes, key_of_tuple, tuple_behind, tuple_event}
 use Rattle.aggregate_op.specs.steps.Giving.{contents_given}
-use Rattle.aggregate_op.proofs.Answering.{both_out, where_out}
+use Rattle.port_reacts.proofs.Answering.{both_out, where_out}
 use Rattle.aggregate_op.proofs.Ties.{IsRight, contents_are}
+use Rattle.spl_value.proofs.Bools.{and_right}
+use Rattle.stream_model.proofs.AggregateFits.{only_input, one_tuple}
 
 -- ---- clauses
 
@@ -114,19 +116,11 @@ keys_below input places keys = places_below input places (λ i p at. let is = ke
 
 -- ---- tuples of the input
 
-both : (a b : Bool) → (a && b) ≡ true → b ≡ true
-both true b e = e
-both false b e = absurd (let no : false ≡ true = e in cc)
-
 as_long : (schema : Attributes) (vs : List Value) → pointwise (λ (a : Named SplType) v. fits a.kind v) schema vs ≡ true → length vs ≡ length schema
 as_long [] [] e = refl
 as_long [] (v ∷ vs) e = absurd (let no : false ≡ true = e in cc)
 as_long (a ∷ schema) [] e = absurd (let no : false ≡ true = e in cc)
-as_long (a ∷ schema) (v ∷ vs) e = ap suc (as_long schema vs (both (fits a.kind v) (pointwise (λ (b : Named SplType) w. fits b.kind w) schema vs) e))
-
-one_tuple : (input : Attributes) (t : List Value) → IsTrue (fits (S.Tuple input) (V.Tuple t)) → TuplesHave (input ∷ []) (t ∷ [])
-one_tuple input t f zero schema at = let same : input ≡ schema = (let e : Some input ≡ Some schema = at in cc) in (t, refl, subst (λ s. IsTrue (fits (S.Tuple s) (V.Tuple t))) same f)
-one_tuple input t f (suc i) schema at = absurd cc
+as_long (a ∷ schema) (v ∷ vs) e = ap suc (as_long schema vs (and_right (fits a.kind v) (pointwise (λ (b : Named SplType) w. fits b.kind w) schema vs) e))
 
 -- the attribute by which a rule compares tuples is one of the tuple's own
 keeps : (input : Attributes) (rule : WindowRule) → AggregateWindow input rule → (f : List Value → List Value) (more : List Value → List Value) (t : List Value)
@@ -159,12 +153,6 @@ code_of scope _ _ _ (K.greatest_text code f) = (S.Text, f)
 code_of scope _ _ _ (K.first code t f) = (t, f)
 code_of scope _ _ _ (K.last code t f) = (t, f)
 code_of scope _ _ _ K.count = tt
-
-only_input : (ins : List Attributes) (input : Attributes) (p : ℕ) → ins ≡ input ∷ [] → p < length ins → unwrap_or (slice_get ins p) [] ≡ input
-only_input ins input p e within =
-    let one : length ins ≡ 1 = ap length e in
-    let first : p ≡ 0 = omega arith in
-    λ i. unwrap_or (slice_get (e i) (first i)) []
 
 module _ (op : Operator) (fit : IsFitting op) (window : Policy) (partition group : List ℕ) (output : List Collected) (is : op.clauses ≡ A.Aggregate window partition group output) where
   abbrev pub shape : Shape fit.scope op.types.ins window partition group output

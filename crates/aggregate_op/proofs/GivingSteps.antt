@@ -9,6 +9,7 @@ use Rattle.window_policy.specs.declared.fired.FlushedContent.{FlushedContent}
 use Rattle.window_policy.specs.Answers.{entry_of}
 use Rattle.aggregate_op.specs.declared.clauses.Clauses.{Clauses}
 use Rattle.aggregate_op.specs.steps.Giving.{content_given, contents_given, groups_given, tuple_given}
+use Rattle.language_model.proofs.Flattening.{mapped}
 
 -- the first of several is there, where all are
 first_there : {X : Type 0} (f : X → List Output) (o : Option X) (rest : Option (List Output)) (outs all : List Output)
@@ -51,11 +52,6 @@ module _ (clauses : Clauses) where
   content_more us cs rest outs new all given is t added e =
       first_more (λ os. os) (content_given clauses us) (contents_given clauses rest) outs new all given t added
       (ap (λ ds. option_map (λ more. outs ++ more) (contents_given clauses ds)) (sym is) ∙ e)
-
--- what follows groups
-pub groups_there : {A B : Type 0} (f : A → B) (o : Option A) (b : B) → option_map f o ≡ Some b → (a : A) × (o ≡ Some a) × (f a ≡ b)
-groups_there f None b e = absurd cc
-groups_there f (Some a) b e = (a, refl, let same : Some (f a) ≡ Some b = e in cc)
 
 -- the contents that a marker flushes
 abbrev pub tuples_in : List FlushedContent → List (List (List Value))

@@ -1,5 +1,4 @@
 pub mod Aggregating
-pub mod Answering
 pub mod ArgumentSteps
 pub mod Beginning
 pub mod FiringSteps

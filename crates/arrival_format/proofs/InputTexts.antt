@@ -6,14 +6,7 @@ use Rattle.std.proofs.lemmas.Grind.{flat_map-append}
 use Rattle.arrival_format.specs.ArrivalTexts.{inputs_text}
 use Rattle.arrival_format.specs.steps.Steps.{BeginsWithNumber, IsLineEnd, NoDigitFirst}
 use Rattle.arrival_format.proofs.NumberTexts.{same_number}
-
-pub all_push : {A : Type 0} (P : A → Type 0) (xs : List A) (x : A) → AllByRecursion P xs → P x → AllByRecursion P (xs ++ x ∷ [])
-all_push P [] x all own = (own, tt)
-all_push P (y ∷ xs) x all own = (all.0, all_push P xs x all.1 own)
-
-all_behind : {A : Type 0} (P : A → Type 0) (xs ys : List A) → AllByRecursion P (xs ++ ys) → AllByRecursion P ys
-all_behind P [] ys all = all
-all_behind P (x ∷ xs) ys all = all_behind P xs ys all.1
+use Rattle.spl_value.proofs.Lists.{all_right, all_more}
 
 -- a blank and a line feed are no digits
 blank_first : (s : List ℕ) → NoDigitFirst (32 ∷ s)
@@ -78,7 +71,7 @@ module _ (bytes xs r : List ℕ) (bound : ℕ) (wide : bound < 2 ^ 32) (text : b
       go : (zs : List ℕ) × (ys ≡ xs ++ zs) × (r ≡ inputs_text zs ++ 10 ∷ s) → ⊥
       go ([], is, left) = let clash : ◌≡◌ {A = ℕ} 32 10 = cc in omega (arith, clash)
       go (z ∷ zs, is, left) =
-          let all = all_behind (λ i. i < bound) xs (z ∷ zs) (subst (AllByRecursion (λ i. i < bound)) is h.inputs_are.below) in
+          let all = all_right (λ i. i < bound) xs (z ∷ zs) (subst (AllByRecursion (λ i. i < bound)) is h.inputs_are.below) in
           let both : 32 ∷ digits ≡ 32 ∷ (decimal z ++ (inputs_text zs ++ 10 ∷ s)) = sym blank ∙ left ∙ one_before z zs (10 ∷ s) in
           let own : digits ≡ decimal z ++ (inputs_text zs ++ 10 ∷ s) = cc in
           none z (inputs_text zs ++ 10 ∷ s) (record { below = all.0; text = own; ended = no_digit_behind zs (10 ∷ s) (feed_first s) })

@@ -1,11 +1,10 @@
 -- The lines of a record, one behind another.
 use Rattle.std.specs.List.{AllByRecursion, concat, cons_option, filter_map, flat_map}
 use Rattle.std.specs.Option.{option_map_or}
-use Rattle.std.proofs.Common.{◌≡◌, ◌∙◌, ◌+◌, ◌^◌, ◌<◌, ◌≤◌, ◌≢◌, ◌++◌, ◌∷◌, [], ℕ, zero, suc, List, Bool, true, false, Option, Some, None, Result, Ok, Err, IfOk, Bor, if◌then◌else◌, length, map, drop, slice_get, sum_by, refl, sym, ap, subst, arith, append_assoc, append-nil, length-append, drop_of_length-le}
+use Rattle.std.proofs.Common.{◌≡◌, ◌∙◌, ◌+◌, ◌^◌, ◌<◌, ◌≤◌, ◌≢◌, ◌++◌, ◌∷◌, [], ℕ, zero, suc, List, Bool, true, false, Option, Some, None, Result, Ok, Err, IfOk, Bor, if◌then◌else◌, length, map, drop, slice_get, sum_by, refl, sym, ap, subst, arith, append_assoc, append-nil, drop_of_length-le}
 use Rattle.std.proofs.lemmas.Grind.{flat_map-append}
 use Rattle.std.proofs.lemmas.List.{append_cancel_left, map-append}
-use Rattle.std.proofs.lemmas.List.Sums.{sum_by-cons}
-use Rattle.spl_value.proofs.Lists.{at_most_sum, next_rest}
+use Rattle.spl_value.proofs.Lists.{at_most_sum, next_rest, all_more, count_concat}
 use Rattle.spl_tree.specs.declared.graph.Op.{Op}
 use Rattle.language_model.specs.declared.checked.Part.{Part}
 use Rattle.language_model.specs.CheckedGraph.{CheckedGraph}
@@ -18,7 +17,7 @@ use Rattle.stream_model.proofs.CheckedOperators.{operator_from}
 use Rattle.arrival_format.specs.declared.answer.ArrivalsAnswer.{ArrivalsAnswer}
 use Rattle.arrival_format.specs.ArrivalTexts.{AreInputs, connection_count, inputs_text, line_text, name_at}
 use Rattle.arrival_format.specs.steps.Steps.{AreLines, AreReadUpTo, IsLine, IsLineEnd, several_from}
-use Rattle.arrival_format.proofs.InputTexts.{all_push, same_line_end}
+use Rattle.arrival_format.proofs.InputTexts.{same_line_end}
 
 -- ---- the operators with several connections
 
@@ -27,14 +26,6 @@ several_are c n [] parts l = refl
 several_are c n (op ∷ ops) [] l = absurd (omega (arith, l))
 several_are c n (op ∷ ops) (part ∷ parts) l =
     ap (cons_option (if has_several (concat op.ins) then Some n else None)) (several_are c (suc n) ops parts (omega (arith, l)))
-
-pub count_concat : (ins : List (List ℕ)) → length (concat ins) ≡ sum_by length ins
-count_concat [] = refl
-count_concat (streams ∷ ins) =
-    let all = length-append streams (concat ins) in
-    let rest = count_concat ins in
-    let sum = sum_by-cons length streams ins in
-    omega (arith, all, rest, sum)
 
 pub few_connections : (c : CheckedGraph) → Keeps c → (n : ℕ) (op : Op) → slice_get c.graph.ops n ≡ Some op → sum_by length op.ins < 2 ^ 30
 few_connections c keeps n op there =
@@ -158,7 +149,7 @@ module _ (c : CheckedGraph) (keeps : Keeps c) (n : ℕ) (op : Op) (all : List �
         ops = so_far.ops ∙ ap (λ ns. map (λ (l : ArrivalList). l.op) lists ++ ns) (left_is true (more_than_one (concat op.ins) many) ∙ ap (λ ns. n ∷ ns) next)
             ∙ sym (append_assoc (map (λ (l : ArrivalList). l.op) lists) (n ∷ []) (several_from (n + 1) (drop (n + 1) c.graph.ops)))
             ∙ ap (λ ns. ns ++ several_from (n + 1) (drop (n + 1) c.graph.ops)) (sym (map-append (λ (l : ArrivalList). l.op) lists (own ∷ [])));
-        inputs = all_push (λ (l : ArrivalList). AreInputs (connection_count (graph_of c) l.op) l.inputs) lists own so_far.inputs
+        inputs = all_more (λ (l : ArrivalList). AreInputs (connection_count (graph_of c) l.op) l.inputs) lists own so_far.inputs
             (subst (λ count. AreInputs count inputs) (sym (count_of c keeps n op there)) line.inputs_are);
         text = so_far.text ∙ ap (λ xs. flat_map (line_text c) lists ++ xs) (line.text ∙ ap (λ name. name ++ (inputs_text inputs ++ 10 ∷ rest)) (sym (name_of c n op there)) ∙ sym (line_before c own [] rest))
             ∙ sym (append_assoc (flat_map (line_text c) lists) (flat_map (line_text c) (own ∷ [])) rest)

@@ -21,7 +21,7 @@ use Rattle.language_model.specs.declared.outs.Output.{Output}
 use Rattle.language_model.specs.Evaluation.{field_at, tuple_of, world_of}
 use Rattle.language_model.specs.Functions.{calls_of, value}
 use Rattle.language_model.specs.Outcomes.{Outcome, Done, Faulted, Stuck, need}
-use Rattle.language_model.proofs.Returning.{Only, only_followed}
+use Rattle.language_model.proofs.Returning.{Only, only_followed, done_followed}
 use Rattle.stream_model.specs.Stream.{is_tuple}
 use Rattle.stream_model.specs.Keys.{same_key}
 use Rattle.stream_model.specs.Windows.{contents_of, fired_at, flushes_at_markers, partition_key, tuples_with, window_events}
@@ -33,9 +33,10 @@ use Rattle.stream_model.proofs.Contents.{own_key_law}
 use Rattle.stream_model.proofs.ContentMembers.{AllContents, AllTuples, EntryIs, IsGroup, ItemIs, all_append, all_fired, all_groups, all_weaker}
 use Rattle.stream_model.proofs.Flushes.{fired_law, passing_law}
 use Rattle.stream_model.proofs.Keys.{same_key-equal, same_key-itself}
-use Rattle.attribute_flow.proofs.CodeValues.{alone_value, done_same, followed_done, some_same, then_some}
+use Rattle.attribute_flow.proofs.CodeValues.{alone_value, done_same, then_some}
 use Rattle.attribute_flow.proofs.Reacting.{AllMade, Copied, Copies, IsNoTuple}
 use Rattle.attribute_flow.proofs.TupleFields.{tuple_field}
+use Rattle.spl_value.proofs.Results.{some_same}
 
 -- ---- keys: tuples with the same key have the same value at each of its places, or none
 
@@ -137,7 +138,7 @@ module _ (functions : List Function) (t : List Value) (b : ℕ) where
       → slice_get t b ≡ Some v
   argument_value None turns left v alone e = absurd cc
   argument_value (Some code) turns left v alone e =
-      let is = followed_done (value functions code (world_of (at_tuple t)) turns) _ (Some v) left e in
+      let is = done_followed (value functions code (world_of (at_tuple t)) turns) _ (Some v) left e in
       let same : is.0 ≡ v = some_same is.0 v (done_same (Some is.0) (Some v) is.1 left is.3) in
       alone_value (calls_of functions turns) (at_tuple t) t refl b code turns is.1 is.0 alone is.2 ∙ ap Some same
 
@@ -146,16 +147,16 @@ module _ (functions : List Function) (t : List Value) (b : ℕ) where
       → slice_get t b ≡ Some v
   arguments_value [] k x turns left values v at alone e there = absurd cc
   arguments_value (y ∷ xs) zero x turns left values v at alone e there =
-      let first = followed_done (argument functions y.argument (at_tuple t) turns) _ values left e in
-      let rest = followed_done (arguments functions xs (at_tuple t) first.1) _ values left first.3 in
+      let first = done_followed (argument functions y.argument (at_tuple t) turns) _ values left e in
+      let rest = done_followed (arguments functions xs (at_tuple t) first.1) _ values left first.3 in
       let are : first.0 ∷ rest.0 ≡ values = done_same (first.0 ∷ rest.0) values rest.1 left rest.3 in
       let same : y ≡ x = some_same y x at in
       let own : first.0 ≡ Some v = some_same first.0 (Some v) (ap (λ (vs : List (Option Value)). slice_get vs 0) are ∙ there) in
       argument_value y.argument turns first.1 v (ap (λ (z : Collected). option_and_then attribute_alone z.argument) same ∙ alone)
       (first.2 ∙ ap (λ a. Done a first.1) own)
   arguments_value (y ∷ xs) (suc k) x turns left values v at alone e there =
-      let first = followed_done (argument functions y.argument (at_tuple t) turns) _ values left e in
-      let rest = followed_done (arguments functions xs (at_tuple t) first.1) _ values left first.3 in
+      let first = done_followed (argument functions y.argument (at_tuple t) turns) _ values left e in
+      let rest = done_followed (arguments functions xs (at_tuple t) first.1) _ values left first.3 in
       let are : first.0 ∷ rest.0 ≡ values = done_same (first.0 ∷ rest.0) values rest.1 left rest.3 in
       arguments_value xs k x first.1 rest.1 rest.0 v at alone rest.2 (ap (λ (vs : List (Option Value)). slice_get vs (suc k)) are ∙ there)
 

@@ -1,7 +1,7 @@
 -- The agreement of some tuples, one after another.
-use Rattle.std.specs.Prelude.{◌≡◌, ◌<◌, ◌+◌, ◌==◌, ℕ, suc, Bool, true, false, Option, None, Some, List, [], ◌∷◌, ◌++◌, length, drop, if◌then◌else◌}
+use Rattle.std.specs.Prelude.{◌≡◌, ◌<◌, ◌+◌, ◌==◌, ℕ, Bool, true, false, Option, None, Some, List, [], ◌∷◌, ◌++◌, length, drop, if◌then◌else◌}
 use Rattle.std.specs.Option.{option_and_then}
-use Rattle.std.proofs.Common.{refl, sym, ap, ◌∙◌, arith, get_or, drop-cons}
+use Rattle.std.proofs.Common.{refl, sym, ap, ◌∙◌, arith, get_or}
 use Rattle.std.proofs.lemmas.Bool.Decides.{nat_tests}
 use Rattle.spl_tree.specs.declared.body.Statement.{Statement}
 use Rattle.spl_tree.specs.declared.code.Code.{Code}
@@ -11,6 +11,7 @@ use Rattle.stream_model.specs.Copies.{agreed, submits_in, submits_of, tuple_sour
 use Rattle.attribute_flow.specs.declared.agreement.Agreement.{Agreement}
 use Rattle.attribute_flow.specs.declared.agreement.Agreement.TheVariants as A
 use Rattle.attribute_flow.specs.steps.Agreements.{agreed_on, agreement, and_then, arms_submits, is_unseen, of_source, statement_submits}
+use Rattle.spl_value.proofs.Lists.{drop_at}
 
 -- ---- tests of numbers
 
@@ -111,9 +112,6 @@ agreed_is a (code ∷ next ∷ codes) =
 
 -- ---- along lists
 
-pub item_first : {A : Type 0} (xs : List A) (i : ℕ) (x : A) → i < length xs → x ≡ get_or xs i x → drop i xs ≡ x ∷ drop (i + 1) xs
-item_first xs i x lt e = drop-cons xs i x lt ∙ ap (λ y. y ∷ drop (suc i) xs) (sym e) ∙ ap (λ n. x ∷ drop n xs) (let s : suc i ≡ i + 1 = omega arith in s)
-
 -- where the submits of a list are those of its items in turn, one item more
 step_with : {A : Type 0} (a : ℕ) (of_item : A → List (Code Slot)) (of_list : List A → List (Code Slot)) → ((x : A) (xs : List A) → of_list (x ∷ xs) ≡ of_item x ++ of_list xs)
     → (xs : List A) (i : ℕ) (x : A) (so_far its : Agreement) → i < length xs → x ≡ get_or xs i x → its ≡ agreement a (of_item x)
@@ -124,7 +122,7 @@ step_with a of_item of_list cons xs i x so_far its lt e is h =
     ∙ ap (and_then so_far)
     (ap (λ j. and_then j (agreement a (of_list (drop (i + 1) xs)))) is
     ∙ sym (agreement_append a (of_item x) (of_list (drop (i + 1) xs)))
-    ∙ ap (agreement a) (sym (cons x (drop (i + 1) xs)) ∙ ap of_list (sym (item_first xs i x lt e))))
+    ∙ ap (agreement a) (sym (cons x (drop (i + 1) xs)) ∙ ap of_list (sym (drop_at xs i x lt e))))
     ∙ h
 
 pub row_step : (a : ℕ) (row : List Statement) (i : ℕ) (x : Statement) (so_far its : Agreement) → i < length row → x ≡ get_or row i x

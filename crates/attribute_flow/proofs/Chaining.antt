@@ -15,14 +15,6 @@ use Rattle.stream_model.specs.Regions.{ops_of}
 use Rattle.stream_model.proofs.CheckedOperators.{operator_from}
 use Rattle.attribute_flow.specs.Chains.{AreNumbers, traced}
 
--- the clauses of an operator are those at its number
-pub clauses_are : (c : CheckedGraph) (g : Graph) (n : ℕ) (o : Operator) (part : Part) → graph_of c ≡ g → slice_get g.ops n ≡ Some o → slice_get c.parts n ≡ Some part → o.clauses ≡ part
-clauses_are c g n o part is at has =
-    let there = operator_from c 0 c.graph.ops c.parts n o (ap (λ (h : Graph). slice_get h.ops n) is ∙ at) in
-    let found : slice_get c.parts n ≡ Some there.part = there.has in
-    let same : there.part ≡ part = cc in
-    ap (λ (o : Operator). o.clauses) there.same ∙ same
-
 -- and there are some
 pub in_parts : (c : CheckedGraph) (g : Graph) (n : ℕ) → graph_of c ≡ g → n < length g.ops → n < length c.parts
 in_parts c g n is lt =
@@ -32,7 +24,7 @@ in_parts c g n is lt =
 
 -- ---- one operator behind others
 
-ops_last : (g : Graph) (ns : List ℕ) (n : ℕ) (o : Operator) → slice_get g.ops n ≡ Some o → ops_of g (ns ++ n ∷ []) ≡ ops_of g ns ++ o ∷ []
+pub ops_last : (g : Graph) (ns : List ℕ) (n : ℕ) (o : Operator) → slice_get g.ops n ≡ Some o → ops_of g (ns ++ n ∷ []) ≡ ops_of g ns ++ o ∷ []
 ops_last g [] n o at = ap (λ found. option_map_or (λ op. op ∷ []) found []) at
 ops_last g (m ∷ ns) n o at = by_case (ops_last g ns n o at) (slice_get g.ops m) where
   by_case : ops_of g (ns ++ n ∷ []) ≡ ops_of g ns ++ o ∷ [] → (found : Option Operator) → option_map_or (λ op. op ∷ ops_of g (ns ++ n ∷ [])) found (ops_of g (ns ++ n ∷ []))
@@ -48,11 +40,11 @@ found_only : (found : Option ℕ) → found ≡ option_and_then (λ b. Some b) f
 found_only None = refl
 found_only (Some b) = refl
 
-and_then_twice : (first second : ℕ → Option ℕ) (found : Option ℕ) → option_and_then first (option_and_then second found) ≡ option_and_then (λ b. option_and_then first (second b)) found
+pub and_then_twice : (first second : ℕ → Option ℕ) (found : Option ℕ) → option_and_then first (option_and_then second found) ≡ option_and_then (λ b. option_and_then first (second b)) found
 and_then_twice first second None = refl
 and_then_twice first second (Some b) = refl
 
-trace_last : (parts : List Part) (part : Part) (a : ℕ) → trace (parts ++ part ∷ []) a ≡ option_and_then (trace parts) (source_of part a)
+pub trace_last : (parts : List Part) (part : Part) (a : ℕ) → trace (parts ++ part ∷ []) a ≡ option_and_then (trace parts) (source_of part a)
 trace_last [] part a = found_only (source_of part a)
 trace_last (first ∷ parts) part a =
     ap (option_and_then (source_of first)) (trace_last parts part a) ∙ and_then_twice (source_of first) (trace parts) (source_of part a)

@@ -15,18 +15,14 @@ use Rattle.spl_tree.specs.declared.code.Slot.TheVariants as L
 use Rattle.language_model.specs.declared.env.Env.{Env}
 use Rattle.language_model.specs.Evaluation.{Calls, Meaning, code_value, level_value, field_at, tuple_of, slot_value, world_of}
 use Rattle.language_model.specs.EvaluationLaws.{field_values}
-use Rattle.language_model.specs.Outcomes.{Outcome, Done, Faulted, Stuck, followed, need}
+use Rattle.language_model.specs.Outcomes.{Outcome, Done, need}
 use Rattle.language_model.specs.Statements.{level_tuple}
 use Rattle.stream_model.specs.Copies.{attribute_alone, code_at, level_attribute, level_source, tuple_source}
 use Rattle.attribute_flow.proofs.TupleFields.{tuple_field}
+use Rattle.spl_value.proofs.Results.{some_same}
+use Rattle.language_model.proofs.Returning.{done_followed}
 
 -- ---- what led to an answer
-
-pub followed_done : {A B : Type 0} (o : Outcome A) (f : A → ℕ → Outcome B) (y : B) (left : ℕ) → followed o f ≡ Done y left
-    → (x : A) × (t : ℕ) × (o ≡ Done x t) × (f x t ≡ Done y left)
-followed_done (Done x turns) f y left e = (x, turns, refl, e)
-followed_done (Faulted kind) f y left e = absurd cc
-followed_done Stuck f y left e = absurd cc
 
 pub need_done : {A B : Type 0} (o : Option A) (f : A → Outcome B) (y : B) (left : ℕ) → need o f ≡ Done y left → (x : A) × (o ≡ Some x) × (f x ≡ Done y left)
 need_done None f y left e = absurd cc
@@ -34,9 +30,6 @@ need_done (Some x) f y left e = (x, refl, e)
 
 pub done_same : {A : Type 0} (x y : A) (t u : ℕ) → Done x t ≡ Done y u → x ≡ y
 done_same x y t u e = cc
-
-pub some_same : {A : Type 0} (x y : A) → Some x ≡ Some y → x ≡ y
-some_same x y e = cc
 
 pub then_some : {A B : Type 0} (o : Option A) (f : A → Option B) (y : B) → option_and_then f o ≡ Some y → (x : A) × (o ≡ Some x) × (f x ≡ Some y)
 then_some None f y e = absurd cc
@@ -71,8 +64,8 @@ module _ (calls : Calls) (env : Env) (vs : List Value) (one : env.inputs ≡ vs 
       → field_values calls fs (world_of env) turns ≡ Done gs left → (v : Value) × (field_at a gs ≡ Some v) × (slice_get vs b ≡ Some v)
   field_is [] turns left gs a code b at alone e = absurd cc
   field_is (f ∷ fs) turns left gs a code b at alone e =
-      let x = followed_done (code_value calls f.1 (world_of env) turns) _ gs left e in
-      let y = followed_done (field_values calls fs (world_of env) x.1) _ gs left x.3 in
+      let x = done_followed (code_value calls f.1 (world_of env) turns) _ gs left e in
+      let y = done_followed (field_values calls fs (world_of env) x.1) _ gs left x.3 in
       let is : (f.0, x.0) ∷ y.0 ≡ gs = done_same _ gs y.1 left y.3 in
       let found = by_case x.0 x.1 y.0 x.2 (λ at. field_is fs x.1 y.1 y.0 a code b at alone y.2) (f.0 == a) at in
       (found.0, ap (field_at a) (sym is) ∙ found.1, found.2)
@@ -94,7 +87,7 @@ module _ (calls : Calls) (env : Env) (vs : List Value) (one : env.inputs ≡ vs 
       ap (λ (us : List Value). slice_get us a) these ∙ ap (slice_get vs) (some_same a b h)
   source_form a b (C.Tuple fs) turns left v us h e u =
       let at = then_some (code_at a fs) attribute_alone b h in
-      let x = followed_done (field_values calls fs (world_of env) turns) _ v left e in
+      let x = done_followed (field_values calls fs (world_of env) turns) _ v left e in
       let y = need_done (tuple_of x.0) (λ vs. Done (V.Tuple vs) x.1) v left x.3 in
       let same : v ≡ V.Tuple y.0 = sym (done_same (V.Tuple y.0) v x.1 left y.2) in
       let these : us ≡ y.0 = some_same us y.0 (sym u ∙ ap (λ (v : Value). level_tuple (out-Value v)) same ∙ ap level_tuple (V.outs-Tuple y.0)) in

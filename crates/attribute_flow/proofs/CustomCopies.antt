@@ -18,14 +18,16 @@ use Rattle.language_model.specs.declared.outs.Output.{Output}
 use Rattle.language_model.specs.Functions.{bodies_of}
 use Rattle.language_model.specs.Outcomes.{Outcome, Done, Faulted, Stuck, followed}
 use Rattle.language_model.specs.Statements.{State, Bodies, Left, calls_by}
-use Rattle.language_model.proofs.Returning.{Only}
+use Rattle.language_model.proofs.Returning.{Only, only_weaker}
 use Rattle.stream_model.specs.Stream.{Event, is_empty, is_tuple}
 use Rattle.stream_model.specs.Copies.{agreed, custom_source, submits_in, submits_of, tuple_source}
 use Rattle.stream_model.specs.Bodies.{most_turns}
 use Rattle.stream_model.specs.Customs.{custom_body, handler, left_by, marker_env, state, tuple_env}
-use Rattle.attribute_flow.proofs.CodeValues.{some_same, tuple_value}
-use Rattle.attribute_flow.proofs.KeepingSubmits.{IsKept, LeftBy, all_front, body_keeps}
+use Rattle.attribute_flow.proofs.CodeValues.{tuple_value}
+use Rattle.attribute_flow.proofs.KeepingSubmits.{IsKept, LeftBy, body_keeps}
 use Rattle.attribute_flow.proofs.Reacting.{AllMade, Copied, Copies, IsNoTuple}
+use Rattle.spl_value.proofs.Lists.{all_left}
+use Rattle.spl_value.proofs.Results.{some_same}
 
 -- ---- what is agreed on
 
@@ -55,7 +57,7 @@ first_among : (P : Code Slot → Type 0) (bodies : List (Option (List Statement)
     → AllByRecursion P (submits_of row)
 first_among P [] row at all = absurd cc
 first_among P (None ∷ bodies) row at all = absurd cc
-first_among P (Some first ∷ bodies) row at all = subst (λ (r : List Statement). AllByRecursion P (submits_of r)) (some_same first row at) (all_front P (submits_of first) (submits_in bodies) all)
+first_among P (Some first ∷ bodies) row at all = subst (λ (r : List Statement). AllByRecursion P (submits_of r)) (some_same first row at) (all_left P (submits_of first) (submits_in bodies) all)
 
 none_of : (P : Code Slot → Type 0) (codes : List (Code Slot)) → is_empty codes ≡ true → AllByRecursion P codes
 none_of P [] e = tt
@@ -67,7 +69,7 @@ one_more : (P : Output → Type 0) (os : List Output) (o : Output) → AllByRecu
 one_more P [] o h k = (k, tt)
 one_more P (p ∷ os) o h k = (h.0, one_more P os o h.1 k)
 
-tuple_same : (us vs : List Value) → I.Tuple us ≡ I.Tuple vs → us ≡ vs
+pub tuple_same : (us vs : List Value) → I.Tuple us ≡ I.Tuple vs → us ≡ vs
 tuple_same us vs e = cc
 
 abbrev KeptTuple : ℕ → ℕ → List Value → State → Type 0
@@ -107,11 +109,6 @@ markers_kept bodies = record {
 abbrev AllLeft : (Output → Type 0) → Left → Type 0
 AllLeft P left = AllByRecursion P left.submits
 
-weaker : {A : Type 0} (P Q : A → Type 0) (o : Outcome A) → ((x : A) → P x → Q x) → Only P o → Only Q o
-weaker P Q (Done x turns) k h = k x h
-weaker P Q (Faulted kind) k h = tt
-weaker P Q Stuck k h = tt
-
 submits_left : (P : Output → Type 0) (o : Outcome Left) → Only (AllLeft P) o → AllMade P (followed o (λ left turns. Done left.submits turns))
 submits_left P (Done left turns) h = h
 submits_left P (Faulted kind) h = tt
@@ -129,7 +126,7 @@ module _ (functions : List Function) (handlers : Handlers) (a b : ℕ) (source :
       → Only (AllLeft (Copied a b vs)) (left_by functions body (tuple_env vars vs))
   tuple_left vars vs None at = tt
   tuple_left vars vs (Some row) at =
-      weaker (LeftBy (KeptTuple a b vs)) (AllLeft (Copied a b vs)) _ (λ left is. subst (AllByRecursion (Copied a b vs)) is.2 is.1.1)
+      only_weaker (LeftBy (KeptTuple a b vs)) (AllLeft (Copied a b vs)) _ (λ left is. subst (AllByRecursion (Copied a b vs)) is.2 is.1.1)
       (body_keeps (bodies_of functions most_turns) (HasSource a b) (KeptTuple a b vs) (copies_kept (bodies_of functions most_turns) a b vs) row (tuple_env vars vs) most_turns
       (first_among (HasSource a b) handlers.on_tuple row at (all_agree a b (submits_in handlers.on_tuple) parts.1)) (refl, tt))
 
@@ -137,7 +134,7 @@ module _ (functions : List Function) (handlers : Handlers) (a b : ℕ) (source :
       → Only (AllLeft IsNoTuple) (left_by functions body (marker_env vars m))
   marker_left vars m None at = tt
   marker_left vars m (Some row) at =
-      weaker (LeftBy NoTuples) (AllLeft IsNoTuple) _ (λ left is. subst (AllByRecursion IsNoTuple) is.2 is.1)
+      only_weaker (LeftBy NoTuples) (AllLeft IsNoTuple) _ (λ left is. subst (AllByRecursion IsNoTuple) is.2 is.1)
       (body_keeps (bodies_of functions most_turns) Never NoTuples (markers_kept (bodies_of functions most_turns)) row (marker_env vars m) most_turns
       (first_among Never handlers.on_punct row at (none_of Never (submits_in handlers.on_punct) parts.0)) tt)
 

@@ -1,5 +1,5 @@
 -- What every change of variables and every submit keeps, statements keep.
-use Rattle.std.specs.Prelude.{◌≡◌, ℕ, zero, suc, Bool, true, false, if◌then◌else◌, List, [], ◌∷◌, ◌++◌, map, Option, None, Some, slice_get, slice_set}
+use Rattle.std.specs.Prelude.{◌≡◌, ℕ, zero, suc, List, [], ◌∷◌, ◌++◌, map, Option, None, Some, slice_get, slice_set}
 use Rattle.std.specs.List.{AllByRecursion}
 use Rattle.std.proofs.Common.{refl, sym, subst}
 use Rattle.spl_value.specs.declared.item.FaultKind.TheVariants as X
@@ -17,40 +17,15 @@ use Rattle.language_model.specs.declared.flow.Flow.{Flow}
 use Rattle.language_model.specs.declared.flow.Flow.TheVariants as F
 use Rattle.language_model.specs.Changes.{changed, change_of}
 use Rattle.language_model.specs.Evaluation.{all_of, code_value, world_of}
-use Rattle.language_model.specs.Outcomes.{Outcome, Done, Faulted, Stuck, followed, need, settled, enter}
+use Rattle.language_model.specs.Outcomes.{Done, Faulted, settled}
 use Rattle.language_model.specs.StatementLaws.{arms_act, block_is, declare_is, change_is, evaluate_is, call_is, if_is, while_is, for_is, break_is, continue_is, return_is, submit_is, submit_window_is}
 use Rattle.language_model.specs.Statements.{State, Acts, Bodies, Left, calls_by, value_in, truth_in, with_vars, declared, ended, scoped, submitted, change_values, then_rest, then_again, turn_while, turns_while, turns_over, level_elements, level_tuple, return_acts, statement_acts, row_acts, left_by, body_leaves}
-use Rattle.language_model.proofs.Returning.{Only, only_followed}
+use Rattle.language_model.proofs.Returning.{Only, only_followed, only_either, only_enter, only_is, need_is}
 use Rattle.language_model.proofs.StatementInduction.{OfArm, StatementSteps, statement_ind}
 use Rattle.stream_model.specs.Copies.{submits_of}
 use Rattle.attribute_flow.specs.steps.Agreements.{arms_submits, statement_submits}
 use Rattle.attribute_flow.proofs.SubmitForms as B
-
-only_is : {A B : Type 0} (Q : B → Type 0) (o : Outcome A) (f : A → ℕ → Outcome B) → ((x : A) (turns : ℕ) → o ≡ Done x turns → Only Q (f x turns)) → Only Q (followed o f)
-only_is Q (Done x turns) f k = k x turns refl
-only_is Q (Faulted kind) f k = tt
-only_is Q Stuck f k = tt
-
-need_is : {A B : Type 0} (Q : B → Type 0) (o : Option A) (f : A → Outcome B) → ((x : A) → o ≡ Some x → Only Q (f x)) → Only Q (need o f)
-need_is Q None f k = tt
-need_is Q (Some x) f k = k x refl
-
-only_enter : {A : Type 0} (Q : A → Type 0) (turns : ℕ) (f : ℕ → Outcome A) → ((turns : ℕ) → Only Q (f turns)) → Only Q (enter turns f)
-only_enter Q zero f k = tt
-only_enter Q (suc turns) f k = k turns
-
-only_either : {A : Type 0} (Q : A → Type 0) (b : Bool) (o p : Outcome A) → Only Q o → Only Q p → Only Q (if b then o else p)
-only_either Q true o p h k = h
-only_either Q false o p h k = k
-
--- what all of two lists have, one after the other
-pub all_front : {A : Type 0} (P : A → Type 0) (xs ys : List A) → AllByRecursion P (xs ++ ys) → AllByRecursion P xs
-all_front P [] ys h = tt
-all_front P (x ∷ xs) ys h = (h.0, all_front P xs ys h.1)
-
-pub all_back : {A : Type 0} (P : A → Type 0) (xs ys : List A) → AllByRecursion P (xs ++ ys) → AllByRecursion P ys
-all_back P [] ys h = h
-all_back P (x ∷ xs) ys h = all_back P xs ys h.1
+use Rattle.spl_value.proofs.Lists.{all_right, all_left}
 
 -- a fact of states that is kept by each change of a variable, by a new variable, by the end of variables, and by each submit, of a tuple whose
 -- code has the test
@@ -91,8 +66,8 @@ module _ (bodies : Bodies) (Test : Code Slot → Type 0) (Kept : State → Type 
   pub row_keeps : (row : List Statement) → AllByRecursion Fine row → Tested (submits_of row) → Keeps (row_acts bodies row)
   row_keeps [] h e s k turns = k
   row_keeps (x ∷ row) h e s k turns =
-      only_followed After After (statement_acts bodies x s turns) _ (h.0 (all_front Test (statement_submits x) (submits_of row) e) s k turns)
-      (λ w turns a. rest_keeps (row_acts bodies row) (row_keeps row h.1 (all_back Test (statement_submits x) (submits_of row) e)) w turns a)
+      only_followed After After (statement_acts bodies x s turns) _ (h.0 (all_left Test (statement_submits x) (submits_of row) e) s k turns)
+      (λ w turns a. rest_keeps (row_acts bodies row) (row_keeps row h.1 (all_right Test (statement_submits x) (submits_of row) e)) w turns a)
 
   arms_keep : (arms : List (Code Slot × List Statement)) (other : List Statement) → AllByRecursion (OfArm Fine) arms → AllByRecursion Fine other
       → Tested (arms_submits arms) → Tested (submits_of other) → Keeps (arms_act bodies arms other)
@@ -100,8 +75,8 @@ module _ (bodies : Bodies) (Test : Code Slot → Type 0) (Kept : State → Type 
   arms_keep (arm ∷ arms) other h k e f s i turns =
       only_is After (truth_in bodies arm.0 s turns) _ (λ b turns t.
       only_either After b (scoped (row_acts bodies arm.1) s turns) (arms_act bodies arms other s turns)
-      (scoped_keeps (row_acts bodies arm.1) (row_keeps arm.1 h.0 (all_front Test (submits_of arm.1) (arms_submits arms) e)) s i turns)
-      (arms_keep arms other h.1 k (all_back Test (submits_of arm.1) (arms_submits arms) e) f s i turns))
+      (scoped_keeps (row_acts bodies arm.1) (row_keeps arm.1 h.0 (all_left Test (submits_of arm.1) (arms_submits arms) e)) s i turns)
+      (arms_keep arms other h.1 k (all_right Test (submits_of arm.1) (arms_submits arms) e) f s i turns))
 
   again_keeps : (again : Acts) → Keeps again → (w : Flow × State) (turns : ℕ) → After w → Only After (then_again w turns again)
   again_keeps again h (F.Next, s) turns a = h s a turns
@@ -163,7 +138,7 @@ module _ (bodies : Bodies) (Test : Code Slot → Type 0) (Kept : State → Type 
   if_fine : (arms : List (Code Slot × List Statement)) (other : List Statement) → AllByRecursion (OfArm Fine) arms → AllByRecursion Fine other → Fine (T.If arms other)
   if_fine arms other h k = fine_by (T.If arms other) (arms_submits arms ++ submits_of other) (B.if_is arms other) (λ e.
       keeps_by (statement_acts bodies (T.If arms other)) _ (if_is bodies arms other)
-      (arms_keep arms other h k (all_front Test (arms_submits arms) (submits_of other) e) (all_back Test (arms_submits arms) (submits_of other) e)))
+      (arms_keep arms other h k (all_left Test (arms_submits arms) (submits_of other) e) (all_right Test (arms_submits arms) (submits_of other) e)))
 
   steps : StatementSteps Fine
   steps = record {

@@ -33,9 +33,12 @@ use Rattle.stream_model.specs.StateKinds.{is_whole, state_of}
 use Rattle.stream_model.proofs.StageLaws.{one_in}
 use Rattle.attribute_flow.specs.CopyLaws.{CopiesLaw, CustomCopiesLaw, TraceLaw}
 use Rattle.attribute_flow.proofs.AggregateCopies.{aggregate_copies}
-use Rattle.attribute_flow.proofs.CodeValues.{followed_done, need_done, some_same, then_some, tuple_value}
-use Rattle.attribute_flow.proofs.CustomCopies.{custom_copies}
+use Rattle.attribute_flow.proofs.CodeValues.{need_done, then_some, tuple_value}
+use Rattle.attribute_flow.proofs.CustomCopies.{custom_copies, tuple_same}
 use Rattle.attribute_flow.proofs.Reacting.{AllMade, Copied, Copies, IsNoTuple, each_has, is_copy}
+use Rattle.spl_value.proofs.Bools.{and_not_parts}
+use Rattle.spl_value.proofs.Results.{some_same}
+use Rattle.language_model.proofs.Returning.{done_followed}
 
 -- ---- answers
 
@@ -47,9 +50,6 @@ made_then P Stuck f k = tt
 made_need : {A : Type 0} (P : Output → Type 0) (o : Option A) (f : A → Makes) → ((x : A) → o ≡ Some x → AllMade P (f x)) → AllMade P (need o f)
 made_need P None f k = tt
 made_need P (Some x) f k = k x refl
-
-tuple_same : (us vs : List Value) → I.Tuple us ≡ I.Tuple vs → us ≡ vs
-tuple_same us vs e = cc
 
 -- a tuple of which the attribute is that one
 one_copied : (a b : ℕ) (vs us : List Value) → slice_get us a ≡ slice_get vs b → (p : ℕ) → Copied a b vs (output p (I.Tuple us))
@@ -84,7 +84,7 @@ functor_copies : (functions : List Function) (condition : Option (Code Slot)) (m
 functor_copies functions condition made a b source = record { tuples = tuples; others = others } where
   tuple_made : (vs : List Value) (turns left : ℕ) (us : List Value) → tuple_by functions made (at_tuple vs) turns ≡ Done us left → slice_get us a ≡ slice_get vs b
   tuple_made vs turns left us e =
-      let x = followed_done (value functions made (world_of (at_tuple vs)) turns) _ us left e in
+      let x = done_followed (value functions made (world_of (at_tuple vs)) turns) _ us left e in
       let y = need_done (level_tuple (out-Value x.0)) (λ ws. Done ws x.1) us left x.3 in
       let same : y.0 ≡ us = cc in
       tuple_value (calls_of functions turns) (at_tuple vs) vs refl a b made turns x.1 x.0 us source x.2 (y.1 ∙ ap Some same)
@@ -176,11 +176,6 @@ no_keys : (b : Bool) (places : List ℕ) → is_whole (if b then K.Keyed places 
 no_keys true places e = refl
 no_keys false places e = absurd cc
 
-and_parts : (x y : Bool) → (x && not y) ≡ true → (x ≡ true) × (y ≡ false)
-and_parts true true e = absurd cc
-and_parts true false e = (refl, refl)
-and_parts false y e = absurd cc
-
 copies_of : (part : Part) (a b : ℕ) → is_whole (state_of part) ≡ false → source_of part a ≡ Some b
     → (n : ℕ) (functions : List Function) (types : PortTypes) (s : ℕ) (outs : List ℕ) (h : List Event)
     → Copies a b (makes_by part (one_in n part functions types s outs) h 0)
@@ -193,7 +188,7 @@ copies_of (A.Split index) a b kept source n functions types s outs h = split_cop
 copies_of (A.Union places) a b kept source n functions types s outs h = union_copies places a b source
 copies_of (A.Custom handlers) a b kept source n functions types s outs h = custom_copies functions handlers a b source h
 copies_of (A.Aggregate window partition group output) a b kept source n functions types s outs h =
-    let parts = and_parts window.partitioned (flushes_at_markers window.rule) (no_keys (window.partitioned && not (flushes_at_markers window.rule)) partition kept) in
+    let parts = and_not_parts window.partitioned (flushes_at_markers window.rule) (no_keys (window.partitioned && not (flushes_at_markers window.rule)) partition kept) in
     aggregate_copies functions window partition group output parts.0 parts.1 a b source (items_of 0 h)
 copies_of (A.Join left right condition made) a b kept source n functions types s outs h = absurd cc
 

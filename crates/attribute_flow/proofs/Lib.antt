@@ -1,6 +1,5 @@
 pub mod CodeForms
 pub mod SubmitForms
-pub mod StatementWeights
 pub mod Agreeing
 pub mod Chaining
 pub mod AggregateCopies

@@ -9,12 +9,10 @@ use Rattle.std.proofs.lemmas.List.{length-map}
 use Rattle.spl_value.specs.declared.value.Value.{Value}
 use Rattle.language_model.specs.Evaluation.{field_at, tuple_from, tuple_of}
 use Rattle.language_model.proofs.Counting.{how_often}
+use Rattle.spl_value.proofs.Results.{some_same}
 
 abbrev Fields : Type 0
 Fields = List (ℕ × Value)
-
-some_same : {A : Type 0} (x y : A) → Some x ≡ Some y → x ≡ y
-some_same x y e = cc
 
 pieces : (o : Option Value) (r : Option (List Value)) (us : List Value) → option_and_then (λ v. option_map (λ vs. v ∷ vs) r) o ≡ Some us
     → (v : Value) × (vs : List Value) × (o ≡ Some v) × (r ≡ Some vs) × (v ∷ vs ≡ us)

@@ -9,7 +9,7 @@ use language_model::Handlers;
 use spl_tree::{Body, Code, Slot, Statement};
 
 #[cycle(submits)]
-#[tactic(auto, using(crate::proofs::SubmitForms::form_laws, crate::proofs::StatementWeights::weight_laws))]
+#[tactic(auto, using(crate::proofs::SubmitForms::form_laws, spl_tree::proofs::StatementWeights::weight_laws))]
 fn of_statement(attribute: u32, statement: &Statement) -> Agreement
     ensures { result ≡ agreement attribute (statement_submits statement.now) }
 {

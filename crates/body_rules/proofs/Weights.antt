@@ -1,5 +1,5 @@
 -- How much a statement weighs, by which a recursion over its parts ends.
-use Rattle.std.proofs.Common.{◌≡◌, ◌<◌, ◌≤◌, ◌∙◌, ℕ, zero, suc, ◌+◌, List, [], ◌∷◌, length, get_or, Option, Some, None, refl, ap, arith}
+use Rattle.std.proofs.Common.{◌≡◌, ◌∙◌, ℕ, ◌+◌, List, [], ◌∷◌, Option, Some, None, refl, ap, arith}
 use Rattle.std.specs.Option.{option_map_or}
 use Rattle.spl_tree.specs.declared.shape.Attribute.{Attribute}
 use Rattle.spl_tree.specs.declared.statement.StmtKind.{StmtKind}
@@ -12,12 +12,6 @@ use Rattle.spl_tree.specs.Grammar.{Expr}
 use Rattle.spl_tree.specs.StatementGrammar.{Stmt}
 use Rattle.spl_tree.specs.TypeGrammar.{TypeExpr}
 use Rattle.spl_value.proofs.Lists.{total}
-
--- an item weighs no more than its row
-pub item_below : {A : Type 0} (f : A → ℕ) (xs : List A) (i : ℕ) (x : A) → i < length xs → x ≡ get_or xs i x → f x ≤ total f xs
-item_below f [] i x h e = absurd (omega arith)
-item_below f (y ∷ ys) zero x h e = let q : f x ≡ f y = ap f e in omega arith
-item_below f (y ∷ ys) (suc i) x h e = let q : f x ≤ total f ys = item_below f ys i x (omega arith) e in omega arith
 
 abbrev level_weight : StmtKind-F ℕ → ℕ
 level_weight (Z.Block ss) = 3 + total (λ s. s.what) ss

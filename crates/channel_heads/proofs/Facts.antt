@@ -4,7 +4,7 @@ use Rattle.std.specs.Prelude.{◌==◌, ◌||◌, ◌&&◌, nat_lt, not, filter,
 use Rattle.std.specs.Option.{option_to_list}
 use Rattle.std.specs.List.{cons_option, list_any}
 use Rattle.std.proofs.lemmas.Bool.{eqb-true, eqb-false, eq-eqb, ne_eqb, cases_lt, ltb-true, ltb-false}
-use Rattle.std.proofs.lemmas.List.{append-nil, length-map, length-set, map-append}
+use Rattle.std.proofs.lemmas.List.{append-nil, length-map, length-set, map-append, length-replicate}
 use Rattle.std.proofs.lemmas.List.Elements.{filter-append, filter_map-append}
 use Rattle.spl_value.specs.declared.item.Item.{Item}
 use Rattle.spl_value.specs.declared.packet.Packet.{Packet}
@@ -110,10 +110,6 @@ zero_replicate zero c = refl
 zero_replicate (suc n) zero = refl
 zero_replicate (suc n) (suc c) = zero_replicate n c
 
-length_replicate : {A : Type 0} (n : ℕ) (x : A) → length (replicate n x) ≡ n
-length_replicate zero x = refl
-length_replicate (suc n) x = ap suc (length_replicate n x)
-
 none_before : (c rounds : ℕ) (b : Bool) → nat_lt c 0 ≡ b → cond b (suc rounds) rounds ≡ rounds
 none_before c rounds true e = let q : c < 0 = ltb-true c 0 e in absurd (omega arith)
 none_before c rounds false e = refl
@@ -131,9 +127,9 @@ new_facts rule w l = record {
   are_given = refl;
   within = tt;
   fronts = λ c lc. refl;
-  size_heads = length_replicate w None;
-  size_bounds = length_replicate w 0;
-  size_done = length_replicate w false;
+  size_heads = length-replicate w None;
+  size_bounds = length-replicate w 0;
+  size_done = length-replicate w false;
   live_rest = λ _ c lc. ap option_to_list (sym (none_replicate w c));
   dead = λ e c. absurd cc;
   uncut = λ _ c lc. refl;

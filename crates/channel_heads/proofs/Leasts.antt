@@ -9,6 +9,7 @@ use Rattle.spl_value.specs.declared.packet.Packet.TheVariants as P
 use Rattle.spl_value.specs.Numbered.{closes}
 use Rattle.channel_heads.specs.Held.{Held, is_live, width_of, least_with, least_of, no_heads, takes, gives}
 use Rattle.channel_heads.proofs.ByNumber.{Tagged}
+use Rattle.channel_heads.proofs.Facts.{no_some}
 
 abbrev at : List (Option Tagged) → ℕ → Option Tagged
 at heads c = unwrap_or (slice_get heads c) None
@@ -17,16 +18,12 @@ at_none : (c : ℕ) → at [] c ≡ None
 at_none zero = refl
 at_none (suc c) = refl
 
-none_some : (o : Option Tagged) (p : Tagged) → o ≡ None → o ≡ Some p → ⊥
-none_some None p d e = absurd cc
-none_some (Some q) p d e = absurd cc
-
 -- from a least number on, the result is a number that is no larger than it and than every head
 fold_least : (heads : List (Option Tagged)) (m : ℕ) → (n : ℕ) × (fold least_with (Some m) heads ≡ Some n) × (n ≤ m) × ((c k : ℕ) (x : Item) → at heads c ≡ Some (k, x) → n ≤ k)
-fold_least [] m = (m, refl, omega arith, λ c k x e. absurd (none_some (at [] c) (k, x) (at_none c) e))
+fold_least [] m = (m, refl, omega arith, λ c k x e. absurd (no_some (at [] c) (k, x) (at_none c) e))
 fold_least (None ∷ heads) m = let r = fold_least heads m in (r.0, r.1, r.2, λ c k x e. later r.0 r.3 c k x e) where
   later : (n : ℕ) → ((c k : ℕ) (x : Item) → at heads c ≡ Some (k, x) → n ≤ k) → (c k : ℕ) (x : Item) → at (None ∷ heads) c ≡ Some (k, x) → n ≤ k
-  later n rest zero k x e = absurd (none_some None (k, x) refl e)
+  later n rest zero k x e = absurd (no_some None (k, x) refl e)
   later n rest (suc c) k x e = rest c k x e
 fold_least (Some p ∷ heads) m = let r = fold_least heads (min m p.0) in
     let low : r.0 ≤ min m p.0 = r.2 in
@@ -49,8 +46,8 @@ least_none (Some p ∷ heads) e c = let r = fold_least heads p.0 in absurd (clas
 
 -- and where there is one, no head is below it
 pub least_some : (heads : List (Option Tagged)) (n : ℕ) → least_of heads ≡ Some n → (c k : ℕ) (x : Item) → at heads c ≡ Some (k, x) → n ≤ k
-least_some [] n e c k x h = absurd (none_some (at [] c) (k, x) (at_none c) h)
-least_some (None ∷ heads) n e zero k x h = absurd (none_some None (k, x) refl h)
+least_some [] n e c k x h = absurd (no_some (at [] c) (k, x) (at_none c) h)
+least_some (None ∷ heads) n e zero k x h = absurd (no_some None (k, x) refl h)
 least_some (None ∷ heads) n e (suc c) k x h = least_some heads n e c k x h
 least_some (Some p ∷ heads) n e c k x h = let r = fold_least heads p.0 in go r.0 (same r.0 n (sym r.1 ∙ e)) r.2 r.3 c k x h where
   same : (m n : ℕ) → Some m ≡ Some n → m ≡ n

@@ -7,7 +7,7 @@ use Rattle.spl_value.specs.declared.types.SplType.{SplType}
 use Rattle.spl_value.specs.declared.types.SplType.TheVariants as S
 use Rattle.spl_value.specs.declared.types.SplType.TheOpen as T
 use Rattle.spl_value.specs.declared.types.SplType.TheOpen.{SplType-F}
-use Rattle.spl_value.specs.declared.types.SplType.TheViews.{out-SplType, roll-SplType, roll-out-SplType}
+use Rattle.spl_value.specs.declared.types.SplType.TheViews.{out-SplType}
 use Rattle.spl_tree.specs.Grammar.{Expr}
 use Rattle.language_model.specs.declared.scope.Scope.{Scope}
 use Rattle.language_model.specs.declared.scope.Typed.{Typed}
@@ -15,8 +15,8 @@ use Rattle.language_model.specs.BodyLaws.{BodyFitLaw}
 use Rattle.language_model.specs.CodeFits.{CodeFits}
 use Rattle.language_model.specs.FitLaws.{ConstantLaw, DollarsFit, FitLaw, WantedLaw}
 use Rattle.language_model.specs.Typing.{Found, same_types, typing}
-use Rattle.language_model.proofs.TypingLaws.{same_types_law}
 use Rattle.language_model.proofs.FoundAnswers.{Gives}
+use Rattle.language_model.proofs.SameTypes.{equal_from_same}
 
 -- what typing is known to give
 pub record TypingGives : Type 0 where
@@ -40,19 +40,13 @@ wanted_fits laws scope fine e u t is = subst (CodeFits scope t.code) (laws.wante
 
 -- ---- types
 
-pub rolled : (t : SplType) (x : SplType-F SplType) (u : SplType) → out-SplType t ≡ x → roll-SplType x ≡ u → t ≡ u
-rolled t x u e f = sym (roll-out-SplType t) ∙ ap roll-SplType e ∙ f
-
-pub same_equal : (t u : SplType) → same_types t u ≡ true → t ≡ u
-same_equal t u same = (same_types_law t u).0 same
-
 abbrev schema_in : SplType-F SplType → List (Named SplType)
 schema_in (T.Tuple schema) = schema
 schema_in _ = []
 
 pub same_schemas : (xs ys : List (Named SplType)) → same_types (S.Tuple xs) (S.Tuple ys) ≡ true → xs ≡ ys
 same_schemas xs ys same =
-    sym (ap schema_in (S.outs-Tuple xs)) ∙ ap (λ t. schema_in (out-SplType t)) (same_equal (S.Tuple xs) (S.Tuple ys) same) ∙ ap schema_in (S.outs-Tuple ys)
+    sym (ap schema_in (S.outs-Tuple xs)) ∙ ap (λ t. schema_in (out-SplType t)) (equal_from_same (S.Tuple xs) (S.Tuple ys) same) ∙ ap schema_in (S.outs-Tuple ys)
 
 -- ---- lists
 

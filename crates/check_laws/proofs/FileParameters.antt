@@ -126,7 +126,7 @@ filed site kind partitioned name role before (p ∷ ps) given e value at =
 
 -- ---- that it is there
 
-value_there : (given : List Given) (name : List ℕ) → list_any (λ g. bytes_eq g.name name) given ≡ true → (value : ParameterValue) × (value_given given name ≡ Some value)
+pub value_there : (given : List Given) (name : List ℕ) → list_any (λ g. bytes_eq g.name name) given ≡ true → (value : ParameterValue) × (value_given given name ≡ Some value)
 value_there [] name e = absurd cc
 value_there (g ∷ gs) name e =
     elim (bytes_eq g.name name) as (λ b. (b || list_any (λ g. bytes_eq g.name name) gs) ≡ true
@@ -135,7 +135,7 @@ value_there (g ∷ gs) name e =
       | false ↦ λ e. value_there gs name e
     ] e
 
-given_there : (given : List Given) (name : List ℕ) → missing given (name ∷ []) ≡ None → (value : ParameterValue) × (value_given given name ≡ Some value)
+pub given_there : (given : List Given) (name : List ℕ) → missing given (name ∷ []) ≡ None → (value : ParameterValue) × (value_given given name ≡ Some value)
 given_there given name none =
     elim (list_any (λ g. bytes_eq g.name name) given) as (λ b. list_any (λ g. bytes_eq g.name name) given ≡ b → (if b then None else Some name) ≡ None
     → (value : ParameterValue) × (value_given given name ≡ Some value)) [

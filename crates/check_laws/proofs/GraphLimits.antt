@@ -1,7 +1,7 @@
 -- The graph of a unit stays within the limits, and has as many names for its ports as its operators take streams.
-use Rattle.std.specs.Prelude.{◌≡◌, ◌+◌, ◌<◌, ◌≤◌, ◌^◌, ℕ, suc, nat_le, nat_lt, true, List, [], ◌∷◌, map, length, sum_by, Option, Some, None, slice_get}
+use Rattle.std.specs.Prelude.{◌≡◌, ◌+◌, ◌<◌, ◌≤◌, ◌^◌, ℕ, suc, nat_le, nat_lt, true, List, [], ◌∷◌, map, length, sum_by, Some, slice_get}
 use Rattle.std.specs.Option.{option_and_then, option_map}
-use Rattle.std.proofs.Common.{refl, sym, ap, ◌∙◌, subst, arith}
+use Rattle.std.proofs.Common.{sym, ap, ◌∙◌, subst, arith}
 use Rattle.std.proofs.lemmas.Bool.{and_parts, leb-true, ltb-true}
 use Rattle.std.proofs.lemmas.List.Sums.{sum_by-cons}
 use Rattle.std.proofs.lemmas.Option.{same_Some, slice_get_within}
@@ -26,12 +26,9 @@ use Rattle.check_laws.proofs.SourceCounts.{body_of, port_counted, streams_within
 use Rattle.check_laws.proofs.UnitGraphs.{IsMade}
 use Rattle.language_model.proofs.ExpansionAnswers.{expansion_at, op_at, ops_length}
 use Rattle.spl_value.proofs.Lists.{at_most_sum, before_more as in_front}
+use Rattle.language_model.proofs.Flattening.{mapped}
 
 -- ---- operators and expansions
-
-mapped : {A B : Type 0} (f : A → B) (o : Option A) (b : B) → option_map f o ≡ Some b → (a : A) × (o ≡ Some a) × (f a ≡ b)
-mapped f None b e = absurd cc
-mapped f (Some a) b e = (a, refl, cc)
 
 -- the operation of an operator
 record OfOperation (made : Made) (op : Op) (n : ℕ) : Type 0 where

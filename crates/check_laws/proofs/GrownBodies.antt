@@ -1,7 +1,6 @@
 -- What was expanded: the bodies stand behind those in which they are invoked, operators take what names meant when they were added, and
 -- there are not too many.
 use Rattle.std.specs.Prelude.{◌≡◌, ◌+◌, ◌==◌, ◌<◌, ◌⊎◌, ℕ, zero, suc, List, [], ◌∷◌, ◌++◌, length, Option, Some, None, Ok, Err, slice_get, if◌then◌else◌, true, false}
-use Rattle.std.specs.Str.{bytes_eq}
 use Rattle.std.proofs.Common.{refl, sym, ap, ◌∙◌, subst, arith, inl, inr, append_assoc}
 use Rattle.std.proofs.lemmas.Option.{slice_get_within}
 use Rattle.spl_tree.specs.declared.expression.Placed.{Placed}
@@ -13,16 +12,15 @@ use Rattle.spl_tree.specs.declared.unit.Invocation.{Invocation}
 use Rattle.spl_tree.specs.Grammar.{placed}
 use Rattle.language_model.specs.declared.expansion.ExpansionRefusal.TheVariants as R
 use Rattle.language_model.specs.declared.expansion.Operation.{Operation}
-use Rattle.language_model.specs.Composites.{composite_named, composites}
+use Rattle.language_model.specs.Composites.{composites}
 use Rattle.language_model.specs.Declarations.{first_of}
 use Rattle.language_model.specs.Expansion.{Expands, Found, Inlined, Made, Opened, after, expanded, expanded_graph, expanded_invocation, expanded_main, expanded_target, if_declared, if_grown, if_within, inlined, is_within, main_body, opened_in, operation, ports_of, with_expansion, with_operation}
-use Rattle.language_model.specs.Kinds.{kind_named}
-use Rattle.language_model.specs.Invoking.{Body, Nothing, Operator, Target, body_or_operator, fits_head, operator_or_nothing, target_of, undeclared}
+use Rattle.language_model.specs.Invoking.{Body, Nothing, Operator, Target, fits_head, target_of, undeclared}
 use Rattle.language_model.specs.Scopes.{At}
-use Rattle.language_model.proofs.Standing as F
-use Rattle.language_model.proofs.Standing.{first_stands}
 use Rattle.language_model.proofs.ExpansionAnswers.{after_gives, same_Ok}
 use Rattle.spl_value.proofs.Lists.{append_front as grown, append_last as last_at}
+use Rattle.language_model.proofs.Inlining.{found}
+use Rattle.std.proofs.lemmas.List.{append-nil}
 
 -- ---- lists
 
@@ -32,10 +30,6 @@ in_or_last [] y zero x e = inr (cc, refl)
 in_or_last [] y (suc i) x e = absurd cc
 in_or_last (z ∷ xs) y zero x e = inl e
 in_or_last (z ∷ xs) y (suc i) x e = elim (in_or_last xs y i x e) [ inl old ↦ inl old | inr new ↦ inr (new.0, ap suc new.1) ]
-
-append_none : {A : Type 0} (xs : List A) → xs ++ [] ≡ xs
-append_none [] = refl
-append_none (x ∷ xs) = ap (λ ys. x ∷ ys) (append_none xs)
 
 -- ---- what stands in what was made
 
@@ -66,7 +60,7 @@ record Grows (xs ys : List Inlined) : Type 0 where
   pub is : ys ≡ xs ++ more
 
 same_grows : (xs : List Inlined) → Grows xs xs
-same_grows xs = record { more = []; is = sym (append_none xs) }
+same_grows xs = record { more = []; is = sym (append-nil xs) }
 
 grows_on : (xs ys zs : List Inlined) → Grows xs ys → Grows ys zs → Grows xs zs
 grows_on xs ys zs f g = record { more = f.more ++ g.more; is = g.is ∙ ap (λ l. l ++ g.more) f.is ∙ append_assoc xs f.more g.more }
@@ -118,7 +112,7 @@ module _ (unit : List Definition) (p : Opened) (number : ℕ) (i : Invocation) (
   operator_takes kind = record {
     earlier = before.expansions;
     later = [];
-    split = sym (append_none before.expansions);
+    split = sym (append-nil before.expansions);
     body = p.body;
     invocation = i;
     in_bodies = stands;
@@ -143,22 +137,6 @@ module _ (unit : List Definition) (p : Opened) (number : ℕ) (i : Invocation) (
       subst (Keeps unit before) w.1 record { holds = with_operation_holds kind w.0; grows = same_grows before.expansions }
 
 -- ---- a composite
-
-named : (name : List ℕ) (o : Option (At Composite)) (c : At Composite) → body_or_operator name o ≡ Body c → o ≡ Some c
-named name (Some d) c e = let same : d ≡ c = cc in ap Some same
-named name None c e = absurd (no_body (kind_named name) e)
-  where
-    no_body : (o : Option OpKind) → operator_or_nothing o ≡ Body c → ⊥
-    no_body None e = cc
-    no_body (Some kind) e = cc
-
-found : (unit : List Definition) (name : List ℕ) (c : At Composite) → target_of unit name ≡ Body c → slice_get (composites unit) c.place ≡ Some c.what
-found unit name c e =
-    let h = subst (F.Stands (λ (d : Composite). bytes_eq d.name.what name) (composites unit) 0) (named name (composite_named unit name) c e)
-    (first_stands (λ (d : Composite). bytes_eq d.name.what name) (composites unit) 0) in
-    let place : c.place ≡ 0 + h.0 = h.1 in
-    let same : c.place ≡ h.0 = omega arith in
-    rw same h.2
 
 with_expansion_keeps : (unit : List Definition) (x : Inlined) (made : Made) → Holds unit made → IsBehind unit (length made.expansions) x → Keeps unit made (with_expansion x made)
 with_expansion_keeps unit x made h is =

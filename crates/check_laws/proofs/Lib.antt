@@ -17,7 +17,7 @@ mod OutputsFit
 mod LogicFits
 mod PartsFit
 mod FollowedTexts
-mod FileParameters
+pub mod FileParameters
 mod FileParts
 mod FreeFiles
 mod OwnFiles

@@ -39,9 +39,11 @@ use Rattle.language_model.proofs.Standing.{Bears, attribute_there}
 use Rattle.language_model.specs.StreamTypes.{Attributes}
 use Rattle.language_model.specs.Typing.{after, as_wanted, meant_typed, mismatch, same_types, typed, typing}
 use Rattle.language_model.proofs.TypingLaws as L
-use Rattle.check_laws.proofs.Accepting.{TypingGives, gives_if, none_at, rolled, same_equal, typed_fits, wanted_fits}
+use Rattle.check_laws.proofs.Accepting.{TypingGives, gives_if, none_at, typed_fits, wanted_fits}
 use Rattle.check_laws.proofs.AssignedOnce.{AssignsFit, EachOnce, FillsFit, ForAttribute, counts_times, each_once, times}
 use Rattle.language_model.proofs.FoundAnswers.{Gives, after_after, gives_after, gives_then}
+use Rattle.language_model.proofs.SameTypes.{equal_from_same}
+use Rattle.language_model.proofs.Wanting.{rolled}
 
 -- the code of a tuple that has one field for each attribute, of its type
 pub record TupleFits (scope : Scope) (schema : Attributes) (code : Code Slot) : Type 0 where
@@ -71,7 +73,7 @@ module _ (laws : TypingGives) (scope : Scope) (bare : scope.vars ≡ []) (fine :
   one_fits at name t [] is = tt
   one_fits at name t (a ∷ []) is =
       gives_if (λ code. CodeFits scope code t) (same_types a.kind t) (Ok (C.Name (Q.Attribute a.port a.attribute))) (bad_output at)
-      (λ same. subst (CodeFits scope (C.Name (Q.Attribute a.port a.attribute))) (same_equal a.kind t same) (name_fits name a is)) (λ other. tt)
+      (λ same. subst (CodeFits scope (C.Name (Q.Attribute a.port a.attribute))) (equal_from_same a.kind t same) (name_fits name a is)) (λ other. tt)
   one_fits at name t (a ∷ b ∷ as') is = tt
 
   taken_fits : (schema : Attributes) (at : ℕ) → FillsFit CodeFor schema (taken_over scope at)
@@ -192,7 +194,7 @@ module _ (laws : TypingGives) (scope : Scope) (bare : scope.vars ≡ []) (fine :
   group_fits : (schema : Attributes) → AssignsFit GatheredFor schema (assigned_group scope)
   group_fits schema a e =
       gives_after OwnGathered (GatheredFor a) (level_gathered scope e.at (out-ExprKind e.what)) (of_wanted e.at (Some a.kind)) (gathered_fits e.at (out-ExprKind e.what)) (λ g h.
-      gives_if (GatheredFor a) (same_types g.kind a.kind) (Ok g) (mismatch e.at) (λ same. subst (λ t. Gathered t g) (same_equal g.kind a.kind same) h) (λ other. tt))
+      gives_if (GatheredFor a) (same_types g.kind a.kind) (Ok g) (mismatch e.at) (λ same. subst (λ t. Gathered t g) (equal_from_same g.kind a.kind same) h) (λ other. tt))
 
   last_fits : (schema : Attributes) (at : ℕ) → FillsFit GatheredFor schema (last_of scope at)
   last_fits schema at a = gives_after (CodeFor a) (GatheredFor a) (taken_over scope at a) _ (taken_fits schema at a) (λ code h. F.last code a.kind h)
@@ -240,7 +242,7 @@ place_fits : (at : ℕ) (input : Attributes) (a : Named SplType) (o : Option (At
 place_fits at input a None h = tt
 place_fits at input a (Some b) h =
     gives_if (LikeAttribute input a) (same_types b.what.kind a.kind) (Ok b.place) (bad_output at)
-    (λ same. (b.what, h.0, h.1, same_equal b.what.kind a.kind same)) (λ other. tt)
+    (λ same. (b.what, h.0, h.1, equal_from_same b.what.kind a.kind same)) (λ other. tt)
 
 place_more : (input : Attributes) (a : Named SplType) (output : Attributes) (place : ℕ) (places : List ℕ) → LikeAttribute input a place → PlacesFit input output places
     → PlacesFit input (a ∷ output) (place ∷ places)

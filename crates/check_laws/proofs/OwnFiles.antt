@@ -31,6 +31,7 @@ use Rattle.check_laws.specs.OwnFilesLaw.{OwnFilesLaw}
 use Rattle.check_laws.proofs.FileParts.{Fitted, operators_files, part_file}
 use Rattle.check_laws.proofs.FoundSteps.{after_gives, same_Ok}
 use Rattle.check_laws.proofs.FreeFiles.{Clear, Free, all_free, bare_free}
+use Rattle.spl_value.proofs.Lists.{other_bytes}
 
 -- ---- the files of parts
 
@@ -45,13 +46,6 @@ file_of_source file = record { sink = false; file = placed 0 file }
 
 equal_bytes : (m n : List ℕ) → bytes_eq m n ≡ true → bytes_eq n m ≡ true
 equal_bytes m n is = (bytes_decides n m).1 (sym ((bytes_decides m n).0 is))
-
-other_bytes : (m n : List ℕ) → bytes_eq m n ≡ false → bytes_eq n m ≡ false
-other_bytes m n is = by_test (bytes_eq n m) refl
-  where
-    by_test : (b : Bool) → bytes_eq n m ≡ b → bytes_eq n m ≡ false
-    by_test true same = let both : bytes_eq m n ≡ true = equal_bytes n m same in absurd cc
-    by_test false other = other
 
 -- files of which one is a sink's don't clash where they are others
 apart_of : (m n : List ℕ) (b : Bool) → (bytes_eq m n && b) ≡ false → b ≡ true → bytes_eq n m ≡ false

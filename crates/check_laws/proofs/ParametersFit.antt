@@ -36,9 +36,11 @@ use Rattle.language_model.specs.ParameterTyping.{Site, extra, first_schema, form
 use Rattle.language_model.specs.Scopes.{At, attribute_of}
 use Rattle.language_model.proofs.Standing.{Bears, attribute_there}
 use Rattle.language_model.specs.Typing.{after, mismatch, typing}
-use Rattle.check_laws.proofs.Accepting.{TypingGives, gives_if, none_at, rolled, typed_fits, wanted_fits}
+use Rattle.check_laws.proofs.Accepting.{TypingGives, gives_if, none_at, typed_fits, wanted_fits}
 use Rattle.language_model.proofs.FoundAnswers.{Gives, gives_after, gives_then}
 use Rattle.spl_value.proofs.Lists.{any_first as in_front}
+use Rattle.check_laws.proofs.FileParameters.{given_there}
+use Rattle.language_model.proofs.Wanting.{rolled}
 
 -- ---- files
 
@@ -306,24 +308,6 @@ pub places_there : (scope : Scope) (o : Option ParameterValue) → AsRole scope 
 places_there scope None h = (no_keys (first_schema scope.ports) []).fit
 places_there scope (Some (V.Places places)) h = (h (V.Places places) refl).0
 places_there scope (Some value) h = (no_keys (first_schema scope.ports) []).fit
-
--- what is needed is given
-value_there : (given : List Given) (name : List ℕ) → list_any (λ g. bytes_eq g.name name) given ≡ true → (value : ParameterValue) × (value_given given name ≡ Some value)
-value_there [] name e = absurd cc
-value_there (g ∷ gs) name e =
-    elim (bytes_eq g.name name) as (λ b. (b || list_any (λ g. bytes_eq g.name name) gs) ≡ true
-    → (value : ParameterValue) × ((if b then Some g.value else value_given gs name) ≡ Some value)) [
-      | true ↦ λ e. (g.value, refl)
-      | false ↦ λ e. value_there gs name e
-    ] e
-
-given_there : (given : List Given) (name : List ℕ) → missing given (name ∷ []) ≡ None → (value : ParameterValue) × (value_given given name ≡ Some value)
-given_there given name none =
-    elim (list_any (λ g. bytes_eq g.name name) given) as (λ b. list_any (λ g. bytes_eq g.name name) given ≡ b → (if b then None else Some name) ≡ None
-    → (value : ParameterValue) × (value_given given name ≡ Some value)) [
-      | true ↦ λ has e. value_there given name has
-      | false ↦ λ lacks e. absurd cc
-    ] refl none
 
 file_in : (scope : Scope) (o : Option ParameterValue) (value : ParameterValue) → o ≡ Some value → ValueFits scope R.File value → IsTrue (is_file_name (as_file o))
 file_in scope o (V.File bytes) e h = subst (λ v. IsTrue (is_file_name (as_file v))) (sym e) h

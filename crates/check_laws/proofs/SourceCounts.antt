@@ -2,7 +2,6 @@
 use Rattle.std.specs.Prelude.{◌≡◌, ◌+◌, ◌<◌, ◌≤◌, ◌^◌, ℕ, zero, suc, List, [], ◌∷◌, ◌++◌, map, flat_map, filter_map, length, Option, Some, None, slice_get}
 use Rattle.std.specs.List.{cons_option}
 use Rattle.std.specs.Option.{option_and_then, option_map, option_map_or}
-use Rattle.std.specs.Str.{bytes_eq}
 use Rattle.std.proofs.Common.{refl, sym, ap, ◌∙◌, subst, arith, length-append}
 use Rattle.std.proofs.lemmas.List.{length-map}
 use Rattle.std.proofs.lemmas.List.Concat.{flat_map-cons}
@@ -16,10 +15,9 @@ use Rattle.language_model.specs.declared.expansion.Source.{Source}
 use Rattle.language_model.specs.Expansion.{Inlined, Made, connections_of, input_sources, names_of_port, own_or_input, place_of, port_names, ports_of, sources_of, taken_in}
 use Rattle.language_model.specs.Invoking.{input_names, stream_names}
 use Rattle.language_model.specs.Numbering.{expansion_of, input_streams, numbers_from, stream_of, streams_of}
-use Rattle.language_model.specs.Scopes.{At, first_from}
-use Rattle.language_model.proofs.Standing.{Stands, first_stands}
 use Rattle.language_model.specs.StreamTypes.{Body, name_places, so_often, taken_by}
 use Rattle.spl_value.proofs.Lists.{at_most_sum}
+use Rattle.language_model.proofs.Flattening.{numbers_within, place_within}
 
 -- ---- lists
 
@@ -39,30 +37,8 @@ often_length : (count at : ℕ) → length (so_often count at) ≡ count
 often_length zero at = refl
 often_length (suc count) at = ap suc (often_length count at)
 
-numbers_within : (n count k : ℕ) → k < count → slice_get (numbers_from n count) k ≡ Some (n + k)
-numbers_within n zero k lt = absurd (omega arith)
-numbers_within n (suc count) zero lt = let same : n ≡ n + 0 = omega arith in ap Some same
-numbers_within n (suc count) (suc k) lt =
-    let same : suc n + k ≡ n + suc k = omega arith in numbers_within (suc n) count k (omega arith) ∙ ap Some same
-
 pub number_at : (count k : ℕ) → k < count → slice_get (numbers_from 0 count) k ≡ Some k
 number_at count k lt = let same : 0 + k ≡ k = omega arith in numbers_within 0 count k lt ∙ ap Some same
-
-pub numbers_length : (n count : ℕ) → length (numbers_from n count) ≡ count
-numbers_length n zero = refl
-numbers_length n (suc count) = ap suc (numbers_length (suc n) count)
-
--- the place of a name is one of the list
-place_within : (name : List ℕ) (names : List (List ℕ)) (k : ℕ) → place_of name names ≡ Some k → k < length names
-place_within name names k e = within (first_from (λ n. bytes_eq n name) 0 names) (first_stands (λ n. bytes_eq n name) names 0) e
-  where
-    within : (o : Option (At (List ℕ))) → Stands (λ n. bytes_eq n name) names 0 o → option_map (λ n. n.place) o ≡ Some k → k < length names
-    within None h e = absurd cc
-    within (Some a) h e =
-        let place : a.place ≡ 0 + h.0 = h.1 in
-        let same : a.place ≡ k = cc in
-        let lt : h.0 < length names = slice_get_within names h.0 a.what h.2 in
-        omega arith
 
 -- ---- what names mean
 

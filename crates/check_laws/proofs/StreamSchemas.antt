@@ -5,10 +5,7 @@ use Rattle.std.specs.Option.{option_and_then}
 use Rattle.std.proofs.Common.{refl, sym, ap, ◌∙◌, subst, arith, inl, inr}
 use Rattle.std.proofs.lemmas.Bool.{cases_lt}
 use Rattle.std.proofs.lemmas.Option.{slice_get-get_or, slice_get_past}
-use Rattle.spl_value.specs.declared.types.SplType.{SplType}
-use Rattle.spl_value.specs.declared.types.SplType.TheOpen as T
 use Rattle.spl_value.specs.declared.types.SplType.TheVariants as S
-use Rattle.spl_value.specs.declared.types.SplType.TheViews.{out-SplType}
 use Rattle.spl_tree.specs.declared.graph.Graph.{Graph}
 use Rattle.spl_tree.specs.declared.graph.Stream.{Stream}
 use Rattle.spl_tree.specs.declared.unit.Definition.{Definition}
@@ -21,7 +18,9 @@ use Rattle.language_model.specs.StreamTypes.{Attributes, Body, Origin, are_alike
 use Rattle.language_model.specs.Typing.{Found, after, mismatch}
 use Rattle.language_model.proofs.TypingLaws.{same_types_law}
 use Rattle.check_laws.proofs.FoundSteps.{after_gives, same_Ok}
-use Rattle.check_laws.proofs.SourceCounts.{number_at, numbers_length}
+use Rattle.check_laws.proofs.SourceCounts.{number_at}
+use Rattle.language_model.proofs.Flattening.{numbers_length}
+use Rattle.spl_value.proofs.TypesLaws.{rows_equal}
 
 -- ---- streams
 
@@ -76,12 +75,8 @@ streams_found unit g all e = (
 
 -- ---- outputs and ports
 
-tuples_same : (own schema : Attributes) → S.Tuple own ≡ S.Tuple schema → own ≡ schema
-tuples_same own schema e =
-    let same : ◌≡◌ {A = T.SplType-F SplType} (T.Tuple own) (T.Tuple schema) = sym (S.outs-Tuple own) ∙ ap out-SplType e ∙ S.outs-Tuple schema in cc
-
 attributes_same : (own schema : Attributes) → same_attributes own schema ≡ true → own ≡ schema
-attributes_same own schema e = tuples_same own schema ((same_types_law (S.Tuple own) (S.Tuple schema)).0 e)
+attributes_same own schema e = rows_equal own schema ((same_types_law (S.Tuple own) (S.Tuple schema)).0 e)
 
 contained_at : (xs : List ℕ) (x : ℕ) (c : Contains xs x) → slice_get xs c.0 ≡ Some x
 contained_at xs x c = slice_get-get_or xs c.0 x c.1 ∙ ap Some c.2

@@ -1,18 +1,18 @@
 -- The graph of a unit: from which composite it comes, and what was expanded on the way to it.
 use Rattle.std.specs.Prelude.{◌≡◌, ℕ, List, Option, Some, None, Ok, map, length, slice_get}
 use Rattle.std.proofs.Common.{sym, ◌∙◌}
-use Rattle.spl_tree.specs.declared.expression.Placed.{Placed}
 use Rattle.spl_tree.specs.declared.graph.Graph.{Graph}
 use Rattle.spl_tree.specs.declared.unit.Composite.{Composite}
 use Rattle.spl_tree.specs.declared.unit.Definition.{Definition}
 use Rattle.language_model.specs.Composites.{composites}
 use Rattle.language_model.specs.Declarations.{first_of}
 use Rattle.language_model.specs.Expansion.{Found, Made, after, expanded_main}
-use Rattle.language_model.specs.Flat.{IsFlat, expands, files_had, flat_from, graph_of, if_all_taken, if_none_had, no_main, ordered, recursive, twice, with_own_files}
+use Rattle.language_model.specs.Flat.{IsFlat, expands, files_had, flat_from, graph_of, if_all_taken, no_main, ordered, recursive, twice, with_own_files}
 use Rattle.language_model.specs.Numbering.{expansions_from, ops_from, streams_from}
 use Rattle.language_model.specs.Scopes.{At}
 use Rattle.language_model.specs.Taking.{first_untaken, taken}
 use Rattle.language_model.proofs.ExpansionAnswers.{after_gives, same_Ok}
+use Rattle.language_model.proofs.Flattening.{none_had}
 
 -- ---- the main composite
 
@@ -36,10 +36,6 @@ topo_of made = taken (streams_from 0 made.ops) (ops_from made 0 made.ops)
 taken_all : (made : Made) (topo : List ℕ) (o : Option ℕ) (g : Graph) → if_all_taken made topo o ≡ Ok g → graph_of made topo ≡ g
 taken_all made topo None g e = same_Ok e
 taken_all made topo (Some n) g e = absurd cc
-
-none_had : (h : Graph) (o : Option (Placed (List ℕ))) (g : Graph) → if_none_had h o ≡ Ok g → h ≡ g
-none_had h None g e = same_Ok e
-none_had h (Some file) g e = absurd cc
 
 pub record IsMade (unit : List Definition) (main : At Composite) (g : Graph) : Type 0 where
   pub made : Made

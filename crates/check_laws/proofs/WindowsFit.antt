@@ -38,8 +38,9 @@ use Rattle.language_model.specs.Scopes.{At, attribute_of, first_from}
 use Rattle.language_model.proofs.Standing.{Bears, attribute_there, Stands, first_stands}
 use Rattle.language_model.specs.StreamTypes.{Attributes}
 use Rattle.language_model.specs.Typing.{Found, after, refused, same_types}
-use Rattle.check_laws.proofs.Accepting.{gives_if, rolled}
+use Rattle.check_laws.proofs.Accepting.{gives_if}
 use Rattle.language_model.proofs.FoundAnswers.{Gives, gives_after, gives_then}
+use Rattle.language_model.proofs.Wanting.{rolled}
 
 -- ---- counts
 

@@ -103,7 +103,7 @@ if_main_is c place is =
       | false ↦ λ may here. absurd cc
     ] refl is
 
-found_first : {A : Type 0} (test : A → Bool) (i : ℕ) (xs : List A) (x : At A) → first_from test i xs ≡ Some x → (k : ℕ) × (x.place ≡ i + k) × (slice_get xs k ≡ Some x.what)
+pub found_first : {A : Type 0} (test : A → Bool) (i : ℕ) (xs : List A) (x : At A) → first_from test i xs ≡ Some x → (k : ℕ) × (x.place ≡ i + k) × (slice_get xs k ≡ Some x.what)
 found_first test i [] x is = absurd cc
 found_first {A} test i (y ∷ ys) x is =
     elim (test y) as (λ b. (if b then Some (record { place = i; what = y }) else first_from test (suc i) ys) ≡ Some x → (k : ℕ) × (x.place ≡ i + k) × (slice_get (y ∷ ys) k ≡ Some x.what)) [

@@ -1,5 +1,5 @@
 mod Begin
-mod Comes
+pub mod Comes
 mod Keeping
 mod Resuming
 mod Steps

@@ -1,6 +1,6 @@
 -- What a step of a walk comes to, by what it writes.
 use Rattle.std.proofs.Common.{◌≡◌, ◌∙◌, ◌⊎◌, inl, inr, refl, sym, ap, subst, ℕ, zero, suc, ◌+◌, ◌-◌, ◌<◌, ◌≤◌, List, [], ◌∷◌, ◌++◌, length, take, Option, Some, None, Ok, Err, codes, arith, length-append, get_or}
-use Rattle.std.specs.Prelude.{Bool, true, false, ◌&&◌, ◌==◌, ◌^◌, min, nat_le, nat_lt, Result, IfOk, MatchOption, if◌then◌else◌, reverse, slice_get, slice_set, sum_by}
+use Rattle.std.specs.Prelude.{Bool, true, false, ◌&&◌, ◌==◌, ◌^◌, min, nat_le, nat_lt, MatchOption, if◌then◌else◌, reverse, slice_get, slice_set, sum_by}
 use Rattle.std.proofs.lemmas.List.{length-reverse, length-set}
 use Rattle.std.proofs.lemmas.List.Sums.{sum_by-append}
 use Rattle.spl_tree.specs.declared.expression.Placed.{Placed}
@@ -34,6 +34,7 @@ use Rattle.composite_expand.proofs.Way.{Holds, front, refused, passed_over, adde
 use Rattle.composite_expand.proofs.Work.{work_closed, work_further, work_opened}
 use Rattle.spl_value.proofs.Bools.{and_left as andb_left, and_right as andb_right}
 use Rattle.spl_value.proofs.Lists.{reverse_more as reversed}
+use Rattle.spl_value.proofs.Results.{ok_weaker}
 
 -- all but the bodies on the way
 pub record IsSame (w v : Walk) : Type 0 where
@@ -366,10 +367,6 @@ pub inputs_stand : (unit : List Definition) (main : At Composite) (w : Walk) (o 
 inputs_stand unit main w o c i is row inputs there d fits gives y at_site of =
     gives is.at.made.expansions (row_of unit main w o c i is row there) is.here y at_site
     (ap (λ (e : At Composite). length e.what.inputs) of ∙ fits_inputs d.what i fits)
-
-pub if_ok : {A E : Type 0} (r : Result A E) (P Q : A → Type 0) → ((x : A) → P x → Q x) → IfOk r P → IfOk r Q
-if_ok (Ok x) P Q f is = f x is
-if_ok (Err e) P Q f is = is
 
 pub row_there : (rows read : List (List Input)) (n : ℕ) (row seen : List Input) → read ≡ rows → n < length rows → row ≡ get_or read n row → seen ≡ row → slice_get rows n ≡ Some seen
 row_there rows read n row seen same within at is =

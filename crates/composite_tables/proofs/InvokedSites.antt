@@ -1,8 +1,7 @@
 -- Tables by sites, to which one more is added.
-use Rattle.std.specs.Prelude.{◌≡◌, ◌<◌, ◌≤◌, ℕ, suc, ◌+◌, Bool, true, false, cond, List, length, if◌then◌else◌, ◌==◌, ◌&&◌, Option, Some, None, is_some, slice_get}
+use Rattle.std.specs.Prelude.{◌≡◌, ◌<◌, ◌≤◌, ℕ, suc, ◌+◌, Bool, true, false, cond, List, length, if◌then◌else◌, Option, Some, None, is_some, slice_get}
 use Rattle.std.specs.Option.{option_and_then, option_map_or, option_or}
 use Rattle.std.proofs.Common.{refl, ap, sym, ◌∙◌, get_or, drop, add-one}
-use Rattle.std.proofs.lemmas.Bool.{eqb-true}
 use Rattle.std.proofs.lemmas.List.{drop_more}
 use Rattle.std.proofs.lemmas.Option.{slice_get-get_or, slice_get_past}
 use Rattle.spl_tree.specs.declared.graph.Site.{Site}
@@ -12,14 +11,7 @@ use Rattle.language_model.specs.Numbering.{is_site}
 use Rattle.composite_tables.specs.declared.made.Body.{Body}
 use Rattle.composite_tables.specs.SiteTable.{Parts, first_at, body_at, composite_of}
 use Rattle.composite_tables.proofs.Numbers.{rest_at}
-
-pub same_sites : (s q : Site) → is_site s q ≡ true → s ≡ q
-same_sites s q h = parts (s.expansion == q.expansion) (s.invocation == q.invocation) refl refl h
-  where
-    parts : (a b : Bool) → (s.expansion == q.expansion) ≡ a → (s.invocation == q.invocation) ≡ b → (a && b) ≡ true → s ≡ q
-    parts true true d e h = λ i. record { expansion = eqb-true s.expansion q.expansion d i; invocation = eqb-true s.invocation q.invocation e i }
-    parts true false d e h = cc
-    parts false b d e h = cc
+use Rattle.language_model.proofs.Flattening.{same_site}
 
 module _ (f g : Site → Option ℕ) (s : Site) (n : ℕ) where
   pub added : ((q : Site) → g q ≡ cond (is_site s q) (Some n) (f q)) → is_some (f s) ≡ false
@@ -28,7 +20,7 @@ module _ (f g : Site → Option ℕ) (s : Site) (n : ℕ) where
     where
       stands : (b : Bool) (o : Option ℕ) → is_site s q ≡ b → f q ≡ o → cond b (Some n) o ≡ option_or o (if b then Some n else None)
       stands true None e d = refl
-      stands true (Some k) e d = let there = sym absent ∙ ap (λ s. is_some (f s)) (same_sites s q e) ∙ ap is_some d in cc
+      stands true (Some k) e d = let there = sym absent ∙ ap (λ s. is_some (f s)) (same_site s q e) ∙ ap is_some d in cc
       stands false None e d = refl
       stands false (Some k) e d = refl
 
@@ -38,10 +30,10 @@ module _ (f g : Site → Option ℕ) (s : Site) (n : ℕ) where
       stands : (b : Bool) (o : Option ℕ) → is_site s q ≡ b → f q ≡ o → o ≡ option_or o (if b then Some n else None)
       stands b (Some k) e d = refl
       stands false None e d = refl
-      stands true None e d = let absent = sym there ∙ ap (λ s. is_some (f s)) (same_sites s q e) ∙ ap is_some d in cc
+      stands true None e d = let absent = sym there ∙ ap (λ s. is_some (f s)) (same_site s q e) ∙ ap is_some d in cc
 
 is_turned : (s q : Site) → is_site s q ≡ true → is_site q s ≡ true
-is_turned s q h = let same = same_sites s q h in ap (λ t. is_site t s) (sym same) ∙ ap (is_site s) same ∙ h
+is_turned s q h = let same = same_site s q h in ap (λ t. is_site t s) (sym same) ∙ ap (is_site s) same ∙ h
 
 is_site-swap : (s q : Site) → is_site s q ≡ is_site q s
 is_site-swap s q = by (is_site s q) (is_site q s) refl refl

@@ -23,16 +23,13 @@ use Rattle.composite_tables.specs.steps.StreamTable.{Table, stream_in, ops_in, r
 use Rattle.composite_tables.proofs.Filling.{at_place, table_has}
 use Rattle.composite_tables.proofs.Outputs.{stream_law}
 use Rattle.composite_tables.proofs.SiteTables.{outputs_of, first_stream-append, outputs_more, none_past}
+use Rattle.language_model.proofs.Flattening.{numbers_length}
 
 -- ---- rows by their places
 
 numbers_shift : (n count : ℕ) → numbers_from (suc n) count ≡ map suc (numbers_from n count)
 numbers_shift n zero = refl
 numbers_shift n (suc count) = ap (λ ks. suc n ∷ ks) (numbers_shift (suc n) count)
-
-length-numbers_from : (n count : ℕ) → length (numbers_from n count) ≡ count
-length-numbers_from n zero = refl
-length-numbers_from n (suc count) = ap suc (length-numbers_from (suc n) count)
 
 filter_map-map : {A B C : Type 0} (f : B → Option C) (g : A → B) (xs : List A) → filter_map f (map g xs) ≡ filter_map (λ x. f (g x)) xs
 filter_map-map f g [] = refl
@@ -72,7 +69,7 @@ length-outputs_from number (i ∷ is) =
     let output : ℕ → Output = λ k. record { invocation = number; output = k } in
     let names = map (λ o. o.name.what) i.outputs in
     length-append (map output (numbers_from 0 (length i.outputs))) (outputs_from (suc number) is)
-    ∙ (λ j. (length-map (numbers_from 0 (length i.outputs)) output ∙ length-numbers_from 0 (length i.outputs) ∙ sym (length-map i.outputs (λ o. o.name.what))) j
+    ∙ (λ j. (length-map (numbers_from 0 (length i.outputs)) output ∙ numbers_length 0 (length i.outputs) ∙ sym (length-map i.outputs (λ o. o.name.what))) j
     + length-outputs_from (suc number) is j)
     ∙ sym (length-append names (flat_map (λ i. map (λ o. o.name.what) i.outputs) is))
 

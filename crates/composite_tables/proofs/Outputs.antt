@@ -9,7 +9,7 @@ use Rattle.language_model.specs.declared.expansion.Source.{Source}
 use Rattle.language_model.specs.Expansion.{Inlined, Made, source}
 use Rattle.language_model.specs.Numbering.{is_site, site_at, graph_outputs, operator_at, expansion_at, output_place, operator_or_expansion, stream_of}
 use Rattle.composite_tables.specs.Inputs.{IsBefore, AreNested}
-use Rattle.composite_tables.proofs.InvokedSites.{same_sites}
+use Rattle.language_model.proofs.Flattening.{same_site}
 
 pub and_then_same : {A B : Type 0} (f g : A → Option B) (o : Option A) → ((a : A) → o ≡ Some a → f a ≡ g a) → option_and_then f o ≡ option_and_then g o
 and_then_same f g None h = refl
@@ -35,7 +35,7 @@ module _ (made : Made) (nested : AreNested made.expansions) where
       by : (o : Option Site) → x.site ≡ o → IsBefore m o → s.expansion < m
       by None e before = let h : false ≡ true = ap (λ o. option_map_or (is_site s) o false) (sym e) ∙ stands in cc
       by (Some t) e before =
-          let same : s ≡ t = same_sites s t (ap (λ o. option_map_or (is_site s) o false) (sym e) ∙ stands) in
+          let same : s ≡ t = same_site s t (ap (λ o. option_map_or (is_site s) o false) (sym e) ∙ stands) in
           subst (λ (n : ℕ). n < m) (sym (ap (λ s. s.expansion) same)) before
 
   module _ (f g : Source → Option ℕ) (number : ℕ) (agree : (m place : ℕ) → number < m → f (source m place) ≡ g (source m place)) where

@@ -1,36 +1,17 @@
 -- What a name takes in a body whose inputs are kept as a row.
-use Rattle.std.specs.Prelude.{◌≡◌, ℕ, zero, suc, ◌+◌, ◌<◌, Bool, true, false, List, [], ◌∷◌, if◌then◌else◌, length, Option, Some, None, slice_get, MatchOption}
-use Rattle.std.specs.Option.{option_map, option_map_or, IfSome}
-use Rattle.std.specs.Str.{bytes_eq}
+use Rattle.std.specs.Prelude.{◌≡◌, ℕ, zero, suc, ◌<◌, List, [], ◌∷◌, length, Option, Some, None, slice_get, MatchOption}
+use Rattle.std.specs.Option.{option_map_or}
 use Rattle.std.proofs.Common.{refl, sym, ap, subst, ◌∙◌, arith}
 use Rattle.std.proofs.lemmas.List.{length-map}
 use Rattle.std.proofs.lemmas.Option.{none-some, slice_get_within}
 use Rattle.spl_tree.specs.declared.unit.Composite.{Composite}
 use Rattle.language_model.specs.Expansion.{Inlined, input_sources, own_or_input, place_of, source, sources_of}
 use Rattle.language_model.specs.Invoking.{input_names, stream_names}
-use Rattle.language_model.specs.Scopes.{at_place, first_from}
 use Rattle.composite_tables.specs.declared.made.Input.{Input}
 use Rattle.composite_tables.specs.declared.made.Taken.TheVariants as T
 use Rattle.composite_tables.specs.Inputs.{AreNested, StandsFor, IsBody}
 use Rattle.composite_tables.proofs.Extending.{taken_same}
-
--- the place of a name is within the list
-within_from : {A : Type 0} (p : A → Bool) (i : ℕ) (xs : List A) → IfSome (option_map (λ n. n.place) (first_from p i xs)) (λ k. k < i + length xs)
-within_from p i [] = tt
-within_from p i (x ∷ xs) =
-    elim (p x) as (λ b. IfSome (option_map (λ n. n.place) (if b then Some (at_place i x) else first_from p (suc i) xs)) (λ k. k < i + suc (length xs))) [
-      | true ↦ omega arith
-      | false ↦ shifted (option_map (λ n. n.place) (first_from p (suc i) xs)) (within_from p (suc i) xs)
-    ]
-  where
-    shifted : (o : Option ℕ) → IfSome o (λ k. k < suc i + length xs) → IfSome o (λ k. k < i + suc (length xs))
-    shifted None h = tt
-    shifted (Some k) h = omega arith
-
-pub place_within : (name : List ℕ) (names : List (List ℕ)) (k : ℕ) → place_of name names ≡ Some k → k < length names
-place_within name names k is =
-    let h : k < 0 + length names = subst (λ o. IfSome o (λ k. k < 0 + length names)) is (within_from (λ n. bytes_eq n name) 0 names) in
-    omega arith
+use Rattle.language_model.proofs.Flattening.{place_within}
 
 -- inputs need not be followed more often than there are bodies
 pub sources_at : (xs : List Inlined) → AreNested xs → (number : ℕ) (x : Inlined) → slice_get xs number ≡ Some x → (name : List ℕ)

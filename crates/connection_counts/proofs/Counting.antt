@@ -12,9 +12,6 @@ use Rattle.connection_counts.specs.Counting.{open_from}
 eq_false : (a b : ℕ) → (a ≡ b → ⊥) → (a == b) ≡ false
 eq_false a b apart = ne_eqb a b apart
 
-eq_true : (a b : ℕ) → a ≡ b → (a == b) ≡ true
-eq_true a b e = eq-eqb a b e
-
 suc_zero : (n : ℕ) → false ≡ (suc n == 0)
 suc_zero n = sym (eq_false (suc n) 0 (λ e. omega (arith, e)))
 
@@ -73,7 +70,7 @@ one_fewer test (q ∷ ps) i zero p h at was =
     let here : i + 0 ≡ i = omega arith in
     let same : q ≡ p = cc in
     let open_before : is_over h i ≡ false = ap (is_over h) (sym here) ∙ was in
-    let over_now : is_over (came (i + 0) I.Final ∷ h) i ≡ true = ap (λ b. if b && true then true else is_over h i) (eq_true (i + 0) i here) in
+    let over_now : is_over (came (i + 0) I.Final ∷ h) i ≡ true = ap (λ b. if b && true then true else is_over h i) (eq-eqb (i + 0) i here) in
     let rest = before_all test ps (suc i) (i + 0) h (omega arith) in
     by (test q) (test p) (ap test same) (is_over h i) (is_over (came (i + 0) I.Final ∷ h) i) open_before over_now (open_from test ps (suc i) h) (open_from test ps (suc i) (came (i + 0) I.Final ∷ h)) rest
   where
@@ -143,7 +140,7 @@ port_open (own ∷ ins) k zero i streams at =
     let here : k ≡ k + 0 = omega arith in
     let same : own ≡ streams = cc in
     of_port (λ q. q == (k + 0)) k own (ports_from (suc k) ins) i i
-    ∙ (λ j. (if eq_true k (k + 0) here j then length (same j) else 0) + none_later ins (suc k) (k + 0) i (omega arith) j)
+    ∙ (λ j. (if eq-eqb k (k + 0) here j then length (same j) else 0) + none_later ins (suc k) (k + 0) i (omega arith) j)
     ∙ omega arith
 port_open (own ∷ ins) k (suc m) i streams at =
     let there : suc k + m ≡ k + suc m = omega arith in

@@ -11,9 +11,7 @@ use Rattle.connection_counts.proofs.Counting.{none_open, one_fewer}
 use Rattle.spl_value.proofs.Lists.{get_set_same, get_within}
 use Rattle.stream_model.proofs.ByPorts.{input_port}
 use Rattle.std.proofs.lemmas.Bool.{lt-ltb}
-
-some_same : {A : Type 0} (x y : A) → Some x ≡ Some y → x ≡ y
-some_same x y e = cc
+use Rattle.spl_value.proofs.Results.{some_same}
 
 -- the port of an input, and its counts before and behind the input's final marker
 pub record Closed (op : Operator) (h : List Event) (i : ℕ) : Type 0 where

@@ -1,27 +1,12 @@
 -- The connections of an operator before any event: their ports, and that all are open.
-use Rattle.std.proofs.Common.{◌≡◌, ◌<◌, ◌≤◌, ℕ, zero, suc, ◌+◌, List, [], ◌∷◌, ◌++◌, map, length, slice_get, drop, Some, refl, sym, ap, ◌∙◌, append_assoc, arith}
+use Rattle.std.proofs.Common.{◌≡◌, ◌<◌, ◌≤◌, ℕ, suc, ◌+◌, List, [], ◌∷◌, ◌++◌, map, length, slice_get, drop, Some, sym, ap, ◌∙◌, append_assoc, arith}
 use Rattle.std.specs.Option.{option_map}
 use Rattle.std.proofs.lemmas.Option.{slice_get-map}
-use Rattle.spl_value.proofs.Lists.{get_below}
+use Rattle.spl_value.proofs.Lists.{get_below, next_rest, drop_past}
 use Rattle.stream_model.specs.Operators.{Operator, ports, ports_from}
 use Rattle.connection_counts.specs.Counting.{Counts, open_at}
 use Rattle.connection_counts.proofs.Counting.{all_open, port_open}
-
--- what is left of the ports begins with the next one
-drop_next : {A : Type 0} (xs : List A) (k : ℕ) (x : A) → slice_get xs k ≡ Some x → drop k xs ≡ x ∷ drop (suc k) xs
-drop_next [] k x at = absurd cc
-drop_next (y ∷ xs) zero x at = let same : y ≡ x = cc in ap (λ z. z ∷ xs) same
-drop_next (y ∷ xs) (suc k) x at = drop_next xs k x at
-
-drop_all : {A : Type 0} (xs : List A) (k : ℕ) → length xs ≤ k → drop k xs ≡ []
-drop_all [] zero le = refl
-drop_all [] (suc k) le = refl
-drop_all (x ∷ xs) zero le = absurd (omega (arith, le))
-drop_all (x ∷ xs) (suc k) le = drop_all xs k (omega (arith, le))
-
-append_none : {A : Type 0} (xs : List A) → xs ++ [] ≡ xs
-append_none [] = refl
-append_none (x ∷ xs) = ap (λ ys. x ∷ ys) (append_none xs)
+use Rattle.std.proofs.lemmas.List.{append-nil}
 
 -- the inputs of a port so far and those to come are all
 pub one_more_input : (before after xs : List ℕ) (port i j : ℕ) → i < length xs → j ≡ suc i → after ≡ before ++ port ∷ []
@@ -31,7 +16,7 @@ one_more_input before after xs port i j lt next is =
     ap (λ k. after ++ map (λ s. port) (drop k xs)) next
     ∙ ap (λ ps. ps ++ map (λ s. port) (drop (suc i) xs)) is
     ∙ append_assoc before (port ∷ []) (map (λ s. port) (drop (suc i) xs))
-    ∙ ap (λ rest. before ++ map (λ s. port) rest) (sym (drop_next xs i there.0 there.1))
+    ∙ ap (λ rest. before ++ map (λ s. port) rest) (sym (next_rest xs i there.0 there.1))
 
 -- the ports so far and those to come are all
 pub one_more_port : (before after streams : List ℕ) (k j : ℕ) (ins : List (List ℕ)) → slice_get ins k ≡ Some streams → j ≡ suc k → after ≡ before ++ map (λ s. k) streams
@@ -40,7 +25,7 @@ one_more_port before after streams k j ins at next is =
     ap (λ n. after ++ ports_from n (drop n ins)) next
     ∙ ap (λ ps. ps ++ ports_from (suc k) (drop (suc k) ins)) is
     ∙ append_assoc before (map (λ s. k) streams) (ports_from (suc k) (drop (suc k) ins))
-    ∙ ap (λ rest. before ++ ports_from k rest) (sym (drop_next ins k streams at))
+    ∙ ap (λ rest. before ++ ports_from k rest) (sym (next_rest ins k streams at))
 
 pub one_more_count : (before after : List ℕ) (streams : List ℕ) (k j : ℕ) (ins : List (List ℕ)) → slice_get ins k ≡ Some streams → j ≡ suc k → after ≡ before ++ length streams ∷ []
     → after ++ map length (drop j ins) ≡ before ++ map length (drop k ins)
@@ -48,17 +33,17 @@ one_more_count before after streams k j ins at next is =
     ap (λ n. after ++ map length (drop n ins)) next
     ∙ ap (λ ns. ns ++ map length (drop (suc k) ins)) is
     ∙ append_assoc before (length streams ∷ []) (map length (drop (suc k) ins))
-    ∙ ap (λ rest. before ++ map length rest) (sym (drop_next ins k streams at))
+    ∙ ap (λ rest. before ++ map length rest) (sym (next_rest ins k streams at))
 
 -- where none are to come, these are all
 pub no_more_inputs : (own initial xs : List ℕ) (port i : ℕ) → length xs ≤ i → own ++ map (λ s. port) (drop i xs) ≡ initial ++ map (λ s. port) xs → own ≡ initial ++ map (λ s. port) xs
-no_more_inputs own initial xs port i all is = sym (append_none own) ∙ ap (λ rest. own ++ map (λ s. port) rest) (sym (drop_all xs i all)) ∙ is
+no_more_inputs own initial xs port i all is = sym (append-nil own) ∙ ap (λ rest. own ++ map (λ s. port) rest) (sym (drop_past xs i all)) ∙ is
 
 pub no_more_ports : (own : List ℕ) (k : ℕ) (ins : List (List ℕ)) → length ins ≤ k → own ++ ports_from k (drop k ins) ≡ ports_from 0 ins → own ≡ ports_from 0 ins
-no_more_ports own k ins all is = sym (append_none own) ∙ ap (λ rest. own ++ ports_from k rest) (sym (drop_all ins k all)) ∙ is
+no_more_ports own k ins all is = sym (append-nil own) ∙ ap (λ rest. own ++ ports_from k rest) (sym (drop_past ins k all)) ∙ is
 
 pub no_more_counts : (open_of : List ℕ) (k : ℕ) (ins : List (List ℕ)) → length ins ≤ k → open_of ++ map length (drop k ins) ≡ map length ins → open_of ≡ map length ins
-no_more_counts open_of k ins all is = sym (append_none open_of) ∙ ap (λ rest. open_of ++ map length rest) (sym (drop_all ins k all)) ∙ is
+no_more_counts open_of k ins all is = sym (append-nil open_of) ∙ ap (λ rest. open_of ++ map length rest) (sym (drop_past ins k all)) ∙ is
 
 -- all connections are open, at each port and in all
 pub counts_start : (op : Operator) (ins : List (List ℕ)) (own open_of : List ℕ) (left : ℕ) → op.ins ≡ ins → own ≡ ports_from 0 ins → open_of ≡ map length ins → left ≡ length own

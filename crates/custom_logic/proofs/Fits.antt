@@ -13,9 +13,7 @@ use Rattle.spl_tree.specs.declared.body.Function.{Function}
 use Rattle.spl_tree.specs.declared.body.Statement.{Statement}
 use Rattle.spl_tree.specs.declared.code.Marker.{Marker}
 use Rattle.spl_tree.specs.declared.code.Marker.TheVariants as M
-use Rattle.spl_tree.specs.declared.graph.OpKind.{OpKind}
 use Rattle.language_model.specs.declared.checked.Handlers.{Handlers}
-use Rattle.language_model.specs.declared.checked.Part.{Part}
 use Rattle.language_model.specs.declared.checked.Part.TheVariants as A
 use Rattle.language_model.specs.declared.checked.StateVariable.{StateVariable}
 use Rattle.language_model.specs.declared.env.Env.{Env}
@@ -23,55 +21,23 @@ use Rattle.language_model.specs.declared.scope.Port.{Port}
 use Rattle.language_model.specs.declared.scope.Scope.{Scope}
 use Rattle.language_model.specs.declared.scope.Variable.{Variable}
 use Rattle.language_model.specs.BodyFits.{OfHandler}
-use Rattle.language_model.specs.Keeping.{HandlersFit, PartFits, marker_scope, tuple_scope}
-use Rattle.language_model.specs.Keeping.PartFits.{custom}
+use Rattle.language_model.specs.Keeping.{marker_scope, tuple_scope}
 use Rattle.language_model.specs.Outcomes.{Outcome, Done}
 use Rattle.language_model.specs.Statements.{Left}
 use Rattle.language_model.specs.StreamTypes.{Attributes}
 use Rattle.language_model.specs.ValueLaws.{BodyLeavesLaw}
-use Rattle.language_model.specs.WorldFits.{BodyFits, FunctionsFit, Leaves, VariablesFit}
+use Rattle.language_model.specs.WorldFits.{BodyFits, Leaves, VariablesFit}
 use Rattle.evaluation_laws.specs.HandlerLaws.{StateFits}
 use Rattle.evaluation_laws.specs.ImmutableLaws.{ImmutableLaw}
 use Rattle.stream_model.specs.Bodies.{most_turns}
 use Rattle.stream_model.specs.Customs.{changed, handler, item_leaves, left_by, marker_env, tuple_env}
 use Rattle.stream_model.specs.Operators.{Operator}
-use Rattle.stream_model.specs.Fitting.{HasPort, IsFitting}
+use Rattle.stream_model.specs.Fitting.{HasPort}
 use Rattle.custom_logic.specs.steps.Running.{MayRun, MayRunOn}
-
--- ---- the operator
-
--- where the clauses are handlers, these fit
-handlers_fit : (scope : Scope) (kind : OpKind) (ins outs : List Attributes) (part : Part) (handlers : Handlers) → PartFits scope kind ins outs part
-    → part ≡ A.Custom handlers → HandlersFit scope outs handlers
-handlers_fit scope kind ins outs part handlers (custom own _ _ fit) is = let same : own ≡ handlers = cc in subst (HandlersFit scope outs) same fit
-handlers_fit scope kind ins outs part handlers _ is = absurd cc
-
--- what an operator has: its handlers and what fits of them
-pub record Fitted (op : Operator) (handlers : Handlers) : Type 0 where
-  pub scope : Scope
-  pub functions : FunctionsFit scope.functions op.functions
-  pub ports : map (λ (p : Port). p.schema) scope.ports ≡ op.types.ins
-  pub handlers_fit : HandlersFit scope op.types.outs handlers
-
-pub fitted : (op : Operator) (handlers : Handlers) → IsFitting op → op.clauses ≡ A.Custom handlers → Fitted op handlers
-fitted op handlers fit is = record {
-  scope = fit.scope;
-  functions = subst (λ s. FunctionsFit s op.functions) (sym fit.names.functions) fit.functions;
-  ports = fit.names.ports;
-  handlers_fit = handlers_fit fit.scope fit.kind op.types.ins op.types.outs op.clauses handlers fit.clauses is;
-}
-
--- a port that an operator has is one of the scope, with its attributes
-port_there : (ports : List Port) (i : ℕ) → i < length (map (λ (p : Port). p.schema) ports)
-    → (p : Port) × (slice_get ports i ≡ Some p) × (unwrap_or (slice_get (map (λ (p : Port). p.schema) ports) i) [] ≡ p.schema)
-port_there [] i lt = absurd (let no : i < 0 = lt in omega arith)
-port_there (p ∷ ports) zero lt = (p, refl, refl)
-port_there (p ∷ ports) (suc i) lt = port_there ports i (let le : suc i < suc (length (map (λ (p : Port). p.schema) ports)) = lt in omega arith)
+use Rattle.stream_model.proofs.CustomFits.{port_there, handlers_fit, Fitted}
+use Rattle.spl_value.proofs.Results.{some_same}
 
 -- ---- the environment
-
-some-injective : {A : Type 0} (a b : A) → Some a ≡ Some b → a ≡ b
-some-injective a b e = ap (λ o. unwrap_or o a) e
 
 record Mapped {A B : Type 0} (v : A → B) (o : Option A) (y : B) : Type 0 where
   from : A
@@ -80,7 +46,7 @@ record Mapped {A B : Type 0} (v : A → B) (o : Option A) (y : B) : Type 0 where
 
 mapped : {A B : Type 0} (v : A → B) (o : Option A) (y : B) → option_map v o ≡ Some y → Mapped v o y
 mapped v None y e = absurd cc
-mapped v (Some a) y e = record { from = a; is = refl; gives = some-injective (v a) y e }
+mapped v (Some a) y e = record { from = a; is = refl; gives = some_same (v a) y e }
 
 abbrev variable_of : StateVariable → Variable
 variable_of x = x.variable
@@ -94,7 +60,7 @@ vars_at handlers vars f i x at =
 
 input_at : (p : Port) (vs : List Value) → IsTrue (fits (S.Tuple p.schema) (V.Tuple vs)) → (i : ℕ) (q : Port) → slice_get (p ∷ []) i ≡ Some q
     → (us : List Value) × (slice_get (vs ∷ []) i ≡ Some us) × IsTrue (fits (S.Tuple q.schema) (V.Tuple us))
-input_at p vs t zero q at = (vs, refl, subst (λ r. IsTrue (fits (S.Tuple r.schema) (V.Tuple vs))) (some-injective p q at) t)
+input_at p vs t zero q at = (vs, refl, subst (λ r. IsTrue (fits (S.Tuple r.schema) (V.Tuple vs))) (some_same p q at) t)
 input_at p vs t (suc i) q at = absurd cc
 
 tuple_vars : (scope : Scope) (handlers : Handlers) (p : Port) (vars vs : List Value) → StateFits handlers.state vars → IsTrue (fits (S.Tuple p.schema) (V.Tuple vs))
@@ -197,7 +163,7 @@ all_changed (x ∷ variables) (old ∷ olds) (new ∷ news) n o kept =
   where
     first : (b : Bool) → (b ≡ false → Some new ≡ Some old) → (if b then new else old) ≡ new
     first true same = refl
-    first false same = sym (some-injective new old (same refl))
+    first false same = sym (some_same new old (same refl))
 
 -- a state that fits, and is what is left
 pub record LeftState (variables : List StateVariable) (olds news : List Value) : Type 0 where

@@ -1,18 +1,15 @@
 -- From the definition's words on calls to those of lists of callers.
 use Rattle.std.proofs.Common.{◌≡◌, ◌<◌, ◌≤◌, ◌⊎◌, ◌∙◌, ℕ, zero, suc, List, [], ◌∷◌, ◌++◌, length, Some, refl, ap, sym, inl, inr, subst, arith, ◌+◌, add-one, length-append}
 use Rattle.std.specs.Prelude.{slice_get}
-use Rattle.std.specs.List.{Contains}
-use Rattle.std.proofs.lemmas.Option.{slice_get-get_or, get_or_from_slice_get}
+use Rattle.std.proofs.lemmas.Option.{slice_get-get_or}
 use Rattle.spl_tree.specs.declared.expression.Placed.{Placed}
 use Rattle.language_model.specs.Recursion.{Calls, IsCall}
 use Rattle.cycle_rules.specs.steps.Callers.{Lists, AreEmpty, AreCallers, NotesAll, Calling}
 use Rattle.spl_value.proofs.Lists.{append_cases, get_within}
-
-pub contains_at : {A : Type 0} (xs : List A) (k : ℕ) (x : A) → slice_get xs k ≡ Some x → Contains xs x
-contains_at xs k x e = (k, get_within xs k x e, get_or_from_slice_get xs k x x e)
+use Rattle.language_model.proofs.OneFlat.{there}
 
 pub call_at : (calls : Calls) (from to : ℕ) (list : List (Placed ℕ)) → slice_get calls from ≡ Some list → Calling list to → IsCall calls from to
-call_at calls from to list e h = record { list = list; call = h.call; of_caller = e; among = contains_at list h.at h.call h.is; callee = h.callee }
+call_at calls from to list e h = record { list = list; call = h.call; of_caller = e; among = there list h.at h.call h.is; callee = h.callee }
 
 pub calling_of : (calls : Calls) (from to : ℕ) (h : IsCall calls from to) → Calling h.list to
 calling_of calls from to h = record {

@@ -14,12 +14,9 @@ use Rattle.language_model.specs.Taking.{is_taken, next_from, taken_on, first_unt
 use Rattle.cycle_rules.specs.steps.Makers.{is_made, are_made, Adds, AreRows, covers_from, covers, covers_all, ready, first_ready}
 use Rattle.spl_value.proofs.Bools.{and_false, or_false, or_true}
 use Rattle.spl_value.proofs.Lists.{drop_at, take_at}
+use Rattle.std.proofs.Math.Bool.{and_assoc}
 
 -- ---- rows
-
-pub and_assoc : (a b c : Bool) → ((a && b) && c) ≡ (a && (b && c))
-and_assoc true b c = refl
-and_assoc false b c = refl
 
 swapped : (a b c : Bool) → (a && (b && c)) ≡ ((a && b) && c)
 swapped a b c = sym (and_assoc a b c)

@@ -1,31 +1,15 @@
 -- Files that are had already, by those before them.
-use Rattle.std.specs.Prelude.{◌≡◌, ℕ, Bool, true, false, ◌&&◌, ◌||◌, List, [], ◌∷◌, map, reverse}
+use Rattle.std.specs.Prelude.{◌≡◌, ℕ, Bool, false, ◌&&◌, ◌||◌, List, map, reverse}
 use Rattle.std.specs.List.{list_any}
 use Rattle.std.specs.Str.{bytes_eq}
-use Rattle.std.proofs.Common.{refl, ap, sym, ◌∙◌}
-use Rattle.std.proofs.lemmas.List.{reverse-append}
-use Rattle.std.proofs.lemmas.List.Folds.{list_any-append}
+use Rattle.std.proofs.Common.{ap, sym, ◌∙◌}
 use Rattle.language_model.specs.Declarations.{is_same}
 use Rattle.language_model.specs.SinkFiles.{OpFile, is_had}
 use Rattle.duplicate_rules.specs.declared.files.UsedFile.{UsedFile}
 use Rattle.duplicate_rules.specs.steps.Seen.{file_seen}
-use Rattle.spl_value.proofs.Lists.{any_map}
+use Rattle.spl_value.proofs.Lists.{any_map, any_reverse}
 
 -- ---- those before a file
-
-swap : (a b : Bool) → (a || (b || false)) ≡ (b || a)
-swap true true = refl
-swap true false = refl
-swap false true = refl
-swap false false = refl
-
-any_reverse : {A : Type 0} (p : A → Bool) (xs : List A) → list_any p (reverse xs) ≡ list_any p xs
-any_reverse p [] = refl
-any_reverse p (x ∷ xs) =
-    ap (list_any p) (reverse-append (x ∷ []) xs)
-    ∙ list_any-append p (reverse xs) (x ∷ [])
-    ∙ ap (λ b. b || (p x || false)) (any_reverse p xs)
-    ∙ swap (list_any p xs) (p x)
 
 -- the files so far, the last one first
 abbrev pub before : List UsedFile → List OpFile

@@ -1,7 +1,7 @@
 -- How large types and statements are: what the calls on their parts fall by.
-use Rattle.std.specs.Prelude.{◌≡◌, ℕ, zero, suc, ◌+◌, ◌<◌, ◌≤◌, List, [], ◌∷◌, length, Option, Some, None}
+use Rattle.std.specs.Prelude.{◌≡◌, ℕ, suc, ◌+◌, List, [], ◌∷◌, Option, Some, None}
 use Rattle.std.specs.Option.{option_map_or}
-use Rattle.std.proofs.Common.{refl, ap, ◌∙◌, arith, get_or}
+use Rattle.std.proofs.Common.{refl, ap, ◌∙◌, arith}
 use Rattle.spl_tree.specs.declared.shape.Attribute.{Attribute}
 use Rattle.spl_tree.specs.declared.shape.TypeKind.{TypeKind}
 use Rattle.spl_tree.specs.declared.shape.TypeKind.TheVariants as V
@@ -19,12 +19,6 @@ use Rattle.spl_tree.specs.Grammar.{Expr}
 use Rattle.spl_tree.specs.StatementGrammar.{Stmt}
 use Rattle.spl_tree.specs.TypeGrammar.{TypeExpr}
 use Rattle.spl_value.proofs.Lists.{total}
-
--- an item weighs no more than its row
-pub item_below : {A : Type 0} (f : A → ℕ) (xs : List A) (i : ℕ) (x : A) → i < length xs → x ≡ get_or xs i x → f x ≤ total f xs
-item_below f [] i x h e = absurd (omega arith)
-item_below f (y ∷ ys) zero x h e = let q : f x ≡ f y = ap f e in omega arith
-item_below f (y ∷ ys) (suc i) x h e = let q : f x ≤ total f ys = item_below f ys i x (omega arith) e in omega arith
 
 -- ---- types
 

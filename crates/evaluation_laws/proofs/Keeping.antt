@@ -1,5 +1,5 @@
 -- What each change of a variable, each new variable and each submit keeps, bodies keep.
-use Rattle.std.specs.Prelude.{◌≡◌, ◌&&◌, ℕ, zero, suc, Bool, true, false, if◌then◌else◌, List, [], ◌∷◌, map, Option, None, Some, slice_get, slice_set}
+use Rattle.std.specs.Prelude.{◌≡◌, ◌&&◌, ℕ, zero, suc, Bool, true, List, [], ◌∷◌, map, Option, None, Some, slice_get, slice_set}
 use Rattle.std.specs.List.{AllByRecursion, list_all}
 use Rattle.std.proofs.Common.{refl, sym, ap, subst, ◌∙◌}
 use Rattle.spl_value.specs.declared.item.FaultKind.TheVariants as X
@@ -22,10 +22,10 @@ use Rattle.language_model.specs.declared.flow.Flow.{Flow}
 use Rattle.language_model.specs.declared.flow.Flow.TheVariants as F
 use Rattle.language_model.specs.Changes.{changed, change_of}
 use Rattle.language_model.specs.Evaluation.{all_of, code_value, world_of}
-use Rattle.language_model.specs.Outcomes.{Outcome, Done, Faulted, Stuck, followed, need, settled, enter}
+use Rattle.language_model.specs.Outcomes.{Done, Faulted, settled}
 use Rattle.language_model.specs.StatementLaws.{arms_act, block_is, declare_is, change_is, evaluate_is, call_is, if_is, while_is, for_is, break_is, continue_is, return_is, submit_is, submit_window_is}
 use Rattle.language_model.specs.Statements.{State, Acts, Bodies, Left, calls_by, value_in, truth_in, with_vars, declared, ended, scoped, submitted, change_values, then_rest, then_again, turn_while, turns_while, turns_over, level_elements, level_tuple, return_acts, statement_acts, row_acts, left_by, body_leaves}
-use Rattle.language_model.proofs.Returning.{Only, only_followed}
+use Rattle.language_model.proofs.Returning.{Only, only_followed, only_either, only_enter, only_is, need_is}
 use Rattle.language_model.proofs.StatementInduction.{OfArm, StatementSteps, statement_ind}
 
 -- ---- what statements change and submit
@@ -52,23 +52,6 @@ statement_passes changes submits = fold-Statement Bool (level_passes changes sub
 
 abbrev pub row_passes : (ℕ → Bool) → (Code Slot → Bool) → List Statement → Bool
 row_passes changes submits row = all_pass (map (statement_passes changes submits) row)
-
-only_is : {A B : Type 0} (Q : B → Type 0) (o : Outcome A) (f : A → ℕ → Outcome B) → ((x : A) (turns : ℕ) → o ≡ Done x turns → Only Q (f x turns)) → Only Q (followed o f)
-only_is Q (Done x turns) f k = k x turns refl
-only_is Q (Faulted kind) f k = tt
-only_is Q Stuck f k = tt
-
-need_is : {A B : Type 0} (Q : B → Type 0) (o : Option A) (f : A → Outcome B) → ((x : A) → o ≡ Some x → Only Q (f x)) → Only Q (need o f)
-need_is Q None f k = tt
-need_is Q (Some x) f k = k x refl
-
-only_enter : {A : Type 0} (Q : A → Type 0) (turns : ℕ) (f : ℕ → Outcome A) → ((turns : ℕ) → Only Q (f turns)) → Only Q (enter turns f)
-only_enter Q zero f k = tt
-only_enter Q (suc turns) f k = k turns
-
-only_either : {A : Type 0} (Q : A → Type 0) (b : Bool) (o p : Outcome A) → Only Q o → Only Q p → Only Q (if b then o else p)
-only_either Q true o p h k = h
-only_either Q false o p h k = k
 
 -- a fact of states that is kept by each change of a variable that passes the first test, by a new variable, by the end of variables, and by
 -- each submit, of a tuple whose code passes the second test

@@ -14,9 +14,7 @@ use Rattle.spl_value.proofs.Bools.{and_left, and_right, false_true}
 use Rattle.spl_tree.specs.declared.code.Code.{Code}
 use Rattle.spl_tree.specs.declared.code.Code.TheVariants as S
 use Rattle.spl_tree.specs.declared.code.Code.TheOpen as C
-use Rattle.spl_tree.specs.declared.code.Code.TheOpen.{Code-F}
-use Rattle.spl_tree.specs.declared.code.Code.TheViews.{out-Code}
-use Rattle.spl_tree.specs.declared.code.Code.TheFolds.{fold_out-Code, map-Code}
+use Rattle.spl_tree.specs.declared.code.Code.TheFolds.{map-Code}
 use Rattle.spl_tree.specs.declared.code.Slot.{Slot}
 use Rattle.spl_tree.specs.declared.code.UnaryCode.{UnaryCode}
 use Rattle.spl_tree.specs.declared.code.UnaryCode.TheVariants as U
@@ -32,11 +30,9 @@ use Rattle.language_model.specs.WorldFits.{ComesTo, Fits}
 use Rattle.language_model.proofs.Calling.{never_stuck_law}
 use Rattle.language_model.proofs.CodeInduction.{CodeSteps, OfPair, OfField, code_ind}
 use Rattle.evaluation_laws.specs.LiteralLaws.{IsAlways, LiteralLaw}
+use Rattle.language_model.proofs.PlainCodes.{plain_at}
 
 -- ---- codes of literals, by their parts
-
-plain_at : (code : Code Slot) (form : Code-F Slot (Code Slot)) → out-Code Slot code ≡ form → is_plain code ≡ level_plain (map-Code Slot (Code Slot) Bool is_plain form)
-plain_at code form e = fold_out-Code Slot Bool level_plain code ∙ ap (λ y. level_plain (map-Code Slot (Code Slot) Bool is_plain y)) e
 
 pub plain_literal : (v : Value) → is_plain (S.Literal v) ≡ true
 plain_literal v = plain_at (S.Literal v) (C.Literal v) (S.outs-Literal v)

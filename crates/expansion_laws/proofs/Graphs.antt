@@ -17,14 +17,14 @@ use Rattle.language_model.proofs.Flattening.{topo_of, made_of}
 use Rattle.language_model.proofs.Inlining.{Holds, main_holds}
 use Rattle.language_model.proofs.Standing.{Stands, first_stands}
 use Rattle.expansion_laws.proofs.Expanding.{IsComplete, complete}
-use Rattle.expansion_laws.proofs.Heads.{both}
+use Rattle.spl_value.proofs.Bools.{and_parts}
 
 -- ---- the main composite has no ports
 
 if_main_is : (c : At Composite) (place : ℕ) → if_main c ≡ Some place → (c.place ≡ place) × (has_no_ports c.what ≡ true)
 if_main_is c place e =
     elim (may_be_main c.what) as (λ b. may_be_main c.what ≡ b → (if b then Some c.place else None) ≡ Some place → (c.place ≡ place) × (has_no_ports c.what ≡ true)) [
-      | true ↦ λ may is. (same_Some c.place place is, (both (has_no_ports c.what) (list_all (λ p. is_some p.default) c.what.parameters) may).0)
+      | true ↦ λ may is. (same_Some c.place place is, (and_parts (has_no_ports c.what) (list_all (λ p. is_some p.default) c.what.parameters) may).0)
       | false ↦ λ may is. absurd cc
     ] refl e
 

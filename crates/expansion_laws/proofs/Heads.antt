@@ -1,5 +1,5 @@
 -- What an invocation that is declared and fits its head has.
-use Rattle.std.specs.Prelude.{◌≡◌, ◌&&◌, ℕ, zero, suc, Bool, true, false, not, List, [], ◌∷◌, ◌++◌, filter, flat_map, length, Option, Some, None, Ok, slice_get, if◌then◌else◌}
+use Rattle.std.specs.Prelude.{◌≡◌, ℕ, zero, suc, Bool, true, false, not, List, [], ◌∷◌, ◌++◌, filter, flat_map, length, Option, Some, None, Ok, slice_get, if◌then◌else◌}
 use Rattle.std.specs.List.{list_all}
 use Rattle.std.proofs.Common.{refl, sym, ap, ◌∙◌, eqb-true}
 use Rattle.spl_tree.specs.declared.expression.Placed.{Placed}
@@ -12,27 +12,24 @@ use Rattle.language_model.specs.Declarations.{first_of}
 use Rattle.language_model.specs.Expansion.{Found, Made, if_declared}
 use Rattle.language_model.specs.Invoking.{target_of, is_nothing, undeclared, is_readable, is_among, stream_names, fits_head}
 use Rattle.expansion_laws.proofs.Growing.{AreReadable, IsReadable}
-
-pub both : (a b : Bool) → a && b ≡ true → (a ≡ true) × (b ≡ true)
-both true b e = (refl, e)
-both false b e = absurd cc
+use Rattle.spl_value.proofs.Bools.{and_parts}
 
 pub all_pass : {A : Type 0} (p : A → Bool) (xs : List A) (k : ℕ) (x : A) → list_all p xs ≡ true → slice_get xs k ≡ Some x → p x ≡ true
 all_pass p [] k x all at = absurd cc
-all_pass p (y ∷ ys) zero x all at = let same : y ≡ x = cc in ap p (sym same) ∙ (both (p y) (list_all p ys) all).0
-all_pass p (y ∷ ys) (suc k) x all at = all_pass p ys k x (both (p y) (list_all p ys) all).1 at
+all_pass p (y ∷ ys) zero x all at = let same : y ≡ x = cc in ap p (sym same) ∙ (and_parts (p y) (list_all p ys) all).0
+all_pass p (y ∷ ys) (suc k) x all at = all_pass p ys k x (and_parts (p y) (list_all p ys) all).1 at
 
 -- ---- heads
 
 module _ (c : Composite) (i : Invocation) (fits : fits_head c i ≡ true) where
   pub outputs_fit : length i.outputs ≡ length c.outputs
-  outputs_fit = eqb-true (length i.outputs) (length c.outputs) (both _ _ (both _ _ (both _ _ (both _ _ fits).0).0).0).0
+  outputs_fit = eqb-true (length i.outputs) (length c.outputs) (and_parts _ _ (and_parts _ _ (and_parts _ _ (and_parts _ _ fits).0).0).0).0
 
   pub inputs_fit : length i.inputs ≡ length c.inputs
-  inputs_fit = eqb-true (length i.inputs) (length c.inputs) (both _ _ (both _ _ (both _ _ (both _ _ fits).0).0).0).1
+  inputs_fit = eqb-true (length i.inputs) (length c.inputs) (and_parts _ _ (and_parts _ _ (and_parts _ _ (and_parts _ _ fits).0).0).0).1
 
   pub output_made : (k : ℕ) (p : HeadPort) → slice_get c.outputs k ≡ Some p → is_among p.name.what (stream_names c) ≡ true
-  output_made k p at = all_pass (λ p. is_among p.name.what (stream_names c)) c.outputs k p (both _ _ fits).1 at
+  output_made k p at = all_pass (λ p. is_among p.name.what (stream_names c)) c.outputs k p (and_parts _ _ fits).1 at
 
 -- ---- what is declared
 

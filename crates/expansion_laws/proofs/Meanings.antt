@@ -32,10 +32,11 @@ use Rattle.expansion_laws.proofs.Declaring.{each_once, made_once, input_once, no
 use Rattle.expansion_laws.proofs.Expanding.{IsComplete}
 use Rattle.expansion_laws.proofs.Graphs.{of_all}
 use Rattle.expansion_laws.proofs.Growing.{AreReadable, IsWired, wired_main, wired_inner, IsSet, IsInOrder}
-use Rattle.expansion_laws.proofs.Heads.{both, inputs_fit}
+use Rattle.expansion_laws.proofs.Heads.{inputs_fit}
 use Rattle.expansion_laws.proofs.Outputs.{place_has, among_has, body_is, followed}
 use Rattle.expansion_laws.proofs.Ways.{body_was, op_was, invoked_at, one_site, one_body}
 use Rattle.spl_value.proofs.Lists.{get_below}
+use Rattle.spl_value.proofs.Bools.{and_parts}
 
 -- ---- names
 
@@ -56,7 +57,7 @@ no_place name names e =
     ] refl
 
 no_inputs : (c : Composite) → has_no_ports c ≡ true → c.inputs ≡ []
-no_inputs c e = by c.inputs refl (both (is_empty c.outputs) (is_empty c.inputs) e).1
+no_inputs c e = by c.inputs refl (and_parts (is_empty c.outputs) (is_empty c.inputs) e).1
   where
     by : (ps : List HeadPort) → c.inputs ≡ ps → is_empty ps ≡ true → c.inputs ≡ []
     by [] is h = is

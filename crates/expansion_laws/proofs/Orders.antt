@@ -1,17 +1,15 @@
 -- The order of a graph is the topological one, and no other list is.
-use Rattle.std.specs.Prelude.{◌≡◌, ◌+◌, ◌<◌, ◌==◌, ◌⊎◌, ◌&&◌, not, ℕ, zero, suc, List, [], ◌∷◌, ◌++◌, length, Option, Some, None, Ok, slice_get, if◌then◌else◌, Bool, true, false}
+use Rattle.std.specs.Prelude.{◌≡◌, ◌+◌, ◌<◌, ◌⊎◌, ◌&&◌, not, ℕ, zero, suc, List, [], ◌∷◌, ◌++◌, length, Some, None, Ok, slice_get, if◌then◌else◌, Bool, true, false}
 use Rattle.std.specs.List.{concat, Contains, list_all}
 use Rattle.std.specs.Option.{option_map_or}
 use Rattle.std.proofs.Common.{refl, sym, ap, ◌∙◌, subst, arith, inl, inr, append_assoc}
-use Rattle.std.proofs.lemmas.Bool.{cases_lt, cases_Bool, eq-eqb}
-use Rattle.std.proofs.lemmas.List.Folds.{list_any_at, list_all_at}
+use Rattle.std.proofs.lemmas.Bool.{cases_lt, cases_Bool}
 use Rattle.std.proofs.lemmas.Option.{same_Some, slice_get_within}
 use Rattle.spl_tree.specs.declared.graph.Graph.{Graph}
 use Rattle.spl_tree.specs.declared.graph.Op.{Op}
-use Rattle.spl_tree.specs.declared.graph.Stream.{Stream}
 use Rattle.language_model.specs.Taking.{is_taken, is_ready, next_from, taken_on, taken}
 use Rattle.language_model.proofs.Flattening.{topo_of}
-use Rattle.language_model.proofs.Ordering.{taken_there, topo_law}
+use Rattle.language_model.proofs.Ordering.{taken_there, topo_law, passes, made_there, there_taken, not_there}
 use Rattle.spl_value.proofs.Lists.{contains_here, contains_later}
 use Rattle.expansion_laws.specs.Laws.{OrderLaw}
 use Rattle.expansion_laws.specs.Order.{IsFed, IsNext, IsTheOrder}
@@ -19,27 +17,10 @@ use Rattle.expansion_laws.proofs.Graphs.{of_flat}
 
 -- ---- what is among some numbers
 
-there_taken : (ns : List ℕ) (n : ℕ) → Contains ns n → is_taken ns n ≡ true
-there_taken ns n h = list_any_at (λ m. m == n) ns h.0 n h.1 (eq-eqb _ n h.2)
-
-not_there : (ns : List ℕ) (n : ℕ) → is_taken ns n ≡ false → Contains ns n → ⊥
-not_there ns n e h = let is : is_taken ns n ≡ true = there_taken ns n h in let apart : true ≡ false = sym is ∙ e in cc
-
 is_new : (ns : List ℕ) (n : ℕ) → (Contains ns n → ⊥) → is_taken ns n ≡ false
 is_new ns n h = elim (cases_Bool (is_taken ns n)) [ inl taken ↦ absurd (h (taken_there ns n taken)) | inr new ↦ new ]
 
 -- ---- what is fed
-
-made_there : (ns : List ℕ) (o : Option Stream) → option_map_or (λ x. is_taken ns x.maker) o false ≡ true → (s : Stream) × (o ≡ Some s) × Contains ns s.maker
-made_there ns None e = absurd cc
-made_there ns (Some s) e = (s, refl, taken_there ns s.maker e)
-
-passes : (p : ℕ → Bool) (ns : List ℕ) (n : ℕ) → list_all p ns ≡ true → Contains ns n → p n ≡ true
-passes p ns n e h =
-    elim (cases_Bool (p n)) [
-      | inl holds ↦ holds
-      | inr fails ↦ (let none : list_all p ns ≡ false = list_all_at p ns h.0 n h.1 (ap p h.2 ∙ fails) in let apart : true ≡ false = sym e ∙ none in cc)
-    ]
 
 all_pass : (p : ℕ → Bool) (ns : List ℕ) → ((n : ℕ) → Contains ns n → p n ≡ true) → list_all p ns ≡ true
 all_pass p [] h = refl

@@ -1,10 +1,10 @@
 -- The streams that the outputs of invocations are: each stands in the graph.
-use Rattle.std.specs.Prelude.{◌≡◌, ◌+◌, ◌-◌, ◌==◌, ◌&&◌, ◌||◌, ◌<◌, ◌≤◌, ℕ, zero, suc, Bool, true, false, List, [], ◌∷◌, map, flat_map, length, position, Option, Some, None, slice_get, if◌then◌else◌}
+use Rattle.std.specs.Prelude.{◌≡◌, ◌+◌, ◌-◌, ◌&&◌, ◌||◌, ◌<◌, ◌≤◌, ℕ, zero, suc, Bool, true, false, List, [], ◌∷◌, map, flat_map, length, position, Option, Some, None, slice_get, if◌then◌else◌}
 use Rattle.std.specs.List.{position_from}
 use Rattle.std.specs.Option.{option_map, option_and_then, option_map_or}
 use Rattle.std.specs.Str.{bytes_eq}
 use Rattle.std.specs.Cmp.Lexicographic.{bytes_decides}
-use Rattle.std.proofs.Common.{refl, sym, ap, ◌∙◌, arith, inl, inr, eqb-true, eq-eqb}
+use Rattle.std.proofs.Common.{refl, sym, ap, ◌∙◌, arith, inl, inr, eq-eqb}
 use Rattle.std.proofs.lemmas.Bool.{cases_lt}
 use Rattle.std.proofs.lemmas.Iterator.Adapters.{position_from-zero}
 use Rattle.std.proofs.lemmas.List.{length-map}
@@ -20,13 +20,13 @@ use Rattle.language_model.specs.Flat.{graph_of}
 use Rattle.language_model.specs.Invoking.{stream_names, is_among}
 use Rattle.language_model.specs.Numbering.{numbers_from, first_stream, Output, outputs_from, graph_outputs, is_site, site_at, operator_at, expansion_at, output_place, operator_or_expansion, stream_of, op_of, expansion_of}
 use Rattle.language_model.specs.Scopes.{At, at_place, first_from}
-use Rattle.language_model.proofs.Flattening.{behind, op_there, numbers_length}
+use Rattle.language_model.proofs.Flattening.{behind, op_there, numbers_length, numbers_within, same_site}
 use Rattle.language_model.proofs.Inlining.{Holds}
 use Rattle.language_model.proofs.Standing.{Stands, first_stands}
 use Rattle.spl_value.proofs.Lists.{append_front, get_below}
 use Rattle.expansion_laws.specs.Standing.{site, IsBody, MakesAs, IsOutput, of_operator, of_composite}
 use Rattle.expansion_laws.proofs.Growing.{IsWired, wired_main, wired_inner, IsInOrder}
-use Rattle.expansion_laws.proofs.Heads.{both, outputs_fit, output_made}
+use Rattle.expansion_laws.proofs.Heads.{outputs_fit, output_made}
 use Rattle.expansion_laws.proofs.Stepping.{Comes, is_operator, is_body, makes_no_stream}
 use Rattle.expansion_laws.proofs.Ways.{body_there}
 
@@ -56,11 +56,6 @@ pub among_has : (name : List ℕ) (names : List (List ℕ)) → is_among name na
 among_has name names e = found_from name 0 names e
 
 -- ---- the outputs of a graph
-
-numbers_at : (n count k : ℕ) → k < count → slice_get (numbers_from n count) k ≡ Some (n + k)
-numbers_at n zero k lt = absurd (omega arith)
-numbers_at n (suc count) zero lt = let same : n ≡ n + 0 = omega arith in ap Some same
-numbers_at n (suc count) (suc k) lt = let same : suc n + k ≡ n + suc k = omega arith in numbers_at (suc n) count k (omega arith) ∙ ap Some same
 
 -- an output of the invocations that begin at a number
 record IsThere (number : ℕ) (is : List Invocation) (name : List ℕ) (o : Output) : Type 0 where
@@ -102,7 +97,7 @@ there_in number (i ∷ is) k name e = elim (cases_lt k (length i.outputs)) [ inl
         let named : s.0.name.what ≡ name = same_Some s.0.name.what name (sym (append_front own (names_of is) k s.0.name.what own_at) ∙ e) in
         let zero_more : 0 + k ≡ k = omega arith in
         let out_at : slice_get (map (output number) (numbers_from 0 (length i.outputs))) k ≡ Some (output number k) =
-        slice_get-map (output number) (numbers_from 0 (length i.outputs)) k ∙ ap (option_map (output number)) (numbers_at 0 (length i.outputs) k lt ∙ ap Some zero_more) in (
+        slice_get-map (output number) (numbers_from 0 (length i.outputs)) k ∙ ap (option_map (output number)) (numbers_within 0 (length i.outputs) k lt ∙ ap Some zero_more) in (
           output number k,
           append_front (map (output number) (numbers_from 0 (length i.outputs))) (outputs_from (suc number) is) k (output number k) out_at,
           record { at = 0; invocation = i; stream = s.0; is_at = omega arith; there = refl; made = s.1; named = named },
@@ -154,11 +149,6 @@ found_at test xs n e =
     let r = found_at_from test 0 xs n (sym (position_from-zero test xs) ∙ e) in
     let same : n ≡ r.0 = omega (arith, r.1) in
     (r.2, ap (slice_get xs) same ∙ r.3, r.4)
-
-same_site : (s t : Site) → is_site s t ≡ true → s ≡ t
-same_site s t e =
-    let h = both (s.expansion == t.expansion) (s.invocation == t.invocation) e in
-    λ i. record { expansion = eqb-true s.expansion t.expansion h.0 i; invocation = eqb-true s.invocation t.invocation h.1 i }
 
 is_itself : (s t : Site) → s ≡ t → is_site s t ≡ true
 is_itself s t e = λ i. eq-eqb s.expansion t.expansion (ap (λ (x : Site). x.expansion) e) i && eq-eqb s.invocation t.invocation (ap (λ (x : Site). x.invocation) e) i
@@ -234,7 +224,7 @@ module _ (unit : List Definition) (made : Made) (topo : List ℕ) (h : Holds uni
         let lt : o.output < p.0.outputs = (let less = slice_get_within t.invocation.outputs o.output t.stream t.made in omega (arith, count_outputs)) in
         by_operator (first_stream made.ops n + o.output) (ap (operator_or_expansion (stream_of count made) made own_site o.output) found)
         (of_operator own_site o.output (first_stream made.ops n + o.output) n (op_of made n p.0) (op_there made n p.0 p.1) at_site
-        (numbers_at (first_stream made.ops n) p.0.outputs o.output lt))
+        (numbers_within (first_stream made.ops n) p.0.outputs o.output lt))
 
     of_body : operator_at made own_site ≡ None → (m : ℕ) → expansion_at made own_site ≡ Some m → IsStream (suc count) k place e.composite.what name
     of_body none m found =

@@ -13,10 +13,11 @@ use Rattle.language_model.specs.declared.expansion.Operation.{Operation}
 use Rattle.language_model.specs.Expansion.{Made, Inlined, Opened, site_in, operation, with_operation, inlined, opened_in, with_expansion}
 use Rattle.language_model.specs.Invoking.{Operator, Body, target_of, fits_head}
 use Rattle.language_model.specs.Scopes.{At}
-use Rattle.language_model.proofs.Inlining.{Grows, grown, last_stands}
-use Rattle.spl_value.proofs.Lists.{append_cases, get_below}
+use Rattle.language_model.proofs.Inlining.{Grows}
+use Rattle.spl_value.proofs.Lists.{append_cases, get_below, append_front, append_last}
 use Rattle.expansion_laws.specs.Bodies.{IsBefore}
 use Rattle.expansion_laws.proofs.Growing.{LiesIn, body_lies, lies_on, IsReadable, IsInner, IsWired, wired_inner, wired_on, AreWired, IsSet, set_on, IsParted, parted_on, AreApart, apart_on, IsLying, IsInOrder}
+use Rattle.language_model.proofs.KeptInvocations.{past_end}
 
 -- ---- ways
 
@@ -109,9 +110,6 @@ pub comes_on : (unit : List Definition) (x y : Made) (s : Site) (i : Invocation)
 comes_on unit x y s i ops bodies (is_operator n o at is) = is_operator n o (ops n o at) is
 comes_on unit x y s i ops bodies (is_body k e at is target) = is_body k e (bodies k e at) is target
 comes_on unit x y s i ops bodies (makes_no_stream none) = makes_no_stream none
-
-past_end : {A : Type 0} (xs : List A) (k : ℕ) (x : A) → length xs ≤ k → slice_get xs k ≡ Some x → ⊥
-past_end xs k x le at = let lt = slice_get_within xs k x at in omega arith
 
 pub adds_none : (unit : List Definition) (pp : List ℕ) (from to : ℕ) (made : Made) → IsInOrder unit made → Adds unit pp from to made made
 adds_none unit pp from to made in_order = record {
@@ -279,7 +277,7 @@ module _ (unit : List Definition) (p : Opened) (pp : List ℕ) (number : ℕ) (i
   pub adds_operator : Adds unit pp number (suc number) before longer
   adds_operator = record {
     in_order = record { wired = in_order.wired; lies = in_order.lies; set = set_longer; parted = parted_longer; apart = in_order.apart };
-    ops = grown before.ops (new_op ∷ []);
+    ops = append_front before.ops (new_op ∷ []);
     count = omega (arith, length-append before.ops (new_op ∷ []));
     bodies = λ k e at. at;
     new_ops = new_ops;
@@ -303,7 +301,7 @@ module _ (unit : List Definition) (p : Opened) (pp : List ℕ) (number : ℕ) (i
       ]
 
   pub operator_comes : Comes unit longer (site_in p number) i
-  operator_comes = is_operator (length before.ops) new_op (last_stands before.ops new_op) refl
+  operator_comes = is_operator (length before.ops) new_op (append_last before.ops new_op) refl
 
   pub operator_grows : length before.ops ≡ length longer.ops → ⊥
   operator_grows same = omega (arith, length-append before.ops (new_op ∷ []), same)
@@ -323,10 +321,10 @@ module _ (unit : List Definition) (p : Opened) (pp : List ℕ) (number : ℕ) (i
   way_in = pp ++ number ∷ []
 
   longer_bodies : Grows before.expansions opened.expansions
-  longer_bodies = grown before.expansions (new_body ∷ [])
+  longer_bodies = append_front before.expansions (new_body ∷ [])
 
   body_stands : slice_get opened.expansions (length before.expansions) ≡ Some new_body
-  body_stands = last_stands before.expansions new_body
+  body_stands = append_last before.expansions new_body
 
   inner : IsInner unit opened.expansions (length before.expansions) (site_in p number) new_body
   inner = record {

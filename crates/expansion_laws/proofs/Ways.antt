@@ -26,6 +26,7 @@ use Rattle.expansion_laws.specs.Laws.{SiteLaw, NameLaw, TextLaw}
 use Rattle.expansion_laws.proofs.Graphs.{of_all}
 use Rattle.expansion_laws.proofs.Growing.{LiesIn, main_lies, body_lies, IsInOrder}
 use Rattle.expansion_laws.proofs.Stepping.{same_next}
+use Rattle.language_model.proofs.KeptInvocations.{then_gives}
 
 -- ---- names
 
@@ -79,10 +80,6 @@ not_itself : (a : List ℕ) → IsBefore a a → ⊥
 not_itself a b = let same : b.m ≡ b.n = same_next b.common b.m b.n b.rest b.others (sym b.first ∙ b.second) in omega (arith, b.less)
 
 -- ---- the graph of what was made
-
-pub then_gives : {A B : Type 0} (f : A → Option B) (o : Option A) (b : B) → option_and_then f o ≡ Some b → (a : A) × (o ≡ Some a) × (f a ≡ Some b)
-then_gives f None b e = absurd cc
-then_gives f (Some a) b e = (a, refl, e)
 
 module _ (unit : List Definition) (made : Made) (topo : List ℕ) (h : Holds unit made) where
   abbrev pub graph : Graph

@@ -4,7 +4,7 @@ use Rattle.std.specs.List.{AllByRecursion}
 use Rattle.std.specs.Option.{option_and_then}
 use Rattle.std.proofs.Common.{sym, ap, subst, ◌∙◌, append_assoc}
 use Rattle.std.proofs.lemmas.Option.{same_Some}
-use Rattle.spl_value.proofs.Lists.{all_left, all_right, push_some}
+use Rattle.spl_value.proofs.Lists.{all_left, all_right, push_some, all_at, all_more}
 use Rattle.spl_value.specs.declared.types.IntKind.{IntKind}
 use Rattle.spl_value.specs.Values.{top}
 use Rattle.spl_value.specs.Decimal.{is_digit, digit_step}
@@ -38,7 +38,8 @@ use Rattle.language_model.specs.Composites.{composites}
 use Rattle.language_model.specs.SinkFiles.{composite_of, invocation_at}
 use Rattle.expansion_laws.specs.Bodies.{IsName, by_alias, by_stream, without, Lies, in_main, in_body}
 use Rattle.expansion_laws.specs.Names.{IsDotted, word, dotted, DottedLaw}
-use Rattle.expansion_laws.proofs.Ways.{name_law, then_gives}
+use Rattle.expansion_laws.proofs.Ways.{name_law}
+use Rattle.language_model.proofs.KeptInvocations.{then_gives}
 
 -- ---- tokens
 
@@ -116,21 +117,17 @@ record IsWorded (i : Invocation) : Type 0 where
   pub outputs : AllByRecursion (λ o. is_word o.name.what ≡ true) i.outputs
   pub named : i.alias ≡ None → i.outputs ≡ [] → ⊥
 
-one_more : {A : Type 0} (Q : A → Type 0) (xs : List A) (x : A) → AllByRecursion Q xs → Q x → AllByRecursion Q (xs ++ x ∷ [])
-one_more Q [] x all q = (q, tt)
-one_more Q (y ∷ xs) x all q = (all.0, one_more Q xs x all.1 q)
-
 -- what holds of each phrase of a row of tokens
 row_all : {A : Type 0} (Spells : A → List Token → Type 0) (Q : A → Type 0) → ((x : A) (a : List Token) → Spells x a → AreWords a → Q x) → (xs : List A) (a : List Token) → Row Spells xs a → AreWords a → AllByRecursion Q xs
 row_all Spells Q each xs a P.none words = tt
 row_all Spells Q each xs a (P.more ys y b c row one) words =
-    one_more Q ys y (row_all Spells Q each ys b row (all_left IsWordToken b c words)) (each y c one (all_right IsWordToken b c words))
+    all_more Q ys y (row_all Spells Q each ys b row (all_left IsWordToken b c words)) (each y c one (all_right IsWordToken b c words))
 
 separated_all : {A : Type 0} (s : Symbol) (Spells : A → List Token → Type 0) (Q : A → Type 0) → ((x : A) (a : List Token) → Spells x a → AreWords a → Q x) → (xs : List A) (a : List Token)
     → Separated s Spells xs a → AreWords a → AllByRecursion Q xs
 separated_all s Spells Q each xs a (P.first x b one) words = (each x b one words, tt)
 separated_all s Spells Q each xs a (P.next ys y t b c all comma one) words =
-    one_more Q ys y (separated_all s Spells Q each ys b all (all_left IsWordToken b (t ∷ c) words)) (each y c one (all_right IsWordToken b (t ∷ c) words).1)
+    all_more Q ys y (separated_all s Spells Q each ys b all (all_left IsWordToken b (t ∷ c) words)) (each y c one (all_right IsWordToken b (t ∷ c) words).1)
 
 output_worded : (o : OutputStream) (a : List Token) → SpellsOutputStream o a → AreWords a → is_word o.name.what ≡ true
 output_worded o a (U.output h t n b stream name) words = (all_right IsWordToken b (t ∷ []) words).0 n name
@@ -198,17 +195,12 @@ in_composites (D.Function f ∷ unit) all k c at = in_composites unit all.1 k c 
 in_composites (D.Composite d ∷ unit) all zero c at = subst (λ (x : Composite). AllByRecursion IsWorded x.graph) (same_Some d c at) all.0
 in_composites (D.Composite d ∷ unit) all (suc k) c at = in_composites unit all.1 k c at
 
-at_place : {A : Type 0} (Q : A → Type 0) (xs : List A) (k : ℕ) (x : A) → AllByRecursion Q xs → slice_get xs k ≡ Some x → Q x
-at_place Q [] k x all at = absurd cc
-at_place Q (y ∷ ys) zero x all at = subst Q (same_Some y x at) all.0
-at_place Q (y ∷ ys) (suc k) x all at = at_place Q ys k x all.1 at
-
 module _ (unit : List Definition) (all : AllByRecursion IsDefinitionWorded unit) (g : Graph) where
   invocation_is_worded : (s : Site) (i : Invocation) → invocation_at unit g.expansions s ≡ Some i → IsWorded i
   invocation_is_worded s i at =
       let c = then_gives (λ (c : Composite). slice_get c.graph s.invocation) (option_and_then (composite_of unit) (slice_get g.expansions s.expansion)) i at in
       let x = then_gives (composite_of unit) (slice_get g.expansions s.expansion) c.0 c.1 in
-      at_place IsWorded c.0.graph s.invocation i (in_composites unit all x.0.composite c.0 x.2) c.2
+      all_at IsWorded c.0.graph s.invocation i (in_composites unit all x.0.composite c.0 x.2) c.2
 
   name_is_word : (i : Invocation) (name : List ℕ) → IsWorded i → IsName i name → is_word name ≡ true
   name_is_word i name w (by_alias n is) = w.alias n is

@@ -25,7 +25,7 @@ use Rattle.value_operations.specs.declared.stop.Stop.{Stop}
 use Rattle.expr_eval.specs.Fitting.{FitCall}
 use Rattle.expr_eval.specs.Running.{RowIsFit, FunctionIsFit, state}
 use Rattle.value_operations.proofs.Following.{enter_followed, followed_stops, stops_by}
-use Rattle.expr_eval.proofs.ValueTypes.{done_followed}
+use Rattle.language_model.proofs.Returning.{done_followed}
 
 abbrev kinds : List Variable → List SplType
 kinds xs = map (λ (x : Variable). x.kind) xs

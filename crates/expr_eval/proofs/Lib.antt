@@ -16,6 +16,6 @@ mod StepParts
 mod StepValues
 mod ValueTypes
 mod Truths
-mod Placing
+pub mod Placing
 mod PlacedFields
 mod MovedFields

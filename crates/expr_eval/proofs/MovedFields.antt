@@ -25,7 +25,8 @@ use Rattle.expr_eval.specs.steps.MovedFields.{AreBut, GoTo, IsMovedTo}
 use Rattle.expr_eval.proofs.CodeParts.{field_places, tuple_is_fit}
 use Rattle.expr_eval.proofs.PlacedFields.{IsPlaced, placed_on, placed_start}
 use Rattle.expr_eval.proofs.Placing.{HaveEachPlace, at_its_place, set_elsewhere, set_here}
-use Rattle.expr_eval.proofs.ValueTypes.{as_long, done_followed, places_of_fields}
+use Rattle.expr_eval.proofs.ValueTypes.{as_long, places_of_fields}
+use Rattle.language_model.proofs.Returning.{done_followed}
 
 -- ---- lists with a value set
 

@@ -13,6 +13,7 @@ use Rattle.language_model.specs.BodyFits.{with_variable}
 use Rattle.language_model.specs.Outcomes.{Outcome, Done, Faulted, Stuck, followed, enter}
 use Rattle.language_model.specs.Statements.{State, declared, ended}
 use Rattle.language_model.specs.WorldFits.{VariablesFit, LeadsTo}
+use Rattle.language_model.proofs.Variables.{kept}
 
 -- an environment with other variables
 abbrev pub with_values : Env → List Value → Env
@@ -33,11 +34,6 @@ each_added [] (u ∷ vs) x v e h f i y at = absurd cc
 each_added (z ∷ xs) [] x v e h f i y at = absurd cc
 each_added (z ∷ xs) (u ∷ vs) x v e h f zero y at = h zero y at
 each_added (z ∷ xs) (u ∷ vs) x v e h f (suc i) y at = each_added xs vs x v (omega arith) (λ i y at. h (suc i) y at) f i y at
-
-kept : (xs ys : List Variable) (i : ℕ) (x : Variable) → slice_get xs i ≡ Some x → slice_get (xs ++ ys) i ≡ Some x
-kept [] ys i x at = absurd cc
-kept (z ∷ xs) ys zero x at = at
-kept (z ∷ xs) ys (suc i) x at = kept xs ys i x at
 
 -- a value that is among the first `n` of more than `i` is so among fewer
 among_fewer : (n m i : ℕ) (vs : List Value) (v : Value) → i < m → slice_get (take n vs) i ≡ Some v → slice_get (take m vs) i ≡ Some v

@@ -36,7 +36,8 @@ use Rattle.value_operations.specs.declared.stop.Stop.{Stop}
 use Rattle.expr_eval.specs.Running.{IsIn, PlaceIsFit, ChangeIsFit, LeadsNext, state}
 use Rattle.value_operations.proofs.Following.{followed_stops, stops_by, exit}
 use Rattle.expr_eval.proofs.StepValues.{StepsFrom, taken_from, taken_start}
-use Rattle.expr_eval.proofs.ValueTypes.{done_followed, of_type}
+use Rattle.expr_eval.proofs.ValueTypes.{of_type}
+use Rattle.language_model.proofs.Returning.{done_followed}
 
 -- ---- what fits
 

@@ -24,7 +24,7 @@ PlacesBelow n fs = AllByRecursion (λ f. f.0 < n) fs
 
 -- ---- how often there is a place, and how many places are below a number
 
-how_often : {A : Type 0} → ℕ → List (ℕ × A) → ℕ
+unfoldable pub how_often : {A : Type 0} → ℕ → List (ℕ × A) → ℕ
 how_often i [] = 0
 how_often i (f ∷ fs) = cond (f.0 == i) (1 + how_often i fs) (how_often i fs)
 

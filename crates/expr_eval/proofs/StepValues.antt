@@ -30,8 +30,9 @@ use Rattle.value_operations.specs.Taking.{StepFits}
 use Rattle.value_operations.proofs.Following.{followed_followed, followed_done, followed_stops, stops_by}
 use Rattle.expr_eval.proofs.Rows.{IsRow, appends, past, on, stop}
 use Rattle.expr_eval.proofs.StepParts.{steps, one_step, has_member, has_elements, has_keys}
-use Rattle.expr_eval.proofs.ValueTypes.{done_followed, taken_of_type}
+use Rattle.expr_eval.proofs.ValueTypes.{taken_of_type}
 use Rattle.spl_value.proofs.Lists.{drop_at}
+use Rattle.language_model.proofs.Returning.{done_followed}
 
 -- ---- one step
 

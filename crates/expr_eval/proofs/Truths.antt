@@ -35,7 +35,8 @@ use Rattle.value_operations.specs.declared.stop.Stop.TheVariants as H
 use Rattle.value_operations.proofs.Following.{followed_followed, followed_stops, stops_by}
 use Rattle.expr_eval.proofs.Binary.{both_evaluated, on_left}
 use Rattle.expr_eval.proofs.CodeParts.{binary_parts, unary_parts}
-use Rattle.expr_eval.proofs.ValueTypes.{done_followed, of_type}
+use Rattle.expr_eval.proofs.ValueTypes.{of_type}
+use Rattle.language_model.proofs.Returning.{done_followed}
 
 -- the truth of a value
 abbrev told : Value → ℕ → Outcome Bool

@@ -32,29 +32,19 @@ use Rattle.language_model.specs.Evaluation.{Calls, World, code_value, world_of, 
 use Rattle.language_model.specs.Functions.{calls_of}
 use Rattle.language_model.specs.EvaluationLaws.{values_of, field_values, taking_meaning, takings_value, literal_is, select_is, tuple_is}
 use Rattle.language_model.specs.Statements.{level_tuple}
-use Rattle.language_model.specs.Outcomes.{Outcome, Done, Faulted, Stuck, followed, need}
+use Rattle.language_model.specs.Outcomes.{Done, followed, need}
 use Rattle.language_model.specs.ValueLaws.{NeverStuckLaw}
 use Rattle.language_model.specs.WorldFits.{EnvFits, FunctionsFit, Fits, ComesTo}
 use Rattle.value_operations.specs.Fitting.{FitBinary, FitsUnaries, FitBuiltIn}
 use Rattle.expr_eval.specs.Fitting.{IsFit, FitCall, FitTakings}
-use Rattle.expr_eval.proofs.Placing.{HaveEachPlace}
+use Rattle.expr_eval.proofs.Placing.{HaveEachPlace, how_often}
 use Rattle.expr_eval.proofs.CodeParts.{select_parts, unary_parts, binary_parts, tuple_parts, built_in_parts, call_parts}
-
--- what led to an answer
-pub done_followed : {A B : Type 0} (o : Outcome A) (f : A → ℕ → Outcome B) (y : B) (left : ℕ) → followed o f ≡ Done y left
-    → (x : A) × (turns : ℕ) × (o ≡ Done x turns) × (f x turns ≡ Done y left)
-done_followed (Done x turns) f y left e = (x, turns, refl, e)
-done_followed (Faulted kind) f y left e = absurd cc
-done_followed Stuck f y left e = absurd cc
+use Rattle.language_model.proofs.Returning.{done_followed}
 
 -- ---- the fields of a tuple
 
--- how many fields have a place
-abbrev how_often : {A : Type 0} → ℕ → List (ℕ × A) → ℕ
-how_often i [] = 0
-how_often i (f ∷ fs) = cond (f.0 == i) (1 + how_often i fs) (how_often i fs)
-
 counts : {A : Type 0} (i : ℕ) (fs : List (ℕ × A)) → how_often i fs ≡ count_by (λ (f : ℕ × A). f.0 == i) fs
+unfolding how_often
 counts {A} i fs = is_count_by (λ (fs : List (ℕ × A)). how_often i fs) (λ (f : ℕ × A). f.0 == i) refl (λ f fs. refl) fs
 
 tuple_length : (i n : ℕ) (fs : List (ℕ × Value)) (vs : List Value) → tuple_from i n fs ≡ Some vs → length vs ≡ n
@@ -124,6 +114,7 @@ module _ (law : NeverStuckLaw) (functions : List Function) (env : Env) (depth : 
         ∙ ap (λ o. followed o (λ u turns. Done u turns)) e)
 
   same_places : (fs : List (ℕ × Code Slot)) (turns left : ℕ) (gs : List (ℕ × Value)) → field_values calls fs world turns ≡ Done gs left → (i : ℕ) → how_often i gs ≡ how_often i fs
+  unfolding how_often
   same_places [] turns left gs e i = let s : [] ≡ gs = cc in ap (how_often i) (sym s)
   same_places (f ∷ fs) turns left gs e i =
       let first = done_followed (code_value calls f.1 world turns) (λ v turns. followed (field_values calls fs world turns) (λ gs turns. Done ((f.0, v) ∷ gs) turns)) gs left e in

@@ -9,12 +9,12 @@ use Rattle.spl_tree.specs.Units.{place_of}
 use Rattle.expr_parser.specs.Parses.{OneAnswerLaw}
 
 -- the rest of a list begins at one place
-one_place : (ts : List Token) (m n : ℕ) → m ≤ length ts → n ≤ length ts → drop m ts ≡ drop n ts → m ≡ n
+pub one_place : (ts : List Token) (m n : ℕ) → m ≤ length ts → n ≤ length ts → drop m ts ≡ drop n ts → m ≡ n
 one_place ts m n first second same =
     let lengths : length ts - m ≡ length ts - n = sym (length-drop m ts) ∙ ap length same ∙ length-drop n ts in
     omega arith
 
-two_deep : {o : Option ℕ} {i : ℕ} → o ≡ None → o ≡ Some i → ⊥
+pub two_deep : {o : Option ℕ} {i : ℕ} → o ≡ None → o ≡ Some i → ⊥
 two_deep none some = let clash = sym none ∙ some in cc
 
 pub one_answer : OneAnswerLaw

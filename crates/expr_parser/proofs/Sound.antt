@@ -118,7 +118,7 @@ prefixes_none (operator ps a t p ds known) e = absurd (push_some ps _ e)
 prefixes_none (cast ps a o t c target ds left known right) e = absurd (push_some ps _ e)
 
 -- no steps are no tokens
-steps_none : {ss : List (Step Expr)} {a : List Token} → Steps ss a → ss ≡ [] → a ≡ []
+pub steps_none : {ss : List (Step Expr)} {a : List Token} → Steps ss a → ss ≡ [] → a ≡ []
 steps_none no_steps e = refl
 steps_none (member ss a d t n ds dot named) e = absurd (push_some ss _ e)
 steps_none (index ss i o c a b ds left d right) e = absurd (push_some ss _ e)

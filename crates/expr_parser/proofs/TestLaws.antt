@@ -157,7 +157,7 @@ is_operator-stops k (t ∷ ts) stops =
 -- What a token is that passes a test
 
 -- an option that has a value has the one that is taken of it
-unwrap_or-is_some : {A : Type 0} (o : Option A) (d : A) → is_some o ≡ true → o ≡ Some (unwrap_or o d)
+pub unwrap_or-is_some : {A : Type 0} (o : Option A) (d : A) → is_some o ≡ true → o ≡ Some (unwrap_or o d)
 unwrap_or-is_some None d e = absurd (cc)
 unwrap_or-is_some (Some x) d e = refl
 

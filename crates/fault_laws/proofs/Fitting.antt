@@ -1,19 +1,16 @@
 -- What an operator gives for events that fit has the attributes of its streams.
-use Rattle.std.proofs.Common.{◌≡◌, ℕ, suc, Bool, true, false, cond, List, [], ◌∷◌, refl, sym, subst, Option, Some, None, is_some, is_none, inl, inr}
-use Rattle.std.specs.Prelude.{◌⊎◌}
-use Rattle.std.proofs.lemmas.Bool.{and_from, cases_eq, eq-eqb, ne_eqb}
+use Rattle.std.proofs.Common.{◌≡◌, ℕ, Bool, true, false, List, [], ◌∷◌, refl, Option, Some, None, is_some, is_none}
+use Rattle.std.proofs.lemmas.Bool.{and_from}
 use Rattle.spl_value.specs.declared.item.Item.{Item}
-use Rattle.spl_value.specs.declared.item.Item.TheVariants as I
-use Rattle.language_model.specs.declared.outs.Output.{Output}
-use Rattle.language_model.specs.StreamTypes.{Attributes}
 use Rattle.stream_model.specs.Fitting.{EventFits, EventsFit, IsFitting}
 use Rattle.stream_model.specs.Operators.{Operator}
 use Rattle.stream_model.specs.React.{ended, react}
-use Rattle.stream_model.specs.Replies.{AllFit, ItemHas, given_attributes, is_live}
-use Rattle.stream_model.specs.Stages.{gives_all, next, on_port, out, start}
+use Rattle.stream_model.specs.Replies.{AllFit, given_attributes, is_live}
+use Rattle.stream_model.specs.Stages.{gives_all, next, out, start}
 use Rattle.stream_model.specs.Stream.{Event, TuplesFit}
 use Rattle.stream_model.proofs.SimpleFits.{both_fit, none_fit}
 use Rattle.fault_kinds.proofs.Reacting.{fitting}
+use Rattle.list_engine.proofs.Taking.{port_fits}
 
 -- ---- one operator
 
@@ -44,24 +41,6 @@ stage_fits op seen false (e ∷ events) w h =
     both_fit op (react op seen e) (gives_all (next (record { op = op; seen = seen; over = false }) e) events)
     (fitting op seen e w.clauses w.earlier (w.live refl) h.0).1
     (stage_fits op (e ∷ seen) (is_some (ended op seen e)) events (gone_on op seen e w h.0) h.1)
-
--- the items of a port have its attributes
-fit_one : (schema : Attributes) (x : Item) (xs : List Item) → ItemHas schema x → TuplesFit schema xs → TuplesFit schema (x ∷ xs)
-fit_one schema (I.Tuple vs) xs h k = (h, k)
-fit_one schema I.Window xs h k = k
-fit_one schema I.Final xs h k = k
-fit_one schema (I.Bad f) xs h k = k
-
-port_fits : (op : Operator) (p : ℕ) (outs : List Output) → AllFit op outs → TuplesFit (given_attributes op.clauses op p) (on_port p outs)
-port_fits op p [] h = tt
-port_fits op p (o ∷ outs) h = go (cases_eq o.port p) (port_fits op p outs (λ i x at. h (suc i) x at))
-  where
-    go : (o.port ≡ p) ⊎ (o.port ≡ p → ⊥) → TuplesFit (given_attributes op.clauses op p) (on_port p outs) → TuplesFit (given_attributes op.clauses op p) (on_port p (o ∷ outs))
-    go (inl e) rest =
-        subst (λ b. TuplesFit (given_attributes op.clauses op p) (cond b (o.item ∷ on_port p outs) (on_port p outs))) (sym (eq-eqb o.port p e))
-        (fit_one (given_attributes op.clauses op p) o.item (on_port p outs) (subst (λ q. ItemHas (given_attributes op.clauses op q) o.item) e (h 0 o refl)) rest)
-    go (inr n) rest =
-        subst (λ b. TuplesFit (given_attributes op.clauses op p) (cond b (o.item ∷ on_port p outs) (on_port p outs))) (sym (ne_eqb o.port p n)) rest
 
 pub out_fits : (op : Operator) (p : ℕ) (events : List Event) → IsFitting op → EventsFit op events → TuplesFit (given_attributes op.clauses op p) (out op p events)
 out_fits op p events fit h = port_fits op p (gives_all (start op) events) (stage_fits op [] false events (begun op fit) h)

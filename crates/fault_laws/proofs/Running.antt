@@ -1,7 +1,7 @@
 -- What the faults of a run have, where those of its sources' rows have it, and its operators' own faults.
-use Rattle.std.proofs.Common.{◌≡◌, ℕ, suc, ◌==◌, Bool, true, false, if◌then◌else◌, List, [], ◌∷◌, ◌++◌, map, refl, sym, ap, subst, ◌∙◌, reverse, slice_get, Option, Some, None, position}
+use Rattle.std.proofs.Common.{◌≡◌, ℕ, ◌==◌, Bool, true, List, [], ◌∷◌, ◌++◌, refl, sym, ap, subst, ◌∙◌, reverse, slice_get, Option, Some, None, position}
 use Rattle.std.specs.List.{AllByRecursion, cons_option, filter_map}
-use Rattle.std.specs.Option.{option_map_or, option_or}
+use Rattle.std.specs.Option.{option_map_or}
 use Rattle.std.proofs.lemmas.List.{reverse-append}
 use Rattle.spl_value.specs.declared.item.Fault.{Fault}
 use Rattle.spl_value.specs.declared.item.FaultKind.{FaultKind}
@@ -10,7 +10,7 @@ use Rattle.language_model.specs.declared.checked.Part.TheVariants as A
 use Rattle.language_model.specs.CheckedGraph.{CheckedGraph}
 use Rattle.language_model.specs.Keeping.{Keeps}
 use Rattle.stream_model.specs.CheckedMeaning.{graph_of}
-use Rattle.stream_model.specs.Ends.{end_fault, first_fault, is_read, run_fault, stream_fault, unread_fault}
+use Rattle.stream_model.specs.Ends.{end_fault, is_read, run_fault, stream_fault, unread_fault}
 use Rattle.stream_model.specs.Fitting.{EventsFit}
 use Rattle.stream_model.specs.Meaning.{Graph, Lists, Entries, Meaning, events_of, in_topo, made_by, makes, meaning, streams_of}
 use Rattle.stream_model.specs.Operators.{Operator, connections}
@@ -24,6 +24,7 @@ use Rattle.fault_laws.specs.RunFaults.{SourcesFit}
 use Rattle.fault_laws.proofs.Coming.{events_each}
 use Rattle.fault_laws.proofs.Streams.{IsIn, clauses_fit, inputs_fit, streams_fit}
 use Rattle.fault_laws.proofs.Having.{AllHave, EventHas, came_have, fault_has, out_has, stream_has}
+use Rattle.list_engine.proofs.FaultNames.{first_of, unread}
 
 -- ---- the operators in their order
 
@@ -47,23 +48,6 @@ numbers_in g (n ∷ numbers) = go (slice_get g.ops n) refl (numbers_in g numbers
 
 all_in : (g : Graph) → AllByRecursion (IsIn g) (reverse (in_topo g))
 all_in g = reverse_in g (in_topo g) (numbers_in g g.topo)
-
--- ---- the ends
-
--- the first fault is one of those
-first_of : {X : Type 0} (h : X → Option Fault) (xs : List X) (f : Fault) → first_fault (map h xs) ≡ Some f → (n : ℕ) × (x : X) × (slice_get xs n ≡ Some x) × (h x ≡ Some f)
-first_of h [] f e = absurd cc
-first_of {X = X} h (x ∷ xs) f e = go (h x) refl e (first_of h xs f)
-  where
-    go : (found : Option Fault) → h x ≡ found → option_or found (first_fault (map h xs)) ≡ Some f
-        → (first_fault (map h xs) ≡ Some f → (n : ℕ) × (y : X) × (slice_get xs n ≡ Some y) × (h y ≡ Some f))
-        → (n : ℕ) × (y : X) × (slice_get (x ∷ xs) n ≡ Some y) × (h y ≡ Some f)
-    go None q e rest = let r = rest e in (suc r.0, r.1, r.2, r.3)
-    go (Some y) q e rest = (0, x, refl, q ∙ e)
-
-unread : (b : Bool) (o : Option Fault) (f : Fault) → (if b then None else o) ≡ Some f → o ≡ Some f
-unread true o f e = absurd cc
-unread false o f e = e
 
 -- ---- the run
 

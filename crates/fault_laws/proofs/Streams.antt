@@ -19,11 +19,12 @@ use Rattle.stream_model.specs.Stages.{out}
 use Rattle.stream_model.specs.Stream.{Event, TuplesFit}
 use Rattle.stream_model.proofs.CheckedOperators.{checked_fits}
 use Rattle.list_engine.specs.Runs.{is_source}
-use Rattle.list_engine.proofs.GraphOperators.{is_numbered, operator_at}
+use Rattle.list_engine.proofs.GraphOperators.{is_numbered}
 use Rattle.list_engine.proofs.Ports.{input_count, input_schema, output_schema, source_out}
 use Rattle.fault_laws.specs.RunFaults.{SourcesFit}
 use Rattle.fault_laws.proofs.Coming.{OfEach, events_each, place_is}
 use Rattle.fault_laws.proofs.Fitting.{out_fits}
+use Rattle.stream_model.proofs.GraphParts.{operator_at}
 
 -- ---- the operators of a graph
 

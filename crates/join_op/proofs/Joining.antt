@@ -1,13 +1,10 @@
 -- A Join by its two ports.
-use Rattle.std.proofs.Common.{◌≡◌, ◌==◌, ℕ, zero, suc, Bool, true, false, if◌then◌else◌, List, [], ◌∷◌, length, map, slice_get, Option, None, Some, refl, sym, ap, subst, ◌∙◌, arith}
-use Rattle.std.specs.List.{AllByRecursion}
+use Rattle.std.proofs.Common.{◌≡◌, ℕ, true, false, if◌then◌else◌, List, [], ◌∷◌, length, map, slice_get, Option, None, Some, refl, sym, ap, subst, arith}
 use Rattle.std.specs.Option.{unwrap_or}
-use Rattle.std.proofs.lemmas.Bool.{eqb-true}
 use Rattle.spl_value.specs.declared.item.Item.{Item}
 use Rattle.spl_value.specs.declared.item.Item.TheVariants as I
 use Rattle.spl_value.specs.declared.types.SplType.TheVariants as S
 use Rattle.spl_value.specs.declared.value.Value.{Value}
-use Rattle.spl_value.specs.declared.value.Value.TheVariants as V
 use Rattle.spl_value.specs.Key.{key_of}
 use Rattle.spl_tree.specs.declared.code.Code.{Code}
 use Rattle.spl_tree.specs.declared.code.Code.TheVariants as C
@@ -24,7 +21,6 @@ use Rattle.language_model.specs.Keeping.{ConditionFits, JoinWindow, PartFits}
 use Rattle.language_model.specs.Keeping as K
 use Rattle.language_model.specs.StreamTypes.{Attributes}
 use Rattle.language_model.specs.WorldFits.{EnvFits, FunctionsFit}
-use Rattle.language_model.proofs.Yielding.{OfType}
 use Rattle.stream_model.specs.declared.reply.Reply.{Reply}
 use Rattle.stream_model.specs.Stream.{Event, came}
 use Rattle.stream_model.specs.Operators.{Operator}
@@ -35,13 +31,13 @@ use Rattle.stream_model.specs.React.{answer, makes_by}
 use Rattle.stream_model.specs.Replies.{IsTaken, ItemHas, OutsFit}
 use Rattle.stream_model.specs.Windows.{WindowEvent, Insert, content, partition_key, window_events}
 use Rattle.stream_model.specs.Fitting.{FitsAt, HasPort, HistoryFits, IsFitting}
-use Rattle.stream_model.proofs.ContentMembers.{ItemIs, all_content, inserted_of}
+use Rattle.stream_model.proofs.ContentMembers.{all_content, inserted_of}
 use Rattle.stream_model.proofs.FittingCodes.{TuplesHave, tuples_env}
 use Rattle.window_policy.specs.declared.window.Window.{Window}
 use Rattle.window_policy.specs.Answers.{IsAllowed}
 use Rattle.window_policy.specs.Standing.{Stands}
 use Rattle.port_reacts.specs.Bodies.{RepliesToItem}
-use Rattle.port_reacts.specs.PortReplies.{MayTakeAt, RepliesAt}
+use Rattle.port_reacts.specs.PortReplies.{MayTakeAt, RepliesAt, WhereOut}
 use Rattle.port_reacts.proofs.Replying.{outs_fit, replies_by}
 use Rattle.join_op.specs.declared.clauses.Clauses.{Clauses}
 use Rattle.join_op.specs.declared.side.Side.{Side}
@@ -50,8 +46,10 @@ use Rattle.join_op.specs.Fitting.{PairFits, PassesFit}
 use Rattle.join_op.specs.Pairs.{IsReady, pair_env}
 use Rattle.join_op.specs.Sides.{JoinStands, SidesStand}
 use Rattle.join_op.specs.steps.Matching.{MayMatch, matched, operator_of}
-use Rattle.join_op.specs.steps.Standing.{WhereOut, behind}
-use Rattle.join_op.proofs.Answering.{both_out, where_out}
+use Rattle.join_op.specs.steps.Standing.{behind}
+use Rattle.port_reacts.proofs.Answering.{both_out, where_out}
+use Rattle.spl_value.proofs.Lists.{all_at}
+use Rattle.stream_model.proofs.JoinFits.{Has, two_came, came_has}
 
 -- ---- clauses
 
@@ -100,46 +98,15 @@ is_allowed schema _ (K.sliding_delta place limit is) = λ m e. absurd cc
 
 -- ---- what came
 
-abbrev Has : Attributes → List Value → Type 0
-Has schema vs = OfType (S.Tuple schema) (V.Tuple vs)
-
-items_has : (schema : Attributes) (x : Item) → ItemHas schema x → ItemIs (Has schema) x
-items_has schema (I.Tuple vs) h = h
-items_has schema I.Window h = tt
-items_has schema I.Final h = tt
-items_has schema (I.Bad f) h = tt
-
-came_has : (op : Operator) (port : ℕ) (schema : Attributes) → unwrap_or (slice_get op.types.ins port) [] ≡ schema → (h : List Event) → HistoryFits op h
-    → AllByRecursion (ItemIs (Has schema)) (items_of port h)
-came_has op port schema is [] fit = tt
-came_has op port schema is (e ∷ h) fit = go (e.input == port) refl (came_has op port schema is h fit.1)
-  where
-    go : (b : Bool) → (e.input == port) ≡ b → AllByRecursion (ItemIs (Has schema)) (items_of port h)
-        → AllByRecursion (ItemIs (Has schema)) (if b then e.item ∷ items_of port h else items_of port h)
-    go true q rest =
-        let same : e.input ≡ port = eqb-true e.input port q in
-        (items_has schema e.item (subst (λ a. ItemHas a e.item) (ap (λ p. unwrap_or (slice_get op.types.ins p) []) same ∙ is) fit.0.1), rest)
-    go false q rest = rest
-
-member_is : {X : Type 0} (P : X → Type 0) (xs : List X) (i : ℕ) (x : X) → AllByRecursion P xs → slice_get xs i ≡ Some x → P x
-member_is P [] i x all at = absurd cc
-member_is P (y ∷ xs) zero x all at = let same : y ≡ x = (let e : Some y ≡ Some x = at in cc) in subst P same all.0
-member_is P (y ∷ xs) (suc i) x all at = member_is P xs i x all.1 at
-
 -- a tuple that a side holds has the attributes of the side's port
 held_has : (op : Operator) (port : ℕ) (window : Policy) (schema : Attributes) → unwrap_or (slice_get op.types.ins port) [] ≡ schema → (h : List Event) → HistoryFits op h
     → (i : ℕ) (u : List Value) → slice_get (side_content window (items_of port h)) i ≡ Some u → Has schema u
 held_has op port window schema is h fit i u at =
-    member_is (Has schema) (side_content window (items_of port h)) i u
+    all_at (Has schema) (side_content window (items_of port h)) i u
     (all_content (Has schema) window.rule [] (window_events (partition_key window []) (items_of port h))
     (inserted_of (Has schema) (partition_key window []) (items_of port h) (came_has op port schema is h fit))) at
 
 -- ---- pairs
-
-two_came : (first second : Attributes) (t u : List Value) → Has first t → Has second u → TuplesHave (first ∷ second ∷ []) (t ∷ u ∷ [])
-two_came first second t u h k zero schema at = let same : first ≡ schema = cc in (t, refl, subst (λ a. Has a t) same h)
-two_came first second t u h k (suc zero) schema at = let same : second ≡ schema = cc in (u, refl, subst (λ a. Has a u) same k)
-two_came first second t u h k (suc (suc i)) schema at = absurd cc
 
 module _ (op : Operator) (fit : IsFitting op) (left right : Policy) (condition : Option (Code Slot)) (output : Code Slot) (is : op.clauses ≡ A.Join left right condition output) where
   abbrev pub shape : Shape fit.scope op.types.ins left right condition output

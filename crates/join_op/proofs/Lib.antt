@@ -1,4 +1,3 @@
-pub mod Answering
 pub mod Comings
 pub mod Contents
 pub mod Joining

@@ -1,5 +1,5 @@
 -- Pairs one by one.
-use Rattle.std.proofs.Common.{◌≡◌, ◌<◌, ℕ, zero, suc, ◌+◌, List, [], ◌∷◌, ◌++◌, map, length, drop, get_or, slice_get, Option, Some, refl, sym, ap, subst, ◌∙◌, arith, append_assoc, length-set, set-set}
+use Rattle.std.proofs.Common.{◌≡◌, ◌<◌, ℕ, suc, ◌+◌, List, [], ◌∷◌, ◌++◌, map, length, drop, slice_get, Option, Some, refl, sym, ap, subst, ◌∙◌, arith, append_assoc, length-set, set-set}
 use Rattle.spl_value.specs.declared.item.FaultKind.{FaultKind}
 use Rattle.spl_value.specs.declared.value.Value.{Value}
 use Rattle.spl_tree.specs.declared.body.Function.{Function}
@@ -13,6 +13,7 @@ use Rattle.stream_model.specs.Joins.{pairs_give}
 use Rattle.join_op.specs.declared.side.Side.{Side}
 use Rattle.join_op.specs.Fitting.{PairFits, PairsFit}
 use Rattle.join_op.specs.Pairs.{other_place, with_other}
+use Rattle.spl_value.proofs.Lists.{next_rest}
 
 -- ---- environments
 
@@ -27,18 +28,8 @@ place_stays side env new t is within =
 
 -- ---- lists
 
-pub item_there : {X : Type 0} (xs : List X) (i : ℕ) (x : X) → i < length xs → x ≡ get_or xs i x → slice_get xs i ≡ Some x
-item_there [] i x within e = absurd (omega (arith, within))
-item_there (y ∷ xs) zero x within e = ap Some (sym e)
-item_there (y ∷ xs) (suc i) x within e = item_there xs i x (omega (arith, within)) e
-
-drop_suc : {X : Type 0} (xs : List X) (i : ℕ) (x : X) → slice_get xs i ≡ Some x → drop i xs ≡ x ∷ drop (suc i) xs
-drop_suc [] i x at = absurd cc
-drop_suc (y ∷ xs) zero x at = let same : y ≡ x = cc in ap (λ z. z ∷ xs) same
-drop_suc (y ∷ xs) (suc i) x at = drop_suc xs i x at
-
 drop_at : {X : Type 0} (xs : List X) (i : ℕ) (x : X) → slice_get xs i ≡ Some x → drop i xs ≡ x ∷ drop (i + 1) xs
-drop_at xs i x at = let same : suc i ≡ i + 1 = omega arith in drop_suc xs i x at ∙ ap (λ n. x ∷ drop n xs) same
+drop_at xs i x at = let same : suc i ≡ i + 1 = omega arith in next_rest xs i x at ∙ ap (λ n. x ∷ drop n xs) same
 
 -- ---- what is given
 

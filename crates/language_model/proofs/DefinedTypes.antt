@@ -16,7 +16,7 @@ use Rattle.language_model.specs.TypeNameLaws.{NamesLaw}
 use Rattle.language_model.specs.Typing.{unknown}
 use Rattle.language_model.proofs.Standing.{Stands, first_stands}
 use Rattle.language_model.proofs.TypeInduction.{same_shape}
-use Rattle.spl_value.proofs.Bools.{or_last as or_right, or_left}
+use Rattle.spl_value.proofs.Bools.{or_last as or_right, or_left, neither}
 
 -- ---- ways from place to place
 
@@ -49,10 +49,6 @@ is_any : (p : ℕ → Bool) (row : List ℕ) (n : ℕ) → Among row n → p n �
 is_any p [] n among e = elim among [ ]
 is_any p (x ∷ row) n (inl here) e = or_left (p x) (list_any p row) (ap p here ∙ e)
 is_any p (x ∷ row) n (inr later) e = or_right (p x) (list_any p row) (is_any p row n later e)
-
-neither : (a b : Bool) → (a || b) ≡ false → (a ≡ false) × (b ≡ false)
-neither true b e = absurd cc
-neither false b e = (refl, e)
 
 none_is : (p : ℕ → Bool) (row : List ℕ) → list_any p row ≡ false → AllByRecursion (λ n. p n ≡ false) row
 none_is p [] e = tt

@@ -1,7 +1,7 @@
 -- What the graph of a unit was made of, and which operator makes which stream.
-use Rattle.std.specs.Prelude.{◌≡◌, ◌+◌, ◌<◌, ◌↔◌, ◌-◌, ℕ, zero, suc, List, [], ◌∷◌, ◌++◌, map, length, take, Option, Some, None, Ok, slice_get}
-use Rattle.std.specs.Option.{option_map}
-use Rattle.std.proofs.Common.{refl, sym, ap, ◌∙◌, subst, arith, inl, inr}
+use Rattle.std.specs.Prelude.{◌≡◌, ◌+◌, ◌<◌, ◌↔◌, ◌-◌, ℕ, zero, suc, List, [], ◌∷◌, ◌++◌, map, length, take, Option, Some, None, Ok, slice_get, ◌==◌, true, Bool, false, if◌then◌else◌}
+use Rattle.std.specs.Option.{option_map, IfSome}
+use Rattle.std.proofs.Common.{refl, sym, ap, ◌∙◌, subst, arith, inl, inr, eqb-true}
 use Rattle.std.proofs.lemmas.List.{length-map}
 use Rattle.std.proofs.lemmas.Option.{slice_get-map}
 use Rattle.std.proofs.lemmas.Bool.{cases_lt}
@@ -14,14 +14,17 @@ use Rattle.spl_tree.specs.declared.unit.Composite.{Composite}
 use Rattle.spl_tree.specs.declared.unit.Definition.{Definition}
 use Rattle.language_model.specs.Declarations.{first_of}
 use Rattle.language_model.specs.declared.expansion.Operation.{Operation}
-use Rattle.language_model.specs.Expansion.{Made, after, expanded_main}
+use Rattle.language_model.specs.Expansion.{Made, after, expanded_main, place_of}
 use Rattle.language_model.specs.Flat.{flat_from, graph_of, ordered, if_all_taken, with_own_files, files_had, if_none_had}
 use Rattle.language_model.specs.FlatLaws.{IsMadeAs, MakerLaw}
-use Rattle.language_model.specs.Numbering.{numbers_from, first_stream, op_of, ops_from, streams_from}
-use Rattle.language_model.specs.Scopes.{At}
+use Rattle.language_model.specs.Numbering.{numbers_from, first_stream, op_of, ops_from, streams_from, is_site}
+use Rattle.language_model.specs.Scopes.{At, at_place, first_from}
 use Rattle.language_model.specs.Taking.{taken, first_untaken}
 use Rattle.language_model.proofs.ExpansionAnswers.{after_gives, op_at}
 use Rattle.spl_value.proofs.Lists.{before_more as in_front}
+use Rattle.std.specs.Str.{bytes_eq}
+use Rattle.spl_tree.specs.declared.graph.Site.{Site}
+use Rattle.spl_value.proofs.Bools.{and_parts}
 
 -- ---- what a graph was made of
 
@@ -32,7 +35,7 @@ all_taken : (made : Made) (topo : List ℕ) (o : Option ℕ) (g : Graph) → if_
 all_taken made topo None g e = (refl, cc)
 all_taken made topo (Some n) g e = absurd cc
 
-none_had : (h : Graph) (o : Option (Placed (List ℕ))) (g : Graph) → if_none_had h o ≡ Ok g → h ≡ g
+pub none_had : (h : Graph) (o : Option (Placed (List ℕ))) (g : Graph) → if_none_had h o ≡ Ok g → h ≡ g
 none_had h None g e = cc
 none_had h (Some file) g e = absurd cc
 
@@ -62,7 +65,7 @@ behind [] ys i j e = let same : i ≡ j = omega arith in ap (slice_get ys) same
 behind (x ∷ xs) ys zero j e = absurd (omega arith)
 behind (x ∷ xs) ys (suc i) j e = behind xs ys i j (omega arith)
 
-numbers_within : (n count i : ℕ) → i < count → slice_get (numbers_from n count) i ≡ Some (n + i)
+pub numbers_within : (n count i : ℕ) → i < count → slice_get (numbers_from n count) i ≡ Some (n + i)
 numbers_within n zero i lt = absurd (omega arith)
 numbers_within n (suc count) zero lt = let same : n ≡ n + 0 = omega arith in ap Some same
 numbers_within n (suc count) (suc i) lt =
@@ -185,3 +188,26 @@ pub maker_law : MakerLaw
 maker_law unit names main g e number s =
     let m = made_of unit names main g e in
     subst (λ (h : Graph). (slice_get h.streams number ≡ Some s) ↔ IsMadeAs h s number) (sym m.is) (one_maker m.made (topo_of m.made) number s)
+
+-- the place of a name is within the list
+within_from : {A : Type 0} (p : A → Bool) (i : ℕ) (xs : List A) → IfSome (option_map (λ n. n.place) (first_from p i xs)) (λ k. k < i + length xs)
+within_from p i [] = tt
+within_from p i (x ∷ xs) =
+    elim (p x) as (λ b. IfSome (option_map (λ n. n.place) (if b then Some (at_place i x) else first_from p (suc i) xs)) (λ k. k < i + suc (length xs))) [
+      | true ↦ omega arith
+      | false ↦ shifted (option_map (λ n. n.place) (first_from p (suc i) xs)) (within_from p (suc i) xs)
+    ]
+  where
+    shifted : (o : Option ℕ) → IfSome o (λ k. k < suc i + length xs) → IfSome o (λ k. k < i + suc (length xs))
+    shifted None h = tt
+    shifted (Some k) h = omega arith
+
+pub place_within : (name : List ℕ) (names : List (List ℕ)) (k : ℕ) → place_of name names ≡ Some k → k < length names
+place_within name names k is =
+    let h : k < 0 + length names = subst (λ o. IfSome o (λ k. k < 0 + length names)) is (within_from (λ n. bytes_eq n name) 0 names) in
+    omega arith
+
+pub same_site : (s t : Site) → is_site s t ≡ true → s ≡ t
+same_site s t e =
+    let h = and_parts (s.expansion == t.expansion) (s.invocation == t.invocation) e in
+    λ i. record { expansion = eqb-true s.expansion t.expansion h.0 i; invocation = eqb-true s.invocation t.invocation h.1 i }

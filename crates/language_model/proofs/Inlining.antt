@@ -2,7 +2,6 @@
 use Rattle.std.specs.Prelude.{◌≡◌, ◌+◌, ◌==◌, ◌⊎◌, ℕ, zero, suc, List, [], ◌∷◌, ◌++◌, length, Option, Some, None, Ok, Err, slice_get, if◌then◌else◌, true, false}
 use Rattle.std.specs.Str.{bytes_eq}
 use Rattle.std.proofs.Common.{refl, sym, ap, ◌∙◌, subst, arith, inl, inr}
-use Rattle.std.proofs.lemmas.Option.{slice_get_within}
 use Rattle.std.proofs.lemmas.List.{length-map}
 use Rattle.spl_tree.specs.declared.expression.Placed.{Placed}
 use Rattle.spl_tree.specs.declared.graph.Expansion.{Expansion}
@@ -23,11 +22,11 @@ use Rattle.language_model.specs.Kinds.{kind_named}
 use Rattle.language_model.specs.Invoking.{Target, Operator, Body, Nothing, target_of, body_or_operator, operator_or_nothing, undeclared, fits_head}
 use Rattle.language_model.specs.Numbering.{op_of, ops_from, expansion_of, expansions_from}
 use Rattle.language_model.specs.Scopes.{At}
-use Rattle.language_model.proofs.Flattening.{topo_of, made_of, mapped, behind, numbers_length}
+use Rattle.language_model.proofs.Flattening.{topo_of, made_of, mapped, numbers_length}
 use Rattle.language_model.proofs.Standing as F
 use Rattle.language_model.proofs.Standing.{first_stands}
 use Rattle.language_model.proofs.ExpansionAnswers.{after_gives, op_at, same_Ok}
-use Rattle.spl_value.proofs.Lists.{before_more as in_front}
+use Rattle.spl_value.proofs.Lists.{before_more as in_front, append_front, append_last}
 
 -- ---- what stands in what was made
 
@@ -53,9 +52,6 @@ pub record Holds (unit : List Definition) (made : Made) : Type 0 where
 -- the bodies are kept
 abbrev pub Grows : List Inlined → List Inlined → Type 0
 Grows xs ys = (k : ℕ) (e : Inlined) → slice_get xs k ≡ Some e → slice_get ys k ≡ Some e
-
-pub grown : {A : Type 0} (xs ys : List A) (i : ℕ) (x : A) → slice_get xs i ≡ Some x → slice_get (xs ++ ys) i ≡ Some x
-grown xs ys i x e = in_front xs ys i (slice_get_within xs i x e) ∙ e
 
 -- what stands in a list with one more: in the list, or that one
 in_or_last : {A : Type 0} (xs : List A) (y : A) (i : ℕ) (x : A) → slice_get (xs ++ y ∷ []) i ≡ Some x → (slice_get xs i ≡ Some x) ⊎ (y ≡ x)
@@ -149,9 +145,9 @@ with_expansion_keeps : (unit : List Definition) (x : Inlined) (made : Made) → 
 with_expansion_keeps unit x made h is = record {
   holds = record {
     bodies = λ k e at. elim (in_or_last made.expansions x k e at) [ inl old ↦ h.bodies k e old | inr same ↦ subst (IsIn unit) same is ];
-    ops = λ n o at. stands_on unit made.expansions (made.expansions ++ x ∷ []) o (grown made.expansions (x ∷ [])) (h.ops n o at);
+    ops = λ n o at. stands_on unit made.expansions (made.expansions ++ x ∷ []) o (append_front made.expansions (x ∷ [])) (h.ops n o at);
   };
-  grows = grown made.expansions (x ∷ []);
+  grows = append_front made.expansions (x ∷ []);
 }
 
 if_grown_keeps : (unit : List Definition) (before m next : Made) → Holds unit before → Keeps unit before m → if_grown before m ≡ next → Keeps unit before next
@@ -160,9 +156,6 @@ if_grown_keeps unit before m next h k e =
       | true ↦ λ is. subst (Keeps unit before) is (kept unit before h)
       | false ↦ λ is. subst (Keeps unit before) is k
     ] e
-
-pub last_stands : {A : Type 0} (xs : List A) (x : A) → slice_get (xs ++ x ∷ []) (length xs) ≡ Some x
-last_stands xs x = behind xs (x ∷ []) (length xs) 0 (omega arith)
 
 module _ (unit : List Definition) (expands : Expands) (all : KeepsAll unit expands) (p : Opened) (number : ℕ) (i : Invocation) (before next : Made)
     (h : Holds unit before) (stands : StandsIn p before) where
@@ -176,7 +169,7 @@ module _ (unit : List Definition) (expands : Expands) (all : KeepsAll unit expan
   body_keeps c is e =
       let x = after_gives (inside c) (λ m. Ok (if_grown before m)) next e in
       let first = with_expansion_keeps unit (inlined p number c) before h is in
-      let rest = all (opened_in p number i c before) (opened c) x.0 first.holds (last_stands before.expansions (inlined p number c)) x.1 in
+      let rest = all (opened_in p number i c before) (opened c) x.0 first.holds (append_last before.expansions (inlined p number c)) x.1 in
       if_grown_keeps unit before x.0 next h (keeps_on unit before (opened c) x.0 first rest) (same_Ok x.2)
 
   keeps_body : (c : At Composite) → target_of unit i.operator.what ≡ Body c → expanded_target expands p number i (Body c) before ≡ Ok next → Keeps unit before next

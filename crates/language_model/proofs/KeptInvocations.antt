@@ -25,9 +25,10 @@ use Rattle.language_model.specs.Recursion.{HasNoRecursion, calls_among, composit
 use Rattle.language_model.specs.Scopes.{At}
 use Rattle.language_model.specs.SinkFiles.{composite_of, invocation_at}
 use Rattle.language_model.proofs.Flattening.{topo_of, made_of, mapped, op_there}
-use Rattle.language_model.proofs.Inlining.{IsIn, Holds, Grows, grown, within_is, found, last_stands, declared_gives, main_holds}
+use Rattle.language_model.proofs.Inlining.{IsIn, Holds, Grows, within_is, found, declared_gives, main_holds}
 use Rattle.language_model.proofs.Nesting.{IsPath, composites_within, invoked_is_call}
 use Rattle.language_model.proofs.ExpansionAnswers.{after_gives, expansion_at, same_Ok}
+use Rattle.spl_value.proofs.Lists.{append_front, append_last}
 
 -- ---- what stands in what was made
 
@@ -58,7 +59,7 @@ stays_on unit before next s i a (is_operator kind n o target at of_site of_kind)
 stays_on unit before next s i a (is_body c k e target at of_site is) = is_body c k e target (a.bodies k e at) of_site is
 stays_on unit before next s i a (is_nothing c target none) = is_nothing c target none
 
-past_end : {A : Type 0} (xs : List A) (k : ℕ) (x : A) → length xs ≤ k → slice_get xs k ≡ Some x → ⊥
+pub past_end : {A : Type 0} (xs : List A) (k : ℕ) (x : A) → length xs ≤ k → slice_get xs k ≡ Some x → ⊥
 past_end xs k x le at = let lt = slice_get_within xs k x at in omega arith
 
 adds_none : (unit : List Definition) (made : Made) → Adds unit made made
@@ -123,7 +124,7 @@ module _ (unit : List Definition) (s : Site) (i : Invocation) (o : Operation) (b
 
   adds_operator : Adds unit before longer
   adds_operator = record {
-    ops = grown before.ops (o ∷ []);
+    ops = append_front before.ops (o ∷ []);
     count = omega (arith, count_longer);
     bodies = λ k e at. at;
     done = λ k e le at. absurd (past_end before.expansions k e le at);
@@ -132,7 +133,7 @@ module _ (unit : List Definition) (s : Site) (i : Invocation) (o : Operation) (b
   one_operator : target_of unit i.operator.what ≡ Operator o.kind → o.site ≡ s → One unit s i before longer
   one_operator target at = record {
     adds = adds_operator;
-    stays = is_operator o.kind (length before.ops) o target (last_stands before.ops o) at refl;
+    stays = is_operator o.kind (length before.ops) o target (append_last before.ops o) at refl;
     none = λ same. absurd (omega (arith, count_longer, same));
   }
 
@@ -162,7 +163,7 @@ module _ (unit : List Definition) (s : Site) (i : Invocation) (c : At Composite)
   opened = with_expansion e before
 
   body_there : slice_get made.expansions (length before.expansions) ≡ Some e
-  body_there = all.adds.bodies (length before.expansions) e (last_stands before.expansions e)
+  body_there = all.adds.bodies (length before.expansions) e (append_last before.expansions e)
 
   body_done : IsDone unit made (length before.expansions) e
   body_done n j at =
@@ -184,7 +185,7 @@ module _ (unit : List Definition) (s : Site) (i : Invocation) (c : At Composite)
     adds = record {
       ops = all.adds.ops;
       count = all.adds.count;
-      bodies = λ k x at. all.adds.bodies k x (grown before.expansions (e ∷ []) k x at);
+      bodies = λ k x at. all.adds.bodies k x (append_front before.expansions (e ∷ []) k x at);
       done = all_done;
     };
     stays = is_body c (length before.expansions) e target body_there of_site is;
@@ -295,7 +296,7 @@ finished unit main made is acyclic e = record { main_first = first; done = done 
         subst (λ m. Stays unit made (site 0 m) i) number (all.stay n i (ap (λ (y : Inlined). slice_get y.composite.what.graph n) same ∙ there))
     done (suc k) x at n i there = all.adds.done (suc k) x (omega arith) at n i there
 
-then_gives : {A B : Type 0} (f : A → Option B) (o : Option A) (b : B) → option_and_then f o ≡ Some b → (a : A) × (o ≡ Some a) × (f a ≡ Some b)
+pub then_gives : {A B : Type 0} (f : A → Option B) (o : Option A) (b : B) → option_and_then f o ≡ Some b → (a : A) × (o ≡ Some a) × (f a ≡ Some b)
 then_gives f None b e = absurd cc
 then_gives f (Some a) b e = (a, refl, e)
 

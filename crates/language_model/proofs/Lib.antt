@@ -58,3 +58,4 @@ mod BodyFitting
 mod BodyReturning
 mod LastNamed
 pub mod CodeWeights
+pub mod PlainCodes

@@ -28,13 +28,13 @@ taken_there (m ∷ ns) n e =
       | false ↦ λ other h. contains_later m n ns (taken_there ns n h)
     ] refl e
 
-there_taken : (ns : List ℕ) (n : ℕ) → Contains ns n → is_taken ns n ≡ true
+pub there_taken : (ns : List ℕ) (n : ℕ) → Contains ns n → is_taken ns n ≡ true
 there_taken ns n h = list_any_at (λ m. m == n) ns h.0 n h.1 (eq-eqb _ n h.2)
 
-not_there : (ns : List ℕ) (n : ℕ) → is_taken ns n ≡ false → Contains ns n → ⊥
+pub not_there : (ns : List ℕ) (n : ℕ) → is_taken ns n ≡ false → Contains ns n → ⊥
 not_there ns n e h = let is : is_taken ns n ≡ true = there_taken ns n h in let apart : true ≡ false = sym is ∙ e in cc
 
-passes : (p : ℕ → Bool) (ns : List ℕ) (n : ℕ) → list_all p ns ≡ true → Contains ns n → p n ≡ true
+pub passes : (p : ℕ → Bool) (ns : List ℕ) (n : ℕ) → list_all p ns ≡ true → Contains ns n → p n ≡ true
 passes p ns n e h =
     elim (cases_Bool (p n)) [
       | inl holds ↦ holds
@@ -75,7 +75,7 @@ split_at (m ∷ xs) n e =
 abbrev MadeBy : List Stream → List ℕ → ℕ → Type 0
 MadeBy streams ns number = (s : Stream) × (slice_get streams number ≡ Some s) × Contains ns s.maker
 
-made_there : (ns : List ℕ) (o : Option Stream) → option_map_or (λ x. is_taken ns x.maker) o false ≡ true → (s : Stream) × (o ≡ Some s) × Contains ns s.maker
+pub made_there : (ns : List ℕ) (o : Option Stream) → option_map_or (λ x. is_taken ns x.maker) o false ≡ true → (s : Stream) × (o ≡ Some s) × Contains ns s.maker
 made_there ns None e = absurd cc
 made_there ns (Some s) e = (s, refl, taken_there ns s.maker e)
 

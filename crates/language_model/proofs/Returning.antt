@@ -1,6 +1,6 @@
 -- A row that ends with a `return` never goes on behind its last statement.
-use Rattle.std.specs.Prelude.{ℕ, Bool, true, false, if◌then◌else◌, List, [], ◌∷◌, Option, None, Some}
-use Rattle.std.proofs.Common.{sym, subst, ◌≡◌}
+use Rattle.std.specs.Prelude.{ℕ, Bool, true, false, if◌then◌else◌, List, [], ◌∷◌, Option, None, Some, zero, suc}
+use Rattle.std.proofs.Common.{sym, subst, ◌≡◌, refl}
 use Rattle.spl_tree.specs.declared.body.Statement.{Statement}
 use Rattle.spl_tree.specs.declared.body.Statement.TheVariants as T
 use Rattle.spl_tree.specs.declared.code.Code.{Code}
@@ -9,7 +9,7 @@ use Rattle.language_model.specs.declared.flow.Flow.{Flow}
 use Rattle.language_model.specs.declared.flow.Flow.TheVariants as F
 use Rattle.language_model.specs.BodyFits as B
 use Rattle.language_model.specs.BodyFits.{RowReturns, Returns, ArmsReturn}
-use Rattle.language_model.specs.Outcomes.{Outcome, Done, Faulted, Stuck, followed}
+use Rattle.language_model.specs.Outcomes.{Outcome, Done, Faulted, Stuck, followed, enter, need}
 use Rattle.language_model.specs.StatementLaws.{arms_act, block_is, if_is, return_is}
 use Rattle.language_model.specs.Statements.{State, Acts, Bodies, value_in, truth_in, scoped, then_rest, return_acts, statement_acts, row_acts}
 
@@ -30,7 +30,7 @@ any (Done x turns) = tt
 any (Faulted kind) = tt
 any Stuck = tt
 
-only_either : {A : Type 0} (Q : A → Type 0) (b : Bool) (o p : Outcome A) → Only Q o → Only Q p → Only Q (if b then o else p)
+pub only_either : {A : Type 0} (Q : A → Type 0) (b : Bool) (o p : Outcome A) → Only Q o → Only Q p → Only Q (if b then o else p)
 only_either Q true o p h k = h
 only_either Q false o p h k = k
 
@@ -93,3 +93,28 @@ module _ (bodies : Bodies) where
     arms_leave : (arms : List (Code Slot × List Statement)) (other : List Statement) → ArmsReturn arms → Leaves (row_acts bodies other) → Leaves (arms_act bodies arms other)
     arms_leave _ other B.no_arms k = scoped_leaves (row_acts bodies other) k
     arms_leave _ other (B.arm x row arms h i) k = arm_leaves x row arms other (row_leaves row h) (arms_leave arms other i k)
+
+pub only_enter : {A : Type 0} (Q : A → Type 0) (turns : ℕ) (f : ℕ → Outcome A) → ((turns : ℕ) → Only Q (f turns)) → Only Q (enter turns f)
+only_enter Q zero f k = tt
+only_enter Q (suc turns) f k = k turns
+
+pub only_is : {A B : Type 0} (Q : B → Type 0) (o : Outcome A) (f : A → ℕ → Outcome B) → ((x : A) (turns : ℕ) → o ≡ Done x turns → Only Q (f x turns)) → Only Q (followed o f)
+only_is Q (Done x turns) f k = k x turns refl
+only_is Q (Faulted kind) f k = tt
+only_is Q Stuck f k = tt
+
+pub need_is : {A B : Type 0} (Q : B → Type 0) (o : Option A) (f : A → Outcome B) → ((x : A) → o ≡ Some x → Only Q (f x)) → Only Q (need o f)
+need_is Q None f k = tt
+need_is Q (Some x) f k = k x refl
+
+pub only_weaker : {A : Type 0} (P Q : A → Type 0) (o : Outcome A) → ((x : A) → P x → Q x) → Only P o → Only Q o
+only_weaker P Q (Done x turns) k h = k x h
+only_weaker P Q (Faulted kind) k h = tt
+only_weaker P Q Stuck k h = tt
+
+-- what led to an answer
+pub done_followed : {A B : Type 0} (o : Outcome A) (f : A → ℕ → Outcome B) (y : B) (left : ℕ) → followed o f ≡ Done y left
+    → (x : A) × (turns : ℕ) × (o ≡ Done x turns) × (f x turns ≡ Done y left)
+done_followed (Done x turns) f y left e = (x, turns, refl, e)
+done_followed (Faulted kind) f y left e = absurd cc
+done_followed Stuck f y left e = absurd cc

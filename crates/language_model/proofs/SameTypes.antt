@@ -39,7 +39,7 @@ same_is t u =
 abbrev SameFrom : SplType → Type 0
 SameFrom t = (u : SplType) → same_types t u ≡ true → t ≡ u
 
-kind_same : (k l : IntKind) → bytes_eq (keyword_word (W.Int k)) (keyword_word (W.Int l)) ≡ true → k ≡ l
+pub kind_same : (k l : IntKind) → bytes_eq (keyword_word (W.Int k)) (keyword_word (W.Int l)) ≡ true → k ≡ l
 kind_same k l e =
     let words = (bytes_decides (keyword_word (W.Int k)) (keyword_word (W.Int l))).0 e in
     let words_same : Some (W.Int k) ≡ Some (W.Int l) = sym (keywords_law (W.Int k)) ∙ ap keyword_of words ∙ keywords_law (W.Int l) in
@@ -57,15 +57,15 @@ schema_same (x ∷ xs) h (y ∷ ys) e =
     let kind = h.0 y.kind (second_so (bytes_eq x.name y.name) (same_types x.kind y.kind) first) in
     λ i. record { name = name i; kind = kind i } ∷ schema_same xs h.1 ys rest i
 
-int_same : (k : IntKind) (u : SplType-F SplType) → level_same same_types (T.Int k) u ≡ true → T.Int k ≡ u
+pub int_same : (k : IntKind) (u : SplType-F SplType) → level_same same_types (T.Int k) u ≡ true → T.Int k ≡ u
 int_same k (T.Int l) e = ap T.Int (kind_same k l e)
 int_same k _ e = absurd cc
 
-bool_same : (u : SplType-F SplType) → level_same same_types T.Bool u ≡ true → T.Bool ≡ u
+pub bool_same : (u : SplType-F SplType) → level_same same_types T.Bool u ≡ true → T.Bool ≡ u
 bool_same T.Bool e = refl
 bool_same _ e = absurd cc
 
-text_same : (u : SplType-F SplType) → level_same same_types T.Text u ≡ true → T.Text ≡ u
+pub text_same : (u : SplType-F SplType) → level_same same_types T.Text u ≡ true → T.Text ≡ u
 text_same T.Text e = refl
 text_same _ e = absurd cc
 

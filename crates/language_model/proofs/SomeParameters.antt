@@ -52,7 +52,7 @@ number_one = record { kind = I32; value = 1 }
 abbrev sum_typed : Part → Part → Found Typed
 sum_typed p q = (level_part (X.Binary B.Add (placed 0 p) (placed 5 q))).found 0 (with_parameters (parameter (Ok five) ∷ [])) None
 
-one_type : same_types (S.Int I32) (S.Int I32) ≡ true
+pub one_type : same_types (S.Int I32) (S.Int I32) ≡ true
 one_type = same_is (S.Int I32) (S.Int I32) ∙ ap₂ (level_same same_types) (S.outs-Int I32) (S.outs-Int I32)
 
 operands : sum_typed (level_part (X.Dollar (codes "n"))) (level_part (X.Number number_one))

@@ -1,5 +1,5 @@
 -- The type and the code of a comparison of two ports' attributes, and that code over names.
-use Rattle.std.specs.Prelude.{◌≡◌, ℕ, true, List, [], ◌∷◌, if◌then◌else◌, codes, None, Ok}
+use Rattle.std.specs.Prelude.{◌≡◌, ℕ, List, [], ◌∷◌, if◌then◌else◌, codes, None, Ok}
 use Rattle.std.proofs.Common.{sym, ap, ap₂, ◌∙◌}
 use Rattle.spl_value.specs.declared.types.IntKind.TheVariants.{I32}
 use Rattle.spl_value.specs.declared.types.SplType.TheVariants as S
@@ -18,11 +18,11 @@ use Rattle.spl_tree.specs.declared.code.Slot.TheVariants as L
 use Rattle.language_model.specs.declared.scope.Scope.{Scope}
 use Rattle.language_model.specs.declared.scope.Typed.{Typed}
 use Rattle.language_model.specs.examples.TwoPorts.{two_ports, comparison}
-use Rattle.language_model.specs.Typing.{Found, after, as_wanted, mismatch, typed, same_types, level_same, level_operator, operands_typed, Part, level_part, part, typing}
+use Rattle.language_model.specs.Typing.{Found, after, as_wanted, mismatch, typed, level_operator, operands_typed, Part, level_part, part, typing}
 use Rattle.language_model.specs.Written.{Of, written, renamed}
 use Rattle.language_model.proofs.Renaming.{renamed_at}
-use Rattle.language_model.proofs.SameTypes.{same_is}
 use Rattle.language_model.proofs.Wanting.{part_at}
+use Rattle.language_model.proofs.SomeParameters.{one_type}
 
 abbrev ports : Scope
 ports = two_ports [] (codes "B")
@@ -40,9 +40,6 @@ attribute_part port = level_part (X.Select (placed 0 port) (N.Member (placed 2 (
 
 abbrev comparison_typed : Part → Part → Found Typed
 comparison_typed p q = (level_part (X.Binary B.Less (placed 0 p) (placed 6 q))).found 0 ports None
-
-one_type : same_types (S.Int I32) (S.Int I32) ≡ true
-one_type = same_is (S.Int I32) (S.Int I32) ∙ ap₂ (level_same same_types) (S.outs-Int I32) (S.outs-Int I32)
 
 named_part : (name : List ℕ) → part (E.Name name) ≡ name_part name
 named_part name = sym (part_at (E.Name name) (X.Name name) (E.outs-Name name))

@@ -6,15 +6,13 @@ use Rattle.std.specs.Cmp.{first_so, second_so}
 use Rattle.std.specs.Cmp.Lexicographic.{pointwise, bytes_decides}
 use Rattle.std.specs.Str.{bytes_eq}
 use Rattle.std.proofs.Common.{refl, sym, ap, ◌∙◌}
-use Rattle.spl_value.specs.declared.types.IntKind.{IntKind}
-use Rattle.spl_value.specs.declared.types.IntKind.TheVariants.{I8, I16, I32, I64, U8, U16, U32, U64}
 use Rattle.spl_value.specs.declared.types.Named.{Named}
 use Rattle.spl_value.specs.declared.types.SplType.{SplType}
 use Rattle.spl_value.specs.declared.types.SplType.TheVariants as S
 use Rattle.spl_value.specs.declared.types.SplType.TheOpen as T
 use Rattle.spl_value.specs.declared.types.SplType.TheOpen.{SplType-F}
 use Rattle.spl_value.specs.declared.types.SplType.TheViews.{out-SplType, roll-SplType, roll-out-SplType}
-use Rattle.spl_value.specs.declared.types.SplType.TheFolds.{fold_out-SplType, map-SplType}
+use Rattle.spl_value.specs.declared.types.SplType.TheFolds.{map-SplType}
 use Rattle.spl_value.proofs.Induction.{TypeSteps, type_ind}
 use Rattle.spl_tree.specs.declared.token.Number.{Number}
 use Rattle.spl_tree.specs.declared.keyword.Keyword.TheVariants as W
@@ -35,6 +33,8 @@ use Rattle.spl_tree.specs.declared.expression.ExprKind.TheFolds.{fold_out-ExprKi
 use Rattle.language_model.specs.declared.scope.Scope.{Scope}
 use Rattle.language_model.specs.Typing.{level_same, same_types, Wanted, Part, level_form, level_typed, level_part, part}
 use Rattle.language_model.specs.TypingLaws.{entry_parts, field_parts, parted, parts, step_parts}
+use Rattle.language_model.proofs.SameTypes.{equal_from_same, same_is, int_same, bool_same, text_same}
+use Rattle.spl_value.proofs.Bools.{both_true}
 
 -- ---- one equation for each form of expression
 
@@ -202,22 +202,6 @@ tested (T.Tuple xs) (T.Tuple ys) = attributes xs ys
     attributes (x ∷ xs) (y ∷ ys) = ap (λ b. (bytes_eq x.name y.name && same_types x.kind y.kind) && b) (attributes xs ys)
 tested (T.Tuple xs) y = refl
 
-same_is : (t u : SplType) → same_types t u ≡ level_same same_types (out-SplType t) (out-SplType u)
-same_is t u =
-    ap (λ f. f u) (fold_out-SplType (SplType → Bool) (λ t u. level_same (λ f w. f w) t (out-SplType u)) t)
-    ∙ tested (out-SplType t) (out-SplType u)
-
-kind_same : (k l : IntKind) → bytes_eq (keyword_word (W.Int k)) (keyword_word (W.Int l)) ≡ true → k ≡ l
-kind_same I8 I8 e = refl
-kind_same I16 I16 e = refl
-kind_same I32 I32 e = refl
-kind_same I64 I64 e = refl
-kind_same U8 U8 e = refl
-kind_same U16 U16 e = refl
-kind_same U32 U32 e = refl
-kind_same U64 U64 e = refl
-kind_same k l e = absurd cc
-
 abbrev Equal : SplType → Type 0
 Equal t = (u : SplType) → same_types t u ≡ true → t ≡ u
 
@@ -232,18 +216,6 @@ attributes_equal (x ∷ xs) h (y ∷ ys) e =
     let name = (bytes_decides x.name y.name).0 (first_so (bytes_eq x.name y.name) (same_types x.kind y.kind) here) in
     let kind = h.0 y.kind (second_so (bytes_eq x.name y.name) (same_types x.kind y.kind) here) in
     λ i. record { name = name i; kind = kind i } ∷ attributes_equal xs h.1 ys rest i
-
-int_equal : (k : IntKind) (y : SplType-F SplType) → level_same same_types (T.Int k) y ≡ true → T.Int k ≡ y
-int_equal k (T.Int l) e = ap T.Int (kind_same k l e)
-int_equal k _ e = absurd cc
-
-bool_equal : (y : SplType-F SplType) → level_same same_types T.Bool y ≡ true → T.Bool ≡ y
-bool_equal T.Bool e = refl
-bool_equal _ e = absurd cc
-
-text_equal : (y : SplType-F SplType) → level_same same_types T.Text y ≡ true → T.Text ≡ y
-text_equal T.Text e = refl
-text_equal _ e = absurd cc
 
 list_equal : (t : SplType) → Equal t → (y : SplType-F SplType) → level_same same_types (T.List t) y ≡ true → T.List t ≡ y
 list_equal t h (T.List u) e = ap T.List (h u e)
@@ -265,9 +237,9 @@ equal_through t x e h u s =
 
 equal_steps : TypeSteps Equal
 equal_steps = record {
-  int = λ k. equal_through (S.Int k) (T.Int k) (S.outs-Int k) (int_equal k);
-  bool = equal_through S.Bool T.Bool S.outs-Bool bool_equal;
-  text = equal_through S.Text T.Text S.outs-Text text_equal;
+  int = λ k. equal_through (S.Int k) (T.Int k) (S.outs-Int k) (int_same k);
+  bool = equal_through S.Bool T.Bool S.outs-Bool bool_same;
+  text = equal_through S.Text T.Text S.outs-Text text_same;
   list = λ t h. equal_through (S.List t) (T.List t) (S.outs-List t) (list_equal t h);
   map_of = λ k t g h. equal_through (S.Map k t) (T.Map k t) (S.outs-Map k t) (map_equal k t g h);
   tuple = λ xs h. equal_through (S.Tuple xs) (T.Tuple xs) (S.outs-Tuple xs) (tuple_equal xs h);
@@ -294,12 +266,13 @@ itself_steps = record {
   tuple = λ xs h. itself_through (S.Tuple xs) (T.Tuple xs) (S.outs-Tuple xs) (attributes_themselves xs h);
 }
 
-types_equal : (t u : SplType) → same_types t u ≡ true → t ≡ u
-types_equal = type_ind Equal equal_steps
-
 types_themselves : (t : SplType) → same_types t t ≡ true
 types_themselves = type_ind Itself itself_steps
 
 -- two types are the same where they are equal
 pub same_types_law : (t u : SplType) → IsTrue (same_types t u) ↔ (t ≡ u)
-same_types_law t u = (types_equal t u, λ e. ap (same_types t) (sym e) ∙ types_themselves t)
+same_types_law t u = (equal_from_same t u, λ e. ap (same_types t) (sym e) ∙ types_themselves t)
+
+-- a test that holds where two types are equal is that of the definition
+pub same_as : (t u : SplType) (b : Bool) → (IsTrue b ↔ (t ≡ u)) → b ≡ same_types t u
+same_as t u b h = both_true b (same_types t u) (t ≡ u) h (same_types_law t u)

@@ -45,7 +45,7 @@ enough (z ∷ xs) [] h = let is = h zero z refl in absurd (none is.0 is.1) where
   none v e = cc
 enough (z ∷ xs) (u ∷ vs) h = let less = enough xs vs (λ i y at. h (suc i) y at) in omega arith
 
-kept : (xs ys : List Variable) (i : ℕ) (x : Variable) → slice_get xs i ≡ Some x → slice_get (xs ++ ys) i ≡ Some x
+pub kept : (xs ys : List Variable) (i : ℕ) (x : Variable) → slice_get xs i ≡ Some x → slice_get (xs ++ ys) i ≡ Some x
 kept [] ys i x at = absurd cc
 kept (z ∷ xs) ys zero x at = at
 kept (z ∷ xs) ys (suc i) x at = kept xs ys i x at

@@ -27,8 +27,8 @@ use Rattle.list_engine.specs.steps.Running.{Agrees, Means, Stands}
 use Rattle.list_engine.proofs.Advancing.{HasTaken, apart_from, earlier_or_this, fault_count, fault_other, sink_count, sink_other, table_count, table_made, table_other, there_is}
 use Rattle.list_engine.proofs.Operators.{Here, IsRight}
 use Rattle.list_engine.proofs.Orders.{place_of}
-use Rattle.list_engine.proofs.Places.{get_set_other, get_set_same, set_length}
-use Rattle.spl_value.proofs.Lists.{contains_here, contains_later}
+use Rattle.list_engine.proofs.Places.{get_set_other, set_length}
+use Rattle.spl_value.proofs.Lists.{contains_here, contains_later, get_set_same}
 use Rattle.std.proofs.lemmas.List.Elements.{Contains-append_left, Contains-append_right}
 
 -- a stream that is still wanted was wanted before

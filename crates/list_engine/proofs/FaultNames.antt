@@ -237,7 +237,7 @@ stream_named count (I.Final ∷ items) f h e = absurd cc
 stream_named count (I.Bad x ∷ items) f h e = let same : x ≡ f = cc in subst (λ (y : Fault). y.op < count) same h.0
 
 -- the first fault is one of those
-first_of : {X : Type 0} (h : X → Option Fault) (xs : List X) (f : Fault) → first_fault (map h xs) ≡ Some f → (n : ℕ) × (x : X) × (slice_get xs n ≡ Some x) × (h x ≡ Some f)
+pub first_of : {X : Type 0} (h : X → Option Fault) (xs : List X) (f : Fault) → first_fault (map h xs) ≡ Some f → (n : ℕ) × (x : X) × (slice_get xs n ≡ Some x) × (h x ≡ Some f)
 first_of h [] f e = absurd cc
 first_of {X = X} h (x ∷ xs) f e = go (h x) refl e (first_of h xs f)
   where
@@ -247,7 +247,7 @@ first_of {X = X} h (x ∷ xs) f e = go (h x) refl e (first_of h xs f)
     go None q e rest = let r = rest e in (suc r.0, r.1, r.2, r.3)
     go (Some y) q e rest = (0, x, refl, q ∙ e)
 
-unread : (b : Bool) (o : Option Fault) (f : Fault) → (if b then None else o) ≡ Some f → o ≡ Some f
+pub unread : (b : Bool) (o : Option Fault) (f : Fault) → (if b then None else o) ≡ Some f → o ≡ Some f
 unread true o f e = absurd cc
 unread false o f e = e
 

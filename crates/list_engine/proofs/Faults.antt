@@ -12,13 +12,13 @@ use Rattle.stream_model.specs.Ends as E
 use Rattle.stream_model.specs.Ends.{end_fault, first_fault, is_read, operator_fault, run_fault, stream_fault}
 use Rattle.stream_model.specs.Meaning.{Graph, Entries, Meaning}
 use Rattle.stream_model.specs.Operators.{Operator}
-use Rattle.spl_value.proofs.Lists.{next_rest as front_of}
+use Rattle.spl_value.proofs.Lists.{next_rest as front_of, drop_past}
 use Rattle.list_engine.specs.declared.state.State.{State}
 use Rattle.list_engine.specs.Runs.{rows_at}
 use Rattle.list_engine.specs.steps.Faults.{fault_at, kept_fault, kept_faults, unread_fault, unread_faults}
 use Rattle.list_engine.specs.steps.Running.{Means}
-use Rattle.list_engine.proofs.GraphOperators.{operator_at, operator_there, same_length}
-use Rattle.list_engine.proofs.Reading.{drop_past}
+use Rattle.list_engine.proofs.GraphOperators.{operator_there}
+use Rattle.stream_model.proofs.GraphParts.{same_length, operator_at}
 
 -- ---- the loops
 

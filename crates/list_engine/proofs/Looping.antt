@@ -26,11 +26,13 @@ use Rattle.list_engine.specs.steps.Reading.{ops_at}
 use Rattle.list_engine.specs.steps.Recording.{lists_from}
 use Rattle.list_engine.specs.steps.Running.{Advances, Agrees, AreLeft, IsOther, IsSource, Means, Ready, Stands}
 use Rattle.list_engine.proofs.Faults.{faults_are}
-use Rattle.list_engine.proofs.GraphOperators.{is_numbered, operator_at, operator_there, same_length, same_topo}
+use Rattle.list_engine.proofs.GraphOperators.{is_numbered, operator_there}
 use Rattle.list_engine.proofs.Orders.{made_from, not_before}
 use Rattle.list_engine.proofs.Places.{get_set_other, set_length}
 use Rattle.list_engine.proofs.Ports.{out_within}
 use Rattle.list_engine.proofs.Recording.{entries_are, numbers_are}
+use Rattle.std.proofs.lemmas.List.{length-replicate}
+use Rattle.stream_model.proofs.GraphParts.{same_topo, same_length, operator_at}
 
 -- ---- the operators
 
@@ -143,10 +145,6 @@ made_in c g k e s lt =
     found s (n ∷ ns) zero at = let same : n ≡ s = cc in ap (λ b. b || list_any (λ t. t == s) ns) (eq-eqb n s same)
     found s (n ∷ ns) (suc p) at = or_right (n == s) (list_any (λ t. t == s) ns) (found s ns p at)
 
-many : {A : Type 0} (n : ℕ) (x : A) → length (replicate n x) ≡ n
-many zero x = refl
-many (suc n) x = let rest = many n x in omega (arith, rest)
-
 no_number : (n : ℕ) → Contains [] n → ⊥
 no_number n h = let lt : h.0 < 0 = h.1 in omega (arith, lt)
 
@@ -157,11 +155,11 @@ begins c order g rows state k e fit streams same sinks faults inputs = record {
   before = [];
   split = refl;
   places = record {
-    streams = ap length streams ∙ many (length c.graph.streams) [];
+    streams = ap length streams ∙ length-replicate (length c.graph.streams) [];
     rows = ap length same ∙ fit.count ∙ same_length c g k e;
-    sinks = ap length sinks ∙ many (length c.graph.ops) [];
-    faults = ap length faults ∙ many (length c.graph.ops) None;
-    inputs = ap length inputs ∙ many (length c.graph.ops) None;
+    sinks = ap length sinks ∙ length-replicate (length c.graph.ops) [];
+    faults = ap length faults ∙ length-replicate (length c.graph.ops) None;
+    inputs = ap length inputs ∙ length-replicate (length c.graph.ops) None;
   };
   left = λ n among. ap (λ t. rows_at t n) same;
   recorded = λ n o among at. absurd (no_number n among);

@@ -32,9 +32,10 @@ use Rattle.list_engine.specs.steps.Reading.{ops_at}
 use Rattle.list_engine.specs.declared.run_order.Order.{Order}
 use Rattle.list_engine.specs.steps.Replaying.{RanIn, Takes}
 use Rattle.list_engine.proofs.Ended.{ended_there, same_fault, same_out}
-use Rattle.list_engine.proofs.GraphOperators.{is_numbered, operator_at}
+use Rattle.list_engine.proofs.GraphOperators.{is_numbered}
 use Rattle.list_engine.proofs.Orders.{is_ordered}
 use Rattle.list_engine.proofs.Ports.{output_schema, outs_once, some_input}
+use Rattle.stream_model.proofs.GraphParts.{operator_at}
 
 -- ---- which stream an output makes
 

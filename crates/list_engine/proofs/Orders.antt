@@ -12,8 +12,8 @@ use Rattle.language_model.specs.Keeping.{Keeps}
 use Rattle.stream_model.specs.Laws.{makes_stream, reads_stream, is_made, IsOrdered}
 use Rattle.stream_model.specs.Meaning.{Graph, in_topo}
 use Rattle.stream_model.specs.Operators.{Operator, connections}
-use Rattle.list_engine.proofs.GraphOperators.{operator_at, same_topo}
 use Rattle.spl_value.proofs.Lists.{contains_here, contains_later}
+use Rattle.stream_model.proofs.GraphParts.{same_topo, operator_at}
 
 -- ---- lists
 

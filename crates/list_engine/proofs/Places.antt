@@ -1,11 +1,6 @@
 -- Lists of which one is set, and the places in a list.
-use Rattle.std.proofs.Common.{◌≡◌, ℕ, zero, suc, ◌<◌, List, [], ◌∷◌, refl, ap, length, slice_get, Some, arith}
+use Rattle.std.proofs.Common.{◌≡◌, ℕ, zero, suc, List, [], ◌∷◌, refl, ap, length, slice_get, arith}
 use Rattle.std.specs.Prelude.{slice_set}
-
-pub get_set_same : {A : Type 0} (xs : List A) (k : ℕ) (x : A) → k < length xs → slice_get (slice_set xs k x) k ≡ Some x
-get_set_same [] k x h = absurd (omega (arith, h))
-get_set_same (y ∷ xs) zero x h = refl
-get_set_same (y ∷ xs) (suc k) x h = get_set_same xs k x (omega (arith, h))
 
 pub get_set_other : {A : Type 0} (xs : List A) (k j : ℕ) (x : A) → (k ≡ j → ⊥) → slice_get (slice_set xs k x) j ≡ slice_get xs j
 get_set_other [] k j x apart = refl

@@ -9,10 +9,10 @@ use Rattle.std.proofs.lemmas.List.Elements.{Contains-append_right}
 use Rattle.std.proofs.lemmas.Option.{slice_get_within}
 use Rattle.spl_value.specs.declared.item.Item.{Item}
 use Rattle.language_model.specs.Keeping.{Once}
-use Rattle.spl_value.proofs.Lists.{append_cases, append_front, contains_here}
+use Rattle.spl_value.proofs.Lists.{append_cases, append_front, contains_here, get_set_same}
 use Rattle.list_engine.specs.steps.Table.{IsPlaced}
 use Rattle.list_engine.proofs.Gathering.{first_and_rest}
-use Rattle.list_engine.proofs.Places.{get_set_other, get_set_same, set_length}
+use Rattle.list_engine.proofs.Places.{get_set_other, set_length}
 
 -- a front of the lists is placed, at a front of the places
 pub record PlacedSoFar (lists : List (List Item)) (places : List ℕ) (left : List (List Item)) (rest : List ℕ) (old table : List (List Item)) : Type 0 where

@@ -15,13 +15,14 @@ use Rattle.language_model.specs.declared.scope.Scope.{Scope}
 use Rattle.language_model.specs.CheckedGraph.{CheckedGraph}
 use Rattle.language_model.specs.Checking.{fit_ports}
 use Rattle.language_model.specs.Keeping as K
-use Rattle.language_model.specs.Keeping.{Keeps, Once, PartFits, PortHas, PortsHave, StreamsHave}
+use Rattle.language_model.specs.Keeping.{Keeps, Once, PartFits, PortsHave, StreamsHave}
 use Rattle.language_model.specs.Kinds.{between, exactly, is_within}
 use Rattle.language_model.specs.StreamTypes.{Attributes}
 use Rattle.stream_model.specs.CheckedMeaning.{first_schema, operator_with, schema_at}
 use Rattle.stream_model.specs.Operators.{Operator, connections, input_attributes, output_attributes, port_at, ports, ports_from}
 use Rattle.stream_model.specs.Replies.{given_attributes}
 use Rattle.list_engine.specs.Runs.{is_source}
+use Rattle.stream_model.proofs.CheckedOperators.{first_is}
 
 -- ---- inputs
 
@@ -37,11 +38,6 @@ ports_length (streams ∷ ins) p =
 
 pub input_count : (o : Operator) → length (ports o) ≡ length (connections o)
 input_count o = ports_length o.ins 0
-
--- the attributes of the port of an input are those of its stream
-first_alike : (c : CheckedGraph) (streams : List ℕ) (schema : Attributes) → PortHas c.schemas streams schema → first_schema c streams ≡ schema
-first_alike c [] schema h = absurd (let some = h.some in omega (arith, some))
-first_alike c (s ∷ streams) schema h = ap (λ o. unwrap_or o []) (h.alike s (0, omega arith, refl))
 
 port_here : (p : ℕ) (streams : List ℕ) (more : List ℕ) (i : ℕ) → i < length streams → port_at (map (λ (s : ℕ). p) streams ++ more) i ≡ p
 port_here p [] more i lt = absurd (omega (arith, lt))
@@ -89,7 +85,7 @@ port_of c _ _ (K.one_port streams ins schema rest h hs) p i s e = elim (split_be
   | inl lt ↦ record {
     place = 0;
     port = port_here p streams (ports_from (suc p) ins) i lt ∙ (let none : p ≡ p + 0 = omega arith in none);
-    schema = first_alike c streams schema h ∙ sym (ap (λ o. unwrap_or o []) (h.alike s (get_first streams (concat ins) i s lt e)));
+    schema = first_is c streams schema h ∙ sym (ap (λ o. unwrap_or o []) (h.alike s (get_first streams (concat ins) i s lt e)));
   }
   | inr k ↦ (
       let later = port_of c ins rest hs (suc p) k.0 s (sym (get_later streams (concat ins) k.0) ∙ ap (slice_get (streams ++ concat ins)) (sym k.1) ∙ e) in

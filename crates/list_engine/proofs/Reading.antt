@@ -1,5 +1,5 @@
 -- Who reads a stream, operator by operator.
-use Rattle.std.proofs.Common.{◌≡◌, ℕ, zero, suc, ◌+◌, ◌<◌, ◌≤◌, ◌==◌, ◌||◌, Bool, true, false, List, [], ◌∷◌, refl, sym, ap, subst, ◌∙◌, length, slice_get, Option, Some, None, drop, get_or, arith}
+use Rattle.std.proofs.Common.{◌≡◌, ℕ, suc, ◌+◌, ◌<◌, ◌≤◌, ◌==◌, ◌||◌, Bool, true, false, List, refl, sym, ap, subst, ◌∙◌, length, slice_get, Option, Some, None, drop, get_or, arith}
 use Rattle.std.specs.List.{cons_option, list_any}
 use Rattle.std.specs.Option.{option_map_or}
 use Rattle.std.proofs.lemmas.Option.{slice_get_within, slice_get-get_or}
@@ -11,14 +11,9 @@ use Rattle.language_model.specs.Keeping.{Keeps}
 use Rattle.stream_model.specs.Meaning.{Graph}
 use Rattle.stream_model.specs.Operators.{Operator, connections}
 use Rattle.list_engine.specs.steps.Reading.{op_reads, ops_at, reads_at}
-use Rattle.list_engine.proofs.GraphOperators.{operator_at, operator_there, same_length}
-use Rattle.spl_value.proofs.Lists.{next_rest as front_of}
-
-pub drop_past : {A : Type 0} (xs : List A) (i : ℕ) → length xs ≤ i → drop i xs ≡ []
-drop_past [] zero h = refl
-drop_past [] (suc i) h = refl
-drop_past (x ∷ xs) zero h = absurd (omega (arith, h))
-drop_past (x ∷ xs) (suc i) h = drop_past xs i (omega (arith, h))
+use Rattle.list_engine.proofs.GraphOperators.{operator_there}
+use Rattle.spl_value.proofs.Lists.{next_rest as front_of, drop_past}
+use Rattle.stream_model.proofs.GraphParts.{same_length, operator_at}
 
 -- what an operator reads, by its number
 reads_by : (c : CheckedGraph) (g : Graph) → graph_of c ≡ g → (n s : ℕ) (o : Operator) → slice_get g.ops n ≡ Some o

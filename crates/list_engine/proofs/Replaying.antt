@@ -22,7 +22,7 @@ use Rattle.stream_model.proofs.Histories.{live_law}
 use Rattle.stream_model.proofs.OneAfterAnother.{arrive_from, events_from}
 use Rattle.stream_model.proofs.Records.{length-inputs_of, next_item_law, nothing_left_law}
 use Rattle.stream_model.proofs.StageLaws.{after-over}
-use Rattle.spl_value.proofs.Lists.{get_below, reverse_more}
+use Rattle.spl_value.proofs.Lists.{get_below, reverse_more, get_set_same}
 use Rattle.list_engine.specs.declared.operator.Given.{Given}
 use Rattle.list_engine.specs.declared.operator.Standing.TheVariants.{Live, Ended}
 use Rattle.list_engine.specs.declared.run_order.Order.{Order}
@@ -34,14 +34,12 @@ use Rattle.list_engine.specs.steps.Replaying.{RanIn, Replayed, TakesLast}
 use Rattle.list_engine.specs.steps.Taking.{AreInputs, EndsBy, EndsOnce, HasGiven, Ran, Reached, Task, in_turn}
 use Rattle.list_engine.proofs.Coming.{came_both, closed_once, fit_at, open_front, open_reverse}
 use Rattle.list_engine.proofs.Ended.{ended_there, taken_whole, whole_by}
-use Rattle.list_engine.proofs.Places.{get_set_other, get_set_same, set_length}
+use Rattle.list_engine.proofs.Places.{get_set_other, set_length}
 use Rattle.list_engine.proofs.Taking.{map_append}
 use Rattle.list_engine.proofs.Turns.{turns_from}
+use Rattle.list_engine.proofs.Advancing.{there_is}
 
 -- ---- input after input
-
-list_there : (lists : List (List Item)) (j : ℕ) (xs : List Item) → slice_get lists j ≡ Some xs → rows_at lists j ≡ xs
-list_there lists j xs at = ap (λ o. unwrap_or o []) at
 
 -- the events up to the first that ends an operator
 to_end : (s : Stage) (front : List Event) (last : Event) (rest : List Event) → (after s front).over ≡ false → (after s (front ++ last ∷ [])).over ≡ true
@@ -65,7 +63,7 @@ in_turn_record op lists done rest fault count split e =
     (ap (up_to_end (start op))
     (arrive_from (length (ports op)) 0 (rows_at lists)
     ∙ ap (events_from (rows_at lists) 0) (sym count)
-    ∙ turns_from lists (rows_at lists) (list_there lists)
+    ∙ turns_from lists (rows_at lists) (there_is lists)
     ∙ split ∙ ap (λ es. es ++ rest) e.are ∙ append_assoc e.front (e.last ∷ []) rest)
     ∙ to_end (start op) e.front e.last rest e.before (ap (has_ended op) (sym e.are) ∙ ended_there op done fault e)
     ∙ sym e.are))
@@ -77,7 +75,7 @@ in_turn_else (Recorded arrivals) other = absurd (other arrivals refl)
 pub ran_in_turn : (order : Order) (task : Task) (lists : List (List Item)) (given : Given) (fault : Option Fault) → AreInputs task.op lists → (1 < length lists → order ≡ InTurn)
     → Ran task (in_turn 0 lists) given fault → RanIn order task lists given fault
 ran_in_turn order task lists given fault are turns ran =
-    let w = taken_whole task.op (rows_at lists) lists ran.done ran.rest fault are.count (list_there lists) ran.split ran.ends in
+    let w = taken_whole task.op (rows_at lists) lists ran.done ran.rest fault are.count (there_is lists) ran.split ran.ends in
     record {
       done = ran.done;
       took = record {
@@ -132,13 +130,13 @@ nothing_past (items ∷ lists) zero past = absurd (omega (arith, past))
 nothing_past (items ∷ lists) (suc i) past = nothing_past lists i (omega (arith, past))
 
 pub nothing_there : (lists : List (List Item)) (i : ℕ) (items : List Item) → slice_get lists i ≡ Some items → items ≡ [] → rows_at lists i ≡ []
-nothing_there lists i items at none = list_there lists i items at ∙ none
+nothing_there lists i items at none = there_is lists i items at ∙ none
 
 pub takes_last : (lists : List (List Item)) (i : ℕ) (items left : List Item) (x : Item) → slice_get lists i ≡ Some items → items ≡ left ++ x ∷ [] → TakesLast i x lists (slice_set lists i left)
 takes_last lists i items left x at last = record {
   within = slice_get_within lists i items at;
   count = set_length lists i left;
-  last = list_there lists i items at ∙ last ∙ ap (λ xs. xs ++ x ∷ []) (sym (list_there (slice_set lists i left) i left (get_set_same lists i left (slice_get_within lists i items at))));
+  last = there_is lists i items at ∙ last ∙ ap (λ xs. xs ++ x ∷ []) (sym (there_is (slice_set lists i left) i left (get_set_same lists i left (slice_get_within lists i items at))));
   others = λ j apart. ap (λ o. unwrap_or o []) (get_set_other lists i j left apart);
 }
 
@@ -267,7 +265,7 @@ module _ {S : Type 0} (spec : S → Operator) (stands : S → List Event → Typ
   pub replay_ready : MayTake task.op (reverse r.done) (came i x)
   replay_ready =
       let items = get_below lists i within in
-      let there : rows_at lists i ≡ items.0 = list_there lists i items.0 items.1 in
+      let there : rows_at lists i ≡ items.0 = there_is lists i items.0 items.1 in
       record {
         live = live_law task.op (reverse r.done) ∙ ap (λ events. not (has_ended task.op events)) (reverse-reverse r.done) ∙ ap not r.reached.stood.live;
         input = named_input;

@@ -1,11 +1,10 @@
 -- The run of one operator of a checked graph.
-use Rattle.std.proofs.Common.{◌≡◌, ℕ, zero, suc, ◌<◌, ◌^◌, nat_lt, Bool, true, false, if◌then◌else◌, List, [], ◌∷◌, ◌++◌, map, refl, sym, ap, subst, ◌∙◌, length, length-append, replicate, slice_get, Option, Some, None, is_some, sum_by, arith}
+use Rattle.std.proofs.Common.{◌≡◌, ℕ, zero, suc, ◌<◌, ◌^◌, nat_lt, Bool, true, false, if◌then◌else◌, List, [], ◌∷◌, ◌++◌, map, refl, sym, ap, subst, ◌∙◌, length, replicate, slice_get, Option, Some, None, is_some, sum_by, arith}
 use Rattle.std.specs.Prelude.{slice_set}
 use Rattle.std.specs.List.{concat, Contains}
 use Rattle.std.specs.Option.{unwrap_or}
 use Rattle.std.proofs.lemmas.Bool.{lt-ltb, ltb-true}
 use Rattle.std.proofs.lemmas.List.{length-map}
-use Rattle.std.proofs.lemmas.List.Sums.{sum_by-cons}
 use Rattle.std.proofs.lemmas.List.Elements.{Contains-append_right}
 use Rattle.std.proofs.lemmas.Option.{slice_get_within}
 use Rattle.spl_value.specs.declared.item.Fault.{Fault}
@@ -22,7 +21,7 @@ use Rattle.stream_model.specs.Meaning.{Graph, Entries, Meaning, events_of, lists
 use Rattle.stream_model.specs.Operators.{Operator, connections, output_attributes}
 use Rattle.stream_model.specs.Records.{is_whole}
 use Rattle.stream_model.specs.Stream.{Event, is_closed, TuplesFit}
-use Rattle.spl_value.proofs.Lists.{at_most_sum, contains_here}
+use Rattle.spl_value.proofs.Lists.{at_most_sum, contains_here, count_concat}
 use Rattle.list_engine.specs.declared.operator.Given.{Given}
 use Rattle.list_engine.specs.declared.run_order.Order.{Order}
 use Rattle.list_engine.specs.declared.run_order.Order.TheVariants.{InTurn, Recorded}
@@ -39,11 +38,12 @@ use Rattle.list_engine.specs.steps.Table.{StaysFor}
 use Rattle.list_engine.specs.steps.Taking.{AreInputs, HasGiven, Task, task_of}
 use Rattle.list_engine.proofs.Advances.{advances}
 use Rattle.list_engine.proofs.Advancing.{are_inputs, inputs_are}
-use Rattle.list_engine.proofs.GraphOperators.{is_numbered, operator_at}
+use Rattle.list_engine.proofs.GraphOperators.{is_numbered}
 use Rattle.list_engine.proofs.Operators.{Here, its_op, made_by_source, number_is, other_is_right, out_is, rows_are}
 use Rattle.list_engine.proofs.Orders.{not_before}
 use Rattle.list_engine.proofs.Places.{get_set_other, set_length}
 use Rattle.list_engine.proofs.Ports.{mapped, out_within, outs_once, source_out}
+use Rattle.stream_model.proofs.GraphParts.{operator_at}
 
 -- ---- places
 
@@ -170,14 +170,6 @@ pub inputs_there : (c : CheckedGraph) (order : Order) (later : List ℕ) (n : �
     → (s : ℕ) → Contains ss s → s < length state.streams
 inputs_there c order later n op state ss k there ready same s among =
     subst (λ l. s < l) (sym (ready_places c order later n state ready).streams) (k.graph.taken n op there s (subst (λ xs. Contains xs s) same among))
-
-count_concat : (ins : List (List ℕ)) → length (concat ins) ≡ sum_by length ins
-count_concat [] = refl
-count_concat (streams ∷ ins) =
-    let all = length-append streams (concat ins) in
-    let rest = count_concat ins in
-    let sum = sum_by-cons length streams ins in
-    omega (arith, all, rest, sum)
 
 pub few_inputs : (c : CheckedGraph) (n : ℕ) (op : Op) (ss : List ℕ) (table lists : List (List Item)) → Keeps c → slice_get c.graph.ops n ≡ Some op → ss ≡ concat op.ins
     → lists ≡ map (rows_at table) ss → length lists < 2 ^ 30

@@ -16,8 +16,8 @@ use Rattle.stream_model.specs.React.{Answer, Gives, Faults, answer, answered, bo
 use Rattle.stream_model.specs.Stages.{gives_all, next, on_port, out, start}
 use Rattle.stream_model.specs.Stream.{Event, is_fault, is_tuple}
 use Rattle.list_engine.specs.RunLaws.{SinkLaw}
-use Rattle.list_engine.proofs.GraphOperators.{operator_at}
 use Rattle.list_engine.proofs.Ports.{sink_out}
+use Rattle.stream_model.proofs.GraphParts.{operator_at}
 
 abbrev all_tuples : List Output → Bool
 all_tuples outs = list_all (λ o. is_tuple o.item) outs

@@ -24,8 +24,9 @@ use Rattle.list_engine.specs.declared.operator.Given.{Given}
 use Rattle.list_engine.specs.declared.operator.Standing.{Standing}
 use Rattle.list_engine.specs.declared.operator.Standing.TheVariants.{Live, Ended}
 use Rattle.list_engine.specs.steps.Taking.{Adds, Task, HasGiven, MayCome, Reached, Took, noted}
-use Rattle.list_engine.proofs.Places.{set_length, get_set_same, get_set_other}
+use Rattle.list_engine.proofs.Places.{set_length, get_set_other}
 use Rattle.list_engine.proofs.Coming.{may_take}
+use Rattle.spl_value.proofs.Lists.{get_set_same}
 
 -- ---- outputs on their ports
 
@@ -80,14 +81,14 @@ fit_both schema (I.Window ∷ xs) ys h k = fit_both schema xs ys h k
 fit_both schema (I.Final ∷ xs) ys h k = fit_both schema xs ys h k
 fit_both schema (I.Bad f ∷ xs) ys h k = fit_both schema xs ys h k
 
-fit_one : (schema : Attributes) (x : Item) (xs : List Item) → ItemHas schema x → TuplesFit schema xs → TuplesFit schema (x ∷ xs)
+pub fit_one : (schema : Attributes) (x : Item) (xs : List Item) → ItemHas schema x → TuplesFit schema xs → TuplesFit schema (x ∷ xs)
 fit_one schema (I.Tuple vs) xs h k = (h, k)
 fit_one schema I.Window xs h k = k
 fit_one schema I.Final xs h k = k
 fit_one schema (I.Bad f) xs h k = k
 
 -- the items of a port have its attributes
-port_fits : (op : Operator) (p : ℕ) (outs : List Output) → AllFit op outs → TuplesFit (given_attributes op.clauses op p) (on_port p outs)
+pub port_fits : (op : Operator) (p : ℕ) (outs : List Output) → AllFit op outs → TuplesFit (given_attributes op.clauses op p) (on_port p outs)
 port_fits op p [] h = tt
 port_fits op p (o ∷ outs) h = go (cases_eq o.port p) (port_fits op p outs (λ i x at. h (suc i) x at))
   where

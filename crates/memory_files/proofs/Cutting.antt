@@ -6,6 +6,7 @@ use Rattle.memory_files.specs.Memory.{script_up_to, script_of, FirstToFail, IsBe
 use Rattle.memory_files.specs.Plain.{plain_script}
 use Rattle.memory_files.proofs.Failing.{Above, above, not_lt}
 use Rattle.spl_value.proofs.Bools.{or_last as or_more, or_left as or_first}
+use Rattle.std.proofs.lemmas.Bool.{eq-eqb}
 
 -- what is found is one of the numbers
 abbrev Among : List ℕ → Option ℕ → Type 0
@@ -15,9 +16,6 @@ Among f (Some k) = is_to_fail k f ≡ true
 only_first : (b m : Bool) → m ≡ false → (b || m) ≡ true → b ≡ true
 only_first true m none any = refl
 only_first false m none any = sym none ∙ any
-
-equal_true : (x y : ℕ) → x ≡ y → (x == y) ≡ true
-equal_true x y e = grind arith
 
 true_equal : (x y : ℕ) → (x == y) ≡ true → x ≡ y
 true_equal x y e = grind arith
@@ -29,13 +27,13 @@ more x f (Some k) h = or_more (x == k) (is_to_fail k f) h
 smaller : (t : Bool) (x j : ℕ) (f : List ℕ) → nat_lt x j ≡ t → is_to_fail j f ≡ true → is_to_fail (min x j) (x ∷ f) ≡ true
 smaller true x j f is h =
     let e : x ≡ min x j = grind arith in
-    or_first (x == min x j) (is_to_fail (min x j) f) (equal_true x (min x j) e)
+    or_first (x == min x j) (is_to_fail (min x j) f) (eq-eqb x (min x j) e)
 smaller false x j f is h =
     let e : j ≡ min x j = grind arith in
     or_more (x == min x j) (is_to_fail (min x j) f) (ap (λ (k : ℕ). is_to_fail k f) (sym e) ∙ h)
 
 sooner_among : (x : ℕ) (f : List ℕ) (o : Option ℕ) → Among f o → Among (x ∷ f) (sooner x o)
-sooner_among x f None h = or_first (x == x) (is_to_fail x f) (equal_true x x refl)
+sooner_among x f None h = or_first (x == x) (is_to_fail x f) (eq-eqb x x refl)
 sooner_among x f (Some j) h = smaller (nat_lt x j) x j f refl h
 
 among_at : (t : Bool) (c x : ℕ) (f : List ℕ) → Among f (next_failing c f) → Among (x ∷ f) (if t then sooner x (next_failing c f) else next_failing c f)
@@ -63,7 +61,7 @@ first_at : (t m : Bool) (c k x : ℕ) (f : List ℕ) → nat_lt c x ≡ t → is
     ((j : ℕ) → ((x == j) || is_to_fail j f) ≡ true → c < j → k ≤ j) → (is_to_fail k f ≡ true → next_failing c f ≡ Some k) →
     (if t then sooner x (next_failing c f) else next_failing c f) ≡ Some k
 first_at true true c k x f lt listed mem below least ih =
-    let le : k ≤ x = least x (or_first (x == x) (is_to_fail x f) (equal_true x x refl)) (grind arith) in
+    let le : k ≤ x = least x (or_first (x == x) (is_to_fail x f) (eq-eqb x x refl)) (grind arith) in
     ap (sooner x) (ih listed) ∙ ap (λ (n : ℕ). Some n) (let e : min x k ≡ k = omega arith in e)
 first_at false true c k x f lt listed mem below least ih = ih listed
 first_at true false c k x f lt listed mem below least ih =
@@ -103,7 +101,7 @@ at_start c f g bytes s first same is =
 -- such a call there is, as where one number alone is listed
 pub alone : (k : ℕ) → 0 < k → FirstToFail (k ∷ []) k
 alone k some = record {
-  listed = or_first (k == k) false (equal_true k k refl);
+  listed = or_first (k == k) false (eq-eqb k k refl);
   counted = some;
   first = λ j listed positive. let e : k ≡ j = true_equal k j (only_first (k == j) false refl listed) in omega arith;
 }

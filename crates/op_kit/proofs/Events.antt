@@ -34,8 +34,7 @@ use Rattle.stream_model.specs.PortLaws.{PortEndLaw, WaitingLaw, has_connections,
 use Rattle.stream_model.specs.Bodies.{on_each}
 use Rattle.stream_model.specs.React.{Answer, Gives, Faults, answered, body, ended, ended_by, port_body, react}
 use Rattle.stream_model.specs.Replies.{AllFit, IsTaken, MayTake, OutsFit, Replies, end_by, is_live}
-use Rattle.stream_model.specs.Fitting.{EventFits, EventsFit, HasPort, HistoryFits, IsFitting, ReactsFit, CheckedFits}
-use Rattle.stream_model.proofs.ByPorts.{input_port}
+use Rattle.stream_model.specs.Fitting.{EventsFit, HistoryFits, IsFitting, ReactsFit, CheckedFits}
 use Rattle.port_reacts.specs.Bodies.{GoesOn}
 use Rattle.port_reacts.specs.PortReplies.{MayTakeAt, RepliesAt, ends_at, gives_at, goes_on}
 use Rattle.connection_counts.specs.Counting.{Counts, open_at}
@@ -43,16 +42,10 @@ use Rattle.connection_counts.proofs.Counting.{none_open, not_final}
 use Rattle.connection_counts.proofs.Ends.{closed}
 use Rattle.op_kit.specs.Standing.{StandsFor}
 use Rattle.op_kit.specs.steps.Ending.{EndsAs}
-
-both_true : (a b : Bool) → (a && b) ≡ true → (a ≡ true) × (b ≡ true)
-both_true true b q = (refl, q)
-both_true false b q = absurd (let no : false ≡ true = q in cc)
+use Rattle.stream_model.proofs.FittingEvents.{event_port}
+use Rattle.spl_value.proofs.Bools.{and_parts}
 
 -- ---- what came by the ports
-
--- an event that fits has an item of its port
-event_port : (op : Operator) (e : Event) → IsFitting op → EventFits op e → HasPort op (port_at (ports op) e.input) e.item
-event_port op e fit has = (subst (λ n. port_at (ports op) e.input < n) fit.ins (input_port op e.input (lt-ltb e.input (length (ports op)) has.0)).1, has.1)
 
 -- the history by ports fits
 by_ports_fit : (op : Operator) (h : List Event) → IsFitting op → EventsFit op h → HistoryFits op (port_events op h)
@@ -67,7 +60,7 @@ by_ports_fit op (e ∷ h) fit events = go (is_waiting op h e) (by_ports_fit op h
 by_ports_goes : (op : Operator) (h : List Event) → is_live op h ≡ true → goes_on op (port_events op h) ≡ true
 by_ports_goes op [] live = refl
 by_ports_goes op (e ∷ h) live =
-    let parts = both_true (is_live op h) (is_none (ended op h e)) live in
+    let parts = and_parts (is_live op h) (is_none (ended op h e)) live in
     go (is_waiting op h e) refl parts.1 (by_ports_goes op h parts.0)
   where
     a : Answer

@@ -1,15 +1,8 @@
 -- How the answers of calls go together, as the definition of outputs does.
-use Rattle.std.specs.Prelude.{◌≡◌, ◌↔◌, IsTrue, ◌+◌, Bool, List, [], ◌∷◌, ◌++◌, Ok, Err}
+use Rattle.std.specs.Prelude.{◌≡◌, ◌+◌, List, [], ◌∷◌, ◌++◌, Ok, Err}
 use Rattle.std.proofs.Common.{refl, ap, sym, ◌∙◌, append_assoc}
-use Rattle.spl_value.specs.declared.types.SplType.{SplType}
-use Rattle.language_model.specs.Typing.{Found, after, same_types}
-use Rattle.language_model.proofs.TypingLaws.{same_types_law}
+use Rattle.language_model.specs.Typing.{Found, after}
 use Rattle.language_model.specs.Finds.{with_front}
-use Rattle.spl_value.proofs.Bools.{both_true}
-
--- the type that is wanted is the same
-pub same_as : (t u : SplType) (b : Bool) → (IsTrue b ↔ (t ≡ u)) → b ≡ same_types t u
-same_as t u b h = both_true b (same_types t u) (t ≡ u) h (same_types_law t u)
 
 -- one more, or some more, came first
 pub front_on : {A : Type 0} (xs zs : List A) (x : A) (o : Found (List A)) → zs ≡ xs ++ x ∷ [] → with_front xs (after o (λ rest. Ok (x ∷ rest))) ≡ with_front zs o

@@ -1,5 +1,5 @@
 -- Operators of checked graphs, by their numbers.
-use Rattle.std.proofs.Common.{◌≡◌, ℕ, zero, suc, ◌+◌, List, [], ◌∷◌, length, slice_get, Some, ap, ◌∙◌, arith}
+use Rattle.std.proofs.Common.{◌≡◌, ℕ, ◌+◌, length, slice_get, Some, ap, ◌∙◌, arith}
 use Rattle.std.specs.Prelude.{◌≤◌, IsTrue}
 use Rattle.std.proofs.lemmas.Grind.{common_steps}
 use Rattle.spl_tree.specs.declared.graph.Op.{Op}
@@ -10,6 +10,7 @@ use Rattle.language_model.specs.CheckedGraph.{CheckedGraph}
 use Rattle.language_model.specs.Checking.{fit_ports}
 use Rattle.language_model.specs.Keeping.{Keeps}
 use Rattle.stream_model.specs.CheckedMeaning.{operators_from, operator_with}
+use Rattle.stream_model.proofs.GraphParts.{operator_in}
 
 -- no kind of operator has more than 16 output ports
 few_ports : (kind : OpKind) (ins outs : ℕ) → IsTrue (fit_ports kind ins outs) → outs ≤ 16
@@ -26,19 +27,6 @@ few_ports O.Join ins outs fit = grind (arith, common_steps)
 
 pub few_outs : (c : CheckedGraph) → Keeps c → (n : ℕ) (op : Op) (part : Part) → slice_get c.graph.ops n ≡ Some op → slice_get c.parts n ≡ Some part → length op.outs ≤ 16
 few_outs c keeps n op part there has = few_ports op.kind (length op.ins) (length op.outs) (keeps.operators n op part there has).ports
-
-operator_in : (c : CheckedGraph) (from : ℕ) (ops : List Op) (parts : List Part) (n : ℕ) (op : Op) (part : Part) → slice_get ops n ≡ Some op → slice_get parts n ≡ Some part
-    → slice_get (operators_from c from ops parts) n ≡ Some (operator_with c (from + n) op part)
-operator_in c from [] parts n op part there has = absurd cc
-operator_in c from (o ∷ ops) [] n op part there has = absurd cc
-operator_in c from (o ∷ ops) (p ∷ parts) zero op part there has =
-    let first : o ≡ op = cc in
-    let second : p ≡ part = cc in
-    let number : from ≡ from + 0 = omega arith in
-    λ i. Some (operator_with c (number i) (first i) (second i))
-operator_in c from (o ∷ ops) (p ∷ parts) (suc n) op part there has =
-    let number : suc from + n ≡ from + suc n = omega arith in
-    operator_in c (suc from) ops parts n op part there has ∙ ap (λ k. Some (operator_with c k op part)) number
 
 -- the operator of the graph that has a number
 pub operator_there : (c : CheckedGraph) (n : ℕ) (op : Op) (part : Part) → slice_get c.graph.ops n ≡ Some op → slice_get c.parts n ≡ Some part

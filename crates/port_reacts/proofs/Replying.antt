@@ -1,5 +1,5 @@
 -- Replies by ports: from what a body makes, and of what fits.
-use Rattle.std.proofs.Common.{◌≡◌, ◌&&◌, ℕ, zero, suc, Bool, true, false, if◌then◌else◌, List, [], ◌∷◌, length, is_none, Some, refl, sym, ap, subst, ◌∙◌}
+use Rattle.std.proofs.Common.{◌≡◌, ℕ, zero, suc, Bool, true, false, if◌then◌else◌, List, [], ◌∷◌, length, is_none, Some, refl, sym, ap, subst, ◌∙◌}
 use Rattle.spl_value.specs.declared.item.Fault.{Fault}
 use Rattle.spl_value.specs.declared.item.Item.{Item}
 use Rattle.spl_value.specs.declared.item.Item.TheVariants as I
@@ -15,6 +15,7 @@ use Rattle.stream_model.specs.Fitting.{FitsAt, MakesFit, NoneFaulted, is_given}
 use Rattle.stream_model.proofs.SimpleFits.{both_fit, none_fit, one_fits}
 use Rattle.port_reacts.specs.PortReplies.{MayTakeAt, RepliesAt, ends_at, gives_at, goes_on}
 use Rattle.port_reacts.specs.Bodies.{EndsBy, RepliesTo, RepliesToItem}
+use Rattle.spl_value.proofs.Bools.{and_parts}
 
 -- ---- what a body makes
 
@@ -55,15 +56,11 @@ replies_by op h port x r a is k = replies_at op h port x r (subst (λ b. Replies
 
 -- ---- what fits
 
-both_true : (a b : Bool) → (a && b) ≡ true → (a ≡ true) × (b ≡ true)
-both_true true b q = (refl, q)
-both_true false b q = absurd (let no : false ≡ true = q in cc)
-
 -- an operator that goes on came to no fault
 pub none_faulted : (op : Operator) (h : List Event) → goes_on op h ≡ true → NoneFaulted op h
 none_faulted op [] goes = tt
 none_faulted op (e ∷ h) goes =
-    let parts = both_true (goes_on op h) (is_none (ends_at op h e.input e.item)) goes in
+    let parts = and_parts (goes_on op h) (is_none (ends_at op h e.input e.item)) goes in
     (by (is_fault e.item) (port_body op h e.input e.item) parts.1, none_faulted op h parts.0)
   where
     by : (f : Bool) (a : Answer) → is_none (if f then Some e.item else ended_by op false a) ≡ true → is_given a ≡ true

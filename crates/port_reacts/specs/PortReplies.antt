@@ -42,3 +42,9 @@ abbrev pub RepliesAt : Operator → List Event → ℕ → Item → Reply → Ty
 RepliesAt op h port x (R.Out outs) = (outs ≡ gives_at op h port x) × (ends_at op h port x ≡ None)
 RepliesAt op h port x (R.Ended outs fault) = (outs ≡ gives_at op h port x) × (ends_at op h port x ≡ Some (end_by fault))
 RepliesAt op h port x R.Memory = ⊤
+
+-- what is said of an operator that goes on after its reply
+abbrev pub WhereOut : Reply → Type 0 → Type 0
+WhereOut (R.Out outs) p = p
+WhereOut (R.Ended outs fault) p = ⊤
+WhereOut R.Memory p = ⊤

@@ -7,6 +7,7 @@ use Rattle.stream_model.specs.Regions.{IsPartOf}
 use Rattle.region_choice.specs.steps.Choosing.{Chains, last_of, takes, placed, placed_if, chosen_from, chosen}
 use Rattle.region_choice.proofs.ChainPlans.{times, Linked, IsChainOf, heads, IsSound, ChosenLaw}
 use Rattle.region_choice.proofs.Counts.{times_append, one_other, filter_append, filter_at_most, last_stands, last_added, part_longer, part_both, split}
+use Rattle.spl_value.proofs.Bools.{and_parts}
 
 -- ---- plans of a front of the order
 
@@ -27,16 +28,12 @@ record Stands (g : Chains) (front : List ℕ) (plan : List (List ℕ)) : Type 0 
 
 -- ---- tests
 
-both_true : (a b : Bool) → (a && b) ≡ true → (a ≡ true) × (b ≡ true)
-both_true true b h = (refl, h)
-both_true false b h = absurd cc
-
 -- a region that doesn't take its reader isn't safe with it
 not_taken : (g : Chains) (a x : ℕ) (rest : List ℕ) → takes g (a ∷ rest) x ≡ false → g.links (last_of a rest) x ≡ true → g.safe (a ∷ rest ++ x ∷ []) ≡ false
 not_taken g a x rest h e =
     sym (ap (λ b. b && g.safe (a ∷ rest ++ x ∷ [])) e) ∙ h
 
-linked_added : (g : Chains) (a x : ℕ) (rest : List ℕ) → Linked g a rest → g.links (last_of a rest) x ≡ true → Linked g a (rest ++ x ∷ [])
+pub linked_added : (g : Chains) (a x : ℕ) (rest : List ℕ) → Linked g a rest → g.links (last_of a rest) x ≡ true → Linked g a (rest ++ x ∷ [])
 linked_added g a x [] h e = (e, tt)
 linked_added g a x (b ∷ rest) h e = (h.0, linked_added g b x rest h.1 e)
 
@@ -57,7 +54,7 @@ module _ (g : Chains) (front : List ℕ) (x : ℕ) (behind : (y : ℕ) → g.lin
   extended : (region : List ℕ) → takes g region x ≡ true → InFront g front region → InFront g (front ++ x ∷ []) (region ++ x ∷ [])
   extended [] h r = absurd r
   extended (a ∷ rest) h r =
-      let both = both_true (g.links (last_of a rest) x) (g.safe (a ∷ rest ++ x ∷ [])) h in
+      let both = and_parts (g.links (last_of a rest) x) (g.safe (a ∷ rest ++ x ∷ [])) h in
       record {
         linked = linked_added g a x rest r.linked both.0;
         is_safe = both.1;
@@ -99,7 +96,7 @@ module _ (g : Chains) (front : List ℕ) (x : ℕ) (behind : (y : ℕ) → g.lin
           by_case further true e = (
             extended (a ∷ rest) e h.0,
             all_wider regions (λ b is.
-                (let both = both_true (g.links (last_of a rest) x) (g.safe (a ∷ rest ++ x ∷ [])) e in
+                (let both = and_parts (g.links (last_of a rest) x) (g.safe (a ∷ rest ++ x ∷ [])) e in
                 let same : last_of a rest ≡ b = sound.one_maker (last_of a rest) b x both.0 is in
                 let here = last_stands a rest in
                 let moved : times (last_of a rest) (concat regions) ≡ times b (concat regions) = ap (λ b. times b (concat regions)) same in

@@ -7,7 +7,7 @@ use Rattle.std.proofs.lemmas.List.{length-append, length-set, map-append, take_m
 use Rattle.std.proofs.lemmas.List.Elements.{filter-append, Contains-append_left, Contains-append_right}
 use Rattle.std.proofs.lemmas.List.Folds.{concat-append}
 use Rattle.std.proofs.lemmas.Option.{slice_get-get_or}
-use Rattle.spl_value.proofs.Lists.{set_elsewhere, set_here, take_at}
+use Rattle.spl_value.proofs.Lists.{set_elsewhere, set_here, take_at, item_there}
 use Rattle.spl_tree.specs.declared.graph.Op.{Op}
 use Rattle.language_model.specs.declared.checked.Part.{Part}
 use Rattle.language_model.specs.CheckedGraph.{CheckedGraph}
@@ -63,9 +63,6 @@ contains_at streams i lt =
 
 -- ---- one port more
 
-pub item_at : {A : Type 0} (xs : List A) (i : ℕ) (x : A) → i < length xs → x ≡ get_or xs i x → slice_get xs i ≡ Some x
-item_at xs i x lt e = slice_get-get_or xs i x lt ∙ ap Some (sym e)
-
 pub contains_concat : (ports : List (List ℕ)) (i : ℕ) (port : List ℕ) (s : ℕ) → slice_get ports i ≡ Some port → Contains port s → Contains (concat ports) s
 contains_concat [] i port s at h = absurd cc
 contains_concat (own ∷ ports) zero port s at h =
@@ -99,7 +96,7 @@ all_readings c g counts k e h =
 -- the streams that one operator takes are those of the graph
 pub among_streams : (c : CheckedGraph) → Keeps c → (i : ℕ) (op : Op) (s : ℕ) → i < length c.graph.ops → op ≡ get_or c.graph.ops i op → Contains (concat op.ins) s
     → s < length c.graph.streams
-among_streams c k i op s lt e h = k.graph.taken i op (item_at c.graph.ops i op lt e) s h
+among_streams c k i op s lt e h = k.graph.taken i op (item_there c.graph.ops i op lt e) s h
 
 pub operators_more : (ops : List Op) (i : ℕ) (op : Op) → i < length ops → op ≡ get_or ops i op
     → concat (map (λ (op : Op). concat op.ins) (take i ops)) ++ concat op.ins ≡ concat (map (λ (op : Op). concat op.ins) (take (i + 1) ops))

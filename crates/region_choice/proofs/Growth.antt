@@ -31,9 +31,11 @@ use Rattle.region_choice.specs.steps.GraphChains.{has_key}
 use Rattle.region_choice.specs.steps.Growing.{added, first_of, Grows, IsGrown, IsLonger, key_source, key_with, leads, merge_of, nothing, region_of}
 use Rattle.region_choice.specs.steps.Keys.{is_copied, source_at}
 use Rattle.region_choice.specs.steps.Ports.{first_input}
-use Rattle.region_choice.proofs.KeyLaws.{and_true, clauses, copied_is, key_narrows, key_stays, keyed_more, ops_more, or_false, or_true, safe_narrows, safe_stays}
+use Rattle.region_choice.proofs.KeyLaws.{and_true, clauses, copied_is, key_narrows, key_stays, keyed_more, or_false, or_true, safe_narrows, safe_stays}
 use Rattle.region_choice.proofs.Plans.{made}
-use Rattle.region_choice.proofs.Soundness.{aggregate_keyed, custom_not, operator_at}
+use Rattle.region_choice.proofs.Soundness.{aggregate_keyed, custom_not}
+use Rattle.attribute_flow.proofs.Chaining.{trace_last, ops_last}
+use Rattle.stream_model.proofs.GraphParts.{operator_at}
 
 -- ---- attributes of the stream that a region reads
 
@@ -74,19 +76,9 @@ width_there c g e ops n o at all first is none =
 
 -- ---- copies
 
-trace_last : (parts : List Part) (part : Part) (a : ℕ) → trace (parts ++ part ∷ []) a ≡ option_and_then (trace parts) (source_of part a)
-trace_last [] part a = only (source_of part a) where
-  only : (found : Option ℕ) → found ≡ option_and_then (λ b. Some b) found
-  only None = refl
-  only (Some b) = refl
-trace_last (first ∷ parts) part a = ap (option_and_then (source_of first)) (trace_last parts part a) ∙ twice (source_of part a) where
-  twice : (found : Option ℕ) → option_and_then (source_of first) (option_and_then (trace parts) found) ≡ option_and_then (trace (first ∷ parts)) found
-  twice None = refl
-  twice (Some b) = refl
-
 traced_last : (g : Graph) (ns : List ℕ) (n : ℕ) (o : Operator) (a : ℕ) → slice_get g.ops n ≡ Some o → traced g (ns ++ n ∷ []) a ≡ option_and_then (traced g ns) (source_of o.clauses a)
 traced_last g ns n o a at =
-    ap (λ ops. trace (clauses ops) a) (ops_more g ns n o at)
+    ap (λ ops. trace (clauses ops) a) (ops_last g ns n o at)
     ∙ ap (λ parts. trace parts a) (map-append (λ (op : Operator). op.clauses) (ops_of g ns) (o ∷ []))
     ∙ trace_last (clauses (ops_of g ns)) o.clauses a
 
@@ -166,7 +158,7 @@ one_each_more : (g : Graph) (growing : Growing) (n : ℕ) (o : Operator) → sli
     → (growing.one_each && is_one_each o) ≡ list_all is_one_each (ops_of g (growing.ops ++ n ∷ []))
 one_each_more g growing n o at h =
     ap (λ b. b && is_one_each o) h.one_each ∙ ap (λ b. list_all is_one_each (ops_of g growing.ops) && b) (sym (and_true (is_one_each o)))
-    ∙ sym (ap (list_all is_one_each) (ops_more g growing.ops n o at) ∙ list_all-append is_one_each (ops_of g growing.ops) (o ∷ []))
+    ∙ sym (ap (list_all is_one_each) (ops_last g growing.ops n o at) ∙ list_all-append is_one_each (ops_of g growing.ops) (o ∷ []))
 
 -- one that isn't Keyed
 pub plain_state : (state own : StateKind) → own ≡ state → (state ≡ K.Stateless) ⊎ (state ≡ K.Whole) → is_keyed own ≡ false
@@ -183,11 +175,11 @@ plain_longer g old n o new at plain h is = subst (IsLonger g old n) (sym is) (re
 
   grown : IsGrown g (added o n old)
   grown = record {
-    key = h.key ∙ sym (ap chain_key (ops_more g old.ops n o at) ∙ key_stays (ops_of g old.ops) o plain);
+    key = h.key ∙ sym (ap chain_key (ops_last g old.ops n o at) ∙ key_stays (ops_of g old.ops) o plain);
     keyed = h.keyed
-        ∙ sym (ap any_keyed (ops_more g old.ops n o at) ∙ keyed_more (ops_of g old.ops) o ∙ ap (λ b. any_keyed (ops_of g old.ops) || b) plain ∙ or_false (any_keyed (ops_of g old.ops)));
+        ∙ sym (ap any_keyed (ops_last g old.ops n o at) ∙ keyed_more (ops_of g old.ops) o ∙ ap (λ b. any_keyed (ops_of g old.ops) || b) plain ∙ or_false (any_keyed (ops_of g old.ops)));
     one_each = one_each_more g old n o at h;
-    safe = ap has_key (ops_more g old.ops n o at) ∙ safe_stays (ops_of g old.ops) o plain ∙ h.safe;
+    safe = ap has_key (ops_last g old.ops n o at) ∙ safe_stays (ops_of g old.ops) o plain ∙ h.safe;
     leads_back = λ a.
         traced_last g old.ops n o a at
         ∙ ap (λ (f : ℕ → Option ℕ). option_and_then f (source_of o.clauses a)) (fun_ext h.leads_back)
@@ -202,7 +194,7 @@ pub key_is : (g : Graph) (old : Growing) (n : ℕ) (o : Operator) (places : List
     → state_of o.clauses ≡ K.Keyed places → IsGrown g old → sources ≡ map (key_source g old.ops) places
     → key ≡ key_with old sources (entry_attributes (ops_of g (old.ops ++ n ∷ []))) → key ≡ chain_key (ops_of g (old.ops ++ n ∷ []))
 key_is g old n o places sources key at is h from k =
-    let more = ops_more g old.ops n o at in
+    let more = ops_last g old.ops n o at in
     let before = ops_of g old.ops in
     k
     ∙ ap (λ (xs : List KeySource). filter (is_copied xs) (if old.keyed then old.key else entry_attributes (ops_of g (old.ops ++ n ∷ [])))) from
@@ -215,8 +207,8 @@ key_is g old n o places sources key at is h from k =
 safe_is : (g : Graph) (old : Growing) (n : ℕ) (o : Operator) (places key : List ℕ) → slice_get g.ops n ≡ Some o → state_of o.clauses ≡ K.Keyed places
     → key ≡ chain_key (ops_of g (old.ops ++ n ∷ [])) → has_key (ops_of g (old.ops ++ n ∷ [])) ≡ not (is_empty key)
 safe_is g old n o places key at is k =
-    ap has_key (ops_more g old.ops n o at) ∙ safe_narrows (ops_of g old.ops) o places is
-    ∙ ap (λ key. not (is_empty key)) (sym (k ∙ ap chain_key (ops_more g old.ops n o at)))
+    ap has_key (ops_last g old.ops n o at) ∙ safe_narrows (ops_of g old.ops) o places is
+    ∙ ap (λ key. not (is_empty key)) (sym (k ∙ ap chain_key (ops_last g old.ops n o at)))
 
 -- where it is empty
 pub no_key : (g : Graph) (old : Growing) (n : ℕ) (o : Operator) (places key : List ℕ) → slice_get g.ops n ≡ Some o → state_of o.clauses ≡ K.Keyed places
@@ -243,7 +235,7 @@ keyed_longer g old n o places sources key segment new at is h from k some emptie
       grown : IsGrown g (added o n (record { ops = old.ops; key = key; keyed = true; one_each = old.one_each; segment = []; sources = sources }))
       grown = record {
         key = k;
-        keyed = sym (ap any_keyed (ops_more g old.ops n o at) ∙ keyed_more (ops_of g old.ops) o ∙ ap (λ state. any_keyed (ops_of g old.ops) || is_keyed state) is
+        keyed = sym (ap any_keyed (ops_last g old.ops n o at) ∙ keyed_more (ops_of g old.ops) o ∙ ap (λ state. any_keyed (ops_of g old.ops) || is_keyed state) is
             ∙ or_true (any_keyed (ops_of g old.ops)));
         one_each = one_each_more g old n o at h;
         safe = safe_is g old n o places key at is k ∙ some_key key some;

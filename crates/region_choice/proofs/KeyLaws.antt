@@ -20,16 +20,14 @@ use Rattle.stream_model.specs.Stream.{is_empty}
 use Rattle.region_choice.specs.declared.keys.KeySource.{KeySource}
 use Rattle.region_choice.specs.steps.GraphChains.{has_key}
 use Rattle.region_choice.specs.steps.Keys.{is_copied}
+use Rattle.attribute_flow.proofs.Chaining.{and_then_twice, ops_last}
+use Rattle.std.proofs.Math.Bool.{and_assoc}
 
 -- ---- tests
 
 pub and_true : (b : Bool) → (b && true) ≡ b
 and_true true = refl
 and_true false = refl
-
-and_assoc : (a b c : Bool) → ((a && b) && c) ≡ (a && (b && c))
-and_assoc true b c = refl
-and_assoc false b c = refl
 
 pub or_false : (b : Bool) → (b || false) ≡ b
 or_false true = refl
@@ -50,10 +48,6 @@ filter_twice f h (x ∷ xs) = by_case (filter_twice f h xs) (h x) where
 
 abbrev pub clauses : List Operator → List Part
 clauses ops = map (λ (op : Operator). op.clauses) ops
-
-and_then_twice : (first second : ℕ → Option ℕ) (found : Option ℕ) → option_and_then first (option_and_then second found) ≡ option_and_then (λ b. option_and_then first (second b)) found
-and_then_twice first second None = refl
-and_then_twice first second (Some b) = refl
 
 have_more : (source : ℕ → Option ℕ) (ops : List Operator) (o : Operator) (a : ℕ)
     → all_have source (ops ++ o ∷ []) a ≡ (all_have source ops a && has_copy (λ p. option_and_then source (trace (clauses ops) p)) (state_of o.clauses) a)
@@ -241,6 +235,3 @@ ops_append g (n ∷ ns) ms = by_case (ops_append g ns ms) (slice_get g.ops n) wh
       → option_map_or (λ op. op ∷ ops_of g (ns ++ ms)) found (ops_of g (ns ++ ms)) ≡ option_map_or (λ op. op ∷ ops_of g ns) found (ops_of g ns) ++ ops_of g ms
   by_case rest None = rest
   by_case rest (Some op) = ap (λ ops. op ∷ ops) rest
-
-pub ops_more : (g : Graph) (ns : List ℕ) (n : ℕ) (o : Operator) → slice_get g.ops n ≡ Some o → ops_of g (ns ++ n ∷ []) ≡ ops_of g ns ++ o ∷ []
-ops_more g ns n o at = ops_append g ns (n ∷ []) ∙ ap (λ found. ops_of g ns ++ option_map_or (λ op. op ∷ []) found []) at

@@ -64,7 +64,7 @@ pub record Link (g : Graph) (x y : Operator) : Type 0 where
 follows_is : (g : Graph) (x y : Operator) (s : ℕ) → x.outs ≡ s ∷ [] → follows g x y ≡ (reads y s && (readings g s == 1))
 follows_is g x y s e = ap (list_all (λ s. reads y s && (readings g s == 1))) e ∙ and_true (reads y s && (readings g s == 1))
 
-or_false_is : (b : Bool) → (b || false) ≡ true → b ≡ true
+pub or_false_is : (b : Bool) → (b || false) ≡ true → b ≡ true
 or_false_is true h = refl
 or_false_is false h = h
 

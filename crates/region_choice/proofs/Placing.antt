@@ -33,9 +33,10 @@ use Rattle.region_choice.proofs.Choosing.{chosen_law, placed_once}
 use Rattle.region_choice.proofs.Counting.{contains_at}
 use Rattle.region_choice.proofs.Counts.{one_same, times_append}
 use Rattle.region_choice.proofs.Growth.{region_is}
-use Rattle.region_choice.proofs.Links.{chain_from, eligible_at, pair_is, pair_of, ports_of}
+use Rattle.region_choice.proofs.Links.{chain_from, eligible_at, pair_is, pair_of, ports_of, or_false_is}
 use Rattle.region_choice.proofs.Plans.{made, made_plan}
-use Rattle.region_choice.proofs.Soundness.{all_valid, made_by, operator_at, same_length, same_topo, sound}
+use Rattle.region_choice.proofs.Soundness.{all_valid, made_by, sound}
+use Rattle.stream_model.proofs.GraphParts.{same_topo, same_length, operator_at}
 
 -- ---- where an operator is placed
 
@@ -81,10 +82,6 @@ pub set_as_it_is : (regions : List Growing) (k : ℕ) (r : Growing) → slice_ge
 set_as_it_is [] k r at = absurd cc
 set_as_it_is (q ∷ regions) zero r at = let same : q ≡ r = cc in ap (λ r. r ∷ regions) (sym same)
 set_as_it_is (q ∷ regions) (suc k) r at = ap (λ more. q ∷ more) (set_as_it_is regions k r at)
-
-or_false_is : (b : Bool) → (b || false) ≡ true → b ≡ true
-or_false_is true h = refl
-or_false_is false h = h
 
 among_last : (n m : ℕ) (ns : List ℕ) → is_among m (ns ++ n ∷ []) ≡ true → (is_among m ns ≡ true) ⊎ (n ≡ m)
 among_last n m ns h = by_case (or_cases (is_among m ns) (is_among m (n ∷ [])) (sym (list_any-append (λ k. k == m) ns (n ∷ [])) ∙ h)) where

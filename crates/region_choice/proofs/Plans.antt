@@ -13,7 +13,7 @@ use Rattle.region_choice.specs.steps.Choosing.{Chains, chosen, last_of}
 use Rattle.region_choice.specs.steps.GraphChains.{chains_of, has_key}
 use Rattle.region_choice.proofs.ChainPlans.{IsChain, IsChainOf, IsChainPlan, IsSound, Linked, heads, one_if, times}
 use Rattle.region_choice.proofs.Counts.{filter_at_most, one_other, one_same, passes, times_append}
-use Rattle.region_choice.proofs.Choosing.{chosen_law}
+use Rattle.region_choice.proofs.Choosing.{chosen_law, linked_added}
 use Rattle.region_choice.proofs.OnePlan.{one_plan_law}
 use Rattle.region_choice.proofs.Links.{eligible_at, pair_is, pair_of}
 
@@ -92,10 +92,6 @@ chain_linked g a (b ∷ rest) all h =
           ∙ and_from (is_eligible x.0) (follows g x.0 y.0 && is_eligible y.0) parts.0 (and_from (follows g x.0 y.0) (is_eligible y.0) more.0 second),
       chain_linked g b rest (there_rest g a (b ∷ rest) all) (subst (λ ops. is_chain g ops ≡ true) (sym (ops_first g b rest y.0 y.1)) more.1),
     )
-
-linked_added : (c : Chains) (a x : ℕ) (rest : List ℕ) → Linked c a rest → c.links (last_of a rest) x ≡ true → Linked c a (rest ++ x ∷ [])
-linked_added c a x [] h e = (e, tt)
-linked_added c a x (b ∷ rest) h e = (h.0, linked_added c b x rest h.1 e)
 
 last_linked : (c : Chains) (a x : ℕ) (rest : List ℕ) → Linked c a (rest ++ x ∷ []) → c.links (last_of a rest) x ≡ true
 last_linked c a x [] h = h.0

@@ -20,23 +20,13 @@ use Rattle.stream_model.specs.Operators.{Operator, connections}
 use Rattle.stream_model.specs.Regions.{is_eligible, ops_of, readings}
 use Rattle.stream_model.specs.StateKinds.{has_mutable, state_of}
 use Rattle.stream_model.specs.Windows.{flushes_at_markers}
-use Rattle.stream_model.proofs.CheckedOperators.{OperatorAt, checked_fits, operator_from, operators_length}
+use Rattle.stream_model.proofs.CheckedOperators.{checked_fits}
 use Rattle.region_choice.specs.steps.GraphChains.{chains_of, has_key, is_pair}
 use Rattle.region_choice.proofs.ChainPlans.{IsSound, one_if, times}
 use Rattle.region_choice.proofs.Counts.{one_same, split, times_append}
 use Rattle.region_choice.proofs.KeyLaws.{alone_safe, fewer_safe, ops_append}
 use Rattle.region_choice.proofs.Links.{eligible_at, pair_of, same_reader}
-
--- ---- operators by their numbers
-
-pub same_topo : (c : CheckedGraph) (g : Graph) → graph_of c ≡ g → g.topo ≡ c.graph.topo
-same_topo c g e = ap (λ (x : Graph). x.topo) (sym e)
-
-pub same_length : (c : CheckedGraph) (g : Graph) → Keeps c → graph_of c ≡ g → length g.ops ≡ length c.graph.ops
-same_length c g k e = ap (λ (x : Graph). length x.ops) (sym e) ∙ operators_length c 0 c.graph.ops c.parts k.parts
-
-pub operator_at : (c : CheckedGraph) (g : Graph) → graph_of c ≡ g → (n : ℕ) (o : Operator) → slice_get g.ops n ≡ Some o → OperatorAt c 0 c.graph.ops c.parts n o
-operator_at c g e n o at = operator_from c 0 c.graph.ops c.parts n o (ap (λ (x : Graph). slice_get x.ops n) e ∙ at)
+use Rattle.stream_model.proofs.GraphParts.{same_topo, same_length, operator_at}
 
 -- ---- makers
 

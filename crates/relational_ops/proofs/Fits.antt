@@ -1,5 +1,5 @@
 -- The clauses of an operator with one input port fit the tuples that come on it.
-use Rattle.std.proofs.Common.{◌≡◌, ◌<◌, ℕ, zero, suc, IsTrue, List, [], ◌∷◌, length, slice_get, Option, Some, None, refl, sym, subst, ◌∙◌, arith}
+use Rattle.std.proofs.Common.{◌≡◌, ◌<◌, ℕ, IsTrue, List, [], ◌∷◌, length, slice_get, Option, Some, None, refl, sym, subst, ◌∙◌, arith}
 use Rattle.std.specs.Option.{unwrap_or}
 use Rattle.std.proofs.lemmas.Grind.{common_steps}
 use Rattle.spl_value.specs.declared.item.Item.{Item}
@@ -29,16 +29,11 @@ use Rattle.stream_model.specs.Bodies.{at_tuple}
 use Rattle.stream_model.specs.Replies.{ItemHas}
 use Rattle.stream_model.specs.Fitting.{HasPort, IsFitting}
 use Rattle.stream_model.proofs.FittingCodes.{tuples_env}
-use Rattle.stream_model.proofs.SimpleFits.{tuple_came}
+use Rattle.stream_model.proofs.SimpleFits.{tuple_came, at_first}
 use Rattle.expr_eval.specs.Fitting.{IsFit}
 use Rattle.relational_ops.specs.Fitting.{MakingFits, PassesFit, WhereTuple}
 
 -- ---- one port
-
--- an item of a port, of one, has that one's attributes
-at_first : (input : Attributes) (port : ℕ) (x : Item) → port < 1 → ItemHas (unwrap_or (slice_get (input ∷ []) port) []) x → ItemHas input x
-at_first input zero x within h = h
-at_first input (suc port) x within h = absurd (omega (arith, within))
 
 -- the tuple is what the scope of the clauses has
 one_env : (op : Operator) (fit : IsFitting op) (input : Attributes) (port : ℕ) (vs : List Value) → op.types.ins ≡ input ∷ [] → HasPort op port (I.Tuple vs)

@@ -1,15 +1,14 @@
 -- Values of fields behind others.
-use Rattle.std.specs.Prelude.{◌&&◌, ◌-◌, ◌^◌, ◌≤◌, IsTrue, codes, if◌then◌else◌, negsuc, option_map, pos, unsigned_abs}
+use Rattle.std.specs.Prelude.{◌&&◌, ◌-◌, IsTrue, codes, if◌then◌else◌, option_map}
 use Rattle.std.specs.Int.{w128}
-use Rattle.std.proofs.Common.{◌≡◌, ◌∙◌, ◌++◌, ◌∷◌, [], ℕ, ℤ, Bool, true, false, List, Option, Some, None, refl, sym, ap, subst, inl, inr, arith, lit≤, of_z, to_z}
+use Rattle.std.proofs.Common.{◌≡◌, ◌∙◌, ◌++◌, ◌∷◌, [], ℕ, ℤ, Bool, true, false, List, Option, Some, None, refl, sym, ap, subst, inl, inr, arith, of_z, to_z}
 use Rattle.std.specs.Str.{bytes_eq}
-use Rattle.std.proofs.lemmas.Bool.{cases_Bool, ltb-true}
+use Rattle.std.proofs.lemmas.Bool.{cases_Bool}
 use Rattle.std.proofs.lemmas.Int.{fits_signed_from_abs, to_z-of_z}
 use Rattle.spl_value.specs.Decimal.{in_kind, integer_of, number}
-use Rattle.spl_value.specs.Values.{fits, kind_holds, modulus, top, tuple_fits}
+use Rattle.spl_value.specs.Values.{fits, kind_holds, tuple_fits}
 use Rattle.spl_value.proofs.FitsLaws.{fits_bool, fits_int, fits_text}
 use Rattle.spl_value.specs.declared.types.IntKind.{IntKind}
-use Rattle.spl_value.specs.declared.types.IntKind.TheVariants.{I8, I16, I32, I64, U8, U16, U32, U64}
 use Rattle.spl_value.specs.declared.types.SplType.TheVariants as T
 use Rattle.spl_value.specs.declared.value.Value.{Value}
 use Rattle.spl_value.specs.declared.value.Value.TheVariants as V
@@ -18,6 +17,7 @@ use Rattle.row_reader.specs.declared.columns.Column.{Column}
 use Rattle.row_reader.specs.declared.columns.Column.TheVariants as C
 use Rattle.row_reader.specs.steps.Adding.{Added}
 use Rattle.row_reader.specs.Columns.{attributes, type_of}
+use Rattle.spl_value.proofs.Widths.{within}
 
 field_int : (k : IntKind) (field : List ℕ) → field_value (T.Int k) field ≡ option_map V.Int (integer_of k field)
 field_int k field = rw (T.outs-Int k) refl
@@ -62,22 +62,8 @@ in_kind_holds k (Some m) n e = elim (cases_Bool (kind_holds k m)) [
   | inr not ↦ absurd (let h : Some n ≡ None = e ∙ rw not refl in cc h)
 ]
 
-widths : (k : IntKind) → (top k ≤ 2 ^ 64) × (modulus k - top k ≤ 2 ^ 64)
-widths I8 = (lit≤ tt, lit≤ tt)
-widths I16 = (lit≤ tt, lit≤ tt)
-widths I32 = (lit≤ tt, lit≤ tt)
-widths I64 = (lit≤ tt, lit≤ tt)
-widths U8 = (lit≤ tt, lit≤ tt)
-widths U16 = (lit≤ tt, lit≤ tt)
-widths U32 = (lit≤ tt, lit≤ tt)
-widths U64 = (lit≤ tt, lit≤ tt)
-
-small : (k : IntKind) (n : ℤ) → IsTrue (kind_holds k n) → unsigned_abs n ≤ 2 ^ 64
-small k (pos n) h = let w = widths k in let lt = ltb-true n (top k) h in omega arith
-small k (negsuc n) h = let w = widths k in let lt = ltb-true n (modulus k - top k) h in omega arith
-
 pub kept : (k : IntKind) (field : List ℕ) (n : ℤ) → Some n ≡ integer_of k field → to_z w128 (of_z w128 n) ≡ n
-kept k field n e = let s = small k n (in_kind_holds k (number field) n e) in to_z-of_z w128 n (fits_signed_from_abs w128 n (omega arith))
+kept k field n e = let s = within k n (in_kind_holds k (number field) n e) in to_z-of_z w128 n (fits_signed_from_abs w128 n (omega arith))
 
 -- ---- a row's values fit its columns
 

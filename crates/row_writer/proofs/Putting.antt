@@ -10,7 +10,7 @@ use Rattle.stream_model.proofs.PathLaws.{text_of-append}
 use Rattle.row_writer.specs.Writing.{TextPoured}
 
 -- the text of the rows before place i, of the row there, and of the rows behind it
-text_cut : (items : List Item) (i : ℕ) (x : Item) → i < length items → x ≡ get_or items i x
+pub text_cut : (items : List Item) (i : ℕ) (x : Item) → i < length items → x ≡ get_or items i x
     → text_of items ≡ text_of (take i items) ++ (item_text x ++ text_of (drop (i + 1) items))
 text_cut items i x lt is =
     ap text_of (sym (take-append-drop (i + 1) items))
@@ -20,7 +20,7 @@ text_cut items i x lt is =
     ∙ append_assoc (text_of (take i items)) (item_text x) (text_of (drop (i + 1) items))
 
 -- a front of the row behind the rows before it is a front of all
-front_of : (a b c : List ℕ) (n : ℕ) → n ≤ length b → take (length a + n) (a ++ (b ++ c)) ≡ a ++ take n b
+pub front_of : (a b c : List ℕ) (n : ℕ) → n ≤ length b → take (length a + n) (a ++ (b ++ c)) ≡ a ++ take n b
 front_of a b c n h = take-append-add a (b ++ c) n ∙ ap (λ (t : List ℕ). a ++ t) (take-append-le n b c h)
 
 pub rows_failed : (old mid now : Option (List ℕ)) (items : List Item) (i : ℕ) (x : Item) (e : PutAnswer) → i < length items → x ≡ get_or items i x

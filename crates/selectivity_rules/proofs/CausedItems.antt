@@ -49,6 +49,7 @@ use Rattle.selectivity_rules.specs.ClassLaws.{ClassLaw}
 use Rattle.selectivity_rules.specs.SubmitLaws.{IsUpTo}
 use Rattle.selectivity_rules.proofs.Counting.{interval_law}
 use Rattle.selectivity_rules.proofs.GroupCounts.{HasCount, tuple_counts}
+use Rattle.spl_value.proofs.Bools.{and_right, and_left}
 
 -- ---- answers
 
@@ -143,19 +144,11 @@ union_counts places = record { tuples = tuples; window = omega arith; final = re
 
 -- ---- a Custom
 
-both_left : (a b : Bool) → (a && b) ≡ true → a ≡ true
-both_left true b h = refl
-both_left false b h = h
-
-both_right : (a b : Bool) → (a && b) ≡ true → b ≡ true
-both_right true b h = h
-both_right false b h = absurd cc
-
 is_just : (m : Option ℕ) (least n k : ℕ) → ((least == k) && is_number k m) ≡ true → least ≤ n → IsUpTo m n → n ≡ k
-is_just None least n k h lo hi = absurd (let f : false ≡ true = both_right (least == k) false h in cc)
+is_just None least n k h lo hi = absurd (let f : false ≡ true = and_right (least == k) false h in cc)
 is_just (Some m) least n k h lo hi =
-    let f : (least == k) ≡ true = both_left (least == k) (m == k) h in
-    let g : (m == k) ≡ true = both_right (least == k) (m == k) h in
+    let f : (least == k) ≡ true = and_left (least == k) (m == k) h in
+    let g : (m == k) ≡ true = and_right (least == k) (m == k) h in
     grind (arith, nat_tests)
 
 is_within : (m : Option ℕ) (n k : ℕ) → is_at_most k m ≡ true → IsUpTo m n → n ≤ k
@@ -180,7 +173,7 @@ module _ (functions : List Function) where
     by_cases Stuck e = tt
 
   exactly : (k : ℕ) (body : Option (List Statement)) (env : Env) → has_exactly k env.punct body ≡ true → LeftCount (λ n. n ≡ k) (left_by functions body env)
-  exactly k None env test = eqb-true 0 k (both_left (0 == k) (0 == k) test)
+  exactly k None env test = eqb-true 0 k (and_left (0 == k) (0 == k) test)
   exactly k (Some row) env test = counted (λ n. n ≡ k) row env (λ n lo hi. is_just (greatest_number env.punct row) (least_number env.punct row) n k test lo hi)
 
   at_most : (k : ℕ) (body : Option (List Statement)) (env : Env) → has_at_most k env.punct body ≡ true → LeftCount (λ n. n ≤ k) (left_by functions body env)
@@ -204,19 +197,19 @@ module _ (functions : List Function) where
 
     custom_one : (has_exactly 1 None tuple && (has_exactly 1 (Some M.Window) punct && has_exactly 0 (Some M.Final) punct)) ≡ true → Counts G.One (custom_body functions handlers h 0)
     custom_one tests =
-        let rest = both_right (has_exactly 1 None tuple) (has_exactly 1 (Some M.Window) punct && has_exactly 0 (Some M.Final) punct) tests in record {
-          tuples = λ vs. given (λ n. n ≡ 1) _ (exactly 1 tuple (tuple_env vars vs) (both_left (has_exactly 1 None tuple) _ tests));
-          window = given (λ n. n ≡ 1) _ (exactly 1 punct (marker_env vars M.Window) (both_left (has_exactly 1 (Some M.Window) punct) _ rest));
-          final = given (λ n. n ≡ 0) _ (exactly 0 punct (marker_env vars M.Final) (both_right (has_exactly 1 (Some M.Window) punct) _ rest));
+        let rest = and_right (has_exactly 1 None tuple) (has_exactly 1 (Some M.Window) punct && has_exactly 0 (Some M.Final) punct) tests in record {
+          tuples = λ vs. given (λ n. n ≡ 1) _ (exactly 1 tuple (tuple_env vars vs) (and_left (has_exactly 1 None tuple) _ tests));
+          window = given (λ n. n ≡ 1) _ (exactly 1 punct (marker_env vars M.Window) (and_left (has_exactly 1 (Some M.Window) punct) _ rest));
+          final = given (λ n. n ≡ 0) _ (exactly 0 punct (marker_env vars M.Final) (and_right (has_exactly 1 (Some M.Window) punct) _ rest));
         }
 
     custom_at_most_one : (has_at_most 1 None tuple && (has_at_most 1 (Some M.Window) punct && has_at_most 0 (Some M.Final) punct)) ≡ true
         → Counts G.AtMostOne (custom_body functions handlers h 0)
     custom_at_most_one tests =
-        let rest = both_right (has_at_most 1 None tuple) (has_at_most 1 (Some M.Window) punct && has_at_most 0 (Some M.Final) punct) tests in record {
-          tuples = λ vs. given (λ n. n ≤ 1) _ (at_most 1 tuple (tuple_env vars vs) (both_left (has_at_most 1 None tuple) _ tests));
-          window = given (λ n. n ≤ 1) _ (at_most 1 punct (marker_env vars M.Window) (both_left (has_at_most 1 (Some M.Window) punct) _ rest));
-          final = given (λ n. n ≡ 0) _ (none_left _ (at_most 0 punct (marker_env vars M.Final) (both_right (has_at_most 1 (Some M.Window) punct) _ rest)));
+        let rest = and_right (has_at_most 1 None tuple) (has_at_most 1 (Some M.Window) punct && has_at_most 0 (Some M.Final) punct) tests in record {
+          tuples = λ vs. given (λ n. n ≤ 1) _ (at_most 1 tuple (tuple_env vars vs) (and_left (has_at_most 1 None tuple) _ tests));
+          window = given (λ n. n ≤ 1) _ (at_most 1 punct (marker_env vars M.Window) (and_left (has_at_most 1 (Some M.Window) punct) _ rest));
+          final = given (λ n. n ≡ 0) _ (none_left _ (at_most 0 punct (marker_env vars M.Final) (and_right (has_at_most 1 (Some M.Window) punct) _ rest)));
         }
 
 module _ (n : ℕ) (handlers : Handlers) (functions : List Function) (types : PortTypes) (s t : ℕ) where

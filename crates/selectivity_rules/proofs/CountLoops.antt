@@ -1,6 +1,6 @@
 -- A statement more, and an arm more.
-use Rattle.std.specs.Prelude.{◌≡◌, ◌<◌, ◌+◌, ◌||◌, ℕ, suc, Bool, true, false, Option, None, Some, List, ◌∷◌, length, drop}
-use Rattle.std.proofs.Common.{refl, sym, ap, ◌∙◌, arith, get_or, drop-cons}
+use Rattle.std.specs.Prelude.{◌≡◌, ◌<◌, ◌+◌, ◌||◌, ℕ, Bool, true, false, Option, None, Some, List, length, drop}
+use Rattle.std.proofs.Common.{refl, sym, ap, ◌∙◌, arith, get_or}
 use Rattle.spl_tree.specs.declared.body.Statement.{Statement}
 use Rattle.spl_tree.specs.declared.code.Code.{Code}
 use Rattle.spl_tree.specs.declared.code.Marker.{Marker}
@@ -12,6 +12,7 @@ use Rattle.selectivity_rules.specs.steps.Counts.{plus, smaller, larger, both_of,
 use Rattle.stream_model.specs.Selectivity.{Interval, chosen, decided, row_interval}
 use Rattle.selectivity_rules.specs.steps.Intervals.{arms_interval, statement_interval}
 use Rattle.selectivity_rules.proofs.Capping.{capped_both, capped_either}
+use Rattle.spl_value.proofs.Lists.{drop_at}
 
 plus_assoc : (a b c : Count) → plus (plus a b) c ≡ plus a (plus b c)
 plus_assoc C.Zero b c = refl
@@ -65,9 +66,6 @@ either_assoc i j k = λ t. made (smaller_assoc i.least j.least k.least t) (large
 pub both_none : (i : Submits) → both_of i none ≡ i
 both_none i = λ t. made (plus_none i.least t) (plus_none i.most t) (or_none i.returns t)
 
-item_first : {A : Type 0} (xs : List A) (i : ℕ) (x : A) → i < length xs → x ≡ get_or xs i x → drop i xs ≡ x ∷ drop (i + 1) xs
-item_first xs i x lt e = drop-cons xs i x lt ∙ ap (λ y. y ∷ drop (suc i) xs) (sym e) ∙ ap (λ n. x ∷ drop n xs) (let s : suc i ≡ i + 1 = omega arith in s)
-
 pub row_step : (marker : Option Marker) (row : List Statement) (i : ℕ) (x : Statement) (so_far its : Submits) → i < length row → x ≡ get_or row i x
     → its ≡ capped (statement_interval marker x) → both_of so_far (capped (row_interval marker (drop i row))) ≡ capped (row_interval marker row)
     → both_of (both_of so_far its) (capped (row_interval marker (drop (i + 1) row))) ≡ capped (row_interval marker row)
@@ -76,7 +74,7 @@ row_step marker row i x so_far its lt e is h =
     ∙ ap (both_of so_far)
     (ap (λ j. both_of j (capped (row_interval marker (drop (i + 1) row)))) is
     ∙ sym (capped_both (statement_interval marker x) (row_interval marker (drop (i + 1) row)))
-    ∙ ap (λ xs. capped (row_interval marker xs)) (sym (item_first row i x lt e)))
+    ∙ ap (λ xs. capped (row_interval marker xs)) (sym (drop_at row i x lt e)))
     ∙ h
 
 abbrev Arm : Type 0
@@ -92,7 +90,7 @@ module _ (marker : Option Marker) (arms : List Arm) (other : List Statement) (i 
   rest = arms_interval marker (drop (i + 1) arms) other
 
   here : joined so_far (capped (chosen (decided marker arm.0) (row_interval marker arm.1) rest)) ≡ capped (arms_interval marker arms other)
-  here = ap (λ xs. joined so_far (capped (arms_interval marker xs other))) (sym (item_first arms i arm lt e)) ∙ h
+  here = ap (λ xs. joined so_far (capped (arms_interval marker xs other))) (sym (drop_at arms i arm lt e)) ∙ h
 
   pub arm_skipped : decided marker arm.0 ≡ Some false → joined so_far (capped rest) ≡ capped (arms_interval marker arms other)
   arm_skipped d = ap (λ d. joined so_far (capped (chosen d (row_interval marker arm.1) rest))) (sym d) ∙ here

@@ -1,34 +1,17 @@
 -- Classes by counts are those by numbers.
-use Rattle.std.specs.Prelude.{◌≡◌, ◌==◌, ◌&&◌, ◌||◌, not, nat_le, ℕ, ℤ, zero, suc, Bool, true, false, if◌then◌else◌, List, [], ◌∷◌, length, Option, None, Some, slice_get}
+use Rattle.std.specs.Prelude.{◌≡◌, ◌==◌, ◌&&◌, ◌||◌, not, nat_le, ℕ, ℤ, zero, suc, Bool, true, false, if◌then◌else◌, List, [], ◌∷◌, length, Option, None, Some}
 use Rattle.std.proofs.Common.{refl, sym, ap, ◌∙◌, arith}
 use Rattle.std.proofs.lemmas.Bool.Decides.{nat_tests}
 use Rattle.spl_tree.specs.declared.body.Statement.{Statement}
 use Rattle.spl_tree.specs.declared.code.Marker.{Marker}
 use Rattle.spl_tree.specs.declared.code.Marker.TheVariants as M
 use Rattle.language_model.specs.declared.checked.Handlers.{Handlers}
-use Rattle.language_model.specs.declared.checked.Part.{Part}
 use Rattle.language_model.specs.declared.checked.WindowRule.TheVariants as W
-use Rattle.language_model.specs.CheckedGraph.{CheckedGraph}
 use Rattle.stream_model.specs.declared.plan.Gives.{Gives}
 use Rattle.stream_model.specs.declared.plan.Gives.TheVariants as G
-use Rattle.stream_model.specs.CheckedMeaning.{graph_of}
 use Rattle.stream_model.specs.Customs.{handler}
-use Rattle.stream_model.specs.Meaning.{Graph}
-use Rattle.stream_model.specs.Operators.{Operator}
 use Rattle.stream_model.specs.Selectivity.{Interval, custom_gives, has_at_most, has_exactly, is_at_most, is_number, is_single, row_interval, window_gives}
-use Rattle.stream_model.proofs.CheckedOperators.{operator_from}
 use Rattle.selectivity_rules.specs.steps.Counts.{body_submits, cap, cap_most, capped, class_of, handlers_give, is_more, is_none, is_one, is_unit, is_zero, trigger_gives}
-
--- ---- operators
-
--- the clauses of an operator are those at its number
-pub clauses_are : (c : CheckedGraph) (g : Graph) (n : ℕ) (o : Operator) (part : Part) → graph_of c ≡ g → slice_get g.ops n ≡ Some o → slice_get c.parts n ≡ Some part
-    → o.clauses ≡ part
-clauses_are c g n o part is at has =
-    let there = operator_from c 0 c.graph.ops c.parts n o (ap (λ (h : Graph). slice_get h.ops n) is ∙ at) in
-    let found : slice_get c.parts n ≡ Some there.part = there.has in
-    let same : there.part ≡ part = cc in
-    ap (λ (o : Operator). o.clauses) there.same ∙ same
 
 -- ---- numbers
 

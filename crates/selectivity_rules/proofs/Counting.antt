@@ -32,14 +32,15 @@ use Rattle.language_model.specs.Changes.{changed, change_of}
 use Rattle.language_model.specs.Evaluation.{Meaning, all_of, code_value, level_value, same_marker, truth, world_of}
 use Rattle.language_model.specs.Functions.{bodies_of}
 use Rattle.language_model.specs.Operators.{truth_of, level_truth}
-use Rattle.language_model.specs.Outcomes.{Outcome, Done, Faulted, Stuck, followed, need, settled, enter}
+use Rattle.language_model.specs.Outcomes.{Outcome, Done, Faulted, Stuck, followed, need, settled}
 use Rattle.language_model.specs.StatementLaws.{arms_act, block_is, declare_is, change_is, evaluate_is, call_is, if_is, while_is, for_is, break_is, continue_is, return_is, submit_is, submit_window_is}
 use Rattle.language_model.specs.Statements.{State, Acts, Bodies, Left, calls_by, value_in, truth_in, with_vars, declared, scoped, submitted, change_values, then_rest, then_again, turn_while, turns_while, turns_over, level_elements, level_tuple, return_acts, statement_acts, row_acts, left_by, body_leaves}
-use Rattle.language_model.proofs.Returning.{Only, only_followed}
+use Rattle.language_model.proofs.Returning.{Only, only_followed, only_enter, only_weaker}
 use Rattle.language_model.proofs.StatementInduction.{OfArm, StatementSteps, statement_ind}
 use Rattle.stream_model.specs.Selectivity.{Interval, any_times, both, chosen, decided, either, exactly, greatest_number, larger_of, least_number, level_decided, level_interval, of_arms, repeated, row_interval, sum_of}
 use Rattle.selectivity_rules.specs.SubmitLaws.{IntervalLaw, IsUpTo}
 use Rattle.selectivity_rules.specs.steps.Intervals.{statement_interval}
+use Rattle.spl_value.proofs.Bools.{or_last}
 
 -- ---- answers
 
@@ -51,15 +52,6 @@ only_then Q Stuck f k = tt
 only_need : {A B : Type 0} (Q : B → Type 0) (o : Option A) (f : A → Outcome B) → ((x : A) → Only Q (f x)) → Only Q (need o f)
 only_need Q None f k = tt
 only_need Q (Some x) f k = k x
-
-only_enter : {A : Type 0} (Q : A → Type 0) (turns : ℕ) (f : ℕ → Outcome A) → ((turns : ℕ) → Only Q (f turns)) → Only Q (enter turns f)
-only_enter Q zero f k = tt
-only_enter Q (suc turns) f k = k turns
-
-only_weaker : {A : Type 0} (P Q : A → Type 0) (o : Outcome A) → ((x : A) → P x → Q x) → Only P o → Only Q o
-only_weaker P Q (Done x turns) k h = k x h
-only_weaker P Q (Faulted kind) k h = tt
-only_weaker P Q Stuck k h = tt
 
 -- ---- numbers
 
@@ -96,10 +88,6 @@ within_again : (m : Option ℕ) (a b c : ℕ) → IsWithin m a b → IsWithin (a
 within_again None a b c h k = tt
 within_again (Some zero) a b c h k = omega arith
 within_again (Some (suc m)) a b c h k = tt
-
-or_right : (a b : Bool) → b ≡ true → (a || b) ≡ true
-or_right true b h = refl
-or_right false b h = h
 
 -- ---- where a statement leads
 
@@ -152,7 +140,7 @@ module _ (marker : Option Marker) where
         grows = let a = h.grows in let b = k.grows in omega arith;
         least = λ next. (let second = k.least next in omega arith);
         most = within_sum i.most j.most n (length s.submits) (length w.1.submits) h.most k.most;
-        returned = λ r. or_right i.returns j.returns (k.returned r);
+        returned = λ r. or_last i.returns j.returns (k.returned r);
       }
 
   first_of_two : (i j : Interval) (n : ℕ) (w : Flow × State) → Adds marker i n w → Adds marker (either i j) n w
@@ -170,7 +158,7 @@ module _ (marker : Option Marker) where
     grows = h.grows;
     least = λ next. (let a = h.least next in omega arith);
     most = within_second i.most j.most n (length w.1.submits) h.most;
-    returned = λ r. or_right i.returns j.returns (h.returned r);
+    returned = λ r. or_last i.returns j.returns (h.returned r);
   }
 
   -- a turn, from any way on to another that returns nothing new

@@ -24,6 +24,7 @@ use Rattle.stream_model.specs.Bodies.{on_first}
 use Rattle.stream_model.specs.Aggregates.{contents_give, group_tuple, marker_after, slides, tuples_of}
 use Rattle.stream_model.specs.Regions.{IsCount}
 use Rattle.stream_model.specs.Selectivity.{window_gives}
+use Rattle.stream_model.proofs.Flushes.{pushed}
 
 -- ---- groups: without places there is one, where there are tuples
 
@@ -86,10 +87,6 @@ module _ (functions : List Function) (output : List Collected) (rule : WindowRul
       subst (λ b. HasCount (λ n. n ≡ 1) (contents_give functions [] output rule (contents_of (if b then Triggers ts else Silent)))) (sym each) (some_gives ts some)
 
 -- ---- contents: they have the tuple that came
-
-pushed : {A : Type 0} (xs : List A) (t : A) → is_empty (xs ++ t ∷ []) ≡ false
-pushed [] t = refl
-pushed (x ∷ xs) t = refl
 
 pub last_some : (n : ℕ) (t : List Value) (ts : List (List Value)) → 1 ≤ n → is_empty (last_of n (t ∷ ts)) ≡ false
 last_some zero t ts le = absurd (omega arith)

@@ -2,7 +2,6 @@ pub mod Capping
 pub mod CountedClasses
 pub mod CountLoops
 pub mod IntervalForms
-pub mod StatementWeights
 pub mod CausedItems
 pub mod Counting
 pub mod GroupCounts

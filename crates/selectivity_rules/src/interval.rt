@@ -63,7 +63,7 @@ fn joined(so_far: Option<Submits>, other: Submits) -> Submits
 }
 
 #[cycle(submits)]
-#[tactic(auto, using(crate::proofs::IntervalForms::interval_laws, crate::proofs::Capping::capping_laws, crate::proofs::StatementWeights::weight_laws))]
+#[tactic(auto, using(crate::proofs::IntervalForms::interval_laws, crate::proofs::Capping::capping_laws, spl_tree::proofs::StatementWeights::weight_laws))]
 fn of_statement(marker: Option<Marker>, statement: &Statement) -> Submits
     ensures { result ≡ capped (statement_interval marker statement.now) }
 {

@@ -24,10 +24,10 @@ read_itself c = record { opening = refl; creating = refl; writing = refl }
 pub read_twice : (a b c : Counts) → OnlyRead a b → OnlyRead b c → OnlyRead a c
 read_twice a b c f g = record { opening = g.opening ∙ f.opening; creating = g.creating ∙ f.creating; writing = g.writing ∙ f.writing }
 
-read_same : (old mid new : Counts) → OnlyRead old mid → new ≡ mid → OnlyRead old new
+pub read_same : (old mid new : Counts) → OnlyRead old mid → new ≡ mid → OnlyRead old new
 read_same old mid new h e = subst (OnlyRead old) (sym e) h
 
-other_name : (name n : List ℕ) → is_named (name ∷ []) n ≡ false → n ≢ name
+pub other_name : (name n : List ℕ) → is_named (name ∷ []) n ≡ false → n ≢ name
 other_name name n h e =
     let same : bytes_eq name n ≡ true = (bytes_eq-Decides name n).1 (sym e) in
     let bad : true ≡ false = sym (ap (λ (b : Bool). b || false) same) ∙ h in
@@ -58,7 +58,7 @@ files_cut parts i part within at =
     ∙ filter_map-append source_file (take i parts) (part ∷ drop (i + 1) parts)
     ∙ ap (λ (rest : List (List ℕ)). source_files (take i parts) ++ rest) (filter_map-append source_file (part ∷ []) (drop (i + 1) parts))
 
-parts_free : (a b : List (List ℕ)) (n : List ℕ) → is_named (a ++ b) n ≡ false → (is_named a n ≡ false) × (is_named b n ≡ false)
+pub parts_free : (a b : List (List ℕ)) (n : List ℕ) → is_named (a ++ b) n ≡ false → (is_named a n ≡ false) × (is_named b n ≡ false)
 parts_free a b n free = or_parts (is_named a n) (is_named b n) (sym (list_any-append (λ (m : List ℕ). bytes_eq m n) a b) ∙ free)
 
 pub only_on : (parts : List Part) (i : ℕ) (part : Part) (old mid new : PerName) → i < length parts → part ≡ get_or parts i part

@@ -29,8 +29,8 @@ use Rattle.stream_model.specs.Rows.{rows}
 use Rattle.row_reader.specs.Reading.{is_read_fault, setting}
 use Rattle.source_rows.specs.Sources.{AreRows, ReadsFail, is_failed, rows_by, rows_told}
 use Rattle.source_rows.specs.steps.Steps.{AreClosed, RowsOf, SourceRows}
-use Rattle.source_rows.proofs.Reading.{read_fails}
-use Rattle.spl_value.proofs.Lists.{same_or_not}
+use Rattle.source_rows.proofs.Reading.{read_fails, counted_grows}
+use Rattle.spl_value.proofs.Lists.{same_or_not, get_below, get_within}
 
 -- ---- what a checked graph keeps of a source
 
@@ -136,11 +136,6 @@ abbrev pub RowsBefore : CheckedGraph → ℕ → List (List Item) → Option Tol
 RowsBefore c i rows told counts now = (k : ℕ) (op : Op) (part : Part) → k < i → slice_get c.graph.ops k ≡ Some op → slice_get c.parts k ≡ Some part
     → RowsOf part (operator_with c k op part) (get_or rows k []) told counts now
 
--- counts of reading don't fall
-pub reading_grows : (failed : Bool) (before now : ℕ) → Counted failed before now → before ≤ now
-reading_grows true before now h = h.0
-reading_grows false before now h = omega (arith, h)
-
 rose_on : (before mid now : ℕ) → Rose before mid → mid ≤ now → Rose before now
 rose_on before mid now rose grows = omega (arith, rose, grows)
 
@@ -226,16 +221,6 @@ none_there [] n h = refl
 none_there (x ∷ xs) zero h = absurd (omega (arith, h))
 none_there (x ∷ xs) (suc n) h = none_there xs n (omega (arith, h))
 
-some_there : {X : Type 0} (xs : List X) (n : ℕ) → n < length xs → (x : X) × (slice_get xs n ≡ Some x)
-some_there [] n h = absurd (omega (arith, h))
-some_there (x ∷ xs) zero h = (x, refl)
-some_there (x ∷ xs) (suc n) h = some_there xs n (omega (arith, h))
-
-pub within_of : {X : Type 0} (xs : List X) (n : ℕ) (x : X) → slice_get xs n ≡ Some x → n < length xs
-within_of [] n x e = absurd (let bad : None ≡ Some x = e in cc)
-within_of (y ∷ xs) zero x e = omega arith
-within_of (y ∷ xs) (suc n) x e = let h = within_of xs n x e in omega (arith, h)
-
 -- the rows of an operator of the graph
 rows_at_operator : (c : CheckedGraph) (rows : List (List Item)) (told : Option Told) (counts now : PerName) (i : ℕ) → length c.parts ≤ i → RowsBefore c i rows told counts now → (n : ℕ) (o : Operator)
     → slice_get (graph_of c).ops n ≡ Some o → RowsOf o.clauses o (rows_at rows n) told counts now
@@ -243,7 +228,7 @@ rows_at_operator c rows told counts now i all before n o at =
     let found = operator_from c 0 c.graph.ops c.parts n o at in
     let number : 0 + n ≡ n = omega arith in
     let same : o ≡ operator_with c n found.op found.part = found.same ∙ ap (λ (k : ℕ). operator_with c k found.op found.part) number in
-    let small = within_of c.parts n found.part found.has in
+    let small = get_within c.parts n found.part found.has in
     subst (λ (x : Operator). RowsOf x.clauses x (rows_at rows n) told counts now) (sym same)
     (subst (λ (xs : List Item). RowsOf found.part (operator_with c n found.op found.part) xs told counts now) (sym (at_place rows n)) (before n found.op found.part (omega (arith, all, small)) found.there found.has))
 
@@ -252,7 +237,7 @@ all_told : (c : CheckedGraph) (rows : List (List Item)) (told : Option Told) (co
 all_told c rows None counts now size each = tt
 all_told c rows (Some t) counts now size each = λ n. elim (cases_lt n (length (graph_of c).ops)) [
   | inl less ↦
-      let o = some_there (graph_of c).ops n less in
+      let o = get_below (graph_of c).ops n less in
       told_by o.0.clauses o.0 (rows_at rows n) t counts now (each n o.0 o.1) ∙ ap (λ (x : Option Operator). option_map_or (λ (op : Operator). rows_by t op.clauses op) x []) (sym o.1)
   | inr more ↦
       ap (λ (x : Option (List Item)). unwrap_or x []) (none_there rows n (omega (arith, size, more)))

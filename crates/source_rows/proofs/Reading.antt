@@ -49,7 +49,7 @@ read_fails o s items is some = go s.ending (ap (list_any is_read_fault) (sym is)
 
 -- ---- counts
 
-counts_same : (a b : Counts) → a.opening ≡ b.opening → a.creating ≡ b.creating → a.reading ≡ b.reading → a.writing ≡ b.writing → a ≡ b
+pub counts_same : (a b : Counts) → a.opening ≡ b.opening → a.creating ≡ b.creating → a.reading ≡ b.reading → a.writing ≡ b.writing → a ≡ b
 counts_same a b o c r w = λ i. record { opening = o i; creating = c i; reading = r i; writing = w i }
 
 -- no count changed where a file was opened, or where it was given back without a fault
@@ -102,7 +102,7 @@ opened_grows failed old new name h n = elim (same_or_not n name) as (λ _. (old 
   | inr differs ↦ let is = ap (λ (c : Counts). c.reading) (h.others n differs) in omega (arith, is)
 ]
 
-counted_grows : (failed : Bool) (before now : ℕ) → Counted failed before now → before ≤ now
+pub counted_grows : (failed : Bool) (before now : ℕ) → Counted failed before now → before ≤ now
 counted_grows true before now h = h.0
 counted_grows false before now h = omega (arith, h)
 

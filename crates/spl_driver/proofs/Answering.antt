@@ -30,7 +30,7 @@ use Rattle.spl_driver.specs.RequestLaws.{OneOutcomeLaw}
 use Rattle.spl_driver.specs.declared.ended.Ended.{Ended}
 use Rattle.command_line.specs.declared.request.RunOptions.{RunOptions}
 use Rattle.command_line.specs.Request.{file_names}
-use Rattle.spl_driver.proofs.ReplayLaw.{run_at}
+use Rattle.spl_driver.proofs.ReplayLaw.{run_at, run_ended_by}
 use Rattle.spl_driver.proofs.Requests.{IsUnreadable, unread_by}
 use Rattle.spl_driver.proofs.Showing.{with_cause}
 use Rattle.spl_driver.proofs.Running.{begun_same}
@@ -237,14 +237,10 @@ needed_said (Some (R.Replay p file)) ended r status t Text e h = λ fault. needs
 needed_said (Some (R.Simulate p width schedule steps)) ended r status t Text e h = tt
 needed_said (Some (R.Make name rows start)) ended r status t Text e h = tt
 
-run_ended : (c : Cause) → IsRun c → is_ended_run c ≡ true
-run_ended c (None, is) = ap is_ended_run is
-run_ended c (Some fault, is) = ap is_ended_run is
-
 ended_before : (c r : Cause) (Text : Type 0) → ToldAs c r Text → is_ended_run r ≡ true → is_ended_run c ≡ true
 ended_before c r Text (inl e) h = ap is_ended_run (sym e) ∙ h
 ended_before c r Text (inr (inl e)) h = absurd (let bad : false ≡ true = sym (ap is_ended_run e) ∙ h in cc)
-ended_before c r Text (inr (inr (e, run, text))) h = run_ended c run
+ended_before c r Text (inr (inr (e, run, text))) h = run_ended_by c run
 
 followed_said : (request : Option Request) (Is : RequestOutcome → Type 0) (ended : Ended) (r : Cause) (status : ℕ) (t : Told) (Text : Type 0) → ToldAs ended.cause r Text → FollowsRecord request Is ended t
     → FollowsRecord request Is (with_cause ended r status) t

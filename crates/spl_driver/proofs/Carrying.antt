@@ -92,8 +92,6 @@ pub plan_told : (c : CheckedGraph) (plan : List Region) (text : Result (List ℕ
 plan_told c plan (Ok text) is e = (plan, is (graph_of c) refl, e)
 plan_told c plan (Err x) is e = tt
 
--- ---- a run
-
 -- ---- one file more, which is opened first and read as a whole
 
 abbrev pub with_file : List ℕ → List (List ℕ) → (List ℕ → ℕ) → FilesOf → FilesOf
@@ -203,7 +201,7 @@ run_files_of p options c =
     let made = creates_are p options c options.arrivals refl in
     λ i. record { opened = p ∷ source_files c.parts; whole = p ∷ []; most = λ n. 1048576; rows = source_files c.parts; created = made i }
 
-none_named : (p n : List ℕ) → is_named [] n ≡ true → is_named (p ∷ []) n ≡ true
+pub none_named : (p n : List ℕ) → is_named [] n ≡ true → is_named (p ∷ []) n ≡ true
 none_named p n e = absurd (let bad : false ≡ true = e in cc)
 
 pub ran_files : (told now : Option Told) (request : Request) (p : List ℕ) (options : RunOptions) (c : CheckedGraph) (ended : Ended) (counts later : PerName) → request ≡ R.Run p options

@@ -17,11 +17,10 @@ use Rattle.spl_driver.specs.Answer.{NoCountChanged, WholeFails}
 use Rattle.spl_driver.specs.Steps.{FirstOpening, FirstReading}
 use Rattle.spl_value.proofs.Bools.{and_left, and_right}
 use Rattle.spl_value.proofs.Lists.{same_or_not}
+use Rattle.source_rows.proofs.Reading.{counts_same}
+use Rattle.source_rows.proofs.Counting.{read_same}
 
 -- ---- counts
-
-counts_same : (a b : Counts) → a.opening ≡ b.opening → a.creating ≡ b.creating → a.reading ≡ b.reading → a.writing ≡ b.writing → a ≡ b
-counts_same a b o c r w = λ i. record { opening = o i; creating = c i; reading = r i; writing = w i }
 
 everywhere : (old new : PerName) (name : List ℕ) → OthersStay old new name → new name ≡ old name → NoCountChanged old new
 everywhere old new name others here n = elim (same_or_not n name) as (λ _. new n ≡ old n) [
@@ -49,12 +48,6 @@ not_one name n differs = elim (bytes_eq name n) as (λ b. (b ≡ true → name �
 pub own_name : (name : List ℕ) → is_named (name ∷ []) name ≡ true
 own_name name = ap (λ (b : Bool). b || false) ((bytes_eq-Decides name name).1 refl)
 
-pub other_name : (name n : List ℕ) → is_named (name ∷ []) n ≡ false → n ≢ name
-other_name name n h e =
-    let same : bytes_eq name n ≡ true = (bytes_eq-Decides name n).1 (sym e) in
-    let bad : true ≡ false = sym (ap (λ (b : Bool). b || false) same) ∙ h in
-    cc
-
 -- a fetch of a file that couldn't be opened, and of one that couldn't be read
 pub first_opening : (r : Fetched) (old new : PerName) (name : List ℕ) → open_failed r ≡ true → FetchCounted r old new name → FirstOpening name old new
 first_opening F.OpenFailed old new name is h = record { rose = h.opening.1; reading = h.reading; others = h.others }
@@ -74,9 +67,6 @@ first_reading F.Memory old new name is h = cc
 
 pub read_itself : (c : Counts) → OnlyRead c c
 read_itself c = record { opening = refl; creating = refl; writing = refl }
-
-pub read_same : (old mid new : Counts) → OnlyRead old mid → new ≡ mid → OnlyRead old new
-read_same old mid new h e = subst (OnlyRead old) (sym e) h
 
 pub quiet_only : (files : List (List ℕ)) (old new : PerName) → NoCountChanged old new → OnlyReads files old new
 quiet_only files old new quiet = record { others = λ n out. quiet n; reads = λ n. read_same (old n) (old n) (new n) (read_itself (old n)) (quiet n) }
@@ -165,5 +155,5 @@ pub told_again : (old : Option Told) → WhereTold old old TellsSame
 told_again None = tt
 told_again (Some x) = record { holds = λ n. refl; script = λ n. refl }
 
-same_told : (x y : Told) → TellsSame x y → y ≡ x
+pub same_told : (x y : Told) → TellsSame x y → y ≡ x
 same_told x y same = λ i. record { holds = λ n. same.holds n i; script = λ n. same.script n i }

@@ -1,6 +1,6 @@
 mod FewTokens
 mod SomeFlat
-mod OneAccepted
+pub mod OneAccepted
 mod SomeAccepted
 mod Stages
 pub mod Records

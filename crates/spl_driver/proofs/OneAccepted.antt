@@ -77,7 +77,7 @@ one_accepted answers flats bytes names x y h k = one_come answers flats names (t
 -- ---- what is kept
 
 -- what is found of a graph, where that is a checked graph
-found_is : (found : Result CheckedGraph CheckRefusal) (c : CheckedGraph) → refused_check found ≡ Ok c → found ≡ Ok c
+pub found_is : (found : Result CheckedGraph CheckRefusal) (c : CheckedGraph) → refused_check found ≡ Ok c → found ≡ Ok c
 found_is (Ok d) c is = let same : d ≡ c = cc in ap (λ (x : CheckedGraph). Ok x) same
 found_is (Err refusal) c is = absurd cc
 

@@ -32,7 +32,8 @@ use Rattle.spl_driver.specs.Steps.{EndsBehind, FilesShow, FollowsOrder, IsRunAs,
 use Rattle.spl_driver.specs.declared.ended.Ended.{Ended}
 use Rattle.spl_driver.proofs.Replaying.{one_under}
 use Rattle.spl_driver.proofs.Running.{AreCreated, FileAt, at_cause, begun_empty, file_at, sunk_each, sunk_files, sunken_of, wrote}
-use Rattle.spl_driver.proofs.Standing.{devices_map, means_map, same_told, text_map}
+use Rattle.spl_driver.proofs.Standing.{devices_map, means_map, text_map}
+use Rattle.spl_driver.proofs.Fetching.{same_told}
 
 -- ---- what the files hold
 

@@ -7,8 +7,7 @@ use Rattle.spl_tree.specs.declared.token.LexicalError.TheVariants.{TooLong}
 use Rattle.feed_pour.specs.Contents.{Told}
 use Rattle.feed_pour.specs.Named.{FetchedOf}
 use Rattle.feed_pour.specs.declared.named.Fetched.TheVariants as F
-use Rattle.language_model.specs.declared.scope.CheckRefusal.{CheckRefusal}
-use Rattle.language_model.specs.Accepted.{ProgramRefusal, Lexical, IsAccepted, refused_check, no_tokens, too_deep, unexpected, no_graph, checks}
+use Rattle.language_model.specs.Accepted.{ProgramRefusal, Lexical, IsAccepted, no_tokens, too_deep, unexpected, no_graph, checks}
 use Rattle.language_model.specs.CheckedGraph.{CheckedGraph}
 use Rattle.language_model.specs.Checking.{checked}
 use Rattle.run_report.specs.declared.refusal.Refusal.{Refusal}
@@ -22,6 +21,7 @@ use Rattle.spl_driver.specs.declared.compile_answer.CompileAnswer.TheVariants as
 use Rattle.spl_driver.specs.Steps.{CompiledAt}
 use Rattle.spl_driver.specs.declared.compiled.Compiled.TheVariants as P
 use Rattle.spl_driver.proofs.Fetching.{no_fault, long_fault}
+use Rattle.spl_driver.proofs.OneAccepted.{found_is}
 
 pub compiled_long : (told : Option Told) (program : List ℕ) (names : List (List ℕ)) (refusal : Refusal) → TooLongLaw
     → IfSome told (λ t. FetchedOf (t.script program) F.TooLong 1048576) → refusal ≡ refusal_of (Lexical TooLong 1048576)
@@ -67,17 +67,13 @@ refused_whole None program bytes names refusal h is = tt
 refused_whole (Some t) program bytes names refusal h (p, is, same) =
     (no_fault 1048576 (t.script program) bytes h, (p, subst (λ (bs : List ℕ). IsAccepted bs names (Err p)) (bytes_read (t.script program) bytes h) is, same))
 
-was_checked : (r : Result CheckedGraph CheckRefusal) (c : CheckedGraph) → refused_check r ≡ Ok c → r ≡ Ok c
-was_checked (Ok x) c e = let is : Ok x ≡ Ok c = e in cc
-was_checked (Err refusal) c e = cc
-
 files_by : (bytes : List ℕ) (names : List (List ℕ)) (r : Result CheckedGraph ProgramRefusal) (c : CheckedGraph) → OwnFilesLaw → IsAccepted bytes names r
     → r ≡ Ok c → OwnFiles names c.parts
 files_by bytes names _ c law (no_tokens error at is) e = cc
 files_by bytes names _ c law (too_deep ts at is deep) e = cc
 files_by bytes names _ c law (unexpected ts at is found) e = cc
 files_by bytes names _ c law (no_graph ts unit refusal is spells flat) e = cc
-files_by bytes names _ c law (checks ts unit g is spells flat) e = law unit names g c flat (was_checked (checked unit g) c e)
+files_by bytes names _ c law (checks ts unit g is spells flat) e = law unit names g c flat (found_is (checked unit g) c e)
 
 -- the sinks of a compiled program have files of their own
 pub own_files : (bytes : List ℕ) (names : List (List ℕ)) (c : CheckedGraph) → OwnFilesLaw → IsCompiled bytes names (Ok c) → OwnFiles names c.parts

@@ -285,7 +285,7 @@ replay_reports u other request r program file report x (replays p f y _ found is
     replayed (misspelt quiet none) same = let bad : BadArrivals y None ≡ Reports report x = same in cc
     replayed (spelled a s quiet spells is_under) same = under a s is_under same
 
-run_ended_by : (k : Cause) → IsRun k → is_ended_run k ≡ true
+pub run_ended_by : (k : Cause) → IsRun k → is_ended_run k ≡ true
 run_ended_by k (None, e) = ap is_ended_run e
 run_ended_by k (Some f, e) = ap is_ended_run e
 

@@ -1,7 +1,7 @@
 -- What a run under a record comes to, and what the file of one does.
 use Rattle.std.proofs.Common.{◌≡◌, ◌<◌, ◌∙◌, zero, suc, arith, ℕ, Bool, true, false, List, [], ◌∷◌, ◌++◌, length, refl, sym, ap, subst, inl, inr, ◌⊎◌, slice_get, Option, Some, None, append-nil, append_assoc}
 use Rattle.std.specs.List.{Contains}
-use Rattle.std.proofs.lemmas.List.Elements.{Contains-append_cases, Contains-append_right}
+use Rattle.std.proofs.lemmas.List.Elements.{Contains-append_cases}
 use Rattle.std.proofs.lemmas.Option.{slice_get_within}
 use Rattle.feed_pour.specs.Contents.{Told}
 use Rattle.language_model.specs.CheckedGraph.{CheckedGraph}
@@ -16,14 +16,9 @@ use Rattle.list_engine.specs.RunOrders.{IsFirstNotWhole}
 use Rattle.list_engine.specs.Runs.{AreWhole, is_whole_at}
 use Rattle.arrival_format.specs.FormatLaws.{OneRecordLaw}
 use Rattle.spl_driver.specs.Outcome.{RequestOutcome, BadArrivals, Unreadable, Runs, IsReplay, IsUnder, unread, misspelt, spelled, partial, whole, has_record_fault, meant, run_outcome}
+use Rattle.spl_value.proofs.Lists.{contains_here, contains_later}
 
 -- ---- the first of some numbers
-
-contains_here : (n : ℕ) (ns : List ℕ) → Contains (n ∷ ns) n
-contains_here n ns = (0, omega arith, refl)
-
-contains_behind : (m n : ℕ) (ns : List ℕ) → Contains ns n → Contains (m ∷ ns) n
-contains_behind m n ns h = Contains-append_right (m ∷ []) ns n h
 
 -- where a list is cut at two numbers, they are one, or one stands before the other
 cuts : (a b c d : List ℕ) (n k : ℕ) → a ++ n ∷ b ≡ c ++ k ∷ d → (n ≡ k) ⊎ (Contains a k ⊎ Contains c n)
@@ -34,8 +29,8 @@ cuts (x ∷ a) b (y ∷ c) d n k e = wider (cuts a b c d n k (let rest : a ++ n 
   where
     wider : (n ≡ k) ⊎ (Contains a k ⊎ Contains c n) → (n ≡ k) ⊎ (Contains (x ∷ a) k ⊎ Contains (y ∷ c) n)
     wider (inl same) = inl same
-    wider (inr (inl h)) = inr (inl (contains_behind x k a h))
-    wider (inr (inr h)) = inr (inr (contains_behind y n c h))
+    wider (inr (inl h)) = inr (inl (contains_later x k a h))
+    wider (inr (inr h)) = inr (inr (contains_later y n c h))
 
 true_not_false : (b : Bool) → b ≡ true → b ≡ false → ⊥
 true_not_false true e d = cc

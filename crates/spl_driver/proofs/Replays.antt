@@ -29,12 +29,13 @@ use Rattle.spl_driver.specs.Steps.{CountsShow, FilesShow, FirstOpening, FirstRea
 use Rattle.spl_driver.specs.declared.answer.Answer.{Answer}
 use Rattle.spl_driver.specs.declared.ended.Ended.{Ended}
 use Rattle.spl_driver.specs.declared.record.RecordRead.TheVariants as D
-use Rattle.spl_driver.proofs.Carrying.{counts_wider, files_wider}
-use Rattle.spl_driver.proofs.Fetching.{failed_within, long_fault, no_fault, own_name, quiet_only, read_itself, read_same}
-use Rattle.spl_driver.proofs.Running.{begun_same, ends_at, or_text, same_files}
+use Rattle.spl_driver.proofs.Carrying.{counts_wider, files_wider, none_named}
+use Rattle.spl_driver.proofs.Fetching.{failed_within, long_fault, no_fault, own_name, quiet_only, read_itself, same_told}
+use Rattle.spl_driver.proofs.Running.{begun_same, ends_at, or_text, same_files, open_not_run}
 use Rattle.spl_driver.proofs.Showing.{bad_ran, or_ran}
-use Rattle.spl_driver.proofs.Standing.{devices_map, means_map, same_counts, same_told, text_map}
+use Rattle.spl_driver.proofs.Standing.{devices_map, means_map, same_counts, text_map}
 use Rattle.spl_value.proofs.Lists.{same_name, same_or_not}
+use Rattle.source_rows.proofs.Counting.{read_same}
 
 -- ---- the file of a record
 
@@ -128,10 +129,6 @@ named_needs (Some t) file cause h = λ fault. h
 quiet_needs : (told : Option Told) (file : List ℕ) (cause : Cause) → IfSome told (λ t. has_record_fault (t.script file) ≡ false) → IfSome told (λ t. has_record_fault (t.script file) ≡ true → IsUnread (file ∷ []) cause)
 quiet_needs None file cause h = tt
 quiet_needs (Some t) file cause h = λ fault. absurd (let bad : true ≡ false = sym fault ∙ h in cc)
-
-open_not_run : (name : List ℕ) → IsRun (C.OpenFailed name) → ⊥
-open_not_run name (None, is) = cc
-open_not_run name (Some fault, is) = cc
 
 read_not_run : (name : List ℕ) → IsRun (C.ReadFailed name) → ⊥
 read_not_run name (None, is) = cc
@@ -279,9 +276,6 @@ replay_follows None file c order ended at h = tt
 replay_follows (Some t) file c O.InTurn ended at h = absurd at
 replay_follows (Some t) file c (O.Recorded given) ended at h = λ run. subst (Spells c (t.script file).bytes) (sym (h run)) at.1
 
-unnamed : (file n : List ℕ) → is_named [] n ≡ true → is_named (file ∷ []) n ≡ true
-unnamed file n e = absurd (let bad : false ≡ true = e in cc)
-
 least : (file n : List ℕ) → 0 ≤ (if bytes_eq file n then 2 ^ 32 else 1048576)
 least file n = omega arith
 
@@ -297,9 +291,9 @@ record RunKnown (c : CheckedGraph) (order : Order) (answer : Answer) (told now :
 replay_known : OneRecordLaw → (told now : Option Told) (file : List ℕ) (c : CheckedGraph) (order : Order) (answer : Answer) (counts later : PerName) (before after : ℕ) → Keeps c → IfSome told (λ t. RecordAt (D.Order order) (t.script file) c)
     → (before < 2 ^ 64 - 257 → after ≡ before) → RunKnown c order answer told now counts later → Replays file c answer told now counts later before after
 replay_known law told now file c order answer counts later before after keeps at given h = record {
-  files = files_wider file (file ∷ []) (λ n. if bytes_eq file n then 2 ^ 32 else 1048576) (run_files None c) (unnamed file) (least file) told now (λ t. IsReplay t c file) answer.ended counts later
+  files = files_wider file (file ∷ []) (λ n. if bytes_eq file n then 2 ^ 32 else 1048576) (run_files None c) (none_named file) (least file) told now (λ t. IsReplay t c file) answer.ended counts later
       (replay_files_by law told now file c order answer.ended counts later keeps at h.files);
-  counted = counts_wider file (file ∷ []) (λ n. if bytes_eq file n then 2 ^ 32 else 1048576) (run_files None c) (unnamed file) (least file) answer.ended.cause c.parts counts later h.counted;
+  counted = counts_wider file (file ∷ []) (λ n. if bytes_eq file n then 2 ^ 32 else 1048576) (run_files None c) (none_named file) (least file) answer.ended.cause c.parts counts later h.counted;
   text = replay_text told file c order answer.ended answer.text counts later at h.text;
   reason = h.reason;
   ran = h.ran;

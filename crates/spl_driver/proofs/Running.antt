@@ -46,12 +46,13 @@ use Rattle.spl_driver.specs.Shown.{NothingRan, Ran, RanTo}
 use Rattle.spl_driver.specs.Steps.{RanFor, RanGraph, ReasonOf, ran, IsRunAs, RunComesAs, CountsShow, FilesShow, EndsAs, EndsBehind, EndsRun, RecordOf, RecordedBy, TellsBehind, TellsRun, IsNamedBy, created_by, last_of, run_files, sinks_of, sinks_from, counts_from}
 use Rattle.spl_driver.specs.declared.answer.Answer.{Answer}
 use Rattle.spl_driver.specs.declared.ended.Ended.{Ended}
-use Rattle.spl_driver.proofs.Fetching.{read_same}
 use Rattle.spl_driver.proofs.Showing.{or_ran}
 use Rattle.spl_driver.proofs.SinkLemmas.{empty_prefixes, texts, prefixes, wrote_others, same_prefixes, counts_are, files_from, distinct, names_are, own_file}
-use Rattle.spl_driver.proofs.Standing.{BegunSame, record_kept, same_told}
+use Rattle.spl_driver.proofs.Standing.{BegunSame, record_kept}
 use Rattle.spl_value.proofs.Bools.{or_first}
 use Rattle.spl_value.proofs.Lists.{append_cases, same_name}
+use Rattle.source_rows.proofs.Counting.{read_same, parts_free}
+use Rattle.spl_driver.proofs.Fetching.{same_told}
 
 -- files that stay hold prefixes of any text
 pub begun_same : BegunSame
@@ -264,9 +265,6 @@ names_at [] place name e = cc
 names_at (m ∷ names) zero name e = let is : Some m ≡ Some name = e in let same : m ≡ name = cc in ap (λ (n : List ℕ). n ∷ names) same
 names_at (m ∷ names) (suc place) name e = ap (λ (ns : List (List ℕ)). m ∷ ns) (names_at names place name e)
 
-right_free : (a b : List (List ℕ)) (n : List ℕ) → is_named (a ++ b) n ≡ false → (is_named a n ≡ false) × (is_named b n ≡ false)
-right_free a b n free = or_parts (is_named a n) (is_named b n) (sym (list_any-append (λ (m : List ℕ). bytes_eq m n) a b) ∙ free)
-
 -- a sink's file is no source's
 named_free : (c : CheckedGraph) (names : List (List ℕ)) → OwnFiles names c.parts → (k : ℕ) (d : List ℕ) → k < length (sink_files c.parts) → is_named (source_files c.parts) (slice_index_or (sink_files c.parts) k d) ≡ false
 named_free c names own k d small =
@@ -299,7 +297,7 @@ creating_failed written c place old mid new name reads opening h = record {
   order = names_at (created_by written c) place name h.at;
   rose = subst (λ (k : ℕ). Rose k (new name).creating) (reads.reads name).creating h.rose;
   later = λ n free other.
-      let p = right_free (source_files c.parts) (take place (created_by written c)) n free in
+      let p = parts_free (source_files c.parts) (take place (created_by written c)) n free in
       h.later n p.1 other ∙ reads.others n p.0;
   others = λ n free other. read_same (old n) (mid n) (new n) (reads.reads n) (h.later n free other);
   creating = λ n other. h.creating n other ∙ (reads.reads n).creating;
@@ -651,7 +649,7 @@ pub or_text : (counted : Bool) (expected cause : Cause) (Is : RequestOutcome →
 or_text counted expected cause Is (Ok text) is other plain e = or_text_of counted expected cause Is text is other plain e
 or_text counted expected cause Is (Err x) is other plain e = tt
 
-open_not_run : (name : List ℕ) → IsRun (C.OpenFailed name) → ⊥
+pub open_not_run : (name : List ℕ) → IsRun (C.OpenFailed name) → ⊥
 open_not_run name (None, is) = cc
 open_not_run name (Some fault, is) = cc
 

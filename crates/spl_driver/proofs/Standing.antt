@@ -31,23 +31,17 @@ use Rattle.arrival_format.specs.ArrivalTexts.{Spells, arrivals_text}
 use Rattle.spl_driver.specs.Steps.{FirstOpening, FirstReading, MayBeOutcome, CompiledAt, FollowsFile, IsAcceptedOutcome, IsToldAcceptedOutcome, CountsShow, FilesShow, RecordFor, RecordOf}
 use Rattle.spl_driver.specs.declared.compiled.Compiled.TheVariants as P
 use Rattle.spl_driver.specs.declared.ended.Ended.{Ended}
-use Rattle.spl_driver.proofs.Fetching.{fails_more, other_name, own_name, quiet_only, read_itself, read_same, reads_whole}
+use Rattle.spl_driver.proofs.Fetching.{fails_more, own_name, quiet_only, read_itself, reads_whole, told_again, same_told}
 use Rattle.spl_driver.proofs.Replaying.{replay_graph}
 use Rattle.spl_driver.proofs.Requests.{IsFoundOutcome, back_found, outcome_found}
 use Rattle.spl_value.proofs.Bools.{or_false as or_none}
 use Rattle.spl_value.proofs.Lists.{same_name, same_or_not}
+use Rattle.source_rows.proofs.Counting.{other_name, read_same}
 
 -- ---- shelves that tell the same
 
-pub same_told : (t u : Told) → TellsSame t u → u ≡ t
-same_told t u same = λ i. record { holds = λ n. same.holds n i; script = λ n. same.script n i }
-
 pub same_counts : (old mid : PerName) → NoCountChanged old mid → mid ≡ old
 same_counts old mid same = λ i n. same n i
-
-pub told_same : (told : Option Told) → WhereTold told told TellsSame
-told_same None = tt
-told_same (Some t) = record { holds = λ n. refl; script = λ n. refl }
 
 -- ---- files that stay
 
@@ -276,13 +270,13 @@ wanting_answer begun told now request ended counts later is same quiet =
 
 -- no request
 pub words_answer : (told : Option Told) (ended : Ended) (counts : PerName) → ended.cause ≡ C.BadWords → WhereTold told told (Answered None ended counts counts ⊥)
-words_answer told ended counts is = quiet_answer told told None C.BadWords ended counts counts is tt tt refl (λ p file e. cc) (told_same told) (λ n. refl) (λ t u e files. (no_request, files))
+words_answer told ended counts is = quiet_answer told told None C.BadWords ended counts counts is tt tt refl (λ p file e. cc) (told_again told) (λ n. refl) (λ t u e files. (no_request, files))
 
 -- a request that isn't built by its words
 pub not_built_answer : (told : Option Told) (request : Request) (ended : Ended) (counts : PerName) → is_built request ≡ false → ended.cause ≡ C.NotBuilt
     → WhereTold told told (Answered (Some request) ended counts counts ⊥)
 not_built_answer told request ended counts no_part is =
-    quiet_answer told told (Some request) C.NotBuilt ended counts counts is tt tt refl (λ p file e. absurd (unbuilt_record request no_part p file e)) (told_same told) (λ n. refl)
+    quiet_answer told told (Some request) C.NotBuilt ended counts counts is tt tt refl (λ p file e. absurd (unbuilt_record request no_part p file e)) (told_again told) (λ n. refl)
     (λ t u e files. (not_built request no_part, files))
 
 -- ---- answers by the program

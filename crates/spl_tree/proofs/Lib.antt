@@ -8,3 +8,4 @@ pub mod WordLaws
 pub mod TokenLaws
 pub mod UnitSpellings
 pub mod ExprWeights
+pub mod StatementWeights

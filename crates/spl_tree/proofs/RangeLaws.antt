@@ -29,7 +29,7 @@ use Rattle.spl_tree.proofs.CutLaws.{cut_law}
 use Rattle.spl_tree.specs.Grammar as G
 use Rattle.spl_tree.specs.Grammar.{Expr, placed, Literal, Primary, Elements, Items, Entries, Fields, Steps, Operand, Unary, At, Spells}
 use Rattle.spl_tree.specs.Ranges.{number_in_range, step_in_range, level_in_range, in_range}
-use Rattle.spl_value.proofs.Lists.{all_left, all_right}
+use Rattle.spl_value.proofs.Lists.{all_left, all_right, all_more}
 
 -- ---- tokens
 
@@ -83,10 +83,6 @@ cut_ranged (gap at text rest ts g c) = cut_ranged c
 cut_ranged (token at kind text rest ts t c) = (subst RangedIn t.is (kind_ranged text), cut_ranged c)
 
 -- ---- lists
-
-all_more : {A : Type 0} (P : A → Type 0) (xs : List A) (x : A) → AllByRecursion P xs → P x → AllByRecursion P (xs ++ x ∷ [])
-all_more P [] x h here = (here, tt)
-all_more P (y ∷ ys) x h here = (h.0, all_more P ys x h.1 here)
 
 -- where a test of what is made of each passes
 all_made : {A B : Type 0} (p : B → Bool) (f : A → B) (xs : List A) → AllByRecursion (λ x. IsTrue (p (f x))) xs → IsTrue (list_all p (map f xs))

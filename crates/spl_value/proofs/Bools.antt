@@ -1,5 +1,5 @@
 -- Conjunctions and disjunctions of truth values.
-use Rattle.std.proofs.Common.{ap, arith, refl, sym, ◌∙◌, ◌≡◌}
+use Rattle.std.proofs.Common.{ap, arith, refl, sym, ◌∙◌, ◌≡◌, not}
 use Rattle.std.specs.Prelude.{Bool, IsTrue, false, nat_lt, true, ℕ, ◌&&◌, ◌<◌, ◌||◌, ◌↔◌}
 
 pub and_left : (a b : Bool) → (a && b) ≡ true → a ≡ true
@@ -51,3 +51,16 @@ lt_true a b h = grind arith
 
 pub true_lt : (a b : ℕ) → nat_lt a b ≡ true → a < b
 true_lt a b h = grind arith
+
+pub and_parts : (a b : Bool) → (a && b) ≡ true → (a ≡ true) × (b ≡ true)
+and_parts true b q = (refl, q)
+and_parts false b q = absurd (let no : false ≡ true = q in cc)
+
+pub and_not_parts : (a b : Bool) → (a && not b) ≡ true → (a ≡ true) × (b ≡ false)
+and_not_parts true true q = absurd (let no : false ≡ true = q in cc)
+and_not_parts true false q = (refl, refl)
+and_not_parts false b q = absurd (let no : false ≡ true = q in cc)
+
+pub neither : (a b : Bool) → (a || b) ≡ false → (a ≡ false) × (b ≡ false)
+neither true b e = absurd cc
+neither false b e = (refl, e)

@@ -10,3 +10,5 @@ pub mod KeyLaws
 pub mod WrapLaws
 pub mod Powers
 pub mod HashSteps
+pub mod Widths
+pub mod Results

@@ -1,19 +1,20 @@
 -- What stands at the places of lists, of their fronts and of what is left of them.
-use Rattle.std.proofs.Common.{add-one, ap, arith, drop, drop-cons, false, get_or, inl, inr, refl, set, subst, sym, take, ◌-◌, ◌∙◌, ◌≢◌, ◌⊎◌}
+use Rattle.std.proofs.Common.{add-one, ap, arith, drop, drop-cons, false, get_or, inl, inr, refl, set, subst, sym, take, ◌-◌, ◌∙◌, ◌≢◌, ◌⊎◌, length-append}
 use Rattle.std.proofs.Math.Seq.{take-suc}
 use Rattle.std.proofs.lemmas.Bool.{eq-eqb}
 use Rattle.std.proofs.lemmas.List.{reverse-append}
-use Rattle.std.proofs.lemmas.List.Sums.{get_or-le-sum_by}
+use Rattle.std.proofs.lemmas.List.Sums.{get_or-le-sum_by, sum_by-cons}
 use Rattle.std.proofs.lemmas.Option.{get_or_from_slice_get, slice_get_past, slice_get_read, slice_get_within}
 use Rattle.std.proofs.lemmas.Slice.Eq.{bytes_eq-Decides}
 use Rattle.std.specs.Bool.{Decides}
 use Rattle.std.specs.Borrow.{Bor}
-use Rattle.std.specs.Cmp.Lexicographic.{pointwise}
-use Rattle.std.specs.List.{AllByRecursion, Contains, list_any}
+use Rattle.std.specs.Cmp.Lexicographic.{bytes_decides, pointwise}
+use Rattle.std.specs.List.{AllByRecursion, Contains, list_any, concat}
 use Rattle.std.specs.Option.{option_copied}
 use Rattle.std.specs.Prelude.{Bool, List, None, Option, Some, [], length, map, reverse, slice_get, slice_set, suc, sum_by, true, zero, ℕ, ◌&&◌, ◌++◌, ◌+◌, ◌<◌, ◌==◌, ◌||◌, ◌∷◌, ◌≡◌, ◌≤◌}
 use Rattle.std.specs.Slice.{IsItemAt}
 use Rattle.std.specs.Str.{bytes_eq}
+use Rattle.std.proofs.lemmas.List.Folds.{list_any-append}
 
 pub any_first : (i : ℕ) (before : List ℕ) → list_any (λ n. n == i) (i ∷ before) ≡ true
 any_first i before = ap (λ b. b || list_any (λ n. n == i) before) (eq-eqb i i refl)
@@ -169,3 +170,57 @@ pointwise-map R f (x ∷ xs) (y ∷ ys) = ap (λ b. R (f x) y && b) (pointwise-m
 pub push_some : {A : Type 0} (xs : List A) (x : A) → xs ++ x ∷ [] ≡ [] → ⊥
 push_some [] x e = cc
 push_some (y ∷ xs) x e = cc
+
+pub all_at : {X : Type 0} (P : X → Type 0) (xs : List X) (i : ℕ) (x : X) → AllByRecursion P xs → slice_get xs i ≡ Some x → P x
+all_at P [] i x all at = absurd cc
+all_at P (y ∷ xs) zero x all at = let same : y ≡ x = (let e : Some y ≡ Some x = at in cc) in subst P same all.0
+all_at P (y ∷ xs) (suc i) x all at = all_at P xs i x all.1 at
+
+pub all_more : {A : Type 0} (P : A → Type 0) (xs : List A) (x : A) → AllByRecursion P xs → P x → AllByRecursion P (xs ++ x ∷ [])
+all_more P [] x h here = (here, tt)
+all_more P (y ∷ ys) x h here = (h.0, all_more P ys x h.1 here)
+
+or_swap : (a b : Bool) → (a || (b || false)) ≡ (b || a)
+or_swap true true = refl
+or_swap true false = refl
+or_swap false true = refl
+or_swap false false = refl
+
+-- a test of a list and of the list reversed
+pub any_reverse : {A : Type 0} (p : A → Bool) (xs : List A) → list_any p (reverse xs) ≡ list_any p xs
+any_reverse p [] = refl
+any_reverse p (x ∷ xs) =
+    ap (list_any p) (reverse-append (x ∷ []) xs)
+    ∙ list_any-append p (reverse xs) (x ∷ [])
+    ∙ ap (λ b. b || (p x || false)) (any_reverse p xs)
+    ∙ or_swap (list_any p xs) (p x)
+
+pub count_concat : (ins : List (List ℕ)) → length (concat ins) ≡ sum_by length ins
+count_concat [] = refl
+count_concat (streams ∷ ins) =
+    let all = length-append streams (concat ins) in
+    let rest = count_concat ins in
+    let sum = sum_by-cons length streams ins in
+    omega (arith, all, rest, sum)
+
+pub drop_past : {A : Type 0} (xs : List A) (k : ℕ) → length xs ≤ k → drop k xs ≡ []
+drop_past [] zero le = refl
+drop_past [] (suc k) le = refl
+drop_past (x ∷ xs) zero le = absurd (omega (arith, le))
+drop_past (x ∷ xs) (suc k) le = drop_past xs k (omega (arith, le))
+
+pub item_there : {X : Type 0} (xs : List X) (i : ℕ) (x : X) → i < length xs → x ≡ get_or xs i x → slice_get xs i ≡ Some x
+item_there [] i x within e = absurd (omega (arith, within))
+item_there (y ∷ xs) zero x within e = ap Some (sym e)
+item_there (y ∷ xs) (suc i) x within e = item_there xs i x (omega (arith, within)) e
+
+pub map_length : {X Y : Type 0} (f : X → Y) (xs : List X) → length (map f xs) ≡ length xs
+map_length f [] = refl
+map_length f (x ∷ xs) = ap suc (map_length f xs)
+
+pub other_bytes : (m n : List ℕ) → bytes_eq m n ≡ false → bytes_eq n m ≡ false
+other_bytes m n is = by_test (bytes_eq n m) refl
+  where
+    by_test : (b : Bool) → bytes_eq n m ≡ b → bytes_eq n m ≡ false
+    by_test true same = let both : bytes_eq m n ≡ true = (bytes_decides m n).1 (sym ((bytes_decides n m).0 same)) in absurd cc
+    by_test false other = other

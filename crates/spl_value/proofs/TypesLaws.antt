@@ -115,3 +115,6 @@ type_eq-same = type_ind (SameFrom (Derived.ghosts).eq) same_steps
 
 pub type_eq : (t u : SplType) → IsTrue ((Derived.ghosts).eq t u) ↔ (t ≡ u)
 type_eq t u = (type_eq-same t u, λ e. ap ((Derived.ghosts).eq t) (sym e) ∙ (EqLaws.laws-law).refl t)
+
+pub rows_equal : (xs ys : List (Named SplType)) → S.Tuple xs ≡ S.Tuple ys → xs ≡ ys
+rows_equal xs ys e = let open_equal : T.Tuple xs ≡ T.Tuple ys = sym (S.outs-Tuple xs) ∙ ap out-SplType e ∙ S.outs-Tuple ys in cc

@@ -31,13 +31,13 @@ pub word-itself : (k : Keyword) (t : Token) → IsKeyword k t → is_word k t �
 word-itself k t e = rw e ((bytes_eq-Decides (keyword_word k) (keyword_word k)).1 refl)
 
 -- reserved words with one text are one
-same_word : (k x : Keyword) → bytes_eq (keyword_word k) (keyword_word x) ≡ true → k ≡ x
+pub same_word : (k x : Keyword) → bytes_eq (keyword_word k) (keyword_word x) ≡ true → k ≡ x
 same_word k x e =
     let same = ap keyword_of ((bytes_eq-Decides (keyword_word k) (keyword_word x)).0 e) in
     cc (same, keywords_law k, keywords_law x)
 
 -- a token that is tested for a reserved word is that word
-word_is : (k : Keyword) (t : Token) → is_word k t ≡ true → IsKeyword k t
+pub word_is : (k : Keyword) (t : Token) → is_word k t ≡ true → IsKeyword k t
 word_is k t e = by t.kind e
   where
     by : (x : TokenKind) → word_kind k x ≡ true → x ≡ T.Keyword k

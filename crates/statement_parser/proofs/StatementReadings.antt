@@ -1,5 +1,5 @@
 -- Rules behind one another, how many tokens rules leave, and what ends the arms of an `if`.
-use Rattle.std.proofs.Common.{◌≡◌, ◌∙◌, ℕ, zero, suc, ◌+◌, ◌<◌, ◌≤◌, Bool, true, false, if◌then◌else◌, List, [], ◌∷◌, length, None, Err, refl, sym, ap, subst, arith}
+use Rattle.std.proofs.Common.{◌≡◌, ◌∙◌, ℕ, zero, suc, ◌+◌, ◌<◌, ◌≤◌, Bool, true, false, if◌then◌else◌, List, [], ◌∷◌, length, None, Err, refl, sym, subst, arith}
 use Rattle.spl_tree.specs.StatementGrammar.{Stmt}
 use Rattle.spl_tree.specs.declared.keyword.Keyword.TheVariants as K
 use Rattle.spl_tree.specs.declared.statement.StmtKind.TheVariants as Z
@@ -81,7 +81,7 @@ part_fails r k ts S.Memory c = tt
 -- ---- lengths
 
 -- what a rule leaves isn't longer
-run_shrinks : {A : Type 0} (n : ℕ) (r : R A) (ts : List Token) → length (rest_of (run (read rule n) r ts)) ≤ length ts
+pub run_shrinks : {A : Type 0} (n : ℕ) (r : R A) (ts : List Token) → length (rest_of (run (read rule n) r ts)) ≤ length ts
 run_shrinks n (done x) ts = omega arith
 run_shrinks n stop ts = omega arith
 run_shrinks n (look p f d) [] = run_shrinks n d []
@@ -105,9 +105,6 @@ runs_shrinks {r = r} {ts = ts} h = subst (λ o. length (rest_of o) ≤ length ts
 
 pub reads_shrinks : {x : Line} {ts rest : List Token} {v : Value x} → Reads rule x ts (Took v rest) → length rest ≤ length ts
 reads_shrinks {x} {ts} h = subst (λ o. length (rest_of o) ≤ length ts) h.is (shrinks rule h.depth x ts)
-
-pub taken_shrinks : {p : Token → Bool} {ts rest : List Token} {t : Token} → Taken p ts t rest → length rest < length ts
-taken_shrinks h = let e = ap length h.here in omega arith
 
 -- fewer tokens are left where something is taken
 abbrev Less : {A : Type 0} → Answer A → ℕ → Type 0

@@ -1,5 +1,5 @@
 -- Readings of types with names, lines that go on as other lines, and how many tokens are left behind a reading.
-use Rattle.std.proofs.Common.{◌<◌, ◌≤◌, Bool, List, [], ◌∷◌, ◌++◌, length, subst, ap, arith}
+use Rattle.std.proofs.Common.{◌<◌, ◌≤◌, Bool, List, [], ◌∷◌, ◌++◌, length, subst, arith}
 use Rattle.spl_tree.specs.declared.shape.Attribute.{Attribute}
 use Rattle.spl_tree.specs.declared.symbol.Symbol.{Symbol}
 use Rattle.spl_tree.specs.declared.symbol.Symbol.TheVariants as S
@@ -12,14 +12,11 @@ use Rattle.expr_parser.specs.Taken.{Taken, TakenAs}
 use Rattle.statement_parser.proofs.Readings.{reads, taken, line_read, name_passed, last, says_on}
 use Rattle.statement_parser.specs.Gives.{Answered, Comes, Gives}
 use Rattle.statement_parser.specs.Lines.{Line, Value, Name, TypeExpression, Attributes, MoreAttributes, name_at, rule, R}
+use Rattle.expr_parser.proofs.LineSteps.{taken_shrinks}
 
 -- what is left isn't longer
 pub reads_shrinks : {x : Line} {ts rest : List Token} {v : Value x} → Reads rule x ts (Took v rest) → length rest ≤ length ts
 reads_shrinks {x} {ts} r = subst (λ o. length (rest_of o) ≤ length ts) r.is (shrinks rule r.depth x ts)
-
--- a token is taken
-pub taken_shrinks : {p : Token → Bool} {ts rest : List Token} {t : Token} → Taken p ts t rest → length rest < length ts
-taken_shrinks h = let e = ap length h.here in omega arith
 
 pub taken_as_shrinks : {A : Type 0} {p : Token → Bool} {made : Token → A} {ts rest : List Token} {x : A} → TakenAs p made ts x rest → length rest < length ts
 taken_as_shrinks h = taken_shrinks h.taken

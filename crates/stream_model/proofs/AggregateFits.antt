@@ -34,6 +34,8 @@ use Rattle.stream_model.specs.Fitting.{IsFitting, HistoryFits, HasPort, NoneFaul
 use Rattle.stream_model.proofs.FittingCodes.{TuplesHave, tuples_env}
 use Rattle.stream_model.proofs.ContentMembers.{all_append, all_if, all_fired, ItemIs}
 use Rattle.stream_model.proofs.GroupTuples.{ArgumentsThere, arguments_there, IsGood, OutputFits, passed_fits, contents_there}
+use Rattle.stream_model.proofs.SimpleFits.{as_makes}
+use Rattle.spl_value.proofs.Lists.{all_at}
 
 -- ---- clauses
 
@@ -53,28 +55,18 @@ shape_of scope _ _ _ _ window partition group output is _ = absurd cc
 
 -- ---- ports
 
-only_input : (ins : List Attributes) (input : Attributes) (p : ℕ) → ins ≡ input ∷ [] → p < length ins → unwrap_or (slice_get ins p) [] ≡ input
+pub only_input : (ins : List Attributes) (input : Attributes) (p : ℕ) → ins ≡ input ∷ [] → p < length ins → unwrap_or (slice_get ins p) [] ≡ input
 only_input ins input p e within =
     let one : length ins ≡ 1 = ap length e in
     let first : p ≡ 0 = omega arith in
     λ i. unwrap_or (slice_get (e i) (first i)) []
 
 -- a tuple of the only input
-one_tuple : (input : Attributes) (t : List Value) → IsTrue (fits (S.Tuple input) (V.Tuple t)) → TuplesHave (input ∷ []) (t ∷ [])
+pub one_tuple : (input : Attributes) (t : List Value) → IsTrue (fits (S.Tuple input) (V.Tuple t)) → TuplesHave (input ∷ []) (t ∷ [])
 one_tuple input t f zero schema at = let same : input ≡ schema = (let e : Some input ≡ Some schema = at in cc) in (t, refl, subst (λ s. IsTrue (fits (S.Tuple s) (V.Tuple t))) same f)
 one_tuple input t f (suc i) schema at = absurd cc
 
-member_is : {X : Type 0} (P : X → Type 0) (xs : List X) (i : ℕ) (x : X) → AllByRecursion P xs → slice_get xs i ≡ Some x → P x
-member_is P [] i x all at = absurd cc
-member_is P (y ∷ xs) zero x all at = let same : y ≡ x = (let e : Some y ≡ Some x = at in cc) in subst P same all.0
-member_is P (y ∷ xs) (suc i) x all at = member_is P xs i x all.1 at
-
 -- ---- the body
-
-as_made : (op : Operator) (o : Makes) → Yields (AllFit op) o → MakesFit op o
-as_made op (Done outs turns) h = h
-as_made op (Faulted kind) h = tt
-as_made op Stuck h = h
 
 module _ (op : Operator) (fit : IsFitting op) (window : Policy) (partition group : List ℕ) (output : List Collected) (is : op.clauses ≡ A.Aggregate window partition group output) where
   abbrev shape : Shape fit.scope op.types.ins op.types.outs output
@@ -162,12 +154,12 @@ module _ (op : Operator) (fit : IsFitting op) (window : Policy) (partition group
 
   given_fits : (outs : List Output) → AllByRecursion Given outs → AllFit op outs
   given_fits outs all = λ i o at.
-      let one : Given o = member_is Given outs i o all at in subst (λ s. ItemHas s o.item) (sym (output_is o.port one.0)) one.1
+      let one : Given o = all_at Given outs i o all at in subst (λ s. ItemHas s o.item) (sym (output_is o.port one.0)) one.1
 
   aggregate_makes : (h : List Event) (port : ℕ) (x : Item) → HistoryFits op h → NoneFaulted op h → HasPort op port x → MakesFit op (makes_by op.clauses op h port x)
   aggregate_makes h port x history calm has =
       subst (λ c. MakesFit op (makes_by c op h port x)) (sym is)
-      (as_made op (aggregate_body op.functions window partition group output (items_of 0 h) x)
+      (as_makes op (aggregate_body op.functions window partition group output (items_of 0 h) x)
       (yields_weaker (AllByRecursion Given) (AllFit op) (aggregate_body op.functions window partition group output (items_of 0 h) x) given_fits
       (body_gives (items_of 0 h) x (history_good h history calm) (has_input port x has))))
 

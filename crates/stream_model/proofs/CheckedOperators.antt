@@ -44,7 +44,7 @@ operators_length c from (op ∷ ops) (part ∷ parts) l =
 
 -- ---- their attributes
 
-first_is : (c : CheckedGraph) (streams : List ℕ) (schema : Attributes) → PortHas c.schemas streams schema → first_schema c streams ≡ schema
+pub first_is : (c : CheckedGraph) (streams : List ℕ) (schema : Attributes) → PortHas c.schemas streams schema → first_schema c streams ≡ schema
 first_is c [] schema h = absurd (let some = h.some in omega (arith, some))
 first_is c (s ∷ streams) schema h = ap (λ o. unwrap_or o []) (h.alike s (0, omega arith, refl))
 

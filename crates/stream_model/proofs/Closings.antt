@@ -161,7 +161,7 @@ closed_from op p seen (e ∷ events) lt = closed_step op p seen e events (is_som
 pub out_closes : OutCloses
 out_closes op p events lt = closed_from op p [] events lt
 
-ended_by-last : (op : Operator) (a : Answer) → is_some (ended_by op true a) ≡ true
+pub ended_by-last : (op : Operator) (a : Answer) → is_some (ended_by op true a) ≡ true
 ended_by-last op (Gives outs) = refl
 ended_by-last op (Faults kind) = refl
 

@@ -33,7 +33,7 @@ all_take P zero xs all = tt
 all_take P (suc n) [] all = tt
 all_take P (suc n) (x ∷ xs) all = (all.0, all_take P n xs all.1)
 
-all_in_order : {X : Type 0} (P : X → Type 0) (xs : List X) → AllByRecursion P xs → AllByRecursion P (in_order xs)
+pub all_in_order : {X : Type 0} (P : X → Type 0) (xs : List X) → AllByRecursion P xs → AllByRecursion P (in_order xs)
 all_in_order P [] all = tt
 all_in_order P (x ∷ xs) all = all_append P (in_order xs) (x ∷ []) (all_in_order P xs all.1) (all.0, tt)
 

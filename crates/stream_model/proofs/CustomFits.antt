@@ -33,16 +33,16 @@ use Rattle.evaluation_laws.proofs.Handling.{marker_handler, tuple_handler}
 use Rattle.evaluation_laws.proofs.PlainCodes.{literal_law}
 use Rattle.stream_model.specs.Stream.{Event}
 use Rattle.stream_model.specs.Operators.{Operator}
-use Rattle.stream_model.specs.Bodies.{Makes}
 use Rattle.stream_model.specs.Customs.{changed, custom_body, first_value, item_leaves, left_by, marker_env, state, tuple_env, value_or, vars_after}
 use Rattle.stream_model.specs.React.{makes_by}
 use Rattle.stream_model.specs.Replies.{AllFit, ItemHas, given_attributes}
 use Rattle.stream_model.specs.Fitting.{FitsAt, HasPort, HistoryFits, IsFitting, MakesFit, is_custom}
+use Rattle.stream_model.proofs.SimpleFits.{as_makes}
 
 -- ---- the handlers
 
 -- where the clauses are handlers, these fit
-handlers_fit : (scope : Scope) (kind : OpKind) (ins outs : List Attributes) (part : Part) (handlers : Handlers) → PartFits scope kind ins outs part
+pub handlers_fit : (scope : Scope) (kind : OpKind) (ins outs : List Attributes) (part : Part) (handlers : Handlers) → PartFits scope kind ins outs part
     → part ≡ A.Custom handlers → HandlersFit scope outs handlers
 handlers_fit scope kind ins outs part handlers (custom own _ _ fit) is = let same : own ≡ handlers = cc in subst (HandlersFit scope outs) same fit
 handlers_fit scope kind ins outs part handlers _ is = absurd cc
@@ -50,7 +50,7 @@ handlers_fit scope kind ins outs part handlers _ is = absurd cc
 -- ---- the state
 
 -- one variable more
-one_more : (x : StateVariable) (v : Value) (variables : List StateVariable) (values : List Value) → IsTrue (fits x.variable.kind v) → StateFits variables values
+pub one_more : (x : StateVariable) (v : Value) (variables : List StateVariable) (values : List Value) → IsTrue (fits x.variable.kind v) → StateFits variables values
     → StateFits (x ∷ variables) (v ∷ values)
 one_more x v variables values here rest = record { count = ap suc rest.count; each = each } where
   each : (k : ℕ) (y : StateVariable) → slice_get (x ∷ variables) k ≡ Some y → (u : Value) × (slice_get (v ∷ values) k ≡ Some u) × IsTrue (fits y.variable.kind u)
@@ -71,13 +71,13 @@ rest_there x v variables values h = record {
 }
 
 -- each first value is of its variable's type
-first_values_fit : (variables : List StateVariable) → ((k : ℕ) (x : StateVariable) → slice_get variables k ≡ Some x → IsTrue (fits x.variable.kind (first_value x)))
+pub first_values_fit : (variables : List StateVariable) → ((k : ℕ) (x : StateVariable) → slice_get variables k ≡ Some x → IsTrue (fits x.variable.kind (first_value x)))
     → StateFits variables (map first_value variables)
 first_values_fit [] each = record { count = refl; each = λ k x at. absurd cc }
 first_values_fit (x ∷ variables) each =
     one_more x (first_value x) variables (map first_value variables) (each zero x refl) (first_values_fit variables (λ k y at. each (suc k) y at))
 
-first_fits : (scope : Scope) (outs : List Attributes) (handlers : Handlers) → HandlersFit scope outs handlers → StateFits handlers.state (map first_value handlers.state)
+pub first_fits : (scope : Scope) (outs : List Attributes) (handlers : Handlers) → HandlersFit scope outs handlers → StateFits handlers.state (map first_value handlers.state)
 first_fits scope outs handlers h = first_values_fit handlers.state (λ k x at.
     let v = literal_law x.first x.variable.kind (h.state k x at) (h.plain k x at) in
     subst (λ u. IsTrue (fits x.variable.kind u)) (sym (ap (value_or (V.Bool false)) (v.2 [] (world_of (function_env [])) 0))) v.1)
@@ -114,20 +114,20 @@ nothing_left : (outs : List Attributes) (variables : List StateVariable) (vars :
 nothing_left outs variables vars h = record { state_fits = h; submits = λ i o at. absurd cc }
 
 -- a port that an operator has is one of the scope, with its attributes
-port_there : (ports : List Port) (i : ℕ) → i < length (map (λ (p : Port). p.schema) ports)
+pub port_there : (ports : List Port) (i : ℕ) → i < length (map (λ (p : Port). p.schema) ports)
     → (p : Port) × (slice_get ports i ≡ Some p) × (unwrap_or (slice_get (map (λ (p : Port). p.schema) ports) i) [] ≡ p.schema)
 port_there [] i lt = absurd (let no : i < 0 = lt in omega arith)
 port_there (p ∷ ports) zero lt = (p, refl, refl)
 port_there (p ∷ ports) (suc i) lt = port_there ports i (let le : suc i < suc (length (map (λ (p : Port). p.schema) ports)) = lt in omega arith)
 
 -- what an operator has: its handlers and what fits of them
-record Fitted (op : Operator) (handlers : Handlers) : Type 0 where
+pub record Fitted (op : Operator) (handlers : Handlers) : Type 0 where
   pub scope : Scope
   pub functions : FunctionsFit scope.functions op.functions
   pub ports : map (λ (p : Port). p.schema) scope.ports ≡ op.types.ins
   pub handlers_fit : HandlersFit scope op.types.outs handlers
 
-fitted : (op : Operator) (handlers : Handlers) → IsFitting op → op.clauses ≡ A.Custom handlers → Fitted op handlers
+pub fitted : (op : Operator) (handlers : Handlers) → IsFitting op → op.clauses ≡ A.Custom handlers → Fitted op handlers
 fitted op handlers fit is = record {
   scope = fit.scope;
   functions = subst (λ s. FunctionsFit s op.functions) (sym fit.names.functions) fit.functions;
@@ -186,11 +186,6 @@ state_fits op handlers fit (e ∷ h) history =
 
 -- ---- what is submitted
 
-as_made : (op : Operator) (o : Makes) → Yields (AllFit op) o → MakesFit op o
-as_made op (Done outs turns) h = h
-as_made op (Faulted kind) h = tt
-as_made op Stuck h = h
-
 -- an item of an output port has its attributes
 item_has : (schema : Attributes) (x : Item) → ItemFits schema x → ItemHas schema x
 item_has schema (I.Tuple vs) h = h
@@ -211,7 +206,7 @@ submits_fit op kind submits h i o at =
 custom_makes : (op : Operator) (handlers : Handlers) (h : List Event) (port : ℕ) (x : Item) → is_custom op.clauses ≡ true → Fitted op handlers → HistoryFits op h
     → HasPort op port x → MakesFit op (custom_body op.functions handlers h port x)
 custom_makes op handlers h port x kind fit history has =
-    as_made op (custom_body op.functions handlers h port x)
+    as_makes op (custom_body op.functions handlers h port x)
     (yields_followed (HandlerLeft op.types.outs handlers.state) (AllFit op) (item_leaves op.functions handlers (state op.functions handlers h) port x) _
     (item_fits op handlers fit (state op.functions handlers h) (state_fits op handlers fit h history) port x has)
     (λ left turns is. submits_fit op kind left.submits is.submits))

@@ -1,5 +1,5 @@
 -- What events that fit cause, at an operator whose clauses fit.
-use Rattle.std.proofs.Common.{◌≡◌, ℕ, zero, suc, ◌<◌, ◌&&◌, Bool, true, false, if◌then◌else◌, List, [], ◌∷◌, length, is_none, Some, None, refl, sym, ap, subst, ◌∙◌}
+use Rattle.std.proofs.Common.{◌≡◌, ℕ, zero, suc, ◌<◌, Bool, true, false, if◌then◌else◌, List, [], ◌∷◌, length, is_none, Some, None, refl, sym, ap, subst, ◌∙◌}
 use Rattle.std.proofs.lemmas.Bool.{lt-ltb}
 use Rattle.spl_value.specs.declared.item.Item.{Item}
 use Rattle.spl_value.specs.declared.item.Item.TheVariants as I
@@ -15,6 +15,7 @@ use Rattle.stream_model.specs.Replies.{AllFit, is_live}
 use Rattle.stream_model.specs.Fitting.{EventFits, EventsFit, FitsAt, HasPort, HistoryFits, IsFitting, MakesFit, NoneFaulted, ReactsFit, is_aggregate, is_custom, is_given, is_join, is_simple}
 use Rattle.stream_model.proofs.SimpleFits.{both_fit, none_fit, one_fits}
 use Rattle.stream_model.proofs.ByPorts.{input_port}
+use Rattle.spl_value.proofs.Bools.{and_parts}
 
 item_has : (op : Operator) (x : Item) (p : ℕ) → is_tuple x ≡ false → AllFit op (output p x ∷ [])
 item_has op (I.Tuple vs) p q = absurd (let no : true ≡ false = q in cc)
@@ -28,12 +29,8 @@ each_fits op x zero q = none_fit op
 each_fits op x (suc n) q = both_fit op (on_each n x) (output n x ∷ []) (each_fits op x n q) (item_has op x n q)
 
 -- an event that fits has an item of its port
-event_port : (op : Operator) (e : Event) → IsFitting op → EventFits op e → HasPort op (port_at (ports op) e.input) e.item
+pub event_port : (op : Operator) (e : Event) → IsFitting op → EventFits op e → HasPort op (port_at (ports op) e.input) e.item
 event_port op e fit has = (subst (λ n. port_at (ports op) e.input < n) fit.ins (input_port op e.input (lt-ltb e.input (length (ports op)) has.0)).1, has.1)
-
-both_true : (a b : Bool) → (a && b) ≡ true → (a ≡ true) × (b ≡ true)
-both_true true b q = (refl, q)
-both_true false b q = absurd (let no : false ≡ true = q in cc)
 
 -- an event that doesn't wait and doesn't end an operator came to no fault
 not_faulted : (op : Operator) (h : List Event) (e : Event) → is_waiting op h e ≡ false → is_none (ended op h e) ≡ true → is_given (body op h e) ≡ true
@@ -49,7 +46,7 @@ not_faulted op h e moves stays = go (is_fault e.item) (body op h e) refl
 by_ports_fit : (op : Operator) (h : List Event) → IsFitting op → EventsFit op h → is_live op h ≡ true → HistoryFits op (port_events op h) × NoneFaulted op (port_events op h)
 by_ports_fit op [] fit events live = (tt, tt)
 by_ports_fit op (e ∷ h) fit events live =
-    let parts = both_true (is_live op h) (is_none (ended op h e)) live in
+    let parts = and_parts (is_live op h) (is_none (ended op h e)) live in
     go (is_waiting op h e) refl parts.1 (by_ports_fit op h fit events.1 parts.0)
   where
     e_at : Event

@@ -19,7 +19,7 @@ passing_law (W.TumblingDelta a limit) k h e = (refl, refl)
 passing_law (W.SlidingCount n every) k h e = (refl, refl)
 passing_law (W.SlidingDelta a limit every) k h e = (refl, refl)
 
-pushed : {A : Type 0} (xs : List A) (t : A) → is_empty (xs ++ t ∷ []) ≡ false
+pub pushed : {A : Type 0} (xs : List A) (t : A) → is_empty (xs ++ t ∷ []) ≡ false
 pushed [] t = refl
 pushed (x ∷ xs) t = refl
 

@@ -8,7 +8,7 @@ use Rattle.stream_model.specs.Stream.{is_empty}
 use Rattle.stream_model.specs.Keys.{key_cmp, same_key, each_key}
 use Rattle.stream_model.specs.Groups.{of_group, groups}
 use Rattle.stream_model.specs.GroupLaws.{AscendingLaw, GroupLaw, MemberLaw, MappedGroupsLaw, KeyBehindLaw}
-use Rattle.stream_model.proofs.MappedWindows.{map_each_key, get_behind}
+use Rattle.stream_model.proofs.MappedWindows.{map_each_key, get_behind, tuples_if}
 use Rattle.stream_model.proofs.Keys.{each_key-sorted, find-each_key, true_from}
 
 pub ascending_law : AscendingLaw
@@ -46,16 +46,12 @@ member_law places before after t k = filter_around (λ u. same_key k (key_of u p
 
 -- ---- mapped tuples
 
-group_if : (b : Bool) (f : List Value → List Value) (t : List Value) (us ws : List (List Value)) → ws ≡ map f us → cond b (f t ∷ ws) ws ≡ map f (cond b (t ∷ us) us)
-group_if true f t us ws e = ap (λ zs. f t ∷ zs) e
-group_if false f t us ws e = e
-
 map_group : (places : List ℕ) (f : List Value → List Value) (ts : List (List Value)) (k : List Value) → AllByRecursion (λ t. key_of (f t) places ≡ key_of t places) ts
     → of_group places (map f ts) k ≡ map f (of_group places ts k)
 map_group places f [] k all = refl
 map_group places f (t ∷ ts) k all =
     ap (λ q. cond (same_key k q) (f t ∷ of_group places (map f ts) k) (of_group places (map f ts) k)) all.0
-    ∙ group_if (same_key k (key_of t places)) f t (of_group places ts k) (of_group places (map f ts) k) (map_group places f ts k all.1)
+    ∙ tuples_if (same_key k (key_of t places)) f t (of_group places ts k) (of_group places (map f ts) k) (map_group places f ts k all.1)
 
 map_keys : (places : List ℕ) (f : List Value → List Value) (ts : List (List Value)) → AllByRecursion (λ t. key_of (f t) places ≡ key_of t places) ts
     → map (λ t. key_of t places) (map f ts) ≡ map (λ t. key_of t places) ts

@@ -39,10 +39,10 @@ use Rattle.stream_model.proofs.SimpleFits.{as_makes, both_fit, made_fits, none_f
 use Rattle.stream_model.proofs.ContentMembers.{ItemIs, all_content, inserted_of}
 
 -- tuples with these attributes
-abbrev Has : Attributes → List Value → Type 0
+abbrev pub Has : Attributes → List Value → Type 0
 Has schema vs = OfType (S.Tuple schema) (V.Tuple vs)
 
-two_came : (first second : Attributes) (t u : List Value) → Has first t → Has second u → TuplesHave (first ∷ second ∷ []) (t ∷ u ∷ [])
+pub two_came : (first second : Attributes) (t u : List Value) → Has first t → Has second u → TuplesHave (first ∷ second ∷ []) (t ∷ u ∷ [])
 two_came first second t u h k zero schema at = let same : first ≡ schema = cc in (t, refl, subst (λ a. Has a t) same h)
 two_came first second t u h k (suc zero) schema at = let same : second ≡ schema = cc in (u, refl, subst (λ a. Has a u) same k)
 two_came first second t u h k (suc (suc i)) schema at = absurd cc
@@ -64,14 +64,14 @@ pairs_fit op signatures ins scope condition code schema (pair ∷ pairs) turns n
     (pairs_fit op signatures ins scope condition code schema pairs left names there holds fit given have.1)
     (λ more left rest. both_fit op outs more first rest))
 
-items_has : (schema : Attributes) (x : Item) → ItemHas schema x → ItemIs (Has schema) x
+pub items_has : (schema : Attributes) (x : Item) → ItemHas schema x → ItemIs (Has schema) x
 items_has schema (I.Tuple vs) h = h
 items_has schema I.Window h = tt
 items_has schema I.Final h = tt
 items_has schema (I.Bad f) h = tt
 
 -- what has come on a port has its attributes
-came_has : (op : Operator) (port : ℕ) (schema : Attributes) → unwrap_or (slice_get op.types.ins port) [] ≡ schema → (h : List Event) → HistoryFits op h
+pub came_has : (op : Operator) (port : ℕ) (schema : Attributes) → unwrap_or (slice_get op.types.ins port) [] ≡ schema → (h : List Event) → HistoryFits op h
     → AllByRecursion (ItemIs (Has schema)) (items_of port h)
 came_has op port schema is [] fit = tt
 came_has op port schema is (e ∷ h) fit = go (e.input == port) refl (came_has op port schema is h fit.1)

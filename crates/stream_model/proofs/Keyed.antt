@@ -27,6 +27,7 @@ use Rattle.stream_model.specs.RegionLaws.{KeyedLaw}
 use Rattle.stream_model.proofs.Contents.{own_key_law}
 use Rattle.stream_model.proofs.Flushes.{fired_law, passing_law}
 use Rattle.stream_model.proofs.StageLaws.{one_in}
+use Rattle.spl_value.proofs.Bools.{and_not_parts}
 
 -- ---- the tuples with a key
 
@@ -147,11 +148,6 @@ keeps_keys : (b : Bool) (mine places : List ℕ) → (if b then K.Keyed mine els
 keeps_keys true mine places q = (refl, let same : K.Keyed mine ≡ K.Keyed places = q in cc)
 keeps_keys false mine places q = absurd (let no : K.Whole ≡ K.Keyed places = q in cc)
 
-both_of : (a b : Bool) → (a && not b) ≡ true → (a ≡ true) × (b ≡ false)
-both_of true true q = absurd (let no : false ≡ true = q in cc)
-both_of true false q = (refl, refl)
-both_of false b q = absurd (let no : false ≡ true = q in cc)
-
 no_keys : (b : Bool) (places : List ℕ) → (if b then K.Whole else K.Stateless) ≡ K.Keyed places → ⊥
 no_keys true places q = let no : K.Whole ≡ K.Keyed places = q in absurd cc
 no_keys false places q = let no : K.Stateless ≡ K.Keyed places = q in absurd cc
@@ -160,7 +156,7 @@ local_in : (n : ℕ) (part : Part) (functions : List Function) (types : PortType
     → IsLocal (one_in n part functions types s outs) places
 local_in n (A.Aggregate window partition group collects) functions types s outs places q =
     let keys = keeps_keys (window.partitioned && not (flushes_at_markers window.rule)) partition places q in
-    let rules = both_of window.partitioned (flushes_at_markers window.rule) keys.0 in
+    let rules = and_not_parts window.partitioned (flushes_at_markers window.rule) keys.0 in
     subst (λ ps. IsLocal (one_in n (A.Aggregate window partition group collects) functions types s outs) ps) keys.1
     (aggregate_is_local n functions types s outs window partition group collects rules.0 rules.1)
 local_in n (A.Custom handlers) functions types s outs places q = absurd (no_keys (has_mutable handlers) places q)

@@ -13,16 +13,14 @@ use Rattle.stream_model.specs.Stream.{is_empty}
 use Rattle.stream_model.specs.Keys.{key_cmp, same_key, each_key}
 use Rattle.stream_model.specs.Windows.{WindowEvent, Firing, contents_of, Insert, Mark, tuples_with, keys_of, since_mark, in_order, last_of, is_start, last_start, since_start, near, integer_in, integer_at, exceeds, held, relevant, content, Silent, Flushes, Triggers, flush_if, trigger_if, fires_behind, tuple_fires, flushed_behind, fired_contents}
 use Rattle.stream_model.specs.WindowLaws.{mapped, mapped_event, Keeps, AllKeep, map_firing, MappedLaw, MappedFiringLaw, BehindLaw}
+use Rattle.stream_model.proofs.ContentMembers.{all_in_order}
+use Rattle.spl_value.proofs.Lists.{map_length}
 
 -- ---- lists
 
 map_push : {X Y : Type 0} (f : X → Y) (xs : List X) (y : X) → map f (xs ++ y ∷ []) ≡ map f xs ++ f y ∷ []
 map_push f [] y = refl
 map_push f (x ∷ xs) y = ap (λ zs. f x ∷ zs) (map_push f xs y)
-
-map_length : {X Y : Type 0} (f : X → Y) (xs : List X) → length (map f xs) ≡ length xs
-map_length f [] = refl
-map_length f (x ∷ xs) = ap suc (map_length f xs)
 
 map_take : {X Y : Type 0} (f : X → Y) (n : ℕ) (xs : List X) → take n (map f xs) ≡ map f (take n xs)
 map_take f zero xs = refl
@@ -39,14 +37,6 @@ map_last f n xs = ap (λ zs. in_order zs) (map_take f n xs) ∙ map_in_order f (
 map_none : {X Y : Type 0} (f : X → Y) (xs : List X) → is_empty (map f xs) ≡ is_empty xs
 map_none f [] = refl
 map_none f (x ∷ xs) = refl
-
-all_push : {X : Type 0} (P : X → Type 0) (xs : List X) (y : X) → AllByRecursion P xs → P y → AllByRecursion P (xs ++ y ∷ [])
-all_push P [] y all p = (p, tt)
-all_push P (x ∷ xs) y all p = (all.0, all_push P xs y all.1 p)
-
-all_in_order : {X : Type 0} (P : X → Type 0) (xs : List X) → AllByRecursion P xs → AllByRecursion P (in_order xs)
-all_in_order P [] all = tt
-all_in_order P (x ∷ xs) all = all_push P (in_order xs) x (all_in_order P xs all.1) all.0
 
 -- ---- deltas
 
@@ -129,7 +119,7 @@ map_held (W.SlidingDelta a limit every) f ts all =
     ap (λ zs. near (exceeds a limit) zs) (map_in_order f ts)
     ∙ map_near a limit f (in_order ts) (all_in_order (λ t. integer_at a (f t) ≡ integer_at a t) ts all)
 
-tuples_if : (b : Bool) (f : List Value → List Value) (t : List Value) (xs ys : List (List Value)) → ys ≡ map f xs → cond b (f t ∷ ys) ys ≡ map f (cond b (t ∷ xs) xs)
+pub tuples_if : (b : Bool) (f : List Value → List Value) (t : List Value) (xs ys : List (List Value)) → ys ≡ map f xs → cond b (f t ∷ ys) ys ≡ map f (cond b (t ∷ xs) xs)
 tuples_if true f t xs ys e = ap (λ zs. f t ∷ zs) e
 tuples_if false f t xs ys e = e
 

@@ -10,7 +10,7 @@ use Rattle.stream_model.specs.Stream.{Event, came, closes, is_closed, is_empty, 
 use Rattle.stream_model.specs.Inputs.{inputs_of}
 use Rattle.stream_model.specs.Operators.{Operator, ports, port_at}
 use Rattle.stream_model.specs.PortEvents.{is_over, all_over, is_waiting, is_last}
-use Rattle.stream_model.specs.React.{Answer, Gives, Faults, body, ended, ended_by}
+use Rattle.stream_model.specs.React.{body, ended, ended_by}
 use Rattle.stream_model.specs.Stages.{Stage, start, next, after}
 use Rattle.stream_model.proofs.ByPorts.{over_stays}
 use Rattle.stream_model.proofs.StageLaws.{stage_at, after-over}
@@ -18,6 +18,7 @@ use Rattle.stream_model.specs.Meaning.{Lists, with_list, taking, arrive}
 use Rattle.stream_model.specs.Records.{names_inputs, finds_items, ends_at_last, is_whole, up_to_end, inputs_from, all_items, input_after_input}
 use Rattle.stream_model.specs.RecordLaws.{OneAfterAnotherLaw}
 use Rattle.stream_model.proofs.Records.{takes_entries, length-inputs_of}
+use Rattle.stream_model.proofs.Closings.{ended_by-last}
 
 -- ---- the events
 
@@ -98,10 +99,6 @@ all_over-from test (p ∷ ps) from h each =
         → cond b (is_over h from && all_over test ps (suc from) h) (all_over test ps (suc from) h) ≡ true
     go true over rest = ap (λ c. c && all_over test ps (suc from) h) over ∙ rest
     go false over rest = rest
-
-ended_by-last : (op : Operator) (a : Answer) → is_some (ended_by op true a) ≡ true
-ended_by-last op (Gives outs) = refl
-ended_by-last op (Faults kind) = refl
 
 -- the item that closes the last input ends the operator
 ends_now : (op : Operator) (i : ℕ) (seen : List Event) (x : Item) → suc i ≡ length (ports op) → closes x ≡ true → Over i seen

@@ -47,6 +47,7 @@ use Rattle.stream_model.specs.Replies.{AllFit, ItemHas, given_attributes}
 use Rattle.stream_model.specs.Fitting.{FitsAt, MakesFit, is_simple}
 use Rattle.stream_model.proofs.FittingCodes.{TuplesHave, passes_fits, truth_fits, tuples_env, value_fits}
 use Rattle.stream_model.proofs.FittingCodes as codes
+use Rattle.spl_value.proofs.Lists.{get_below}
 
 -- ---- outputs
 
@@ -86,7 +87,7 @@ tuple_came input vs h zero schema at = let same : input ≡ schema = cc in (vs, 
 tuple_came input vs h (suc i) schema at = absurd cc
 
 -- a port that there is, of one, is the first, and its item has its attributes
-at_first : (input : Attributes) (port : ℕ) (x : Item) → port < 1 → ItemHas (unwrap_or (slice_get (input ∷ []) port) []) x → ItemHas input x
+pub at_first : (input : Attributes) (port : ℕ) (x : Item) → port < 1 → ItemHas (unwrap_or (slice_get (input ∷ []) port) []) x → ItemHas input x
 at_first input zero x within h = h
 at_first input (suc port) x within h = absurd (omega (arith, within))
 
@@ -207,17 +208,12 @@ values_there input (a ∷ schema) vs (p ∷ places) fit h =
       both_true kind rest.2,
     )
 
-there_below : {A : Type 0} (xs : List A) (i : ℕ) → i < length xs → (x : A) × (slice_get xs i ≡ Some x)
-there_below [] i within = absurd (omega (arith, within))
-there_below (x ∷ xs) zero within = (x, refl)
-there_below (x ∷ xs) (suc i) within = there_below xs i (omega (arith, within))
-
 union_fits : (op : Operator) (places : List (List ℕ)) (ins : List Attributes) (schema : Attributes) (port : ℕ) (x : Item) → length places ≡ length ins
     → ((k : ℕ) (input : Attributes) (ps : List ℕ) → slice_get ins k ≡ Some input → slice_get places k ≡ Some ps → PlacesFit input schema ps)
     → given_attributes op.clauses op 0 ≡ schema → port < length ins → ItemHas (unwrap_or (slice_get ins port) []) x → MakesFit op (union_body places port x)
 union_fits op places ins schema port (I.Tuple vs) count each given within has =
-    let mine = there_below places port (omega (arith, within, count)) in
-    let input = there_below ins port within in
+    let mine = get_below places port (omega (arith, within, count)) in
+    let input = get_below ins port within in
     let item : ItemHas input.0 (I.Tuple vs) = subst (λ o. ItemHas (unwrap_or o []) (I.Tuple vs)) input.1 has in
     let fit : IsTrue (tuple_fits input.0 vs) = sym (fits_tuple input.0 vs) ∙ item in
     let there = values_there input.0 schema vs mine.0 fit (each port input.0 mine.0 input.1 mine.1) in
@@ -270,7 +266,7 @@ simple_part n fs si so sigs scope _ _ _ _ (K.split index kind schema outs fit sa
   where
     given : (p : ℕ) → p < length so → unwrap_or (slice_get outs p) [] ≡ schema
     given p below =
-        let own = there_below outs p (omega (arith, below, count)) in
+        let own = get_below outs p (omega (arith, below, count)) in
         ap (λ o. unwrap_or o []) own.1 ∙ same p own.0 own.1
 simple_part n fs si so sigs scope _ _ _ _ (K.union places ins schema each_port each) names there ports count simple h port x within has =
     union_fits (with_clauses n (A.Union places) fs ins (schema ∷ []) si so) places ins schema port x each_port each refl within has

@@ -1,5 +1,5 @@
 -- Operators that keep no state.
-use Rattle.std.proofs.Common.{◌≡◌, ℕ, Bool, true, false, ◌||◌, if◌then◌else◌, List, [], ◌∷◌, map, refl, sym, ap, subst, ◌∙◌}
+use Rattle.std.proofs.Common.{◌≡◌, ℕ, Bool, true, false, if◌then◌else◌, List, [], ◌∷◌, map, refl, sym, ap, subst, ◌∙◌}
 use Rattle.std.specs.List.{list_any}
 use Rattle.spl_value.specs.declared.item.Item.{Item}
 use Rattle.spl_value.specs.declared.item.Item.TheVariants as I
@@ -23,19 +23,16 @@ use Rattle.stream_model.specs.StateKinds.{has_mutable, state_of}
 use Rattle.stream_model.specs.Regions.{IsStateless}
 use Rattle.stream_model.specs.RegionLaws.{StatelessLaw}
 use Rattle.stream_model.proofs.StageLaws.{one_in}
+use Rattle.spl_value.proofs.Bools.{neither}
 
 -- ---- a Custom whose variables all keep their values
-
-or_parts : (a b : Bool) → (a || b) ≡ false → (a ≡ false) × (b ≡ false)
-or_parts false b q = (refl, q)
-or_parts true b q = absurd cc
 
 kept : (xs : List StateVariable) (olds news : List Value) → list_any (λ (x : StateVariable). x.variable.mutable) xs ≡ false → changed xs olds news ≡ olds
 kept [] olds news q = refl
 kept (x ∷ xs) [] news q = refl
 kept (x ∷ xs) (old ∷ olds) [] q = refl
 kept (x ∷ xs) (old ∷ olds) (new ∷ news) q =
-    let parts = or_parts x.variable.mutable (list_any (λ (y : StateVariable). y.variable.mutable) xs) q in
+    let parts = neither x.variable.mutable (list_any (λ (y : StateVariable). y.variable.mutable) xs) q in
     λ i. (if parts.0 i then new else old) ∷ kept xs olds news parts.1 i
 
 vars_kept : (xs : List StateVariable) (vars : List Value) (o : Outcome Left) → list_any (λ (x : StateVariable). x.variable.mutable) xs ≡ false → vars_after xs vars o ≡ vars

@@ -1,16 +1,12 @@
 -- Rows of attributes that are equal are the same.
 use Rattle.std.specs.Prelude.{◌≡◌, ◌↔◌, Bool, true, false, IsTrue}
-use Rattle.std.proofs.Common.{refl, ap, sym, ◌∙◌}
+use Rattle.std.proofs.Common.{refl, ap, sym}
 use Rattle.spl_value.specs.declared.types.Named.{Named}
 use Rattle.spl_value.specs.declared.types.SplType.{SplType}
-use Rattle.spl_value.specs.declared.types.SplType.TheOpen as O
 use Rattle.spl_value.specs.declared.types.SplType.TheVariants as S
-use Rattle.spl_value.specs.declared.types.SplType.TheViews.{out-SplType}
 use Rattle.language_model.specs.StreamTypes.{Attributes, same_attributes}
 use Rattle.language_model.proofs.TypingLaws.{same_types_law}
-
-rows_equal : (xs ys : Attributes) → S.Tuple xs ≡ S.Tuple ys → xs ≡ ys
-rows_equal xs ys e = let open_equal : O.Tuple xs ≡ O.Tuple ys = sym (S.outs-Tuple xs) ∙ ap out-SplType e ∙ S.outs-Tuple ys in cc
+use Rattle.spl_value.proofs.TypesLaws.{rows_equal}
 
 pub same_tested : (xs ys : Attributes) (b : Bool) → IsTrue b ↔ (xs ≡ ys) → b ≡ same_attributes xs ys
 same_tested xs ys true h = sym ((same_types_law (S.Tuple xs) (S.Tuple ys)).1 (ap S.Tuple (h.0 refl)))

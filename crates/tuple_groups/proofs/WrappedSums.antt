@@ -1,37 +1,20 @@
 -- Sums that wrap at each step.
-use Rattle.std.proofs.Common.{◌≡◌, ◌+ℤ◌, ◌*ℤ◌, ℕ, ℤ, pos, sym, ap, subst, ◌∙◌, arith, to_z, of_z, lit≤, ◌-◌, ◌+◌, suc, Bool, true, false, nat_lt, refl}
+use Rattle.std.proofs.Common.{◌≡◌, ◌+ℤ◌, ◌*ℤ◌, ℕ, ℤ, pos, sym, ap, subst, ◌∙◌, arith, to_z, of_z, ◌-◌, ◌+◌, suc, Bool, true, false, nat_lt, refl}
 use Rattle.std.specs.Prelude.{negsuc, unsigned_abs, IsTrue, FitsSigned, ◌≤◌, ◌^◌}
 use Rattle.std.specs.Int.{w128}
 use Rattle.std.proofs.lemmas.Int.{fits_signed_from_abs, ints, to_z-of_z}
 use Rattle.std.proofs.lemmas.Bool.{ltb-true}
 use Rattle.std.proofs.lemmas.Bool.Decides.{nat_tests}
 use Rattle.spl_value.specs.declared.types.IntKind.{IntKind}
-use Rattle.spl_value.specs.declared.types.IntKind.TheVariants.{I8, I16, I32, I64, U8, U16, U32, U64}
-use Rattle.spl_value.specs.Values.{kind_holds, modulus, top}
+use Rattle.spl_value.specs.Values.{kind_holds, modulus}
 use Rattle.spl_value.specs.Wrap.{wrapped}
 use Rattle.spl_value.proofs.WrapLaws.{one_wrapped, wrapped_belongs, wrapped_congruent}
+use Rattle.spl_value.proofs.Widths.{within, kept_in_128}
 
 -- ---- numbers of a kind in 128 bits
 
-widths : (k : IntKind) → (top k ≤ 2 ^ 64) × (modulus k - top k ≤ 2 ^ 64)
-widths I8 = (lit≤ tt, lit≤ tt)
-widths I16 = (lit≤ tt, lit≤ tt)
-widths I32 = (lit≤ tt, lit≤ tt)
-widths I64 = (lit≤ tt, lit≤ tt)
-widths U8 = (lit≤ tt, lit≤ tt)
-widths U16 = (lit≤ tt, lit≤ tt)
-widths U32 = (lit≤ tt, lit≤ tt)
-widths U64 = (lit≤ tt, lit≤ tt)
-
-within : (k : IntKind) (n : ℤ) → IsTrue (kind_holds k n) → unsigned_abs n ≤ 2 ^ 64
-within k (pos n) h = let w = widths k in let lt = ltb-true n (top k) h in omega arith
-within k (negsuc n) h = let w = widths k in let lt = ltb-true n (modulus k - top k) h in omega arith
-
 fits_128 : (n : ℤ) → unsigned_abs n ≤ 2 ^ 65 → FitsSigned w128 n
 fits_128 n h = fits_signed_from_abs w128 n (omega arith)
-
-kept_in_128 : (k : IntKind) (n : ℤ) → IsTrue (kind_holds k n) → to_z w128 (of_z w128 n) ≡ n
-kept_in_128 k n h = let small = within k n h in to_z-of_z w128 n (fits_128 n (omega arith))
 
 -- ---- sums
 

@@ -1,6 +1,6 @@
 -- How large expressions are: what the calls on their parts fall by.
-use Rattle.std.specs.Prelude.{◌≡◌, ℕ, zero, suc, ◌+◌, ◌<◌, ◌≤◌, List, [], ◌∷◌, length}
-use Rattle.std.proofs.Common.{refl, ap, ◌∙◌, arith, get_or}
+use Rattle.std.specs.Prelude.{◌≡◌, ℕ, suc, ◌+◌, List, [], ◌∷◌}
+use Rattle.std.proofs.Common.{refl, ap, ◌∙◌, arith}
 use Rattle.spl_tree.specs.Grammar.{Expr}
 use Rattle.spl_tree.specs.declared.expression.Placed.{Placed}
 use Rattle.spl_tree.specs.declared.expression.Field.{Field}
@@ -112,9 +112,3 @@ pub conditional_weight : (c a b : Expr) → weight (V.Conditional c a b) ≡ 3 +
 conditional_weight c a b = at_level (V.Conditional c a b) (X.Conditional c a b) (V.outs-Conditional c a b)
 
 pub ruleset weight_laws = (group_weight, list_weight, map_weight, tuple_weight, call_weight, select_weight, unary_weight, binary_weight, conditional_weight)
-
--- an item weighs no more than its row
-pub item_below : {A : Type 0} (f : A → ℕ) (xs : List A) (i : ℕ) (x : A) → i < length xs → x ≡ get_or xs i x → f x ≤ total f xs
-item_below f [] i x h e = absurd (omega arith)
-item_below f (y ∷ ys) zero x h e = let q : f x ≡ f y = ap f e in omega arith
-item_below f (y ∷ ys) (suc i) x h e = let q : f x ≤ total f ys = item_below f ys i x (omega arith) e in omega arith

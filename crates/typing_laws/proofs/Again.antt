@@ -1,12 +1,10 @@
 -- What an expression is by itself, it is where that is wanted.
 use Rattle.std.specs.Prelude.{◌≡◌, ◌&&◌, ℕ, suc, Bool, true, false, not, List, [], ◌∷◌, length, Some, None, is_some, Ok, Err, if◌then◌else◌}
-use Rattle.std.specs.Cmp.Lexicographic.{bytes_decides}
 use Rattle.std.specs.List.{AllByRecursion, list_all}
 use Rattle.std.specs.Str.{bytes_eq}
-use Rattle.std.proofs.Common.{refl, sym, ap, subst, ◌∙◌, inl, inr, eq-eqb}
-use Rattle.std.proofs.lemmas.Bool.{cases_Bool}
+use Rattle.std.proofs.Common.{refl, sym, ap, subst, ◌∙◌, eq-eqb}
 use Rattle.spl_value.proofs.Bools.{and_left, and_right}
-use Rattle.spl_value.proofs.Lists.{same_name}
+use Rattle.spl_value.proofs.Lists.{same_name, other_bytes}
 use Rattle.spl_value.specs.declared.types.Named.{Named}
 use Rattle.spl_value.specs.declared.types.SplType.{SplType}
 use Rattle.spl_value.specs.declared.types.SplType.TheVariants as S
@@ -101,13 +99,6 @@ PartField = Field (Placed Part)
 abbrev IsFrom : List (Named SplType) → ℕ → List (Named SplType) → PartField → Type 0
 IsFrom schema i others f = attribute_of schema f.name.what ≡ first_from (λ a. bytes_eq a.name f.name.what) i others
 
--- a name that isn't another one isn't it the other way round
-apart : (a b : List ℕ) → bytes_eq a b ≡ false → bytes_eq b a ≡ false
-apart a b e = elim (cases_Bool (bytes_eq b a)) [
-  | inl is ↦ (let same : b ≡ a = (bytes_decides b a).0 is in let bad : false ≡ true = sym e ∙ ap (bytes_eq a) same ∙ same_name a in cc)
-  | inr other ↦ other
-]
-
 no_more : (b : Bool) → not b ≡ true → b ≡ false
 no_more true e = absurd cc
 no_more false e = refl
@@ -117,7 +108,7 @@ behind_first : (schema others : List (Named SplType)) (i : ℕ) (a : Named SplTy
 behind_first schema others i a name [] is distinct h = tt
 behind_first schema others i a name (g ∷ fs) is distinct h =
     let other : bytes_eq g.name.what name ≡ false = no_more (bytes_eq g.name.what name) (and_left (not (bytes_eq g.name.what name)) (list_all (λ g. not (bytes_eq g.name.what name)) fs) distinct) in
-    let skips : bytes_eq a.name g.name.what ≡ false = ap (λ n. bytes_eq n g.name.what) is ∙ apart g.name.what name other in (
+    let skips : bytes_eq a.name g.name.what ≡ false = ap (λ n. bytes_eq n g.name.what) is ∙ other_bytes g.name.what name other in (
       h.0 ∙ ap (λ b. if b then Some (at_place i a) else first_from (λ a. bytes_eq a.name g.name.what) (suc i) others) skips,
       behind_first schema others i a name fs is (and_right (not (bytes_eq g.name.what name)) (list_all (λ g. not (bytes_eq g.name.what name)) fs) distinct) h.1,
     )

@@ -1,9 +1,10 @@
 -- The values at places of a tuple.
-use Rattle.std.proofs.Common.{◌≡◌, ◌<◌, ℕ, zero, suc, ◌+◌, List, [], ◌∷◌, ◌++◌, length, drop, get_or, slice_get, slice_set, Option, Some, None, refl, sym, ap, ◌∙◌, arith, Bool, true, false, ◌||◌, true≢false, eqb, eq-eqb}
+use Rattle.std.proofs.Common.{◌≡◌, ◌<◌, ℕ, zero, suc, ◌+◌, List, [], ◌∷◌, ◌++◌, length, drop, get_or, slice_get, slice_set, Option, Some, None, refl, sym, ap, ◌∙◌, arith, true, false, true≢false, eqb, eq-eqb}
 use Rattle.std.specs.List.{list_any}
 use Rattle.std.specs.Option.{option_and_then, option_map}
 use Rattle.spl_value.specs.declared.value.Value.{Value}
 use Rattle.stream_model.specs.Bodies.{values_at}
+use Rattle.spl_value.proofs.Bools.{neither}
 
 -- ---- all places
 
@@ -37,10 +38,6 @@ pub all_places : (vs : List Value) (places : List ℕ) → length places ≡ len
 all_places vs places e at = all_behind [] vs places e (λ k lt. let same : get_or places k 0 ≡ k = at k lt in omega arith)
 
 -- ---- one value taken
-
-neither : (a b : Bool) → (a || b) ≡ false → (a ≡ false) × (b ≡ false)
-neither true b e = absurd (true≢false e)
-neither false b e = (refl, e)
 
 other_place : (vs : List Value) (p q : ℕ) (w : Value) → (q ≡ p → ⊥) → slice_get (slice_set vs p w) q ≡ slice_get vs q
 other_place [] p q w apart = refl

@@ -17,6 +17,8 @@ use Rattle.expr_parser.specs.Taken.{Taken, TakenAs}
 use Rattle.statement_parser.proofs.Readings.{last}
 use Rattle.statement_parser.specs.Gives.{Comes, Gives}
 use Rattle.statement_parser.specs.Lines.{Line, Value, Name, rule, R, expect, expect_name, name_at, HeadPorts, CompositeParameterClause, TypeClause, GraphClause, ParameterClause, TypeOf, Types, Shaped}
+use Rattle.statement_parser.proofs.StatementReadings.{run_shrinks}
+use Rattle.expr_parser.proofs.LineSteps.{taken_shrinks}
 
 -- ---- lengths
 
@@ -24,30 +26,8 @@ use Rattle.statement_parser.specs.Lines.{Line, Value, Name, rule, R, expect, exp
 pub reads_shrinks : {x : Line} {ts rest : List Token} {v : Value x} → Reads rule x ts (Took v rest) → length rest ≤ length ts
 reads_shrinks {x} {ts} r = subst (λ o. length (rest_of o) ≤ length ts) r.is (shrinks rule r.depth x ts)
 
--- a token is taken
-pub taken_shrinks : {p : Token → Bool} {ts rest : List Token} {t : Token} → Taken p ts t rest → length rest < length ts
-taken_shrinks h = let e = ap length h.here in omega arith
-
 pub taken_as_shrinks : {A : Type 0} {p : Token → Bool} {made : Token → A} {ts rest : List Token} {x : A} → TakenAs p made ts x rest → length rest < length ts
 taken_as_shrinks h = taken_shrinks h.taken
-
--- what a rule leaves isn't longer
-run_shrinks : {A : Type 0} (n : ℕ) (r : R A) (ts : List Token) → length (rest_of (run (read rule n) r ts)) ≤ length ts
-run_shrinks n (done v) ts = omega arith
-run_shrinks n stop ts = omega arith
-run_shrinks n (look p f d) [] = run_shrinks n d []
-run_shrinks {A} n (look p f d) (t ∷ ts) = by (p t) (run (read rule n) (f t) ts) (run (read rule n) d (t ∷ ts)) (run_shrinks n (f t) ts) (run_shrinks n d (t ∷ ts))
-  where
-    by : (b : Bool) (x y : Answer A) → length (rest_of x) ≤ length ts → length (rest_of y) ≤ length (t ∷ ts) → length (rest_of (if b then x else y)) ≤ length (t ∷ ts)
-    by true x y le more = omega arith
-    by false x y le more = more
-run_shrinks {A} n (call x k) ts = by (read rule n x ts) (shrinks rule n x ts) (λ y rest. run_shrinks n (k y) rest)
-  where
-    by : (o : Answer (Value x)) → length (rest_of o) ≤ length ts → ((y : Value x) (rest : List Token) → length (rest_of (run (read rule n) (k y) rest)) ≤ length rest)
-        → length (rest_of (and_then o (λ y rest. run (read rule n) (k y) rest))) ≤ length ts
-    by (Took y rest) le behind = let more = behind y rest in omega arith
-    by (Refused rest) le behind = le
-    by Spent le behind = omega arith
 
 -- one that begins with a name takes a token
 pub name_takes : {A : Type 0} (k : Name → R A) (ts mid : List Token) (v : A) → RunsTo rule (expect_name k) ts (Took v mid) → length mid < length ts

@@ -1,21 +1,12 @@
 -- What is answered of the tokens of a program is one thing.
-use Rattle.std.proofs.Common.{◌≡◌, ◌∙◌, inl, inr, ℕ, ◌-◌, ◌≤◌, List, length, take, drop, Option, Some, None, Ok, Err, refl, sym, ap, arith, length-drop}
-use Rattle.spl_tree.specs.declared.token.Token.{Token}
+use Rattle.std.proofs.Common.{◌≡◌, ◌∙◌, inl, inr, ◌-◌, take, drop, Some, Ok, Err, refl, sym, ap, arith}
 use Rattle.spl_tree.specs.UnitGrammar.{SpellsUnit}
 use Rattle.expr_parser.specs.declared.answer.SyntaxAnswer.TheVariants as A
 use Rattle.expr_parser.proofs.PhraseLaws.{longest_one}
 use Rattle.spl_tree.specs.Units.{place_of}
 use Rattle.unit_parser.specs.Parses.{OneAnswerLaw}
 use Rattle.unit_parser.proofs.WholeUnits.{one_unit}
-
--- the rest of a list begins at one place
-one_place : (ts : List Token) (m n : ℕ) → m ≤ length ts → n ≤ length ts → drop m ts ≡ drop n ts → m ≡ n
-one_place ts m n first second same =
-    let lengths : length ts - m ≡ length ts - n = sym (length-drop m ts) ∙ ap length same ∙ length-drop n ts in
-    omega arith
-
-two_deep : {o : Option ℕ} {i : ℕ} → o ≡ None → o ≡ Some i → ⊥
-two_deep none some = let clash = sym none ∙ some in cc
+use Rattle.expr_parser.proofs.OneAnswer.{one_place, two_deep}
 
 pub one_answer : OneAnswerLaw
 one_answer tokens (Ok u) (Ok v) x y = let same = one_unit u v tokens.list x.spells y.spells in inr (inr (ap (λ w. Ok w) same))

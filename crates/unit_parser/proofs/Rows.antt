@@ -6,20 +6,17 @@ use Rattle.spl_tree.specs.declared.token.Token.{Token}
 use Rattle.expr_parser.specs.declared.stop.Stop.{Stop}
 use Rattle.expr_parser.proofs.Locality.{rest_of, shrinks}
 use Rattle.expr_parser.specs.Rules.{Rule, done, call, Answer, Took, RunsTo, Reads}
-use Rattle.expr_parser.specs.Taken.{Taken, TakenAs}
+use Rattle.expr_parser.specs.Taken.{TakenAs}
 use Rattle.statement_parser.specs.Gives.{Answered, Comes, Gives}
 use Rattle.statement_parser.specs.Lines.{Line, Value, rule, R}
 use Rattle.statement_parser.proofs.Readings.{finished, last, says_on}
+use Rattle.expr_parser.proofs.LineSteps.{taken_shrinks}
 
 -- ---- lengths
 
 -- what is left isn't longer
 pub reads_shrinks : {L : Type 0} {V : L → Type 0} {r : (x : L) → Rule L V (V x)} {x : L} {ts rest : List Token} {v : V x} → Reads r x ts (Took v rest) → length rest ≤ length ts
 reads_shrinks {r = r} {x = x} {ts = ts} q = subst (λ o. length (rest_of o) ≤ length ts) q.is (shrinks r q.depth x ts)
-
--- a token is taken
-pub taken_shrinks : {p : Token → Bool} {ts rest : List Token} {t : Token} → Taken p ts t rest → length rest < length ts
-taken_shrinks h = let e = ap length h.here in omega arith
 
 pub taken_as_shrinks : {A : Type 0} {p : Token → Bool} {made : Token → A} {ts rest : List Token} {x : A} → TakenAs p made ts x rest → length rest < length ts
 taken_as_shrinks h = taken_shrinks h.taken

@@ -7,7 +7,7 @@ use Rattle.spl_tree.specs.declared.symbol.Symbol.{Symbol}
 use Rattle.spl_tree.specs.declared.symbol.Symbol.TheVariants as S
 use Rattle.spl_tree.specs.declared.token.Token.{Token}
 use Rattle.spl_tree.specs.declared.token.TokenKind.TheVariants as T
-use Rattle.spl_tree.specs.Grammar.{Expr, Is, Names, Primary, elements, Items, Steps, no_steps, member, index, Operand, primary, select}
+use Rattle.spl_tree.specs.Grammar.{Expr, Is, Names, Primary, elements, Items, Steps, Operand, primary, select}
 use Rattle.spl_tree.specs.Phrases.{IsKeyword, Row, more, Separated, first, next}
 use Rattle.spl_tree.specs.TypeGrammar.{TypeExpr, SpellsType}
 use Rattle.spl_tree.specs.StatementGrammar.{assignment_of}
@@ -20,10 +20,11 @@ use Rattle.expr_parser.proofs.Sound as expression_phrases
 use Rattle.expr_parser.proofs.Soundness as soundness
 use Rattle.expr_parser.proofs.Soundness.{Phrase, Behind, After, leads_some}
 use Rattle.statement_parser.specs.Lines.{Line, Value, R, is_word, type_of, is_dollar, dollar_at, is_assignment, assignment_at, lifted, expect, expect_word, a_type}
-use Rattle.unit_parser.proofs.SoundTests.{is_word-true, is_type-true, is_dollar-true, is_assignment-true}
+use Rattle.unit_parser.proofs.SoundTests.{is_type-true, is_dollar-true, is_assignment-true}
 use Rattle.unit_parser.proofs.SoundPhrases.{Closed, closed, Rows, TakesSteps, ExpressionPhrases, Phrases}
 use Rattle.unit_parser.proofs.SoundSamples.{has, a_token, a_symbol, a_keyword, a_word}
-use Rattle.spl_value.proofs.Lists.{push_some}
+use Rattle.statement_parser.proofs.CompleteParts.{word_is}
+use Rattle.expr_parser.proofs.Sound.{steps_none}
 
 -- each way through a rule completes a phrase of U, and where it stops, some tokens would complete one
 abbrev pub Leads : {A : Type 0} → Phrase A → R A → Type 0
@@ -41,12 +42,6 @@ leads_map U V m (call x k) q = λ y. leads_map (After (Phrases x) U y) (After (P
 -- expressions with commas between them and the closing bracket
 closed_elements : {close : Symbol} {es : List Expr} {a : List Token} → Closed Items close es a → expression_phrases.Closed close es a
 closed_elements (closed es c a d right) = record { inside = a; last = c; splits = refl; spells = elements es a d; is = right }
-
--- no steps are no tokens
-pub steps_none : {ss : List (Step Expr)} {a : List Token} → Steps ss a → ss ≡ [] → a ≡ []
-steps_none no_steps e = refl
-steps_none (member ss a d t n ds dot named) e = absurd (push_some ss _ e)
-steps_none (index ss i o c a b ds left d right) e = absurd (push_some ss _ e)
 
 -- a primary expression and the steps that are taken of it
 operand_spells : {e p : Expr} {a b : List Token} → TakesSteps e p b → Primary e a → Operand p (a ++ b)
@@ -113,7 +108,7 @@ comes_symbol s q = comes (Is s) (a_symbol s) refl (is-true s) q
 
 -- that reserved word
 pub comes_word : {A : Type 0} {U : Phrase A} {r : R A} (k : Keyword) → ((t : Token) → IsKeyword k t → LeadsTo (Behind t U) r) → LeadsTo U (expect_word k r)
-comes_word k q = comes (IsKeyword k) (a_keyword k) refl (is_word-true k) q
+comes_word k q = comes (IsKeyword k) (a_keyword k) refl (word_is k) q
 
 -- a name
 pub comes_name : {A : Type 0} {U : Phrase A} {f : Token → R A} → ((t : Token) → Names (name_of t) t → LeadsTo (Behind t U) (f t)) → LeadsTo U (look is_name f stop)
@@ -137,7 +132,7 @@ may_symbol s q other = either (λ t e. q t (is-true s t e)) other
 -- that reserved word
 pub may_word : {A : Type 0} {U : Phrase A} {f : Token → R A} {r : R A} (k : Keyword) → ((t : Token) → IsKeyword k t → LeadsTo (Behind t U) (f t)) → LeadsTo U r
     → LeadsTo U (look (is_word k) f r)
-may_word k q other = either (λ t e. q t (is_word-true k t e)) other
+may_word k q other = either (λ t e. q t (word_is k t e)) other
 
 -- a name
 pub may_name : {A : Type 0} {U : Phrase A} {f : Token → R A} {r : R A} → ((t : Token) → Names (name_of t) t → LeadsTo (Behind t U) (f t)) → LeadsTo U r

@@ -24,8 +24,10 @@ use Rattle.statement_parser.specs.Lines as lines
 use Rattle.statement_parser.specs.Lines.{Name, rule, arms_end}
 use Rattle.unit_parser.proofs.SoundPhrases.{Closed, closed, TakesSteps, SpellsEither, LeadingArm, Phrases}
 use Rattle.unit_parser.proofs.SoundSamples.{declaration_spells}
-use Rattle.unit_parser.proofs.SoundRules.{LeadsTo, weaker, ended, called, last, comes_symbol, comes_word, comes_name, comes_assignment, may_symbol, may_word, may_name, steps_none}
-use Rattle.unit_parser.proofs.SoundTypes.{begins_more, type_begins}
+use Rattle.unit_parser.proofs.SoundRules.{LeadsTo, weaker, ended, called, last, comes_symbol, comes_word, comes_name, comes_assignment, may_symbol, may_word, may_name}
+use Rattle.unit_parser.proofs.SoundTypes.{begins_more}
+use Rattle.unit_parser.proofs.CompleteTypes.{type_at}
+use Rattle.expr_parser.proofs.Sound.{steps_none}
 
 -- Declarations
 
@@ -105,7 +107,7 @@ other_leads =
     (statements.submit t o m n c s e (name_of n) a is left d comma word right semicolon, λ arms other e. absurd (cc))))))))))
     (may_word K.Mutable (λ t is. called (λ k. last (λ v b r a d. declare_spells (r a d (t ∷ []) (mutable t is)) (begins t (a ++ b)))))
     (may_name (λ t word. last (λ s b r. r t word refl))
-    (called (λ k. last (λ v b r a d. declare_spells (r a d [] constant) (begins_more (type_begins d) b))))))))))))
+    (called (λ k. last (λ v b r a d. declare_spells (r a d [] constant) (begins_more (type_at d) b))))))))))))
 
 -- a declaration behind the name of its type
 begun_declaration : {at : ℕ} {n : List ℕ} {v : Token} {d : Declaration} {b : List Token}

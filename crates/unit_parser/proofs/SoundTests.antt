@@ -1,40 +1,18 @@
 -- What a token is that passes a test.
-use Rattle.std.proofs.Common.{◌≡◌, true, [], ◌∷◌, Option, Some, None, refl, ap}
+use Rattle.std.proofs.Common.{◌≡◌, true, [], ◌∷◌, Some, None, refl}
 use Rattle.std.specs.Option.{is_some, unwrap_or}
-use Rattle.std.specs.Str.{bytes_eq}
-use Rattle.std.proofs.lemmas.Slice.Eq.{bytes_eq-Decides}
 use Rattle.spl_tree.specs.declared.keyword.Keyword.{Keyword}
 use Rattle.spl_tree.specs.declared.keyword.Keyword.TheVariants as K
 use Rattle.spl_tree.specs.declared.shape.TypeKind.TheVariants as Y
 use Rattle.spl_tree.specs.declared.token.Token.{Token}
 use Rattle.spl_tree.specs.declared.token.TokenKind.{TokenKind}
 use Rattle.spl_tree.specs.declared.token.TokenKind.TheVariants as T
-use Rattle.spl_tree.specs.Words.{keyword_word, keyword_of}
-use Rattle.spl_tree.proofs.WordLaws.{keywords_law}
 use Rattle.spl_tree.specs.Grammar.{placed}
-use Rattle.spl_tree.specs.Phrases.{IsKeyword}
 use Rattle.spl_tree.specs.TypeGrammar.{SpellsType, boolean, rstring, int, left_out, name}
 use Rattle.spl_tree.specs.StatementGrammar.{assignment_of}
-use Rattle.statement_parser.specs.Lines.{word_kind, is_word, keyword_type, type_kind, is_type, type_of, dollar_kind, is_dollar, is_assignment, assignment_at}
-
--- an option that has a value has the one that is taken of it
-unwrap_or-is_some : {A : Type 0} (o : Option A) (d : A) → is_some o ≡ true → o ≡ Some (unwrap_or o d)
-unwrap_or-is_some None d e = absurd (cc)
-unwrap_or-is_some (Some x) d e = refl
-
--- reserved words with one text are one
-same_keyword : (k x : Keyword) → bytes_eq (keyword_word k) (keyword_word x) ≡ true → k ≡ x
-same_keyword k x e =
-    let same = ap keyword_of ((bytes_eq-Decides (keyword_word k) (keyword_word x)).0 e) in
-    cc (same, keywords_law k, keywords_law x)
-
--- a token that is tested for a reserved word is that word
-pub is_word-true : (k : Keyword) (t : Token) → is_word k t ≡ true → IsKeyword k t
-is_word-true k t e = by t.kind e
-  where
-    by : (x : TokenKind) → word_kind k x ≡ true → x ≡ T.Keyword k
-    by (T.Keyword x) e = let same = same_keyword k x e in cc
-    by _ e = absurd (cc)
+use Rattle.statement_parser.specs.Lines.{keyword_type, type_kind, is_type, type_of, dollar_kind, is_dollar, is_assignment, assignment_at}
+use Rattle.statement_parser.proofs.CompleteParts.{word_is, same_word}
+use Rattle.expr_parser.proofs.TestLaws.{unwrap_or-is_some}
 
 -- a type by itself
 pub is_type-true : (t : Token) → is_type t ≡ true → SpellsType (type_of t) (t ∷ [])

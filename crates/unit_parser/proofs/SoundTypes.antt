@@ -10,7 +10,7 @@ use Rattle.spl_tree.specs.declared.token.Token.{Token}
 use Rattle.spl_tree.specs.Grammar as grammar
 use Rattle.spl_tree.specs.Grammar.{placed, Is, Items}
 use Rattle.spl_tree.specs.Phrases.{IsKeyword}
-use Rattle.spl_tree.specs.TypeGrammar.{TypeExpr, named, SpellsType, boolean, rstring, int, left_out, name, list, map, tuple, SpellsAttributes, first_attribute, next_attribute, SpellsShape, plain, attributes}
+use Rattle.spl_tree.specs.TypeGrammar.{TypeExpr, named, SpellsType, list, map, tuple, SpellsAttributes, first_attribute, next_attribute, SpellsShape, plain, attributes}
 use Rattle.spl_tree.specs.StatementGrammar.{BeginsAt, begins}
 use Rattle.expr_parser.specs.Rules.{done}
 use Rattle.expr_parser.specs.Lines as expressions
@@ -21,6 +21,7 @@ use Rattle.statement_parser.specs.Lines.{rule}
 use Rattle.unit_parser.proofs.SoundPhrases.{Leading, Closed, closed, SpellsAttribute, attribute, Phrases}
 use Rattle.unit_parser.proofs.SoundSamples.{has, listing_closed}
 use Rattle.unit_parser.proofs.SoundRules.{LeadsTo, leads_lifted, ended, called, last, stops, comes_symbol, comes_name, may_symbol, may_name, may_type}
+use Rattle.unit_parser.proofs.CompleteTypes.{type_at}
 
 -- Expressions
 
@@ -56,17 +57,6 @@ begins_one (begins t a) d = sym (by d refl)
     by : {y : ℕ} {b : List Token} → BeginsAt y b → b ≡ t ∷ a → y ≡ t.start
     by (begins u b) same = let head : u ≡ t = cc in ap (λ (v : Token). v.start) head
 
--- a type is placed at its first token
-pub type_begins : {k : TypeExpr} {a : List Token} → SpellsType k a → BeginsAt k.at a
-type_begins (boolean t is) = begins t []
-type_begins (rstring t is) = begins t []
-type_begins (int t k is) = begins t []
-type_begins (left_out t w is) = begins t []
-type_begins (name t n is) = begins t []
-type_begins (list t o c e a is left d right) = begins t (o ∷ (a ++ c ∷ []))
-type_begins (map t o m c k v a b is left dk comma dv right) = begins t (o ∷ (a ++ m ∷ (b ++ c ∷ [])))
-type_begins (tuple t o c xs a is left d right) = begins t (o ∷ (a ++ c ∷ []))
-
 -- attributes begin with a type
 record BeginsWith (xs : List (Attribute TypeExpr)) (a : List Token) : Type 0 where
   head : Attribute TypeExpr
@@ -75,7 +65,7 @@ record BeginsWith (xs : List (Attribute TypeExpr)) (a : List Token) : Type 0 whe
   begins : BeginsAt head.kind.at a
 
 attributes_begin : {xs : List (Attribute TypeExpr)} {a : List Token} → SpellsAttributes xs a → BeginsWith xs a
-attributes_begin (first_attribute k t n a d word) = record { head = named k t n; tail = []; is = refl; begins = begins_more (type_begins d) (t ∷ []) }
+attributes_begin (first_attribute k t n a d word) = record { head = named k t n; tail = []; is = refl; begins = begins_more (type_at d) (t ∷ []) }
 attributes_begin (next_attribute xs k c t n a b ds comma d word) =
     let f = attributes_begin ds in
     record { head = f.head; tail = f.tail ++ named k t n ∷ []; is = ap (λ ys. ys ++ named k t n ∷ []) f.is; begins = begins_more f.begins (c ∷ (b ++ t ∷ [])) }
@@ -144,5 +134,5 @@ pub shaped_leads : (close : Symbol) → LeadsTo (Phrases (lines.Shaped close)) (
 unfolding rule
 shaped_leads close = called (λ k. may_name
     (λ t word. last (λ xs b r a d.
-    shape_spells (simp append_assoc at (r (a ++ t ∷ []) (first_attribute k t (name_of t) a d word))) (begins_more (type_begins d) (t ∷ b))))
+    shape_spells (simp append_assoc at (r (a ++ t ∷ []) (first_attribute k t (name_of t) a d word))) (begins_more (type_at d) (t ∷ b))))
     (comes_symbol close (λ c right. ended (λ a d. closed (placed k.at (H.Type k)) c a (plain k a d) right))))

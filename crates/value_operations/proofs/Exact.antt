@@ -1,5 +1,5 @@
 -- What operators of integers come to, from the results in 128 bits.
-use Rattle.std.specs.Prelude.{◌≡◌, ℕ, zero, suc, ◌*◌, ◌/◌, ◌%◌, ◌≤◌, ◌^◌, ℤ, pos, negsuc, neg_ℤ, unsigned_abs, ◌+ℤ◌, ◌-ℤ◌, ◌*ℤ◌, int_div, int_rem, IsTrue, FitsSigned}
+use Rattle.std.specs.Prelude.{◌≡◌, ℕ, zero, suc, ◌*◌, ◌/◌, ◌%◌, ◌≤◌, ◌^◌, ℤ, pos, negsuc, unsigned_abs, ◌+ℤ◌, ◌-ℤ◌, ◌*ℤ◌, int_div, int_rem, IsTrue, FitsSigned}
 use Rattle.std.specs.Int.{w128, int_wrap}
 use Rattle.std.specs.Int.Bits.{bit_and, bit_or, bit_xor}
 use Rattle.std.proofs.Common.{refl, sym, ap, subst, ◌∙◌, to_z, of_z, arith}
@@ -15,13 +15,8 @@ use Rattle.spl_tree.specs.declared.code.IntegerOperator.{IntegerOperator}
 use Rattle.spl_tree.specs.declared.code.IntegerOperator.TheVariants as I
 use Rattle.language_model.specs.Operators.{integer, divided, bits_of, on_integers}
 use Rattle.value_operations.proofs.Bits.{and_wrapped, or_wrapped, xor_wrapped}
-use Rattle.value_operations.proofs.Sizes.{within, fits_128, kept_in_128}
 use Rattle.value_operations.proofs.Wrapping.{of_kind, wrapped_alike, int_wrap_congruent}
-
-turned : (n : ℤ) → unsigned_abs (neg_ℤ n) ≡ unsigned_abs n
-turned (pos zero) = refl
-turned (pos (suc n)) = refl
-turned (negsuc n) = refl
+use Rattle.spl_value.proofs.Widths.{within, turned, fits_128, kept_in_128}
 
 quotient_within : (m n : ℤ) → unsigned_abs (int_div m n) ≤ unsigned_abs m
 quotient_within (pos a) (pos b) = div-le_self a b

@@ -16,7 +16,7 @@ use Rattle.language_model.specs.Changes.{level_index}
 use Rattle.language_model.specs.Operators.{found, element_at, level_element}
 use Rattle.value_operations.specs.Changing.{IsIndex, IsPlaceIn}
 use Rattle.value_operations.proofs.Parts.{below}
-use Rattle.value_operations.proofs.Sizes.{kept_in_128}
+use Rattle.spl_value.proofs.Widths.{kept_in_128}
 
 natural : (n : ℤ) (at : ℕ) → FitsUnsigned w64 n → at ≡ nat_abs n → n ≡ pos at
 natural (pos m) at f e = ap pos (sym e)

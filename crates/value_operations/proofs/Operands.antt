@@ -28,7 +28,7 @@ use Rattle.language_model.specs.CodeFits.{UnaryGives, BinaryGives}
 use Rattle.language_model.specs.Operators.{bool_text, level_unary, unary_of}
 use Rattle.value_operations.specs.Fitting.{FitBinary, FitRelation, FitsUnary}
 use Rattle.value_operations.proofs.Parts.{pairs_of}
-use Rattle.value_operations.proofs.Sizes.{kept_in_128}
+use Rattle.spl_value.proofs.Widths.{kept_in_128}
 
 abbrev OfType : SplType → Value → Type 0
 OfType t v = IsTrue (fits t v)

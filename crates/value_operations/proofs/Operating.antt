@@ -27,7 +27,7 @@ use Rattle.spl_tree.specs.declared.code.UnaryCode.TheVariants as U
 use Rattle.language_model.specs.Operators.{boolean, in_order, is_equal, level_in_list, binary_of, integer, level_unary, unary_of}
 use Rattle.value_operations.specs.Fitting.{FitBinary, FitsUnary}
 use Rattle.value_operations.proofs.Operands.{alike_operands, unary_holds}
-use Rattle.value_operations.proofs.Sizes.{within, kept_in_128}
+use Rattle.spl_value.proofs.Widths.{within, kept_in_128}
 
 -- ---- order and equality
 

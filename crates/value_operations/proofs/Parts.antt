@@ -19,8 +19,9 @@ use Rattle.spl_value.specs.Pairs.{are_pairs}
 use Rattle.spl_value.specs.Values.{fits, tuple_fits, kind_holds}
 use Rattle.language_model.specs.Operators.{found, given, level_member, element_at, level_element}
 use Rattle.value_operations.specs.Taking.{HasMember, HasElements, HasKeys}
-use Rattle.value_operations.proofs.Sizes.{kept_in_128, natural_fits}
+use Rattle.value_operations.proofs.Sizes.{natural_fits}
 use Rattle.spl_value.proofs.Bools.{and_left as first_true}
+use Rattle.spl_value.proofs.Widths.{kept_in_128}
 
 -- ---- tuples
 

@@ -1,6 +1,6 @@
 -- What the steps of a change, and the change itself, ask of the value in which it is made.
 use Rattle.std.specs.Prelude.{◌≡◌, ℕ, ◌-◌, ◌≤◌, IsTrue, List, [], ◌∷◌, length, drop, take, Some, slice_get}
-use Rattle.std.proofs.Common.{inl, inr, refl, sym, ap, subst, ◌∙◌, arith, get_or}
+use Rattle.std.proofs.Common.{refl, sym, ap, subst, ◌∙◌, arith, get_or}
 use Rattle.std.proofs.Math.Seq.{take-length}
 use Rattle.std.specs.List.{list_all}
 use Rattle.spl_value.specs.declared.types.IntKind.{IntKind}
@@ -126,10 +126,3 @@ module _ (change : Change Value) (v : Value) (h : CanChange [] change v) where
 
   pub cleared_is_collection : change ≡ H.Clear → FitsCollection v
   cleared_is_collection is = (h.1, argument H.Clear is, of_changed h.1 refl)
-
--- a list or a map
-pub not_collection : (v : Value) → FitsCollection v → ((vs : List Value) → v ≡ V.List vs → ⊥) → ((ps : List (Value × Value)) → v ≡ V.Map ps → ⊥) → ⊥
-not_collection v (t, inl (element, e), f) not_list not_map =
-    let is = list_from_fits element v (subst (λ (u : SplType). IsTrue (fits u v)) e f) in not_list is.0 is.1
-not_collection v (t, inr (key, value, e), f) not_list not_map =
-    let is = map_from_fits key value v (subst (λ (u : SplType). IsTrue (fits u v)) e f) in not_map is.0 is.1

@@ -1,32 +1,12 @@
 -- The numbers of the kinds within 64 bits, and so within 128.
-use Rattle.std.specs.Prelude.{◌≡◌, ℕ, ◌-◌, ◌^◌, ◌≤◌, ℤ, pos, negsuc, unsigned_abs, IsTrue, FitsSigned}
-use Rattle.std.specs.Int.{w64, w128, FitsUnsigned}
-use Rattle.std.proofs.Common.{lit≤, arith, to_z, of_z}
+use Rattle.std.specs.Prelude.{ℕ, ◌-◌, pos, IsTrue}
+use Rattle.std.specs.Int.{w64, FitsUnsigned}
+use Rattle.std.proofs.Common.{arith}
 use Rattle.std.proofs.lemmas.Bool.{ltb-true}
-use Rattle.std.proofs.lemmas.Int.{ints, fits_signed_from_abs, to_z-of_z}
+use Rattle.std.proofs.lemmas.Int.{ints}
 use Rattle.spl_value.specs.declared.types.IntKind.{IntKind}
-use Rattle.spl_value.specs.declared.types.IntKind.TheVariants.{I8, I16, I32, I64, U8, U16, U32, U64}
-use Rattle.spl_value.specs.Values.{kind_holds, modulus, top}
-
-widths : (k : IntKind) → (top k ≤ 2 ^ 64) × (modulus k - top k ≤ 2 ^ 64)
-widths I8 = (lit≤ tt, lit≤ tt)
-widths I16 = (lit≤ tt, lit≤ tt)
-widths I32 = (lit≤ tt, lit≤ tt)
-widths I64 = (lit≤ tt, lit≤ tt)
-widths U8 = (lit≤ tt, lit≤ tt)
-widths U16 = (lit≤ tt, lit≤ tt)
-widths U32 = (lit≤ tt, lit≤ tt)
-widths U64 = (lit≤ tt, lit≤ tt)
-
-pub within : (k : IntKind) (n : ℤ) → IsTrue (kind_holds k n) → unsigned_abs n ≤ 2 ^ 64
-within k (pos n) h = let w = widths k in let lt = ltb-true n (top k) h in omega arith
-within k (negsuc n) h = let w = widths k in let lt = ltb-true n (modulus k - top k) h in omega arith
-
-pub fits_128 : (n : ℤ) → unsigned_abs n ≤ 2 ^ 64 → FitsSigned w128 n
-fits_128 n h = fits_signed_from_abs w128 n (omega arith)
-
-pub kept_in_128 : (k : IntKind) (n : ℤ) → IsTrue (kind_holds k n) → to_z w128 (of_z w128 n) ≡ n
-kept_in_128 k n h = to_z-of_z w128 n (fits_128 n (within k n h))
+use Rattle.spl_value.specs.Values.{kind_holds, top}
+use Rattle.spl_value.proofs.Widths.{widths, within}
 
 -- one that isn't negative is an unsigned one of 64 bits
 pub natural_fits : (k : IntKind) (n : ℕ) → IsTrue (kind_holds k (pos n)) → FitsUnsigned w64 (pos n)

@@ -12,6 +12,7 @@ use Rattle.language_model.proofs.DefinedTypes.{there}
 use Rattle.written_types.specs.Circles.{TellsBack, TellsCircular, with_circle}
 use Rattle.written_types.specs.Definitions.{places_of, rows_of}
 use Rattle.written_types.specs.Stepping.{steps_from, LeadsWithin}
+use Rattle.spl_value.proofs.Lists.{map_length}
 
 -- ---- rows
 
@@ -20,16 +21,12 @@ row_at f [] place = refl
 row_at f (x ∷ xs) zero = refl
 row_at f (x ∷ xs) (suc place) = row_at f xs place
 
-rows_length : {A B : Type 0} (f : A → B) (xs : List A) → length (map f xs) ≡ length xs
-rows_length f [] = refl
-rows_length f (x ∷ xs) = ap suc (rows_length f xs)
-
 module _ (definitions : List TypeDefinition) where
   steps_are : steps_from (rows_of definitions) ≡ leads_to definitions
   steps_are = λ i place. row_at (λ d. places_of definitions (shape_names d.shape)) definitions place i
 
   count_is : length (rows_of definitions) ≡ length definitions
-  count_is = rows_length (λ d. places_of definitions (shape_names d.shape)) definitions
+  count_is = map_length (λ d. places_of definitions (shape_names d.shape)) definitions
 
   back_is : (place : ℕ) → leads_back (length (rows_of definitions)) (steps_from (rows_of definitions)) place ≡ is_circular definitions place
   back_is place = λ i. leads_back (count_is i) (steps_are i) place

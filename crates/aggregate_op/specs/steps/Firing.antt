@@ -17,12 +17,6 @@ use Rattle.aggregate_op.specs.declared.clauses.Clauses.{Clauses}
 use Rattle.aggregate_op.specs.Arguments.{ArgumentsFit, extended}
 use Rattle.aggregate_op.specs.steps.Giving.{contents_given}
 
--- the operator goes on with this
-abbrev pub WhereOut : Reply → Type 0 → Type 0
-WhereOut (R.Out outs) p = p
-WhereOut (R.Ended outs fault) p = ⊤
-WhereOut R.Memory p = ⊤
-
 -- the key of a tuple, and the tuple as it goes into the window
 abbrev pub key_of_tuple : Clauses → List Value → List Value
 key_of_tuple clauses t = partition_key clauses.window.now clauses.partition.now t

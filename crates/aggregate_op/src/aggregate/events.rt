@@ -11,7 +11,8 @@ ghost use Rattle.window_policy.specs.Answers.{firing_of};
 ghost use Rattle.window_policy.specs.Standing.{Stands};
 ghost use Rattle.port_reacts.specs.Bodies.{RepliesTo, RepliesToItem};
 ghost use Rattle.aggregate_op.specs.Arguments.{ArgumentsFit, extended as extended_by, idle};
-ghost use Rattle.aggregate_op.specs.steps.Firing.{EventGives, MayCome, TupleGives, WhereOut, behind, event_makes, item_makes, key_of_tuple, tuple_makes};
+ghost use Rattle.port_reacts.specs.PortReplies.{WhereOut};
+ghost use Rattle.aggregate_op.specs.steps.Firing.{EventGives, MayCome, TupleGives, behind, event_makes, item_makes, key_of_tuple, tuple_makes};
 ghost use Rattle.aggregate_op.specs.steps.Giving.{contents_given};
 
 use crate::arguments::extended;

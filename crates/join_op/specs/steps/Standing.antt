@@ -6,12 +6,6 @@ use Rattle.stream_model.specs.declared.reply.Reply.{Reply}
 use Rattle.stream_model.specs.declared.reply.Reply.TheVariants as R
 use Rattle.stream_model.specs.Windows.{WindowEvent, Insert, Mark}
 
--- the operator goes on with this
-abbrev pub WhereOut : Reply → Type 0 → Type 0
-WhereOut (R.Out outs) p = p
-WhereOut (R.Ended outs fault) p = ⊤
-WhereOut R.Memory p = ⊤
-
 -- an item comes into a window with one key
 abbrev pub behind : Item → List WindowEvent → List WindowEvent
 behind (I.Tuple t) h = Insert [] t ∷ h

@@ -9,7 +9,8 @@ ghost use Rattle.window_policy.specs.Standing.{Stands};
 ghost use Rattle.port_reacts.specs.Bodies.{GoesOn, RepliesTo, RepliesToItem};
 ghost use Rattle.join_op.specs.Pairs.{IsReady, pair_env};
 ghost use Rattle.join_op.specs.steps.Matching.{ClausesFit, MayMatch, matched};
-ghost use Rattle.join_op.specs.steps.Standing.{WhereOut, behind};
+ghost use Rattle.port_reacts.specs.PortReplies.{WhereOut};
+ghost use Rattle.join_op.specs.steps.Standing.{behind};
 
 use crate::clauses::Clauses;
 use crate::matching::match_window;

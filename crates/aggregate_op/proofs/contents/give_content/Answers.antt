@@ -3,15 +3,15 @@ use Rattle.stream_model.specs.Aggregates.{marker_after}
 use Rattle.stream_model.specs.Groups.{groups}
 use Rattle.tuple_groups.specs.Seen.{entry_of, seen}
 use Rattle.aggregate_op.specs.steps.Giving.{groups_given}
-use Rattle.aggregate_op.proofs.GivingSteps.{groups_there}
 use Rattle.aggregate_op.proofs.contents.give_content.Goals as goal
+use Rattle.language_model.proofs.Flattening.{mapped}
 
 pub give_groups-requires : goal.give_groups-requires
 give_groups-requires c =
     let x = c.args.clauses.now in
     let us = seen c.args.tuples.items in
     let are = ap (map entry_of) c.as_slice.ensures.value ∙ c.in_ok-groups.ensures in
-    let there = groups_there (λ outs. outs ++ marker_after x.window.now.rule) (groups_given x (groups x.group.now us)) c.requires.0 c.requires.1 in
+    let there = mapped (λ outs. outs ++ marker_after x.window.now.rule) (groups_given x (groups x.group.now us)) c.requires.0 c.requires.1 in
     (there.0, ap (groups_given x) are ∙ there.1)
 
 pub returns : goal.returns
@@ -20,6 +20,6 @@ returns c given e =
     let us = seen c.args.tuples.items in
     let old = c.args.outs.now in
     let are = ap (map entry_of) c.as_slice.ensures.value ∙ c.in_ok-groups.ensures in
-    let there = groups_there (λ outs. outs ++ marker_after x.window.now.rule) (groups_given x (groups x.group.now us)) given e in
+    let there = mapped (λ outs. outs ++ marker_after x.window.now.rule) (groups_given x (groups x.group.now us)) given e in
     c.in_ok-give_marker.ensures ∙ ap (λ os. os ++ marker_after x.window.now.rule) (c.in_ok-give_groups.ensures there.0 (ap (groups_given x) are ∙ there.1))
     ∙ append_assoc old there.0 (marker_after x.window.now.rule) ∙ ap (λ os. old ++ os) there.2

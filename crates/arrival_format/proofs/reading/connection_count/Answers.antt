@@ -1,7 +1,7 @@
 use Rattle.std.proofs.Common.{◌∙◌, ap, sym, length, List, ℕ, sum_by}
 use Rattle.std.proofs.lemmas.List.{take_all}
-use Rattle.arrival_format.proofs.Lines.{count_concat}
 use Rattle.arrival_format.proofs.reading.connection_count.Goals as goal
+use Rattle.spl_value.proofs.Lists.{count_concat}
 
 pub returns : goal.returns
 returns c =

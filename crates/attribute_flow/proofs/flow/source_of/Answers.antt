@@ -2,8 +2,8 @@ use Rattle.std.proofs.Common.{ap, slice_get, sym, ◌∙◌}
 use Rattle.language_model.specs.declared.checked.Part.{Part}
 use Rattle.language_model.specs.CheckedGraph.{CheckedGraph}
 use Rattle.stream_model.specs.Copies.{source_of}
-use Rattle.attribute_flow.proofs.Chaining.{clauses_are}
 use Rattle.attribute_flow.proofs.flow.source_of.Goals as goal
+use Rattle.stream_model.proofs.GraphParts.{clauses_are}
 
 pub returns : goal.returns
 returns c = record {

@@ -3,7 +3,7 @@ use Rattle.spl_tree.proofs.ExprWeights.{item_below}
 use Rattle.stream_model.specs.Copies.{submits_of}
 use Rattle.attribute_flow.specs.steps.Agreements.{agreement, and_then, arms_submits, statement_submits}
 use Rattle.attribute_flow.proofs.Agreeing.{agreement_append, arm_step, row_step}
-use Rattle.attribute_flow.proofs.StatementWeights.{weight, weights, arm_weight}
+use Rattle.spl_tree.proofs.StatementWeights.{weight, weights, arm_weight}
 use Rattle.attribute_flow.proofs.SubmitForms.{if_is}
 use Rattle.attribute_flow.proofs.submits.+submits.Goals as goal
 

@@ -1,7 +1,7 @@
 use Rattle.std.proofs.Common.{◌≡◌, ◌+◌, drop}
 use Rattle.stream_model.specs.Copies.{submits_of}
 use Rattle.attribute_flow.specs.steps.Agreements.{agreement, and_then, arms_submits}
-use Rattle.attribute_flow.proofs.StatementWeights.{weight, weights, arm_weights}
+use Rattle.spl_tree.proofs.StatementWeights.{weight, weights, arm_weights}
 use Rattle.attribute_flow.proofs.submits.+submits.Given as goal
 
 abbrev pub decreases-of_statement : goal.decreases-of_statement

@@ -4,8 +4,9 @@ use Rattle.stream_model.specs.Bodies.{made_where, most_turns}
 use Rattle.join_op.specs.Fitting.{PairFits}
 use Rattle.join_op.specs.Pairs.{with_other}
 use Rattle.join_op.specs.steps.Giving.{given}
-use Rattle.join_op.proofs.PairSteps.{given_nothing, item_there, one_more, other_again, pair_fits, place_stays}
+use Rattle.join_op.proofs.PairSteps.{given_nothing, one_more, other_again, pair_fits, place_stays}
 use Rattle.join_op.proofs.matching.match_all.Goals as goal
+use Rattle.spl_value.proofs.Lists.{item_there}
 
 pub loop-i-init : goal.loop-i-init
 unfolding most_turns

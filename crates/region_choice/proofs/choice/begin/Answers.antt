@@ -8,8 +8,9 @@ use Rattle.region_choice.specs.steps.GraphChains.{chains_of, has_key}
 use Rattle.region_choice.specs.steps.Growing.{Grows, IsGrown, IsLonger, nothing}
 use Rattle.region_choice.proofs.Growth.{begun, nothing_grown}
 use Rattle.region_choice.proofs.Placing.{begins}
-use Rattle.region_choice.proofs.Soundness.{same_length, sound}
+use Rattle.region_choice.proofs.Soundness.{sound}
 use Rattle.region_choice.proofs.choice.begin.Goals as goal
+use Rattle.stream_model.proofs.GraphParts.{same_length}
 
 pub set-requires : goal.set-requires
 set-requires c =

@@ -13,8 +13,8 @@ use Rattle.region_choice.specs.steps.Choosing.{chosen_from}
 use Rattle.region_choice.specs.steps.GraphChains.{chains_of}
 use Rattle.region_choice.specs.steps.Growing.{region_of}
 use Rattle.region_choice.proofs.Placing.{none_standing, plan_is, settled_next, topo_within}
-use Rattle.region_choice.proofs.Soundness.{same_length}
 use Rattle.region_choice.proofs.choice.choose.Goals as goal
+use Rattle.stream_model.proofs.GraphParts.{same_length}
 
 pub loop-op-init : goal.loop-op-init
 loop-op-init c =

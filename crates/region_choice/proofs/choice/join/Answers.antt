@@ -9,8 +9,8 @@ use Rattle.region_choice.specs.steps.Choosing.{takes}
 use Rattle.region_choice.specs.steps.GraphChains.{chains_of, has_key}
 use Rattle.region_choice.specs.steps.Growing.{Grows, IsLonger}
 use Rattle.region_choice.proofs.Placing.{before_within, eligible_one, found_takes, joined, none_found, none_joined, only_found, set_as_it_is}
-use Rattle.region_choice.proofs.Soundness.{same_length}
 use Rattle.region_choice.proofs.choice.join.Goals as goal
+use Rattle.stream_model.proofs.GraphParts.{same_length}
 
 pub returns-in_default-clause-joins : goal.returns-in_default-clause-joins
 returns-in_default-clause-joins c = λ g o e candidate outside.

@@ -1,14 +1,15 @@
 use Rattle.std.proofs.Common.{◌++◌, ◌∙◌, List, ℕ, append_assoc, take, ap, subst, arith}
 use Rattle.std.specs.List.{concat, Contains}
 use Rattle.region_choice.specs.steps.Counting.{AreCounts}
-use Rattle.region_choice.proofs.Counting.{contains_concat, item_at, ports_more}
+use Rattle.region_choice.proofs.Counting.{contains_concat, ports_more}
 use Rattle.region_choice.proofs.connections.count_ports.Goals as goal
+use Rattle.spl_value.proofs.Lists.{item_there}
 
 pub count-requires : goal.count-requires
 count-requires c = record {
   within = λ s h.
       (let inside = c.requires.within s (contains_concat c.args.ins.now c.loop-port.port-index c.port-item.result s
-      (item_at c.args.ins.now c.loop-port.port-index c.port-item.result c.loop-port-test.true c.port-item.is) (subst (λ (p : List ℕ). Contains p s) c.as_slice.ensures h)) in
+      (item_there c.args.ins.now c.loop-port.port-index c.port-item.result c.loop-port-test.true c.port-item.is) (subst (λ (p : List ℕ). Contains p s) c.as_slice.ensures h)) in
       let many = c.loop-port.invariant.many in
       omega arith);
 }

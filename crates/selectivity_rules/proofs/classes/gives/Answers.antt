@@ -2,8 +2,8 @@ use Rattle.std.proofs.Common.{ap, slice_get, sym, ◌∙◌}
 use Rattle.language_model.specs.declared.checked.Part.{Part}
 use Rattle.language_model.specs.CheckedGraph.{CheckedGraph}
 use Rattle.stream_model.specs.Selectivity.{gives}
-use Rattle.selectivity_rules.proofs.CountedClasses.{clauses_are}
 use Rattle.selectivity_rules.proofs.classes.gives.Goals as goal
+use Rattle.stream_model.proofs.GraphParts.{clauses_are}
 
 pub returns : goal.returns
 returns c = record {

@@ -5,7 +5,7 @@ use Rattle.selectivity_rules.specs.steps.Counts.{both_of, capped, joined}
 use Rattle.selectivity_rules.specs.steps.Intervals.{arms_interval, statement_interval}
 use Rattle.selectivity_rules.proofs.CountLoops.{arm_joined, arm_skipped, row_step}
 use Rattle.selectivity_rules.proofs.IntervalForms.{if_is}
-use Rattle.selectivity_rules.proofs.StatementWeights.{arm_weight, weight, weights}
+use Rattle.spl_tree.proofs.StatementWeights.{arm_weight, weight, weights}
 use Rattle.selectivity_rules.proofs.interval.+submits.Goals as goal
 use Rattle.selectivity_rules.proofs.interval.+submits.Goals.{of_arms-in-None, of_arms-in-Some-false}
 

@@ -2,7 +2,7 @@ use Rattle.std.proofs.Common.{◌≡◌, ◌+◌, drop}
 use Rattle.stream_model.specs.Selectivity.{row_interval}
 use Rattle.selectivity_rules.specs.steps.Counts.{both_of, capped, joined}
 use Rattle.selectivity_rules.specs.steps.Intervals.{arms_interval}
-use Rattle.selectivity_rules.proofs.StatementWeights.{arm_weights, weight, weights}
+use Rattle.spl_tree.proofs.StatementWeights.{arm_weights, weight, weights}
 use Rattle.selectivity_rules.proofs.interval.+submits.Given as goal
 
 abbrev pub decreases-of_statement : goal.decreases-of_statement

@@ -3,8 +3,9 @@ use Rattle.std.proofs.lemmas.List.{length_push}
 use Rattle.std.proofs.lemmas.Option.{get_or_from_slice_get}
 use Rattle.source_rows.proofs.Counting.{not_opened, only_on, reads_twice, told_twice, lent_twice, wanting_on, wanting_before}
 use Rattle.source_rows.proofs.Reading.{grows_twice}
-use Rattle.source_rows.proofs.Operators.{all_rows, rows_more, within_of}
+use Rattle.source_rows.proofs.Operators.{all_rows, rows_more}
 use Rattle.source_rows.proofs.sources.read_sources.Goals as goal
+use Rattle.spl_value.proofs.Lists.{get_within}
 
 pub returns-then-is_err-clause-cause : goal.returns-then-is_err-clause-cause
 returns-then-is_err-clause-cause g c =
@@ -12,7 +13,7 @@ returns-then-is_err-clause-cause g c =
     let i = c.operators.number in
     let part = c.in-Some-Some.part.now in
     let has : slice_get parts i ≡ Some part = search rules in
-    let within = within_of parts i part has in
+    let within = get_within parts i part has in
     let here = sym (get_or_from_slice_get parts i part part has) in
     wanting_before parts (i + 1) _ _ (only_on parts i part _ _ _ within here c.operators.invariant.only c.in-Rows.ensures.cause)
 
@@ -22,7 +23,7 @@ returns-in-OpenFailed-clause-cause g c =
     let i = c.operators.number in
     let part = c.in-Some-Some.part.now in
     let has : slice_get parts i ≡ Some part = search rules in
-    let within = within_of parts i part has in
+    let within = get_within parts i part has in
     let here = sym (get_or_from_slice_get parts i part part has) in
     not_opened parts i part c.in-OpenFailed.name _ _ _ within here c.operators.invariant.only c.in-OpenFailed.ensures.cause
 
@@ -32,7 +33,7 @@ returns-in-Memory-clause-cause g c =
     let i = c.operators.number in
     let part = c.in-Some-Some.part.now in
     let has : slice_get parts i ≡ Some part = search rules in
-    let within = within_of parts i part has in
+    let within = get_within parts i part has in
     let here = sym (get_or_from_slice_get parts i part part has) in
     wanting_on parts i part _ _ _ within here c.operators.invariant.only c.in-Memory.ensures.cause
 
@@ -46,7 +47,7 @@ operators-preserved g c =
     let inv = c.operators.invariant in
     let there : slice_get checked.graph.ops i ≡ Some op = search rules in
     let has : slice_get parts i ≡ Some part = search rules in
-    let within = within_of parts i part has in
+    let within = get_within parts i part has in
     let here = sym (get_or_from_slice_get parts i part part has) in
     let old = (g.H.Shelf).counts c.args.shelf.now in
     let mid = (g.H.Shelf).counts c.operators.shelf in

@@ -3,12 +3,13 @@ use Rattle.run_report.specs.declared.cause.Cause.TheVariants as C
 use Rattle.spl_driver.proofs.PlainAnswers.{plain_request}
 use Rattle.spl_driver.proofs.Running.{begun_same}
 use Rattle.spl_driver.proofs.Showing.{quiet_shown}
-use Rattle.spl_driver.proofs.Standing.{wanting_answer, told_same, built_words}
+use Rattle.spl_driver.proofs.Standing.{wanting_answer, built_words}
 use Rattle.spl_driver.proofs.Telling.{not_run}
 use Rattle.spl_driver.proofs.answer.answer_program.Goals as goal
+use Rattle.spl_driver.proofs.Fetching.{told_again}
 
 pub returns-in-Err : goal.returns-in-Err
 returns-in-Err g c =
     plain_request _ _ _ C.NoMemory c.plain.result _ _ _ _ c.plain.ensures.cause (not_run C.NoMemory refl) tt tt tt (quiet_shown C.NoMemory _ _ _ tt tt (λ n. refl))
     (built_words c.args.request.now C.NoMemory _ _ c.requires.built) c.plain.ensures.text c.plain.ensures.ran (λ small. refl)
-    (wanting_answer begun_same _ _ _ c.plain.result.ended _ _ c.plain.ensures.cause (told_same _) (λ n. refl))
+    (wanting_answer begun_same _ _ _ c.plain.result.ended _ _ c.plain.ensures.cause (told_again _) (λ n. refl))

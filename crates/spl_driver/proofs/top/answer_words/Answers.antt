@@ -5,14 +5,15 @@ use Rattle.spl_driver.specs.Steps.{AnswersRequest}
 use Rattle.spl_driver.proofs.PlainAnswers.{plain_request, no_request_answer}
 use Rattle.spl_driver.proofs.Running.{begun_same}
 use Rattle.spl_driver.proofs.Showing.{quiet_shown}
-use Rattle.spl_driver.proofs.Standing.{wanting_answer, wanting_words, told_same}
+use Rattle.spl_driver.proofs.Standing.{wanting_answer, wanting_words}
 use Rattle.spl_driver.proofs.Telling.{not_run}
 use Rattle.spl_driver.proofs.top.answer_words.Goals as goal
+use Rattle.spl_driver.proofs.Fetching.{told_again}
 
 pub returns-in-Err : goal.returns-in-Err
 returns-in-Err g c =
     plain_request _ _ _ C.NoMemory c.plain.result _ _ _ _ c.plain.ensures.cause (not_run C.NoMemory refl) tt tt tt (quiet_shown C.NoMemory _ _ _ tt tt (λ n. refl)) (wanting_words _ _ _ (λ n. refl)) c.plain.ensures.text
-    c.plain.ensures.ran (λ small. refl) (wanting_answer begun_same _ _ _ c.plain.result.ended _ _ c.plain.ensures.cause (told_same _) (λ n. refl))
+    c.plain.ensures.ran (λ small. refl) (wanting_answer begun_same _ _ _ c.plain.result.ended _ _ c.plain.ensures.cause (told_again _) (λ n. refl))
 
 pub returns-in-Ok-None : goal.returns-in-Ok-None
 returns-in-Ok-None g c =

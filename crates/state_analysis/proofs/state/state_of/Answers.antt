@@ -2,8 +2,8 @@ use Rattle.std.proofs.Common.{◌≡◌, IfOk, ap, slice_get, subst, sym, ◌∙
 use Rattle.language_model.specs.declared.checked.Part.{Part}
 use Rattle.language_model.specs.CheckedGraph.{CheckedGraph}
 use Rattle.stream_model.specs.StateKinds.{state_of}
-use Rattle.state_analysis.proofs.Clauses.{clauses_are}
 use Rattle.state_analysis.proofs.state.state_of.Goals as goal
+use Rattle.stream_model.proofs.GraphParts.{clauses_are}
 
 pub returns : goal.returns
 returns c = record {

@@ -10,8 +10,9 @@ use Rattle.statement_parser.specs.GivesStatements as parts
 use Rattle.statement_parser.specs.Lines as lines
 use Rattle.statement_parser.specs.Lines.{R, Statement, Statements, Other, Begun, Arms, rule}
 use Rattle.statement_parser.proofs.Readings.{finished, reads, taken, skipped, line_read, last, says_on, rule_on, fails, rule_fails, line_fails}
-use Rattle.statement_parser.proofs.StatementReadings.{part_read, part_fails, statement_shrinks, reads_shrinks, runs_shrinks, taken_shrinks, arms_none, arms_else}
+use Rattle.statement_parser.proofs.StatementReadings.{part_read, part_fails, statement_shrinks, reads_shrinks, runs_shrinks, arms_none, arms_else}
 use Rattle.statement_parser.proofs.statements.+statements.Goals as goal
+use Rattle.expr_parser.proofs.LineSteps.{taken_shrinks}
 
 -- ---- statements in a row
 

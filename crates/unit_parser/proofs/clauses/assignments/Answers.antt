@@ -7,8 +7,9 @@ use Rattle.expr_parser.specs.Rules.{done, look, call, Took, Reads}
 use Rattle.statement_parser.specs.Lines.{Name, R, expect, expression}
 use Rattle.statement_parser.specs.Lines as lines
 use Rattle.statement_parser.proofs.Readings.{reads, taken, skipped, passed, name_passed, expression_read, last, fails, pass_fails, name_fails, expression_fails}
-use Rattle.unit_parser.proofs.Rows.{reads_shrinks, taken_shrinks, taken_as_shrinks, made}
+use Rattle.unit_parser.proofs.Rows.{reads_shrinks, taken_as_shrinks, made}
 use Rattle.unit_parser.proofs.clauses.assignments.Goals as goal
+use Rattle.expr_parser.proofs.LineSteps.{taken_shrinks}
 
 -- behind the name of one more attribute
 abbrev assignment_behind : List (Field Expr) → Name → R (List (Field Expr))

@@ -6,8 +6,9 @@ use Rattle.expr_parser.specs.Rules.{done, look, call, Took, Reads}
 use Rattle.statement_parser.specs.Lines.{Name, R, expect}
 use Rattle.statement_parser.specs.Lines as lines
 use Rattle.statement_parser.proofs.Readings.{reads, taken, skipped, passed, name_passed, line_read, last, fails, pass_fails, name_fails, line_fails}
-use Rattle.unit_parser.proofs.Rows.{reads_shrinks, taken_shrinks, taken_as_shrinks, made}
+use Rattle.unit_parser.proofs.Rows.{reads_shrinks, taken_as_shrinks, made}
 use Rattle.unit_parser.proofs.clauses.window_parts.Goals as goal
+use Rattle.expr_parser.proofs.LineSteps.{taken_shrinks}
 
 -- behind the name of one more part
 abbrev part_behind : List WindowPart → Name → R (List WindowPart)

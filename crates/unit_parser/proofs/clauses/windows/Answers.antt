@@ -6,8 +6,9 @@ use Rattle.expr_parser.specs.Rules.{done, call, Took, Reads}
 use Rattle.statement_parser.specs.Lines.{Name, R, expect, name_at}
 use Rattle.statement_parser.specs.Lines as lines
 use Rattle.statement_parser.proofs.Readings.{finished, reads, skipped, passed, taken_as, line_read, last, fails, pass_fails, line_fails}
-use Rattle.unit_parser.proofs.Rows.{reads_shrinks, taken_shrinks, taken_as_shrinks, none_says}
+use Rattle.unit_parser.proofs.Rows.{reads_shrinks, taken_as_shrinks, none_says}
 use Rattle.unit_parser.proofs.clauses.windows.Goals as goal
+use Rattle.expr_parser.proofs.LineSteps.{taken_shrinks}
 
 -- behind the name of one more port
 abbrev window_behind : List PortWindow → Name → R (List PortWindow)

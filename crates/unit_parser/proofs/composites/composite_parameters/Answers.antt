@@ -2,12 +2,12 @@ use Rattle.std.proofs.Common.{List, [], ◌∷◌, ◌++◌, subst, arith}
 use Rattle.spl_tree.specs.declared.unit.CompositeParameter.{CompositeParameter}
 use Rattle.expr_parser.specs.Rules.{done, call, Took, Reads}
 use Rattle.statement_parser.proofs.Readings.{finished, reads, taken, skipped, last, fails}
-use Rattle.unit_parser.proofs.CompositeReadings.{taken_shrinks}
 use Rattle.statement_parser.proofs.StatementReadings.{runs_shrinks, part_read, part_fails}
 use Rattle.unit_parser.specs.GivesParts.{composite_parameter}
 use Rattle.statement_parser.specs.Lines as lines
 use Rattle.statement_parser.specs.Lines.{R}
 use Rattle.unit_parser.proofs.composites.composite_parameters.Goals as goal
+use Rattle.expr_parser.proofs.LineSteps.{taken_shrinks}
 
 -- the rule behind one more parameter
 abbrev more : List CompositeParameter → CompositeParameter → R (List CompositeParameter)

@@ -1,9 +1,10 @@
 use Rattle.std.proofs.Common.{[], ◌∷◌, ◌++◌, sym, subst, arith}
 use Rattle.expr_parser.specs.Rules.{done, Took, RunsTo, Reads}
 use Rattle.statement_parser.proofs.Readings.{finished, reads, taken, skipped, line_read, last, fails, line_fails}
-use Rattle.unit_parser.proofs.CompositeReadings.{reads_shrinks, taken_shrinks}
+use Rattle.unit_parser.proofs.CompositeReadings.{reads_shrinks}
 use Rattle.statement_parser.specs.Lines as lines
 use Rattle.unit_parser.proofs.composites.ports.Goals as goal
+use Rattle.expr_parser.proofs.LineSteps.{taken_shrinks}
 
 pub returns-in_err-one : goal.returns-in_err-one
 unfolding lines.rule

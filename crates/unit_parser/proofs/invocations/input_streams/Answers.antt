@@ -5,8 +5,9 @@ use Rattle.expr_parser.specs.Rules.{done, look, call, Took, Reads}
 use Rattle.statement_parser.specs.Lines.{Name, R}
 use Rattle.statement_parser.specs.Lines as lines
 use Rattle.statement_parser.proofs.Readings.{reads, taken, skipped, name_passed, last, fails, name_fails}
-use Rattle.unit_parser.proofs.Rows.{taken_shrinks, taken_as_shrinks, made}
+use Rattle.unit_parser.proofs.Rows.{taken_as_shrinks, made}
 use Rattle.unit_parser.proofs.invocations.input_streams.Goals as goal
+use Rattle.expr_parser.proofs.LineSteps.{taken_shrinks}
 
 -- behind the name of one more stream
 abbrev stream_behind : List Name → Name → R (List Name)

@@ -11,8 +11,9 @@ use Rattle.unit_parser.specs.GivesClauses.{InvocationsOn}
 use Rattle.statement_parser.specs.Lines.{Name, R}
 use Rattle.statement_parser.specs.Lines as lines
 use Rattle.statement_parser.proofs.Readings.{finished, reads, taken, skipped, line_read, last, line_fails}
-use Rattle.unit_parser.proofs.Rows.{reads_shrinks, taken_shrinks, handed_on}
+use Rattle.unit_parser.proofs.Rows.{reads_shrinks, handed_on}
 use Rattle.unit_parser.proofs.invocations.invocation.Goals as goal
+use Rattle.expr_parser.proofs.LineSteps.{taken_shrinks}
 
 -- behind the head of one more invocation at a place, behind some
 abbrev head_behind : ℕ → List Invocation → List OutputStream × Option Name → R (List Invocation)

@@ -3,8 +3,9 @@ use Rattle.spl_tree.specs.declared.symbol.Symbol.TheVariants as S
 use Rattle.expr_parser.specs.Rules.{Took, Reads}
 use Rattle.statement_parser.specs.Lines as lines
 use Rattle.statement_parser.proofs.Readings.{reads, taken, skipped, passed, line_read, last, fails, pass_fails, line_fails}
-use Rattle.unit_parser.proofs.Rows.{reads_shrinks, taken_shrinks, made}
+use Rattle.unit_parser.proofs.Rows.{reads_shrinks, made}
 use Rattle.unit_parser.proofs.invocations.more_inputs.Goals as goal
+use Rattle.expr_parser.proofs.LineSteps.{taken_shrinks}
 
 pub returns-in_err-streams : goal.returns-in_err-streams
 unfolding lines.rule

@@ -4,8 +4,9 @@ use Rattle.spl_tree.specs.declared.symbol.Symbol.TheVariants as S
 use Rattle.expr_parser.specs.Rules.{Took, Reads}
 use Rattle.statement_parser.specs.Lines as lines
 use Rattle.statement_parser.proofs.Readings.{reads, taken, skipped, passed, word_passed, line_read, last, fails, pass_fails, word_fails, line_fails}
-use Rattle.unit_parser.proofs.Rows.{reads_shrinks, taken_shrinks, made}
+use Rattle.unit_parser.proofs.Rows.{reads_shrinks, made}
 use Rattle.unit_parser.proofs.invocations.streams.Goals as goal
+use Rattle.expr_parser.proofs.LineSteps.{taken_shrinks}
 
 pub returns-in_err-behind : goal.returns-in_err-behind
 unfolding lines.rule

@@ -1,11 +1,12 @@
 use Rattle.std.proofs.Common.{◌∙◌, Some, None, sym, arith}
 use Rattle.spl_tree.specs.declared.keyword.Keyword.TheVariants as K
 use Rattle.statement_parser.proofs.Readings.{reads, taken, skipped, word_passed, line_read, last, word_fails, line_fails}
-use Rattle.unit_parser.proofs.CompositeReadings.{reads_shrinks, taken_shrinks, bound, bound_fails, rule_comes}
+use Rattle.unit_parser.proofs.CompositeReadings.{reads_shrinks, bound, bound_fails, rule_comes}
 use Rattle.unit_parser.proofs.DefinitionReadings.{type_behind, define_fails, defines, NoWord, no_more, typed, typed_read}
 use Rattle.unit_parser.specs.GivesComposites.{composite_behind, function_behind}
 use Rattle.statement_parser.specs.Lines as lines
 use Rattle.unit_parser.proofs.units.definition.Goals as goal
+use Rattle.expr_parser.proofs.LineSteps.{taken_shrinks}
 
 pub returns-in_err-one : goal.returns-in_err-one
 unfolding lines.rule

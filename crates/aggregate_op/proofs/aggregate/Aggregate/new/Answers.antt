@@ -1,9 +1,9 @@
 use Rattle.std.proofs.Common.{Some, sym, ap, ◌∙◌}
 use Rattle.stream_model.specs.CheckedMeaning.{operator_with}
 use Rattle.aggregate_op.specs.Standing.{operator_of}
-use Rattle.aggregate_op.proofs.Answering.{ok_weaker}
 use Rattle.aggregate_op.proofs.Beginning.{begins}
 use Rattle.aggregate_op.proofs.aggregate.Aggregate.new.Goals as goal
+use Rattle.spl_value.proofs.Results.{ok_weaker}
 
 pub returns-clause-is : goal.returns-clause-is
 returns-clause-is c =

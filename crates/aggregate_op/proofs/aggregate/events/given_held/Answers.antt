@@ -1,7 +1,7 @@
 use Rattle.std.proofs.Common.{◌≡◌, ◌∷◌, [], true, false, sym, ap, ◌∙◌}
 use Rattle.aggregate_op.specs.steps.Giving.{contents_given}
-use Rattle.aggregate_op.proofs.Answering.{ok_weaker}
 use Rattle.aggregate_op.proofs.aggregate.events.given_held.Goals as goal
+use Rattle.spl_value.proofs.Results.{ok_weaker}
 
 pub given_content-requires : goal.given_content-requires
 given_content-requires c =

@@ -3,8 +3,8 @@ use Rattle.spl_value.specs.declared.types.SplType.TheVariants as S
 use Rattle.spl_value.specs.declared.types.SplType.TheViews.{out-SplType}
 use Rattle.language_model.specs.BodyTyping.{level_over}
 use Rattle.language_model.specs.Typing.{same_types}
-use Rattle.body_rules.proofs.SameKinds.{same_as}
 use Rattle.body_rules.proofs.bodies.parts.goes_over.Goals as goal
+use Rattle.language_model.proofs.TypingLaws.{same_as}
 
 pub returns-in-List : goal.returns-in-List
 returns-in-List c =

@@ -7,8 +7,9 @@ use Rattle.duplicate_rules.specs.Variables.{own_variable}
 use Rattle.duplicate_rules.proofs.Best.{earliest_in-append, earliest_in-cons}
 use Rattle.duplicate_rules.proofs.Rows.{row_on}
 use Rattle.duplicate_rules.proofs.StatementSets.{inner, block_is, if_inner}
-use Rattle.duplicate_rules.proofs.SetWeights.{statement_kind_weight, statement_weight, statement_weights, arm_weight, arm_weights, item_below, block_weight, if_weight}
+use Rattle.duplicate_rules.proofs.SetWeights.{statement_kind_weight, statement_weight, statement_weights, arm_weight, arm_weights, block_weight, if_weight}
 use Rattle.duplicate_rules.proofs.declarations.statements.+statements.Goals as goal
+use Rattle.spl_tree.proofs.ExprWeights.{item_below}
 
 pub earliest_in_block-loop-statement-init : goal.earliest_in_block-loop-statement-init
 earliest_in_block-loop-statement-init t c =

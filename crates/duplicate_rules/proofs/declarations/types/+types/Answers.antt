@@ -2,8 +2,9 @@ use Rattle.std.proofs.Common.{ap, arith, sym, ◌∙◌}
 use Rattle.std.specs.Option.{option_copied}
 use Rattle.language_model.specs.Declarations.{type_sets}
 use Rattle.duplicate_rules.proofs.Rows.{row_on}
-use Rattle.duplicate_rules.proofs.SetWeights.{kind_weight, attribute_weight, attribute_weights, item_below, tuple_weight}
+use Rattle.duplicate_rules.proofs.SetWeights.{kind_weight, attribute_weight, attribute_weights, tuple_weight}
 use Rattle.duplicate_rules.proofs.declarations.types.+types.Goals as goal
+use Rattle.spl_tree.proofs.ExprWeights.{item_below}
 
 pub earliest_in_attributes-loop-attribute-preserved : goal.earliest_in_attributes-loop-attribute-preserved
 earliest_in_attributes-loop-attribute-preserved t c =

@@ -1,9 +1,9 @@
 use Rattle.std.proofs.Common.{Some, sym, ap, ◌∙◌}
 use Rattle.stream_model.specs.CheckedMeaning.{operator_with}
 use Rattle.join_op.specs.steps.Matching.{operator_of}
-use Rattle.join_op.proofs.Answering.{ok_weaker}
 use Rattle.join_op.proofs.Joining.{is_allowed, shape}
 use Rattle.join_op.proofs.join.Join.new.Goals as goal
+use Rattle.spl_value.proofs.Results.{ok_weaker}
 
 pub begun-requires-clause-right : goal.begun-requires-clause-right
 begun-requires-clause-right c =

@@ -2,7 +2,8 @@ use Rattle.std.proofs.Common.{List, sym, subst}
 use Rattle.language_model.specs.declared.checked.WindowRule.{WindowRule}
 use Rattle.stream_model.specs.Windows.{WindowEvent}
 use Rattle.window_policy.specs.Standing.{Stands}
-use Rattle.join_op.specs.steps.Standing.{WhereOut, behind}
+use Rattle.port_reacts.specs.PortReplies.{WhereOut}
+use Rattle.join_op.specs.steps.Standing.{behind}
 use Rattle.join_op.proofs.join.events.on_item.Goals as goal
 
 pub returns-in-Tuple-clause-stands : goal.returns-in-Tuple-clause-stands

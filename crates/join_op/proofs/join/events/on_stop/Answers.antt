@@ -2,7 +2,7 @@ use Rattle.std.proofs.Common.{length, subst}
 use Rattle.value_operations.specs.Answers.{StopsAs}
 use Rattle.stream_model.specs.PathLaws.{fault_by}
 use Rattle.stream_model.specs.React.{answer}
-use Rattle.join_op.proofs.Answering.{ends_not_out, memory_replies, replies_faulted}
+use Rattle.port_reacts.proofs.Answering.{ends_not_out, memory_replies, replies_faulted}
 use Rattle.join_op.proofs.join.events.on_stop.Goals as goal
 
 pub returns-in-Fault-clause-replies : goal.returns-in-Fault-clause-replies

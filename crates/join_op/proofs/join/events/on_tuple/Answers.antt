@@ -6,7 +6,7 @@ use Rattle.port_reacts.specs.Bodies.{RepliesTo}
 use Rattle.join_op.specs.Fitting.{PairFits}
 use Rattle.join_op.specs.Pairs.{pair_env, with_other}
 use Rattle.join_op.specs.steps.Matching.{matched}
-use Rattle.join_op.proofs.Answering.{not_out, replies_done}
+use Rattle.port_reacts.proofs.Answering.{not_out, replies_done}
 use Rattle.join_op.proofs.PairEnvs.{own_there, own_within, pair_there, ready_again, still_ready}
 use Rattle.join_op.proofs.join.events.on_tuple.Goals as goal
 

@@ -1,5 +1,4 @@
--- What is replied by what pairs give.
-use Rattle.std.specs.Prelude.{Result, Ok, Err, IfOk}
+-- What an operator replies by what its item makes, and what holds where it goes on.
 use Rattle.std.proofs.Common.{◌≡◌, ◌&&◌, ℕ, Bool, true, false, List, ◌∷◌, is_none, refl, sym, ap, subst, ◌∙◌}
 use Rattle.spl_value.specs.declared.item.Fault.{Fault}
 use Rattle.spl_value.specs.declared.item.FaultKind.{FaultKind}
@@ -15,8 +14,7 @@ use Rattle.stream_model.specs.PathLaws.{fault_by}
 use Rattle.stream_model.specs.React.{Answer, Gives, Faults, answer}
 use Rattle.stream_model.specs.Replies.{IsTaken}
 use Rattle.port_reacts.specs.Bodies.{EndsBy, RepliesTo}
-use Rattle.port_reacts.specs.PortReplies.{RepliesAt, goes_on}
-use Rattle.join_op.specs.steps.Standing.{WhereOut}
+use Rattle.port_reacts.specs.PortReplies.{RepliesAt, WhereOut, goes_on}
 
 pub replies_done : (number ports : ℕ) (o : Makes) (outs : List Output) (turns : ℕ) → o ≡ Done outs turns → RepliesTo number ports (answer o) (R.Out outs)
 replies_done number ports o outs turns e = subst (λ m. RepliesTo number ports (answer m) (R.Out outs)) (sym e) refl
@@ -57,7 +55,3 @@ pub not_out : (r : Reply) (P : Type 0) → WhereOut r ⊥ → WhereOut r P
 not_out (R.Out outs) P k = absurd k
 not_out (R.Ended outs fault) P k = tt
 not_out R.Memory P k = tt
-
-pub ok_weaker : {A E : Type 0} (r : Result A E) (P Q : A → Type 0) → ((x : A) → P x → Q x) → IfOk r P → IfOk r Q
-ok_weaker (Ok x) P Q k h = k x h
-ok_weaker (Err e) P Q k h = h
