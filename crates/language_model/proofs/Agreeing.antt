@@ -1,4 +1,4 @@
--- When two codes come to the same, form by form.
+-- When two codes have the same result, form by form.
 use Rattle.std.specs.Prelude.{◌≡◌, ℕ, Bool, true, false, not, List, ◌∷◌, if◌then◌else◌}
 use Rattle.std.proofs.Common.{refl, sym, ap, ◌∙◌}
 use Rattle.spl_value.specs.declared.value.Value.{Value}
@@ -37,7 +37,7 @@ either true o p q r e f = e
 either false o p q r e f = f
 
 module _ {M N : Type 0} (w : World M) (v : World N) where
-  -- meanings that come to the same, each in its own world
+  -- meanings with the same result, each in its own world
   abbrev pub Same : Meaning M → Meaning N → Type 0
   Same m n = (turns : ℕ) → m w turns ≡ n v turns
 

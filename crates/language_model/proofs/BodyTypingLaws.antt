@@ -1,4 +1,4 @@
--- What a statement comes to, and whether it ends with a result, by those of its parts: an equation for each form of statement.
+-- The typing of a statement, and whether it ends with a result, by those of its parts: an equation for each form of statement.
 use Rattle.std.specs.Prelude.{◌≡◌, ℕ, Bool, true, false, ◌&&◌, List, [], ◌∷◌, Option, Some, None}
 use Rattle.std.specs.List.{list_all}
 use Rattle.std.proofs.Common.{refl, ap, ◌∙◌}

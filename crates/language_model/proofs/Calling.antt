@@ -85,7 +85,7 @@ module _ (purpose : Purpose) (scope : Scope) (row : List Statement) (bodies : Bo
       (no_submits (SubmitFits purpose)) turns)
       (λ t e. scoped_leaves bodies acts (row_leaves bodies row (returns t e)) (begun env) turns)
 
-  -- a body with a result comes to one
+  -- a body with a result gives one
   result_there : (result : Option SplType) (flow : Flow) → FlowFits result false flow → ((t : SplType) → result ≡ Some t → IsAway flow)
       → IsThere (ResultFits result) (returned_by flow)
   result_there None F.Next h away = (None, refl, tt)

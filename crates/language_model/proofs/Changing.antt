@@ -1,4 +1,4 @@
--- A change of what steps take of a value comes to a value of the same type, or to a fault.
+-- A change of what steps take of a value gives a value of the same type, or a fault.
 use Rattle.std.specs.Prelude.{◌≡◌, ℕ, zero, suc, Bool, IsTrue, List, [], ◌∷◌, Option, None, Some, slice_get, slice_set}
 use Rattle.std.specs.List.{list_all}
 use Rattle.std.specs.Cmp.{first_so, second_so}
@@ -96,7 +96,7 @@ settles_passed t u (Gives v) f h k = k v h
 settles_passed t u (Faults kind) f h k = tt
 settles_passed t u Unfit f h k = absurd h
 
--- a change that comes to values of the type, or to faults
+-- a change that gives values of the type, or faults
 abbrev Keeps : SplType → (Option Value → CallOutcome) → Type 0
 Keeps t change = (old : Option Value) → Held t old → Settles t (change old)
 

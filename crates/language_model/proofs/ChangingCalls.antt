@@ -36,7 +36,7 @@ module _ (at : ℕ) (scope : Scope) (call : CallName) (e : Expr) (es : List (Pla
       ap (λ root. if_mutable at scope (as_part e) root arguments) of.may.1
       ∙ ap (λ b. if b then arguments else refused N.NotMutable e.at None) of.may.2
 
-  -- the arguments behind the place decide
+  -- the arguments after the place decide
   pub changes_place : change_typing at scope call (as_part e ∷ es) ≡ after arguments (λ xs. change_made at call p.place xs)
   changes_place =
       ap (λ r. after r (λ x. after (changed_typed at scope (as_part e) es (level_changed call (out-SplType x.kind))) (λ xs.

@@ -1,5 +1,5 @@
--- A row of definitions none of which leads back to itself is no longer than there are, so that what a name stands for is what its
--- definition says, in which names stand for the same.
+-- A row of definitions none of which leads back to itself is no longer than there are, so that what a name means is what its
+-- definition says, in which names mean the same.
 use Rattle.std.specs.Prelude.{◌≡◌, ◌<◌, ◌≤◌, ℕ, zero, suc, ◌+◌, ◌==◌, Bool, true, false, ◌||◌, List, [], ◌∷◌, if◌then◌else◌, filter_map, length, ◌⊎◌, Option, Some, None, slice_get}
 use Rattle.std.specs.Option.{option_map}
 use Rattle.std.specs.List.{AllByRecursion, IsDistinct, cons_option, list_any}
@@ -55,7 +55,7 @@ none_is p [] e = tt
 none_is p (x ∷ row) e = let both = neither (p x) (list_any p row) e in (both.0, none_is p row both.1)
 
 module _ (next : ℕ → List ℕ) where
-  -- in at most so many steps
+  -- in at most `count` steps
   abbrev Way : ℕ → ℕ → ℕ → Type 0
   Way zero from to = ⊥
   Way (suc count) from to = (n : ℕ) × Among (next from) n × ((n ≡ to) ⊎ Way count n to)
@@ -120,7 +120,7 @@ module _ (definitions : List TypeDefinition) where
       → definition_of definitions other ≡ Some e → Among (next d.place) e.place
   step_to d e name other is among other_is = rw (there name d is) (among_places (shape_names d.what.shape) other e among other_is)
 
-  -- places that lead on to each other and at last to what the name stands for, each at most once
+  -- places that lead on to each other and at last to what the name means, each at most once
   record Passed (path : List ℕ) (name : List ℕ) : Type 0 where
     once : IsDistinct eqb path
     below : (q : ℕ) → list_any (eqb q) path ≡ true → q < length definitions
@@ -136,7 +136,7 @@ module _ (definitions : List TypeDefinition) where
       let back = by_way next (length definitions) d.place d.place round in
       let h = sym circle ∙ back in cc)
 
-  -- the place of a name's definition, and what stands in it, behind the others
+  -- the place of a name's definition, and what stands in it, after the others
   passed_on : (path : List ℕ) (name other : List ℕ) (d : At TypeDefinition) → Passed path name → definition_of definitions name ≡ Some d
       → is_circular definitions d.place ≡ false → Among (shape_names d.what.shape) other → Passed (d.place ∷ path) other
   unfolding IsDistinct
@@ -160,7 +160,7 @@ module _ (definitions : List TypeDefinition) where
   }
 
 module _ (definitions : List TypeDefinition) (outside : Types) where
-  -- what names stand for doesn't depend on how often definitions are followed, where that is often enough
+  -- what names mean doesn't depend on how often definitions are followed, where that is often enough
   same_within : (count more : ℕ) (path : List ℕ) (name : List ℕ) → length definitions < count + length path → length definitions < more + length path → Passed definitions path name
       → (at : ℕ) → types_within count definitions outside at name ≡ types_within more definitions outside at name
   same_within zero more path name enough also p at = absurd (omega (arith, enough, short definitions path name p))

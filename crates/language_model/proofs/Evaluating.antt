@@ -1,4 +1,4 @@
--- A code that fits comes to a value of its type or to a fault.
+-- A code that fits gives a value of its type or a fault.
 use Rattle.std.specs.Prelude.{◌≡◌, ◌<◌, ℕ, true, false, not, IsTrue, List, [], ◌∷◌, length, Some, slice_get}
 use Rattle.std.specs.List.{list_all, fold, AllByRecursion}
 use Rattle.std.specs.Option.{option_map, option_and_then}
@@ -43,7 +43,7 @@ use Rattle.language_model.proofs.Yielding.{Yields, yields_followed, IsThere, yie
 
 -- ---- operators
 
--- a meaning comes to a value of the type, or to a fault
+-- a meaning gives a value of the type, or a fault
 abbrev Means : {N : Type 0} → World N → Meaning N → SplType → Type 0
 Means w m t = (turns : ℕ) → Yields (OfType t) (m w turns)
 
@@ -112,7 +112,7 @@ slot_there scope env e _ _ (F.port i p h named) = let input = e.inputs i p h in 
 
 -- ---- forms of codes
 
--- calls of these functions on arguments of their types come to values of their types, or to faults
+-- calls of these functions on arguments of their types give values of their types, or faults
 abbrev pub CallsFit : List Signature → Calls → Type 0
 CallsFit signatures calls = (i : ℕ) (f : Signature) (t : SplType) → slice_get signatures i ≡ Some f → f.result ≡ Some t
     → (vs : List Value) → OfTypes f.parameters vs → (turns : ℕ) → Yields (OfType t) (calls i vs turns)

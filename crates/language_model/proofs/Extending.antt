@@ -1,11 +1,11 @@
--- Where an evaluation comes to an answer or a fault, one like it with more turns comes to an answer like it or the same fault.
+-- Where an evaluation gives an answer or a fault, one like it with more turns gives an answer like it or the same fault.
 use Rattle.std.specs.Prelude.{◌≡◌, ◌+◌, ◌<◌, ◌⊎◌, ℕ, zero, suc, Bool, true, false, if◌then◌else◌, Option, None, Some}
 use Rattle.std.proofs.Common.{refl, sym, ap, ◌∙◌, subst, inl, inr, arith}
 use Rattle.spl_value.specs.declared.item.FaultKind.TheVariants as K
 use Rattle.spl_value.specs.Calls.{CallOutcome, Gives, Faults, Unfit}
 use Rattle.language_model.specs.Outcomes.{Outcome, Done, Faulted, Stuck, followed, need, settled, enter}
 
--- the answers are alike, and so many turns more are left. Want of turns says nothing where there are more
+-- the answers are alike, and `more` more turns are left. Running out of turns says nothing where there are more
 abbrev pub Extends : {A B : Type 0} → ℕ → (A → B → Type 0) → Outcome A → Outcome B → Type 0
 Extends {A} {B} more P (Done x turns) p = (y : B) × (p ≡ Done y (turns + more)) × P x y
 Extends {A} {B} more P (Faulted kind) p = (p ≡ Faulted kind) ⊎ ((kind ≡ K.Turns) × (0 < more))

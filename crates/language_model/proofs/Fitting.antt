@@ -96,7 +96,7 @@ after_fits at scope wanted r h = gives_after (Fits scope) (Fits scope) r (as_wan
 
 -- ---- names
 
--- what a name stands for has a slot that fits, and a port is what its own name stands for
+-- what a name means has a slot that fits, and a port is what its own name means
 abbrev pub MeantFits : Scope → Meant → Type 0
 MeantFits scope (OfVariable v) = SlotFits scope (L.Variable v.place) v.what.kind
 MeantFits scope (OfAttribute a) = SlotFits scope (L.Attribute a.port a.attribute) a.kind
@@ -200,7 +200,7 @@ fields_fit scope schema (f ∷ fs) h =
     gives_after (λ xs. FieldsFit scope xs schema × AtNames schema fs xs) (λ xs. FieldsFit scope xs schema × AtNames schema (f ∷ fs) xs) (fields_typed scope schema fs) _
     (fields_fit scope schema fs h.1) (λ xs rest. (F.field x.0 x.1 xs schema one.0 one.1 one.3 rest.0, ((one.0, one.1, one.2), rest.1))))
 
--- an attribute behind others
+-- an attribute after others
 get_behind : (before rest : List (Named SplType)) (a : Named SplType) → slice_get (before ++ a ∷ rest) (length before) ≡ Some a
 get_behind [] rest a = refl
 get_behind (b ∷ before) rest a = get_behind before rest a
@@ -209,7 +209,7 @@ length_behind : (before : List (Named SplType)) (a : Named SplType) → length (
 length_behind [] a = refl
 length_behind (b ∷ before) a = ap suc (length_behind before a)
 
--- fields that stand behind those of other attributes
+-- fields that come after those of other attributes
 record OwnFields (scope : Scope) (i : ℕ) (xs : List (Named SplType) × List (ℕ × Code Slot)) : Type 0 where
   long : length xs.1 ≡ length xs.0
   row : InRow i xs.1
@@ -253,7 +253,7 @@ abbrev pub GoodStep : Scope → Step (Placed Part) → Type 0
 GoodStep scope (N.Member m) = Unit {0}
 GoodStep scope (N.Index e) = Good scope e
 
--- a step from a type, with those behind it
+-- a step from a type, with those after it
 abbrev Leads : Scope → SplType → Taking (Code Slot) × SplType → Type 0
 Leads scope t x = (steps : List (Taking (Code Slot))) (u : SplType) → StepsLead scope steps x.1 u → StepsLead scope (x.0 ∷ steps) t u
 
@@ -476,7 +476,7 @@ function_fits at scope name es (Some f) h g =
     (arguments_fit scope f.what.parameters es (eqb-true (length es) (length f.what.parameters) same) g)
     (λ xs i. value_fits at scope f xs f.what.result refl h.0 i)) tt
 
--- where a call is one on a first argument of this type, it gives a value of its type, and the others are so many
+-- where a call is one on a first argument of this type, it gives a value of its type, and there are n others
 abbrev OnFirstFits : SplType → ℕ → OnFirst → Type 0
 OnFirstFits t n None = Unit {0}
 OnFirstFits t n (Some on) = BuiltInGives on.0 (t ∷ on.2) on.1 × (length on.2 ≡ n)
@@ -570,7 +570,7 @@ module _ (scope : Scope) (fine : DollarsFit scope.dollars) where
   good_fields [] h = tt
   good_fields (f ∷ fs) h = (good_part f.value h.0, good_fields fs h.1)
 
-  -- for what keeps members and hands on indices
+  -- for a function that keeps members and maps the expression of an index
   good_step : (g : Step Expr → Step (Placed Part)) → ((m : Placed (List ℕ)) → N.Member m ≡ g (N.Member m)) → ((e : Expr) → N.Index (part_of e) ≡ g (N.Index e))
       → (s : Step Expr) → OfStep IsSound s → GoodStep scope (g s)
   good_step g members indices (N.Member m) h = subst (GoodStep scope) (members m) tt
@@ -581,7 +581,7 @@ module _ (scope : Scope) (fine : DollarsFit scope.dollars) where
   good_steps g members indices [] h = tt
   good_steps g members indices (s ∷ ss) h = (good_step g members indices s h.0, good_steps g members indices ss h.1)
 
-  -- what stands for a `$` parameter fits everywhere
+  -- what a `$` parameter means fits everywhere
   dollar_fits : (at : ℕ) (name : List ℕ) (o : Option (Found Typed)) → dollar_of scope.dollars name ≡ o → Gives (Fits scope) (dollar_typed at name o)
   dollar_fits at name None is = tt
   dollar_fits at name (Some (Ok t)) is = closed_law scope t.code t.kind (fine name t is)

@@ -41,7 +41,7 @@ pub stops : {A B : Type 0} (o : Found A) (f : A → Found B) (e : TypeAnswer) �
 stops o f (Refused r) h = ap (λ o. after o f) h
 stops o f Memory h = tt
 
--- what is said of an error that `?` hands on
+-- what holds of an error that `?` returns
 pub exit : {B : Type 0} (P : Result B TypeAnswer → Type 0) (r : Result B TypeAnswer) (e : TypeAnswer) → IsErrAnd r (λ y. y ≡ e) → P (Err e) → P r
 exit P r e h q = let p = err_from_is_err_and r h in subst P (sym (p.1 ∙ ap Err p.2)) q
 

@@ -1,4 +1,4 @@
--- Each invocation in a body comes to its operator or its body, where no composite reaches itself.
+-- Each invocation in a body is kept, as its operator or its body, where no composite reaches itself.
 use Rattle.std.specs.Prelude.{◌≡◌, ◌+◌, ◌==◌, ◌≤◌, ℕ, zero, suc, List, [], ◌∷◌, length, Option, Some, None, Ok, Err, slice_get, if◌then◌else◌, true, false}
 use Rattle.std.specs.Option.{option_map, option_and_then}
 use Rattle.std.proofs.Common.{refl, sym, ap, ◌∙◌, subst, arith, inl, inr, get_or, eqb-true}
@@ -35,7 +35,7 @@ use Rattle.spl_value.proofs.Lists.{append_front, append_last}
 abbrev site : ℕ → ℕ → Site
 site k n = record { expansion = k; invocation = n }
 
--- what an invocation comes to
+-- what becomes of an invocation
 data Stays (unit : List Definition) (made : Made) (s : Site) (i : Invocation) : Type 0 where
   is_operator : (kind : OpKind) (n : ℕ) (o : Operation) → target_of unit i.operator.what ≡ Operator kind
       → slice_get made.ops n ≡ Some o → o.site ≡ s → o.kind ≡ kind → Stays unit made s i

@@ -1,4 +1,4 @@
--- A code comes to the same in worlds that agree on its names, where calls do.
+-- A code has the same result in worlds that agree on its names, where calls do.
 use Rattle.std.specs.Prelude.{◌≡◌, ◌+◌, ℕ, true, false, not, List, [], ◌∷◌, ◌++◌}
 use Rattle.std.specs.List.{AllByRecursion, flat_map}
 use Rattle.std.proofs.Common.{refl, sym, subst}
@@ -25,7 +25,7 @@ use Rattle.language_model.proofs.NamedSlots.{All, all_front, all_behind}
 use Rattle.language_model.proofs.NamesInCodes.{pair_names, field_names, step_names, name_names, list_names, map_names, tuple_names, select_names, unary_names, binary_names, conditional_names, built_in_names, call_names}
 
 module _ (more : ℕ) {N : Type 0} (w v : World N) where
-  -- the one comes to what the other comes to
+  -- the one gives what the other gives
   abbrev Follows : Meaning N → Meaning N → Type 0
   Follows m n = (turns : ℕ) → Extends more Same (m w turns) (n v (turns + more))
 

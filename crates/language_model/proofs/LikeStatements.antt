@@ -43,7 +43,7 @@ pub record Likeness (more : ℕ) (bodies others : Bodies) (Named : Slot → Type
   pub end : (s u : State) → Alike s u → (t w : State) → Alike t w → Alike (ended s t) (ended u w)
   pub submit : (s u : State) → Alike s u → (port : ℕ) (item : Item) → Alike (submitted s port item) (submitted u port item)
 
--- calls come to the same where bodies do
+-- calls have the same results where bodies do
 pub calls_extend : (more : ℕ) (bodies others : Bodies) → ((i : ℕ) (values : List Value) (turns : ℕ) → Extends more Same (bodies i values turns) (others i values (turns + more)))
     → (i : ℕ) (values : List Value) (turns : ℕ) → Extends more Same (calls_by bodies i values turns) (calls_by others i values (turns + more))
 calls_extend more bodies others h i values turns =
@@ -185,7 +185,7 @@ module _ (more : ℕ) (bodies others : Bodies) (Named : Slot → Type 0) (Alike 
       (enter_extends more Led turns _ _ (λ turns. followed_extends more Led Led (m s turns) (n u (turns + more)) _ _ (h s u a turns) (again_follows again next k)))
       (led F.Next s u a turns))
 
-  -- with no turn more than one, and with so many more
+  -- with no turn more than one, and with `more` more
   last_follows : (code : Code Slot) → All Named (names_of code) → (m n : Acts) → Follows m n → (k : ℕ) → k ≡ more
       → Follows (turns_while zero bodies code m) (turns_while k others code n)
   last_follows code named m n h zero e = turn_follows code named m n h _ _ (λ s u a turns. inl refl)

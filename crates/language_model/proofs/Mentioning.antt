@@ -257,7 +257,7 @@ module _ (scope : Scope) (given others : List Dollar) where
 
   -- ---- expressions
 
-  -- what the parameters mentioned stand for is the same
+  -- the parameters mentioned mean the same
   abbrev Agree : Mentions → Type 0
   Agree ms = (name : List ℕ) → Contains (names ms) name → dollar_of given name ≡ dollar_of others name
 
@@ -316,7 +316,7 @@ module _ (scope : Scope) (given others : List Dollar) where
       let rest = flat_map (λ f. part_mentions f.value) (map mentioned_in fs) in
       (alike_part f.value h.0 (agree_first here rest agree), alike_fields fs h.1 (agree_second here rest agree))
 
-  -- for what keeps members and hands on indices
+  -- for a function that keeps members and maps the expression of an index
   module _ (g : Step Expr → Step (Placed Part)) (k : Step Expr → Step (Placed At)) (members : (m : Placed (List ℕ)) → N.Member m ≡ g (N.Member m))
       (indices : (e : Expr) → N.Index (part_of e) ≡ g (N.Index e)) (mentions_of : (e : Expr) → N.Index (mentioned e) ≡ k (N.Index e)) where
     alike_step : (s : Step Expr) → OfStep IsAlike s → Agree (step_mentions (k s)) → AlikeStep (g s)

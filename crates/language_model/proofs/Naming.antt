@@ -1,4 +1,4 @@
--- A code comes to what it comes to over the names of its slots.
+-- A code has the same result over the names of its slots.
 use Rattle.std.specs.Prelude.{◌≡◌, ℕ, true, false, List, if◌then◌else◌, slice_get, Some}
 use Rattle.std.specs.Option.{option_map, option_map_or, option_and_then}
 use Rattle.std.proofs.Common.{refl, sym, ap, ap₂, ◌∙◌, eq-eqb, eqb-true, inl, inr}
@@ -23,7 +23,7 @@ use Rattle.language_model.proofs.Renaming.{renaming_law}
 
 -- ---- names of slots
 
--- what stands for a port at a place stands for the one that is there
+-- a meaning that is a port at a place is the one that is there
 port_at : (scope : Scope) (i : ℕ) (p : Port) (m : Meant) → slice_get scope.ports i ≡ Some p → MeantFits scope m → is_port i m ≡ true → m ≡ OfPort (at_place i p)
 port_at scope i p (OfPort q) at h e =
     let place : q.place ≡ i = eqb-true q.place i e in

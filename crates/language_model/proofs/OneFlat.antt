@@ -81,7 +81,7 @@ one_main unit main other h k =
 
 -- ---- the whole
 
--- what is declared twice, and where the main composite is, tell which answer it is
+-- what is declared twice, and where the main composite is, determine which answer it is
 pub one_flat_law : OneFlatLaw
 one_flat_law unit names x y (twice n e) (twice m f) = let same : n ≡ m = same_Some n m (sym e ∙ f) in ap (λ (p : Placed (List ℕ)). Err (R.Twice p)) same
 one_flat_law unit names x y (twice n e) (no_main f g) = absurd cc

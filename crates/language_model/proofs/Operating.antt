@@ -1,4 +1,4 @@
--- Operators and calls on values of the types that they take come to values of their types, or to faults.
+-- Operators and calls on values of the types that they take give values of their types, or faults.
 use Rattle.std.specs.Prelude.{◌≡◌, ℕ, zero, suc, ℤ, pos, negsuc, neg_ℤ, ◌+ℤ◌, ◌-ℤ◌, ◌*ℤ◌, int_div, int_rem, Bool, true, not, if◌then◌else◌, IsTrue, List, [], ◌∷◌, ◌++◌, Option, None, Some, slice_get}
 use Rattle.std.specs.List.{list_all, list_any, AllZip}
 use Rattle.std.specs.Int.Bits.{bit_and, bit_or, bit_xor}

@@ -1,4 +1,4 @@
--- The order of a graph has each operator once, behind those that make the streams that it takes.
+-- The order of a graph has each operator once, after those that make the streams that it takes.
 use Rattle.std.specs.Prelude.{◌≡◌, ◌+◌, ◌<◌, ◌==◌, ◌⊎◌, ◌||◌, ◌&&◌, not, ℕ, zero, suc, List, [], ◌∷◌, ◌++◌, length, Option, Some, None, slice_get, if◌then◌else◌, Bool, true, false}
 use Rattle.std.specs.List.{concat, Contains, list_all}
 use Rattle.std.specs.Option.{option_map_or}

@@ -224,7 +224,7 @@ pub gives_if_mutable : {A : Type 0} (P : A → Type 0) (at : ℕ) (scope : Scope
 gives_if_mutable P at scope e None found h = tt
 gives_if_mutable P at scope e (Some name) found h = gives_if P (is_mutable scope name) found _ (λ may. h (name, refl, may)) tt
 
--- the variable that the name stands for
+-- the variable that the name means
 pub variable_found : (o : Option (At Variable)) → option_map_or (λ v. v.what.mutable) o false ≡ true → (v : At Variable) × (o ≡ Some v) × IsTrue v.what.mutable
 variable_found None may = absurd cc
 variable_found (Some v) may = (v, refl, may)
@@ -311,7 +311,7 @@ gives_place scope e =
     gives_on (PlaceOf t) (PlaceIn scope e) (place_given e.at t.kind (level_place (out-Code Slot t.code))) (given_place e.at scope root t known.1 may)
     (λ p of. place_in scope e t p known.0 may of)))
 
--- it fits, where what stands for `$` parameters does
+-- it fits, where what `$` parameters mean does
 pub place_fits : (scope : Scope) → DollarsFit scope.dollars → (e : Expr) → Gives (λ p. PlaceFits scope p.place p.kind) (place_typing scope e)
 place_fits scope fine e =
     let root = (part e.what).form.root in

@@ -1,4 +1,4 @@
--- A code with other names comes to what the code comes to where each name has the value of the one in its place.
+-- A code with other names has the result that the code has where each name has the value of the one in its place.
 use Rattle.std.specs.Prelude.{◌≡◌, ℕ, List, [], ◌∷◌, map}
 use Rattle.std.proofs.Common.{refl, sym, ap, ◌∙◌, subst}
 use Rattle.spl_value.specs.declared.value.Value.{Value}

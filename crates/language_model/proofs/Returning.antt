@@ -1,4 +1,4 @@
--- A row that ends with a `return` never goes on behind its last statement.
+-- A row that ends with a `return` never goes on after its last statement.
 use Rattle.std.specs.Prelude.{ℕ, Bool, true, false, if◌then◌else◌, List, [], ◌∷◌, Option, None, Some, zero, suc}
 use Rattle.std.proofs.Common.{sym, subst, ◌≡◌, refl}
 use Rattle.spl_tree.specs.declared.body.Statement.{Statement}

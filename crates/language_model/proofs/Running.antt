@@ -1,4 +1,4 @@
--- A statement that fits leads to what fits, or comes to a fault.
+-- A statement that fits leads to what fits, or to a fault.
 use Rattle.std.specs.Prelude.{◌≡◌, ℕ, zero, suc, Bool, true, IsTrue, List, [], ◌∷◌, ◌++◌, map, Option, None, Some, slice_get}
 use Rattle.std.specs.List.{list_all}
 use Rattle.std.specs.Cmp.{first_so, second_so}
@@ -55,7 +55,7 @@ FlowFits result l F.Broken = IsTrue l
 FlowFits result l F.Continued = IsTrue l
 FlowFits result l (F.Returned v) = ResultFits result v
 
--- bodies of functions return values of their types where their arguments are of theirs, or come to faults
+-- bodies of functions return values of their types where their arguments are of theirs, or end with faults
 abbrev pub BodiesFit : List Signature → Bodies → Type 0
 BodiesFit signatures bodies = (i : ℕ) (f : Signature) → slice_get signatures i ≡ Some f → (vs : List Value) → OfTypes f.parameters vs → (turns : ℕ)
     → Yields (ResultFits f.result) (bodies i vs turns)

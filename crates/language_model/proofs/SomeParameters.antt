@@ -29,7 +29,7 @@ use Rattle.language_model.proofs.TypingLaws as W
 use Rattle.language_model.proofs.SameTypes.{same_is}
 use Rattle.language_model.proofs.Wanting.{part_at}
 
--- ---- what stands for it fits
+-- ---- what it means fits
 
 five_fits : CodeFits no_names five.code five.kind
 five_fits = F.literal (V.Int (pos 5)) (S.Int I32) (fits_int I32 (pos 5))

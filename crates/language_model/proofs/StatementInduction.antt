@@ -13,7 +13,7 @@ use Rattle.spl_tree.specs.declared.body.Statement.TheFolds.{ind-Statement, map-S
 use Rattle.spl_tree.specs.declared.code.Code.{Code}
 use Rattle.spl_tree.specs.declared.code.Slot.{Slot}
 
--- P holds of each statement of the row behind a condition
+-- P holds of each statement of the row after a condition
 abbrev pub OfArm : (Statement → Type 0) → Code Slot × List Statement → Type 0
 OfArm P arm = AllByRecursion P arm.1
 

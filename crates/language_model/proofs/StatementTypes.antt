@@ -81,7 +81,7 @@ abbrev types_of : Option (List SplType) → List SplType
 types_of None = []
 types_of (Some types) = types
 
--- how many arguments there are behind the place
+-- how many arguments there are after the place
 changed_count : (call : CallName) (y : SplType-F SplType) (types : List SplType) → level_changed call y ≡ Some types → argument_count call ≡ suc (length types)
 changed_count A.AppendM (T.List u) types e = ap (λ o. suc (length (types_of o))) e
 changed_count A.RemoveM (T.Map k u) types e = ap (λ o. suc (length (types_of o))) e
@@ -89,7 +89,7 @@ changed_count A.ClearM (T.List u) types e = ap (λ o. suc (length (types_of o)))
 changed_count A.ClearM (T.Map k u) types e = ap (λ o. suc (length (types_of o))) e
 changed_count _ _ types e = absurd cc
 
--- the place may be changed, and the arguments behind it are of the types that the call has on it
+-- the place may be changed, and the arguments after it are of the types that the call has on it
 record Changing (scope : Scope) (root : Option (List ℕ)) (call : CallName) (y : SplType-F SplType) (xs : List (Code Slot)) : Type 0 where
   types : List SplType
   is : level_changed call y ≡ Some types

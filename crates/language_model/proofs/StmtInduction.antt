@@ -16,11 +16,11 @@ use Rattle.spl_tree.specs.Grammar.{Expr}
 use Rattle.spl_tree.specs.StatementGrammar.{Stmt}
 use Rattle.spl_tree.specs.TypeGrammar.{TypeExpr}
 
--- P holds of the statement behind a condition
+-- P holds of the statement after a condition
 abbrev pub OfBranch : (StmtKind → Type 0) → Expr × Stmt → Type 0
 OfBranch P a = P a.1.what
 
--- and of the one behind `else`, where there is one
+-- and of the one after `else`, where there is one
 abbrev pub OfOther : (StmtKind → Type 0) → Option Stmt → Type 0
 OfOther P None = Unit {0}
 OfOther P (Some s) = P s.what

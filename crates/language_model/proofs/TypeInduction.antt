@@ -1,4 +1,4 @@
--- Induction over written types, and that a type's meaning is led by what its own names stand for.
+-- Induction over written types, and that what its own names mean determines a type's meaning.
 use Rattle.std.specs.Prelude.{◌≡◌, ℕ, List, [], ◌∷◌, Ok, map, flat_map}
 use Rattle.std.specs.List.{AllByRecursion}
 use Rattle.std.proofs.Common.{refl, ap, sym, subst, ◌∙◌}
@@ -62,9 +62,9 @@ module _ (P : TypeKind → Type 0) (s : TypeKindSteps P) where
   pub type_kind_ind : (k : TypeKind) → P k
   type_kind_ind = ind-TypeKind P (λ x y is. subst (λ z. P (roll-TypeKind z)) is (kind_step y))
 
--- ---- what names stand for
+-- ---- what names mean
 
--- names stand for the same
+-- names mean the same
 abbrev pub Agree : Types → Types → Names → Type 0
 Agree f g names = AllByRecursion (λ name. (at : ℕ) → f at name ≡ g at name) names
 
@@ -119,6 +119,6 @@ module _ (f g : Types) where
   same_kind (H.Type t) at agree = same_type t.what t.at agree
   same_kind (H.Attributes attributes) at agree = ap tuple_type (same_attributes attributes (all_same attributes) agree)
 
-  -- where the names of a shape stand for the same, the shape does
+  -- where the names of a shape mean the same, the shape does
   pub same_shape : (shape : Shape) → Agree f g (shape_names shape) → shape_meant f shape ≡ shape_meant g shape
   same_shape shape agree = same_kind shape.what shape.at agree

@@ -1,4 +1,4 @@
--- What a written type stands for and the names that stand in it, by those of its parts: an equation for each form of type.
+-- What a written type means and the names that stand in it, by those of its parts: an equation for each form of type.
 use Rattle.std.specs.Prelude.{◌≡◌, ℕ, List, [], ◌∷◌, ◌++◌, flat_map}
 use Rattle.std.proofs.Common.{refl, ap, ◌∙◌}
 use Rattle.spl_value.specs.declared.types.IntKind.{IntKind}
@@ -13,7 +13,7 @@ use Rattle.spl_tree.specs.declared.shape.TypeKind.TheFolds.{fold-TypeKind, fold_
 use Rattle.spl_tree.specs.TypeGrammar.{TypeExpr}
 use Rattle.language_model.specs.TypeNames.{Types, Written, level_type, written, written_attributes, Names, level_names, type_names}
 
--- ---- what types stand for
+-- ---- what types mean
 
 abbrev pub kind_written : TypeKind → Written
 kind_written k = fold-TypeKind Written level_type k

@@ -1,4 +1,4 @@
--- What is known of what an evaluation comes to.
+-- What is known of the result of an evaluation.
 use Rattle.std.specs.Prelude.{◌≡◌, ℕ, zero, suc, Bool, true, false, if◌then◌else◌, IsTrue, Option, Some}
 use Rattle.std.proofs.Common.{sym, subst}
 use Rattle.spl_value.specs.declared.types.SplType.{SplType}
@@ -49,7 +49,7 @@ AnyAnswer x = Unit {0}
 abbrev pub OfType : SplType → Value → Type 0
 OfType t v = IsTrue (fits t v)
 
--- an operator or a call comes to a value of the type, or to a fault
+-- an operator or a call gives a value of the type, or a fault
 abbrev pub Settles : SplType → CallOutcome → Type 0
 Settles t (Gives v) = OfType t v
 Settles t (Faults kind) = Unit {0}

@@ -1,4 +1,4 @@
--- What a program comes to: its checked graph, or its first refusal, with its place.
+-- The result of reading and checking a program: its checked graph, or its first refusal, with its place.
 use Rattle.std.specs.Prelude.{◌≡◌, ℕ, List, Result, Ok, Err}
 use Rattle.spl_tree.specs.declared.graph.Graph.{Graph}
 use Rattle.spl_tree.specs.declared.token.LexicalError.{LexicalError}
@@ -25,7 +25,7 @@ abbrev pub refused_check : Result CheckedGraph CheckRefusal → Result CheckedGr
 refused_check (Ok c) = Ok c
 refused_check (Err refusal) = Err (Check refusal)
 
--- the bytes of a program, where sinks may not have the files of these names, come to a checked graph or to a refusal
+-- the bytes of a program, where sinks may not have the files of these names, give a checked graph or a refusal
 pub data IsAccepted (bytes : List ℕ) (names : List (List ℕ)) : Result CheckedGraph ProgramRefusal → Type 0 where
   no_tokens : (error : LexicalError) (at : ℕ) → tokens bytes ≡ Err (error, at) → IsAccepted bytes names (Err (Lexical error at))
   too_deep : (ts : Tokens) (at : ℕ) → tokens bytes ≡ Ok ts → IsTooDeepAt ts 0 at → IsAccepted bytes names (Err (TooDeep at))

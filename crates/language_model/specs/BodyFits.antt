@@ -1,6 +1,6 @@
 -- Which statements fit a scope: each expression in one fits, each place is mutable, and `break`, `continue`, `return` and `submit` stand
 -- where they may. Each constructor is a rule of the language. Statements that fit are never stuck; that a function with a result returns
--- one is said apart.
+-- one is a condition of its own.
 use Rattle.std.specs.Prelude.{◌≡◌, ℕ, Bool, true, false, IsTrue, List, [], ◌∷◌, ◌++◌, slice_get, Option, None, Some}
 use Rattle.spl_value.specs.declared.types.Named.{Named}
 use Rattle.spl_value.specs.declared.types.SplType.{SplType}

@@ -35,13 +35,13 @@ use Rattle.language_model.specs.StatementTyping.{assignment_typing, compound_typ
 use Rattle.language_model.specs.TypeNames.{Types, type_meant}
 use Rattle.language_model.specs.Typing.{Found, after, mismatch, part, same_types, typing, unknown, wrong_call}
 
--- where a body stands: what the names of types stand for, what it is the body of, and the names of the output ports to which it may submit
+-- where a body stands: what the names of types mean, what it is the body of, and the names of the output ports to which it may submit
 pub record Setting : Type 0 where
   pub types : Types
   pub purpose : Purpose
   pub outputs : List (List ℕ)
 
--- a statement at its place, inside a loop or not, in a scope: its code, and the scope behind it
+-- a statement at its place, inside a loop or not, in a scope: its code, and the scope after it
 abbrev pub Stated : Type 0
 Stated = ℕ → Setting → Bool → Scope → Found (Statement × Scope)
 
@@ -58,7 +58,7 @@ row_typing setting inside scope (s ∷ rest) =
 abbrev pub alone : Setting → Bool → Scope → Placed Stated → Found (List Statement)
 alone setting inside scope s = row_typing setting inside scope (s ∷ [])
 
--- the scope behind it is that before it
+-- the scope after it is that before it
 abbrev pub staying : Scope → Found Statement → Found (Statement × Scope)
 staying scope found = after found (λ x. Ok (x, scope))
 

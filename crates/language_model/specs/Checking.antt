@@ -295,7 +295,7 @@ invocation_checked unit g tables op b i =
     let site = site_of unit g tables b (ports_of i.inputs types.ins) in
     clauses_checked op site (surroundings unit b i site.scope types.outs) i.clauses))
 
--- each operator of the graph stands for an invocation in a body
+-- each operator of the graph is that of an invocation in a body
 abbrev pub body_checked : List Definition → Graph → Tables → Op → Option Body → Found Part
 body_checked unit g tables op None = mismatch op.at
 body_checked unit g tables op (Some b) = option_map_or (invocation_checked unit g tables op b) (slice_get b.composite.graph op.site.invocation) (mismatch op.at)
@@ -310,7 +310,7 @@ operators_checked unit g tables (op ∷ ops) =
 
 -- ---- the whole
 
--- the attributes of each stream, of which none is refused behind the operators
+-- the attributes of each stream, of which none is refused after the operators
 abbrev pub each_stream : List Definition → Graph → List ℕ → Found (List Attributes)
 each_stream unit g [] = Ok []
 each_stream unit g (s ∷ streams) = after (stream_attributes unit g s) (λ schema. after (each_stream unit g streams) (λ rest. Ok (schema ∷ rest)))

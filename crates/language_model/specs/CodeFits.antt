@@ -1,6 +1,6 @@
--- Which codes fit a scope: each name in one stands for something of the scope, and each part of it has a type that what is
--- done with it wants. Each constructor is a rule of the language. An evaluation of a code that fits never comes to a name
--- without a value, nor to a value of another type than its place wants.
+-- Which codes fit a scope: each name in one means something of the scope, and each part of it has a type that what is
+-- done with it wants. Each constructor is a rule of the language. An evaluation of a code that fits never meets a name
+-- without a value, nor a value of another type than its place wants.
 use Rattle.std.specs.Prelude.{◌≡◌, ◌⊎◌, ◌<◌, ◌==◌, ℕ, IsTrue, List, [], ◌∷◌, length, slice_get, Some}
 use Rattle.std.specs.List.{count_by}
 use Rattle.spl_value.specs.declared.types.IntKind.{IntKind}
@@ -31,14 +31,14 @@ use Rattle.language_model.specs.declared.scope.Signature.{Signature}
 use Rattle.language_model.specs.declared.scope.Variable.{Variable}
 use Rattle.language_model.specs.Scopes.{at_place, variable_of, attribute_of, OfAttribute, OfPort, meant}
 
--- an attribute's own name stands for it, or its port's name stands for the port, and the attribute is named behind that
+-- an attribute's own name means it, or its port's name means the port, and the attribute is named after that
 abbrev pub CanBeNamed : Scope → ℕ → ℕ → Port → Named SplType → Type 0
 CanBeNamed scope i j p a =
     (meant scope a.name ≡ OfAttribute (record { port = i; attribute = j; kind = a.kind })) ⊎ (meant scope p.name ≡ OfPort (at_place i p))
 
 -- what stands at a slot is in the scope, has the type, and can be named there. So a variable has no slot where a later one
 -- has its name, and a port has none where a variable, an attribute or an earlier port has its name. An attribute of such a
--- port has one only where its own name stands for it
+-- port has one only where its own name means it
 pub data SlotFits (scope : Scope) : Slot → SplType → Type 0 where
   variable : (i : ℕ) (v : Variable) → slice_get scope.vars i ≡ Some v → variable_of scope v.name ≡ Some (at_place i v)
       → SlotFits scope (L.Variable i) v.kind

@@ -40,7 +40,7 @@ may_be_main c = has_no_ports c && list_all (λ p. is_some p.default) c.parameter
 abbrev pub if_main : At Composite → Option ℕ
 if_main c = if may_be_main c.what then Some c.place else None
 
--- the first composite without ports, where no others stand behind it
+-- the first composite without ports, where there are no others after it
 abbrev pub only_one : Option (At Composite) → List Composite → Option ℕ
 only_one None others = None
 only_one (Some c) [] = if_main c

@@ -78,7 +78,7 @@ declared_name (InputPort n) = n
 declared_name (MadeStream n) = n
 declared_name (Alias n) = n
 
--- an output of the head may have the name of the stream that it stands for
+-- an output of the head may have the name of the stream that it outputs
 abbrev pub may_share : Declared → Declared → Bool
 may_share (OutputPort m) (MadeStream n) = true
 may_share d e = false

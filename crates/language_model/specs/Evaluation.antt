@@ -36,7 +36,7 @@ pub record World (N : Type 0) : Type 0 where
 abbrev pub Meaning : Type 0 → Type 0
 Meaning N = World N → ℕ → Outcome Value
 
--- what a call of the function at a place comes to, from its arguments and the turns that there are
+-- the result of a call of the function at a place, from its arguments and the turns that there are
 abbrev pub Calls : Type 0
 Calls = ℕ → List Value → ℕ → Outcome Value
 
@@ -66,7 +66,7 @@ abbrev pub field_at : ℕ → List (ℕ × Value) → Option Value
 field_at i [] = None
 field_at i (f ∷ fs) = if f.0 == i then Some f.1 else field_at i fs
 
--- the tuple whose attributes, so many from a place on, are these fields; each has one
+-- the tuple whose attributes, this number of them from a place on, are these fields; each has one
 abbrev pub tuple_from : ℕ → ℕ → List (ℕ × Value) → Option (List Value)
 tuple_from i zero fs = Some []
 tuple_from i (suc n) fs = option_and_then (λ v. option_map (λ vs. v ∷ vs) (tuple_from (suc i) n fs)) (field_at i fs)
@@ -130,7 +130,7 @@ code_value {N} calls = fold-Code N (Meaning N) (level_value calls)
 
 -- ---- slots
 
--- the value that a name stands for by its place
+-- the value of a name by its place
 abbrev pub slot_value : Env → Slot → Option Value
 slot_value env (L.Variable i) = slice_get env.vars i
 slot_value env (L.Attribute port i) = option_and_then (λ vs. slice_get vs i) (slice_get env.inputs port)

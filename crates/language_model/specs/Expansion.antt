@@ -1,4 +1,4 @@
--- The operators and expansions that remain of a unit once each invocation of a composite has given way to its body, or the first
+-- The operators and expansions that remain of a unit once each invocation of a composite is replaced by its body, or the first
 -- refusal, invocation by invocation.
 use Rattle.std.specs.Prelude.{ℕ, zero, suc, ◌^◌, ◌==◌, nat_lt, nat_le, Bool, ◌&&◌, List, [], ◌∷◌, ◌++◌, map, flat_map, length, sum_by, if◌then◌else◌, codes, Option, Some, None, slice_get, Result, Ok, Err}
 use Rattle.std.specs.Option.{option_map, option_map_or}
@@ -83,7 +83,7 @@ abbrev pub own_or_input : (ℕ → List ℕ → List Source) → List Inlined �
 own_or_input outside es number e name (Some k) = source number k ∷ []
 own_or_input outside es number e name None = option_map_or (input_sources outside es e.site) (place_of name (input_names e.composite.what)) []
 
--- inputs are followed outwards at most so often
+-- inputs are followed outwards at most this number of times
 abbrev pub taken_in : ℕ → List Inlined → ℕ → List ℕ → List Source
 taken_in zero es number name = []
 taken_in (suc count) es number name =
@@ -129,7 +129,7 @@ if_within at made = if is_within made.ops then Ok made else Err (R.TooMany at)
 
 -- ---- composites
 
--- the body that an invocation of a composite stands for
+-- the body of the composite that an invocation invokes, at its site
 abbrev pub inlined : Opened → ℕ → At Composite → Inlined
 inlined p number c = record { composite = c; site = Some (site_in p number) }
 
@@ -176,7 +176,7 @@ expanded_graph expands unit p number [] made = Ok made
 expanded_graph expands unit p number (i ∷ is) made =
     after (expanded_invocation expands unit p number i made) (expanded_graph expands unit p (suc number) is)
 
--- the body at a place, in which others nest at most so deep
+-- the body at a place, in which others nest at most this deep
 abbrev pub expanded : ℕ → List Definition → Expands
 expanded zero unit p made = Ok made
 expanded (suc depth) unit p made = expanded_graph (expanded depth unit) unit p 0 p.body.composite.what.graph made

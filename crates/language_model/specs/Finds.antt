@@ -8,19 +8,19 @@ use Rattle.language_model.specs.Typing.{Found, after}
 use Rattle.language_model.specs.declared.answer.TypeAnswer.{TypeAnswer}
 use Rattle.language_model.specs.declared.answer.TypeAnswer.TheVariants.{Refused, Memory}
 
--- what is found is answered, and so is its refusal. Of want of memory nothing is said
+-- what is found is answered, and so is its refusal. Of lack of memory nothing is said
 abbrev pub Finds : {A : Type 0} → Found A → Result A TypeAnswer → Type 0
 Finds found (Ok x) = found ≡ Ok x
 Finds found (Err (Refused refusal)) = found ≡ Err refusal
 Finds found (Err Memory) = Unit {0}
 
--- what is answered stands for it
+-- `seen` gives what is found from the answer
 abbrev pub FindsBy : {A B : Type 0} → (B → A) → Found A → Result B TypeAnswer → Type 0
 FindsBy seen found (Ok x) = found ≡ Ok (seen x)
 FindsBy seen found (Err (Refused refusal)) = found ≡ Err refusal
 FindsBy seen found (Err Memory) = Unit {0}
 
--- it is the refusal of a name or a word. Of want of memory nothing is said
+-- it is the refusal of a name or a word. Of lack of memory nothing is said
 abbrev pub IsRefused : CheckError → ℕ → List ℕ → TypeAnswer → Type 0
 IsRefused error at name (Refused refusal) = refusal ≡ record { error = error; at = at; name = Some name }
 IsRefused error at name Memory = Unit {0}

@@ -15,7 +15,7 @@ use Rattle.language_model.specs.Scopes.{dollar_of}
 abbrev pub no_names : Scope
 no_names = record { vars = []; ports = []; functions = []; unresolved = []; dollars = []; punct = false }
 
--- what stands for each `$` parameter names nothing, and fits
+-- what each `$` parameter means names nothing, and fits
 abbrev pub DollarsFit : List Dollar → Type 0
 DollarsFit dollars = (name : List ℕ) (t : Typed) → dollar_of dollars name ≡ Some (Ok t) → CodeFits no_names t.code t.kind
 

@@ -44,7 +44,7 @@ ordered made =
 
 -- ---- files
 
--- the files of sources and sinks that are had already
+-- the files of sources and sinks that are in use already
 abbrev pub files_had : List Definition → List (List ℕ) → List Expansion → List Op → List OpFile
 files_had unit names expansions ops = repeated (is_had names) (flat_map (op_file unit expansions) ops)
 
@@ -65,7 +65,7 @@ abbrev pub IsMain : List Definition → At Composite → Type 0
 IsMain unit main = (main_of unit ≡ Some main.place) × (slice_get (composites unit) main.place ≡ Some main.what)
 
 -- names that are declared twice are refused first, then that there is no main composite, then recursion, and then what the expansion
--- from the main composite on meets
+-- from the main composite on refuses
 pub data IsFlat (unit : List Definition) (names : List (List ℕ)) : Found Graph → Type 0 where
   twice : (n : Placed (List ℕ)) → declared_twice unit ≡ Some n → IsFlat unit names (Err (R.Twice n))
   no_main : declared_twice unit ≡ None → main_of unit ≡ None → IsFlat unit names (Err R.NoMain)

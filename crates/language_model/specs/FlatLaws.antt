@@ -22,11 +22,11 @@ use Rattle.language_model.specs.SinkFiles.{invocation_at}
 abbrev pub OneFlatLaw : Type 0
 OneFlatLaw = (unit : List Definition) (names : List (List ℕ)) (x y : Found Graph) → IsFlat unit names x → IsFlat unit names y → x ≡ y
 
--- what holds of the graph that a unit comes to, from a main composite on
+-- what holds of the graph of a unit from a main composite on
 abbrev pub OfGraphs : (List Definition → At Composite → Graph → Type 0) → Type 0
 OfGraphs P = (unit : List Definition) (names : List (List ℕ)) (main : At Composite) (g : Graph) → flat_from unit names main ≡ Ok g → P unit main g
 
--- the invocation that an operator stands for: it stands in the graph of a composite, invokes no composite but an operator of that kind,
+-- the invocation of an operator: it stands in the graph of a composite, invokes no composite but an operator of that kind,
 -- and has as many inputs and outputs as the operator has ports
 pub record IsInvoked (unit : List Definition) (g : Graph) (op : Op) : Type 0 where
   pub invocation : Invocation
@@ -46,8 +46,8 @@ pub data MakesNone (unit : List Definition) : List Invocation → Type 0 where
   one_more : (i : Invocation) (is : List Invocation) (c : At Composite) → target_of unit i.operator.what ≡ Body c → MakesNone unit c.what.graph
       → MakesNone unit is → MakesNone unit (i ∷ is)
 
--- what an invocation comes to: the operator that it invokes stands at its site, or the body of the composite that it invokes does, or no
--- operator comes of that composite
+-- what becomes of an invocation: the operator that it invokes stands at its site, or the body of the composite that it
+-- invokes does, or no operator comes of that composite
 pub data IsKept (unit : List Definition) (g : Graph) (s : Site) (i : Invocation) : Type 0 where
   as_operator : (kind : OpKind) (n : ℕ) (op : Op) → target_of unit i.operator.what ≡ Operator kind
       → slice_get g.ops n ≡ Some op → op.site ≡ s → op.kind ≡ kind → IsKept unit g s i
@@ -73,7 +73,7 @@ IsMadeAs g s number = (op : Op) × (slice_get g.ops s.maker ≡ Some op) × (sli
 abbrev pub MakerLaw : Type 0
 MakerLaw = OfGraphs (λ unit main g. (number : ℕ) (s : Stream) → (slice_get g.streams number ≡ Some s) ↔ IsMadeAs g s number)
 
--- the order has each operator and no other number, each once, and behind those that make the streams that it takes
+-- the order has each operator and no other number, each once, and after those that make the streams that it takes
 pub record IsTopological (g : Graph) : Type 0 where
   pub all : (n : ℕ) → Contains g.topo n ↔ (n < length g.ops)
   pub once : (before after : List ℕ) (n : ℕ) → g.topo ≡ before ++ n ∷ after → Contains before n → ⊥

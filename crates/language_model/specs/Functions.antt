@@ -1,4 +1,4 @@
--- What programs come to, where their functions can be called: the values of expressions, and what bodies do.
+-- The results of programs, where their functions can be called: the values of expressions, and what bodies do.
 use Rattle.std.specs.Prelude.{ℕ, zero, suc, List, [], None, slice_get}
 use Rattle.spl_value.specs.declared.item.FaultKind.TheVariants as F
 use Rattle.spl_value.specs.declared.value.Value.{Value}
@@ -14,7 +14,7 @@ use Rattle.language_model.specs.Statements.{Bodies, Left, calls_by, body_leaves}
 abbrev pub function_env : List Value → Env
 function_env values = record { inputs = []; vars = values; punct = None }
 
--- what functions return, where calls of them nest at most so deep, and come to want of turns where they would nest deeper
+-- what functions return, where calls of them nest at most this deep; where they would nest deeper, they run out of turns
 abbrev pub bodies_of : List Function → ℕ → Bodies
 bodies_of functions zero i values turns = Faulted F.Turns
 bodies_of functions (suc depth) i values turns =

@@ -1,4 +1,4 @@
--- What the names in the graph of a composite stand for, and how an invocation is refused by what it names and by the head
+-- What the names in the graph of a composite mean, and how an invocation is refused by what it names and by the head
 -- that it has to fit.
 use Rattle.std.specs.Prelude.{ℕ, ◌==◌, Bool, true, false, ◌&&◌, ◌||◌, not, List, [], ◌∷◌, ◌++◌, map, flat_map, filter, length, if◌then◌else◌, Option, Some, None, is_some, is_none}
 use Rattle.std.specs.List.{list_any, list_all}

@@ -48,7 +48,7 @@ use Rattle.language_model.specs.WorldFits.{FunctionsFit}
 
 -- ---- the graph
 
--- at most 256 operators and fewer than 2^30 connections. Each operator stands in the order behind those that make its streams, so no
+-- at most 256 operators and fewer than 2^30 connections. Each operator stands in the order after those that make its streams, so no
 -- stream leads back to its maker
 pub record GraphKeeps (g : Graph) : Type 0 where
   pub operators : length g.ops ≤ 256
@@ -87,7 +87,7 @@ pub record NamesPorts (signatures : List Signature) (ins : List Attributes) (sco
 abbrev pub Once : List ℕ → Type 0
 Once places = (i j p : ℕ) → slice_get places i ≡ Some p → slice_get places j ≡ Some p → i ≡ j
 
--- attributes by whose values tuples are told apart, each once
+-- attributes by whose values tuples are distinguished, each once
 pub record KeysFit (schema : Attributes) (places : List ℕ) : Type 0 where
   pub keys : (i p : ℕ) → slice_get places i ≡ Some p → (a : Named SplType) × (slice_get schema p ≡ Some a) × IsTrue (level_key (out-SplType a.kind))
   pub once : Once places

@@ -1,4 +1,4 @@
--- The literals of clauses. A `$` parameter stands for the literal that it is given, or that is its default.
+-- The literals of clauses. A `$` parameter means the literal that it is given, or that is its default.
 use Rattle.std.specs.Prelude.{ℕ, zero, suc, Bool, ◌&&◌, not, List, length, if◌then◌else◌, codes, Option, Some, None, Ok, slice_get}
 use Rattle.std.specs.Option.{option_and_then, option_map_or}
 use Rattle.std.specs.Str.{bytes_eq, is_utf8}
@@ -18,7 +18,7 @@ use Rattle.language_model.specs.Composites.{is_empty}
 use Rattle.language_model.specs.SinkFiles.{arguments_of, default_named, heads_of, value_named}
 use Rattle.language_model.specs.Typing.{Found, after, mismatch, typing}
 
--- ---- behind `$` parameters
+-- ---- what `$` parameters mean
 
 -- an expression that is no `$` parameter, or an argument, which is meant where the composite is invoked, or nothing
 pub data Behind : Type 0 where
@@ -37,7 +37,7 @@ abbrev pub argument_or : Option Expr → Behind → Behind
 argument_or (Some e) other = Outside e
 argument_or None other = other
 
--- a parameter: its argument, or else its default. Defaults are followed at most so often
+-- a parameter: its argument, or else its default. Defaults are followed at most this number of times
 abbrev pub parameter_behind : ℕ → List CompositeParameter → List Parameter → List ℕ → Behind
 parameter_behind zero parameters arguments name = Nowhere
 parameter_behind (suc count) parameters arguments name =
@@ -51,7 +51,8 @@ here_or outside (Here e) = Some e
 here_or outside (Outside e) = outside e
 here_or outside Nowhere = None
 
--- the expression in the body of the expansion at a number that is no `$` parameter. Arguments are followed at most so often
+-- the expression in the body of the expansion at a number that is no `$` parameter. Arguments are followed at most this
+-- number of times
 abbrev pub followed_within : ℕ → List Definition → List Expansion → ℕ → Expr → Option Expr
 followed_within zero unit expansions number e = None
 followed_within (suc count) unit expansions number e =
@@ -70,7 +71,7 @@ level_number _ = None
 abbrev pub number_of : Expr → Option Number
 number_of e = level_number (out-ExprKind e.what)
 
--- a number literal, or a `$` parameter that fits its type and stands for one
+-- a number literal, or a `$` parameter that fits its type and means one
 abbrev pub level_literal : Scope → (Expr → Option Expr) → Expr → ExprKind-F ExprKind → Found (Option Number)
 level_literal scope follow e (X.Number n) = after (typing scope e None) (λ t. Ok (Some n))
 level_literal scope follow e (X.Dollar name) = after (typing scope e None) (λ t. Ok (option_and_then number_of (follow e)))
@@ -96,7 +97,7 @@ abbrev pub text_at : ℕ → Option Expr → Found (List ℕ)
 text_at at None = mismatch at
 text_at at (Some e) = level_text at (out-ExprKind e.what)
 
--- a text literal, or a `$` parameter that is a text and stands for one
+-- a text literal, or a `$` parameter that is a text and means one
 abbrev pub level_file : Scope → (Expr → Option Expr) → Expr → ExprKind-F ExprKind → Found (List ℕ)
 level_file scope follow e (X.Text bytes) = file_or_mismatch e.at bytes
 level_file scope follow e (X.Dollar name) = after (typing scope e (Some S.Text)) (λ t. text_at e.at (follow e))

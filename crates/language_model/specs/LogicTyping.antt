@@ -58,7 +58,7 @@ level_plain _ = false
 abbrev pub is_plain : Code Slot → Bool
 is_plain code = fold-Code Slot Bool level_plain code
 
--- a `$` parameter, where what stands for it is such a code. Where it has a refusal, that comes
+-- a `$` parameter, where it means such a code. One with a refusal passes, so that the refusal is given
 abbrev pub plain_parameter : Option (Result Typed CheckRefusal) → Bool
 plain_parameter (Some (Ok t)) = is_plain t.code
 plain_parameter _ = true
@@ -118,7 +118,7 @@ abbrev pub handler_of : HandledEvent → ℕ → List Handled → Option (List S
 handler_of event port [] = None
 handler_of event port (h ∷ hs) = if is_event h.event event && (h.port == port) then Some h.body else handler_of event port hs
 
--- where a Custom stands: what the names of types stand for, what its expressions may name besides the state, and its outputs by their names
+-- where a Custom stands: what the names of types mean, what its expressions may name besides the state, and its outputs by their names
 -- and attributes
 pub record Surroundings : Type 0 where
   pub types : Types
@@ -148,7 +148,7 @@ handlers_typing around state before (h ∷ hs) =
     after (handler_typing around state before h (first_from (λ p. bytes_eq p.name h.what.port.what) 0 around.scope.ports))
     (λ x. handlers_typing around state (before ++ x ∷ []) hs)
 
--- the handlers of an event on so many ports, from one on
+-- the handlers of an event on this number of ports, from one on
 abbrev pub handlers_on : HandledEvent → List Handled → ℕ → ℕ → List (Option (List Statement))
 handlers_on event handled port zero = []
 handlers_on event handled port (suc count) = handler_of event port handled ∷ handlers_on event handled (suc port) count

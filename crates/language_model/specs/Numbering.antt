@@ -14,7 +14,7 @@ use Rattle.language_model.specs.declared.expansion.Source.{Source}
 use Rattle.language_model.specs.Expansion.{source, Inlined, Made, place_of, input_sources, sources_of}
 use Rattle.language_model.specs.Invoking.{stream_names}
 
--- so many numbers, from a number on
+-- this number of numbers, from a number on
 abbrev pub numbers_from : ℕ → ℕ → List ℕ
 numbers_from n zero = []
 numbers_from n (suc count) = n ∷ numbers_from (suc n) count
@@ -23,7 +23,7 @@ numbers_from n (suc count) = n ∷ numbers_from (suc n) count
 abbrev pub first_stream : List Operation → ℕ → ℕ
 first_stream ops n = sum_by (λ op. op.outputs) (take n ops)
 
--- ---- what a name stands for
+-- ---- what a name means
 
 -- an output of an invocation: the number of the invocation, and the place of the output
 pub record Output : Type 0 where
@@ -55,14 +55,14 @@ expansion_at made s = position (λ e. option_map_or (is_site s) e.site false) ma
 abbrev pub output_place : Composite → ℕ → Option ℕ
 output_place c k = option_and_then (λ p. place_of p.name.what (stream_names c)) (slice_get c.outputs k)
 
--- a stream of the operator at the site, or else what the output stands for in the expansion there
+-- a stream of the operator at the site, or else what the output means in the expansion there
 abbrev pub operator_or_expansion : (Source → Option ℕ) → Made → Site → ℕ → Option ℕ → Option ℕ
 operator_or_expansion inner made s k (Some n) = Some (first_stream made.ops n + k)
 operator_or_expansion inner made s k None =
     option_and_then (λ e. option_and_then (λ x. option_and_then (λ place. inner (source e place)) (output_place x.composite.what k)) (slice_get made.expansions e))
     (expansion_at made s)
 
--- the number of the stream that a name stands for; outputs of composites are followed at most so often
+-- the number of the stream that a name means; outputs of composites are followed at most this number of times
 abbrev pub stream_of : ℕ → Made → Source → Option ℕ
 stream_of zero made x = None
 stream_of (suc count) made x =

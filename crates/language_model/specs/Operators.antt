@@ -1,4 +1,4 @@
--- What the operators of expressions come to on values, and what is taken of a value.
+-- The results of the operators of expressions on values, and what is taken of a value.
 use Rattle.std.specs.Prelude.{ℕ, zero, ℤ, pos, negsuc, nat_abs, ◌+ℤ◌, ◌-ℤ◌, ◌*ℤ◌, neg_ℤ, int_div, int_rem, Bool, true, false, not, if◌then◌else◌, List, [], ◌∷◌, ◌++◌, codes, Option, None, Some, slice_get}
 use Rattle.std.specs.List.{list_any}
 use Rattle.std.specs.Int.{int_rem_euclid}

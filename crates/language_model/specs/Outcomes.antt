@@ -1,4 +1,4 @@
--- What an evaluation comes to, and how one follows another.
+-- The result of an evaluation, and how one evaluation follows another.
 use Rattle.std.specs.Prelude.{ℕ, zero, suc, Option, None, Some}
 use Rattle.spl_value.specs.declared.item.FaultKind.{FaultKind}
 use Rattle.spl_value.specs.declared.item.FaultKind.TheVariants as K
@@ -22,7 +22,7 @@ abbrev pub need : {A B : Type 0} → Option A → (A → Outcome B) → Outcome 
 need None f = Stuck
 need (Some x) f = f x
 
--- what an operator or a call comes to takes no turn
+-- the result of an operator or a call takes no turn
 abbrev pub settled : CallOutcome → ℕ → Outcome Value
 settled (Gives v) turns = Done v turns
 settled (Faults kind) turns = Faulted kind

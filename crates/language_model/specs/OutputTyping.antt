@@ -56,7 +56,7 @@ abbrev pub assignment_typing : {A : Type 0} → Assigns A → List (Named SplTyp
 assignment_typing assigns schema before f =
     after (assigns (wanted_of (attribute_of schema f.name.what)) f.value) (λ x. as_attribute before f.name.at x (attribute_of schema f.name.what))
 
--- behind those with the places `before`, the last first
+-- after those with the places `before`, of which the last comes first
 abbrev pub assignments_typing : {A : Type 0} → Assigns A → List (Named SplType) → List ℕ → List (Field Expr) → Found (Assigned A)
 assignments_typing assigns schema before [] = Ok []
 assignments_typing assigns schema before (f ∷ fs) =
@@ -91,7 +91,7 @@ filled_from fills xs place (a ∷ schema) =
     if is_assigned place xs then filled_from fills xs (suc place) schema
     else after (fills a) (λ x. after (filled_from fills xs (suc place) schema) (λ rest. Ok ((place, x) ∷ rest)))
 
--- the assigned ones, and behind them the others in the order of the output
+-- the assigned ones, and after them the others in the order of the output
 abbrev pub with_others : {A : Type 0} → Fills A → List (Named SplType) → Assigned A → Found (Assigned A)
 with_others fills schema xs = after (filled_from fills xs 0 schema) (λ rest. Ok (xs ++ rest))
 

@@ -50,7 +50,7 @@ needed kind = needed_among (rules_of kind).parameters
 
 -- ---- values
 
--- where the expressions of an operator stand: what they may name, and what is behind their `$` parameters
+-- where the expressions of an operator stand: what they may name, and what their `$` parameters mean
 pub record Site : Type 0 where
   pub scope : Scope
   pub follow : Expr → Option Expr
@@ -81,7 +81,7 @@ abbrev pub level_index : ℕ → Code Slot → SplType-F SplType → Found Param
 level_index at code (T.Int kind) = Ok (V.Code code)
 level_index at code _ = mismatch at
 
--- an attribute by whose values tuples are told apart: an integer, a boolean or a text
+-- an attribute by whose values tuples are distinguished: an integer, a boolean or a text
 abbrev pub level_key : SplType-F SplType → Bool
 level_key (T.Int kind) = true
 level_key T.Bool = true
@@ -112,7 +112,7 @@ abbrev pub first_schema : List Port → List (Named SplType)
 first_schema [] = []
 first_schema (p ∷ ps) = p.schema
 
--- the one value of a parameter; a second one is refused behind it
+-- the one value of a parameter; a second one is refused after it
 abbrev pub one_value : ℕ → (Expr → Found ParameterValue) → List Expr → Found ParameterValue
 one_value at value [] = mismatch at
 one_value at value (e ∷ []) = value e

@@ -1,4 +1,4 @@
--- What the `$` parameters of composites stand for in each expansion: an argument, which is meant where the composite is invoked, or else
+-- What the `$` parameters of composites mean in each expansion: an argument, which is typed where the composite is invoked, or else
 -- the default, under the type of the parameter.
 use Rattle.std.specs.Prelude.{ℕ, zero, suc, ◌==◌, Bool, true, false, ◌&&◌, not, List, [], ◌∷◌, ◌++◌, filter_map, length, if◌then◌else◌, Option, Some, None, is_some, slice_get}
 use Rattle.std.specs.List.{list_all}
@@ -24,7 +24,7 @@ use Rattle.language_model.specs.SinkFiles.{arguments_of, composite_of, value_nam
 use Rattle.language_model.specs.TypeNames.{Types, composite_types, type_meant}
 use Rattle.language_model.specs.Typing.{Found, after, mismatch, typing, unknown}
 
--- ---- what may stand for a parameter
+-- ---- what may be the value of a parameter
 
 -- literals, operators, casts and `$` parameters: no name, call, member or element
 abbrev pub level_constant : ExprKind-F Bool → Bool
@@ -47,13 +47,13 @@ is_constant e = fold-ExprKind Bool level_constant e.what
 abbrev pub constant_scope : List Dollar → Scope
 constant_scope given = record no_names { dollars = given }
 
--- an expression that stands for a parameter of the type
+-- an expression as the value of a parameter of the type
 abbrev pub constant_typing : List Dollar → Expr → SplType → Found Typed
 constant_typing given e t = if is_constant e then typing (constant_scope given) e (Some t) else mismatch e.at
 
 -- ---- the parameters of one expansion
 
--- without an argument a default stands for the parameter, and one of both there is
+-- without an argument the default is the value of the parameter, and without both the parameter is unknown
 abbrev pub default_typing : List Dollar → CompositeParameter → SplType → Option Expr → Found Typed
 default_typing own p t None = unknown p.name.at p.name.what
 default_typing own p t (Some e) = constant_typing own e t
@@ -78,7 +78,7 @@ default_leads parameters arguments p =
 abbrev pub parameter_leads : List CompositeParameter → List Parameter → ℕ → List ℕ
 parameter_leads parameters arguments place = option_map_or (default_leads parameters arguments) (slice_get parameters place) []
 
--- a parameter stands for something where it is the first of its name and its default doesn't lead back to it
+-- a parameter has a meaning where it is the first of its name and its default doesn't lead back to it
 abbrev pub has_meaning : List CompositeParameter → List Parameter → ℕ → CompositeParameter → Bool
 has_meaning parameters arguments place p =
     option_map_or (λ first. first == place) (parameter_place parameters p.name.what) false
@@ -90,7 +90,7 @@ own_from passes found place [] = []
 own_from passes found place (p ∷ ps) =
     (if passes place p then record { name = p.name.what; found = found p } ∷ [] else []) ++ own_from passes found (suc place) ps
 
--- defaults are followed at most so often
+-- defaults are followed at most this number of times
 abbrev pub own_within : ℕ → Types → List Dollar → List Parameter → List CompositeParameter → List Dollar
 own_within zero types outer arguments parameters = []
 own_within (suc count) types outer arguments parameters =
@@ -98,7 +98,7 @@ own_within (suc count) types outer arguments parameters =
     (parameter_typing types outer (own_within count types outer arguments parameters) arguments) 0 parameters
 
 -- the parameters of a composite that is invoked with these arguments, where there are those of the outer one. One that leads back to
--- itself by its default stands for nothing, also where another has its name; a row of defaults of others is no longer than there are
+-- itself by its default has no meaning, also where another has its name; a row of defaults of others is no longer than there are
 -- parameters
 abbrev pub parameters_given : Types → List Dollar → List Parameter → List CompositeParameter → List Dollar
 parameters_given types outer arguments parameters = own_within (length parameters) types outer arguments parameters
@@ -111,7 +111,7 @@ Tables = List (List Dollar)
 abbrev pub table_at : Tables → ℕ → List Dollar
 table_at tables number = option_map_or (λ table. table) (slice_get tables number) []
 
--- those of an expansion, behind those of the expansions before it
+-- those of an expansion, after those of the expansions before it
 abbrev pub expansion_dollars : List Definition → List Expansion → Tables → Expansion → List Dollar
 expansion_dollars unit expansions before x =
     option_map_or (λ c. parameters_given (composite_types unit c) (option_map_or (λ s. table_at before s.expansion) x.site []) (arguments_of unit expansions x) c.parameters)
@@ -122,6 +122,6 @@ tables_from unit expansions before [] = []
 tables_from unit expansions before (x ∷ xs) =
     expansion_dollars unit expansions before x ∷ tables_from unit expansions (before ++ expansion_dollars unit expansions before x ∷ []) xs
 
--- an expansion stands behind the one in which it is invoked
+-- an expansion comes after the one in which it is invoked
 abbrev pub dollar_tables : List Definition → List Expansion → Tables
 dollar_tables unit expansions = tables_from unit expansions [] expansions

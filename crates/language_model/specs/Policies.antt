@@ -31,7 +31,7 @@ bad_window at = refused E.BadWindow at None
 
 -- ---- numbers and attributes
 
--- the number literal that an expression stands for, or nothing, or the refusal of a `$` parameter
+-- the number literal that an expression means, or nothing, or the refusal of a `$` parameter
 abbrev pub Numbers : Type 0
 Numbers = Expr → Found (Option Number)
 
@@ -42,7 +42,7 @@ abbrev pub as_count : ℕ → ℕ → Option Number → Found ℕ
 as_count at least None = bad_window at
 as_count at least (Some n) = if nat_le least n.value && nat_le n.value most_tuples then Ok n.value else bad_window at
 
--- a number of tuples, at least so many
+-- a number of tuples, at least `least`
 abbrev pub count_of : Numbers → ℕ → Expr → Found ℕ
 count_of numbers least e = after (numbers e) (as_count e.at least)
 
@@ -111,7 +111,7 @@ are_no_arguments _ = false
 abbrev pub punctuated : WindowPart → Found WindowRule
 punctuated p = if has_name (codes "punct") p && are_no_arguments p.arguments then Ok W.TumblingPunct else bad_window p.name.at
 
--- behind `tumbling`
+-- after `tumbling`
 abbrev pub tumbling : Numbers → List (Named SplType) → ℕ → List WindowPart → Found WindowRule
 tumbling numbers schema at [] = bad_window at
 tumbling numbers schema at (p ∷ ps) =
@@ -131,7 +131,7 @@ trigger numbers at [] = bad_window at
 trigger numbers at (p ∷ ps) =
     after (if has_name (codes "count") p then only_count numbers 1 p p.arguments else bad_window p.name.at) (λ n. nothing_behind n ps)
 
--- behind `sliding`
+-- after `sliding`
 abbrev pub sliding_with_trigger : Numbers → List (Named SplType) → ℕ → List WindowPart → Found WindowRule
 sliding_with_trigger numbers schema at [] = bad_window at
 sliding_with_trigger numbers schema at (p ∷ ps) =
@@ -197,7 +197,7 @@ windows_typing policy ports given (w ∷ ws) =
     after (window_of policy given w (first_from (λ p. bytes_eq p.name w.port.what) 0 ports)) (λ x.
     after (windows_typing policy ports (x.0 ∷ given) ws) (λ rest. Ok (x ∷ rest)))
 
--- the window of a port, or the want of one at the invocation
+-- the window of a port, or the refusal at the invocation where one is missing
 abbrev pub window_at : ℕ → ℕ → List (ℕ × Policy) → Found Policy
 window_at at port [] = bad_window at
 window_at at port (x ∷ xs) = if x.0 == port then Ok x.1 else window_at at port xs

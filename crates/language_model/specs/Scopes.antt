@@ -1,4 +1,4 @@
--- What the names of an expression stand for.
+-- What the names of an expression mean.
 use Rattle.std.specs.Prelude.{ℕ, suc, Bool, List, [], ◌∷◌, ◌++◌, if◌then◌else◌, Option, Some, None, Result}
 use Rattle.std.specs.Option.{option_map}
 use Rattle.std.specs.Str.{bytes_eq}
@@ -74,7 +74,7 @@ unresolved_of scope name = option_map (λ f. f.what.refusal) (first_from (λ f. 
 abbrev pub dollar_of : List Dollar → List ℕ → Option (Result Typed CheckRefusal)
 dollar_of dollars name = option_map (λ d. d.what.found) (first_from (λ d. bytes_eq d.name name) 0 dollars)
 
--- what a name stands for: a variable, an attribute of one port, the tuple of a port, or nothing, also where several ports
+-- what a name means: a variable, an attribute of one port, the tuple of a port, or nothing, also where several ports
 -- have an attribute of the name
 pub data Meant : Type 0 where
   OfVariable : At Variable → Meant

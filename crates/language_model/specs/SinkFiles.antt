@@ -39,14 +39,14 @@ default_named (p ∷ ps) name = if bytes_eq p.name.what name then p.default else
 
 -- ---- texts
 
--- what an expression comes to that is a text, or a `$` parameter that stands for one: the text; or an argument, which is meant where
+-- the meaning of an expression that is a text, or a `$` parameter that means one: the text; or an argument, which is meant where
 -- the composite is invoked; or nothing of the kind
 pub data Text : Type 0 where
   Literal : List ℕ → Text
   Argument : Expr → Text
   NoText : Text
 
--- a form, from what a `$` parameter comes to
+-- a form, from the meaning of a `$` parameter
 abbrev pub level_text : (List ℕ → Text) → ExprKind-F ExprKind → Text
 level_text dollar (X.Text bytes) = Literal bytes
 level_text dollar (X.Dollar name) = dollar name
@@ -59,7 +59,7 @@ abbrev pub argument_or : Option Expr → Text → Text
 argument_or (Some e) other = Argument e
 argument_or None other = other
 
--- a `$` parameter: its argument, or else its default, in which further defaults are looked up at most so often
+-- a `$` parameter: its argument, or else its default. Defaults are followed at most this number of times
 abbrev pub dollar_text : ℕ → List CompositeParameter → List Parameter → List ℕ → Text
 dollar_text zero heads arguments name = NoText
 dollar_text (suc count) heads arguments name =
@@ -86,11 +86,11 @@ literal_or outside (Literal bytes) = Some bytes
 literal_or outside (Argument e) = outside e
 literal_or outside NoText = None
 
--- what an expression in an expansion comes to
+-- the meaning of an expression in an expansion
 abbrev pub own_text : List Definition → List Expansion → Expansion → Expr → Text
 own_text unit expansions x e = text_of (dollar_text (length (heads_of unit x)) (heads_of unit x) (arguments_of unit expansions x)) e
 
--- the text that it stands for; arguments are followed at most so often
+-- the text that it means; arguments are followed at most this number of times
 abbrev pub text_in : ℕ → List Definition → List Expansion → ℕ → Expr → Option (List ℕ)
 text_in zero unit expansions number e = None
 text_in (suc count) unit expansions number e =

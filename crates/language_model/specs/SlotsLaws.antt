@@ -42,7 +42,7 @@ InputsLaw = (functions : List Function) (row : List Statement) (env other : Env)
     → AllByRecursion (λ (slot : Slot). slot_value env slot ≡ slot_value other slot) (row_slots row)
     → runs functions row env turns ≡ runs functions row other turns
 
--- a code comes to the same where the marker is the same, and each of its names has the same value
+-- a code has the same result where the marker is the same, and each of its names has the same value
 abbrev pub AgreementLaw : Type 0 → Type 0
 AgreementLaw N = (calls : Calls) (code : Code N) (w v : World N) (turns : ℕ) → w.marker ≡ v.marker
     → AllByRecursion (λ (n : N). w.value_of n ≡ v.value_of n) (names_of code) → code_value calls code w turns ≡ code_value calls code v turns

@@ -18,7 +18,7 @@ use Rattle.language_model.specs.Outcomes.{Done, followed, need}
 use Rattle.language_model.specs.Statements.{State, Acts, Bodies, value_in, truth_in, declared, scoped, submitted, change_acts, first_true, turns_while, turns_over, level_elements, level_tuple, call_acts, return_acts, level_acts, statement_acts, row_acts}
 
 module _ (bodies : Bodies) where
-  -- the row behind the first condition that is true
+  -- the row after the first condition that is true
   abbrev pub arms_act : List (Code Slot × List Statement) → List Statement → Acts
   arms_act [] other s turns = scoped (row_acts bodies other) s turns
   arms_act (arm ∷ arms) other s turns =

@@ -56,7 +56,7 @@ truth_in bodies code s turns = truth (code_value (calls_by bodies) code) (world_
 abbrev pub with_vars : State → List Value → State
 with_vars s vars = record { env = record { inputs = s.env.inputs; vars = vars; punct = s.env.punct }; submits = s.submits }
 
--- a new variable behind all others
+-- a new variable after all others
 abbrev pub declared : State → Value → State
 declared s v = with_vars s (s.env.vars ++ v ∷ [])
 
@@ -130,7 +130,7 @@ abbrev pub in_order : List Acts → Acts
 in_order [] s turns = Done (F.Next, s) turns
 in_order (first ∷ rest) s turns = followed (first s turns) (λ w turns. then_rest w turns (in_order rest))
 
--- the row behind the first condition that is true
+-- the row after the first condition that is true
 abbrev pub first_true : Bodies → List (Code Slot × List Acts) → List Acts → Acts
 first_true bodies [] other s turns = scoped (in_order other) s turns
 first_true bodies (arm ∷ arms) other s turns =
@@ -151,7 +151,7 @@ turn_while bodies code body again s turns =
     followed (truth_in bodies code s turns) (λ b turns.
     if b then enter turns (λ turns. followed (body s turns) (λ w turns. then_again w turns again)) else Done (F.Next, s) turns)
 
--- at most so many turns, and one more: where the number is that of the turns that there are, it is never used up
+-- at most this number of turns, and one more: where the number is that of the turns that there are, it is never used up
 abbrev pub turns_while : ℕ → Bodies → Code Slot → Acts → Acts
 turns_while zero bodies code body = turn_while bodies code body (λ s turns. Faulted K.Turns)
 turns_while (suc n) bodies code body = turn_while bodies code body (turns_while n bodies code body)

@@ -57,7 +57,7 @@ abbrev pub body_at : List Definition → Graph → ℕ → Option Body
 body_at unit g number =
     option_and_then (λ x. option_map (λ c. record { number = number; expansion = x; composite = c }) (composite_of unit x)) (slice_get g.expansions number)
 
--- the stream that a name stands for in a body: one that its graph makes, or the first that an input takes
+-- the stream that a name means in a body: one that its graph makes, or the first that an input takes
 abbrev pub own_stream : Body → List ℕ → Option ℕ
 own_stream b name = option_and_then (slice_get b.expansion.streams) (place_of name (stream_names b.composite))
 
@@ -83,11 +83,11 @@ abbrev pub kind_alone : ShapeKind → Option (List ℕ)
 kind_alone (H.Type t) = level_alone (out-TypeKind t.what)
 kind_alone (H.Attributes attributes) = None
 
--- a name that stands for a type in the body
+-- a name that means a type in the body
 abbrev pub is_type : List Definition → Body → List ℕ → Bool
 is_type unit b name = is_some (definition_of b.composite.types name) || is_some (definition_of (type_definitions unit) name)
 
--- a name that is no type stands for a stream, by its number
+-- a name that is no type means a stream, by its number
 abbrev pub stream_unless_type : List Definition → Body → List ℕ → Option (At (List ℕ))
 stream_unless_type unit b name = if is_type unit b name then None else option_map (λ s. at_place s name) (stream_in b name)
 
@@ -119,7 +119,7 @@ shape_or_stream streams unit g b shape (Some n) =
     if leads_back (length g.streams) (stream_leads unit g) n.place then unknown shape.at n.what else streams n.place
 shape_or_stream streams unit g b shape None = after (shape_meant (composite_types unit b.composite) shape) (λ t. level_attributes shape.at (out-SplType t))
 
--- what a shape in a body stands for, by what streams are
+-- what a shape in a body means, by what streams are
 abbrev pub shape_attributes : (ℕ → Found Attributes) → List Definition → Graph → Body → Shape → Found Attributes
 shape_attributes streams unit g b shape = shape_or_stream streams unit g b shape (named_stream unit b shape)
 
@@ -128,7 +128,7 @@ abbrev pub origin_attributes : (ℕ → Found Attributes) → List Definition �
 origin_attributes streams unit g None = mismatch 0
 origin_attributes streams unit g (Some o) = shape_attributes streams unit g o.body o.output.shape
 
--- names of streams are followed at most so often
+-- names of streams are followed at most this number of times
 abbrev pub attributes_within : ℕ → List Definition → Graph → ℕ → Found Attributes
 attributes_within zero unit g s = mismatch 0
 attributes_within (suc count) unit g s = origin_attributes (attributes_within count unit g) unit g (origin_of unit g s)
@@ -139,7 +139,7 @@ stream_attributes unit g s = attributes_within (suc (length g.streams)) unit g s
 
 -- ---- types that are given again
 
--- a shape has to stand for these attributes
+-- a shape has to mean these attributes
 abbrev pub stands_for : List Definition → Graph → Body → Attributes → Shape → Passes
 stands_for unit g b schema shape =
     after (shape_attributes (stream_attributes unit g) unit g b shape) (λ given. if same_attributes given schema then passed else mismatch shape.at)
@@ -167,7 +167,7 @@ head_output heads unit g schema b port =
     after (port_stands_for unit g b schema (slice_get b.composite.outputs port)) (λ u. option_map_or (invoked_output heads unit g schema port) b.expansion.site passed)
 
 -- where a stream of a body is an output of its head, that says its type, and the invocation of the composite, and so on outwards. At most
--- so many heads are around it
+-- this number of heads are around it
 abbrev pub output_heads : ℕ → List Definition → Graph → Attributes → Body → List ℕ → Passes
 output_heads zero unit g schema b name = passed
 output_heads (suc count) unit g schema b name =
@@ -205,7 +205,7 @@ abbrev pub so_often : ℕ → ℕ → List ℕ
 so_often zero at = []
 so_often (suc count) at = at ∷ so_often count at
 
--- how many streams a name stands for: one that the graph makes, or those that the input takes
+-- how many streams a name means: one that the graph makes, or those that the input takes
 abbrev pub taken_by : Body → List ℕ → Option ℕ → ℕ
 taken_by b name (Some place) = 1
 taken_by b name None = option_map_or (λ i. i.count) (option_and_then (slice_get b.expansion.inputs) (place_of name (input_names b.composite))) 0

@@ -9,7 +9,7 @@ use Rattle.language_model.specs.Statements.{State, Bodies, row_acts}
 abbrev pub in_front : List Output → State → State
 in_front others s = record { env = s.env; submits = others ++ s.submits }
 
--- what a row does doesn't depend on the submits before it, and its own come behind them
+-- what a row does doesn't depend on the submits before it, and its own come after them
 abbrev pub SubmitsLaw : Type 0
 SubmitsLaw = (bodies : Bodies) (row : List Statement) (others : List Output) (s : State) (turns : ℕ)
     → row_acts bodies row (in_front others s) turns ≡ followed (row_acts bodies row s turns) (λ w turns. Done (w.0, in_front others w.1) turns)

@@ -1,4 +1,4 @@
--- The operators of a graph in an order in which each stands behind those that make its streams, as far as there is one.
+-- The operators of a graph in an order in which each stands after those that make its streams, as far as there is one.
 use Rattle.std.specs.Prelude.{ℕ, zero, suc, ◌==◌, Bool, false, ◌&&◌, not, List, [], ◌∷◌, ◌++◌, length, if◌then◌else◌, Option, Some, None, slice_get}
 use Rattle.std.specs.List.{concat, list_all, list_any}
 use Rattle.std.specs.Option.{option_map_or}
@@ -17,7 +17,7 @@ abbrev pub next_from : List Stream → List ℕ → ℕ → List Op → Option �
 next_from streams taken n [] = None
 next_from streams taken n (op ∷ ops) = if not (is_taken taken n) && is_ready streams taken op then Some n else next_from streams taken (suc n) ops
 
--- one after another, at most so many
+-- one after another, at most this number of them
 abbrev pub taken_on : ℕ → List Stream → List Op → List ℕ → List ℕ
 taken_on zero streams ops taken = taken
 taken_on (suc count) streams ops taken =

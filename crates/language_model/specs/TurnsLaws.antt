@@ -1,4 +1,4 @@
--- What more turns change of what programs come to: nothing but the turns that are left, where there were enough.
+-- What more turns change of the results of programs: nothing but the turns that are left, where there were enough.
 use Rattle.std.specs.Prelude.{◌≡◌, ◌≢◌, ◌+◌, ℕ, List}
 use Rattle.spl_value.specs.declared.item.FaultKind.{FaultKind}
 use Rattle.spl_value.specs.declared.item.FaultKind.TheVariants as K
@@ -12,12 +12,12 @@ use Rattle.language_model.specs.Functions.{value, runs}
 use Rattle.language_model.specs.Outcomes.{Done, Faulted}
 use Rattle.language_model.specs.Statements.{Left}
 
--- a code that comes to a value with some turns comes to it with more
+-- a code that gives a value with some turns gives it with more
 abbrev pub ValueTurnsLaw : Type 0 → Type 0
 ValueTurnsLaw N = (functions : List Function) (code : Code N) (w : World N) (turns more left : ℕ) (v : Value)
     → value functions code w turns ≡ Done v left → value functions code w (turns + more) ≡ Done v (left + more)
 
--- a code that comes to a fault other than want of turns comes to it with more
+-- a code that gives a fault other than running out of turns gives it with more
 abbrev pub ValueFaultsLaw : Type 0 → Type 0
 ValueFaultsLaw N = (functions : List Function) (code : Code N) (w : World N) (turns more : ℕ) (kind : FaultKind) → kind ≢ K.Turns
     → value functions code w turns ≡ Faulted kind → value functions code w (turns + more) ≡ Faulted kind

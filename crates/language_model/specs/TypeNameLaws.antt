@@ -1,11 +1,11 @@
--- What a name stands for among definitions of types.
+-- What a name means among definitions of types.
 use Rattle.std.specs.Prelude.{◌≡◌, ℕ, List}
 use Rattle.spl_tree.specs.declared.unit.TypeDefinition.{TypeDefinition}
 use Rattle.language_model.specs.TypeNames.{Types, definition_of, defined_type, types_of}
 
 -- ---- names among definitions
 
--- a name stands for what its definition says, in which names stand for the same
+-- a name means what its definition says, in which names mean the same
 abbrev pub NamesLaw : Type 0
 NamesLaw =
     (definitions : List TypeDefinition) (outside : Types) (at : ℕ) (name : List ℕ)

@@ -1,4 +1,4 @@
--- What types stand for as they are written, or the first refusal in them, in the order of the text. A name stands for the shape of its
+-- What types mean as they are written, or the first refusal in them, in the order of the text. A name means the shape of its
 -- definition: one of the composite, or else one of the unit.
 use Rattle.std.specs.Prelude.{ℕ, zero, suc, Bool, List, [], ◌∷◌, ◌++◌, map, flat_map, filter_map, length, if◌then◌else◌, Option, Some, None, Ok, slice_get}
 use Rattle.std.specs.Option.{option_map, option_map_or}
@@ -25,7 +25,7 @@ use Rattle.language_model.specs.Leading.{leads_back}
 use Rattle.language_model.specs.Scopes.{At, first_from}
 use Rattle.language_model.specs.Typing.{Found, after, refused, unknown}
 
--- what a name at a place stands for, as a type
+-- what a name at a place means, as a type
 abbrev pub Types : Type 0
 Types = ℕ → List ℕ → Found SplType
 
@@ -60,7 +60,7 @@ level_type (Y.Tuple attributes) at types = tuple_type (attributes_type types att
 abbrev pub written : TypeExpr → Placed Written
 written t = record { at = t.at; what = fold-TypeKind Written level_type t.what }
 
--- a type, where names stand for these
+-- a type, where names mean these
 abbrev pub type_meant : Types → TypeExpr → Found SplType
 type_meant types t = part_type (written t) types
 
@@ -118,13 +118,13 @@ abbrev pub defined_type : List TypeDefinition → Types → Types → ℕ → Li
 defined_type definitions outside inside at name None = outside at name
 defined_type definitions outside inside at name (Some d) = if is_circular definitions d.place then unknown at name else shape_meant inside d.what.shape
 
--- definitions are followed at most so often
+-- definitions are followed at most this number of times
 abbrev pub types_within : ℕ → List TypeDefinition → Types → Types
 types_within zero definitions outside at name = unknown at name
 types_within (suc count) definitions outside at name =
     defined_type definitions outside (types_within count definitions outside) at name (definition_of definitions name)
 
--- what names stand for where these are defined. A row of definitions none of which leads back to itself is no longer than there are
+-- what names mean where these are defined. A row of definitions none of which leads back to itself is no longer than there are
 abbrev pub types_of : List TypeDefinition → Types → Types
 types_of definitions outside = types_within (suc (length definitions)) definitions outside
 

@@ -141,7 +141,7 @@ meant_typed at name (OfAttribute a) = Ok (typed a.kind (C.Name (L.Attribute a.po
 meant_typed at name (OfPort p) = Ok (typed (S.Tuple p.what.schema) (C.Name (L.Port p.place)))
 meant_typed at name Nothing = unknown at name
 
--- a `$` parameter is what stands for it
+-- a `$` parameter is what its name means
 abbrev pub dollar_typed : ℕ → List ℕ → Option (Found Typed) → Found Typed
 dollar_typed at name None = unknown at name
 dollar_typed at name (Some found) = found
@@ -260,7 +260,7 @@ level_step base scope (T.List t) (N.Index e) =
 level_step base scope (T.Map k t) (N.Index e) = after (part_typed e scope (Some k)) (λ x. Ok (K.AtKey x.code, t))
 level_step base scope _ _ = mismatch base
 
--- steps in turn, and the type that they come to
+-- steps in turn, and the type at the end of them
 abbrev pub steps_typed : ℕ → Scope → SplType → List (Step (Placed Part)) → Found (List (Taking (Code Slot)) × SplType)
 steps_typed base scope t [] = Ok ([], t)
 steps_typed base scope t (s ∷ ss) =

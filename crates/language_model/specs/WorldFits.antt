@@ -1,4 +1,4 @@
--- When an environment and functions fit a scope, so that a code that fits the scope comes to a value or a fault in them, and a body
+-- When an environment and functions fit a scope, so that a code that fits the scope gives a value or a fault in them, and a body
 -- leaves what fits.
 use Rattle.std.specs.Prelude.{◌≡◌, ℕ, IsTrue, false, not, List, [], map, length, Option, None, Some, slice_get}
 use Rattle.std.specs.List.{list_all}
@@ -62,7 +62,7 @@ pub record Fits (functions : List Function) (code : Code Slot) (env : Env) (t : 
   pub env_fits : EnvFits scope env
   pub functions_fit : FunctionsFit scope.functions functions
 
--- an evaluation comes to a value of the type, or to a fault
+-- an evaluation gives a value of the type, or a fault
 abbrev pub ComesTo : SplType → Outcome Value → Type 0
 ComesTo t (Done v turns) = IsTrue (fits t v)
 ComesTo t (Faulted kind) = Unit {0}

@@ -1,4 +1,4 @@
--- Names as they are written, what they stand for in a scope, and their values. A code over slots is one over such names,
+-- Names as they are written, what they mean in a scope, and their values. A code over slots is one over such names,
 -- renamed.
 use Rattle.std.specs.Prelude.{ℕ, ◌==◌, Bool, false, List, [], if◌then◌else◌, Option, Some, None, slice_get}
 use Rattle.std.specs.Option.{option_map, option_map_or, option_and_then}
@@ -15,7 +15,7 @@ use Rattle.language_model.specs.declared.scope.Scope.{Scope}
 use Rattle.language_model.specs.Evaluation.{World, slot_value}
 use Rattle.language_model.specs.Scopes.{Meant, OfVariable, OfAttribute, OfPort, Nothing, meant, attribute_of}
 
--- a name by itself, or the name of an attribute behind that of its port, `Port.attribute`
+-- a name by itself, or the name of an attribute after that of its port, `Port.attribute`
 pub data Written : Type 0 where
   Bare : List ℕ → Written
   Of : List ℕ → List ℕ → Written
@@ -32,7 +32,7 @@ abbrev pub attribute_slot : Meant → List ℕ → Option Slot
 attribute_slot (OfPort p) name = option_map (λ a. L.Attribute p.place a.place) (attribute_of p.what.schema name)
 attribute_slot _ name = None
 
--- what a name stands for, as the language looks it up
+-- what a name means, as the language looks it up
 abbrev pub stands_for : Scope → Written → Option Slot
 stands_for scope (Bare name) = meant_slot (meant scope name)
 stands_for scope (Of port name) = attribute_slot (meant scope port) name
@@ -47,7 +47,7 @@ abbrev pub is_port : ℕ → Meant → Bool
 is_port i (OfPort p) = p.place == i
 is_port i _ = false
 
--- an attribute of the port at a place: behind the port's name where that stands for the port, else by itself
+-- an attribute of the port at a place: after the port's name where that means the port, else by itself
 abbrev pub attribute_name : Scope → ℕ → Port → List ℕ → Written
 attribute_name scope i p name = if is_port i (meant scope p.name) then Of p.name name else Bare name
 
@@ -83,6 +83,6 @@ renamed {N} {M} f = fold-Code N (Code M) (level_renamed f)
 abbrev pub before_renaming : {N M : Type 0} → (N → M) → World M → World N
 before_renaming f w = record { value_of = λ n. w.value_of (f n); marker = w.marker }
 
--- where each name has the value of what it stands for
+-- where each name has the value of what it means
 abbrev pub named_world : Scope → Env → World Written
 named_world scope env = record { value_of = λ name. option_and_then (slot_value env) (stands_for scope name); marker = env.punct }

@@ -5,7 +5,7 @@ use spl_value::{Bytes, IntKind, Items, Name, Places, Schema, SplType};
 /// When a window fires, and what it holds then.
 #[derive(Clone, Copy, PartialEq, Eq)]
 pub enum WindowRule {
-    /// So many tuples, and then the window begins anew.
+    /// This number of tuples, and then the window begins anew.
     TumblingCount(u64),
     /// Tuples whose attribute at that place exceeds the first one's by no more than the limit.
     TumblingDelta {
@@ -14,13 +14,13 @@ pub enum WindowRule {
     },
     /// The tuples between window markers.
     TumblingPunct,
-    /// The last so many tuples. It fires after every so many.
+    /// The last `keep` tuples. In an Aggregate it fires after each `every` tuples; a Join has no `every`.
     SlidingCount {
         keep: u64,
         every: Option<u64>,
     },
-    /// The tuples that no later one exceeds in the attribute by more than the limit. It fires after every
-    /// so many.
+    /// The tuples that no later one exceeds in the attribute by more than the limit. In an Aggregate it fires
+    /// after each `every` tuples; a Join has no `every`.
     SlidingDelta {
         attr: u32,
         limit: i128,

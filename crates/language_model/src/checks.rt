@@ -11,7 +11,7 @@ ghost use Rattle.language_model.specs.Typing.{refused, unknown};
 ghost use Rattle.language_model.specs.examples.TypeNames.{seven_types};
 ghost use Rattle.language_model.specs.TypeNames.{types_of};
 
-/// What some names stand for among definitions of types, and the first refusals of others: a name
+/// What some names mean among definitions of types, and the first refusals of others: a name
 /// without a definition, the word of a type that is left out, and names whose definitions lead back to
 /// themselves.
 #[tactic(auto, using(crate::proofs::TypeNameLaws::type_laws, crate::proofs::TypeNameLaws::name_laws))]
@@ -24,8 +24,8 @@ pub fn types_on_literals()
     ensures behind { types_of seven_types unknown 100 (codes "C") ≡ unknown 95 (codes "B") }
 {}
 
-/// What a name stands for among definitions of types is what its definition says, in which names stand
-/// for the same. So the number of definitions that are followed doesn't show.
+/// What a name means among definitions of types is what its definition says, in which names mean
+/// the same. So the number of definitions that are followed doesn't show.
 pub fn types_law()
     ensures names { NamesLaw }
 {}

@@ -27,7 +27,7 @@ pub enum ExpansionRefusal {
     Ports(Placed<Name>),
 }
 
-/// The stream that a name of a graph stands for in an expansion: the number of the expansion, and the
+/// The stream that a name of a graph means in an expansion: the number of the expansion, and the
 /// place of the name among those of the streams that the graph makes, from 0.
 #[derive(Clone, Copy, Debug, PartialEq, Eq)]
 pub struct Source {

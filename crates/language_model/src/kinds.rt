@@ -71,7 +71,7 @@ pub struct KindRules {
     pub outputs: PortBounds,
     /// Whether tuples are passed on as they come, so that the outputs have the attributes of the input.
     pub passes_on: bool,
-    /// Those that are required stand in the order in which a missing one is told.
+    /// Those that are required stand in the order in which a missing one is reported.
     pub parameters: &'static [ParameterRule],
     /// None where the ports have no windows.
     pub window: Option<WindowForm>,

@@ -1,4 +1,4 @@
-//! What the definitions come to.
+//! Laws of the definitions.
 ghost use Rattle.spl_tree.specs.Grammar.{placed};
 ghost use Rattle.language_model.specs.declared.expansion.ExpansionRefusal.TheVariants as R;
 ghost use Rattle.language_model.specs.Composites.{main_of};
@@ -35,13 +35,13 @@ ghost use Rattle.language_model.specs.TurnsLaws.{ValueTurnsLaw, ValueFaultsLaw, 
 ghost use Rattle.language_model.specs.Written.{Bare, Of, stands_for, written, renamed};
 
 /// The type of an expression is the one that its place wants, where it wants one, and the code fits the scope at it
-/// where what stands for `$` parameters fits.
+/// where what `$` parameters mean fits.
 pub fn typing_law()
     ensures wanted { WantedLaw }
     ensures fits { FitLaw }
 {}
 
-/// What stands for a `$` parameter names nothing, so it fits everywhere. A parameter that an expression
+/// What a `$` parameter means names nothing, so it fits everywhere. A parameter that an expression
 /// doesn't mention changes nothing of what the expression is.
 pub fn dollars_law()
     ensures closed { ClosedLaw }
@@ -76,8 +76,8 @@ pub fn changes_law()
     ensures clears { ClearLaw }
 {}
 
-/// What evaluation does. A code that fits isn't stuck, nor is a statement or a body. A slot that fits is what its name stands for,
-/// and the code of an expression comes to what it comes to over the names of its slots.
+/// What evaluation does. A code that fits isn't stuck, nor is a statement or a body. A slot that fits is what its name means,
+/// and the code of an expression has the same result over the names of its slots.
 pub fn evaluation_law()
     ensures never_stuck { NeverStuckLaw }
     ensures statements { StatementLeadsLaw }
@@ -86,8 +86,8 @@ pub fn evaluation_law()
     ensures names { NamesLaw }
 {}
 
-/// What a row of statements does doesn't depend on the submits before it. A body that comes to its
-/// end, or to a fault other than want of turns, does so with more turns, and leaves more. What it does
+/// What a row of statements does doesn't depend on the submits before it. A body that reaches its
+/// end, or a fault other than running out of turns, does so with more turns, and leaves more. What it does
 /// depends on the slots alone that it names, and it changes no other variable, no tuple at a port, and
 /// not the marker.
 pub fn statements_law()
@@ -100,15 +100,15 @@ pub fn statements_law()
     ensures keeps { KeepsLaw }
 {}
 
-/// A code that comes to a value, or to a fault other than want of turns, does so with more turns,
-/// and leaves more. What it comes to depends on the marker and the values of its names alone.
+/// A code that gives a value, or a fault other than running out of turns, does so with more turns,
+/// and leaves more. Its result depends on the marker and the values of its names alone.
 pub fn value_law<N>()
     ensures value { ValueTurnsLaw N }
     ensures faults { ValueFaultsLaw N }
     ensures names { AgreementLaw N }
 {}
 
-/// A code with other names comes to what the code comes to where each name has the value of the
+/// A code with other names has the result that the code has where each name has the value of the
 /// one that takes its place.
 pub fn renaming_law<N, M>()
     ensures renaming { RenamingLaw N M }
@@ -119,7 +119,7 @@ pub fn slots_on_literals()
     ensures row { row_slots two_statements ≡ L.Port 0 ∷ L.Variable 1 ∷ L.Variable 2 ∷ L.Attribute 0 1 ∷ L.Variable 3 ∷ [] }
 {}
 
-/// What some names stand for where there are two ports, the names of some slots, and an expression
+/// What some names mean where there are two ports, the names of some slots, and an expression
 /// with its code over slots and over names.
 pub fn names_on_literals()
     ensures alone { stands_for (two_ports [] (codes "B")) (Bare (codes "m")) ≡ Some (L.Attribute 1 1) }
@@ -139,8 +139,8 @@ pub fn names_on_literals()
         ≡ C.Binary (D.Order Less) (C.Name (Of (codes "A") (codes "k"))) (C.Name (Of (codes "B") (codes "m"))) }
 {}
 
-/// A scope with a `$` parameter that stands for the number 5: a sum with it, a parameter that isn't
-/// there, one that stands for a refusal, and two of one name.
+/// A scope with a `$` parameter that means the number 5: a sum with it, a parameter that isn't
+/// there, one that has a refusal, and two of one name.
 pub fn dollars_on_literals()
     ensures stands { DollarsFit (parameter (Ok five) ∷ []) }
     ensures sum { typing (with_parameters (parameter (Ok five) ∷ [])) one_more None
@@ -153,7 +153,7 @@ pub fn dollars_on_literals()
 {}
 
 /// A unit has one answer. Each operator of its graph is one of the unit's, none is left out where no
-/// composite reaches itself, and each stream has one maker. The order has each operator once, behind
+/// composite reaches itself, and each stream has one maker. The order has each operator once, after
 /// those that make what it takes.
 pub fn flat_law()
     ensures one { OneFlatLaw }
@@ -164,7 +164,7 @@ pub fn flat_law()
     ensures connected { ConnectedLaw }
 {}
 
-/// Some units, and what they come to: a name that is declared twice, the main composite, the graph of
+/// Some units, and what is found of them: a name that is declared twice, the main composite, the graph of
 /// a program in which a composite stands twice and each operator before those that it reads, that none
 /// of its composites reaches itself, and two refusals.
 pub fn graphs_on_literals()

@@ -1,4 +1,4 @@
-//! What a unit of the language comes to: its types, its flat graph, the checks of its clauses, and
+//! The meaning of a unit of the language: its types, its flat graph, the checks of its clauses, and
 //! what its expressions and bodies do.
 #![tactic(auto)]
 

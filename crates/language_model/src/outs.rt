@@ -71,7 +71,7 @@ impl Outs {
         }
     }
 
-    /// Adds an output behind the others. Where there is none yet, it takes no memory.
+    /// Adds an output after the others. Where there is none yet, it takes no memory.
     pub fn push(&mut self, output: Output) -> Result<(), AllocError>
         ensures ok { OnOk result (self.new ≡ self.old ++ output ∷ []) }
         ensures err { OnErr result (self.new ≡ self.old) }

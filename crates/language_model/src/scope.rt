@@ -32,7 +32,7 @@ pub struct Unresolved {
     pub refusal: CheckRefusal,
 }
 
-/// A `$` parameter of the composite in whose body an expression stands: what stands for it there, or the
+/// A `$` parameter of the composite in whose body an expression stands: what it means there, or the
 /// refusal of that, which comes where the parameter is used.
 #[derive(Drop)]
 pub struct Dollar {
@@ -82,7 +82,7 @@ pub enum CheckError {
     MissingParameter,
     /// A parameter or a clause that an operator doesn't have, or one that is given twice.
     ExtraParameter,
-    /// A window that isn't one of the operator's, or the want of one that it needs.
+    /// A window that isn't one of the operator's, or the lack of one that it needs.
     BadWindow,
     /// An attribute of an output that has no value, that isn't there, or that is assigned twice.
     BadOutput,

@@ -28,13 +28,13 @@ token-some : (kind : TokenKind) (text rest : List ℕ) → IsToken kind text res
 token-some kind [] rest t = absurd (true≢false (sym t.formed))
 token-some kind (b ∷ bs) rest t = omega arith
 
--- a cut of the bytes behind a gap, and that gap
+-- a cut of the bytes after a gap, and that gap
 Cut-gap : (at n : ℕ) (bs : List ℕ) (ts : List Token) → n ≤ length bs → Gap (take n bs) (drop n bs) → Cut (at + n) (drop n bs) ts → Cut at bs ts
 Cut-gap at n bs ts le g c =
     let count = length-take-le n bs le in
     subst (λ cs. Cut at cs ts) (take-append-drop n bs) (gap at (take n bs) (drop n bs) ts g (rw count c))
 
--- a cut of the bytes behind a token, and that token
+-- a cut of the bytes after a token, and that token
 Cut-token : (at n : ℕ) (kind : TokenKind) (bs : List ℕ) (ts : List Token) → n ≤ length bs → IsToken kind (take n bs) (drop n bs)
     → Cut (at + n) (drop n bs) ts → Cut at bs (record { kind = kind; start = at; end = at + n } ∷ ts)
 Cut-token at n kind bs ts le t c =
@@ -112,7 +112,7 @@ Rise-earlier : (at later : ℕ) (ts : List Token) (end : ℕ) → at ≤ later �
 Rise-earlier at later [] end le rise = omega arith
 Rise-earlier at later (t ∷ ts) end le rise = (omega arith, rise.1, rise.2)
 
--- tokens that cut bytes stand behind one another
+-- tokens that cut bytes stand one after another
 Rise-from_cut : {at : ℕ} {bs : List ℕ} {ts : List Token} → Cut at bs ts → Rise at ts (at + length bs)
 Rise-from_cut (done at) = omega arith
 Rise-from_cut (gap at text rest ts g c) =
@@ -123,7 +123,7 @@ Rise-from_cut (token at kind text rest ts t c) =
     let end : (at + length text) + length rest ≡ at + length (text ++ rest) = omega (arith, length-append text rest) in
     (omega arith, omega arith, rw end at (Rise-from_cut c))
 
--- a program's tokens stand behind one another in it
+-- a program's tokens stand one after another in it
 pub rise_law : RiseLaw
 rise_law bytes ts e = rw zero-add at (Rise-from_cut (cut_law bytes ts e).0)
 
@@ -146,7 +146,7 @@ token_alone kind text rest short t =
     let c = token 0 kind text [] [] (IsToken-alone kind text rest t) (done (0 + length text)) in
     one_cut_law text (record { kind = kind; start = 0; end = length text } ∷ []) short (rw (append-nil, zero-add) at c)
 
--- what stands behind a text
+-- what comes after a text
 behind : (at : ℕ) (text rest bytes : List ℕ) → text ++ rest ≡ drop at bytes → rest ≡ drop (at + length text) bytes
 behind at text rest bytes here =
     sym (drop-append_seam text rest) ∙ ap (drop (length text)) here ∙ drop-drop (length text) at bytes

@@ -64,7 +64,7 @@ neither : (bs : List ℕ) → begins (λ c. c == 47) bs ≡ false → begins (λ
 neither [] slash star = refl
 neither (b ∷ bs) slash star = or_from (b == 47) (b == 42) slash star
 
--- where neither comment begins, none begins behind a slash that is a token
+-- where neither comment begins, a slash that is a token begins none
 slash_alone : (b : ℕ) (bs : List ℕ) → ((b == 47) && begins (λ c. c == 47) bs) ≡ false → ((b == 47) && begins (λ c. c == 42) bs) ≡ false
     → (n : ℕ) → NoComment (take (suc n) (b ∷ bs)) (drop (suc n) (b ∷ bs))
 slash_alone b bs line block n e =
@@ -107,7 +107,7 @@ longest_front-is n m bs le formed more = elim (cases_order (longest_front n bs) 
   | inr (inr longer) ↦ absurd (true≢false (sym (longest_front-formed n bs (omega arith)) ∙ more (longest_front n bs) longer (longest_front-le n bs)))
 ]
 
--- the longest token at the front is a text that has the form of one, and has none with more behind it
+-- the longest token at the front is a text that has the form of one, and has none with more bytes after it
 longest_front-append : (text rest : List ℕ) → is_formed text ≡ true → ((n : ℕ) → 0 < n → n ≤ length rest → is_formed (text ++ take n rest) ≡ false)
     → longest_front (length (text ++ rest)) (text ++ rest) ≡ length text
 longest_front-append text rest formed more =
@@ -132,7 +132,7 @@ apart_from n b bs unformed formed = false_from_ne_true (b == n) (λ e.
 no_blank : (b : ℕ) (bs : List ℕ) → is_formed (b ∷ bs) ≡ true → is_blank b ≡ false
 no_blank b bs formed = rw (apart_from 32 b bs refl formed, apart_from 9 b bs refl formed, apart_from 13 b bs refl formed, apart_from 10 b bs refl formed)
 
--- a slash and a byte that no token has behind it
+-- a slash and a byte that follows it in no token
 no_opening : (c b : ℕ) (bs rest : List ℕ) → ((cs : List ℕ) → is_formed (47 ∷ c ∷ cs) ≡ false) → is_formed (b ∷ bs) ≡ true
     → (b ∷ bs ≡ 47 ∷ [] → begins (λ d. d == c) rest ≡ false) → ((b == 47) && begins (λ d. d == c) (bs ++ rest)) ≡ false
 no_opening c b bs rest unformed formed alone =

@@ -22,7 +22,7 @@ take-prefix_len p (b ∷ bs) = by (p b) refl (take-prefix_len p bs)
     by true e all = rw one-add (rw e all)
     by false e all = refl
 
--- the byte behind them doesn't
+-- the byte after them doesn't
 drop-prefix_len : (p : ℕ → Bool) (bs : List ℕ) → begins p (drop (prefix_len p bs) bs) ≡ false
 drop-prefix_len p [] = refl
 drop-prefix_len p (b ∷ bs) = by (p b) refl (drop-prefix_len p bs)
@@ -41,7 +41,7 @@ prefix_len-append p (b ∷ inside) rest all stops =
 
 -- The end of a comment
 
--- no star and slash stand in these bytes, also with the star behind them
+-- no star and slash stand in these bytes, also with the star after them
 abbrev NotClosed : List ℕ → Type 0
 NotClosed inside = (before after : List ℕ) → inside ++ 42 ∷ [] ≡ before ++ (42 ∷ 47 ∷ after) → ⊥
 
@@ -69,11 +69,11 @@ NotClosed-first b inside rest none = false_from_ne_true (closes_here b inside re
     by [] none both = true≢false (sym both.1)
     by (x ∷ xs) none both = none [] (xs ++ 42 ∷ []) (ap₂ (λ c d. c ∷ d ∷ (xs ++ 42 ∷ [])) (eqb-true b 42 both.0) (eqb-true x 47 both.1))
 
--- nor do the bytes behind it
+-- nor do the bytes after it
 NotClosed-tail : (b : ℕ) (inside : List ℕ) → NotClosed (b ∷ inside) → NotClosed inside
 NotClosed-tail b inside none before after e = none (b ∷ before) after (ap (λ bs. b ∷ bs) e)
 
--- bytes with the first star and slash behind which there are so many
+-- n is the number of bytes up to the end of the first star and slash
 record Closes (bs : List ℕ) (n : ℕ) : Type 0 where
   inside : List ℕ
   rest : List ℕ

@@ -70,7 +70,7 @@ module _ (P : ExprKind → Type 0) where
   all_fields [] = tt
   all_fields (f ∷ fs) = (f.value.what.1, all_fields fs)
 
-  -- for what keeps members and hands on indices
+  -- for a function that keeps members and maps the expression of an index
   of_step : (g : Step (Placed Known) → Step Expr) → ((m : Placed (List ℕ)) → N.Member m ≡ g (N.Member m)) → ((e : Placed Known) → N.Index (expr_of e) ≡ g (N.Index e))
       → (s : Step (Placed Known)) → OfStep P (g s)
   of_step g members indices (N.Member m) = subst (OfStep P) (members m) tt

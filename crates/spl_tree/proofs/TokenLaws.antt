@@ -53,7 +53,7 @@ longest_front-above (suc n) m bs above le = by (is_formed (take (suc n) bs)) ref
       | inr (inr more) ↦ absurd (omega arith)
     ]
 
--- a token, or a refusal at a place that isn't past so many
+-- a token, or a refusal at a place that isn't past `most`
 abbrev Within : ℕ → Result TokenKind Refusal → Type 0
 Within most r = IfErr r (λ refusal. refusal.1 ≤ most)
 
@@ -135,7 +135,7 @@ kind_of-place (b ∷ bs) =
     by false false false true word number text symbol n t s = t
     by false false false false word number text symbol n t s = s
 
--- a token of so many bytes fits
+-- a token of n bytes fits, and so does its refusal
 as_front-fits : (most n : ℕ) (r : Result TokenKind Refusal) → 0 < n → n ≤ most → Within n r → Fits most (as_front n r)
 as_front-fits most n (Ok k) some le within = (some, le)
 as_front-fits most n (Err r) some le within = omega arith
@@ -185,14 +185,14 @@ front_fits (b ∷ bs) some =
 
 -- One step
 
--- the tokens behind bytes that are taken already
+-- the tokens after bytes that are taken already
 passed-on : (n at : ℕ) (bs : List ℕ) → tokens_from n at bs ≡ tokens_from 0 (at + n) (drop n bs)
 passed-on zero at bs = rw add-zero
 passed-on (suc n) at [] = refl
 passed-on (suc n) at (b ∷ bs) =
     let place : (at + 1) + n ≡ at + suc n = omega arith in passed-on n (at + 1) bs ∙ ap (λ m. tokens_from 0 m (drop n bs)) place
 
--- the first token is what stands at the front, and the others are the tokens behind it
+-- the first token is what stands at the front, and the others are the tokens after it
 pub tokens_step : (at : ℕ) (bs : List ℕ) → 0 < length bs → tokens_from 0 at bs ≡ by_front (front bs) at (λ n. tokens_from 0 (at + n) (drop n bs))
 tokens_step at [] some = absurd (omega arith)
 tokens_step at (b ∷ bs) some = by (front (b ∷ bs)) (front_fits (b ∷ bs) some)
@@ -220,7 +220,7 @@ module _ (bytes : List ℕ) (out : List Token) (at : ℕ) (inside : at < length 
   step : tokens_from 0 at (drop at bytes) ≡ by_front (front (drop at bytes)) at (λ n. tokens_from 0 (at + n) (drop n (drop at bytes)))
   step = tokens_step at (drop at bytes) (omega (arith, length-drop at bytes))
 
-  -- a token is put behind them
+  -- a token is added after them
   pub take_step : (k : TokenKind) (n : ℕ) → front (drop at bytes) ≡ Take k n
       → with_front (out ++ record { kind = k; start = at; end = at + n } ∷ []) (tokens_from 0 (at + n) (drop (at + n) bytes))
       ≡ with_front out (tokens_from 0 at (drop at bytes))

@@ -5,7 +5,7 @@ use Rattle.spl_tree.specs.declared.token.Token.{Token}
 use Rattle.spl_tree.specs.Weights.{Effect, Nothing, Adds, Opens, Closes, Separates, effect, next_adds, Opened, level_start, Weighing, after_closing, after_token, weight_at, weights_from, weights, most_weight}
 use Rattle.spl_tree.specs.Laws.{WeightsLaw, ShallowLaw}
 
--- behind other tokens too, each token has a weight
+-- also after other tokens, each token has a weight
 length-weights_from : (d : Weighing) (ts : List Token) → length (weights_from d ts) ≡ length ts
 length-weights_from d [] = refl
 length-weights_from d (t ∷ ts) = ap suc (length-weights_from (after_token (effect t.kind) (next_adds ts) d) ts)
@@ -19,7 +19,7 @@ abbrev Below : ℕ → Opened → Type 0
 Below most [] = Unit {0}
 Below most (before ∷ outer) = (before < most) × Below most outer
 
--- and so much is the weight at most
+-- and the weight is at most that
 record Within (most : ℕ) (d : Weighing) : Type 0 where
   weight : d.weight ≤ most
   opened : Below most d.opened
@@ -51,7 +51,7 @@ after_token-within most Separates next_adds d within =
     record { weight = omega (arith, level_start-le most d.opened within.opened); opened = Below-more most d.opened within.opened }
 after_token-within most (Closes brace) next_adds d within = after_closing-within most brace next_adds d d.opened within within.opened
 
--- so few tokens behind such a depth all weigh little
+-- where `most` and the number of tokens add up to at most `most_weight`, each token weighs at most that
 light : (most : ℕ) (d : Weighing) (ts : List Token) → Within most d → most + length ts ≤ most_weight
     → prefix_len (λ w. not (nat_lt most_weight w)) (weights_from d ts) ≡ length (weights_from d ts)
 light most d [] within le = refl
@@ -62,7 +62,7 @@ light most d (t ∷ ts) within le =
     let small : nat_lt most_weight (weight_at (effect t.kind) d) ≡ false = le-ltb most_weight (weight_at (effect t.kind) d) (omega (arith, here.weight)) in
     rw small (let rest = light (most + 1) e ts more (omega arith) in omega arith)
 
--- so few tokens are never too deep
+-- at most `most_weight` tokens are never too deep
 pub shallow_law : ShallowLaw
 shallow_law ts le =
     let first : Weighing = record { weight = 0; opened = [] } in

@@ -25,7 +25,7 @@ pub data Gap : List ℕ → List ℕ → Type 0 where
       → Gap (47 ∷ 42 ∷ (inside ++ 42 ∷ 47 ∷ [])) rest
 
 -- these bytes are the token, by what follows them: they have the form of one, and with more of what
--- follows they have none; no letter, digit or `_` stands behind a number; a slash begins no comment
+-- follows they have none; no letter, digit or `_` comes after a number; a slash begins no comment
 pub record IsToken (kind : TokenKind) (text rest : List ℕ) : Type 0 where
   pub formed : is_formed text ≡ true
   pub longest : (n : ℕ) → 0 < n → n ≤ length rest → is_formed (text ++ take n rest) ≡ false
@@ -49,7 +49,7 @@ abbrev pub OneCutLaw : Type 0
 OneCutLaw = (bytes : List ℕ) (ts : List Token) → length bytes ≤ MOST_BYTES → Cut 0 bytes ts
     → tokens bytes ≡ Ok (record { list = ts; length = length bytes })
 
--- the tokens stand behind one another, from a place up to an end
+-- the tokens stand one after another, from a place up to an end
 abbrev pub Rise : ℕ → List Token → ℕ → Type 0
 Rise at [] end = at ≤ end
 Rise at (t ∷ ts) end = (at ≤ t.start) × (t.start < t.end) × Rise t.end ts end
@@ -78,7 +78,7 @@ KeywordsLaw = (k : Keyword) → keyword_of (keyword_word k) ≡ Some k
 abbrev pub WeightsLaw : Type 0
 WeightsLaw = (ts : List Token) → length (weights ts) ≡ length ts
 
--- so few tokens are never too deep
+-- at most `most_weight` tokens are never too deep
 abbrev pub ShallowLaw : Type 0
 ShallowLaw = (ts : List Token) → length ts ≤ most_weight → too_deep_at ts ≡ None
 

@@ -73,7 +73,7 @@ abbrev pub IsNoIf : Stmt → Type 0
 IsNoIf s = (arms : List (Expr × Stmt)) (other : Option Stmt) → s.what ≡ Z.If arms other → ⊥
 
 mutual
-  -- a statement. It is closed where an `else` behind it would belong to none of its own `if`.
+  -- a statement. It is closed where an `else` after it would belong to none of its own `if`.
   pub data SpellsStmt : Bool → Stmt → List Token → Type 0 where
     block : (o c : Token) (ss : List Stmt) (a : List Token) → Is S.LeftBrace o → SpellsStmts ss a → Is S.RightBrace c
         → SpellsStmt true (placed o.start (Z.Block ss)) (o ∷ (a ++ c ∷ []))
@@ -97,7 +97,7 @@ mutual
         → Names stream n → Is S.RightParen c → Is S.Semicolon s
         → SpellsStmt true (placed t.start (Z.Submit e (placed n.start stream))) (t ∷ o ∷ (a ++ m ∷ n ∷ c ∷ s ∷ []))
 
-  -- the conditions of an `if` at a place and of each `else if` behind it, with their statements. An `else` belongs to the
+  -- the conditions of an `if` at a place and of each `else if` after it, with their statements. An `else` belongs to the
   -- nearest `if`, so the statement before it is closed. Whether the last statement is closed is the first argument.
   pub data SpellsArms : Bool → ℕ → List (Expr × Stmt) → List Token → Type 0 where
     first_arm : (closed : Bool) (t o c : Token) (e : Expr) (s : Stmt) (a b : List Token) → IsKeyword K.If t → Is S.LeftParen o → Spells e a → Is S.RightParen c

@@ -4,7 +4,7 @@ use Rattle.spl_tree.specs.Tokens.{Front, Take, Pass, Refuse, front}
 
 -- What stands at the front
 
--- at least one byte and at most so many, and a place that isn't past them
+-- at least one byte and at most `most`, and a place that isn't past them
 abbrev pub Fits : ℕ → Front → Type 0
 Fits most (Take k n) = (0 < n) × (n ≤ most)
 Fits most (Pass n) = (0 < n) × (n ≤ most)

@@ -37,7 +37,7 @@ word_kind word (Some k) = T.Keyword k
 abbrev pub digits : List ℕ → List ℕ
 digits bs = take_while is_digit bs
 
--- what stands behind the digits
+-- what comes after the digits
 abbrev pub suffix : List ℕ → List ℕ
 suffix bs = drop (prefix_len is_digit bs) bs
 
@@ -74,7 +74,7 @@ number_kind n (Some k) = if nat_lt n (top k) then Ok (T.Number (record { kind = 
 
 -- Texts
 
--- whether bytes end with the first such quote, a backslash making the byte behind it no quote; no
+-- whether bytes end with the first such quote, a backslash making the byte after it no quote; no
 -- line feed stands before it
 abbrev pub ends_text : (quote : ℕ) → (escaped : Bool) → List ℕ → Bool
 ends_text quote escaped [] = false
@@ -146,7 +146,7 @@ kind_of (b ∷ bs) =
     else (if is_quote b then text_kind (unescaped 1 (between_quotes (b ∷ bs)))
     else symbol_kind (symbol_of (b ∷ bs)))))
 
--- the length of the longest front of at most so many bytes that has the form of a token; 0 where
+-- the length of the longest front of at most this number of bytes that has the form of a token; 0 where
 -- there is none
 abbrev pub longest_front : ℕ → List ℕ → ℕ
 longest_front zero bs = 0
@@ -155,19 +155,19 @@ longest_front (suc n) bs = if is_formed (take (suc n) bs) then suc n else longes
 -- What stands at the front
 
 pub data Front : Type 0 where
-  -- a token of so many bytes
+  -- a token of this number of bytes
   Take : TokenKind → ℕ → Front
-  -- so many bytes that separate tokens
+  -- this number of bytes that separate tokens
   Pass : ℕ → Front
   -- nothing that may stand there: why, and at which byte from here
   Refuse : LexicalError → ℕ → Front
 
--- what stands at the front where so many bytes have the form of a token: the token, or why not
+-- what stands at the front where the first n bytes have the form of a token: the token, or why not
 abbrev pub as_front : ℕ → Result TokenKind Refusal → Front
 as_front n (Ok k) = Take k n
 as_front n (Err refusal) = Refuse refusal.0 refusal.1
 
--- behind a number no letter, digit or `_` may stand
+-- after a number no letter, digit or `_` may stand
 abbrev pub is_run_on : List ℕ → ℕ → Bool
 is_run_on bs n = begins is_digit bs && begins is_word_byte (drop n bs)
 
@@ -202,13 +202,13 @@ abbrev pub with_front : List Token → Lexed → Lexed
 with_front ts (Ok us) = Ok (ts ++ us)
 with_front ts (Err refusal) = Err refusal
 
--- by what stands at a place, where go n gives the tokens behind so many bytes
+-- by what stands at a place, where go n gives the tokens after n bytes
 abbrev pub by_front : Front → (at : ℕ) → (go : ℕ → Lexed) → Lexed
 by_front (Take k n) at go = with_front (record { kind = k; start = at; end = at + n } ∷ []) (go n)
 by_front (Pass n) at go = go n
 by_front (Refuse e i) at go = Err (e, at + i)
 
--- the tokens of bytes that begin at a place, where so many of the first bytes are passed over
+-- the tokens of bytes that begin at a place, where the first `passed` bytes are passed over
 abbrev pub tokens_from : (passed at : ℕ) → List ℕ → Lexed
 tokens_from passed at [] = Ok []
 tokens_from zero at (b ∷ bs) = by_front (front (b ∷ bs)) at (λ n. tokens_from (n - 1) (at + 1) bs)

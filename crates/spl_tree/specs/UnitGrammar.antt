@@ -146,7 +146,7 @@ pub data SpellsHeadPort : HeadPort → List Token → Type 0 where
   typed : (h : Shape) (t : Token) (n : List ℕ) (a : List Token) → SpellsStream h a → Names n t
       → SpellsHeadPort (record { shape = Some h; name = placed t.start n }) (a ++ t ∷ [])
 
--- the ports behind `output` or `input`
+-- the ports after `output` or `input`
 pub data SpellsPorts : Keyword → List HeadPort → List Token → Type 0 where
   ports : (k : Keyword) (t : Token) (ps : List HeadPort) (a : List Token) → IsKeyword k t → Separated S.Comma SpellsHeadPort ps a → SpellsPorts k ps (t ∷ a)
 

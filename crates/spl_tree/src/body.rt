@@ -27,7 +27,7 @@ pub enum Change<C> {
 #[derive(Drop)]
 pub enum Statement {
     Block(Body),
-    /// A new variable with its first value. Its place is behind those of all that there are. It ends
+    /// A new variable with its first value. Its place is after those of all other variables. It ends
     /// with the row of statements in which it is declared.
     Declare(Code<Slot>),
     Change(Place, Change<Code<Slot>>),
@@ -36,7 +36,7 @@ pub enum Statement {
     /// A call of the function at that place of the scope, with its arguments. A value that it gives
     /// isn't used.
     Call(u32, Items<Code<Slot>>),
-    /// The statements behind the first condition that is true, or else the others.
+    /// The statements after the first condition that is true, or else the others.
     If(Items<(Code<Slot>, Body)>, Body),
     /// The statements again and again, while the condition is true.
     While(Code<Slot>, Body),

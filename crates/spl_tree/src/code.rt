@@ -31,7 +31,7 @@ pub enum Code<N> {
     IsNotMarker(Marker),
 }
 
-/// What a name stands for in a scope, by places from 0.
+/// What a name means in a scope, by places from 0.
 #[derive(Clone, Copy, Debug, PartialEq, Eq)]
 pub enum Slot {
     /// A variable.

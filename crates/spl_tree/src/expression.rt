@@ -23,7 +23,7 @@ impl<T: Drop> Placed<Boxed<T>> {
 }
 
 /// An expression, at its first token. What it is stands in a box, so that a function that holds an
-/// expression lets go of it in one step.
+/// expression drops it in one step.
 pub type Expr = Placed<Boxed<ExprKind>>;
 
 pub type Exprs = Items<Expr>;
@@ -69,7 +69,7 @@ pub struct Field<E> {
     pub value: E,
 }
 
-/// A step behind a primary expression.
+/// A step after a primary expression.
 #[derive(Drop)]
 pub enum Step<E> {
     /// `.name`: the place is that of the name.

@@ -1,6 +1,6 @@
 use spl_value::{Ids, Items, Name};
 
-/// What remains of a program once each composite has given way to its body: operators, and the streams
+/// What remains of a program once each composite is replaced by its body: operators, and the streams
 /// between them.
 #[derive(Drop)]
 pub struct Graph {
@@ -8,10 +8,10 @@ pub struct Graph {
     pub ops: Items<Op>,
     /// Those of an operator stand together, in the order of its ports, and operators in their order.
     pub streams: Items<Stream>,
-    /// That of the main composite first, and each other behind the one in which it is invoked. One
+    /// That of the main composite first, and each other after the one in which it is invoked. One
     /// that makes no operator isn't among them.
     pub expansions: Items<Expansion>,
-    /// The numbers of the operators, each behind those that make its streams: again and again the
+    /// The numbers of the operators, each after those that make its streams: again and again the
     /// first one whose inputs are all made by operators that stand there already.
     pub topo: Ids,
 }
@@ -62,20 +62,20 @@ pub struct Site {
     pub invocation: u32,
 }
 
-/// The body of a composite, put where it is invoked. What the body names, `$` parameters among it, is
-/// meant by the composite and by the invocation there.
+/// The body of a composite, put where it is invoked. What the names in the body mean, `$` parameters too,
+/// is found by the composite and by the invocation there.
 #[derive(Drop)]
 pub struct Expansion {
     /// The composite's place among those of the unit.
     pub composite: u32,
     /// None for the main composite.
     pub site: Option<Site>,
-    /// The streams that the names of its graph stand for, by their order in the text.
+    /// The streams that the names of its graph mean, by their order in the text.
     pub streams: Ids,
     pub inputs: Items<InputStreams>,
 }
 
-/// What an input of a composite's head stands for.
+/// The streams that an input of a composite's head takes.
 #[derive(Clone, Copy, Debug, PartialEq, Eq)]
 pub struct InputStreams {
     /// How many streams, of which no more than 2^30 are counted.

@@ -1,4 +1,4 @@
-//! What the definitions come to.
+//! Laws of the definitions.
 ghost use Rattle.std.specs.Prelude.{◌≡◌, [], ◌∷◌, Ok, Err, IsOkAnd, codes};
 ghost use Rattle.spl_value.specs.declared.types.IntKind.TheVariants as N;
 ghost use Rattle.spl_tree.specs.declared.keyword.Keyword.TheVariants as K;
@@ -12,7 +12,7 @@ ghost use Rattle.spl_tree.specs.UnitGrammar.{SpellsUnit};
 ghost use Rattle.spl_tree.specs.Weights.{weights};
 
 /// The tokens of a program cut its bytes, with blanks and comments between them, each the longest
-/// that could stand there, and no other tokens do. They stand behind one another within the
+/// that could stand there, and no other tokens do. They stand one after another within the
 /// program, and the bytes of a token alone are that token.
 pub fn tokens_law()
     ensures cut { CutLaw }
@@ -81,7 +81,7 @@ pub fn weights_on_literals()
         ≡ 1 ∷ 1 ∷ 2 ∷ 2 ∷ 3 ∷ 4 ∷ 4 ∷ 3 ∷ 1 ∷ 0 ∷ []) }
 {}
 
-/// Units that the tokens of some bytes spell: attributes behind the name of a type, an `else` that
+/// Units that the tokens of some bytes spell: attributes after the name of a type, an `else` that
 /// belongs to the nearest `if`, and an invocation with an alias alone.
 pub fn units_on_literals()
     ensures attributes { IsOkAnd (tokens (codes "type T=int8 a,U b;")) (λ ts. SpellsUnit type_of_two ts.list) }

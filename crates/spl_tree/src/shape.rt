@@ -33,7 +33,7 @@ pub struct Attribute<T> {
 
 pub type Attributes = Items<Attribute<TypeExpr>>;
 
-/// What stands between `stream<` and `>`, or behind the name of a new type; at its first token.
+/// What stands between `stream<` and `>`, or after the name of a new type; at its first token.
 pub type Shape = Placed<ShapeKind>;
 
 #[derive(Drop)]

@@ -17,8 +17,8 @@ pub enum StmtKind {
     Assign(Expr, Option<BinaryOperator>, Expr),
     /// A call, whose value isn't used.
     Call(Expr),
-    /// The condition and the statement of `if` and of each `else if` behind it, one or more; and the
-    /// statement behind an `else` without `if`, where there is one.
+    /// The condition and the statement of `if` and of each `else if` after it, one or more; and the
+    /// statement after an `else` without `if`, where there is one.
     If(Items<(Expr, Stmt)>, Option<Stmt>),
     While(Expr, Stmt),
     /// `for (type name in value) statement`

@@ -25,7 +25,7 @@ pub enum TokenKind {
     Symbol(Symbol),
 }
 
-/// A token, with the place of its first byte and the place behind its last.
+/// A token, with the place of its first byte and the place after its last.
 #[derive(PartialEq, Eq, Drop)]
 pub struct Token {
     pub kind: TokenKind,
@@ -52,7 +52,7 @@ pub enum LexicalError {
     OpenText,
     /// `/*` isn't closed.
     OpenComment,
-    /// A number exceeds its type, or a letter, a digit or `_` stands right behind it.
+    /// A number exceeds its type, or a letter, a digit or `_` stands right after it.
     BadNumber,
     /// There are more bytes than a program may have.
     TooLong,

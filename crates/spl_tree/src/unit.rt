@@ -29,7 +29,7 @@ pub struct FunctionDefinition {
 }
 
 /// A composite. `public` in front is ignored. In the text the inputs of the head may come before the
-/// outputs. A clause without anything behind its word is as one that isn't there.
+/// outputs. A clause with nothing after its word is as one that isn't there.
 #[derive(Drop)]
 pub struct Composite {
     pub name: Placed<Name>,
@@ -85,7 +85,7 @@ pub struct InputPort {
 }
 
 /// The clauses of an invocation. `logic`, `window` and `output` are at these words. A `param` or
-/// `config` without anything behind it is as one that isn't there.
+/// `config` with nothing after it is as one that isn't there.
 #[derive(Drop)]
 pub struct Clauses {
     pub logic: Option<Placed<Logic>>,

@@ -98,7 +98,7 @@ exactly_answers E.Memory called h = tt
 
 -- ---- arguments that fit
 
--- a call that comes to a value of the type
+-- a call that gives a value of the type
 gives : (t : SplType) (v : Value) (called : CallOutcome) → called ≡ Gives v → IsTrue (fits t v) → GivesOf t called
 gives t v called e h = subst (GivesOf t) (sym e) h
 

@@ -1,4 +1,4 @@
--- How the bytes of a key tell its values: the proofs of the laws on keys.
+-- How the bytes of a key determine its values: the proofs of the laws on keys.
 use Rattle.std.specs.Prelude.{◌≡◌, ℕ, zero, suc, ◌+◌, ◌-◌, ◌^◌, ◌<◌, ◌≤◌, ◌==◌, ◌&&◌, ◌||◌, ◌++◌, ℤ, pos, negsuc, Bool, true, false, List, [], ◌∷◌, length, map, filter, unsigned_abs, slice_get, Option, Some, None, if◌then◌else◌}
 use Rattle.std.specs.Int.{from_le_bytes, w64, int_rem_euclid}
 use Rattle.std.specs.List.{cons_option, enumerate_from}
@@ -106,7 +106,7 @@ same_chosen key n (v ∷ vs) (w ∷ ws) same =
     (same_chosen key (n + 1) vs ws (later key n v w vs ws same))
     ∙ sym (taken (has_place key n) n w (filter (λ at. has_place key at.0) (enumerate_from (n + 1) ws)))
 
--- lists that read alike read alike at each of the places
+-- where two lists have the same values at a key's places, they have the same value at each of them
 read_alike : (tuple other : List Value) (key : List ℕ) → map (slice_get tuple) key ≡ map (slice_get other) key → (p : ℕ) → has_place key p ≡ true → slice_get tuple p ≡ slice_get other p
 read_alike tuple other [] e p h = absurd cc
 read_alike tuple other (q ∷ key) e p h =
@@ -123,7 +123,7 @@ same_bytes tuple other key h g e =
     let alike : map (slice_get tuple) key ≡ map (slice_get other) key = sym (key_places tuple key h) ∙ ap (map Some) e ∙ key_places other key g in
     ap enc_values (same_chosen key 0 tuple other (λ p has. read_alike tuple other key alike p (ap (has_place key) (omega arith) ∙ has)))
 
--- ---- bytes that are one behind another
+-- ---- bytes one after another
 
 -- equal bytes that are cut at the same place have equal parts
 split : (xs ys us vs : List ℕ) → length xs ≡ length ys → xs ++ us ≡ ys ++ vs → (xs ≡ ys) × (us ≡ vs)

@@ -182,7 +182,7 @@ put_are_pairs ps k v s = true_from _ (is_sorted-put value_cmp value_cmp_total k 
 pub without_are_pairs : (ps : List (Value × Value)) (k : Value) → IsTrue (are_pairs ps) → IsTrue (are_pairs (pairs_without ps k))
 without_are_pairs ps k s = true_from _ (is_sorted-where_key value_cmp (λ q. not (eq_by_cmp value_cmp k q)) ps (subst T (sym s) tt))
 
--- ---- look-up behind a change
+-- ---- look-up after a change
 
 differ : (q k : Value) → q ≢ k → eq_by_cmp value_cmp q k ≡ false
 differ q k ne =

@@ -23,12 +23,12 @@ sizes U16 = (omega arith, omega arith)
 sizes U32 = (omega arith, omega arith)
 sizes U64 = (omega arith, omega arith)
 
--- a number is of the kind where it is so far above the least one
+-- a number is of the kind where it is above the least one by less than `modulus k`
 pub holds_above : (k : IntKind) (z : ℤ) (r : ℕ) → z +ℤ pos (negatives k) ≡ pos r → r < modulus k → kind_holds k z ≡ true
 holds_above k (pos n) r e h = let s = sizes k in lt_true n (top k) (omega (arith, ints, s.1))
 holds_above k (negsuc n) r e h = let s = sizes k in lt_true n (modulus k - top k) (omega (arith, ints, s.1))
 
--- a number of the kind is so far above the least one
+-- a number of the kind is above the least one by less than `modulus k`
 pub above_least : (k : IntKind) (z : ℤ) → kind_holds k z ≡ true → (r : ℕ) × (z +ℤ pos (negatives k) ≡ pos r) × (r < modulus k)
 above_least k (pos n) h = let s = sizes k in let b = true_lt n (top k) h in (n + negatives k, refl, omega (arith, s.1))
 above_least k (negsuc n) h =

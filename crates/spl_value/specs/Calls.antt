@@ -19,7 +19,7 @@ use Rattle.spl_value.specs.Pairs.{pairs_contain, pairs_without}
 use Rattle.spl_value.specs.Values.{fits}
 use Rattle.spl_value.specs.Wrap.{wrapped}
 
--- what a call comes to: a value, a fault, or neither, where the arguments aren't of the variants that
+-- what a call gives: a value, a fault, or neither, where the arguments aren't of the variants that
 -- the call takes. Whether they are of its types is said below, by `fits`
 pub data CallOutcome : Type 0 where
   Gives : Value → CallOutcome
@@ -28,7 +28,7 @@ pub data CallOutcome : Type 0 where
 
 -- ---- length and size
 
--- so many bytes, elements or pairs, cast to int32
+-- a number of bytes, elements or pairs, cast to int32
 abbrev pub count_value : ℕ → Value
 count_value n = V.Int (wrapped I32 (pos n))
 
@@ -159,23 +159,23 @@ FitOrdered a b = (t : SplType) × IsOrdered t × IsTrue (fits t a) × IsTrue (fi
 
 -- ---- answers
 
--- a result is what the call comes to
+-- a result is what the call gives
 abbrev pub Exactly : Evaluated → CallOutcome → Type 0
 Exactly (E.Value v) called = called ≡ Gives v
 Exactly (E.Bad kind) called = called ≡ Faults kind
 Exactly E.Memory called = ⊥
 
--- or it is want of memory
+-- or memory runs out
 abbrev pub Answers : Evaluated → CallOutcome → Type 0
 Answers E.Memory called = Unit
 Answers result called = Exactly result called
 
--- the call comes to a value of the type
+-- the call gives a value of the type
 abbrev pub GivesOf : SplType → CallOutcome → Type 0
 GivesOf t (Gives v) = IsTrue (fits t v)
 GivesOf t _ = ⊥
 
--- or to the fault Index
+-- or the fault Index
 abbrev pub GivesOrIndex : SplType → CallOutcome → Type 0
 GivesOrIndex t (Gives v) = IsTrue (fits t v)
 GivesOrIndex t (Faults Index) = Unit

@@ -70,7 +70,7 @@ level_enc _ = []
 abbrev pub enc_value : Value → List ℕ
 enc_value v = level_enc (out-Value v)
 
--- the bytes of values, one value's behind another's
+-- the bytes of values, one value's after another's
 abbrev pub enc_values : List Value → List ℕ
 enc_values values = flat_map enc_value values
 

@@ -1,5 +1,5 @@
 -- The bytes of a key are those of its values and of nothing else of the tuple, and among keys of the same
--- types they tell the values.
+-- types they determine the values.
 use Rattle.std.specs.Prelude.{◌≡◌, ℕ, IsTrue, List, map, slice_get, Some}
 use Rattle.std.specs.Cmp.Lexicographic.{pointwise}
 use Rattle.spl_value.specs.declared.types.SplType.{SplType}

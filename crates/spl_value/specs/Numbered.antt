@@ -25,7 +25,7 @@ cut (x ∷ xs) = x ∷ (if closes x then [] else cut xs)
 
 -- Items by number
 
--- what f gives for 0, 1, .. below n, one behind another
+-- what f gives for 0, 1, .. below n, one after another
 abbrev pub below : {A : Type 0} → ℕ → (ℕ → List A) → List A
 below zero f = []
 below (suc n) f = below n f ++ f n

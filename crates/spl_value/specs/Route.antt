@@ -8,7 +8,7 @@ use Rattle.spl_value.specs.declared.routing.Routing.{Routing}
 use Rattle.spl_value.specs.declared.routing.Routing.TheVariants.{Turns, Key}
 use Rattle.spl_value.specs.Key.{enc, fnv}
 
--- the channel, of so many, of the item with this number: with a key a tuple goes by the hash of its key, and
+-- the channel, of `width`, of the item with this number: with a key a tuple goes by the hash of its key, and
 -- every other item goes in turn
 abbrev pub route : Routing → ℕ → ℕ → Item → ℕ
 route (Key key) width number (Tuple values) = fnv (enc values key) % width

@@ -46,7 +46,7 @@ pub enum Item {
     Bad(Fault),
 }
 
-/// What an evaluation comes to: a value, a fault, or want of memory.
+/// The result of an evaluation: a value, a fault, or lack of memory.
 #[derive(Debug, PartialEq, Eq, Drop)]
 pub enum Evaluated {
     Value(Value),

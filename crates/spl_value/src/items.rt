@@ -106,7 +106,7 @@ impl<T> Items<T> {
         self.items.pop()
     }
 
-    /// Makes room for so many more items.
+    /// Makes room for `additional` more items.
     pub fn reserve(&mut self, additional: usize) -> Result<(), AllocError>
         ensures { self.new ≡ self.old }
     {
@@ -122,7 +122,7 @@ impl<T> Items<T> {
         self.items.swap(first, second);
     }
 
-    /// Takes out all behind the first `count` items. The room that the list has stays.
+    /// Takes out all items after the first `count`. The room that the list has stays.
     pub fn truncate(&mut self, count: usize)
     where
         T: Drop,

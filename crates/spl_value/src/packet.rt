@@ -6,7 +6,7 @@ pub enum Packet {
     /// An item under its number in the region's input, or under that of the item that caused it.
     /// Outside regions the number is 0.
     Item { number: u64, item: Item },
-    /// So many items were sent by the splitter before this packet.
+    /// The number of items that the splitter sent before this packet.
     Pulse(u64),
     /// No item follows: the stream is whole.
     Close,

@@ -24,7 +24,7 @@ impl<T> Model for Reserved<T> {
 }
 
 impl<T> Reserved<T> {
-    /// An empty list with room for so many items.
+    /// An empty list with room for `capacity` items.
     pub fn with_capacity(alloc: Global, capacity: usize) -> Result<Reserved<T>, AllocError>
         ensures { IfOk result (λ r. r ≡ record { items = []; capacity = capacity }) }
     {
@@ -33,7 +33,7 @@ impl<T> Reserved<T> {
         })
     }
 
-    /// An empty list with room for so many items, in the room of a list whose items are let go of. It takes
+    /// An empty list with room for `capacity` items, in the room of a list whose items are dropped. It takes
     /// no memory where that has enough.
     pub fn within(list: Items<T>, capacity: usize) -> Result<Reserved<T>, AllocError>
     where

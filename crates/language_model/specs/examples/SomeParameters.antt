@@ -1,4 +1,4 @@
--- Scopes with `$` parameters, and expressions in them, for examples of what parameters stand for.
+-- Scopes with `$` parameters, and expressions in them, for examples of what parameters mean.
 use Rattle.std.specs.Prelude.{pos, List, codes, Result}
 use Rattle.spl_value.specs.declared.types.IntKind.TheVariants.{I32}
 use Rattle.spl_value.specs.declared.types.SplType.TheVariants as S

@@ -1,4 +1,4 @@
--- Scopes with two ports, and an expression in them, for examples of what names stand for.
+-- Scopes with two ports, and an expression in them, for examples of what names mean.
 use Rattle.std.specs.Prelude.{ℕ, false, List, [], ◌∷◌, codes}
 use Rattle.spl_value.specs.declared.types.IntKind.TheVariants.{I32}
 use Rattle.spl_value.specs.declared.types.Named.{Named}

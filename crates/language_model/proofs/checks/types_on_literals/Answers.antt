@@ -80,7 +80,7 @@ neither_to_c (suc count) = (
 c_is_not : is_circular seven_types 6 ≡ false
 c_is_not = steps 6 6 6 (5 ∷ []) from_c ∙ ap (λ b. b || false) (neither_to_c 6).1
 
--- a list of what B stands for, as A and C are
+-- a list of what B means, as A and C are
 abbrev list_of_b : ℕ → ℕ → TypeExpr
 list_of_b at name_at = placed at (Y.List (name_type name_at (codes "B")))
 
@@ -103,7 +103,7 @@ returns-clause-behind c =
     ∙ list_written (name_type 95 (codes "B")) 90 inside
     ∙ ap (λ found. after found (λ t. Ok (T.List t))) (name_written (codes "B") 95 inside ∙ b_is_unknown)
 
--- what the names of two attributes stand for, as those of a row
+-- what the names of two attributes mean, as those of a row
 abbrev row_of : Found SplType → Found SplType → Found SplType
 row_of id texts =
     tuple_type (after id (λ t. after (after texts (λ u. Ok (record { name = codes "texts"; kind = u } ∷ []))) (λ schema. Ok (record { name = codes "id"; kind = t } ∷ schema))))

@@ -2,7 +2,7 @@ use Rattle.std.proofs.Common.{◌≡◌, ◌⊎◌, refl, inl}
 use Rattle.spl_value.proofs.PairsLaws.{write_at, value_at, none_at_gap}
 use Rattle.spl_value.proofs.pairs.Items+tuple2+Value+Value.find_mut.Goals as goal
 
--- a loan under the same name that ends alike
+-- a loan under the same name that ends in the same way
 same_end : {N F X : Type 0} (n : N) (f g : F) → f ≡ g → ◌≡◌ {A = (N × F) ⊎ X} (inl (n, f)) (inl (n, g))
 same_end n f g e = λ i. inl (n, e i)
 
