@@ -97,7 +97,7 @@ composite_there unit number (Some x) b e = of_expansion (composite_of unit x) e
         let same : ◌≡◌ {A = Body} (record { number = number; expansion = x; composite = c }) b = same_Some _ b e in
         ap (λ (y : Body). Some y.composite) same
 
--- the invocation of an operator is the one for which the operator stands
+-- the invocation at the site of an operator is the one in its body
 invocation_there : (unit : List Definition) (g : Graph) (op : Op) (b : Body) (i : Invocation) → body_at unit g op.site.expansion ≡ Some b
     → slice_get b.composite.graph op.site.invocation ≡ Some i → invocation_at unit g.expansions op.site ≡ Some i
 invocation_there unit g op b i at_body at_invocation =

@@ -1,4 +1,4 @@
--- What stands for the `$` parameters of each expansion fits, and names nothing.
+-- What the `$` parameters of each expansion mean fits, and names nothing.
 use Rattle.std.specs.Prelude.{◌≡◌, ℕ, zero, suc, Bool, true, false, List, [], ◌∷◌, ◌++◌, if◌then◌else◌, Option, Some, None, Ok}
 use Rattle.std.specs.Option.{option_map, option_map_or}
 use Rattle.std.specs.Str.{bytes_eq}

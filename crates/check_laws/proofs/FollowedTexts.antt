@@ -1,4 +1,4 @@
--- The text that a `$` parameter stands for in the search for files is the one that the checks find behind it.
+-- The text that a `$` parameter means in the search for files is the one that the checks find for it.
 use Rattle.std.specs.Prelude.{◌≡◌, ℕ, zero, suc, true, false, List, [], ◌∷◌, length, if◌then◌else◌, Option, Some, None, Ok, slice_get}
 use Rattle.std.specs.Option.{option_and_then, option_map_or}
 use Rattle.std.proofs.Common.{refl, sym, ap, ◌∙◌}
@@ -83,7 +83,8 @@ here_same texts follow same (Here e) = literal_same texts (out-ExprKind e.what)
 here_same texts follow same (Outside e) = same e
 here_same texts follow same Nowhere = refl
 
--- the text of an expression in an expansion, and what is found behind it there, by those of arguments where it is invoked
+-- the text of an expression in an expansion, and the expression that is found for it there, by those of arguments
+-- where it is invoked
 abbrev text_at_expansion : List Definition → List Expansion → (ℕ → Expr → Option (List ℕ)) → Expr → Option Expansion → Option (List ℕ)
 text_at_expansion unit expansions texts e o =
     option_and_then (λ x. literal_or (λ a. option_and_then (λ s. texts s.expansion a) x.site) (own_text unit expansions x e)) o

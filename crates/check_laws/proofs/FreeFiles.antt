@@ -18,7 +18,7 @@ abbrev pub Clear : OpFile → List OpFile → Type 0
 Clear g [] = Unit {0}
 Clear g (f ∷ fs) = (clash g f ≡ false) × Clear g fs
 
--- none clashes with one behind it, and no sink has one of the names
+-- none clashes with one after it, and no sink has one of the names
 abbrev pub Free : List (List ℕ) → List OpFile → Type 0
 Free names [] = Unit {0}
 Free names (f ∷ fs) = ((f.sink && is_named names f.file.what) ≡ false) × Clear f fs × Free names fs

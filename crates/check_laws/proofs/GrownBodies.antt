@@ -1,4 +1,4 @@
--- What was expanded: the bodies stand behind those in which they are invoked, operators take what names meant when they were added, and
+-- What was expanded: the bodies stand after those in which they are invoked, operators take what names meant when they were added, and
 -- there are not too many.
 use Rattle.std.specs.Prelude.{◌≡◌, ◌+◌, ◌==◌, ◌<◌, ◌⊎◌, ℕ, zero, suc, List, [], ◌∷◌, ◌++◌, length, Option, Some, None, Ok, Err, slice_get, if◌then◌else◌, true, false}
 use Rattle.std.proofs.Common.{refl, sym, ap, ◌∙◌, subst, arith, inl, inr, append_assoc}

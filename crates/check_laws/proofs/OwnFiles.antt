@@ -56,7 +56,7 @@ apart_of m n b clear one =
     by_test true same = let both : (bytes_eq m n && b) ≡ true = (λ j. same j && one j) in absurd cc
     by_test false other = other
 
--- no sink behind an operator with this file has it
+-- no sink after an operator with this file has it
 sinks_apart : (g : OpFile) (parts : List Part) → Clear g (part_files parts) → is_named (sink_files parts) g.file.what ≡ false
 sinks_apart g [] clear = refl
 sinks_apart g (A.FileSink file ∷ parts) clear =
@@ -65,7 +65,7 @@ sinks_apart g (A.FileSink file ∷ parts) clear =
 sinks_apart g (A.FileSource file strict ∷ parts) clear = sinks_apart g parts clear.1
 sinks_apart g (_ ∷ parts) clear = sinks_apart g parts clear
 
--- no source behind a sink reads its file
+-- no source after a sink reads its file
 sources_apart : (file : List ℕ) (parts : List Part) → Clear (file_of_sink file) (part_files parts) → is_named (source_files parts) file ≡ false
 sources_apart file [] clear = refl
 sources_apart file (A.FileSink other ∷ parts) clear = sources_apart file parts clear.1

@@ -68,12 +68,12 @@ file_fits scope follow e = level_file_fits scope follow e (out-ExprKind e.what)
 
 -- ---- keys
 
--- keys behind others
+-- keys after others
 record Keys (schema : List (Named SplType)) (before places : List ℕ) : Type 0 where
   fit : KeysFit schema places
   apart : (i p : ℕ) → slice_get places i ≡ Some p → list_any (λ n. n == p) before ≡ false
 
--- one behind others
+-- one after others
 record Key (schema : List (Named SplType)) (before : List ℕ) (place : ℕ) : Type 0 where
   attribute : Named SplType
   there : slice_get schema place ≡ Some attribute

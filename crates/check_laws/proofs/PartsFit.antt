@@ -321,7 +321,7 @@ module _ (laws : TypingGives) (x : Checks) (bare : x.around.scope.vars ≡ []) (
 
 -- ---- the clauses
 
--- what is meant in a scope, with what is behind `$` parameters
+-- what may be named in a scope, and what its `$` parameters mean
 abbrev in_scope : Scope → (Expr → Option Expr) → Site
 in_scope scope follow = record { scope = scope; follow = follow }
 

@@ -42,7 +42,7 @@ number_at count k lt = let same : 0 + k ≡ k = omega arith in numbers_within 0 
 
 -- ---- what names mean
 
--- a name means the same when more bodies stand behind
+-- a name means the same with more bodies after these
 module _ (earlier bodies : List Inlined) (front : (k : ℕ) → k < length earlier → slice_get bodies k ≡ slice_get earlier k)
     (behind : (k : ℕ) (e : Inlined) (s : Site) → slice_get bodies k ≡ Some e → e.site ≡ Some s → s.expansion < k) where
   port_names_same : (s : Site) (k : ℕ) → s.expansion < length earlier → port_names earlier s k ≡ port_names bodies s k
@@ -87,7 +87,7 @@ module _ (earlier bodies : List Inlined) (front : (k : ℕ) → k < length earli
       ∙ ap (λ o. option_map_or (λ (e : Inlined). own_or_input (taken_in other bodies) bodies number e name (place_of name (stream_names e.composite.what))) o [])
       (sym (front number lt))
 
--- ---- how many streams a name stands for
+-- ---- how many streams a name means
 
 -- the body of an operator, in a graph
 abbrev pub body_of : Made → ℕ → Inlined → Body

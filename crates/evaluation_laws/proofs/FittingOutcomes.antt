@@ -1,4 +1,4 @@
--- Codes and bodies that fit come to what fits or to a fault, and leave no more turns than there were.
+-- Codes and bodies that fit give what fits or a fault, and leave no more turns than there were.
 use Rattle.std.specs.Prelude.{◌≡◌, ◌≤◌, ℕ, IsTrue}
 use Rattle.std.proofs.Common.{refl}
 use Rattle.spl_value.specs.declared.types.SplType.{SplType}

@@ -1,4 +1,4 @@
--- What a call, a fault and a name without a value come to.
+-- The results of a call, a fault and a name without a value.
 use Rattle.std.specs.Prelude.{◌≡◌, [], ◌∷◌}
 use Rattle.spl_value.specs.declared.item.FaultKind.TheVariants as K
 use Rattle.spl_value.specs.declared.value.Value.TheVariants as V

@@ -1,4 +1,4 @@
--- A code of literals comes to one value wherever it is evaluated, and takes no turn.
+-- A code of literals has one value wherever it is evaluated, and takes no turn.
 use Rattle.std.specs.Prelude.{◌≡◌, ◌&&◌, ℕ, true, Bool, IsTrue, List, [], ◌∷◌, Option, None, Some}
 use Rattle.std.specs.List.{AllByRecursion, list_all}
 use Rattle.std.proofs.Common.{refl, sym, ap, ◌∙◌, subst}
@@ -66,9 +66,9 @@ plain_unary ops x = plain_at (S.Unary ops x) (C.Unary ops x) (S.outs-Unary ops x
 
 pub ruleset plain_laws = (plain_literal, plain_list, plain_map, plain_tuple, plain_unary)
 
--- ---- what comes to the same wherever it is evaluated
+-- ---- what has the same result wherever it is evaluated
 
--- whatever calls come to, in every world: an answer with all turns left, or being stuck
+-- whatever calls return, in every world: an answer with all turns left, or being stuck
 abbrev Settled : {A : Type 0} → (Calls → World Slot → ℕ → Outcome A) → Type 0
 Settled {A} f = (o : Option A) × ((calls : Calls) (w : World Slot) (turns : ℕ) → f calls w turns ≡ need o (λ x. Done x turns))
 

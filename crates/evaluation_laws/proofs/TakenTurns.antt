@@ -1,4 +1,4 @@
--- Codes and bodies take as many turns however many there are, and with fewer come to want of them.
+-- Codes and bodies take as many turns however many there are, and with fewer run out of them.
 use Rattle.std.specs.Prelude.{◌≡◌, ◌≢◌, ◌+◌, ◌-◌, ◌≤◌, ◌⊎◌, ℕ, zero, suc, List, slice_get}
 use Rattle.std.proofs.Common.{refl, sym, ap, ◌∙◌, subst, inl, inr, arith}
 use Rattle.spl_value.specs.declared.item.FaultKind.{FaultKind}
@@ -21,7 +21,7 @@ use Rattle.evaluation_laws.proofs.TakingStatements.{calls_take, body_takes}
 -- ---- functions
 
 module _ (functions : List Function) where
-  -- where calls may nest so deep, and in the others so deep
+  -- where calls may nest `depth` deep, and in the others `other` deep
   abbrev BodiesTake : ℕ → ℕ → Type 0
   BodiesTake depth other = (i : ℕ) (values : List Value) (turns : ℕ) → Takes other turns (bodies_of functions depth i values turns) (bodies_of functions other i values)
 
@@ -56,7 +56,7 @@ module _ (functions : List Function) where
 abbrev AlwaysTakes : {A : Type 0} → (ℕ → Outcome A) → Type 0
 AlwaysTakes f = (most turns : ℕ) → Takes most turns (f turns) f
 
--- a fault other than want of turns comes with more too
+-- a fault other than running out of turns is given with more too
 abbrev KeepsFaults : {A : Type 0} → (ℕ → Outcome A) → Type 0
 KeepsFaults f = (turns more : ℕ) (kind : FaultKind) → kind ≢ K.Turns → f turns ≡ Faulted kind → f (turns + more) ≡ Faulted kind
 

@@ -4,8 +4,9 @@ use Rattle.std.proofs.Common.{refl, sym, ap, ◌∙◌, subst, arith}
 use Rattle.spl_value.specs.Calls.{CallOutcome, Gives, Faults, Unfit}
 use Rattle.language_model.specs.Outcomes.{Outcome, Done, Faulted, Stuck, followed, need, settled, enter}
 
--- `o` is what one evaluation comes to from so many turns, and `f` what another comes to from each number of turns below `most`. Where `o` is
--- an answer, `f` comes to the same from as many as `o` took, and leaves the others. Where `o` is stuck, `f` is stuck from no fewer
+-- `o` is the result of one evaluation with `turns` turns, and `f` gives the result of another one with each number of turns
+-- below `most`. Where `o` is an answer, `f` gives the same with as many turns as `o` took, and leaves the others. Where `o`
+-- is stuck, `f` is stuck with no fewer turns
 abbrev pub Takes : {A : Type 0} → ℕ → ℕ → Outcome A → (ℕ → Outcome A) → Type 0
 Takes most turns (Done x left) f = (taken : ℕ) × (turns ≡ taken + left) × ((others : ℕ) → taken + others < most → f (taken + others) ≡ Done x others)
 Takes most turns (Faulted kind) f = Unit {0}

@@ -99,7 +99,7 @@ module _ (deepest : ℕ) (bodies others : Bodies) (c : (i : ℕ) (values : List 
     again_takes most le again next k (F.Broken, s) turns = takes_none most (F.Next, s) turns
     again_takes most le again next k (F.Returned v, s) turns = takes_none most (F.Returned v, s) turns
 
-    -- a turn, and the turns behind it with one fewer
+    -- a turn, and the turns after it with one fewer
     turn_takes : (code : Code Slot) (most less : ℕ) → most ≤ suc less → less ≤ suc deepest → most ≤ suc deepest → (again next : Acts)
         → ((s : State) (turns : ℕ) → Takes less turns (again s turns) (next s))
         → (s : State) (turns : ℕ) → Takes most turns (turn_while bodies code m again s turns) (turn_while others code n next s)
@@ -111,7 +111,7 @@ module _ (deepest : ℕ) (bodies others : Bodies) (c : (i : ℕ) (values : List 
         takes_followed less turns (m s turns) _ _ _ (takes_within (suc deepest) less turns (m s turns) (n s) few (h s turns)) (again_takes less few again next k))))
         (takes_none most (F.Next, s) turns))
 
-    -- so many turns at most, and of the others so many
+    -- at most k turns, and of the others at most `number`
     abbrev Loops : Code Slot → ℕ → Type 0
     Loops code k = (number most : ℕ) → most ≤ suc deepest → most ≤ suc number → (s : State) (turns : ℕ)
         → Takes most turns (turns_while k bodies code m s turns) (turns_while number others code n s)

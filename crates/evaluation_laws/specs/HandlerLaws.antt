@@ -61,7 +61,8 @@ pub record HandlerLeft (outs : List Attributes) (state : List StateVariable) (le
   pub state_fits : StateFits state left.vars
   pub submits : AreOfPorts outs left.submits
 
--- where the state fits, and the tuple of its port came, a handler of tuples comes to this or to a fault, with no more turns left than there were
+-- where the state fits, and the tuple of its port came, a handler of tuples ends with this or with a fault, and no more
+-- turns are left than there were
 abbrev pub TupleHandlerLaw : Type 0
 TupleHandlerLaw = (functions : List Function) (scope : Scope) (outs : List Attributes) (handlers : Handlers)
     → HandlersFit scope outs handlers → FunctionsFit scope.functions functions

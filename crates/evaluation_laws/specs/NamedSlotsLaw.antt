@@ -11,7 +11,7 @@ use Rattle.language_model.specs.Outcomes.{Outcome, Done, Faulted, Stuck}
 use Rattle.language_model.specs.Slots.{row_slots}
 use Rattle.language_model.specs.Statements.{Left}
 
--- both are done with as many turns left, and their answers are alike; or both come to the same fault; or both are stuck
+-- both are done with as many turns left, and their answers are alike; or both give the same fault; or both are stuck
 abbrev pub SameOutcome : {A B : Type 0} → (A → B → Type 0) → Outcome A → Outcome B → Type 0
 SameOutcome P (Done x turns) (Done y left) = (turns ≡ left) × P x y
 SameOutcome P (Faulted kind) (Faulted other) = kind ≡ other

@@ -1,4 +1,4 @@
--- What becomes of codes and bodies that fit: they come to what fits or to a fault, and no more turns are left than there were.
+-- What becomes of codes and bodies that fit: they give what fits or a fault, and no more turns are left than there were.
 use Rattle.std.specs.Prelude.{◌≤◌, ℕ, IsTrue, List}
 use Rattle.spl_value.specs.declared.types.SplType.{SplType}
 use Rattle.spl_value.specs.declared.value.Value.{Value}
@@ -21,12 +21,12 @@ EndsWithin P turns (Done x left) = P x × (left ≤ turns)
 EndsWithin P turns (Faulted kind) = Unit {0}
 EndsWithin P turns Stuck = ⊥
 
--- a code that fits comes to a value of its type
+-- a code that fits gives a value of its type, or a fault
 abbrev pub ValueNotStuckLaw : Type 0
 ValueNotStuckLaw = (functions : List Function) (code : Code Slot) (env : Env) (t : SplType) → Fits functions code env t
     → (turns : ℕ) → EndsWithin (λ (v : Value). IsTrue (fits t v)) turns (value functions code (world_of env) turns)
 
--- a body that fits leaves what fits
+-- a body that fits leaves what fits, or ends with a fault
 abbrev pub RunsNotStuckLaw : Type 0
 RunsNotStuckLaw = (functions : List Function) (row : List Statement) (env : Env) (purpose : Purpose) (scope : Scope)
     → BodyFits functions row env purpose scope → (turns : ℕ) → EndsWithin (LeftFits purpose scope env) turns (runs functions row env turns)

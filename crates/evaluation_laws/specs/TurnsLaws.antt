@@ -1,4 +1,4 @@
--- How many turns programs take: as many however many there are, and where there are fewer, they come to want of turns.
+-- How many turns programs take: as many however many there are, and where there are fewer, they run out of turns.
 use Rattle.std.specs.Prelude.{◌≡◌, ◌+◌, ◌<◌, ◌≤◌, ◌⊎◌, ℕ, List}
 use Rattle.spl_value.specs.declared.item.FaultKind.{FaultKind}
 use Rattle.spl_value.specs.declared.item.FaultKind.TheVariants as K
@@ -10,21 +10,21 @@ use Rattle.language_model.specs.Evaluation.{World}
 use Rattle.language_model.specs.Functions.{value, runs}
 use Rattle.language_model.specs.Outcomes.{Outcome, Done, Faulted, Stuck}
 
--- ---- what is evaluated from so many turns
+-- ---- what is evaluated with a number of turns
 
 -- no more are left than there were
 abbrev pub LeavesNoMore : {A : Type 0} → (ℕ → Outcome A) → Type 0
 LeavesNoMore {A} f = (turns left : ℕ) (x : A) → f turns ≡ Done x left → left ≤ turns
 
--- it takes as many however many there are: where those that it takes are there, it comes to the same, and leaves the others
+-- it takes as many however many there are: where those that it takes are there, it gives the same, and leaves the others
 abbrev pub TakesAsMany : {A : Type 0} → (ℕ → Outcome A) → Type 0
 TakesAsMany {A} f = (taken left others : ℕ) (x : A) → f (taken + left) ≡ Done x left → f (taken + others) ≡ Done x others
 
--- with fewer than it takes it comes to want of turns
+-- with fewer than it takes it runs out of turns
 abbrev pub WantsTurns : {A : Type 0} → (ℕ → Outcome A) → Type 0
 WantsTurns {A} f = (turns left fewer : ℕ) (x : A) → f turns ≡ Done x left → fewer + left < turns → f fewer ≡ Faulted K.Turns
 
--- where it comes to a fault, it comes with fewer to that fault or to want of turns
+-- where it gives a fault, with fewer it gives that fault or runs out of turns
 abbrev pub FaultsWithFewer : {A : Type 0} → (ℕ → Outcome A) → Type 0
 FaultsWithFewer f = (turns fewer : ℕ) (kind : FaultKind) → f turns ≡ Faulted kind → fewer ≤ turns
     → (f fewer ≡ Faulted kind) ⊎ (f fewer ≡ Faulted K.Turns)

@@ -17,8 +17,8 @@ ghost use Rattle.evaluation_laws.specs.examples.OneCall.{number, identity, call_
 ghost use Rattle.evaluation_laws.specs.examples.OneHandler.{output, state, submit_constant, on_tuple, on_marker, handlers, one_port, of_tuple, held};
 ghost use Rattle.evaluation_laws.specs.examples.OneHandler.{env_of, left_of, env_at_window, left_at_window, constant_alone, env_alone, left_alone};
 
-/// A call takes a turn: with two it leaves one, and with none it comes to want of turns. A division by zero
-/// comes to its fault, and a name without a value is stuck.
+/// A call takes a turn: with two it leaves one, and with none it runs out of turns. A division by zero
+/// gives its fault, and a name without a value is stuck.
 pub fn turns_on_literals()
     ensures taken { value (identity ∷ []) call_of_seven nowhere 2 ≡ Done (number 7) 1 }
     ensures wanted { value (identity ∷ []) call_of_seven nowhere 0 ≡ Faulted K.Turns }

@@ -3,7 +3,7 @@ ghost use Rattle.evaluation_laws.specs.HandlerLaws.{FirstValuesLaw, HandlerSubmi
 
 /// The variables of a Custom's state have first values, each of its type. A handler submits tuples of its
 /// ports' attributes and window markers, on ports that there are. From a state that fits, it leaves one that
-/// fits, or comes to a fault.
+/// fits, or ends with a fault.
 pub fn handlers_law()
     ensures first { FirstValuesLaw }
     ensures submits { HandlerSubmitsLaw }

@@ -1,4 +1,4 @@
-//! What operators need to know of evaluation: how many turns it takes, what literals come to, what bodies do
+//! What operators need to know of evaluation: how many turns it takes, what literals evaluate to, what bodies do
 //! with the slots that they name and with variables that aren't mutable, and what becomes of what fits.
 #![tactic(auto)]
 

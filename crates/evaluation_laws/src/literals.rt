@@ -1,4 +1,4 @@
-//! What codes of literals come to.
+//! The values of codes of literals.
 ghost use Rattle.evaluation_laws.specs.LiteralLaws.{LiteralLaw};
 
 /// A code of literals that fits a type has one value, of the type, wherever it is evaluated, and takes no

@@ -2,9 +2,9 @@
 ghost use Rattle.evaluation_laws.specs.TurnsLaws.{ValueTurnsLeftLaw, ValueTurnsTakenLaw, ValueWantOfTurnsLaw, ValueFewerTurnsLaw, ValueStuckLaw};
 ghost use Rattle.evaluation_laws.specs.TurnsLaws.{RunsTurnsLeftLaw, RunsTurnsTakenLaw, RunsWantOfTurnsLaw, RunsFewerTurnsLaw, RunsStuckLaw};
 
-/// A code that comes to a value takes as many turns however many there are, and leaves the others. With
-/// fewer it comes to want of turns. With fewer than those from which it comes to a fault, it comes to that
-/// fault or to want of turns, and with more than those from which it is stuck, it is stuck.
+/// A code that gives a value takes as many turns however many there are, and leaves the others. With
+/// fewer it runs out of turns. With fewer than those from which it gives a fault, it gives that fault or
+/// runs out of turns, and with more than those from which it is stuck, it is stuck.
 pub fn value_turns_law<N>()
     ensures left { ValueTurnsLeftLaw N }
     ensures taken { ValueTurnsTakenLaw N }

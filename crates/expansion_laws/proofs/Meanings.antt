@@ -1,4 +1,4 @@
--- What names in bodies stand for: each name that may be read stands for streams, and for one list of them.
+-- What names in bodies mean: each name that may be read means streams, and one list of them.
 use Rattle.std.specs.Prelude.{◌≡◌, ◌+◌, ◌||◌, ◌↔◌, ◌<◌, ℕ, zero, suc, Bool, true, false, List, [], ◌∷◌, ◌++◌, map, flat_map, length, Option, Some, None, slice_get}
 use Rattle.std.specs.Option.{option_map, option_and_then, option_map_or}
 use Rattle.std.proofs.Common.{refl, sym, ap, ◌∙◌, subst, arith}
@@ -63,7 +63,7 @@ no_inputs c e = by c.inputs refl (and_parts (is_empty c.outputs) (is_empty c.inp
     by [] is h = is
     by (p ∷ ps) is h = absurd cc
 
--- ---- what names stand for
+-- ---- what names mean
 
 module _ (unit : List Definition) (made : Made) (topo : List ℕ) (h : Holds unit made) (c : (main : At Composite) × IsComplete unit main made) where
   abbrev graph : Graph

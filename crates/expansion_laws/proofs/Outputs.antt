@@ -167,7 +167,7 @@ module _ (unit : List Definition) (made : Made) (topo : List ℕ) (h : Holds uni
   abbrev pub bodies : List Inlined
   bodies = made.expansions
 
-  -- the stream of an output, which is so often followed inwards
+  -- the stream of an output, which is followed inwards at most `count` times
   pub record IsStream (count : ℕ) (k place : ℕ) (c : Composite) (name : List ℕ) : Type 0 where
     pub stream : ℕ
     pub output : Output

@@ -21,7 +21,7 @@ use Rattle.language_model.proofs.KeptInvocations.{past_end}
 
 -- ---- ways
 
--- where two lists part behind the same front, the next elements are the same
+-- where two equal lists have the same front, the next elements are the same
 pub same_next : (pp : List ℕ) (m n : ℕ) (rest others : List ℕ) → pp ++ m ∷ rest ≡ pp ++ n ∷ others → m ≡ n
 same_next [] m n rest others e = cc
 same_next (x ∷ pp) m n rest others e = let h : pp ++ m ∷ rest ≡ pp ++ n ∷ others = cc in same_next pp m n rest others h
@@ -83,7 +83,7 @@ pub record BodyUnder (es : List Inlined) (pp : List ℕ) (from to k : ℕ) : Typ
 abbrev site : ℕ → ℕ → Site
 site k n = record { expansion = k; invocation = n }
 
--- what an invocation comes to
+-- what becomes of an invocation
 pub data Comes (unit : List Definition) (made : Made) (s : Site) (i : Invocation) : Type 0 where
   is_operator : (n : ℕ) (o : Operation) → slice_get made.ops n ≡ Some o → o.site ≡ s → Comes unit made s i
   is_body : (k : ℕ) (e : Inlined) → slice_get made.expansions k ≡ Some e → e.site ≡ Some s → target_of unit i.operator.what ≡ Body e.composite → Comes unit made s i
@@ -122,7 +122,7 @@ adds_none unit pp from to made in_order = record {
   done = λ k e le at. absurd (past_end made.expansions k e le at);
 }
 
--- ---- one behind the other
+-- ---- one after the other
 
 op_under_on : (xs ys : List Inlined) (pp : List ℕ) (a b c d : ℕ) (o : Operation) → Grows xs ys → c ≤ a → b ≤ d → OpUnder xs pp a b o → OpUnder ys pp c d o
 op_under_on xs ys pp a b c d o grows low high u = record {

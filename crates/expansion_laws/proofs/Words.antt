@@ -207,7 +207,7 @@ module _ (unit : List Definition) (all : AllByRecursion IsDefinitionWorded unit)
   name_is_word i name w (by_stream o os none is) = (subst (λ (xs : List OutputStream). AllByRecursion (λ o. is_word o.name.what ≡ true) xs) is w.outputs).0
   name_is_word i name w (without none empty) = absurd (w.named none empty)
 
-  -- behind the prefix of a body
+  -- after the prefix of a body
   behind_prefix : (n : ℕ) (way prefix : List ℕ) → Lies unit g n way prefix → (rest : List ℕ) → IsDotted rest → IsDotted (prefix ++ rest)
   behind_prefix n way prefix (in_main m x at none) rest d = d
   behind_prefix n way prefix (in_body m x s i name w p at is there named lies) rest d =

@@ -41,7 +41,7 @@ pub record OpLies (unit : List Definition) (g : Graph) (op : Op) (way prefix : L
   pub body : Lies unit g op.site.expansion outer prefix
   pub is : way ≡ outer ++ op.site.invocation ∷ []
 
--- an operator has the name of its invocation, behind what stands in front of the names in its body
+-- an operator has the name of its invocation, after what stands in front of the names in its body
 pub record IsNamed (unit : List Definition) (g : Graph) (op : Op) (prefix : List ℕ) : Type 0 where
   pub invocation : Invocation
   pub name : List ℕ

@@ -18,7 +18,7 @@ OfFlat P = (unit : List Definition) (names : List (List ℕ)) (g : Graph) → Is
 abbrev pub SiteLaw : Type 0
 SiteLaw = OfFlat (λ unit g. (m n : ℕ) (o p : Op) → slice_get g.ops m ≡ Some o → slice_get g.ops n ≡ Some p → o.site ≡ p.site → m ≡ n)
 
--- there is one way to an operator, and behind its prefix the operator has its own name
+-- there is one way to an operator, and after its prefix the operator has its own name
 abbrev pub NameLaw : Type 0
 NameLaw = OfFlat (λ unit g. (n : ℕ) (op : Op) → slice_get g.ops n ≡ Some op → (way : List ℕ) × (prefix : List ℕ) × OpLies unit g op way prefix × IsNamed unit g op prefix
     × ((other another : List ℕ) → OpLies unit g op other another → (other ≡ way) × (another ≡ prefix)))
@@ -28,12 +28,12 @@ abbrev pub TextLaw : Type 0
 TextLaw = OfFlat (λ unit g. (m n : ℕ) (o p : Op) → m < n → slice_get g.ops m ≡ Some o → slice_get g.ops n ≡ Some p
     → (a b x y : List ℕ) → OpLies unit g o a x → OpLies unit g p b y → IsBefore a b)
 
--- an input of an operator has the streams for which the names there stand, in order, and no others
+-- an input of an operator has the streams that the names there mean, in order, and no others
 abbrev pub InputLaw : Type 0
 InputLaw = OfFlat (λ unit g. (n : ℕ) (op : Op) (i : Invocation) (k : ℕ) (q : InputPort) → slice_get g.ops n ≡ Some op → invocation_at unit g.expansions op.site ≡ Some i
     → slice_get i.inputs k ≡ Some q → (streams : List ℕ) → (slice_get op.ins k ≡ Some streams) ↔ StandForAll unit g op.site.expansion q.streams streams)
 
--- a name stands for one list of streams at most
+-- a name means one list of streams at most
 abbrev pub OneStandingLaw : Type 0
 OneStandingLaw = OfFlat (λ unit g. (number : ℕ) (name : List ℕ) (xs ys : List ℕ) → StandsFor unit g number name xs → StandsFor unit g number name ys → xs ≡ ys)
 

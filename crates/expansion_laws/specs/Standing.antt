@@ -1,4 +1,4 @@
--- What the names in the bodies of a graph stand for: streams of the graph, in words of the graph and of the text.
+-- What the names in the bodies of a graph mean: streams of the graph, in words of the graph and of the text.
 use Rattle.std.specs.Prelude.{◌≡◌, ℕ, List, [], ◌∷◌, ◌++◌, Some, slice_get}
 use Rattle.spl_tree.specs.declared.expression.Placed.{Placed}
 use Rattle.spl_tree.specs.declared.graph.Expansion.{Expansion}
@@ -38,7 +38,7 @@ pub data IsOutput (unit : List Definition) (g : Graph) : Site → ℕ → ℕ �
       → slice_get c.outputs output ≡ Some p → MakesAs c p.name.what place inner → IsOutput unit g (site number place) inner stream
       → IsOutput unit g s output stream
 
--- the streams that a name stands for in the body at a number: one that its graph makes, or, for the name of an input of the head, those
+-- the streams that a name means in the body at a number: one that its graph makes, or, for the name of an input of the head, those
 -- of the names at that input where the composite is invoked, in order
 mutual
   pub data StandsFor (unit : List Definition) (g : Graph) : ℕ → List ℕ → List ℕ → Type 0 where

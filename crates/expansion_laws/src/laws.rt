@@ -7,7 +7,7 @@ ghost use Rattle.expansion_laws.specs.Names.{DottedLaw};
 ghost use Rattle.expansion_laws.specs.Standing.{IsOutput, StandsFor, site};
 
 /// Each invocation in a body is one operator at most. Operators stand in the order of the text: the bodies of composites lie
-/// where they are invoked. The name of an operator is its alias or else its first output stream, behind the names of
+/// where they are invoked. The name of an operator is its alias or else its first output stream, after the names of
 /// the invocations that lead to it, with a dot after each: words with dots between them.
 pub fn sites_law()
     ensures sites { SiteLaw }
@@ -16,10 +16,10 @@ pub fn sites_law()
     ensures dotted { DottedLaw }
 {}
 
-/// At an input an operator takes exactly the streams that the names there stand for, in order, and a name
-/// stands for one list of streams. It is a stream that an invocation beside it makes, where that is one of a composite the stream
-/// in its graph that has the name of the output; or it is an input of the head, and stands for what the names at this
-/// input do where the composite is invoked.
+/// At an input an operator takes exactly the streams that the names there mean, in order, and a name means one list of
+/// streams. A name means a stream that an invocation beside it makes; where that invokes a composite, it is the stream
+/// in its graph that has the name of the output. Or it is the name of an input of the head, and means what the names at
+/// this input mean where the composite is invoked.
 pub fn inputs_law()
     ensures inputs { InputLaw }
     ensures one { OneStandingLaw }

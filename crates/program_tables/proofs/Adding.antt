@@ -1,4 +1,4 @@
--- One row of mentions behind another.
+-- One row of mentions after another.
 use Rattle.std.proofs.Common.{◌≡◌, ◌∙◌, List, ◌++◌, Result, Ok, Err, ap, sym, append_assoc}
 use Rattle.spl_value.specs.declared.memory.NoMemory.{NoMemory}
 use Rattle.spl_tree.specs.declared.expression.Placed.{Placed}
@@ -7,7 +7,7 @@ use Rattle.program_tables.specs.declared.mentions.Mention.{Mention}
 use Rattle.program_tables.specs.Mentioned.{mentions_seen}
 use Rattle.program_tables.specs.steps.MentionParts.{Adds}
 
--- what is added behind rows that were added before
+-- what is added after rows that were added before
 pub adds_behind : (before between after : List (Placed Mention)) (front ms all : Mentions) (r : Result (Unit {0}) NoMemory)
     → mentions_seen between ≡ mentions_seen before ++ front → Adds between after ms r → all ≡ front ++ ms → Adds before after all r
 adds_behind before between after front ms all (Ok u) f a e =

@@ -68,7 +68,7 @@ place_among q name names among = stays (place_of q names) (bytes_eq name q) refl
         let none = sym among ∙ sym (among_by_place name names) ∙ ap (λ n. is_some (place_of n names)) same ∙ ap is_some e in
         cc
 
--- a new one stands behind them
+-- a new one stands after them
 pub place_new : (q name : List ℕ) (names : List (List ℕ)) → is_among name names ≡ false
     → (if bytes_eq name q then Some (length names) else place_of q names) ≡ place_of q (names ++ name ∷ [])
 place_new q name names new = comes (place_of q names) (bytes_eq name q) refl refl ∙ sym (grown q name names)

@@ -89,7 +89,7 @@ module _ (op : Operator) (fit : IsFitting op) (window : Policy) (partition group
       tuples_env fit.signatures (shape.input ∷ []) fit.scope (t ∷ []) (subst (λ ins. NamesPorts fit.signatures ins fit.scope) shape.takes fit.names)
       (one_tuple shape.input t f)
 
-  -- the arguments of a tuple that fits come to values, or to a fault
+  -- the arguments of a tuple that fits give values, or a fault
   evaluates : (t : List Value) → TupleFits t → Yields (ArgumentsThere shape.schema output) (evaluated t)
   evaluates t f =
       arguments_there fit.signatures op.functions fit.scope fit.names.functions fit.functions (at_tuple t) (env_of t f) shape.schema output

@@ -166,7 +166,7 @@ marker_leaves op handlers fit vars h port m = by_case (slice_get handlers.on_pun
       as_yields _ _ _
       (marker_handler op.functions fit.scope op.types.outs handlers fit.handlers_fit fit.functions port body at (marker_env vars m) m h refl _)
 
--- where the state fits, an item that fits leaves a state that fits and submits what is of its ports, or comes to a fault
+-- where the state fits, an item that fits leaves a state that fits and submits what is of its ports, or gives a fault
 item_fits : (op : Operator) (handlers : Handlers) → Fitted op handlers → (vars : List Value) → StateFits handlers.state vars → (port : ℕ) (x : Item)
     → HasPort op port x → Leaving op handlers (item_leaves op.functions handlers vars port x)
 item_fits op handlers fit vars h port (I.Tuple vs) has = tuple_leaves op handlers fit vars h port vs has
@@ -211,7 +211,7 @@ custom_makes op handlers h port x kind fit history has =
     (item_fits op handlers fit (state op.functions handlers h) (state_fits op handlers fit h history) port x has)
     (λ left turns is. submits_fit op kind left.submits is.submits))
 
--- a Custom whose clauses fit makes what fits, or comes to a fault
+-- a Custom whose clauses fit makes what fits, or gives a fault
 pub custom_fits : FitsAt is_custom
 custom_fits op h port x kind fit history calm has = by_case op.clauses refl kind where
   by_case : (part : Part) → op.clauses ≡ part → is_custom part ≡ true → MakesFit op (makes_by part op h port x)

@@ -52,7 +52,7 @@ as_yields t (Done v turns) h = h
 as_yields t (Faulted kind) h = tt
 as_yields t Stuck h = h
 
--- a code that fits comes to a value of its type, or to a fault
+-- a code that fits gives a value of its type, or a fault
 pub value_fits : (signatures : List Signature) (functions : List Function) (scope : Scope) (code : Code Slot) (t : SplType) (env : Env) (turns : ℕ)
     → scope.functions ≡ signatures → FunctionsFit signatures functions → CodeFits scope code t → EnvFits scope env → Yields (OfType t) (value functions code (world_of env) turns)
 value_fits signatures functions scope code t env turns same there fit env_fit =

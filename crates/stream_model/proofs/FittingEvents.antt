@@ -32,7 +32,7 @@ each_fits op x (suc n) q = both_fit op (on_each n x) (output n x ∷ []) (each_f
 pub event_port : (op : Operator) (e : Event) → IsFitting op → EventFits op e → HasPort op (port_at (ports op) e.input) e.item
 event_port op e fit has = (subst (λ n. port_at (ports op) e.input < n) fit.ins (input_port op e.input (lt-ltb e.input (length (ports op)) has.0)).1, has.1)
 
--- an event that doesn't wait and doesn't end an operator came to no fault
+-- an event that doesn't wait and doesn't end an operator gave no fault
 not_faulted : (op : Operator) (h : List Event) (e : Event) → is_waiting op h e ≡ false → is_none (ended op h e) ≡ true → is_given (body op h e) ≡ true
 not_faulted op h e moves stays = go (is_fault e.item) (body op h e) refl
     (ap (λ w. is_none (if is_fault e.item then Some e.item else if w then None else ended_by op (is_last op h e) (body op h e))) (sym moves) ∙ stays)
@@ -42,7 +42,7 @@ not_faulted op h e moves stays = go (is_fault e.item) (body op h e) refl
     go false (Gives outs) q none = refl
     go false (Faults kind) q none = absurd (let no : false ≡ true = none in cc)
 
--- the history by ports fits, and came to no fault
+-- the history by ports fits, and gave no fault
 by_ports_fit : (op : Operator) (h : List Event) → IsFitting op → EventsFit op h → is_live op h ≡ true → HistoryFits op (port_events op h) × NoneFaulted op (port_events op h)
 by_ports_fit op [] fit events live = (tt, tt)
 by_ports_fit op (e ∷ h) fit events live =

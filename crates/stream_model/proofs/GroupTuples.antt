@@ -86,7 +86,7 @@ module _ (signatures : List Signature) (functions : List Function) (scope : Scop
       yields_followed (OfType t) (HasArgument t (Some code)) (value functions code (world_of env) turns) _
       (value_fits signatures functions scope code t env turns same there f env_fit) (λ v turns is. (v, refl, is))
 
-  -- the arguments come to values, or to a fault
+  -- the arguments give values, or a fault
   pub arguments_there : (output : List Collected)
       → ((k : ℕ) (x : Collected) → slice_get output k ≡ Some x → (a : Named SplType) × (slice_get schema x.attribute ≡ Some a) × CollectorFits scope x.collector x.argument a.kind)
       → (turns : ℕ) → Yields (ArgumentsThere schema output) (arguments functions output env turns)

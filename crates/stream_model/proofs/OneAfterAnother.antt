@@ -119,7 +119,7 @@ ends_now op i seen I.Final at c over =
 over_before : (op : Operator) (seen events : List Event) → (after (stage_at op seen true) events).over ≡ true
 over_before op seen events = ap (λ (s : Stage). s.over) (after-over (stage_at op seen true) events refl)
 
--- where the events behind the inputs before i, and behind one more of them, end it
+-- where the inputs before i are closed, an item that closes input i and then these events end it
 module _ (op : Operator) (i : ℕ) (more : List Event)
     (last : (x : Item) (seen : List Event) → closes x ≡ true → Over i seen → (after (stage_at op seen false) (came i x ∷ more)).over ≡ true) where
   closes_input : (xs : List Item) (seen : List Event) → is_closed xs ≡ true → Over i seen

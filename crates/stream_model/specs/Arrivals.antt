@@ -10,7 +10,7 @@ abbrev pub entries_in : List ArrivalList → ℕ → List ℕ
 entries_in [] n = []
 entries_in (l ∷ lists) n = if l.op == n then l.inputs else entries_in lists n
 
--- there is another behind the first
+-- there is another after the first
 abbrev pub has_several : List ℕ → Bool
 has_several [] = false
 has_several (s ∷ []) = false

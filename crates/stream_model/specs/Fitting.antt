@@ -40,7 +40,7 @@ abbrev pub HistoryFits : Operator → List Event → Type 0
 HistoryFits op [] = ⊤
 HistoryFits op (e ∷ h) = HasPort op e.input e.item × HistoryFits op h
 
--- no event of a history came to a fault
+-- no event of a history gave a fault
 abbrev pub is_given : Answer → Bool
 is_given (Gives outs) = true
 is_given (Faults kind) = false
@@ -55,7 +55,7 @@ MakesFit op (Done outs turns) = AllFit op outs
 MakesFit op (Faulted kind) = ⊤
 MakesFit op Stuck = ⊥
 
--- the clauses of an operator of some kinds, after what fits and came to no fault, make what fits of what fits
+-- the clauses of an operator of some kinds, after what fits and gave no fault, make what fits of what fits
 abbrev pub FitsAt : (Part → Bool) → Type 0
 FitsAt is_kind = (op : Operator) (h : List Event) (port : ℕ) (x : Item) → is_kind op.clauses ≡ true → IsFitting op → HistoryFits op h → NoneFaulted op h → HasPort op port x
     → MakesFit op (makes_by op.clauses op h port x)

@@ -1,4 +1,4 @@
--- What the definition of groups comes to.
+-- Laws of groups.
 use Rattle.std.specs.Prelude.{ℕ, ◌<◌, map, length, IsTrue, List, ◌∷◌, ◌++◌, ◌≡◌, Some, None, if◌then◌else◌}
 use Rattle.std.specs.List.{AllByRecursion}
 use Rattle.std.specs.FinMap.{find, is_sorted}
@@ -17,7 +17,7 @@ abbrev pub GroupLaw : Type 0
 GroupLaw = (places : List ℕ) (ts : List (List Value)) (k : List Value) →
     find key_cmp k (groups places ts) ≡ (if is_empty (of_group places ts k) then None else Some (of_group places ts k))
 
--- a tuple stands in the group of its own key, behind those before it and before those behind it, and in no other one
+-- a tuple stands in the group of its own key, after those before it and before those after it, and in no other one
 abbrev pub MemberLaw : Type 0
 MemberLaw = (places : List ℕ) (before after : List (List Value)) (t k : List Value) →
     of_group places (before ++ t ∷ after) k
@@ -28,6 +28,6 @@ abbrev pub MappedGroupsLaw : Type 0
 MappedGroupsLaw = (places : List ℕ) (f : List Value → List Value) (ts : List (List Value)) → AllByRecursion (λ t. key_of (f t) places ≡ key_of t places) ts →
     groups places (map f ts) ≡ map (λ e. (e.0, map f e.1)) (groups places ts)
 
--- values behind those of a tuple leave its key as it is, where the tuple has all places of it
+-- values after those of a tuple leave its key as it is, where the tuple has all places of it
 abbrev pub KeyBehindLaw : Type 0
 KeyBehindLaw = (places : List ℕ) (t more : List Value) → AllByRecursion (λ p. p < length t) places → key_of (t ++ more) places ≡ key_of t places

@@ -7,7 +7,7 @@ use Rattle.std.specs.FinMap.{put}
 use Rattle.spl_value.specs.declared.value.Value.{Value}
 use Rattle.spl_value.specs.Order.{value_cmp}
 
--- the first values that differ decide, and a key stands before those that go on behind it
+-- the first values that differ decide, and a key comes before longer ones that begin with it
 abbrev pub key_cmp : List Value → List Value → Ordering
 key_cmp = slice_cmp value_cmp
 

@@ -29,7 +29,7 @@ Entries = ℕ → List ℕ
 abbrev pub with_list : Lists → ℕ → List Item → Lists
 with_list lists i items j = if j == i then items else lists j
 
--- an event of the first item of an input's list, and what comes behind it
+-- an event of the first item of an input's list, and what comes after it
 abbrev pub taking : ℕ → List Item → (List Item → List Event) → List Event
 taking i [] behind = []
 taking i (x ∷ items) behind = came i x ∷ behind items

@@ -24,7 +24,7 @@ use Rattle.stream_model.specs.Ends.{stream_fault, operator_fault}
 abbrev pub fault_by : ℕ → FaultKind → Fault
 fault_by n kind = record { op = n; kind = kind; line = 0 }
 
--- what a tuple and those behind it become, by what the condition of the operator with this number comes to for it
+-- what a tuple and those after it become, by the result of the condition of the operator with this number for it
 abbrev pub pass : ℕ → Outcome Bool → List Value → List Item → List Item
 pass n (Done b turns) vs behind = if b then I.Tuple vs ∷ behind else behind
 pass n (Faulted kind) vs behind = I.Bad (fault_by n kind) ∷ []

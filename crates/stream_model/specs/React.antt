@@ -64,7 +64,7 @@ abbrev pub answered : Operator → Bool → Answer → List Output
 answered op last (Faults kind) = on_each (length op.outs) (own_fault op kind)
 answered op last (Gives outs) = if last then outs ++ on_each (length op.outs) I.Final else outs
 
--- What an event causes behind the events before it, while the operator hasn't ended. A fault that arrives goes to
+-- What an event causes after the events before it, while the operator hasn't ended. A fault that arrives goes to
 -- every output port. A final marker whose port waits for another gives nothing. Else the body decides.
 abbrev pub react : Operator → List Event → Event → List Output
 react op earlier event =

@@ -1,4 +1,4 @@
--- What the definitions of arrival and of whole records come to.
+-- Laws of arrival and of whole records.
 use Rattle.std.specs.Prelude.{ℕ, ◌<◌, ◌==◌, true, false, List, [], ◌∷◌, ◌++◌, ◌≡◌, length, Some}
 use Rattle.spl_value.specs.declared.item.Item.{Item}
 use Rattle.spl_value.specs.declared.item.Item.TheVariants as I

@@ -37,7 +37,7 @@ pub record MayTake (op : Operator) (h : List Event) (e : Event) : Type 0 where
   pub is_open : any_closes (came_on (λ i. i == e.input) h) ≡ false
   pub has : ItemHas (input_attributes op (port_at (ports op) e.input)) e.item
 
--- the fault that is told of an end
+-- the item with which an operator ends: its fault, or else the final marker
 abbrev pub end_by : Option Fault → Item
 end_by None = I.Final
 end_by (Some f) = I.Bad f
@@ -54,7 +54,7 @@ IsTaken (R.Out outs) = ⊤
 IsTaken (R.Ended outs fault) = ⊤
 IsTaken R.Memory = ⊥
 
--- The reply depends on the history up to its event alone: for a history and an event there is one, but for want of memory.
+-- The reply depends on the history up to its event alone: for a history and an event there is one, where there is memory.
 abbrev pub ReplyLaw : Type 0
 ReplyLaw = (op : Operator) (h : List Event) (e : Event) (r s : Reply) → Replies op h e r → Replies op h e s → IsTaken r → IsTaken s → r ≡ s
 

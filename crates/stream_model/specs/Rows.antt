@@ -26,7 +26,7 @@ abbrev pub onto_first : ℕ → List (List ℕ) → List (List ℕ)
 onto_first b [] = (b ∷ []) ∷ []
 onto_first b (piece ∷ pieces) = (b ∷ piece) ∷ pieces
 
--- the pieces between line feeds; the last one has none behind it, and may be empty
+-- the pieces between line feeds; the last one has none after it, and may be empty
 abbrev pub pieces : List ℕ → List (List ℕ)
 pieces [] = [] ∷ []
 pieces (b ∷ bytes) = if b == 10 then [] ∷ pieces bytes else onto_first b (pieces bytes)
@@ -47,11 +47,11 @@ of_records schema [] = Nothing
 of_records schema (fields ∷ []) = fitting (tuple_of schema fields)
 of_records schema (fields ∷ more ∷ rest) = Bad
 
--- a line is read on its bytes alone, behind a byte order mark
+-- a line is read on its bytes alone, without a byte order mark at its front
 abbrev pub line_gives : List (Named SplType) → List ℕ → Given
 line_gives schema line = of_records schema (records default_config (strip_bom line))
 
--- A line of this length and, with its line feed, this size, where so many bytes of the limit are left. Of two faults the
+-- A line of `len` bytes, and of `size` with its line feed, where `left` bytes of the limit remain. Of two faults the
 -- one counts whose first byte too many stands first, and for the same byte it is LongRow.
 abbrev pub too_long : ℕ → ℕ → ℕ → Option FaultKind
 too_long len size left =
@@ -62,7 +62,7 @@ too_long len size left =
 abbrev pub source_fault : Setting → FaultKind → ℕ → Item
 source_fault o kind line = I.Bad (record { op = o.op; kind = kind; line = line })
 
--- a line's item, and the stream behind it
+-- a line's item, and the stream after it
 abbrev pub line_items : Setting → ℕ → Given → List Item → List Item
 line_items o line (Row values) more = I.Tuple values ∷ more
 line_items o line Nothing more = more
@@ -87,7 +87,7 @@ last_items o End line left [] = closing
 last_items o End line left (b ∷ bytes) = checked_items o line (too_long (length (b ∷ bytes)) (length (b ∷ bytes)) left) (b ∷ bytes) closing
 last_items o Failed line left bytes = cut_short o line (too_long (length bytes) (length bytes) left)
 
--- the items of the lines from this number on, with so many bytes of the limit left
+-- the items of the lines from this number on, where `left` bytes of the limit remain
 abbrev pub items_from : Setting → Ending → ℕ → ℕ → List (List ℕ) → List Item
 items_from o ending line left [] = []
 items_from o ending line left (bytes ∷ []) = last_items o ending line left bytes
@@ -106,6 +106,6 @@ item_text I.Window = []
 item_text I.Final = []
 item_text (I.Bad f) = []
 
--- the rows of a stream's tuples, one behind another
+-- the rows of a stream's tuples, one after another
 abbrev pub text_of : List Item → List ℕ
 text_of items = flat_map item_text items

@@ -1,5 +1,5 @@
 -- How many items each event of an operator causes, by the operator's clauses alone: an interval for the number of submits of a body, statement
--- by statement, and the class of an operator. A `return` makes the least number of its body 0, and what stands behind it still counts for the
+-- by statement, and the class of an operator. A `return` makes the least number of its body 0, and what comes after it still counts for the
 -- greatest.
 use Rattle.std.specs.Prelude.{ℕ, zero, suc, ◌+◌, ◌==◌, nat_le, ◌&&◌, ◌||◌, Bool, true, false, if◌then◌else◌, List, [], ◌∷◌, map, Option, None, Some, option_map, min, max}
 use Rattle.spl_tree.specs.declared.body.Statement.{Statement}

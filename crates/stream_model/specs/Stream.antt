@@ -50,7 +50,7 @@ TuplesFit schema (I.Window ∷ items) = TuplesFit schema items
 TuplesFit schema (I.Final ∷ items) = TuplesFit schema items
 TuplesFit schema (I.Bad f ∷ items) = TuplesFit schema items
 
--- the second list is the first with some more behind it
+-- the second list is the first with some more after it
 abbrev pub IsPrefix : {A : Type 0} → List A → List A → Type 0
 IsPrefix {A = A} front whole = (rest : List A) × (front ++ rest ≡ whole)
 

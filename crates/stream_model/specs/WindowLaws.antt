@@ -1,4 +1,4 @@
--- What the definition of windows comes to, rule by rule, tuple by tuple, and for other keys, markers, items and mapped tuples.
+-- Laws of windows, rule by rule, tuple by tuple, and for other keys, markers, items and mapped tuples.
 use Rattle.std.specs.Prelude.{ℕ, ℤ, ◌+◌, ◌-◌, ◌%◌, ◌<◌, ◌==◌, min, Bool, true, false, not, IsTrue, ⊤, List, [], ◌∷◌, ◌++◌, ◌≡◌, map, length, drop, filter, Option, Some, None, if◌then◌else◌}
 use Rattle.std.specs.List.{list_any, AllByRecursion}
 use Rattle.std.specs.FinMap.{find, is_sorted}
@@ -31,7 +31,7 @@ SlidingCountLaw = (n : ℕ) (every : Option ℕ) (k : List Value) (h : List Wind
     IsSuffix (content (W.SlidingCount n every) k h) (in_order (tuples_with k h))
     × (length (content (W.SlidingCount n every) k h) ≡ min n (length (tuples_with k h)))
 
--- the last start among tuples, the newest first, and what came behind it, none of which is far from it
+-- the last start among tuples, the newest first, and what came after it, none of which is far from it
 pub record FromStart {A : Type 0} (far : A → A → Bool) (ts held : List A) : Type 0 where
   pub start : A
   pub before : List A
@@ -42,7 +42,7 @@ pub record FromStart {A : Type 0} (far : A → A → Bool) (ts held : List A) : 
   pub close : AllByRecursion (λ t. far t start ≡ false) later
   pub holds : held ≡ start ∷ in_order later
 
--- a tumbling delta holds the last start and the tuples behind it, which don't exceed it by more than the limit
+-- a tumbling delta holds the last start and the tuples after it, which don't exceed it by more than the limit
 abbrev pub TumblingDeltaLaw : Type 0
 TumblingDeltaLaw = (a : ℕ) (limit : ℤ) (k : List Value) (h : List WindowEvent) → has_come k h ≡ true
     → FromStart (exceeds a limit) (tuples_with k h) (content (W.TumblingDelta a limit) k h)
@@ -146,7 +146,7 @@ SameKeyLaw = (k q : List Value) → (same_key k q ≡ true → k ≡ q) × (k �
 
 -- ---- markers
 
--- where markers flush, contents are empty behind one, and the next one at once flushes nothing
+-- where markers flush, contents are empty after one, and the next one at once flushes nothing
 abbrev pub EmptiedLaw : Type 0
 EmptiedLaw = (k : List Value) (h : List WindowEvent) → (content W.TumblingPunct k (Mark ∷ h) ≡ []) × (flushed_behind W.TumblingPunct (Mark ∷ h) ≡ [])
 
@@ -155,7 +155,7 @@ abbrev pub PassingLaw : Type 0
 PassingLaw = (rule : WindowRule) (k : List Value) (h : List WindowEvent) → flushes_at_markers rule ≡ false →
     (content rule k (Mark ∷ h) ≡ content rule k h) × (flushed_behind rule h ≡ [])
 
--- what a marker flushes behind a history has its keys ascending, each once: those whose content isn't empty, with that content
+-- what a marker flushes after a history has its keys ascending, each once: those whose content isn't empty, with that content
 abbrev pub FlushedBehindLaw : Type 0
 FlushedBehindLaw = (h : List WindowEvent) → IsTrue (is_sorted key_cmp (flushed_behind W.TumblingPunct h))
     × ((k : List Value) → find key_cmp k (flushed_behind W.TumblingPunct h)
@@ -206,12 +206,12 @@ MappedLaw = (rule : WindowRule) (f : List Value → List Value) (k : List Value)
     (content rule k (mapped f h) ≡ map f (content rule k h))
     × (flushed_behind rule (mapped f h) ≡ map (λ e. (e.0, map f e.1)) (flushed_behind rule h))
 
--- and so is what a mapped tuple or a marker fires behind them
+-- and so is what a mapped tuple or a marker fires after them
 abbrev pub MappedFiringLaw : Type 0
 MappedFiringLaw = (rule : WindowRule) (f : List Value → List Value) (h : List WindowEvent) →
     ((k t : List Value) → AllKeep rule f (Insert k t ∷ h) → tuple_fires rule k (f t) (mapped f h) ≡ map_firing f (tuple_fires rule k t h))
     × ((e : WindowEvent) → AllKeep rule f (e ∷ h) → fired_contents rule (mapped_event f e) (mapped f h) ≡ map (map f) (fired_contents rule e h))
 
--- values behind those of a tuple leave an attribute as it is, where the tuple has the place
+-- values after those of a tuple leave an attribute as it is, where the tuple has the place
 abbrev pub BehindLaw : Type 0
 BehindLaw = (a : ℕ) (t more : List Value) → a < length t → integer_at a (t ++ more) ≡ integer_at a t

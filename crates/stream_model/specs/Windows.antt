@@ -1,10 +1,10 @@
 -- What a window of an input port holds for each key, when it fires and with what, by the whole history of what came into it: the
 -- items of its own port, also where an operator has a window for each of two ports. A history has its newest event first, and a
--- content its oldest tuple first. A window holds the tuples as they came: that of an Aggregate has no values of arguments behind
+-- content its oldest tuple first. A window holds the tuples as they came: that of an Aggregate has no values of arguments after
 -- them.
 --
--- The end of a port leaves its window as it is: the other side of a Join still finds the tuples in it. A window goes with its
--- operator alone.
+-- The end of a port leaves its window as it is: the other side of a Join still finds the tuples in it. A window is dropped
+-- only with its operator.
 --
 -- A tuple that doesn't fit its window still has a meaning: a place of the key that it doesn't have is left out of its key, and an
 -- attribute that it doesn't have, or that is no integer, counts as 0. The checks of clauses see to it that the n of a tumbling
@@ -71,7 +71,7 @@ keys_of (Insert k t ∷ h) = k ∷ keys_of h
 abbrev pub has_come : List Value → List WindowEvent → Bool
 has_come k h = list_any (same_key k) (keys_of h)
 
--- what came behind the last marker
+-- what came after the last marker
 abbrev pub since_mark : List WindowEvent → List WindowEvent
 since_mark [] = []
 since_mark (Mark ∷ h) = []
@@ -136,7 +136,7 @@ held W.TumblingPunct ts = in_order ts
 held (W.SlidingCount n every) ts = last_of n ts
 held (W.SlidingDelta a limit every) ts = near (exceeds a limit) (in_order ts)
 
--- where window markers flush, what came behind the last one counts, and else everything
+-- where window markers flush, what came after the last one counts, and else everything
 abbrev pub relevant : WindowRule → List WindowEvent → List WindowEvent
 relevant W.TumblingPunct h = since_mark h
 relevant (W.TumblingCount n) h = h
@@ -158,12 +158,12 @@ pub data Firing : Type 0 where
 abbrev pub flush_if : Bool → List (List Value) → Firing
 flush_if b ts = if b then Flushes ts else Silent
 
--- a trigger fires after every so many tuples of a key; a window without one never fires
+-- a trigger fires after each `every` tuples of a key; a window without one never fires
 abbrev pub trigger_if : Option ℕ → ℕ → List (List Value) → Firing
 trigger_if None n ts = Silent
 trigger_if (Some every) n ts = if (n % every) == 0 then Triggers ts else Silent
 
--- what a tuple of a key fires behind the earlier ones, the newest first: one that makes their number a multiple of n flushes the
+-- what a tuple of a key fires after the earlier ones, the newest first: one that makes their number a multiple of n flushes the
 -- last n, a start that isn't the first tuple flushes what was held before it, and a trigger fires with what is held then
 abbrev pub fires_behind : WindowRule → List Value → List (List Value) → Firing
 fires_behind (W.TumblingCount n) t ts = flush_if ((suc (length ts) % n) == 0) (last_of n (t ∷ ts))
@@ -173,11 +173,11 @@ fires_behind W.TumblingPunct t ts = Silent
 fires_behind (W.SlidingCount n every) t ts = trigger_if every (suc (length ts)) (held (W.SlidingCount n every) (t ∷ ts))
 fires_behind (W.SlidingDelta a limit every) t ts = trigger_if every (suc (length ts)) (held (W.SlidingDelta a limit every) (t ∷ ts))
 
--- what a tuple fires that is inserted under a key behind a history
+-- what a tuple fires that is inserted under a key after a history
 abbrev pub tuple_fires : WindowRule → List Value → List Value → List WindowEvent → Firing
 tuple_fires rule k t h = fires_behind rule t (tuples_with k h)
 
--- what a window marker flushes behind a history, where markers flush: the content of each key of a tuple that came behind the
+-- what a window marker flushes after a history, where markers flush: the content of each key of a tuple that came after the
 -- last marker before it, by ascending key
 abbrev pub flushed_behind : WindowRule → List WindowEvent → List (List Value × List (List Value))
 flushed_behind W.TumblingPunct h = each_key (λ k. content W.TumblingPunct k h) (keys_of (since_mark h))
@@ -192,12 +192,12 @@ contents_of Silent = []
 contents_of (Flushes ts) = ts ∷ []
 contents_of (Triggers ts) = ts ∷ []
 
--- the contents with which an event fires behind a history, those that a marker flushes by ascending key
+-- the contents with which an event fires after a history, those that a marker flushes by ascending key
 abbrev pub fired_contents : WindowRule → WindowEvent → List WindowEvent → List (List (List Value))
 fired_contents rule Mark h = map (λ e. e.1) (flushed_behind rule h)
 fired_contents rule (Insert k t) h = contents_of (tuple_fires rule k t h)
 
--- the contents with which an item of the port fires behind the earlier ones, the newest first. A final marker and a fault fire none
+-- the contents with which an item of the port fires after the earlier ones, the newest first. A final marker and a fault fire none
 abbrev pub fired_at : WindowRule → (List Value → List Value) → Item → List Item → List (List (List Value))
 fired_at rule key (I.Tuple t) earlier = fired_contents rule (Insert (key t) t) (window_events key earlier)
 fired_at rule key I.Window earlier = fired_contents rule Mark (window_events key earlier)

@@ -6,7 +6,7 @@ ghost use Rattle.stream_model.specs.examples.WindowExamples.{number, a_with, b_w
 
 /// The groups of tuples have ascending keys, each once, and no group is empty. Each tuple stands in the
 /// group of its own key, in the order of the tuples, and in no other one. Where mapped tuples keep their
-/// keys, their groups are mapped. They keep them where values are put behind those of a tuple that has all
+/// keys, their groups are mapped. They keep them where values are added after those of a tuple that has all
 /// places of its key.
 pub fn groups_law()
     ensures ascending { AscendingLaw }

@@ -20,7 +20,7 @@ ghost use Rattle.stream_model.specs.CheckedMeaning.{graph_of};
 ghost use Rattle.stream_model.specs.Operators.{Operator};
 ghost use Rattle.stream_model.specs.examples.CheckedGraphs.{after_source, texts, ids};
 
-/// No event gives nothing. One event more gives its reaction behind the history of all before it,
+/// With no event nothing is given. One event more gives its reaction after the history of all before it,
 /// and may end the operator, whose last item on each output port then says how. A port waits for
 /// the final marker of each of its inputs.
 pub fn history_law()

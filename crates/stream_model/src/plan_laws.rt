@@ -38,7 +38,7 @@ pub fn clauses_on_literals()
 {}
 
 /// The plans of some graphs: two Aggregates whose keys share an attribute stand in one region, and others
-/// in two; so do a Functor that makes a key anew and an Aggregate by that key.
+/// in two; so do a Functor that changes a key and an Aggregate by that key.
 pub fn plans_on_literals()
     ensures shared { IsPlan (by_second (0 ∷ 1 ∷ [])) one_region }
     ensures not_shared { IsPlan (by_second (0 ∷ [])) two_regions }

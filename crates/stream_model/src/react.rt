@@ -12,16 +12,16 @@ pub trait React: Drop {
     /// The operator, with its attributes.
     ghost spec: { Self → Operator };
 
-    /// The histories that the state stands for. A history has its newest event first.
+    /// The histories that the state represents. A history has its newest event first.
     ghost stands: { Self → List Event → Type 0 };
 
     /// Takes an item on an input, and answers what the event causes. The operator hasn't ended, the input
     /// is one of its inputs, on which neither a final marker nor a fault has come, and a tuple has the
     /// attributes of the input.
     ///
-    /// For every history that the state stands for and after which this event may come, the answer is that
-    /// of the event after it, and the state then stands for the longer history. After `Memory` the operator
-    /// is spent.
+    /// For every history that the state represents and after which this event may come, the answer is that
+    /// of the event after it, and the state then represents the longer history. After `Memory` the operator
+    /// can't be used any more.
     fn on_item(&mut self, input: u32, item: Item) -> Reply
         requires { (h : List Event) × stands self.old h × MayTake (spec self.old) h (came input item) }
         ensures same { spec self.new ≡ spec self.old }

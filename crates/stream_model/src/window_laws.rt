@@ -9,7 +9,7 @@ ghost use Rattle.stream_model.specs.WindowLaws.{TumblingCountLaw, SlidingCountLa
 ghost use Rattle.stream_model.specs.examples.WindowExamples.{number, a_with, b_with, key_a, key_b, by_text, of_all, two_ports};
 
 /// A window of n tuples holds the last `t mod n` of t tuples, a sliding one the last n or all. A tumbling
-/// delta, once a tuple has come, holds the last start and what came behind it. A sliding one holds each
+/// delta, once a tuple has come, holds the last start and what came after it. A sliding one holds each
 /// tuple that no later one exceeds by more than the limit.
 pub fn window_contents_law()
     ensures tumbling_count { TumblingCountLaw }
@@ -48,7 +48,7 @@ pub fn window_markers_law()
 {}
 
 /// What a window of mapped tuples holds, fires and flushes is what it does of the tuples, mapped, where
-/// the attribute of its rule stays. It stays where values are put behind those of a tuple that has it.
+/// the attribute of its rule stays. It stays where values are added after those of a tuple that has it.
 pub fn mapped_windows_law()
     ensures mapped { MappedLaw }
     ensures firing { MappedFiringLaw }

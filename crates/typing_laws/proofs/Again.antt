@@ -43,7 +43,7 @@ ok x = Ok x
 abbrev Again : Part → Type 0
 Again p = (at : ℕ) (scope : Scope) (t : Typed) → p.found at scope None ≡ Ok t → p.found at scope (Some t.kind) ≡ Ok t
 
--- where a type is held against the wanted one at the end
+-- where a type is compared with the wanted one at the end
 held : (at : ℕ) (r : Found Typed) (t : Typed) → after r (as_wanted at None) ≡ Ok t → after r (as_wanted at (Some t.kind)) ≡ Ok t
 held at r t e =
     let x = came r (as_wanted at None) t e in

@@ -47,7 +47,7 @@ module _ (scope : Scope) (Q : ℕ → Type 0) where
   abbrev Stands : CheckRefusal → Type 0
   Stands r = Q r.at ⊎ IsHandedOn scope r
 
-  -- a refusal stands at one of these places, or is handed on
+  -- a refusal stands at one of these places, or is that of a `$` parameter or a function
   abbrev Fine : {A : Type 0} → Found A → Type 0
   Fine (Ok x) = Unit {0}
   Fine (Err r) = Stands r

@@ -51,11 +51,11 @@ IsAmong (m ∷ ms) n = (m ≡ n) ⊎ IsAmong ms n
 
 -- ---- refusals
 
--- that of what stands for a `$` parameter, or that of the types of a function
+-- that of a `$` parameter, or that of the types of a function
 pub data IsHandedOn (scope : Scope) (r : CheckRefusal) : Type 0 where
   of_dollar : (name : List ℕ) → dollar_of scope.dollars name ≡ Some (Err r) → IsHandedOn scope r
   of_function : (name : List ℕ) → unresolved_of scope name ≡ Some r → IsHandedOn scope r
 
--- the place of a refusal is one of the expression, unless it is handed on
+-- the place of a refusal is one of the expression, unless it is that of a `$` parameter or of the types of a function
 abbrev pub PlaceLaw : Type 0
 PlaceLaw = (scope : Scope) (e : Expr) (wanted : Wanted) (r : CheckRefusal) → typing scope e wanted ≡ Err r → IsAmong (places e) r.at ⊎ IsHandedOn scope r

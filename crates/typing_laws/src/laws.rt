@@ -8,7 +8,7 @@ pub fn unwanted_law()
 {}
 
 /// The place of a refusal is one of the expression: where it begins, or a part of it, a prefix or a member that is taken. Or
-/// the refusal is that of what stands for a `$` parameter, or of the types of a function.
+/// the refusal is that of a `$` parameter, or of the types of a function.
 pub fn place_law()
     ensures places { PlaceLaw }
 {}
