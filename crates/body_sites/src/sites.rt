@@ -25,7 +25,7 @@ pub struct Sites<'a> {
     pub unit: &'a Unit,
     pub expansions: &'a [Expansion],
     /// The same unit and expansions, in which sites are looked up.
-    table: SiteTable<'a>,
+    pub table: SiteTable<'a>,
     /// The composites of the unit, by their places.
     bodies: Vec<BodyNames<'a>>,
     pub(crate) unit_types: TypeTable<'a>,

@@ -14,7 +14,6 @@ use body_sites::Sites;
 use check_laws::keeps_law;
 use dollar_rules::dollar_tables;
 use language_model::{Checked, Part, TypeAnswer, flat_law};
-use literal_sites::CompositeTable;
 use spl_tree::{Graph, Unit};
 use spl_value::{Items, Schema};
 use std::alloc::Global;
@@ -71,7 +70,6 @@ fn parts_of<'a>(
     requires invoked { AreInvoked sites.now.unit.now graph.now }
     ensures { Finds (operators_checked sites.now.unit.now graph.now (dollar_tables sites.now.unit.now graph.now.expansions) graph.now.ops) result }
 {
-    let composites = CompositeTable::new(alloc, sites.unit)?;
     let mut scope = scope_of_unit(alloc, sites.unit)?;
     let tables = dollar_tables(alloc, sites.unit, graph.expansions.as_slice())?;
     let mut tables = tables.into_vec();
@@ -79,7 +77,6 @@ fn parts_of<'a>(
         graph,
         sites,
         streams,
-        composites: &composites,
     };
     operators_checked(alloc, &program, &mut scope, tables.as_mut_slice())
 }

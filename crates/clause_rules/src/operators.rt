@@ -15,7 +15,7 @@ use crate::parts::{Around, Checks, output_rows, part_of};
 use crate::ports::{config_checked, outputs_of, ports_checked, ports_of};
 use body_sites::{Body, Sites};
 use language_model::{CheckError, Dollar, Given, Part, Policy, Scope, TypeAnswer, refused};
-use literal_sites::{CompositeTable, ExpressionSite, Follow};
+use literal_sites::{ExpressionSite, Follow};
 use parameter_rules::parameters_of;
 use spl_tree::{Clauses, Graph, Invocation, Op, Parameter};
 use spl_value::Items;
@@ -30,7 +30,6 @@ pub(crate) struct Program<'p, 'a> {
     pub(crate) graph: &'a Graph,
     pub(crate) sites: &'p Sites<'a>,
     pub(crate) streams: &'p StreamTable,
-    pub(crate) composites: &'p CompositeTable<'a>,
 }
 
 /// The parameters of an operator with these windows.
@@ -90,7 +89,6 @@ fn invocation_checked(
 ) -> Result<Part, TypeAnswer>
     requires table { IsTableOf (program_unit program.now) program.now.graph.now program.now.streams.now }
     requires expansions { program.now.sites.now.expansions.now ≡ program.now.graph.now.expansions }
-    requires composites { program.now.composites.now.unit.now ≡ program_unit program.now }
     requires body { IsBody (program_unit program.now) program.now.graph.now (body_seen body.now) }
     requires outs { length op.now.outs ≡ length invocation.now.outputs }
     requires no_variables { scope.old.vars ≡ [] }
@@ -115,8 +113,7 @@ fn invocation_checked(
         types: body.types(program.sites),
         outputs: outputs.as_slice(),
     };
-    let expansions = program.graph.expansions.as_slice();
-    let follow = Follow::new(program.composites, expansions, body.number);
+    let follow = Follow::new(&program.sites.table, body.number);
     let part = clauses_checked(alloc, &around, &follow, scope, op, &invocation.clauses)?;
     scope.ports = Items::new(alloc);
     Ok(part)
@@ -156,7 +153,6 @@ fn operator_checked(
 ) -> Result<Part, TypeAnswer>
     requires table { IsTableOf (program_unit program.now) program.now.graph.now program.now.streams.now }
     requires expansions { program.now.sites.now.expansions.now ≡ program.now.graph.now.expansions }
-    requires composites { program.now.composites.now.unit.now ≡ program_unit program.now }
     requires invoked { IsInvoked (program_unit program.now) program.now.graph.now op.now }
     requires scope { scope.old ≡ unit_scope (program_unit program.now) }
     ensures part { Finds (operator_checked (program_unit program.now) program.now.graph.now tables.old op.now) result }
@@ -186,7 +182,6 @@ pub(crate) fn operators_checked(
 ) -> Result<Items<Part>, TypeAnswer>
     requires table { IsTableOf (program_unit program.now) program.now.graph.now program.now.streams.now }
     requires expansions { program.now.sites.now.expansions.now ≡ program.now.graph.now.expansions }
-    requires composites { program.now.composites.now.unit.now ≡ program_unit program.now }
     requires invoked { AreInvoked (program_unit program.now) program.now.graph.now }
     requires scope { scope.old ≡ unit_scope (program_unit program.now) }
     ensures { Finds (operators_checked (program_unit program.now) program.now.graph.now tables.old program.now.graph.now.ops) result }

@@ -9,7 +9,7 @@ use Rattle.literal_sites.specs.declared.follow.Follow.{Follow}
 
 -- what is behind `$` parameters in the body of an expansion
 abbrev pub followed_in : Follow → Expr → Option Expr
-followed_in f = followed f.composites.now.unit.now f.expansions.now f.number
+followed_in f = followed f.sites.now.unit.now f.sites.now.expansions.now f.number
 
 abbrev pub behind_at : ExpressionSite → Expr → Option Expr
 behind_at site = followed_in site.follow

@@ -1,12 +1,10 @@
 //! Where the expressions of an operator stand, and the literals behind their `$` parameters.
 #![tactic(auto)]
 
-mod composites;
 mod follow;
 mod refusals;
 mod site;
 
-pub use composites::CompositeTable;
 pub use follow::Follow;
 pub use refusals::extra;
 pub use site::ExpressionSite;

@@ -8,6 +8,6 @@ pub expansions-preserved : goal.expansions-preserved
 expansions-preserved c =
     let f = c.args.self.now in
     c.expansions.invariant
-    ∙ follow_step f.composites.now.unit.now f.expansions.now c.expansions.left c.expansions.number c.expansions.expr.now c.in_ok-expansion.expansion.now
+    ∙ follow_step f.sites.now.unit.now f.sites.now.expansions.now c.expansions.left c.expansions.number c.expansions.expr.now c.in_ok-expansion.expansion.now
     (Outside c.in-Outside.argument.now) c.expansions-test.true c.in_ok-expansion.ensures c.in-Outside.ensures
-    ∙ ap (λ site. outside f.composites.now.unit.now f.expansions.now (c.expansions.left - 1) site c.in-Outside.argument.now) c.in_ok-site.was
+    ∙ ap (λ site. outside f.sites.now.unit.now f.sites.now.expansions.now (c.expansions.left - 1) site c.in-Outside.argument.now) c.in_ok-site.was

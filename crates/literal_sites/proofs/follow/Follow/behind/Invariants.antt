@@ -4,8 +4,8 @@ use Rattle.literal_sites.proofs.follow.Follow.behind.Given as goal
 
 abbrev pub invariant-expansions : goal.invariant-expansions
 invariant-expansions l =
-    followed_within (length l.self.expansions.now) l.self.composites.now.unit.now l.self.expansions.now l.initial.number l.initial.expr
-    ≡ followed_within l.left l.self.composites.now.unit.now l.self.expansions.now l.number l.expr
+    followed_within (length l.self.sites.now.expansions.now) l.self.sites.now.unit.now l.self.sites.now.expansions.now l.initial.number l.initial.expr
+    ≡ followed_within l.left l.self.sites.now.unit.now l.self.sites.now.expansions.now l.number l.expr
 
 abbrev pub decreases-expansions : goal.decreases-expansions
 decreases-expansions l = l.left
