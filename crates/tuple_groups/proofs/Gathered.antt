@@ -13,7 +13,8 @@ use Rattle.stream_model.proofs.Groups.{group_law, member_law}
 use Rattle.stream_model.proofs.Keys.{find-each_key, is_each_key, same_key-equal}
 use Rattle.window_policy.proofs.KeyOrder.{key_turned}
 use Rattle.tuple_groups.specs.Seen.{entry_of, seen}
-use Rattle.tuple_groups.specs.steps.Gathering.{At, equal_key}
+use Rattle.window_policy.specs.MapKeys.{equal_key}
+use Rattle.tuple_groups.specs.steps.Gathering.{At}
 use Rattle.tuple_groups.proofs.Entries.{find-mapped, sorted-mapped}
 
 abbrev Members : Type 0

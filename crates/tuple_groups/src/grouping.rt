@@ -5,11 +5,11 @@ ghost use Rattle.stream_model.specs.Groups.{groups as groups_of};
 ghost use Rattle.tuple_groups.specs.Seen.{entry_of, seen};
 ghost use Rattle.tuple_groups.specs.steps.Gathering.{Gathers};
 
-use crate::ascending::ascending;
 use crate::keys::key_of;
 use indexmap::IndexMap;
 use spl_value::{Items, NoMemory, Places, Values};
 use std::alloc::Global;
+use window_policy::ascending;
 
 /// A group of one tuple.
 fn first<'a>(alloc: Global, tuple: &'a Values) -> Result<Vec<&'a Values>, NoMemory>

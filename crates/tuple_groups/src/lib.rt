@@ -1,7 +1,6 @@
 //! Groups of tuples, and what collectors make of them.
 #![tactic(auto)]
 
-mod ascending;
 mod collectors;
 mod extremes;
 mod grouping;

@@ -9,7 +9,8 @@ use Rattle.stream_model.specs.Keys.{same_key}
 use Rattle.stream_model.specs.Windows.{WindowEvent, Insert, Mark, tuples_with, relevant, since_mark, has_come, held, content, tuple_fires, fires_behind}
 use Rattle.stream_model.proofs.Keys.{same_key-equal, same_key-itself}
 use Rattle.stream_model.proofs.Contents.{come_is}
-use Rattle.window_policy.specs.steps.Parts.{At, Keeps, equal_key, noted_or}
+use Rattle.window_policy.specs.MapKeys.{equal_key}
+use Rattle.window_policy.specs.steps.Parts.{At, Keeps, noted_or}
 use Rattle.window_policy.specs.declared.part.Part.{Part}
 use Rattle.window_policy.proofs.KeyOrder.{key_tie, key_turned}
 

@@ -1,3 +1,4 @@
 pub mod Answers
 pub mod Standing
 pub mod steps
+pub mod MapKeys

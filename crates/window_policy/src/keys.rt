@@ -1,15 +1,18 @@
+//! Entries of maps in the order of their keys.
 ghost use Rattle.std.specs.Prelude.{◌≡◌, IfOk, List, T};
 ghost use Rattle.std.specs.FinMap.{find, is_sorted};
 ghost use Rattle.indexmap.specs.IndexMap.{get};
 ghost use Rattle.spl_value.specs.declared.value.Value.{Value as V};
 ghost use Rattle.stream_model.specs.Keys.{key_cmp};
-ghost use Rattle.window_policy.specs.steps.Parts.{equal_key};
+ghost use Rattle.window_policy.specs.MapKeys.{equal_key};
 
 use indexmap::IndexMap;
 use spl_value::{NoMemory, Values};
 use std::alloc::Global;
 
 /// The entries of a map, by ascending key.
+///
+/// `NoMemory` comes where there is none for the entries or for sorting them.
 pub fn ascending<X: Drop>(
     alloc: Global,
     map: IndexMap<Values, X>,

@@ -14,4 +14,5 @@ mod window;
 
 pub use content::Content;
 pub use fired::{Fired, Flushed, FlushedContent};
+pub use keys::ascending;
 pub use window::Window;

@@ -1,17 +1,12 @@
 -- Groups that are gathered in a map.
-use Rattle.std.specs.Prelude.{◌≡◌, ◌<◌, ℕ, Bool, List, [], length, Option, None, Some}
+use Rattle.std.specs.Prelude.{◌≡◌, ◌<◌, ℕ, List, [], length, Option, None, Some}
 use Rattle.std.specs.Borrow.{Bor}
 use Rattle.std.specs.Global.{Vec}
-use Rattle.std.specs.Cmp.Lexicographic.{pointwise}
 use Rattle.std.specs.HashMap.{HashMap, get}
 use Rattle.spl_value.specs.declared.value.Value.{Value}
-use Rattle.spl_value.specs.contracts.value.ValuePartialEq.TheImpl as DerivedEq
 use Rattle.stream_model.specs.Groups.{of_group}
 use Rattle.tuple_groups.specs.Seen.{seen}
-
--- keys as the map compares them
-abbrev pub equal_key : List Value → List Value → Bool
-equal_key = pointwise (DerivedEq.ghosts).eq
+use Rattle.window_policy.specs.MapKeys.{equal_key}
 
 -- what is gathered of a group: nothing of one without tuples
 abbrev pub At : Option (Vec (Bor (List Value))) → List (List Value) → Type 0

@@ -1,18 +1,13 @@
 -- What is kept of each key.
 use Rattle.std.specs.Prelude.{ℕ, Bool, true, cond, ◌<◌, ◌%◌, List, [], ◌≡◌, length, Option, Some, None}
-use Rattle.std.specs.Cmp.Lexicographic.{pointwise}
 use Rattle.indexmap.specs.IndexSet.{IndexSet, contains}
 use Rattle.spl_value.specs.declared.value.Value.{Value}
-use Rattle.spl_value.specs.contracts.value.ValuePartialEq.TheImpl as DerivedEq
 use Rattle.language_model.specs.declared.checked.WindowRule.{WindowRule}
 use Rattle.language_model.specs.declared.checked.WindowRule.TheVariants as W
 use Rattle.stream_model.specs.Windows.{held}
 use Rattle.window_policy.specs.declared.part.Part.{Part}
 use Rattle.window_policy.specs.steps.Deltas.{Rises}
-
--- keys as the map compares them
-abbrev pub equal_key : List Value → List Value → Bool
-equal_key = pointwise (DerivedEq.ghosts).eq
+use Rattle.window_policy.specs.MapKeys.{equal_key}
 
 -- how many of n tuples came since a trigger fired
 abbrev pub CountsTo : Option ℕ → ℕ → ℕ → Type 0
