@@ -1,4 +1,4 @@
-//! Bodies of expansions: which composite each is of, and what names and types stand for there.
+//! Bodies of expansions: which composite each is of, and what names and types mean there.
 #![tactic(auto)]
 
 mod bodies;

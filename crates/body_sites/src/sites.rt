@@ -98,7 +98,7 @@ impl<'a> Sites<'a> {
         Some(Body::new(number, expansion, names))
     }
 
-    /// What types stand for in the body of an expansion.
+    /// What the names of types mean in the body of an expansion.
     pub fn types<'t>(&'t self, expansion: &Expansion) -> Option<TypeScope<'t, 'a>>
         ensures { MeansTypes self.now.unit.now (composite_of self.now.unit.now expansion.now) result }
     {

@@ -1,4 +1,4 @@
-//! What the built-in calls come to.
+//! The results of the built-in calls.
 ghost use Rattle.spl_value.specs.CallsLaws.{LengthLaw, SizeLaw, HasLaw, AppendLaw, RemoveLaw, ClearLaw, AbsLaw, MinLaw, MaxLaw, SubstringLaw};
 ghost use Rattle.spl_value.specs.CallsLaws.{CountLaw, DistanceLaw, LeastNumberLaw, LeastLaw, GreatestLaw, PartLaw, IndexLaw};
 

@@ -1,4 +1,4 @@
--- A row is empty where what stands for it is.
+-- A row is empty where the row that it is made of is.
 use Rattle.std.specs.Prelude.{◌≡◌, ◌↔◌, IsTrue, Bool, true, false, List, [], ◌∷◌, map}
 use Rattle.std.proofs.Common.{refl}
 use Rattle.language_model.specs.Typing.{is_nil}

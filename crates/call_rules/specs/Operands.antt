@@ -1,4 +1,4 @@
--- What operators between two operands come to, operand by operand.
+-- The results of operators between two operands, operand by operand.
 use Rattle.std.specs.Prelude.{ℕ, Option, Some, None, Ok}
 use Rattle.spl_value.specs.declared.types.SplType.{SplType}
 use Rattle.spl_value.specs.declared.types.SplType.TheViews.{out-SplType}

@@ -176,7 +176,7 @@ fn on_first(alloc: Global, call: CallName, kind: Boxed<SplType>) -> Result<OnFir
     }
 }
 
-/// The types that the arguments behind the first have to have, of a call that changes a first one of
+/// The types that the arguments after the first have to have, of a call that changes a first one of
 /// a type, or nothing where the call changes no such one.
 fn on_changed(
     alloc: Global,
@@ -217,7 +217,7 @@ pub fn may_change(scope: &Scope, at: u32, expr: &Expr) -> Result<(), TypeAnswer>
     Ok(())
 }
 
-/// The types that the arguments behind the first have to have, of a call that changes a first one of a
+/// The types that the arguments after the first have to have, of a call that changes a first one of a
 /// type. It has to be a place that may be changed.
 #[tactic(auto, using(crate::proofs::Changing::if_changed))]
 pub fn change_asked(
@@ -240,7 +240,7 @@ pub fn change_asked(
 /// What a call gives, unless it changes its first argument.
 pub type Gives = Option<(BuiltIn, Boxed<SplType>)>;
 
-/// What a call gives, and the types that the arguments behind the first have to have.
+/// What a call gives, and the types that the arguments after the first have to have.
 pub type Asked = (Gives, Items<SplType>);
 
 /// A call that changes its first argument, which is of a type.

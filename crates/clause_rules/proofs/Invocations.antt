@@ -27,7 +27,7 @@ use Rattle.language_model.specs.Typing.{Found, after, mismatch}
 use Rattle.clause_rules.specs.steps.Operators.{named}
 use Rattle.clause_rules.specs.steps.Programs.{invocation_in}
 
--- what comes behind something that was found
+-- what comes after something that was found
 pub record Goes {A B : Type 0} (o : Found A) (f : A → Found B) (y : B) : Type 0 where
   pub found : A
   pub there : o ≡ Ok found

@@ -19,7 +19,7 @@ use spl_value::{Items, Schema};
 use std::alloc::Global;
 use stream_rules::StreamTable;
 
-/// Why a graph isn't checked: its first refusal by the rules of types and clauses, or the want of memory.
+/// Why a graph isn't checked: its first refusal by the rules of types and clauses, or a lack of memory.
 pub type CheckAnswer = TypeAnswer;
 
 /// The parts of a graph's operators, and the attributes of its streams.
@@ -99,7 +99,7 @@ fn found_of<'a>(alloc: Global, unit: &'a Unit, graph: &'a Graph) -> Result<Found
 /// `Refused` comes with the first refusal: of a function in the order of the text, or else of an
 /// operator in the order of their declaration. Of an operator these are looked at in turn: how many
 /// ports it has, the types of its outputs and inputs, `config`, the window, the parameters, the outputs,
-/// the logic, and the rows of a file. `Memory` is as that of `type_of`, and stands also for types of
+/// the logic, and the rows of a file. `Memory` is as that of `type_of`, and is also the answer for types of
 /// more than a million parts and for what nests more than a thousand deep.
 pub fn check(alloc: Global, unit: &Unit, graph: Graph) -> Result<Checked, CheckAnswer>
     requires { (names : List (List ℕ)) × IsFlat unit.now names (Ok graph) }

@@ -77,7 +77,7 @@ fn clauses_checked(
     part_of(alloc, around, scope, checks, clauses, rows, op.kind)
 }
 
-/// An operator that stands for an invocation in a body. The scope has the functions of the unit and the
+/// The operator of an invocation in a body. The scope has the functions of the unit and the
 /// `$` parameters of the body, and gets the ports.
 fn invocation_checked(
     alloc: Global,
@@ -119,7 +119,7 @@ fn invocation_checked(
     Ok(part)
 }
 
-/// What stands for the `$` parameters of an expansion, taken out of the tables.
+/// The values of the `$` parameters of an expansion, taken out of the tables.
 fn take_table(alloc: Global, tables: &mut [Items<Dollar>], number: u32) -> Items<Dollar>
     ensures table { result ≡ table_at tables.old number }
     ensures others { tables.new ≡ slice_set tables.old number [] }

@@ -23,7 +23,7 @@ use spl_value::{Attribute, Items, Places, SplType};
 use std::alloc::Global;
 use written_types::TypeScope;
 
-/// What is around the expressions of an operator: what names of types stand for, and its outputs.
+/// What is around the expressions of an operator: what names of types mean, and its outputs.
 #[derive(Clone, Copy)]
 pub(crate) struct Around<'s, 'u> {
     pub(crate) types: TypeScope<'s, 'u>,

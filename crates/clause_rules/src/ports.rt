@@ -16,7 +16,7 @@ fn is_within(bounds: PortBounds, count: usize) -> bool
     bounds.least <= count && count <= bounds.most
 }
 
-/// Whether an operator of the kind may have so many inputs and outputs.
+/// Whether an operator of the kind may have these numbers of inputs and outputs.
 fn may_have(kind: OpKind, ins: usize, outs: usize) -> bool
     ensures { result ≡ fit_ports kind ins outs }
 {

@@ -88,7 +88,7 @@ no_mark_more [] none (suc k) is = cc
 no_mark_more (m ∷ ms) none zero is = none 0 is
 no_mark_more (m ∷ ms) none (suc k) is = no_mark_more ms (λ n. none (suc n)) k is
 
--- what is on the way isn't asked of the list that the code keeps of it
+-- what holds of a way doesn't depend on the list of it that the code keeps
 pub on_popped : (unit : List Definition) (main : At Composite) (w : Walk) (os way : List Opened) → IsOn unit main w way → IsOn unit main (record w { opened = os }) way
 on_popped unit main w os way on = record {
   frames = on.frames;

@@ -1,4 +1,4 @@
--- What a unit comes to, by what its main composite does.
+-- The result of a unit, by that of its main composite.
 use Rattle.std.proofs.Common.{◌≡◌, ◌∙◌, refl, sym, ap, subst, ℕ, zero, suc, ◌+◌, ◌<◌, List, [], ◌∷◌, length, Option, Some, None, Ok, Err, arith}
 use Rattle.std.specs.Prelude.{Bool, true, false, Result, map, slice_get, if◌then◌else◌, codes}
 use Rattle.std.specs.Option.{option_map_or}

@@ -1,4 +1,4 @@
--- What stands first in two rows, one behind the other.
+-- What stands first in two rows, one after the other.
 use Rattle.std.specs.Prelude.{◌≡◌, List, [], ◌∷◌, ◌++◌, Some, None}
 use Rattle.std.proofs.Common.{refl}
 use Rattle.language_model.specs.Declarations.{first_of}

@@ -1,4 +1,4 @@
--- What a step of a walk comes to, by what it writes.
+-- The result of a step of a walk, by what it writes.
 use Rattle.std.proofs.Common.{◌≡◌, ◌∙◌, ◌⊎◌, inl, inr, refl, sym, ap, subst, ℕ, zero, suc, ◌+◌, ◌-◌, ◌<◌, ◌≤◌, List, [], ◌∷◌, ◌++◌, length, take, Option, Some, None, Ok, Err, codes, arith, length-append, get_or}
 use Rattle.std.specs.Prelude.{Bool, true, false, ◌&&◌, ◌==◌, ◌^◌, min, nat_le, nat_lt, MatchOption, if◌then◌else◌, reverse, slice_get, slice_set, sum_by}
 use Rattle.std.proofs.lemmas.List.{length-reverse, length-set}
@@ -82,7 +82,7 @@ module _ (unit : List Definition) (main : At Composite) (w : Walk) (o : Opened) 
 
   -- ---- refusals
 
-  -- what an invocation whose names are declared comes to
+  -- the result of an invocation whose names are declared
   target_is : (t : Target) → first_of (undeclared unit c i) ≡ None → target_of unit i.operator.what ≡ t
       → expanded_invocation (expanded stands.depth unit) unit stands.f.opened stands.f.next i stands.made ≡ expanded_target (expanded stands.depth unit) stands.f.opened stands.f.next i t stands.made
   target_is t known target =

@@ -347,7 +347,7 @@ around_new o q (r ∷ os) prefix number all =
     let later : r.number < o.number = all.0.number in
     (record { prefix = omega (arith, longer, prefix); number = omega (arith, later, number) }, around_new o q os prefix number all.1)
 
--- names in front of names that are put behind them
+-- the first names stay where others are put after them
 take_front : (xs ys : List ℕ) (n m : ℕ) → n ≤ m → m ≤ length xs → take n (take m xs ++ ys) ≡ take n xs
 take_front xs ys zero m less within = refl
 take_front [] ys (suc n) m less within = absurd (omega (arith, less, within))

@@ -33,7 +33,7 @@ fn labels_of(alloc: Global, ops: &[Operation]) -> Result<Items<Placed<Name>>, No
     Ok(labels)
 }
 
-/// The operators, streams and bodies of what the main composite came to.
+/// The operators, streams and bodies of the expanded main composite.
 fn numbered(alloc: Global, composites: &Composites<'_>, walk: Walk) -> Result<Numbered, NoMemory>
     ensures { IfOk result (λ parts. (main : At Composite) (is : IsExpanded composites.now.unit.now main walk) → IsNumbered is.made parts) }
 {
@@ -59,7 +59,7 @@ fn first_waiting(mut labels: Items<Placed<Name>>, order: &[u32]) -> Option<Place
     }
 }
 
-/// The graph of what the main composite came to.
+/// The graph of the expanded main composite.
 fn graph_of(
     alloc: Global,
     composites: &Composites<'_>,
@@ -87,7 +87,7 @@ fn graph_of(
     })
 }
 
-/// The graph of a unit, in which each composite has given way to its body, from the main composite on;
+/// The graph of a unit, in which each composite has been replaced by its body, from the main composite on;
 /// or the first refusal: of names that are declared twice, of a missing main composite, of recursion,
 /// of what invocations name and how many operators and connections they make, of operators that wait
 /// for themselves, and of files that a FileSink has together with another operator or with `names`,

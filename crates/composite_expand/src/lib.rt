@@ -1,4 +1,4 @@
-//! The graph of a program, in which each composite has given way to its body, and the first thing that
+//! The graph of a program, in which each composite has been replaced by its body, and the first thing that
 //! keeps a program from having one.
 #![tactic(auto)]
 

@@ -51,7 +51,7 @@ pub(crate) struct Opened {
 pub(crate) struct Walk {
     /// The bodies on the way, the main one first.
     pub(crate) opened: Items<Opened>,
-    /// The names of the invocations on the way, a dot behind each.
+    /// The names of the invocations on the way, a dot after each.
     pub(crate) names: Vec<u8>,
     pub(crate) ops: Items<Operation>,
     pub(crate) bodies: Items<Body>,
@@ -126,7 +126,7 @@ fn label_of(invocation: &Invocation) -> &[u8]
     }
 }
 
-/// A name within a body, behind its prefix.
+/// A name within a body, after its prefix.
 fn within(alloc: Global, prefix: &[u8], name: &[u8]) -> Result<Name, NoMemory>
     ensures { IfOk result (λ whole. whole ≡ prefix.now ++ name.now) }
 {
@@ -135,7 +135,7 @@ fn within(alloc: Global, prefix: &[u8], name: &[u8]) -> Result<Name, NoMemory>
     Ok(Items::from_vec(whole))
 }
 
-/// Puts the name of an invocation behind so much of the names, and a dot.
+/// Keeps the first `prefix` bytes of the names, and puts the name of an invocation and a dot after them.
 fn enter(names: &mut Vec<u8>, prefix: usize, invocation: &Invocation) -> Result<(), NoMemory>
     ensures { OnOk result (names.new.items ≡ take prefix names.old.items ++ invocation_name invocation.now ++ codes ".") }
 {
@@ -206,7 +206,7 @@ fn open(
     Ok(())
 }
 
-/// The operator that an invocation in the body stands for.
+/// The operator of an invocation in the body.
 fn operation(
     alloc: Global,
     composites: &Composites<'_>,
@@ -254,7 +254,7 @@ fn connections_at(walk: &Walk, top: Opened, scope: &Scope<'_>, invocation: &Invo
     connections(scope, top.number, row.as_slice(), invocation)
 }
 
-/// Adds the operator that an invocation in the scope's composite stands for, where there may be one more.
+/// Adds the operator of an invocation in the scope's composite, where there may be one more.
 fn add(
     alloc: Global,
     composites: &Composites<'_>,
@@ -371,7 +371,7 @@ fn step(
     }
 }
 
-/// For each of so many composites, that it isn't known to make no operator.
+/// Marks for `count` composites: none of them is known to make no operator.
 fn no_marks(alloc: Global, count: u32) -> Result<Items<bool>, NoMemory>
     ensures { IfOk result (λ marks. (length marks ≡ count) × ((k : ℕ) → slice_get marks k ≡ Some true → ⊥)) }
 {

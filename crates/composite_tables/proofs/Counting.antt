@@ -39,7 +39,7 @@ port_counted xs number ports i q before more sum count within here counted port 
     ∙ sum_by-append length ps (streams_taken xs number q ∷ []) in
     omega arith
 
--- an input that stands for the streams of its names
+-- an input takes the same streams where the body has a greater number
 pub later : (xs : List Inlined) (number more : ℕ) (i : Input) (list : List Source) → number ≤ more → StandsFor xs number i list → StandsFor xs more i list
 later xs number more i list le stands = record {
   count = stands.count;
@@ -100,7 +100,7 @@ ports_next xs site c row v inputs i k q names is here there own count stand last
     (subst (λ n. StandsFor xs (suc site.expansion) i (flat_map (λ m. sources_of xs site.expansion m.what) (port_names xs site n))) (sym count)
     (subst (λ ns. StandsFor xs (suc site.expansion) i (flat_map (λ m. sources_of xs site.expansion m.what) ns)) (sym given) (last given)))
 
--- the inputs of a body that is opened behind the others
+-- the inputs of a body that is opened after the others
 pub opened : (xs : List Inlined) (site : Site) (c : Composite) (row inputs : List Input) (y : Inlined) → IsBody xs site.expansion c row → PortsStand xs site inputs
     → y.site ≡ Some site → length inputs ≡ length y.composite.what.inputs → AreInputs (xs ++ y ∷ []) (length xs) y inputs
 opened xs site c row inputs y is stand at count = record {

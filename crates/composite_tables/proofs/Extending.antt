@@ -1,4 +1,4 @@
--- What the names of a body take doesn't change when other bodies are opened behind it.
+-- What the names of a body take doesn't change when other bodies are opened after it.
 use Rattle.std.specs.Prelude.{◌≡◌, ℕ, zero, suc, ◌<◌, ◌≤◌, List, [], ◌∷◌, ◌++◌, flat_map, length, Option, Some, None, slice_get}
 use Rattle.std.specs.Option.{option_map_or}
 use Rattle.std.proofs.Common.{◌⊎◌, inl, inr, refl, sym, ap, subst, ◌∙◌, arith, length-append}
@@ -57,7 +57,7 @@ module _ (limit : ℕ) (xs ys : List Inlined) (same : SameBelow limit xs ys) whe
       by_body outside (Some e) is =
           own_same (taken_in c xs) (taken_in d ys) number (omega arith) outside e (nested number e is) name (place_of name (stream_names e.composite.what))
 
--- ---- one list, and the list with more behind it
+-- ---- one list, and the list with more after it
 
 same_before : (xs ys : List Inlined) → SameBelow (length xs) (xs ++ ys) xs
 same_before xs ys m within = before_more xs ys m within

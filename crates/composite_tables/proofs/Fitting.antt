@@ -1,4 +1,4 @@
--- Arguments behind those that fit and of which none is given twice.
+-- Arguments after those that fit and of which none is given twice.
 use Rattle.std.specs.Prelude.{◌≡◌, ◌<◌, ℕ, suc, ◌+◌, Bool, true, false, ◌&&◌, ◌||◌, is_some, List, [], ◌∷◌, ◌++◌, if◌then◌else◌, length, map}
 use Rattle.std.specs.List.{list_any, list_all}
 use Rattle.std.specs.Str.{bytes_eq}
@@ -16,7 +16,7 @@ use Rattle.spl_value.proofs.Bools.{and_false}
 abbrev pub again : List Name → List Parameter → List Name
 again before arguments = repeated_after (λ before n. list_any (λ m. is_same m n) before) before (map (λ a. a.name) arguments)
 
--- the arguments fit behind those of these names, the last first
+-- the arguments fit after those of these names, the last first
 abbrev pub fit_behind : Composite → List Name → List Parameter → Bool
 fit_behind c before arguments = list_all (is_argument c) arguments && is_empty (again before arguments)
 

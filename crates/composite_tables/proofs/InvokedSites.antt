@@ -46,7 +46,7 @@ is_site-swap s q = by (is_site s q) (is_site q s) refl refl
 
 -- ---- tables of what stands at sites, filled from the front
 
--- what is found already, and what comes behind it
+-- what is found already, and what comes after it
 taken_over : (old new rest : Option ℕ) (b : Bool) (n : ℕ) → new ≡ option_or old (if b then Some n else None)
     → option_or new rest ≡ option_or old (if b then Some n else rest)
 taken_over (Some k) new rest b n e = ap (λ o. option_or o rest) e

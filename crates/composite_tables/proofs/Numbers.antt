@@ -1,4 +1,4 @@
--- Rows of numbers, and what is numbered one behind another.
+-- Rows of numbers, and what is numbered one after another.
 use Rattle.std.specs.Prelude.{◌≡◌, ◌<◌, ℕ, zero, suc, ◌+◌, List, [], ◌∷◌, ◌++◌, map, length}
 use Rattle.std.proofs.Common.{ap, sym, ◌∙◌, arith, get_or, drop, append_assoc, add-one, add-zero}
 use Rattle.std.proofs.lemmas.List.{map-append, drop_more}
@@ -52,7 +52,7 @@ ops_step table first next done new items rest op split counted grown =
     ∙ ap (λ n. done ++ op_in table first op ∷ ops_in table n rest) counted
     ∙ ap (λ os. done ++ ops_in table first os) (sym split)
 
--- the outputs of an invocation, and of those behind it
+-- the outputs of an invocation, and of those after it
 pub outputs_step : {A : Type 0} (f : Output → A) (done new : List A) (place next i : ℕ) (items graph : List Invocation) (x : Invocation) (count : ℕ)
     → items ≡ graph → i < length items → x ≡ get_or items i x → next ≡ place + 1 → count ≡ length x.outputs
     → new ≡ done ++ map (λ k. f (record { invocation = place; output = k })) (numbers_from 0 count)

@@ -1,4 +1,4 @@
--- The stream that a name stands for: outputs are followed into bodies of greater numbers, so that what is followed ends.
+-- The stream that a name means: outputs are followed into bodies of greater numbers, so that what is followed ends.
 use Rattle.std.specs.Prelude.{◌≡◌, ◌<◌, ◌≤◌, ℕ, zero, suc, ◌+◌, true, false, length, Option, Some, None, slice_get}
 use Rattle.std.specs.Option.{option_and_then, option_map_or}
 use Rattle.std.proofs.Common.{refl, ap, sym, ◌∙◌, subst, arith}
@@ -53,7 +53,7 @@ module _ (made : Made) (nested : AreNested made.expansions) where
         and_then_same _ _ (slice_get (graph_outputs e.composite.what) place) (λ o named.
         inner_same (site_at number o) o.output (operator_at made (site_at number o)) refl))
 
-  -- so many steps are enough
+  -- `count` steps are enough
   enough : (count number place : ℕ) → length made.expansions ≤ count + number → stream_of (suc count) made (source number place) ≡ stream_of count made (source number place)
   enough zero number place h =
       let past : length made.expansions ≤ number = omega arith in

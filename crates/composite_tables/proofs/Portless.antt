@@ -1,4 +1,4 @@
--- The composites without ports, the first of them and those behind it.
+-- The composites without ports, the first of them and those after it.
 use Rattle.std.specs.Prelude.{◌≡◌, ℕ, suc, ◌+◌, true, false, List, [], ◌∷◌, if◌then◌else◌, codes, slice_get, Option, Some, None}
 use Rattle.std.specs.List.{cons_option}
 use Rattle.std.proofs.Common.{refl, ap, ◌∙◌, drop, add-one, subst, arith}
@@ -20,7 +20,7 @@ module _ (cs : List Composite) (k : ℕ) (c : Composite) (there : slice_get cs k
   pub first_later : has_no_ports c ≡ false → first_from has_no_ports k (drop k cs) ≡ first_from has_no_ports (k + 1) (drop (k + 1) cs)
   first_later some = rw add-one (here ∙ ap (λ b. if b then Some (at_place k c) else first_from has_no_ports (suc k) (drop (suc k) cs)) some)
 
--- ---- those behind the first
+-- ---- those after the first
 
 abbrev Firsts : ℕ → List Composite → Option (At Composite) → Type 0
 Firsts i cs None = portless cs ≡ []

@@ -40,7 +40,7 @@ abbrev pub IsTakenBefore : ℕ → Taken → Type 0
 IsTakenBefore number (T.One s) = Unit {0}
 IsTakenBefore number (T.Port site port) = site.expansion < number
 
--- an input of the body of that number stands for a list: how many there are, as far as they are counted, the first, and which they are
+-- an input of the body of that number takes these streams: their count up to 2^30, the first of them, and which they are
 pub record StandsFor (xs : List Inlined) (number : ℕ) (i : Input) (list : List Source) : Type 0 where
   pub count : i.count ≡ min (length list) (2 ^ 30)
   pub first : option_to_list i.first ≡ take 1 list

@@ -1,4 +1,4 @@
--- What stands at the sites of bodies, and the streams that come of it.
+-- What stands at the sites of bodies, and the streams that follow from it.
 use Rattle.std.specs.Prelude.{ℕ, zero, suc, ◌+◌, ◌==◌, ◌&&◌, Bool, false, List, [], ◌∷◌, map, length, replicate, if◌then◌else◌, Option, Some, None, slice_get, slice_set}
 use Rattle.std.specs.HashMap.{get}
 use Rattle.std.specs.Option.{option_and_then, option_map_or}

@@ -13,7 +13,7 @@ use spl_tree::{Invocation, Placed, Site};
 use spl_value::{Items, Name, NoMemory};
 use std::alloc::Global;
 
-/// No more streams than this are counted: no graph has so many connections.
+/// No more streams than this are counted: no graph has as many connections.
 const MOST_COUNTED: u32 = 1 << 30;
 
 /// What a name takes in the body of that number: the stream that the graph makes, or else what the input
@@ -90,7 +90,7 @@ pub fn connections(scope: &Scope<'_>, number: u32, row: &[Input], invocation: &I
 }
 
 /// What an input of the head takes that is invoked at the site: what the names of that port do. A single
-/// name hands on what it takes, so that what goes through many heads is followed in one step.
+/// name passes on what it takes, so that what goes through many heads is followed in one step.
 fn input_of(
     scope: &Scope<'_>,
     row: &[Input],

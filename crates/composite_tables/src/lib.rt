@@ -1,5 +1,5 @@
 //! The composites of a unit by name, and of the bodies that an expansion opens, what their inputs take
-//! and the numbers of the streams that their names stand for.
+//! and the numbers of the streams that their names mean.
 #![tactic(auto)]
 
 mod heads;

@@ -20,7 +20,7 @@ use spl_value::{Items, NoMemory};
 use standing::Standing;
 use std::alloc::Global;
 
-/// What a graph consists of, beside the order of its operators.
+/// What a graph consists of, apart from the order of its operators.
 #[derive(Drop)]
 pub struct Numbered {
     pub ops: Items<Op>,
@@ -28,7 +28,7 @@ pub struct Numbered {
     pub expansions: Items<Expansion>,
 }
 
-/// A sum. One that is too large to be counted is answered as want of memory.
+/// A sum. One that is too large to be counted is answered as a lack of memory.
 fn sum_of(a: u32, b: u32) -> Result<u32, NoMemory>
     ensures { IfOk result (λ n. n ≡ a + b) }
 {

@@ -31,7 +31,7 @@ empty_more n s h = record {
   ];
 }
 
--- the calls of the first so many are noted
+-- the calls of the first n callers are noted
 pub record Noted (calls : Calls) (callers : List (List ℕ)) (n : ℕ) : Type 0 where
   pub size : length callers ≡ length calls
   pub sound : (to from : ℕ) → Lists callers to from → IsCall calls from to

@@ -9,7 +9,7 @@ use Rattle.place_sets.proofs.Fitting.{within_marks}
 use Rattle.cycle_rules.proofs.Calling.{lt_split}
 use Rattle.spl_value.proofs.Lists.{get_below, get_within}
 
--- the lists of the first so many that were found are found
+-- what the lists of the first `told` places that were found lead to is found too
 pub record Searched (lists : List (List ℕ)) (from : ℕ) (found : PlaceSet) (told : ℕ) : Type 0 where
   pub set : IsSet found
   pub size : length found.marks.items ≡ length lists

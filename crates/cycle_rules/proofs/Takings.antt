@@ -11,7 +11,7 @@ use Rattle.place_sets.proofs.Widening.{here}
 use Rattle.cycle_rules.proofs.Calling.{calling_of, call_at}
 use Rattle.spl_value.proofs.Lists.{get_below, get_within, only_one, take_cases}
 
--- what stood stands where it stood
+-- what was taken stays at its place
 abbrev Keeps : List ℕ → List ℕ → Type 0
 Keeps xs ys = (k i : ℕ) → slice_get xs k ≡ Some i → slice_get ys k ≡ Some i
 

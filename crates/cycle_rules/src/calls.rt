@@ -136,7 +136,7 @@ fn call_counts(alloc: Global, calls: &[Items<Placed<u32>>]) -> Result<Vec<usize>
     Ok(counts)
 }
 
-/// Counts a call less, and says whether none is left.
+/// Counts one call less, and says whether none is left.
 fn is_last(left: &mut [usize], caller: u32) -> bool {
     match left.get_mut(caller as usize) {
         Some(count) => {
@@ -181,7 +181,7 @@ fn add_all_below(bound: usize, places: &mut Vec<u32>) -> Result<(), NoMemory>
     Ok(())
 }
 
-/// Adds to the callers that call nothing those that no circle is led to from, each behind those that it
+/// Adds to the callers that call nothing those from which no cycle is reached, each after those that it
 /// calls.
 fn add_acyclic(
     alloc: Global,
@@ -201,8 +201,8 @@ fn add_acyclic(
     Ok(())
 }
 
-/// All callers, and before them, by the counts of their calls, those that no circle is led to from,
-/// each behind those that it calls. Only the time that `taken_callers` takes hangs on these.
+/// All callers, and before them, by the counts of their calls, those from which no cycle is reached,
+/// each after those that it calls. Only the time that `taken_callers` takes depends on these.
 fn likely_order(
     alloc: Global,
     calls: &[Items<Placed<u32>>],
@@ -217,7 +217,7 @@ fn likely_order(
     Ok(order)
 }
 
-/// The callers that lead to no circle, each behind those that it calls.
+/// The callers that lead to no cycle, each after those that it calls.
 fn taken_callers(
     alloc: Global,
     calls: &[Items<Placed<u32>>],

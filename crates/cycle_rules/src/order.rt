@@ -13,7 +13,7 @@ use std::alloc::Global;
 /// is made by no operator: then the other is never ready.
 type Makers = Option<Items<bool>>;
 
-/// The numbers of the operators, each behind those that make its streams: again and again the first
+/// The numbers of the operators, each after those that make its streams: again and again the first
 /// that is ready, as long as there is one.
 pub fn topological_order(alloc: Global, streams: &[Stream], ops: &[Op]) -> Result<Ids, NoMemory>
     ensures { IfOk result (λ order. order ≡ taken streams.now ops.now) }
@@ -36,7 +36,7 @@ pub fn topological_order(alloc: Global, streams: &[Stream], ops: &[Op]) -> Resul
     Ok(order)
 }
 
-/// The first of so many operators that isn't in an order.
+/// The first of `count` operators that isn't in an order.
 pub fn first_outside(order: &[u32], count: usize) -> Option<usize>
     ensures { result ≡ first_untaken order.now 0 count }
 {
@@ -66,7 +66,7 @@ fn rows(alloc: Global, streams: &[Stream], ops: &[Op]) -> Result<Items<Makers>, 
     Ok(rows)
 }
 
-/// The operators, of so many, that make the streams of these ports.
+/// Which of `count` operators make the streams of these ports.
 fn makers(
     alloc: Global,
     streams: &[Stream],

@@ -1,4 +1,4 @@
--- Whether an expression may stand for a parameter, by its parts: an equation for each form.
+-- Whether an expression may be the value of a parameter, by its parts: an equation for each form.
 use Rattle.std.proofs.Common.{◌≡◌, ◌∙◌, ℕ, Bool, true, false, List, [], ◌∷◌, refl, ap}
 use Rattle.std.specs.Prelude.{◌&&◌}
 use Rattle.std.specs.List.{list_all}

@@ -1,4 +1,4 @@
--- What stands for the parameters of an expansion, by where it is invoked.
+-- The values of the parameters of an expansion, by where it is invoked.
 use Rattle.std.specs.Prelude.{◌≡◌, ℕ, List, [], Option, Some, None, Result, Ok, Err, IfOk, unwrap_or}
 use Rattle.std.specs.Borrow.{Bor}
 use Rattle.std.specs.Option.{option_copied, option_map, option_map_or}

@@ -1,4 +1,4 @@
--- What a name stands for in two tables of the parameters of one composite.
+-- The value of a name in two tables of the parameters of one composite.
 use Rattle.std.specs.Prelude.{◌≡◌, ◌+◌, ℕ, suc, Bool, true, false, ◌&&◌, if◌then◌else◌, List, [], ◌∷◌, ◌++◌, Option, Some, None, slice_get}
 use Rattle.std.specs.Option.{option_map}
 use Rattle.std.specs.Str.{bytes_eq}
@@ -40,7 +40,7 @@ either_way true false false x y u v h e = e
 either_way false true false x y u v h e = e
 either_way false false false x y u v h e = e
 
--- a name stands for the same where the same parameters of the name pass, and the same is found for them
+-- a name has the same value where the same parameters of the name pass, and the same is found for them
 pub same_found : (name : List ℕ) (s t : ℕ → CompositeParameter → Bool) (f g : CompositeParameter → Found Typed) (place : ℕ) (ps : List CompositeParameter)
     → ((k at : ℕ) (p : CompositeParameter) → at ≡ place + k → slice_get ps k ≡ Some p → bytes_eq p.name.what name ≡ true → (s at p ≡ t at p) × (s at p ≡ true → f p ≡ g p))
     → stands_for (own_from s f place ps) name ≡ stands_for (own_from t g place ps) name

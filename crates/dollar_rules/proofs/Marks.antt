@@ -64,7 +64,7 @@ module _ (found : CompositeParameter → Found Typed) where
       (λ i. (if same 0 place p (omega arith) refl i then entry found p ∷ [] else [])
       ++ marked_is passes bs (suc place) ps (λ k at q e is. same (suc k) at q (omega arith) is) i)
 
-  -- one that is marked stands behind those that are marked before it
+  -- one more that is marked comes after those that are marked before it
   pub marked_more : (marks : List Bool) (ps : List CompositeParameter) (place : ℕ) (p : CompositeParameter) → slice_get ps place ≡ Some p → place < length marks
       → is_marked marks place ≡ false → marked found (set marks place true) ps ≡ insert (marked found marks ps) (marks_in (take place marks)) (entry found p)
   marked_more [] ps place p is below unset = absurd (omega (arith, below))

@@ -1,4 +1,4 @@
--- One parameter more is settled, behind those that its default mentions.
+-- One parameter more is settled, after those that its default mentions.
 use Rattle.std.specs.Prelude.{◌≡◌, ◌≢◌, ◌==◌, ◌<◌, ◌≤◌, ◌-◌, ℕ, zero, suc, Bool, true, false, if◌then◌else◌, List, [], ◌∷◌, filter_map, length, Option, Some, None, is_some, slice_get, slice_index_or, ◌⊎◌}
 use Rattle.std.specs.List.{Contains, cons_option}
 use Rattle.std.specs.Option.{option_map_or}
@@ -60,7 +60,7 @@ module _ (g : Given) (place : ℕ) (p : CompositeParameter) (e : Expr) (is : sli
       let there : parameter_place g.parameters name ≡ Some k = ap (parameter_place g.parameters) (sym same) ∙ first in
       subst (λ row. Contains row k) (sym leads_are) (taken (parameter_place g.parameters) (dollars_in e) has.0 name k has.1 has.2 there)
 
--- what stands for a parameter depends on those that its default mentions
+-- the value of a parameter depends on those that its default mentions
 found_alike : (mentioned : MentionedLaw) (g : Given) (own other : List Dollar) (p : CompositeParameter)
     → ((e : Expr) → value_named g.arguments p.name.what ≡ None → p.default ≡ Some e → (name : List ℕ) → Contains (dollars_in e) name → dollar_of own name ≡ dollar_of other name)
     → found_in g own p ≡ found_in g other p
@@ -100,7 +100,7 @@ module _ (g : Given) (marks : List Bool) (are : AreSettled g marks) where
         ] refl
       ] refl
 
-  -- a name stands for the same in the table of those that are settled and in those where defaults are followed often enough, where each
+  -- a name has the same value in the settled table and where defaults are followed often enough, where each
   -- parameter of the name is done
   same_table : (name : List ℕ) → ((k : ℕ) (p : CompositeParameter) → slice_get g.parameters k ≡ Some p → bytes_eq p.name.what name ≡ true → means g k p ≡ true → IsDone g marks k)
       → (count : ℕ) → marks_in marks ≤ count → stands_for (table g count) name ≡ stands_for (settled_table g marks) name

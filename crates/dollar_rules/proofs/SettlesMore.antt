@@ -14,7 +14,7 @@ use Rattle.dollar_rules.specs.steps.Given.{AreSettled, Given, IsReady, found_at_
 use Rattle.dollar_rules.proofs.Marks.{marked_more}
 use Rattle.dollar_rules.proofs.SettledOnes.{found_now}
 
--- no flag is up at first
+-- no flag is set at first
 down : (n k : ℕ) → is_marked (replicate n false) k ≡ false
 down zero k = refl
 down (suc n) zero = refl

@@ -1,4 +1,4 @@
-//! Which expressions may stand for a `$` parameter.
+//! Which expressions may be the value of a `$` parameter.
 ghost use Rattle.std.specs.Prelude.{◌≡◌, ◌&&◌};
 ghost use Rattle.std.specs.List.{list_all};
 ghost use Rattle.language_model.specs.Parameters.{is_constant};

@@ -28,7 +28,7 @@ pub(crate) struct Head<'a> {
     pub(crate) parameters: &'a [CompositeParameter],
     /// For each parameter, those that its default mentions, where it has no argument.
     leads: Vec<Items<u32>>,
-    /// For each parameter, whether it stands for something.
+    /// For each parameter, whether it has a meaning.
     meanings: Vec<bool>,
     ghost constants: { outer.now ≡ constant_scope outer.now.dollars },
     ghost led: { leads.items ≡ rows_of parameters.now arguments.now },
@@ -148,7 +148,7 @@ fn unknown(alloc: Global, name: &Placed<Name>) -> TypeAnswer
     }
 }
 
-/// An expression that stands for a parameter of the type, where these can be named.
+/// An expression that is the value of a parameter of the type, where these can be named.
 fn constant_typing(
     alloc: Global,
     given: &Scope,
@@ -208,7 +208,7 @@ impl<'a> Head<'a> {
         }
     }
 
-    /// Whether a parameter stands for something.
+    /// Whether a parameter has a meaning.
     pub(crate) fn has_meaning(&self, place: u32) -> bool
         ensures { result ≡ passes_at (has_meaning self.now.parameters.now self.now.arguments.now) self.now.parameters.now place }
     {
@@ -218,7 +218,7 @@ impl<'a> Head<'a> {
         }
     }
 
-    /// What is typed for a parameter, where these stand for those that its default mentions.
+    /// What is typed for a parameter, where `own` has the values of those that its default mentions.
     fn typed(
         &self,
         alloc: Global,
@@ -238,7 +238,7 @@ impl<'a> Head<'a> {
         }
     }
 
-    /// What stands for a parameter, or its refusal.
+    /// The value of a parameter, or its refusal.
     pub(crate) fn found(
         &self,
         alloc: Global,

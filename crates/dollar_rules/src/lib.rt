@@ -1,4 +1,4 @@
-//! What `$` parameters of composites stand for.
+//! The values of `$` parameters of composites.
 #![tactic(auto)]
 
 mod constants;

@@ -1,4 +1,4 @@
-//! What stands for the parameters of a composite. They are settled one by one, each behind those that
+//! The values of the parameters of a composite. They are settled one by one, each after those that
 //! its default mentions.
 ghost use Rattle.std.specs.Prelude.{◌≡◌, ◌<◌, [], ℕ, IfOk, OnOk, IsTrue, ◌↔◌, true, false, slice_get, take, length, ◌≤◌};
 ghost use Rattle.std.specs.List.{Contains};
@@ -31,7 +31,7 @@ pub(crate) fn no_names(alloc: Global) -> Scope
     }
 }
 
-/// Some of the parameters of a composite, with what stands for them.
+/// Some of the parameters of a composite, with their values.
 #[derive(Drop)]
 pub(crate) struct Settled {
     /// Where they can be named, in the order of the head.
@@ -91,7 +91,7 @@ impl Settled {
     }
 }
 
-/// Settles a parameter, behind those that its default leads to. Where that row is too long, there is
+/// Settles a parameter, after those that its default leads to. Where that row is too long, there is
 /// no memory for it.
 fn settle(
     alloc: Global,
@@ -118,7 +118,7 @@ fn settle(
     settled.add(alloc, head, place)
 }
 
-/// What stands for the parameters of a composite, in the order of its head.
+/// The values of the parameters of a composite, in the order of its head.
 pub(crate) fn settle_all(alloc: Global, head: &Head) -> Result<Scope, NoMemory>
     ensures { IfOk result (λ own. own
         ≡ constant_scope (parameters_given (types_in head.now.types) head.now.outer.now.dollars head.now.arguments.now head.now.parameters.now)) }

@@ -1,4 +1,4 @@
-//! What the `$` parameters of composites stand for in each expansion.
+//! The values of the `$` parameters of composites in each expansion.
 ghost use Rattle.std.specs.Prelude.{◌≡◌, IfOk, map};
 ghost use Rattle.language_model.specs.Parameters.{constant_scope, dollar_tables, expansion_dollars, tables_from};
 ghost use Rattle.dollar_rules.specs.steps.Tables.{AreConstants, tables_of};
@@ -11,7 +11,7 @@ use spl_tree::{Expansion, Unit};
 use spl_value::{Items, NoMemory};
 use std::alloc::Global;
 
-/// What stands for the parameters of an expansion, behind those of the expansions before it.
+/// The values of the parameters of an expansion, after those of the expansions before it.
 fn expansion_dollars(
     alloc: Global,
     sites: &Sites,
@@ -44,10 +44,10 @@ fn expansion_dollars(
     settle_all(alloc, &head)
 }
 
-/// What stands for the `$` parameters of the composites, in each expansion. A parameter that is
+/// The values of the `$` parameters of the composites, in each expansion. A parameter that is
 /// refused is there with its refusal.
 ///
-/// `NoMemory` also stands for defaults that mention each other in a row of more than 1,000, and for what
+/// `NoMemory` is also the answer for defaults that mention each other in a row of more than 1,000, and for what
 /// would have a code deeper than 1,000 or of more than 65,536 parts.
 pub fn dollar_tables(
     alloc: Global,

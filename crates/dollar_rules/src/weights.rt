@@ -1,8 +1,8 @@
-//! How large codes are that stand for `$` parameters. Each use of a parameter copies its code, so a
+//! How large the codes of values of `$` parameters are. Each use of a parameter copies its code, so a
 //! row of them may grow to twice as much at each step.
 use spl_tree::{Code, Slot, Taking};
 
-/// The deepest code that may stand for a parameter.
+/// The depth that the code of a parameter's value may have at most.
 const DEEPEST: u32 = 1_000;
 
 /// The most parts that it may have.

@@ -1,4 +1,4 @@
--- The definitions that stand before one, by their names.
+-- The definitions that come before one, by their names.
 use Rattle.std.specs.Prelude.{◌≡◌, ◌||◌, List, [], ◌∷◌, map}
 use Rattle.std.specs.List.{list_any}
 use Rattle.std.proofs.Common.{refl, ap}

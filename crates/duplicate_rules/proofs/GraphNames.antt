@@ -1,4 +1,4 @@
--- The names of a composite's streams, aliases and ports by the two sets of those that stand before.
+-- The names of a composite's streams, aliases and ports by the two sets of those that come before.
 use Rattle.std.specs.Prelude.{◌≡◌, ℕ, ◌+◌, ◌<◌, ◌≤◌, Bool, true, false, ◌||◌, ◌&&◌, List, [], ◌∷◌, ◌++◌, map, flat_map, length, drop}
 use Rattle.std.proofs.Common.{refl, sym, ap, ◌∙◌, append_assoc, append-nil, get_or}
 use Rattle.std.proofs.lemmas.List.{drop_all, map-append}
@@ -67,7 +67,7 @@ module _ (n : Name) where
   pub declared_alias : (before : List Declared) → is_declared before (Alias n) ≡ (Has n (outputs_of before) || Has n (others_of before))
   declared_alias before = alias_alike before ∙ declared_output before
 
--- ---- rows of names behind others
+-- ---- rows of names after others
 
 module _ {A : Type 0} (f : A → Declared) (xs : List A) (i : ℕ) where
   pub added_past : (names : List GraphName) → length xs ≤ i → map shown names ++ map f (drop i xs) ≡ map shown names

@@ -1,4 +1,4 @@
--- Files that are had already, by those before them.
+-- Files that are used already, by those before them.
 use Rattle.std.specs.Prelude.{◌≡◌, ℕ, Bool, false, ◌&&◌, ◌||◌, List, map, reverse}
 use Rattle.std.specs.List.{list_any}
 use Rattle.std.specs.Str.{bytes_eq}

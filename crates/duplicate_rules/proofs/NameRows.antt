@@ -1,4 +1,4 @@
--- What stands next in a row, behind what stands before.
+-- The next item of a row, after those before it.
 use Rattle.std.specs.Prelude.{◌≡◌, Bool, true, false, not, ◌||◌, cond, if◌then◌else◌, List, [], ◌∷◌, ◌++◌}
 use Rattle.std.proofs.Common.{refl, ap}
 use Rattle.language_model.specs.Declarations.{repeated_after}

@@ -48,7 +48,7 @@ fn repeated_in_unit<'u>(alloc: Global, unit: &'u [Definition]) -> Repeated<'u>
     earliest_within(alloc, None, unit)
 }
 
-/// The first name that stands again in a set of a composite.
+/// The first name that repeats an earlier one in a set of a composite.
 fn repeated_in_definitions<'u>(alloc: Global, unit: &'u [Definition]) -> Repeated<'u>
     ensures { IfOk result (λ found. option_copied found ≡ first_of (flat_map repeated_in_definition unit.now)) }
 {

@@ -34,7 +34,7 @@ pub fn same_file(
     copied(alloc, found)
 }
 
-/// The first such file. The files that stand before it are added to those, of which there is none.
+/// The first such file. The files that come before it are added to those, of which there is none.
 fn first_had<'a>(
     sites: &SiteTable<'a>,
     names: &[Name],
@@ -77,7 +77,7 @@ struct UsedFile<'a> {
     bytes: &'a [u8],
 }
 
-/// Whether a file may not be had behind those.
+/// Whether a file may not be used where those are used before it.
 fn is_had_already(names: &[Name], files: &[UsedFile], file: &UsedFile) -> bool
     ensures { result ≡ is_had names.now (reverse (map file_seen files.now)) (file_seen file.now) }
 {
@@ -128,7 +128,7 @@ fn file_of<'a>(sites: &SiteTable<'a>, op: &Op) -> Option<&'a [u8]>
     text_of(sites, op.site.expansion, value)
 }
 
-/// The text that an expression stands for in the expansion of a number. An argument is meant where
+/// The text that an expression gives in the expansion of a number. An argument is meant where
 /// the composite is invoked, so this goes up through the expansions.
 fn text_of<'a>(sites: &SiteTable<'a>, number: u32, value: &'a Expr) -> Option<&'a [u8]>
     ensures { option_copied result ≡ text_in (length sites.now.expansions.now) sites.now.unit.now sites.now.expansions.now number value.now }
@@ -151,7 +151,7 @@ fn text_of<'a>(sites: &SiteTable<'a>, number: u32, value: &'a Expr) -> Option<&'
     None
 }
 
-/// What an expression comes to that should be a text.
+/// What an expression gives that should be a text.
 enum ValueText<'a> {
     Literal(&'a [u8]),
     /// An argument, which is meant where the composite is invoked.
@@ -159,7 +159,7 @@ enum ValueText<'a> {
     Nothing,
 }
 
-/// What an expression in an expansion comes to.
+/// What an expression in an expansion gives.
 fn text_within<'a>(sites: &SiteTable<'a>, expansion: &Expansion, value: &'a Expr) -> ValueText<'a>
     ensures { text_seen result ≡ own_text sites.now.unit.now sites.now.expansions.now expansion.now value.now }
 {
@@ -174,7 +174,7 @@ fn text_within<'a>(sites: &SiteTable<'a>, expansion: &Expansion, value: &'a Expr
     }
 }
 
-/// What a `$` parameter comes to: its argument, or else its default, which may be a further one.
+/// The value of a `$` parameter: its argument, or else its default, which may be a further one.
 /// There are no more of them than parameters, unless they lead back to themselves.
 fn parameter_text<'a>(
     heads: &'a [CompositeParameter],
@@ -202,7 +202,7 @@ fn parameter_text<'a>(
     ValueText::Nothing
 }
 
-/// The forms of an expression that may stand for a text.
+/// The forms of an expression that should be a text.
 enum Form<'a> {
     Literal(&'a [u8]),
     Dollar(&'a [u8]),

@@ -1,4 +1,4 @@
--- How the answers of calls go together, as the definitions do.
+-- How the answers of calls are composed, as in the definitions.
 use Rattle.std.specs.Prelude.{◌≡◌, ℕ, ◌+◌, ◌<◌, ◌≤◌, List, [], ◌∷◌, ◌++◌, length, drop, Some, Result, Ok, Err, IsErrAnd}
 use Rattle.std.proofs.Common.{ap, sym, subst, ◌∙◌, append_assoc, append-nil, get_or}
 use Rattle.std.proofs.lemmas.List.{drop_all}
@@ -13,7 +13,7 @@ use Rattle.language_model.specs.Finds.{IsRefused}
 use Rattle.language_model.proofs.FoundAnswers.{after_after, finds_by, stops}
 use Rattle.spl_value.proofs.Lists.{drop_at}
 
--- what is said of an error that `?` hands on
+-- what is said of an error that `?` returns
 pub fails : {B : Type 0} (o p : Found B) (r : Result B TypeAnswer) (e : TypeAnswer) → IsErrAnd r (λ y. y ≡ e) → o ≡ p → Finds p (Err e) → Finds o r
 fails o p r e h same g = let q = finds_by o p (Err e) same g in let w = err_from_is_err_and r h in subst (Finds o) (sym (w.1 ∙ ap Err w.2)) q
 
@@ -25,7 +25,7 @@ refuses A error at name Memory h = tt
 pub refused_by : (A : Type 0) (r : CheckRefusal) (o : Found A) (a : TypeAnswer) → a ≡ Refused r → o ≡ Err r → Finds o (Err a)
 refused_by A r o a e h = subst (λ a. Finds o (Err a)) (sym e) h
 
--- rows of what is found in turn, each item behind the keys of those before it, the last one's first
+-- rows of what is found in turn, each item after the keys of those before it, the last one's first
 pub record IsRow {X Y K : Type 0} (S : List K → X → Found Y) (R : List K → List X → Found (List Y)) (key : Y → K) : Type 0 where
   pub none : (before : List K) → R before [] ≡ Ok []
   pub more : (before : List K) (x : X) (xs : List X) → R before (x ∷ xs) ≡ after (S before x) (λ y. after (R (key y ∷ before) xs) (λ ys. Ok (y ∷ ys)))

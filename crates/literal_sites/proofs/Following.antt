@@ -1,4 +1,4 @@
--- Expressions behind `$` parameters, as they are followed from expansion to expansion.
+-- The values of `$` parameters, as they are followed from expansion to expansion.
 use Rattle.std.specs.Prelude.{◌≡◌, ℕ, suc, ◌-◌, ◌<◌, List, Option, Some, slice_get}
 use Rattle.std.specs.Option.{option_and_then}
 use Rattle.std.proofs.Common.{ap, sym, ◌∙◌, arith}

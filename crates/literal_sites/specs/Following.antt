@@ -1,4 +1,4 @@
--- What calls answer on what is behind `$` parameters, as the definitions see it.
+-- What calls answer on the values of `$` parameters, as the definitions see it.
 use Rattle.language_model.specs.Literals as L
 use Rattle.literal_sites.specs.declared.follow.Behind.{Behind}
 use Rattle.literal_sites.specs.declared.follow.Behind.TheVariants as B

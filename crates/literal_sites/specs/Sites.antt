@@ -7,7 +7,7 @@ use Rattle.language_model.specs.Policies.{Numbers}
 use Rattle.literal_sites.specs.declared.site.ExpressionSite.{ExpressionSite}
 use Rattle.literal_sites.specs.declared.follow.Follow.{Follow}
 
--- what is behind `$` parameters in the body of an expansion
+-- the values of `$` parameters in the body of an expansion; another expression is its own value
 abbrev pub followed_in : Follow → Expr → Option Expr
 followed_in f = followed f.sites.now.unit.now f.sites.now.expansions.now f.number
 
@@ -17,6 +17,6 @@ behind_at site = followed_in site.follow
 abbrev pub site_seen : ExpressionSite → Site
 site_seen site = record { scope = site.scope.now; follow = behind_at site }
 
--- the number literals that expressions there stand for
+-- the number literals that are the values of expressions there
 abbrev pub numbers_at : ExpressionSite → Numbers
 numbers_at site = number_literal site.scope.now (behind_at site)

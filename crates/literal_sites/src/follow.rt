@@ -1,4 +1,4 @@
-//! The expressions behind `$` parameters.
+//! The expressions that are the values of `$` parameters.
 ghost use Rattle.std.specs.Prelude.{◌≡◌, length};
 ghost use Rattle.std.specs.Option.{option_copied};
 ghost use Rattle.language_model.specs.Literals.{behind, behind_in, followed, parameter_behind};
@@ -9,7 +9,7 @@ ghost use Rattle.literal_sites.specs.Sites.{followed_in};
 use program_tables::{SiteTable, default_named, value_named};
 use spl_tree::{CompositeParameter, Expansion, Expr, ExprKind, Parameter};
 
-/// The body of the expansion at a number, whose `$` parameters have arguments and defaults.
+/// The body of the expansion at a number, whose `$` parameters have arguments and defaults as values.
 #[derive(Clone, Copy)]
 pub struct Follow<'u> {
     pub sites: &'u SiteTable<'u>,
@@ -24,7 +24,7 @@ impl<'u> Follow<'u> {
         Follow { sites, number }
     }
 
-    /// The expression that is no `$` parameter and that this one stands for. An argument is meant
+    /// The value of a `$` parameter, or an expression itself that is none. An argument is meant
     /// where the composite is invoked, so this goes out through the expansions.
     pub fn behind<'e>(&self, expr: &'e Expr) -> Option<&'e Expr>
     where
@@ -49,7 +49,7 @@ impl<'u> Follow<'u> {
         None
     }
 
-    /// What an expression in an expansion stands for.
+    /// The value of a `$` parameter in an expansion, or an expression itself that is none.
     fn behind_in<'e>(&self, expansion: &Expansion, expr: &'e Expr) -> Behind<'e>
     where
         'u: 'e,
@@ -76,7 +76,7 @@ enum Behind<'e> {
     Nowhere,
 }
 
-/// What a `$` parameter stands for: its argument, or else its default, which may be a further one.
+/// The value of a `$` parameter: its argument, or else its default, which may be a further one.
 /// There are no more of them than parameters, unless they lead back to themselves.
 fn parameter_behind<'e>(
     heads: &'e [CompositeParameter],

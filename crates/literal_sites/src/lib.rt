@@ -1,4 +1,4 @@
-//! Where the expressions of an operator stand, and the literals behind their `$` parameters.
+//! Where the expressions of an operator stand, and the literals that are values of their `$` parameters.
 #![tactic(auto)]
 
 mod follow;

@@ -5,7 +5,7 @@ ghost use Rattle.language_model.specs.Finds.{IsRefused};
 use language_model::{CheckError, TypeAnswer, refused_name};
 use std::alloc::Global;
 
-/// A parameter or a clause that isn't had, or that is given twice.
+/// A parameter or a clause that the operator doesn't have, or that is given twice.
 pub fn extra(alloc: Global, at: u32, name: &[u8]) -> TypeAnswer
     ensures { IsRefused E.ExtraParameter at name.now result }
 {

@@ -1,7 +1,7 @@
 use crate::follow::Follow;
 use language_model::Scope;
 
-/// Where the expressions of an operator stand: what they may name, and what is behind their `$`
+/// Where the expressions of an operator stand: what they may name, and the values of their `$`
 /// parameters.
 #[derive(Clone, Copy)]
 pub struct ExpressionSite<'u> {

@@ -1,4 +1,4 @@
--- What a call answers on names, against the definition of what they stand for.
+-- What a call answers on names, against the definition of what they mean.
 use Rattle.std.specs.Prelude.{◌≡◌, ◌<◌, ℕ, suc, List, [], ◌∷◌, Option, Some, None, drop, length}
 use Rattle.std.specs.Borrow.{Bor}
 use Rattle.spl_value.specs.declared.types.Named.{Named}

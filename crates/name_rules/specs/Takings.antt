@@ -28,7 +28,7 @@ index_taken base at x (T.List t) = after (level_index at x.code (out-SplType x.k
 index_taken base at x (T.Map k t) = Ok (K.AtKey x.code, t)
 index_taken base at x _ = mismatch base
 
--- it stands behind what was taken before, and its type is answered
+-- it comes after what was taken before, and its type is answered
 abbrev pub behind : List (Taking (Code Slot)) → Found Taken → Found (List (Taking (Code Slot)) × SplType)
 behind old found = after found (λ x. Ok (old ++ x.0 ∷ [], x.1))
 

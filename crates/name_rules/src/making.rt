@@ -130,7 +130,7 @@ fn take_value(
     Ok(given)
 }
 
-/// What is taken in turn of a code, with the type that this comes to.
+/// What is taken in turn of a code, with the type of the result.
 pub fn select(
     alloc: Global,
     kind: Boxed<SplType>,

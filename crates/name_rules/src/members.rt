@@ -24,7 +24,7 @@ fn own_name(expr: &Expr) -> Option<&Name>
     }
 }
 
-/// A member of a port that is named: the port with its place, the member, and the steps behind it.
+/// A member of a port that is named: the port with its place, the member, and the steps after it.
 pub fn port_member<'s>(
     scope: &'s Scope,
     base: &Expr,

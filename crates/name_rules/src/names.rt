@@ -1,4 +1,4 @@
-//! What the names of an expression stand for.
+//! What the names of an expression mean.
 ghost use Rattle.std.specs.Prelude.{◌≤◌, length, Ok};
 ghost use Rattle.language_model.specs.Scopes.{dollar_of, meant};
 ghost use Rattle.spl_tree.specs.declared.code.Code.TheVariants as C;
@@ -32,7 +32,7 @@ fn holder<'s>(ports: &'s [Port], from: usize, name: &[u8]) -> Option<(usize, usi
     None
 }
 
-/// What a name stands for, by places from 0.
+/// What a name means, by places from 0.
 #[derive(Clone, Copy)]
 pub(crate) enum Meaning<'s> {
     Variable(usize, &'s Variable),
@@ -42,7 +42,7 @@ pub(crate) enum Meaning<'s> {
     Nothing,
 }
 
-/// What the name stands for: a variable, an attribute of one port, or the tuple of a port.
+/// What the name means: a variable, an attribute of one port, or the tuple of a port.
 pub(crate) fn meaning_of<'s>(scope: &'s Scope, name: &[u8]) -> Meaning<'s>
     ensures { Means (meant scope.now name.now) result }
 {
@@ -119,7 +119,7 @@ pub fn name_typed(alloc: Global, scope: &Scope, at: u32, name: &[u8]) -> Result<
     }
 }
 
-/// The type and the code of what stands for a `$` parameter, or the refusal of that.
+/// The type and the code of the value of a `$` parameter, or the refusal of that value.
 pub fn dollar_typed(alloc: Global, scope: &Scope, at: u32, name: &[u8]) -> Result<Typed, TypeAnswer>
     ensures { Finds (dollar_typed at name.now (dollar_of scope.now.dollars name.now)) result }
 {

@@ -1,4 +1,4 @@
--- How the answers of calls go together, as the definition of outputs does.
+-- How the answers of calls are composed, as in the definition of outputs.
 use Rattle.std.specs.Prelude.{◌≡◌, ◌+◌, List, [], ◌∷◌, ◌++◌, Ok, Err}
 use Rattle.std.proofs.Common.{refl, ap, sym, ◌∙◌, append_assoc}
 use Rattle.language_model.specs.Typing.{Found, after}

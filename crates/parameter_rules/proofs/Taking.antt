@@ -7,7 +7,7 @@ use Rattle.language_model.specs.declared.checked.Given.{Given}
 use Rattle.language_model.specs.ParameterTyping.{value_given}
 use Rattle.parameter_rules.specs.Taking.{KeepsOthers}
 
--- one of another name isn't missed
+-- one of another name is still found
 kept : (given : List Given) (at : ℕ) (g : Given) (other : List ℕ) → slice_get given at ≡ Some g → bytes_eq g.name other ≡ false
     → value_given (remove given at) other ≡ value_given given other
 kept [] zero g other h n = refl

@@ -1,4 +1,4 @@
-//! The names of files that expressions stand for.
+//! The names of files that expressions give.
 ghost use Rattle.std.specs.Prelude.{◌≡◌};
 ghost use Rattle.std.specs.Option.{option_copied};
 ghost use Rattle.std.specs.Str.{is_utf8};
@@ -14,8 +14,8 @@ use spl_value::{Bytes, Items, SplType};
 use std::alloc::Global;
 use type_rules::type_of;
 
-/// The name of a file that an expression stands for: it is a text literal, or a `$` parameter of that
-/// type behind which there is one.
+/// The name of a file that an expression gives: it is a text literal, or a `$` parameter of that
+/// type whose value is one.
 pub(crate) fn file_name(
     alloc: Global,
     site: &ExpressionSite,

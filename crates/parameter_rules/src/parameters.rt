@@ -26,7 +26,7 @@ use values::value_of;
 /// its window is.
 ///
 /// `Refused` comes with the first parameter in the text that is refused: one that the operator doesn't
-/// have, one that is given twice, or one whose value is refused. Behind those it comes at the invocation,
+/// have, one that is given twice, or one whose value is refused. After those it comes at the invocation,
 /// which is at `at`, with the name of the first that the operator needs and that isn't given. `Memory` is
 /// as that of `type_of`.
 pub fn parameters_of(
@@ -71,7 +71,7 @@ fn parameters_typing(
     Ok(given)
 }
 
-/// A parameter behind those that are given.
+/// A parameter after those that are given.
 fn parameter_typing(
     alloc: Global,
     site: &ExpressionSite,

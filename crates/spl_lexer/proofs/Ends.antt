@@ -27,12 +27,12 @@ close_behind_none (b ∷ bs) = by (b == 42) bs (close_behind_none bs)
     by true [] h = refl
     by true (c ∷ cs) h = slash (c == 47) c cs h
 
--- a count of one more, behind so many
+-- one more counted after i bytes is a count after i + 1 bytes
 count_on : (i : ℕ) (o : Option ℕ) → option_map (λ n. n + i) (option_map suc o) ≡ option_map (λ n. n + (i + 1)) o
 count_on i None = refl
 count_on i (Some n) = let e : suc n + i ≡ n + (i + 1) = omega arith in ap (λ (m : ℕ). Some m) e
 
--- a count behind none
+-- a count after no bytes is the count itself
 pub none_before : (o : Option ℕ) → option_map (λ n. n + 0) o ≡ o
 none_before None = refl
 none_before (Some n) = let e : n + 0 ≡ n = omega arith in ap (λ (m : ℕ). Some m) e

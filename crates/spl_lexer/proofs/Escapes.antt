@@ -8,7 +8,7 @@ abbrev pub behind : List ℕ → Result (List ℕ) ℕ → Result (List ℕ) ℕ
 behind text (Ok bs) = Ok (text ++ bs)
 behind text (Err at) = Err at
 
--- what is still to come behind i bytes, of which the last may be a backslash
+-- what is read after i bytes, the last of which may be a backslash
 abbrev pub to_come : Bool → (i : ℕ) → List ℕ → Result (List ℕ) ℕ
 to_come false i bs = unescaped (i + 1) bs
 to_come true i bs = unescaped i (92 ∷ bs)

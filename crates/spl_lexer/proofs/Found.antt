@@ -71,7 +71,7 @@ symbol_found (b ∷ bs) some blank letter digit dollar quote line block = sym (s
 pub digits_found : (bs : List ℕ) (n : ℕ) → n ≡ prefix_len is_digit bs → list_all is_digit (take n bs) ≡ true
 digits_found bs n e = ap (λ m. list_all is_digit (take m bs)) e ∙ take-prefix_len is_digit bs
 
--- what is found behind a number's digits and letters
+-- what is found once a number's digits and letters are read
 abbrev Number : List ℕ → Bool → ℕ → ℕ → IntKind → Front
 Number bs run_on n end kind = cond run_on (Refuse E.BadNumber 0) (as_front end (number_kind (fold digit_step 0 (take n bs)) (Some kind)))
 

@@ -9,7 +9,7 @@ none_of : (k : ℕ) (bs : List ℕ) → ((m : ℕ) → 0 < m → m ≤ k → is_
 none_of zero bs none = refl
 none_of (suc k) bs none = rw (none (suc k) (omega arith) (omega arith)) (none_of k bs (λ m a b. none m a (omega arith)))
 
--- the first byte and n behind it have the form of a token, and no more do
+-- the first byte and n after it have the form of a token, and no more do
 longest_behind : (b : ℕ) (bs : List ℕ) (n : ℕ) → n ≤ length bs → is_formed (b ∷ take n bs) ≡ true
     → ((m : ℕ) → n < m → m ≤ length bs → is_formed (b ∷ take m bs) ≡ false) → longest_front (length (b ∷ bs)) (b ∷ bs) ≡ suc n
 longest_behind b bs n within formed beyond = longest_front-is (suc (length bs)) (suc n) (b ∷ bs) (omega arith) formed each
@@ -26,7 +26,7 @@ none_behind b bs none = none_of (suc (length bs)) (b ∷ bs) each
     each zero more most = absurd (omega arith)
     each (suc m) more most = none m (omega arith)
 
--- no gap begins at the byte b, behind which bs stand
+-- no gap begins at the byte b, which is followed by bs
 pub record IsDense (b : ℕ) (bs : List ℕ) : Type 0 where
   pub blank : is_blank b ≡ false
   pub line : ((b == 47) && begins (λ c. c == 47) bs) ≡ false

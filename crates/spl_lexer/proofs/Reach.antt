@@ -66,7 +66,7 @@ is_word-none (suc m) (b ∷ bs) h = rw h refl
 
 -- Numbers
 
--- what stands behind the digits of a front
+-- what comes after the digits of a front
 pub suffix-take : (m : ℕ) (bs : List ℕ) → suffix (take m bs) ≡ take (m - prefix_len is_digit bs) (drop (prefix_len is_digit bs) bs)
 suffix-take m bs = rw (prefix_len-take is_digit m bs) (by (prefix_len is_digit bs))
   where

@@ -17,9 +17,9 @@ use std::alloc::Global;
 /// What stands at the front of bytes, with lengths and places in bytes from the front on.
 #[derive(Drop)]
 pub(crate) enum Scanned {
-    /// A token of so many bytes.
+    /// A token, with its length in bytes.
     Token(TokenKind, usize),
-    /// So many bytes that separate tokens.
+    /// Bytes that separate tokens: their number.
     Gap(usize),
     /// Nothing that may stand there: why, and where.
     Refused(LexicalError, usize),
@@ -67,7 +67,7 @@ fn by_first_byte(alloc: Global, bytes: &[u8]) -> Result<Scanned, NoMemory>
     Ok(symbol(bytes))
 }
 
-// Behind `/*`.
+// A comment, after its `/*`.
 #[tactic(auto, using(crate::proofs::Fronts::comment_is))]
 fn comment(bytes: &[u8]) -> Scanned
     ensures { front_of result ≡ front (47 ∷ 42 ∷ bytes.now) }

@@ -63,7 +63,7 @@ pub(crate) fn comment_length(bytes: &[u8]) -> Option<usize>
     None
 }
 
-/// How many bytes there are behind a quote up to the one that closes the text, and with it. `None`
+/// How many bytes there are after a quote, up to the one that closes the text and with it. `None`
 /// is a text that isn't closed on its line.
 #[tactic(auto, using(crate::proofs::Ends::text_on, crate::proofs::Ends::text_end, crate::proofs::Ends::text_open, crate::proofs::Ends::none_before))]
 pub(crate) fn text_length(quote: u8, bytes: &[u8]) -> Option<usize>

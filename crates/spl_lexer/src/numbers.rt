@@ -25,7 +25,7 @@ fn signed_suffix(bytes: &[u8]) -> (IntKind, usize)
     }
 }
 
-// The same behind a `u`.
+// The same after a `u`.
 fn unsigned_suffix(bytes: &[u8]) -> (IntKind, usize)
     ensures { result ≡ width_ahead IntKind.U8 IntKind.U16 IntKind.U32 IntKind.U64 bytes.now }
 {
@@ -56,7 +56,7 @@ fn suffix(bytes: &[u8]) -> (IntKind, usize)
     }
 }
 
-// The number of the kind that digits spell, of so many bytes with its suffix.
+// The number of the kind that digits spell. With its suffix it has `end` bytes.
 fn of_kind(kind: IntKind, digits: &[u8], end: usize) -> Scanned
     requires some { 0 < length digits.now }
     requires all { list_all is_digit digits.now ≡ true }

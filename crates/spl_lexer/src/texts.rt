@@ -58,7 +58,7 @@ fn unescape(alloc: Global, bytes: &[u8]) -> Result<Unescaped, NoMemory>
     Ok(Unescaped::Bytes(text))
 }
 
-/// The text behind this quote.
+/// The text after this quote.
 #[tactic(auto, using(crate::proofs::Found::open_found))]
 pub(crate) fn text(alloc: Global, quote: u8, bytes: &[u8]) -> Result<Scanned, NoMemory>
     requires { is_quote quote ≡ true }

@@ -49,7 +49,7 @@ pub(crate) fn word(alloc: Global, bytes: &[u8]) -> Result<Scanned, NoMemory>
     }
 }
 
-/// The `$` parameter, where these bytes stand behind the `$`.
+/// The `$` parameter, where these bytes come after the `$`.
 #[tactic(auto, using(crate::proofs::Fronts::dollar_front, crate::proofs::Fronts::dollar_none))]
 pub(crate) fn dollar(alloc: Global, bytes: &[u8]) -> Result<Scanned, NoMemory>
     ensures { IfOk result (λ ahead. front_of ahead ≡ front (36 ∷ bytes.now)) }

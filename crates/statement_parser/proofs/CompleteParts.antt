@@ -1,4 +1,4 @@
--- What lines of units come to on the parts of phrases: tokens, expressions and lists.
+-- The results of lines of units on the parts of phrases: tokens, expressions and lists.
 use Rattle.std.proofs.Common.{◌≡◌, ◌∙◌, ℕ, zero, suc, ◌<◌, Bool, true, false, if◌then◌else◌, List, [], ◌∷◌, ◌++◌, refl, ap, append_assoc}
 use Rattle.std.specs.Str.{bytes_eq}
 use Rattle.std.proofs.lemmas.Bool.{false_from_ne_true}
@@ -94,14 +94,14 @@ only r = runs_call r runs_done
 
 -- Expressions
 
--- of two choices by one test, each way comes to the same
+-- two choices by one test are the same where each way is the same
 if_same : {X : Type 0} (b : Bool) {x y x' y' : X} → x ≡ x' → y ≡ y' → (if b then x else y) ≡ (if b then x' else y')
 if_same true e f = e
 if_same false e f = f
 
 module _ (c : (x : Line) → Reader (Value x)) (d : (x : expressions.Line) → Reader (expressions.Value x))
     (same : (x : expressions.Line) (ts : List Token) → c (Expression x) ts ≡ d x ts) where
-  -- a rule of expressions comes to what it comes to among them
+  -- a lifted rule of expressions has the same result as the rule itself
   run_lifted : {A : Type 0} (r : Rule expressions.Line expressions.Value A) (ts : List Token) → run c (lifted r) ts ≡ run d r ts
   run_lifted (done x) ts = refl
   run_lifted stop ts = refl
@@ -115,7 +115,7 @@ module _ (c : (x : Line) → Reader (Value x)) (d : (x : expressions.Line) → R
       by (Refused rest) behind = refl
       by Spent behind = refl
 
--- a line of expressions comes to what it comes to among them
+-- a line of expressions has the same result as in the grammar of expressions
 read_expression : (n : ℕ) (x : expressions.Line) (ts : List Token) → read rule n (Expression x) ts ≡ read expressions.rule n x ts
 unfolding read rule
 read_expression zero x ts = refl
@@ -124,7 +124,7 @@ read_expression (suc n) x ts = run_lifted (read rule n) (read expressions.rule n
 pub embedded : {x : expressions.Line} {ts : List Token} {o : Answer (expressions.Value x)} → Reads expressions.rule x ts o → Reads rule (Expression x) ts o
 embedded {x} {ts} r = record { depth = r.depth; is = read_expression r.depth x ts ∙ r.is }
 
--- a symbol ends an expression where none goes on behind it
+-- a symbol with which no expression goes on ends an expression
 pub ends : (s : Symbol) (t : Token) (ts : List Token) → 10 < symbol_binds s → Is s t → Stops 10 (t ∷ ts)
 ends s t ts stops e = rw e stops
 
@@ -135,7 +135,7 @@ expression_reads d s {t = t} {rest = rest} stops e r = runs_call (embedded (spel
 
 -- Lists of phrases
 
--- phrases in a row are read one by one, where Behind says of those read what tokens come to behind them
+-- phrases in a row are read one by one; Behind says, of those read, what the result of the tokens after them is
 pub row : {A : Type 0} {P : Phrase A} (Behind : List A → List Token → Type 0)
     → ((xs : List A) (x : A) (b ts : List Token) → P x b → Behind (xs ++ x ∷ []) ts → Behind xs (b ++ ts))
     → {xs : List A} {a : List Token} → Row P xs a → (rest : List Token) → Behind xs rest → Behind [] (a ++ rest)
@@ -148,8 +148,8 @@ pub row_front : {A : Type 0} {P : Phrase A} (p : Token → Bool) → ((x : A) (b
 row_front p shut none rest e = e
 row_front p shut (more xs x a b ds d) rest e = rw (append_assoc a b rest) (row_front p shut ds (b ++ rest) (shut x b rest d))
 
--- phrases with a symbol between them: Before says what tokens come to where one more phrase has to come, and Behind where
--- one stands before; Ends says what may follow a phrase
+-- phrases with a symbol between them: Before says what the result of tokens is where one more phrase has to come, and
+-- Behind where a phrase stands before them; Ends says what may follow a phrase
 pub separated : {A : Type 0} {s : Symbol} {P : Phrase A} (Ends : List Token → Type 0) (Before Behind : List A → List Token → Type 0)
     → ((t : Token) (ts : List Token) → Is s t → Ends (t ∷ ts))
     → ((xs : List A) (x : A) (b ts : List Token) → P x b → Ends ts → Behind (xs ++ x ∷ []) ts → Before xs (b ++ ts))

@@ -1,5 +1,5 @@
--- How what calls answer goes together, as the rules of their lines do. Where a call goes well, a rule is followed one step
--- further (`taken` to `read_expression`); where one hands an error on, it is where the rule stops (`fails`).
+-- How the answers of calls are composed, as the rules of their lines are. Where a call succeeds, a rule is followed one
+-- step further (`taken` to `read_expression`); where one returns an error, it is where the rule stops (`fails`).
 use Rattle.std.proofs.Common.{◌≡◌, ◌∙◌, Bool, false, List, Result, Ok, Err, refl, sym, ap, subst}
 use Rattle.std.specs.Prelude.{IsErrAnd}
 use Rattle.std.proofs.lemmas.Result.{err_from_is_err_and}
@@ -51,7 +51,7 @@ module _ {A : Type 0} {ts : List Token} {o : Answer A} where
   pub name_passed : (r : Name → R A) {name : Name} {rest : List Token} → TakenAs is_name name_at ts name rest → RunsTo rule (r name) rest o → RunsTo rule (expect_name r) ts o
   name_passed r {name} {rest} p q = runs_take ts p.token rest p.taken.here p.taken.passes (subst (λ n. RunsTo rule (r n) rest o) p.is q)
 
-  -- a name behind `$` comes
+  -- a name with `$` before it comes
   pub dollar_passed : (r : Name → R A) {name : Name} {rest : List Token} → TakenAs is_dollar dollar_at ts name rest → RunsTo rule (r name) rest o
       → RunsTo rule (look is_dollar (λ t. r (dollar_at t)) stop) ts o
   dollar_passed r {name} {rest} p q = runs_take ts p.token rest p.taken.here p.taken.passes (subst (λ n. RunsTo rule (r n) rest o) p.is q)
@@ -70,7 +70,7 @@ module _ {A : Type 0} {ts : List Token} {o : Answer A} where
       → Reads expressions.rule x ts (Took v mid) → RunsTo rule (k v) mid o → RunsTo rule (call (Expression x) k) ts o
   expression_read first behind = runs_call (embedded first) behind
 
--- a line that comes to what another one does
+-- a rule that is a line alone has the result of the line
 pub last : {x : Line} {ts : List Token} {o : Answer (Value x)} → Reads rule x ts o → RunsTo rule (call x done) ts o
 unfolding read
 last {o = Took v rest} r = runs_call r runs_done
@@ -85,11 +85,11 @@ says_on on (Ok found) said = on (Took found.0 found.1.now) said
 says_on on (Err (S.At rest)) said = on (Refused rest.now) said
 says_on on (Err S.Memory) said = tt
 
--- what is said of an error that `?` hands on
+-- what is said of an error that `?` returns
 exit : {B : Type 0} (P : Result B Stop → Type 0) (res : Result B Stop) (e : Stop) → IsErrAnd res (λ y. y ≡ e) → P (Err e) → P res
 exit P res e h q = let p = err_from_is_err_and res h in subst P (sym (p.1 ∙ ap Err p.2)) q
 
--- a line whose rule comes to the rule r at mid, which stops
+-- a line whose rule goes on with the rule r at mid, which stops
 pub fails : (x : Line) (ts mid : List Token) (r : R (Value x)) (res : Answered (Value x)) (e : Stop) → IsErrAnd res (λ y. y ≡ e)
     → ((o : Answer (Value x)) → RunsTo rule r mid o → Reads rule x ts o) → Comes r mid (Err e) → Gives x ts res
 fails x ts mid r res e h on c = exit (Gives x ts) res e h (says_on {P = RunsTo rule r mid} {Q = Reads rule x ts} on (Err e) c)
@@ -99,7 +99,7 @@ pub rule_fails : {A : Type 0} (q r : R A) (ts mid : List Token) (res : Answered 
     → ((o : Answer A) → RunsTo rule r mid o → RunsTo rule q ts o) → Comes r mid (Err e) → Comes q ts res
 rule_fails {A} q r ts mid res e h on c = exit (Comes q ts) res e h (says_on {P = RunsTo rule r mid} {Q = RunsTo rule q ts} on (Err e) c)
 
--- a rule that comes to the rule r at mid comes to what is answered of it
+-- a rule that goes on with the rule r at mid has the result that is answered for r
 pub rule_on : {A : Type 0} (q r : R A) (ts mid : List Token) (res : Answered A) → ((o : Answer A) → RunsTo rule r mid o → RunsTo rule q ts o) → Comes r mid res
     → Comes q ts res
 rule_on q r ts mid res on c = says_on {P = RunsTo rule r mid} {Q = RunsTo rule q ts} on res c

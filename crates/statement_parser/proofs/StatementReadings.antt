@@ -1,4 +1,4 @@
--- Rules behind one another, how many tokens rules leave, and what ends the arms of an `if`.
+-- Rules after one another, how many tokens rules leave, and what ends the arms of an `if`.
 use Rattle.std.proofs.Common.{◌≡◌, ◌∙◌, ℕ, zero, suc, ◌+◌, ◌<◌, ◌≤◌, Bool, true, false, if◌then◌else◌, List, [], ◌∷◌, length, None, Err, refl, sym, subst, arith}
 use Rattle.spl_tree.specs.StatementGrammar.{Stmt}
 use Rattle.spl_tree.specs.declared.keyword.Keyword.TheVariants as K
@@ -15,7 +15,7 @@ use Rattle.statement_parser.specs.Gives.{Comes}
 use Rattle.statement_parser.specs.Lines as lines
 use Rattle.statement_parser.specs.Lines.{Line, Value, TypeExpression, Statement, Other, Arms, rule, R, is_word}
 
--- ---- a rule behind another one
+-- ---- a rule after another one
 
 abbrev pub behind : {A B : Type 0} → R A → (A → R B) → R B
 behind (done x) k = k x
@@ -27,7 +27,7 @@ module _ {A B : Type 0} (n : ℕ) (k : A → R B) where
   abbrev go : A → List Token → Answer B
   go x rest = run (read rule n) (k x) rest
 
-  -- it comes to what they come to in turn
+  -- its result is that of the two in turn
   behind_is : (r : R A) (ts : List Token) → run (read rule n) (behind r k) ts ≡ and_then (run (read rule n) r ts) go
   behind_is (done x) ts = refl
   behind_is stop ts = refl
@@ -52,7 +52,7 @@ module _ {A B : Type 0} (r : R A) (k : A → R B) {ts : List Token} where
   both : {v : A} {mid : List Token} (o : Answer B) (n : ℕ) → run (read rule n) r ts ≡ Took v mid → run (read rule n) (k v) mid ≡ o → RunsTo rule (behind r k) ts o
   both o n first second = record { depth = n; is = behind_is n k r ts ∙ rw first second }
 
-  -- the first goes well
+  -- the first succeeds
   pub part_read : {v : A} {mid : List Token} {o : Answer B} → RunsTo rule r ts (Took v mid) → RunsTo rule (k v) mid o → RunsTo rule (behind r k) ts o
   part_read {v} {mid} {o = Took x rest} first second =
       let n = first.depth + second.depth in
@@ -125,7 +125,7 @@ module _ {A : Type 0} {n : ℕ} where
   eager_stop : Eager {A = A} n stop
   eager_stop = record { less = λ ts. tt }
 
-  -- behind a test that passes it has taken one
+  -- after a test that passes, it has taken one
   eager_look : {p : Token → Bool} {f : Token → R A} {d : R A} → Eager n d → Eager n (look p f d)
   eager_look {p} {f} {d} h = record { less = by }
     where
@@ -138,7 +138,7 @@ module _ {A : Type 0} {n : ℕ} where
       by [] = h.less []
       by (t ∷ ts) = by_test t ts (p t) (run_shrinks n (f t) ts) (h.less (t ∷ ts))
 
-  -- and behind a line that takes one
+  -- and after a line that takes one
   eager_call : {y : Line} {k : Value y → R A} → ((ts : List Token) → Less (read rule n y ts) (length ts)) → Eager n (call y k)
   eager_call {y} {k} h = record { less = λ ts. by ts (read rule n y ts) (h ts) }
     where
@@ -169,7 +169,7 @@ statement_eager n = eager_look (eager_call (line_less Other other_eager n))
 pub statement_shrinks : {s : Stmt × Bool} {ts rest : List Token} → Reads rule Statement ts (Took s rest) → length rest < length ts
 statement_shrinks {ts = ts} h = subst (λ o. Less o (length ts)) h.is (line_less Statement statement_eager h.depth ts)
 
--- ---- behind the arms of an `if`
+-- ---- after the arms of an `if`
 
 module _ (at : ℕ) (arms : List (Expr × Stmt)) {ts : List Token} where
   -- no `else`

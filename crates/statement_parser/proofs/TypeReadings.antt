@@ -1,4 +1,4 @@
--- Readings of types with names, lines that go on as other lines, and how many tokens are left behind a reading.
+-- Readings of types with names, lines that go on as other lines, and how many tokens are left after a reading.
 use Rattle.std.proofs.Common.{◌<◌, ◌≤◌, Bool, List, [], ◌∷◌, ◌++◌, length, subst, arith}
 use Rattle.spl_tree.specs.declared.shape.Attribute.{Attribute}
 use Rattle.spl_tree.specs.declared.symbol.Symbol.{Symbol}
@@ -21,12 +21,12 @@ reads_shrinks {x} {ts} r = subst (λ o. length (rest_of o) ≤ length ts) r.is (
 pub taken_as_shrinks : {A : Type 0} {p : Token → Bool} {made : Token → A} {ts rest : List Token} {x : A} → TakenAs p made ts x rest → length rest < length ts
 taken_as_shrinks h = taken_shrinks h.taken
 
--- a line whose rule comes to the rule r at mid gives what r comes to there
+-- a line whose rule goes on with the rule r at mid gives the result of r there
 pub goes : (x : Line) (ts mid : List Token) (r : R (Value x)) (res : Answered (Value x)) → ((o : Answer (Value x)) → RunsTo rule r mid o → Reads rule x ts o)
     → Comes r mid res → Gives x ts res
 goes x ts mid r res on c = says_on {P = RunsTo rule r mid} {Q = Reads rule x ts} on res c
 
--- a rule that is a line alone comes to what the line gives
+-- a rule that is a line alone has the result that the line gives
 pub tail : (y : Line) (ts : List Token) (res : Answered (Value y)) → Gives y ts res → Comes (call y done) ts res
 tail y ts res g = says_on {P = Reads rule y ts} {Q = RunsTo rule (call y done) ts} (λ o q. last q) res g
 

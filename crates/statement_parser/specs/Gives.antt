@@ -1,4 +1,4 @@
--- What a call that reads answers, against what the lines and their rules come to.
+-- What a call that reads answers, against the results of the lines and their rules.
 use Rattle.std.specs.Prelude.{◌≡◌, ℕ, false, List, Option, Some, None, Result, Ok, Err}
 use Rattle.std.specs.Borrow.{Bor}
 use Rattle.spl_tree.specs.declared.expression.Placed.{Placed}
@@ -12,37 +12,37 @@ use Rattle.expr_parser.specs.Taken.{Taken, TakenAs}
 use Rattle.spl_tree.specs.TypeGrammar.{TypeExpr}
 use Rattle.statement_parser.specs.Lines.{Line, Value, rule, R, is_word, is_dollar, dollar_at, is_type, type_of}
 
--- a value and the tokens behind it, or where reading stops
+-- a value and the tokens after it, or where reading stops
 abbrev pub Answered : Type 0 → Type 0
 Answered A = Result (A × Bor (List Token)) Stop
 
--- this holds of what is answered; nothing is said where memory was wanting
+-- this holds of what is answered; nothing is said where memory ran out
 abbrev pub Says : {A : Type 0} → (Answer A → Type 0) → Answered A → Type 0
 Says P (Ok found) = P (Took found.0 found.1.now)
 Says P (Err (S.At rest)) = P (Refused rest.now)
 Says P (Err S.Memory) = Unit {0}
 
--- the rule comes to what is answered
+-- what is answered is the result of the rule
 abbrev pub Comes : {A : Type 0} → R A → List Token → Answered A → Type 0
 Comes r ts res = Says (RunsTo rule r ts) res
 
--- the line comes to it
+-- what is answered is the result of the line
 abbrev pub Gives : (x : Line) → List Token → Answered (Value x) → Type 0
 Gives x ts res = Says (Reads rule x ts) res
 
--- the reserved word comes first, with these tokens behind it, or else it is refused where they begin
+-- the reserved word comes first, with these tokens after it; or else reading stops where the tokens begin
 abbrev pub PassesWord : Keyword → List Token → Result (Bor (List Token)) Stop → Type 0
 PassesWord k ts (Ok rest) = (t : Token) × Taken (is_word k) ts t rest.now
 PassesWord k ts (Err (S.At rest)) = (begins_with (is_word k) ts ≡ false) × (rest.now ≡ ts)
 PassesWord k ts (Err S.Memory) = ⊥
 
--- a name behind `$` comes first, with these tokens behind it, or else it is refused where they begin
+-- a name with `$` before it comes first, with these tokens after it; or else reading stops where the tokens begin
 abbrev pub PassesDollar : List Token → Result (Placed (List ℕ) × Bor (List Token)) Stop → Type 0
 PassesDollar ts (Ok found) = TakenAs is_dollar dollar_at ts found.0 found.1.now
 PassesDollar ts (Err (S.At rest)) = (begins_with is_dollar ts ≡ false) × (rest.now ≡ ts)
 PassesDollar ts (Err S.Memory) = Unit {0}
 
--- a token that is a type by itself comes first, with these tokens behind it, or none does
+-- a token that is a type by itself comes first, with these tokens after it, or none does
 abbrev pub TypeFirst : List Token → Result (Option (TypeExpr × Bor (List Token))) Stop → Type 0
 TypeFirst ts (Ok (Some found)) = TakenAs is_type type_of ts found.0 found.1.now
 TypeFirst ts (Ok None) = begins_with is_type ts ≡ false

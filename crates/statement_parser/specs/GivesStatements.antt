@@ -32,18 +32,18 @@ for_variable = call TypeExpression (λ k. expect_name (λ n. done (record { kind
 abbrev pub gone_over : R Expr
 gone_over = expect_word K.In (expression (λ e. expect S.RightParen (done e)))
 
--- a call behind the parenthesis, as a statement at a place
+-- a call, after its parenthesis, as a statement at a place
 abbrev pub called_rule : ℕ → List ℕ → R Stmt
 called_rule at n =
     call (Expression (expressions.Elements S.RightParen)) (λ es. expect S.Semicolon (done (placed at (Z.Call (placed at (X.Call n es))))))
 
--- an assignment behind the name of its place
+-- an assignment, after the name of its place
 abbrev pub assigned_rule : ℕ → List ℕ → R Stmt
 assigned_rule at n =
     call (Expression (expressions.Steps (placed at (X.Name n)) [])) (λ p.
     look is_assignment (λ t. expression (λ e. expect S.Semicolon (done (placed at (Z.Assign p (assignment_at t) e))))) stop)
 
--- an `else` comes first, behind a statement that is closed, with these tokens behind it; or none does there
+-- an `else` comes first, after a statement that is closed, with these tokens after it; or none does there
 abbrev pub ElseBehind : Bool → List Token → Option (Bor (List Token)) → Type 0
 ElseBehind closed ts (Some rest) = (closed ≡ true) × ((t : Token) × Taken (is_word K.Else) ts t rest.now)
 ElseBehind closed ts None = closed ≡ true → begins_with (is_word K.Else) ts ≡ false

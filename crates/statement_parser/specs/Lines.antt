@@ -54,53 +54,53 @@ pub data Line : Type 0 where
   Expression : expressions.Line → Line
   -- a type
   TypeExpression : Line
-  -- a type, behind the word `list`, `map` or `tuple` at a place
+  -- a type, after the word `list`, `map` or `tuple` at a place
   ListType : ℕ → Line
   MapType : ℕ → Line
   TupleType : ℕ → Line
-  -- one more type with a name, and more of them, behind some, and the symbol that closes them
+  -- one more type with a name, and more of them, after those read so far, and the symbol that closes them
   Attributes : Symbol → List (Attribute TypeExpr) → Line
-  -- the same behind a type and a name
+  -- the same, after a type and a name
   MoreAttributes : Symbol → List (Attribute TypeExpr) → Line
   -- a shape, and the symbol that closes it
   Shaped : Symbol → Line
   -- a declaration of a variable
   Declare : Line
-  -- the same behind its type
+  -- the same, after its type
   Declared : Bool → TypeExpr → Line
-  -- the same behind its name
+  -- the same, after its name
   Valued : Bool → TypeExpr → Name → Line
-  -- declarations up to the closing brace, behind some
+  -- declarations up to the closing brace, after those read so far
   Declarations : List Declaration → Line
   -- a statement
   Statement : Line
   -- a statement that is no `if`
   Other : Line
-  -- a statement behind the name at a place with which it begins
+  -- a statement, after the name at a place with which it begins
   Begun : ℕ → List ℕ → Line
-  -- one more condition and statement of an `if` at a place, and what follows, behind some
+  -- one more condition and statement of an `if` at a place, and what follows, after those read so far
   Arms : ℕ → List (Expr × Stmt) → Line
-  -- statements up to the closing brace, behind some
+  -- statements up to the closing brace, after those read so far
   Statements : List Stmt → Line
   -- statements between braces
   Block : Line
   -- `as` and a name, or neither
   Alias : Line
-  -- a stream behind the word `stream`
+  -- a stream, after the word `stream`
   Stream : Line
-  -- one more stream of a head in parentheses, and more of them, behind some
+  -- one more stream of a head in parentheses, and more of them, after those read so far
   Streams : List OutputStream → Line
-  -- what a head makes, and its alias, behind `stream`
+  -- what a head makes, and its alias, after `stream`
   StreamHead : Line
-  -- the same behind an opening parenthesis
+  -- the same, after an opening parenthesis
   ListHead : Line
-  -- an invocation at a place, behind its head
+  -- an invocation at a place, after its head
   Invoked : ℕ → List OutputStream → Option Name → Line
   -- the input ports up to the closing parenthesis
   Inputs : Line
-  -- one more of them, and more, behind some
+  -- one more of them, and more, after those read so far
   MoreInputs : List InputPort → Line
-  -- one more stream of a port, and more of them, behind some
+  -- one more stream of a port, and more of them, after those read so far
   InputStreams : List Name → Line
   -- what ends an invocation
   End : Line
@@ -108,14 +108,14 @@ pub data Line : Type 0 where
   LogicClause : Line
   -- the variables of a state, or none
   State : Line
-  -- handlers of events, behind some
+  -- handlers of events, after those read so far
   Handlers : List (Placed Handler) → Line
-  -- a handler behind its first word at a place
+  -- a handler at a place, after its first word
   HandlerOf : ℕ → HandledEvent → Line
   -- `window` and what follows, or nothing
   WindowClause : Line
   Windows : List PortWindow → Line
-  -- one more part of a window, and more of them up to the `;`, behind some
+  -- one more part of a window, and more of them up to the `;`, after those read so far
   WindowParts : List WindowPart → Line
   -- arguments in parentheses, or none
   PartArguments : Line
@@ -125,13 +125,13 @@ pub data Line : Type 0 where
   -- `output` and what follows, or nothing
   OutputClause : Line
   Outputs : List OutputAssignments → Line
-  -- one more assignment, and more of them up to the `;`, behind some
+  -- one more assignment, and more of them up to the `;`, after those read so far
   Assignments : List (Field Expr) → Line
-  -- a composite behind its first word
+  -- a composite, after its first word
   CompositeOf : Line
   -- the ports of a head in parentheses, or none
   HeadPorts : Line
-  -- the ports behind `output` or `input`: one more of them, and more, behind some
+  -- the ports after `output` or `input`: one more of them, and more, after those read so far
   Ports : List HeadPort → Line
   -- a port
   Port : Line
@@ -148,11 +148,11 @@ pub data Line : Type 0 where
   Graph : List Invocation → Line
   -- a name and its shape
   TypeOf : Line
-  -- a function behind the type of its result
+  -- a function, after the type of its result
   FunctionOf : Option TypeExpr → Line
   -- its parameters up to the closing parenthesis
   FunctionParameters : Line
-  -- definitions, behind some
+  -- definitions, after those read so far
   Definitions : List Definition → Line
   -- one more name of a namespace, and more of them up to the `;`
   Namespace : Line
@@ -334,7 +334,7 @@ for_head_rule r =
     expect S.LeftParen (call TypeExpression (λ k. look is_name (λ v. expect_word K.In (expression (λ e. expect S.RightParen
     (r (named k v (name_of v)) e)))) stop))
 
--- statements at a place, behind their first token
+-- statements at a place, after their first token
 abbrev pub braces_rule : ℕ → R (Stmt × Bool)
 braces_rule at = call (Statements []) (λ ss. done (placed at (Z.Block ss), true))
 
@@ -383,7 +383,7 @@ other_rule =
     (look (is_word K.For) (λ t. for_rule t.start)
     simple_rule))
 
--- behind its first name a statement is a declaration, a call or an assignment
+-- after its first name a statement is a declaration, a call or an assignment
 abbrev pub begun_rule : ℕ → List ℕ → R Stmt
 begun_rule at n =
     look is_name (λ t. call (Valued false (placed at (Y.Name n)) (name_at t)) (λ d. done (placed at (Z.Declare d))))
@@ -392,11 +392,11 @@ begun_rule at n =
     (call (Expression (expressions.Steps (placed at (X.Name n)) [])) (λ p.
     look is_assignment (λ t. expression (λ e. expect S.Semicolon (done (placed at (Z.Assign p (assignment_at t) e))))) stop)))
 
--- the statement behind the last `else` of an `if`
+-- the statement after the last `else` of an `if`
 abbrev pub last_branch_rule : ℕ → List (Expr × Stmt) → R (Stmt × Bool)
 last_branch_rule at arms = call Other (λ s. done (placed at (Z.If arms (Some s.0)), s.1))
 
--- behind the arms of an `if`: an `else` that could belong to the last statement was taken with it
+-- after the arms of an `if`: an `else` that could belong to the last statement was taken with it
 abbrev pub arms_end : ℕ → List (Expr × Stmt) → Bool → R (Stmt × Bool)
 arms_end at arms true =
     look (is_word K.Else) (λ _. look (is_word K.If) (λ _. call (Arms at arms) done) (last_branch_rule at arms))

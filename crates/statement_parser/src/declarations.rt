@@ -26,7 +26,7 @@ pub fn declaration<'t>(alloc: Global, ts: &'t [Token]) -> Taken<'t, Declaration>
     }
 }
 
-/// A declaration, behind its type.
+/// A declaration, after its type.
 pub(crate) fn declared<'t>(
     alloc: Global,
     mutable: bool,
@@ -39,7 +39,7 @@ pub(crate) fn declared<'t>(
     valued(alloc, mutable, kind, name, behind)
 }
 
-/// A declaration, behind its name.
+/// A declaration, after its name.
 pub(crate) fn valued<'t>(
     alloc: Global,
     mutable: bool,

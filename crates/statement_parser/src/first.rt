@@ -20,7 +20,7 @@ fn is_word(token: &Token, word: Keyword) -> bool
     }
 }
 
-/// The first token, where it is the reserved word, and the tokens behind it.
+/// The first token, where it is the reserved word, and the tokens after it.
 pub fn word_first(ts: &[Token], word: Keyword) -> Option<(&Token, &[Token])>
     ensures { MatchOption result (begins_with (is_word word) ts.now ≡ false)
         (λ found. Taken (is_word word) ts.now found.0.now found.1.now) }
@@ -33,7 +33,7 @@ pub fn word_first(ts: &[Token], word: Keyword) -> Option<(&Token, &[Token])>
     }
 }
 
-/// The tokens behind a reserved word that has to come first.
+/// The tokens after a reserved word that has to come first.
 pub fn pass_word<'t>(ts: &'t [Token], word: Keyword) -> Result<&'t [Token], Stop<'t>>
     ensures { PassesWord word ts.now result }
 {
@@ -43,7 +43,7 @@ pub fn pass_word<'t>(ts: &'t [Token], word: Keyword) -> Result<&'t [Token], Stop
     }
 }
 
-/// A name behind `$` that has to come first, with its place, and the tokens behind it.
+/// A name after `$` that has to come first, with its place, and the tokens after it.
 pub fn pass_dollar<'t>(
     alloc: Global,
     ts: &'t [Token],
@@ -75,7 +75,7 @@ fn keyword_type(word: Keyword) -> Option<TypeKind>
     }
 }
 
-/// The type that the first token is by itself, where it is one, and the tokens behind it.
+/// The type that the first token is by itself, where it is one, and the tokens after it.
 pub(crate) fn type_first<'t>(
     alloc: Global,
     ts: &'t [Token],
@@ -120,7 +120,7 @@ fn assignment(kind: &TokenKind) -> Option<Option<BinaryOperator>>
     }
 }
 
-/// The operator of the assignment that the first token is, none for `=`, and the tokens behind it.
+/// The operator of the assignment that the first token is, none for `=`, and the tokens after it.
 pub(crate) fn assignment_first(ts: &[Token]) -> Option<(Option<BinaryOperator>, &[Token])>
     ensures { MatchOption result (begins_with is_assignment ts.now ≡ false)
         (λ found. TakenAs is_assignment assignment_at ts.now found.0 found.1.now) }

@@ -32,7 +32,7 @@ pub(crate) fn condition<'t>(alloc: Global, ts: &'t [Token]) -> Taken<'t, Expr>
     Ok((condition, behind))
 }
 
-/// The tokens behind an `else` that comes first, where one can belong to the `if` whose last statement
+/// The tokens after an `else` that comes first, where one can belong to the `if` whose last statement
 /// stands before it: an `else` that could belong to that statement itself was taken with it.
 pub(crate) fn else_first(closed: bool, ts: &[Token]) -> Option<&[Token]>
     ensures { statements.ElseBehind closed ts.now result }
@@ -63,7 +63,7 @@ fn for_variable<'t>(alloc: Global, ts: &'t [Token]) -> Taken<'t, Attribute<TypeE
     Ok((Attribute { kind, name }, behind))
 }
 
-/// What a `for` goes over, behind its variable, and the closing parenthesis.
+/// What a `for` goes over, after its variable, and the closing parenthesis.
 fn gone_over<'t>(alloc: Global, ts: &'t [Token]) -> Taken<'t, Expr>
     ensures { Comes statements.gone_over ts.now result }
 {
@@ -116,7 +116,7 @@ pub(crate) fn simple_statement<'t>(alloc: Global, ts: &'t [Token]) -> Taken<'t, 
     }
 }
 
-/// A `break`, behind its word.
+/// A `break`, after its word.
 fn broken<'t>(alloc: Global, at: u32, ts: &'t [Token]) -> Taken<'t, (Stmt, bool)>
     ensures { Comes (lines.ended_rule at Z.Break) ts.now result }
 {
@@ -124,7 +124,7 @@ fn broken<'t>(alloc: Global, at: u32, ts: &'t [Token]) -> Taken<'t, (Stmt, bool)
     statement_at(alloc, at, StmtKind::Break, true, behind)
 }
 
-/// A `continue`, behind its word.
+/// A `continue`, after its word.
 fn continued<'t>(alloc: Global, at: u32, ts: &'t [Token]) -> Taken<'t, (Stmt, bool)>
     ensures { Comes (lines.ended_rule at Z.Continue) ts.now result }
 {
@@ -132,7 +132,7 @@ fn continued<'t>(alloc: Global, at: u32, ts: &'t [Token]) -> Taken<'t, (Stmt, bo
     statement_at(alloc, at, StmtKind::Continue, true, behind)
 }
 
-/// A `return`, behind its word.
+/// A `return`, after its word.
 fn returned<'t>(alloc: Global, at: u32, ts: &'t [Token]) -> Taken<'t, (Stmt, bool)>
     ensures { Comes (lines.returned_rule at) ts.now result }
 {
@@ -144,7 +144,7 @@ fn returned<'t>(alloc: Global, at: u32, ts: &'t [Token]) -> Taken<'t, (Stmt, boo
     statement_at(alloc, at, StmtKind::Return(Some(value)), true, behind)
 }
 
-/// A `submit`, behind its word.
+/// A `submit`, after its word.
 fn submitted<'t>(alloc: Global, at: u32, ts: &'t [Token]) -> Taken<'t, (Stmt, bool)>
     ensures { Comes (lines.submitted_rule at) ts.now result }
 {
@@ -157,7 +157,7 @@ fn submitted<'t>(alloc: Global, at: u32, ts: &'t [Token]) -> Taken<'t, (Stmt, bo
     statement_at(alloc, at, StmtKind::Submit(value, stream), true, behind)
 }
 
-/// A declaration as a statement, behind its `mutable`.
+/// A declaration as a statement, after its `mutable`.
 fn mutable_variable<'t>(alloc: Global, at: u32, ts: &'t [Token]) -> Taken<'t, (Stmt, bool)>
     ensures { Comes (lines.mutable_rule at) ts.now result }
 {
@@ -176,7 +176,7 @@ fn variable<'t>(alloc: Global, ts: &'t [Token]) -> Taken<'t, (Stmt, bool)>
     statement_at(alloc, at, StmtKind::Declare(declaration), true, behind)
 }
 
-/// A statement behind the name with which it begins: a declaration, a call or an assignment.
+/// A statement, after the name with which it begins: a declaration, a call or an assignment.
 fn begun<'t>(alloc: Global, at: u32, name: Name, ts: &'t [Token]) -> Taken<'t, Stmt>
     ensures { Gives (lines.Begun at name) ts.now result }
 {
@@ -193,7 +193,7 @@ fn begun<'t>(alloc: Global, at: u32, name: Name, ts: &'t [Token]) -> Taken<'t, S
     }
 }
 
-/// A call as a statement, behind its parenthesis.
+/// A call as a statement, after its parenthesis.
 fn called<'t>(alloc: Global, at: u32, name: Name, ts: &'t [Token]) -> Taken<'t, Stmt>
     ensures { Comes (statements.called_rule at name) ts.now result }
 {
@@ -204,7 +204,7 @@ fn called<'t>(alloc: Global, at: u32, name: Name, ts: &'t [Token]) -> Taken<'t, 
     Ok((statement, behind))
 }
 
-/// A place, behind the name with which it begins.
+/// A place, after the name with which it begins.
 fn place<'t>(alloc: Global, at: u32, name: Name, ts: &'t [Token]) -> Taken<'t, Expr>
     ensures { Answers (expressions.Steps (placed at (X.Name name)) []) ts.now result }
 {
@@ -212,7 +212,7 @@ fn place<'t>(alloc: Global, at: u32, name: Name, ts: &'t [Token]) -> Taken<'t, E
     read_steps(alloc, base, ts)
 }
 
-/// An assignment, behind the name of its place.
+/// An assignment, after the name of its place.
 fn assigned<'t>(alloc: Global, at: u32, name: Name, ts: &'t [Token]) -> Taken<'t, Stmt>
     ensures { Comes (statements.assigned_rule at name) ts.now result }
 {

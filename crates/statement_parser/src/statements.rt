@@ -1,5 +1,5 @@
 //! Statements. `depth` is how deep statements may still nest in one another. Beside a statement stands
-//! whether it is closed: whether an `else` behind it would belong to none of its own `if`.
+//! whether it is closed: whether an `else` after it would belong to none of its own `if`.
 ghost use Rattle.std.specs.Prelude.{[]};
 ghost use Rattle.statement_parser.specs.Gives.{Gives, Comes};
 ghost use Rattle.statement_parser.specs.Lines as lines;
@@ -79,7 +79,7 @@ fn other<'t>(alloc: Global, depth: u32, ts: &'t [Token]) -> Taken<'t, (Stmt, boo
     }
 }
 
-/// A block, behind its opening brace.
+/// A block, after its opening brace.
 #[cycle(statements)]
 fn braces<'t>(alloc: Global, depth: u32, at: u32, ts: &'t [Token]) -> Taken<'t, (Stmt, bool)>
     ensures { Comes (lines.braces_rule at) ts.now result }
@@ -91,7 +91,7 @@ fn braces<'t>(alloc: Global, depth: u32, at: u32, ts: &'t [Token]) -> Taken<'t, 
     statement_at(alloc, at, StmtKind::Block(inside), true, behind)
 }
 
-/// A `while`, behind its word.
+/// A `while`, after its word.
 #[cycle(statements)]
 fn while_loop<'t>(alloc: Global, depth: u32, at: u32, ts: &'t [Token]) -> Taken<'t, (Stmt, bool)>
     ensures { Comes (lines.while_rule at) ts.now result }
@@ -101,7 +101,7 @@ fn while_loop<'t>(alloc: Global, depth: u32, at: u32, ts: &'t [Token]) -> Taken<
     statement_at(alloc, at, StmtKind::While(condition, body), closed, behind)
 }
 
-/// A `for`, behind its word.
+/// A `for`, after its word.
 #[cycle(statements)]
 fn for_loop<'t>(alloc: Global, depth: u32, at: u32, ts: &'t [Token]) -> Taken<'t, (Stmt, bool)>
     ensures { Comes (lines.for_rule at) ts.now result }
@@ -117,7 +117,7 @@ fn for_loop<'t>(alloc: Global, depth: u32, at: u32, ts: &'t [Token]) -> Taken<'t
     )
 }
 
-/// The conditions of an `if` and of each `else if` behind it, with their statements, and the statement
+/// The conditions of an `if` and of each `else if` after it, with their statements, and the statement
 /// of an `else`.
 #[cycle(statements)]
 fn arms<'t>(alloc: Global, depth: u32, at: u32, ts: &'t [Token]) -> Taken<'t, (Stmt, bool)>
@@ -139,7 +139,7 @@ fn arms<'t>(alloc: Global, depth: u32, at: u32, ts: &'t [Token]) -> Taken<'t, (S
     }
 }
 
-/// The statement behind the last `else` of an `if`.
+/// The statement after the last `else` of an `if`.
 #[cycle(statements)]
 fn last_branch<'t>(
     alloc: Global,

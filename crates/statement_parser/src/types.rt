@@ -44,7 +44,7 @@ fn type_at<'t>(alloc: Global, depth: u32, ts: &'t [Token]) -> Taken<'t, TypeExpr
     }
 }
 
-/// A type of lists, behind `list`.
+/// A type of lists, after `list`.
 #[cycle(types)]
 fn list_type<'t>(alloc: Global, depth: u32, at: u32, ts: &'t [Token]) -> Taken<'t, TypeExpr>
     ensures { Gives (lines.ListType at) ts.now result }
@@ -56,7 +56,7 @@ fn list_type<'t>(alloc: Global, depth: u32, at: u32, ts: &'t [Token]) -> Taken<'
     Ok((kind, behind))
 }
 
-/// A type of maps, behind `map`.
+/// A type of maps, after `map`.
 #[cycle(types)]
 fn map_type<'t>(alloc: Global, depth: u32, at: u32, ts: &'t [Token]) -> Taken<'t, TypeExpr>
     ensures { Gives (lines.MapType at) ts.now result }
@@ -70,7 +70,7 @@ fn map_type<'t>(alloc: Global, depth: u32, at: u32, ts: &'t [Token]) -> Taken<'t
     Ok((kind, behind))
 }
 
-/// A type of tuples, behind `tuple`.
+/// A type of tuples, after `tuple`.
 #[cycle(types)]
 fn tuple_type<'t>(alloc: Global, depth: u32, at: u32, ts: &'t [Token]) -> Taken<'t, TypeExpr>
     ensures { Gives (lines.TupleType at) ts.now result }
@@ -98,7 +98,7 @@ fn attributes<'t>(
     more_attributes(alloc, depth, close, first, behind)
 }
 
-/// More of them behind the first.
+/// More of them after the first.
 #[cycle(types)]
 fn more_attributes<'t>(
     alloc: Global,

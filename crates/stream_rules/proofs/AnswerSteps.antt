@@ -1,4 +1,4 @@
--- How the answers of calls go together, as the definition does.
+-- How the answers of calls are composed, as in the definitions.
 use Rattle.std.specs.Prelude.{◌≡◌, ℕ, List, Err}
 use Rattle.std.proofs.Common.{refl, ap, sym, subst, ◌∙◌}
 use Rattle.spl_value.specs.declared.types.SplType.{SplType}

@@ -25,7 +25,7 @@ origin_in unit expansions site port =
 abbrev pub lead_at : List (Option ℕ) → ℕ → Option ℕ
 lead_at next place = option_and_then (λ lead. lead) (slice_get next place)
 
--- so many places, of which each leads to at most one
+-- `count` places, each of which leads to at most one
 pub record Steps (count : ℕ) (next : List (Option ℕ)) (f : ℕ → List ℕ) : Type 0 where
   pub size : length next ≡ count
   pub each : (place : ℕ) → option_to_list (lead_at next place) ≡ f place

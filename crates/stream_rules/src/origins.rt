@@ -104,7 +104,7 @@ fn flags(alloc: Global, next: &[Option<u32>]) -> Result<Vec<bool>, NoMemory>
     Ok(back)
 }
 
-/// Whether the flag at a place is up.
+/// Whether the flag at a place is set.
 pub(crate) fn flag_at(flags: &[bool], place: u32) -> bool
     ensures { result ≡ flag_at flags.now place }
 {
@@ -130,7 +130,7 @@ impl Leads {
         Ok(Leads { next, back })
     }
 
-    /// The last stream in the row of those that a stream leads to, up to one that leads to a circle.
+    /// The last stream in the row of those that a stream leads to, up to one that leads to a cycle.
     /// There is none where the row has no end.
     pub(crate) fn last(&self, stream: u32) -> Option<u32>
         ensures { (unit : List Definition) (g : Graph) → IsLed unit g self.now → EndsAt unit g self.now stream result }
@@ -150,7 +150,7 @@ impl Leads {
         self.last_step(at)
     }
 
-    /// A stream that leads no further, or to a circle.
+    /// A stream that leads no further, or to a cycle.
     fn last_step(&self, at: u32) -> Option<u32>
         ensures { (unit : List Definition) (g : Graph) → IsLed unit g self.now → EndsHere unit g self.now at result }
     {

@@ -56,10 +56,10 @@ fn outputs_checked(
 /// The attributes of an operator's inputs and outputs: those of its streams.
 ///
 /// `Refused` is the first refusal of a stream, outputs before inputs, or a mismatch: at the shape of an
-/// output or input of a composite's head, or of an output of an invocation of a composite, that stands
-/// for other attributes; at a name of a port by which a stream of other attributes comes than those of
+/// output or input of a composite's head, or of an output of an invocation of a composite, that has
+/// other attributes; at a name of a port by which a stream of other attributes comes than those of
 /// the first; or at the shape of an output of an operator that passes tuples on, which has other ones
-/// than its input. `Memory` also stands for inputs of heads that stand in one another more than 1,000
+/// than its input. `Memory` is also the answer for inputs of heads that stand in one another more than 1,000
 /// deep.
 pub fn port_types(
     alloc: Global,

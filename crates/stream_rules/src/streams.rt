@@ -38,7 +38,7 @@ fn attributes_of_tuple(kind: SplType, at: u32) -> Result<Schema, TypeAnswer>
     }
 }
 
-/// The attributes that a shape stands for which is no name of a stream.
+/// The attributes of a shape that is no name of a stream.
 pub(crate) fn own_attributes(
     alloc: Global,
     sites: &Sites,
@@ -114,7 +114,7 @@ fn all_found(
 impl StreamTable {
     /// Settles the attributes of all streams of a graph.
     ///
-    /// `NoMemory` also stands for a type that is too large, as `shape_of` has it.
+    /// `NoMemory` is also the answer for a type that is too large, as `shape_of` has it.
     pub fn new(alloc: Global, sites: &Sites, graph: &Graph) -> Result<StreamTable, NoMemory>
         ensures { IfOk result (λ t. IsTableOf sites.now.unit.now graph.now t) }
     {

@@ -1,4 +1,4 @@
--- What operators between two operands come to, by what the operands came to.
+-- The results of operators between two operands, by the results of the operands.
 use Rattle.std.specs.Prelude.{◌≡◌, Option, Some, None}
 use Rattle.std.proofs.Common.{refl}
 use Rattle.spl_value.specs.declared.types.SplType.{SplType}

@@ -30,7 +30,7 @@ Codes = List (Code Slot)
 
 -- ---- lists
 
--- elements behind others whose codes these are, where their type is known, or the first one's counts
+-- elements after others whose codes these are, where their type is known, or the first one's counts
 abbrev pub list_on : ℕ → Scope → Option SplType → Codes → List (Placed Part) → Found Typed
 list_on at scope (Some t) codes es = after (elements_typed scope t es) (λ xs. Ok (typed (S.List t) (C.List (codes ++ xs))))
 list_on at scope None codes [] = mismatch at
@@ -136,7 +136,7 @@ tuple_law at scope Another fs = refl
 tuple_law at scope (This schema) fs = chosen (gives_each schema fs) at scope fs (Some schema)
 tuple_law at scope Anything fs = chosen (are_distinct fs) at scope fs None
 
--- fields from a place on, behind others whose codes these are, and whose attributes where none are wanted
+-- fields from a place on, after others whose codes these are, and whose attributes where none are wanted
 abbrev Fields : Type 0
 Fields = List (ℕ × Code Slot)
 
@@ -160,7 +160,7 @@ module _ (scope : Scope) (i : ℕ) (own : Schema) (codes : Fields) (f : Field (P
   abbrev attribute : Typed → Named SplType
   attribute x = record { name = f.name.what; kind = x.kind }
 
-  -- the others behind the field
+  -- the others after the field
   abbrev tuple_rest : Option Schema → At (Option SplType) → Typed → Found Typed
   tuple_rest s a x = tuple_on scope (suc i) s (with_own s own (attribute x)) (codes ++ (a.place, x.code) ∷ []) fs
 

@@ -111,7 +111,7 @@ index_step base scope (T.Int k) e = refl
 index_step base scope T.Bool e = refl
 index_step base scope T.Text e = refl
 
--- a member that is taken behind others
+-- a member that is taken after others
 pub member_by : (base : ℕ) (scope : Scope) (k t : SplType) (s : Step Expr) (m : Placed (List ℕ)) (old new zs : List (Taking (Code Slot))) (u given : SplType) → s ≡ N.Member m → k ≡ t
     → behind old (member_taken base (out-SplType k) m.at m.what) ≡ Ok (new, u) → zs ≡ new → given ≡ u → behind old (level_step base scope (out-SplType t) (step_part s)) ≡ Ok (zs, given)
 member_by base scope k t s m old new zs u given is same taken n g =
@@ -120,7 +120,7 @@ member_by base scope k t s m old new zs u given is same taken n g =
     ∙ ap (λ k. behind old (member_taken base (out-SplType k) m.at m.what)) (sym same)
     ∙ taken ∙ (λ i. Ok (sym n i, sym g i))
 
--- what is taken by an index behind others
+-- what is taken by an index after others
 pub index_by : (base : ℕ) (scope : Scope) (k j t : SplType) (s : Step Expr) (e : Expr) (w : Option SplType) (x : Typed) (old new zs : List (Taking (Code Slot))) (u given : SplType) → s ≡ N.Index e → k ≡ t → j ≡ t
     → index_for base (out-SplType k) ≡ Ok w → typing scope e w ≡ Ok x
     → behind old (index_taken base e.at x (out-SplType j)) ≡ Ok (new, u) → zs ≡ new → given ≡ u → behind old (level_step base scope (out-SplType t) (step_part s)) ≡ Ok (zs, given)

@@ -1,4 +1,4 @@
--- What comes behind a place comes behind the place with its type.
+-- What comes after a place comes after the place with its type.
 use Rattle.std.specs.Prelude.{◌≡◌, Ok, Err}
 use Rattle.std.proofs.Common.{refl}
 use Rattle.language_model.specs.StatementTyping.{TypedPlace}

@@ -1,4 +1,4 @@
--- How the answers of calls go together, as the definition does.
+-- How the answers of calls are composed, as in the definitions.
 use Rattle.std.specs.Prelude.{◌≡◌, Ok, Err}
 use Rattle.std.proofs.Common.{refl}
 use Rattle.language_model.specs.Typing.{Found, after}

@@ -26,7 +26,7 @@ fn variable_read(code: Boxed<Code<Slot>>, takings: Takings) -> Option<Place>
     }
 }
 
-/// Lets go of a code.
+/// Drops a code.
 fn release(_code: Code<Slot>) {}
 
 /// The place that a code reads, where it is one of a variable.

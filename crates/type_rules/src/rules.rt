@@ -27,9 +27,9 @@ use std::alloc::Global;
 /// wants one.
 ///
 /// Where the expression has none, the answer is `Refused`, with the first expression in it, in the
-/// order of the text, that has no meaning. A `$` parameter has the type and the code of what stands for
-/// it, or the refusal of that. A call of a function whose types aren't any has the refusal of those.
-/// `Memory` also stands for rows of more than 2^32 names.
+/// order of the text, that has no meaning. A `$` parameter has the type and the code of its value, or
+/// the refusal of that. A call of a function whose types aren't any has the refusal of those.
+/// `Memory` is also the answer for rows of more than 2^32 names.
 pub fn type_of(
     alloc: Global,
     scope: &Scope,
@@ -233,7 +233,7 @@ fn operation(
     operation_of(alloc, operator, left.at, first, right.at, second)
 }
 
-/// The codes of arguments that have to be of these types, one of each, behind other codes.
+/// The codes of arguments that have to be of these types, one of each, after other codes.
 #[cycle(types)]
 pub(crate) fn arguments(
     alloc: Global,

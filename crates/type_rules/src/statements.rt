@@ -97,10 +97,10 @@ pub fn compound_of(
 ///
 /// `Refused` comes with the first of these: `WrongCall` where the expression is no call; `Unknown`
 /// where no function has its name; `WrongCall` where it takes another number of arguments; the
-/// refusals of its arguments, from left to right. Behind the first argument comes `WrongCall` where
+/// refusals of its arguments, from left to right. After the first argument comes `WrongCall` where
 /// the call doesn't take its type. Where the call changes it, `WrongCall` comes too where it is no
 /// place, and then `NotMutable`, at the argument, where its variable isn't mutable. All others stand
-/// where the expression begins, but for those of arguments. `Memory` is as that of `type_of`.
+/// where the expression begins, except for those of arguments. `Memory` is as that of `type_of`.
 pub fn call_of(alloc: Global, scope: &Scope, call: &Expr) -> Result<Statement, TypeAnswer>
     ensures { Finds (call_typing scope.now call.now) result }
 {
@@ -178,7 +178,7 @@ fn change(
     change_made(at, call, place, others)
 }
 
-/// The codes of the arguments behind the first, of a call that changes that. The first one has this
+/// The codes of the arguments after the first, of a call that changes that. The first one has this
 /// type; it has to be a place that may be changed.
 #[tactic(auto, using(crate::proofs::CallLaws::changed_law))]
 fn changed(
@@ -204,7 +204,7 @@ fn only(codes: Codes) -> Option<Code<Slot>>
     if codes.len() == 1 { codes.pop() } else { None }
 }
 
-/// The change that a call makes, by the codes of its arguments behind the place.
+/// The change that a call makes, by the codes of its arguments after the place.
 fn change_made(
     at: u32,
     call: CallName,

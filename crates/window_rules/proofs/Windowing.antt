@@ -1,4 +1,4 @@
--- What parts of windows come to, by what the calls on them answer.
+-- The results on parts of windows, by what the calls on them answer.
 use Rattle.std.specs.Prelude.{◌≡◌, ℕ, ◌+◌, ◌<◌, ◌==◌, Bool, true, false, List, [], ◌∷◌, ◌++◌, codes, drop, length, if◌then◌else◌, Option, Some, None, Ok, Err}
 use Rattle.std.specs.List.{list_any}
 use Rattle.std.specs.Str.{bytes_eq}
@@ -104,7 +104,7 @@ module _ (at : ℕ) (windows : List (ℕ × Policy)) (ports : List Port) (port :
       ≡ after (window_at at port windows) (λ policy. after (each_window at windows (port + 1) (drop (port + 1) ports)) (λ rest. Ok (policy ∷ rest)))
   from_here = rw add-one (ap (each_window at windows port) (some_at ports port h).1)
 
-  -- a port with a window behind those of others
+  -- a port with a window after those of others
   pub windows_on : (policy : Policy) (more : List Policy) → window_at at port windows ≡ Ok policy → more ≡ front ++ policy ∷ []
       → with_front front (each_window at windows port (drop port ports)) ≡ with_front more (each_window at windows (port + 1) (drop (port + 1) ports))
   windows_on policy more w m =

@@ -1,4 +1,4 @@
-//! The number literals that expressions stand for.
+//! The number literals that expressions give.
 ghost use Rattle.std.specs.Prelude.{◌≡◌, None, Ok};
 ghost use Rattle.spl_tree.specs.declared.expression.ExprKind.TheViews.{out-ExprKind};
 ghost use Rattle.language_model.specs.Literals.{number_literal, number_of};
@@ -20,8 +20,8 @@ fn has_type(alloc: Global, scope: &Scope, expr: &Expr) -> Result<(), TypeAnswer>
     Ok(())
 }
 
-/// The number literal that an expression stands for: it is one, or a `$` parameter behind which there
-/// is one. Either has a type, so a literal is held to the range of its own.
+/// The number literal that an expression gives: it is one, or a `$` parameter whose value
+/// is one. Either has a type, so a literal has to be in the range of its own.
 pub(crate) fn number_literal(
     alloc: Global,
     site: &ExpressionSite,

@@ -25,7 +25,7 @@ use std::alloc::Global;
 ///
 /// `Refused` comes with the first window in the text that is refused: one of a port that isn't there or
 /// that has a window already, or one with a part that doesn't stand in a window of the operator, or with a
-/// number that is refused. Behind those it comes at the invocation, which is at `at`, where a port has no
+/// number that is refused. After those it comes at the invocation, which is at `at`, where a port has no
 /// window. A clause of an operator that has no windows is refused at its word. `Memory` is as that of
 /// `type_of`.
 pub fn windows_of(
@@ -94,7 +94,7 @@ fn windows_typing(
     Ok(found)
 }
 
-/// A window behind those that are found.
+/// A window after those that are found.
 fn window_of(
     alloc: Global,
     site: &ExpressionSite,
@@ -219,7 +219,7 @@ fn each_window(
     Ok(policies)
 }
 
-/// The window of the port at a place, or the want of one at the invocation.
+/// The window of the port at a place, or the refusal at the invocation where it has none.
 fn window_at(at: u32, port: u32, windows: &[(u32, Policy)]) -> Result<Policy, TypeAnswer>
     ensures { Finds (window_at at port windows.now) result }
 {

@@ -1,4 +1,4 @@
--- What names stand for, by their definitions.
+-- What names mean, by their definitions.
 use Rattle.std.specs.Prelude.{◌≡◌, ℕ, Bool, false, List, if◌then◌else◌, Option, Some, None}
 use Rattle.std.proofs.Common.{refl, ap, sym, ◌∙◌}
 use Rattle.spl_value.specs.declared.types.SplType.{SplType}

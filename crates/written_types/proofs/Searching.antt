@@ -78,7 +78,7 @@ module _ (steps : ℕ → List ℕ) where
     | inr less ↦ one_more many from to (at_most few many from to (omega arith) l)
   ]
 
-  -- one step behind the others
+  -- one step after the others
   pub then_step : (count from via to : ℕ) → leads count steps from via ≡ true → HasPlace (steps via) to → leads (suc count) steps from to ≡ true
   then_step zero from via to l st = absurd cc
   then_step (suc count) from via to l st =
@@ -106,7 +106,7 @@ read_at xs n x y below at same = slice_get_read xs (length xs) n y refl below (s
 
 -- ---- the search
 
--- each that was found is led to in so many steps as stand up to it, and the first so many led to nothing else
+-- each place found is led to in as many steps as there are places up to it; what the first `told` lead to is found too
 pub record Searched (next : List (List ℕ)) (from : ℕ) (found : PlaceSet) (told : ℕ) : Type 0 where
   pub set : IsSet found
   pub size : length found.marks.items ≡ length next

@@ -13,8 +13,8 @@ use spl_tree::{Attribute, Shape, ShapeKind, TypeDefinition, TypeExpr, TypeKind};
 use spl_value::{Boxed, Items, Name, Named, NoMemory, Schema, SplType};
 use std::alloc::{AllocError, Global};
 
-/// A type has no more parts: a few definitions that name each other twice stand for more than there is
-/// memory.
+/// A type has no more parts than this: a few definitions, each of which names another one twice, may need
+/// more memory than there is.
 const MOST_PARTS: u32 = 1_000_000;
 
 /// Where types are written: in a composite, whose own definitions come before those of the unit
@@ -47,7 +47,7 @@ impl<'t, 'u> TypeScope<'t, 'u> {
     }
 }
 
-/// The definition that a name stands for, and where it is written. None where the name has no
+/// The definition of a name, and where it is written. None where the name has no
 /// definition, or one that leads back to itself.
 fn meaning<'t, 'u>(
     scope: &TypeScope<'t, 'u>,
@@ -99,7 +99,7 @@ fn push_attribute(schema: &mut Schema, name: Name, kind: Boxed<SplType>) -> Resu
     })
 }
 
-/// The type that is written, as a part of one that may have so many levels and parts more.
+/// The type that is written, as a part of one that may have `levels` more levels and `parts` more parts.
 #[cycle(types)]
 #[tactic(auto, using(language_model::proofs::TypeNameLaws::type_laws))]
 fn type_at(
@@ -172,7 +172,7 @@ fn shape_at(
     }
 }
 
-/// The type that a name at a place stands for.
+/// The type that a name at a place means.
 #[cycle(types)]
 fn named(
     alloc: Global,
@@ -190,7 +190,7 @@ fn named(
     }
 }
 
-/// The type that a written type stands for, in a box. Refusals are those of `type_of_written`.
+/// The type that a written type means, in a box. Refusals are those of `type_of_written`.
 pub fn type_boxed(
     alloc: Global,
     scope: &TypeScope,
@@ -202,11 +202,11 @@ pub fn type_boxed(
     type_at(alloc, scope, written, DEEPEST, &mut parts)
 }
 
-/// The type that a written type stands for.
+/// The type that a written type means.
 ///
 /// `Refused` is the first refusal in the order of the text: of a name that has no definition, or one
 /// that leads back to itself, or of the word of a type that is left out. It comes at the name or the
-/// word, where that stands, also in a definition. `Memory` also stands for a type of more than a
+/// word, where that stands, also in a definition. `Memory` is also the answer for a type of more than a
 /// million parts, or in which more than a thousand types and names stand inside one another.
 pub fn type_of_written(
     alloc: Global,
@@ -219,7 +219,7 @@ pub fn type_of_written(
     Ok(kind.into_inner())
 }
 
-/// The type that a shape stands for. Refusals are those of `type_of_written`.
+/// The type that a shape means. Refusals are those of `type_of_written`.
 pub fn shape_of(alloc: Global, scope: &TypeScope, shape: &Shape) -> Result<SplType, TypeAnswer>
     ensures { Finds (shape_meant (types_in scope.now) shape.now) result }
 {

@@ -11,7 +11,7 @@ use spl_tree::{Keyword, LeftOut};
 use spl_value::{Boxed, SplType};
 use std::alloc::Global;
 
-/// A name that stands for nothing.
+/// A name that means nothing.
 pub(crate) fn unknown(alloc: Global, at: u32, name: &[u8]) -> Result<Boxed<SplType>, TypeAnswer>
     ensures { Finds (unknown at name.now) result }
 {

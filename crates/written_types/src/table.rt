@@ -1,4 +1,4 @@
-//! What names of types stand for.
+//! What names of types mean.
 ghost use Rattle.std.specs.Prelude.{◌≡◌, IfOk, List, map, slice_get};
 ghost use Rattle.std.specs.Coded.{coded_list};
 ghost use Rattle.spl_tree.specs.contracts.unit.TypeDefinition as row;
@@ -15,7 +15,7 @@ use spl_value::{Items, NoMemory};
 use std::alloc::Global;
 use std::marker::Model;
 
-/// The definitions of types of a unit or of a composite. What names stand for among them is looked up.
+/// The definitions of types of a unit or of a composite. What names mean among them is looked up.
 #[derive(Drop)]
 pub struct TypeTable<'u> {
     definitions: Definitions<'u>,

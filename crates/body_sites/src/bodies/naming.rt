@@ -1,4 +1,4 @@
-//! What the names in a body stand for.
+//! What the names in a body mean.
 ghost use Rattle.std.specs.Prelude.{◌≡◌};
 ghost use Rattle.std.specs.Option.{option_copied, option_map};
 ghost use Rattle.language_model.specs.Expansion.{place_of};
@@ -65,7 +65,7 @@ impl<'a> Body<'a> {
         Some(input.first)
     }
 
-    /// The stream that a name stands for.
+    /// The stream that a name means.
     fn stream(&self, name: &[u8]) -> Option<u32>
         ensures { result ≡ stream_in (body_seen self.now) name.now }
     {
@@ -81,7 +81,7 @@ impl<'a> Body<'a> {
         self.names.has_type(name) || sites.has_type(name)
     }
 
-    /// What types stand for in the body.
+    /// What the names of types mean in the body.
     pub fn types<'t>(&self, sites: &'t Sites<'a>) -> TypeScope<'t, 'a>
     where
         'a: 't,
@@ -90,7 +90,7 @@ impl<'a> Body<'a> {
         TypeScope::of_composite(&self.names.table, &sites.unit_types)
     }
 
-    /// The stream that a name stands for which is no type.
+    /// The stream that a name means, where it is no name of a type.
     fn stream_unless_type(&self, sites: &Sites, name: &[u8]) -> Option<u32>
         ensures { option_map (λ s. at_place s name.now) result ≡ stream_unless_type sites.now.unit.now (body_seen self.now) name.now }
     {

@@ -11,11 +11,11 @@ use Rattle.language_model.specs.Typing.{Found, after}
 use Rattle.written_types.specs.declared.finding.TypeScope.{TypeScope}
 use Rattle.written_types.specs.TypeScopes.{types_in}
 
--- where names stand for these types, in a scope with the input ports, before these output ports
+-- where names mean these types, in a scope with the input ports, before these output ports
 abbrev pub surroundings : TypeScope → Scope → List Port → Surroundings
 surroundings types scope outputs =
     record { types = types_in types; scope = scope; outputs = map (λ p. p.name) outputs; schemas = map (λ p. p.schema) outputs }
 
--- what the handlers of a Custom with a state come to
+-- the result of the handlers of a Custom with a state
 abbrev pub handlers_found : Surroundings → List (Placed Handler) → List StateVariable → Found Handlers
 handlers_found around hs state = after (handlers_typing around state [] hs) (λ handled. Ok (handlers_made around state handled))

@@ -19,7 +19,7 @@ use Rattle.clause_rules.specs.declared.operators.Program.{Program}
 abbrev pub program_unit : Program → List Definition
 program_unit program = program.sites.now.unit.now
 
--- each operator of the graph stands for an invocation of one of its kind
+-- each operator of the graph is that of an invocation of its kind
 abbrev pub AreInvoked : List Definition → Graph → Type 0
 AreInvoked unit g = (n : ℕ) (op : Op) → slice_get g.ops n ≡ Some op → IsInvoked unit g op
 

@@ -26,7 +26,7 @@ abbrev pub closed : Frame → List Frame → Made → Made
 closed f [] made = made
 closed f (g ∷ gs) made = if_grown f.before made
 
--- what comes of the bodies on the way, the innermost first, in which others nest at most so deep
+-- the result of the bodies on the way, the innermost first, in which others nest at most `depth` deep
 abbrev pub resumed : ℕ → List Definition → List Frame → Made → Found Made
 resumed depth unit [] made = Ok made
 resumed depth unit (f ∷ fs) made =

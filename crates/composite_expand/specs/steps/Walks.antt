@@ -76,7 +76,7 @@ pub record AreMarks (unit : List Definition) (marks : List Bool) : Type 0 where
 abbrev pub StandsThere : List Inlined → Frame → Type 0
 StandsThere xs f = slice_get xs f.opened.number ≡ Some f.opened.body
 
--- where the walk stands: on a way, the innermost body first, that comes to what the main composite does
+-- where the walk stands: on a way, the innermost body first, whose result is that of the main composite
 pub record IsOn (unit : List Definition) (main : At Composite) (w : Walk) (way : List Opened) : Type 0 where
   pub frames : List Frame
   pub made : Made
@@ -161,7 +161,7 @@ abbrev pub graph_work : (Composite → ℕ) → List Definition → List Invocat
 graph_work body unit [] = 0
 graph_work body unit (i ∷ is) = suc (target_work body (target_of unit i.operator.what) + graph_work body unit is)
 
--- that of a body in which others nest at most so deep
+-- that of a body in which others nest at most `depth` deep
 abbrev pub body_work : ℕ → List Definition → Composite → ℕ
 body_work zero unit c = 0
 body_work (suc depth) unit c = suc (graph_work (body_work depth unit) unit c.graph)
@@ -170,7 +170,7 @@ body_work (suc depth) unit c = suc (graph_work (body_work depth unit) unit c.gra
 abbrev pub opened_work : ℕ → List Definition → Opened → ℕ
 opened_work depth unit o = option_map_or (λ c. suc (graph_work (body_work depth unit) unit (drop o.next c.graph))) (slice_get (composites unit) o.composite) 1
 
--- that of all, the innermost first, in which others nest at most so deep
+-- that of all, the innermost first, in which others nest at most `depth` deep
 abbrev pub way_work : ℕ → List Definition → List Opened → ℕ
 way_work depth unit [] = 0
 way_work depth unit (o ∷ os) = opened_work depth unit o + way_work (suc depth) unit os
@@ -178,7 +178,7 @@ way_work depth unit (o ∷ os) = opened_work depth unit o + way_work (suc depth)
 abbrev pub work_left : List Definition → List Opened → ℕ
 work_left unit way = way_work (length (composites unit) - length way) unit way
 
--- the inputs of the body of a composite that the invocation which comes next opens behind the others
+-- the inputs of the body of a composite that the invocation which comes next opens after the others
 abbrev pub OpensWith : List Inlined → Opened → At Composite → List Input → Type 0
 OpensWith xs o d row =
     (y : Inlined) → y.site ≡ Some (record { expansion = o.number; invocation = o.next }) → y.composite ≡ d → AreInputs (xs ++ y ∷ []) (length xs) y row
@@ -191,12 +191,12 @@ pub record IsOver (unit : List Definition) (main : At Composite) (w : Walk) (o :
 
 -- ---- where a step leads
 
--- it comes to what the main composite does as before, with less work left
+-- its result is still that of the main composite, with less work left
 pub record GoesOn (unit : List Definition) (main : At Composite) (w : Walk) (o : Opened) (v : Walk) : Type 0 where
   pub on : IsOn unit main v (reverse v.opened)
   pub less : work_left unit (reverse v.opened) < work_left unit (o ∷ reverse w.opened)
 
--- what a step is refused by is what the main composite comes to; nothing is said where memory was wanting
+-- the refusal of a step is the result of the main composite; nothing is said where memory ran out
 abbrev pub Refuses : List Definition → At Composite → ExpandAnswer → Type 0
 Refuses unit main (X.Refused r) = expanded_main unit main ≡ Err r
 Refuses unit main X.Memory = Unit {0}
@@ -210,7 +210,7 @@ pub record Starts (unit : List Definition) (place : ℕ) (main : At Composite) :
   pub inputs : main.what.inputs ≡ []
   pub none : HasNoRecursion (composite_callers unit)
 
--- what the main composite comes to, as the code keeps it
+-- the result of the main composite, as the code keeps it
 pub record IsExpanded (unit : List Definition) (main : At Composite) (w : Walk) : Type 0 where
   pub made : Made
   pub is : expanded_main unit main ≡ Ok made

@@ -21,7 +21,7 @@ pub record Counts (counted : Counted) (list : List Source) : Type 0 where
   pub count : counted.count ≡ min (length list) (2 ^ 30)
   pub first : option_to_list counted.first ≡ take 1 list
 
--- inputs that stand for what the ports of the invocation at a site take
+-- inputs that take what the ports of the invocation at a site take
 pub record PortsStand (xs : List Inlined) (site : Site) (inputs : List Input) : Type 0 where
   pub each : (j : ℕ) (i : Input) → slice_get inputs j ≡ Some i
       → StandsFor xs (suc site.expansion) i (flat_map (λ n. sources_of xs site.expansion n.what) (port_names xs site j))

@@ -1,4 +1,4 @@
--- Tables of the streams that the names of bodies stand for, and what is numbered by them.
+-- Tables of the streams that the names of bodies mean, and what is numbered by them.
 use Rattle.std.specs.Prelude.{ℕ, suc, ◌+◌, List, [], ◌∷◌, map, filter_map, Option, slice_get}
 use Rattle.std.specs.Option.{option_and_then, option_map_or}
 use Rattle.spl_tree.specs.declared.graph.Expansion.{Expansion}
@@ -28,7 +28,7 @@ op_in table first op = record {
   at = op.at;
 }
 
--- operators one behind another, the first stream at a number
+-- operators one after another, the first stream at a number
 abbrev pub ops_in : Table → ℕ → List Operation → List Op
 ops_in table first [] = []
 ops_in table first (op ∷ ops) = op_in table first op ∷ ops_in table (first + op.outputs) ops

@@ -1,4 +1,4 @@
-//! Bodies with the numbers of the streams that their names stand for.
+//! Bodies with the numbers of the streams that their names mean.
 ghost use Rattle.std.specs.Prelude.{◌≡◌, map, filter_map, IfOk};
 ghost use Rattle.composite_tables.specs.steps.StreamTable.{row_in, input_in, expansion_in, expansions_in};
 

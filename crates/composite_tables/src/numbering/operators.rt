@@ -17,7 +17,7 @@ pub(super) fn stream_at(table: &[Items<Option<u32>>], source: Source) -> Option<
     *row.get(source.place as usize)?
 }
 
-/// So many numbers, from a number on.
+/// `count` numbers, from `first` on.
 fn numbers(alloc: Global, first: u32, count: u32) -> Result<Ids, NoMemory>
     ensures { IfOk result (λ ids. ids ≡ numbers_from first count) }
 {
@@ -104,7 +104,7 @@ fn op_of(
     })
 }
 
-/// Adds an operator whose first stream has a number, and answers the number of the stream behind its own.
+/// Adds an operator whose first stream has a number, and answers the number of the stream after its own.
 fn add_op(
     alloc: Global,
     table: &[Items<Option<u32>>],

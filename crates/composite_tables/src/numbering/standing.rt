@@ -1,4 +1,4 @@
-//! What stands at the sites of bodies, and the streams that come of it.
+//! What stands at the sites of bodies, and the streams that follow from it.
 ghost use Rattle.std.specs.Prelude.{◌≡◌, ◌++◌, [], length, map, replicate, IfOk, OnOk};
 ghost use Rattle.std.specs.Option.{option_map};
 ghost use Rattle.spl_tree.specs.declared.graph.Site.{Site};
@@ -204,7 +204,7 @@ impl<'a> Standing<'a> {
         Ok(table)
     }
 
-    /// Fills a table of so many rows, from the last body to the first: a body is invoked in one of a lower
+    /// Fills a table of `count` rows, from the last body to the first: a body is invoked in one of a lower
     /// number.
     fn fill(
         &self,
@@ -224,7 +224,7 @@ impl<'a> Standing<'a> {
     }
 }
 
-/// So many rows, each of which is to be replaced.
+/// `count` rows, each of which is to be replaced.
 fn empty_rows(alloc: Global, count: u32) -> Result<Items<Items<Option<u32>>>, NoMemory>
     ensures { IfOk result (λ table. table ≡ replicate count []) }
 {

@@ -15,7 +15,7 @@ pub data Reached (lists : List (List ℕ)) (from : ℕ) : ℕ → Type 0 where
   near : (i : ℕ) → Lists lists from i → Reached lists from i
   far : (j i : ℕ) → Reached lists from j → Lists lists j i → Reached lists from i
 
--- so many lists with nothing in them
+-- `count` lists with nothing in them
 pub record AreEmpty (count : ℕ) (lists : List (List ℕ)) : Type 0 where
   pub size : length lists ≡ count
   pub nothing : (at of : ℕ) → Lists lists at of → ⊥

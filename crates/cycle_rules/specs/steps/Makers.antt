@@ -30,7 +30,7 @@ abbrev pub Adds : List Stream → List ℕ → List Bool → List Bool → Bool 
 Adds streams numbers before row found =
     (flags : List Bool) → length flags ≡ length before → (found && covers row flags) ≡ (covers before flags && are_made streams flags numbers)
 
--- a row of the makers of these streams, among so many operators
+-- a row of the makers of these streams, among `count` operators
 abbrev pub AreMakers : List Stream → ℕ → List ℕ → Option (List Bool) → Type 0
 AreMakers streams count numbers row = (flags : List Bool) → length flags ≡ count → covers_all flags row ≡ are_made streams flags numbers
 

@@ -1,4 +1,4 @@
--- The callers that are taken: each behind those that it calls.
+-- The callers that are taken: each after those that it calls.
 use Rattle.std.specs.Prelude.{◌≡◌, ◌<◌, ◌≤◌, ◌⊎◌, ℕ, Bool, true, false, List, slice_get, Some, length}
 use Rattle.spl_tree.specs.declared.expression.Placed.{Placed}
 use Rattle.language_model.specs.Recursion.{Calls, IsCall}
@@ -33,7 +33,7 @@ abbrev pub Readies : List (Placed ℕ) → List ℕ → Bool → Type 0
 Readies calls places true = (to : ℕ) → Calling calls to → HasPlace places to
 Readies calls places false = Lacks calls places
 
--- those that were taken stay where they stood, and where none came each of these places was taken or can't be
+-- those that were taken stay at their places, and where none is added each of these places was taken or can't be
 pub record Takes (calls : Calls) (places : List ℕ) (old new : PlaceSet) : Type 0 where
   pub now : IsTaken calls new
   pub kept : (k i : ℕ) → slice_get old.places.items k ≡ Some i → slice_get new.places.items k ≡ Some i

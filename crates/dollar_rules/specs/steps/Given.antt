@@ -1,4 +1,4 @@
--- What stands for the parameters of one composite while they are settled one by one.
+-- The values of the parameters of one composite while they are settled one by one.
 use Rattle.std.specs.Prelude.{◌≡◌, ◌≤◌, ◌-◌, ℕ, suc, Bool, true, false, if◌then◌else◌, List, [], ◌∷◌, ◌++◌, length, Some, slice_get, slice_index_or}
 use Rattle.std.specs.List.{Contains}
 use Rattle.spl_tree.specs.declared.unit.CompositeParameter.{CompositeParameter}
@@ -16,11 +16,11 @@ pub record Given : Type 0 where
   pub arguments : List Parameter
   pub parameters : List CompositeParameter
 
--- what they stand for where defaults are followed so often
+-- their values, with defaults followed to the depth `count`
 abbrev pub table : Given → ℕ → List Dollar
 table g count = own_within count g.types g.outer g.arguments g.parameters
 
--- what stands for a parameter, where these stand for those that its default mentions
+-- the value of a parameter, where these are the values of those that its default mentions
 abbrev pub found_in : Given → List Dollar → CompositeParameter → Found Typed
 found_in g own p = parameter_typing g.types g.outer own g.arguments p
 
@@ -45,7 +45,7 @@ marks_in [] = 0
 marks_in (true ∷ bs) = suc (marks_in bs)
 marks_in (false ∷ bs) = marks_in bs
 
--- those that are marked stand for something, and what stands for them is what it is in the end, as soon as defaults are followed as often
+-- the marked ones have a meaning, and their values are final as soon as defaults are followed as often
 -- as others are marked
 pub record AreSettled (g : Given) (marks : List Bool) : Type 0 where
   pub size : length marks ≡ length g.parameters
@@ -56,7 +56,7 @@ pub record AreSettled (g : Given) (marks : List Bool) : Type 0 where
 abbrev pub settled_table : Given → List Bool → List Dollar
 settled_table g marks = marked (found_at_last g) marks g.parameters
 
--- it is settled, or stands for nothing
+-- it is settled, or has no meaning
 abbrev pub IsDone : Given → List Bool → ℕ → Type 0
 IsDone g marks place = (p : CompositeParameter) → slice_get g.parameters place ≡ Some p → means g place p ≡ true → is_marked marks place ≡ true
 

@@ -12,7 +12,7 @@ shown (G.Input name) = InputPort name.now
 shown (G.Stream name) = MadeStream name.now
 shown (G.Alias name) = Alias name.now
 
--- the outputs of the head among those that stand before
+-- the outputs of the head among those that come before
 abbrev pub outputs_of : List Declared → List Name
 outputs_of [] = []
 outputs_of (OutputPort n ∷ ds) = n ∷ outputs_of ds
@@ -28,15 +28,15 @@ others_of (InputPort n ∷ ds) = n ∷ others_of ds
 others_of (MadeStream n ∷ ds) = n ∷ others_of ds
 others_of (Alias n ∷ ds) = n ∷ others_of ds
 
--- it has the names that stand before, and no other
+-- it has the names that come before, and no other
 abbrev pub Stand : GraphNamesBefore → List Declared → Type 0
 Stand names before = Hold names.outputs (outputs_of before) × Hold names.others (others_of before)
 
--- a name is added where it may stand behind those that stand before
+-- a name is added where it may follow the names before it
 abbrev pub Adds : List Declared → Declared → Bool → GraphNamesBefore → Type 0
 Adds before d added names = (added ≡ not (is_declared before d)) × (added ≡ true → Stand names (d ∷ before))
 
--- that of an output where no equal one stands before
+-- that of an output where no equal one comes before
 abbrev pub AddsOutput : List Declared → Name → Bool → GraphNamesBefore → Type 0
 AddsOutput before n added names =
     (added ≡ not (Has n (outputs_of before) || Has n (others_of before)))

@@ -1,4 +1,4 @@
--- What a set of names stands for.
+-- What a set of names holds.
 use Rattle.std.specs.Prelude.{◌≡◌, ℕ, Bool, not, List, ◌∷◌, Option}
 use Rattle.std.specs.List.{list_any, cons_option}
 use Rattle.std.specs.Str.{bytes_eq}
@@ -10,23 +10,23 @@ use Rattle.duplicate_rules.specs.declared.declarations.names.NamesBefore.{NamesB
 abbrev pub same_bytes : Bor (List ℕ) → Bor (List ℕ) → Bool
 same_bytes x y = bytes_eq x.now y.now
 
--- it has the names that stand before, and no other
+-- it has the names that come before, and no other
 abbrev pub Hold : NamesBefore → List Name → Type 0
 Hold names before = (q : Bor (List ℕ)) → contains same_bytes names.names q ≡ list_any (λ m. bytes_eq m.what q.now) before
 
--- whether an equal one stands before
+-- whether an equal one comes before
 abbrev pub Has : Name → List Name → Bool
 Has n before = list_any (λ m. is_same m n) before
 
--- a name is added where no equal one stands before, and stands before from then on
+-- a name is added where no equal one comes before, and comes before from then on
 abbrev pub Adds : List Name → Name → Bool → NamesBefore → Type 0
 Adds before n added names = (added ≡ not (Has n before)) × Hold names (n ∷ before)
 
--- the names of a row that stand again, behind those that stand before
+-- the names of a row that equal one before them, in the row or in `before`
 abbrev pub again : List Name → List Name → List Name
 again before names = repeated_after (λ before n. Has n before) before names
 
--- the next name of a row, if there is one, is found where it stands again, and the rest of the row is left
+-- the next name of a row, if there is one, is found where it repeats an earlier one, and the rest of the row is left
 abbrev pub Passes : NamesBefore → Option Name → Option Name → NamesBefore → Type 0
 Passes old own found new =
     (before : List Name) → Hold old before

@@ -8,7 +8,7 @@ use Rattle.duplicate_rules.specs.declared.files.UsedFile.{UsedFile}
 use Rattle.duplicate_rules.specs.declared.files.ValueText.{ValueText}
 use Rattle.duplicate_rules.specs.declared.files.ValueText.TheVariants as T
 
--- the text of a form, from what a `$` parameter comes to
+-- the text of a form, from the texts of `$` parameters
 abbrev pub form_text : (List ℕ → Text) → Form → Text
 form_text dollar (F.Literal bytes) = Literal bytes.now
 form_text dollar (F.Dollar name) = dollar name.now

@@ -1,4 +1,4 @@
-//! Names that stand again within functions and the `logic` of operators.
+//! Names that repeat an earlier one within functions and the `logic` of operators.
 ghost use Rattle.std.specs.Prelude.{◌≡◌, IfOk};
 ghost use Rattle.std.specs.Option.{option_copied};
 ghost use Rattle.language_model.specs.Declarations.{definition_sets, logic_sets, variable_sets};

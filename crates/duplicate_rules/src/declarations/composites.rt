@@ -1,4 +1,4 @@
-//! Names that stand again within composites and other definitions.
+//! Names that repeat an earlier one within composites and other definitions.
 ghost use Rattle.std.specs.Prelude.{◌≡◌, ◌++◌, IfOk, flat_map};
 ghost use Rattle.std.specs.Option.{option_copied};
 ghost use Rattle.language_model.specs.Declarations.{definition_sets, first_of, port_sets, repeated_in_composite, repeated_in_definition, type_sets};
@@ -16,7 +16,7 @@ use spl_tree::{
 use spl_value::Name;
 use std::alloc::Global;
 
-/// The first name that stands again among the graph's names, the types or the parameters.
+/// The first name that repeats an earlier one among the graph's names, the types or the parameters.
 #[tactic(auto, using(crate::proofs::Firsts::first_laws))]
 fn repeated_in_composite<'u>(alloc: Global, composite: &'u Composite) -> Repeated<'u>
     ensures { IfOk result (λ found. option_copied found ≡ first_of (repeated_in_composite composite.now)) }

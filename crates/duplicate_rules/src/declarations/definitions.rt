@@ -1,4 +1,4 @@
-//! Names that stand again among the definitions of a unit.
+//! Names that repeat an earlier one among the definitions of a unit.
 ghost use Rattle.std.specs.Prelude.{◌≡◌, [], IfOk, is_some};
 ghost use Rattle.std.specs.Option.{option_copied};
 ghost use Rattle.language_model.specs.Declarations.{definition_name, first_of, is_built_in, repeated_definitions};
@@ -55,7 +55,7 @@ pub(super) fn repeated_definition<'u>(alloc: Global, unit: &'u [Definition]) -> 
     first_behind(&mut before, unit)
 }
 
-/// The same, where no name stands before these.
+/// The same, where no name comes before these.
 fn first_behind<'u>(before: &mut NamesBefore<'u>, unit: &'u [Definition]) -> Repeated<'u>
     requires { Hold before.old [] }
     ensures { IfOk result (λ found. option_copied found ≡ first_of (repeated_definitions unit.now)) }

@@ -1,4 +1,4 @@
-//! Names of streams, aliases and ports that stand again in a composite.
+//! Names of streams, aliases and ports that repeat an earlier one in a composite.
 ghost use Rattle.std.specs.Prelude.{◌≡◌, [], ◌++◌, List, IfOk, OnOk, map, flat_map, not};
 ghost use Rattle.std.specs.Option.{option_copied};
 ghost use Rattle.language_model.specs.Declarations.{Declared, first_of, declared_name, is_declared, repeated, stand_before, head_names, invocation_names, graph_names, InputPort, OutputPort, MadeStream};
@@ -31,7 +31,7 @@ impl<'u> GraphName<'u> {
     }
 }
 
-/// The names that stand before a place of this set.
+/// The names that come before a place of this set.
 #[derive(Drop)]
 struct GraphNamesBefore<'u> {
     outputs: NamesBefore<'u>,
@@ -48,7 +48,7 @@ impl<'u> GraphNamesBefore<'u> {
         }
     }
 
-    /// Adds the name that stands next, and answers whether it may stand there.
+    /// Adds the name that comes next, and answers whether it may stand there.
     fn add(&mut self, next: GraphName<'u>) -> Result<bool, NoMemory>
         ensures { IfOk result (λ added. (before : List Declared) → Stand self.old before → Adds before (shown next.entry) added self.new) }
     {
@@ -80,7 +80,7 @@ impl<'u> GraphNamesBefore<'u> {
     }
 }
 
-/// The first name that may not stand behind those before it.
+/// The first name that may not follow those before it.
 fn first_repeated_in<'u>(alloc: Global, names: &[GraphName<'u>]) -> Repeated<'u>
     ensures { IfOk result (λ found. option_copied found ≡ first_of (map declared_name (repeated is_declared (map shown names.now)))) }
 {
@@ -88,7 +88,7 @@ fn first_repeated_in<'u>(alloc: Global, names: &[GraphName<'u>]) -> Repeated<'u>
     first_behind(&mut before, names)
 }
 
-/// The same, where no name stands before these.
+/// The same, where no name comes before these.
 fn first_behind<'u>(before: &mut GraphNamesBefore<'u>, names: &[GraphName<'u>]) -> Repeated<'u>
     requires { Stand before.old [] }
     ensures { IfOk result (λ found. option_copied found ≡ first_of (map declared_name (repeated is_declared (map shown names.now)))) }
@@ -102,7 +102,7 @@ fn first_behind<'u>(before: &mut GraphNamesBefore<'u>, names: &[GraphName<'u>]) 
     Ok(None)
 }
 
-/// Whether the inputs of a head stand before its outputs.
+/// Whether the inputs of a head come before its outputs.
 fn inputs_first(composite: &Composite) -> bool
     ensures { result ≡ stand_before composite.now.inputs composite.now.outputs }
 {
@@ -183,7 +183,7 @@ fn add_invocations<'u>(
     Ok(())
 }
 
-/// The first of a composite's streams, aliases and ports whose name stands again.
+/// The first of a composite's streams, aliases and ports whose name may not follow those before it.
 pub(super) fn repeated_in_graph<'u>(alloc: Global, composite: &'u Composite) -> Repeated<'u>
     ensures { IfOk result (λ found. option_copied found ≡ first_of (map declared_name (repeated is_declared (graph_names composite.now)))) }
 {

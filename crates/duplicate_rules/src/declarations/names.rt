@@ -1,4 +1,4 @@
-//! Names that stand again in a row.
+//! Names that repeat an earlier one in a row.
 ghost use Rattle.std.specs.Prelude.{◌≡◌, IfOk, List, [], filter_map};
 ghost use Rattle.std.specs.Option.{option_copied};
 ghost use Rattle.language_model.specs.Declarations.{Name, first_of, repeated_names};
@@ -10,10 +10,10 @@ use spl_value::{Name, NoMemory};
 use std::alloc::Global;
 use std::collections::HashSet;
 
-/// A name that stands again, if one does.
+/// A name that repeats an earlier one, if one does.
 pub(super) type Repeated<'u> = Result<Option<&'u Placed<Name>>, NoMemory>;
 
-/// The names that stand before a place of a row.
+/// The names that come before a place of a row.
 #[derive(Drop)]
 pub(super) struct NamesBefore<'u> {
     names: HashSet<&'u [u8]>,
@@ -28,21 +28,21 @@ impl<'u> NamesBefore<'u> {
         }
     }
 
-    /// Whether a name that is equal to this one stands before.
+    /// Whether a name that is equal to this one comes before.
     pub(super) fn has(&self, name: &'u Placed<Name>) -> bool
         ensures { (before : List Name) → Hold self.now before → result ≡ Has name.now before }
     {
         self.names.contains(name.what.as_slice())
     }
 
-    /// Adds the name that stands next, and answers whether it is new.
+    /// Adds the name that comes next, and answers whether it is new.
     pub(super) fn add(&mut self, name: &'u Placed<Name>) -> Result<bool, NoMemory>
         ensures { IfOk result (λ added. (before : List Name) → Hold self.old before → Adds before name.now added self.new) }
     {
         Ok(self.names.insert(name.what.as_slice())?)
     }
 
-    /// Adds the name of the part that stands next, if it has one. Where an equal one stands before, it
+    /// Adds the name of the part that comes next, if it has one. Where an equal one comes before, it
     /// is answered.
     fn repeated<T: Declares>(&mut self, part: &'u T) -> Repeated<'u>
         ensures { IfOk result (λ found. Passes self.old (T.own part.now) (option_copied found) self.new) }
@@ -106,7 +106,7 @@ impl Declares for CompositeParameter {
     }
 }
 
-/// The first name that stands again in a row.
+/// The first name that repeats an earlier one in a row.
 pub(super) fn first_repeated<'u, T: Declares>(alloc: Global, row: &'u [T]) -> Repeated<'u>
     ensures { IfOk result (λ found. option_copied found ≡ first_of (repeated_names (filter_map T.own row.now))) }
 {
@@ -114,7 +114,7 @@ pub(super) fn first_repeated<'u, T: Declares>(alloc: Global, row: &'u [T]) -> Re
     first_behind(&mut before, row)
 }
 
-/// The same, where no name stands before the row.
+/// The same, where no name comes before the row.
 fn first_behind<'u, T: Declares>(before: &mut NamesBefore<'u>, row: &'u [T]) -> Repeated<'u>
     requires { Hold before.old [] }
     ensures { IfOk result (λ found. option_copied found ≡ first_of (repeated_names (filter_map T.own row.now))) }
@@ -127,7 +127,7 @@ fn first_behind<'u, T: Declares>(before: &mut NamesBefore<'u>, row: &'u [T]) -> 
     Ok(None)
 }
 
-/// Of a name and those that stand again in a row, the one that stands first in the text.
+/// Of a name and those that repeat an earlier one in a row, the one that comes first in the text.
 pub(super) fn earliest_repeated<'u, T: Declares>(
     alloc: Global,
     best: Option<&'u Placed<Name>>,
@@ -139,7 +139,7 @@ pub(super) fn earliest_repeated<'u, T: Declares>(
     earliest_behind(&mut before, best, row)
 }
 
-/// The same, where no name stands before the row.
+/// The same, where no name comes before the row.
 fn earliest_behind<'u, T: Declares>(
     before: &mut NamesBefore<'u>,
     best: Option<&'u Placed<Name>>,
@@ -157,7 +157,7 @@ fn earliest_behind<'u, T: Declares>(
     Ok(found)
 }
 
-/// The name that stands first in the text; of two at one place, the first.
+/// The name that comes first in the text; of two at one place, the first.
 fn earlier<'u>(best: Option<&'u Placed<Name>>, name: &'u Placed<Name>) -> &'u Placed<Name>
     ensures { result.now ≡ earlier (option_copied best.entry) name.now }
 {

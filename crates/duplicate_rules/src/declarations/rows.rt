@@ -14,12 +14,12 @@ pub(super) trait Encloses {
 
     ghost inner: { Self → Sets };
 
-    /// Of a name and those that stand again within, the one that stands first in the text.
+    /// Of a name and those that repeat an earlier one within, the one that comes first in the text.
     fn earliest<'u>(&'u self, alloc: Global, best: Option<&'u Placed<Name>>) -> Repeated<'u>
         ensures { IfOk result (λ found. option_copied found ≡ earliest_in (option_copied best.entry) (inner self.now)) };
 }
 
-/// Of a name and those that stand again within the parts, the one that stands first in the text.
+/// Of a name and those that repeat an earlier one within the parts, the one that comes first in the text.
 pub(super) fn earliest_within<'u, T: Encloses>(
     alloc: Global,
     best: Option<&'u Placed<Name>>,

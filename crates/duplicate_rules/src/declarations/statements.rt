@@ -1,4 +1,4 @@
-//! Names that stand again among the variables of blocks.
+//! Names that repeat an earlier one among the variables of blocks.
 ghost use Rattle.std.specs.Prelude.{◌≡◌, IfOk, flat_map};
 ghost use Rattle.std.specs.Option.{option_copied};
 ghost use Rattle.language_model.specs.Declarations.{block_sets, statement_scoped};
@@ -32,7 +32,7 @@ impl Declares for Stmt {
     }
 }
 
-/// Of a name and those that stand again within a statement, the one that stands first in the text.
+/// Of a name and those that repeat an earlier one within a statement, the one that comes first in the text.
 #[cycle(statements)]
 #[tactic(auto, using(crate::proofs::StatementSets::statement_laws, crate::proofs::Best::best_laws))]
 fn earliest_in_statement<'u>(
@@ -83,7 +83,7 @@ pub(super) fn earliest_in_block<'u>(
     Ok(found)
 }
 
-/// The statements of an `if`, but for the one behind `else`.
+/// The statements of an `if`, except for the one after `else`.
 #[cycle(statements)]
 #[tactic(auto, using(crate::proofs::StatementSets::statement_laws, crate::proofs::Best::best_laws))]
 fn earliest_in_arms<'u>(

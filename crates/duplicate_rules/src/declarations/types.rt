@@ -1,4 +1,4 @@
-//! Names that stand again among the attributes of types.
+//! Names that repeat an earlier one among the attributes of types.
 ghost use Rattle.std.specs.Prelude.{◌≡◌, IfOk};
 ghost use Rattle.std.specs.Option.{option_copied};
 ghost use Rattle.language_model.specs.Declarations.{type_sets, attribute_sets, shape_sets};
@@ -9,7 +9,7 @@ use spl_tree::{Attribute, Placed, Shape, ShapeKind, TypeExpr, TypeKind};
 use spl_value::Name;
 use std::alloc::Global;
 
-/// Of a name and those that stand again in a type, the one that stands first in the text.
+/// Of a name and those that repeat an earlier one in a type, the one that comes first in the text.
 #[cycle(types)]
 #[tactic(auto, using(crate::proofs::TypeSets::type_laws, crate::proofs::Best::best_laws))]
 pub(super) fn earliest_in_type<'u>(

@@ -68,7 +68,7 @@ fn assignment<T: Gives>(
     Ok((number, value))
 }
 
-/// Assignments in turn, behind those in front.
+/// Assignments in turn, after those in `front`.
 fn assignments<T: Gives>(
     alloc: Global,
     gives: &T,
@@ -121,7 +121,7 @@ fn rows<T: Gives>(
     Ok(given)
 }
 
-/// The attributes that aren't marked, behind those that are assigned.
+/// The attributes that aren't marked, after those that are assigned.
 fn others<T: Gives>(
     alloc: Global,
     gives: &T,
@@ -167,7 +167,7 @@ fn given_to<T: Gives>(
 }
 
 /// Every attribute of the output with what it gets: those that are assigned, in the order of the text,
-/// and behind them the others.
+/// and after them the others.
 pub(super) fn all_given<T: Gives>(
     alloc: Global,
     gives: &T,

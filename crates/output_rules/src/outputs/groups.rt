@@ -215,7 +215,7 @@ fn collected(alloc: Global, given: Assigned<Gathers>) -> Result<Items<Collected>
 /// `Refused` is the first refusal, in the order of `tuple_of`: that of an argument, at its place; `Mismatch`
 /// at an argument of a type that the function isn't on, and at a value that is no such call or gives another
 /// type; `WrongCall` at a call with another number of arguments; and the refusals of `tuple_of` of rows and
-/// attributes. `Memory` also stands for more than 2^32 attributes.
+/// attributes. `Memory` is also the answer for more than 2^32 attributes.
 pub fn groups_of(
     alloc: Global,
     scope: &Scope,

@@ -42,13 +42,13 @@ impl<'s> Gives for Codes<'s> {
 
 /// The tuple that a Functor or a Join gives, whose invocation stands at that place of the program. The
 /// scope has its input ports, and the rows are those of its `output` clause. The assignments come first, in
-/// the order of the text, and behind them the attributes that have none: each of them is taken over from
+/// the order of the text, and after them the attributes that have none: each of them is taken over from
 /// the one port that has an attribute of its name, which has to be of its type.
 ///
 /// `Refused` is the first refusal in the order of the text: that of a value, `BadOutput` at the name of an
 /// attribute that the output doesn't have or that is assigned before, and `Unknown` at the name of a row
-/// that isn't for the output. Behind them comes `BadOutput` at the invocation, of an attribute that can't
-/// be taken over. `Memory` also stands for more than 2^32 attributes or ports.
+/// that isn't for the output. After them comes `BadOutput` at the invocation, of an attribute that can't
+/// be taken over. `Memory` is also the answer for more than 2^32 attributes or ports.
 pub fn tuple_of(
     alloc: Global,
     scope: &Scope,

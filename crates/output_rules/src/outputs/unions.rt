@@ -49,7 +49,7 @@ fn places_in(
 /// attributes of the output, in their order. Each has to be there by its name and of its type, and what else
 /// an input has is left out.
 ///
-/// `Refused` is `BadOutput` at the invocation. `Memory` also stands for more than 2^32 attributes.
+/// `Refused` is `BadOutput` at the invocation. `Memory` is also the answer for more than 2^32 attributes.
 pub fn places_of(
     alloc: Global,
     at: u32,

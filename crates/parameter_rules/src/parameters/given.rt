@@ -44,7 +44,7 @@ fn take_value(given: &mut Items<Given>, name: &[u8]) -> Option<ParameterValue>
     Some(given.remove(at).value)
 }
 
-/// Lets go of a value.
+/// Drops a value.
 fn release(_value: Option<ParameterValue>) {}
 
 /// The code of a condition or an index, by its name. What is given by other names stays.

@@ -49,7 +49,7 @@ fn keys_typing(alloc: Global, schema: &[Attribute], values: &[Expr]) -> Result<P
     Ok(places)
 }
 
-/// The place of an attribute behind others.
+/// The place of an attribute after others.
 fn key_of(
     alloc: Global,
     schema: &[Attribute],

@@ -35,7 +35,7 @@ pub(super) fn value_of(
     }
 }
 
-/// The one value of a parameter that is named at a place. A second one is refused, behind what is
+/// The one value of a parameter that is named at a place. A second one is refused, after what is
 /// refused of the first.
 fn one_value(
     alloc: Global,

@@ -54,7 +54,7 @@ suffix_ahead (b ∷ bs) =
     else (if b == 117 then one_more (width_ahead U8 U16 U32 U64 bs)
     else width_ahead I8 I16 I32 I64 (b ∷ bs))
 
--- the text behind a quote, by its length
+-- the text after a quote, by its length
 abbrev pub text_ahead : List ℕ → Option ℕ → Front
 text_ahead bs None = Refuse E.OpenText 0
 text_ahead bs (Some n) = as_front (n + 1) (text_kind (unescaped 1 (take (n - 1) bs)))

@@ -18,7 +18,7 @@ use spl_tree::InputPort;
 use spl_value::{Attribute, Ids, Items, Schema};
 use std::alloc::Global;
 
-/// How many streams a name stands for.
+/// How many streams a name means.
 fn taken_by(body: &Body, name: &[u8]) -> u32
     ensures { result ≡ taken_by (body_seen body.now) name.now (place_of name.now (stream_names body.now.composite.now)) }
 {
@@ -34,7 +34,7 @@ fn taken_by(body: &Body, name: &[u8]) -> u32
     }
 }
 
-/// So many, or as many as there are.
+/// The wanted number, or as many as there are where these are fewer.
 fn fewest(wanted: u32, there: usize) -> usize
     ensures most { result ≤ wanted }
     ensures within { result ≤ there }

@@ -1,4 +1,4 @@
-//! What shapes in bodies stand for, among the streams of a graph.
+//! What shapes in bodies mean, among the streams of a graph.
 ghost use Rattle.std.specs.Prelude.{◌≡◌};
 ghost use Rattle.std.specs.Option.{option_copied};
 ghost use Rattle.language_model.specs.StreamTypes.{port_stands_for, shape_attributes, stands_for, stream_attributes};
@@ -35,7 +35,7 @@ pub(super) fn attributes(
     streams.table.attributes(alloc, stream)
 }
 
-/// The attributes that a shape in a body stands for.
+/// The attributes of a shape in a body.
 fn given(alloc: Global, streams: &Streams, body: &Body, shape: &Shape) -> Result<Schema, TypeAnswer>
     requires { Hold streams.now }
     ensures { Finds (shape_attributes (stream_attributes (unit_of streams.now) (graph_of streams.now)) (unit_of streams.now) (graph_of streams.now) (body_seen body.now) shape.now) result }
@@ -49,7 +49,7 @@ fn given(alloc: Global, streams: &Streams, body: &Body, shape: &Shape) -> Result
     attributes(alloc, streams, stream)
 }
 
-/// A shape has to stand for these attributes.
+/// A shape has to have these attributes.
 pub(super) fn stands_for(
     alloc: Global,
     streams: &Streams,
@@ -68,7 +68,7 @@ pub(super) fn stands_for(
     }
 }
 
-/// The port of a head has to stand for these attributes, where it has a shape.
+/// The shape of the port of a head, where it has one, has to have these attributes.
 pub(super) fn port_stands_for(
     alloc: Global,
     streams: &Streams,

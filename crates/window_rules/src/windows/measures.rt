@@ -31,7 +31,7 @@ pub(super) enum Measure {
     Delta { attribute: u32, limit: i128 },
 }
 
-/// What `count(..)` or `delta(..)` measures; none of another part. A count is at least so many tuples.
+/// What `count(..)` or `delta(..)` measures; none of another part. A count is at least `least` tuples.
 pub(super) fn measure_of(
     alloc: Global,
     site: &ExpressionSite,
@@ -97,7 +97,7 @@ fn as_count(at: u32, least: u64, number: Option<Number>) -> Result<u64, TypeAnsw
     }
 }
 
-/// The place of the attribute between the parentheses of a part, and the limit behind it.
+/// The place of the attribute between the parentheses of a part, and the limit after it.
 fn delta(
     alloc: Global,
     site: &ExpressionSite,

@@ -70,7 +70,7 @@ pub(super) fn is_word(part: &WindowPart, name: &[u8]) -> bool
     is_named(part, name) && part.arguments.is_none()
 }
 
-/// The rule behind `tumbling`.
+/// The rule after `tumbling`.
 fn tumbling(
     alloc: Global,
     site: &ExpressionSite,
@@ -123,7 +123,7 @@ fn has_no_arguments(part: &WindowPart) -> bool
     }
 }
 
-/// A value behind whose part no other one stands.
+/// The value, where no other part comes after its own.
 fn last<T: Copy>(value: T, rest: &[WindowPart]) -> Result<T, TypeAnswer>
     ensures { Finds (nothing_behind value rest.now) result }
 {
@@ -133,7 +133,7 @@ fn last<T: Copy>(value: T, rest: &[WindowPart]) -> Result<T, TypeAnswer>
     }
 }
 
-/// The rule behind the `sliding` of an Aggregate: what it keeps, and the count that fires.
+/// The rule after the `sliding` of an Aggregate: what it keeps, and the count that fires.
 fn sliding_with_trigger(
     alloc: Global,
     site: &ExpressionSite,
@@ -151,7 +151,7 @@ fn sliding_with_trigger(
     Ok(sliding_by(measure, Some(every)))
 }
 
-/// The rule behind the `sliding` of a Join, which every tuple fires.
+/// The rule after the `sliding` of a Join, which every tuple fires.
 fn sliding_alone(
     alloc: Global,
     site: &ExpressionSite,
@@ -197,7 +197,7 @@ fn sliding_by(measure: Measure, every: Option<u64>) -> WindowRule
     }
 }
 
-/// The count of tuples that fires: the one part behind what slides.
+/// The count of tuples that fires: the one part after what slides.
 fn trigger(
     alloc: Global,
     site: &ExpressionSite,

@@ -22,7 +22,7 @@ returns-in_err-value-in-Some c =
     (λ o q. valued_read (taken c.in-Some.ensures q))
     (expression_fails _ expressions.Whole (λ e. expect S.Semicolon (done (declared c.args.mutable c.args.kind c.args.name (Some e)))) _ c.in_err-value-in-Some.ensures.rule)
 
--- what comes behind the value of a variable ends its declaration
+-- what comes after the value of a variable ends its declaration
 abbrev EndsBehind : Bool → TypeExpr → Name → List Token → Option Expr × Bor (List Token) → Type 0
 EndsBehind m k n ts value = (o : Answer Declaration) → RunsTo rule (expect S.Semicolon (done (declared m k n value.0))) value.1.now o → Reads rule (Valued m k n) ts o
 

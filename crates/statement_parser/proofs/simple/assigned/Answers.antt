@@ -14,7 +14,7 @@ use Rattle.statement_parser.specs.Lines.{R, expect, expression, is_assignment, a
 use Rattle.statement_parser.proofs.Readings.{finished, skipped, passed, taken_as, expression_read, rule_fails, pass_fails, expression_fails}
 use Rattle.statement_parser.proofs.simple.assigned.Goals as goal
 
--- the rule behind the operator, and behind the place
+-- the rule after the operator, and after the place
 abbrev ended : ℕ → Expr → Option BinaryOperator → Expr → R Stmt
 ended at p op e = expect S.Semicolon (done (placed at (Z.Assign p op e)))
 

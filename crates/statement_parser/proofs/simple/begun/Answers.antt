@@ -13,7 +13,7 @@ use Rattle.statement_parser.specs.Lines.{Name, R, Valued, rule, name_at}
 use Rattle.statement_parser.proofs.Readings.{finished, reads, taken, skipped, taken_as, line_read, says_on, fails, line_fails}
 use Rattle.statement_parser.proofs.simple.begun.Goals as goal
 
--- the rule behind the name of a variable
+-- the rule after the name of a variable
 abbrev valued : ℕ → List ℕ → Name → R Stmt
 valued at n variable = call (Valued false (placed at (Y.Name n)) variable) (λ d. done (placed at (Z.Declare d)))
 

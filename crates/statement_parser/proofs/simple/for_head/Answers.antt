@@ -9,7 +9,7 @@ use Rattle.statement_parser.proofs.Readings.{finished, passed, rule_fails}
 use Rattle.statement_parser.proofs.StatementReadings.{behind, part_read, part_fails}
 use Rattle.statement_parser.proofs.simple.for_head.Goals as goal
 
--- the rule behind the variable, and behind what it goes over
+-- the rule after the variable, and after what it goes over
 abbrev closed : Attribute TypeExpr → Expr → R (Attribute TypeExpr × Expr)
 closed v e = done (v, e)
 

@@ -6,7 +6,7 @@ use Rattle.statement_parser.specs.Lines.{Name, R, TypeExpression, expect_name}
 use Rattle.statement_parser.proofs.Readings.{finished, name_passed, line_read, rule_fails, name_fails, line_fails}
 use Rattle.statement_parser.proofs.simple.for_variable.Goals as goal
 
--- the rule behind the type
+-- the rule after the type
 abbrev named : TypeExpr → Name → R (Attribute TypeExpr)
 named k n = done (record { kind = k; name = n })
 

@@ -8,7 +8,7 @@ use Rattle.statement_parser.specs.Lines.{R, expect, expression}
 use Rattle.statement_parser.proofs.Readings.{finished, passed, word_passed, expression_read, rule_fails, pass_fails, word_fails, expression_fails}
 use Rattle.statement_parser.proofs.simple.gone_over.Goals as goal
 
--- the rule behind the expression
+-- the rule after the expression
 abbrev closed : Expr → R Expr
 closed e = expect S.RightParen (done e)
 

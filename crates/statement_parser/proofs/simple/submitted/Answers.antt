@@ -10,7 +10,7 @@ use Rattle.statement_parser.specs.Lines.{Name, R, expect, expect_name}
 use Rattle.statement_parser.proofs.Readings.{passed, name_passed, expression_read, rule_on, rule_fails, pass_fails, name_fails, expression_fails}
 use Rattle.statement_parser.proofs.simple.submitted.Goals as goal
 
--- the rule behind the value, behind the name, and behind the parenthesis
+-- the rule after the value, after the name, and after the parenthesis
 abbrev ended : ℕ → Expr → Name → R (Stmt × Bool)
 ended at e n = expect S.Semicolon (done (placed at (Z.Submit e n), true))
 

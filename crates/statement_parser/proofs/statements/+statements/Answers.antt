@@ -51,14 +51,14 @@ unfolding lines.rule
 statement-returns-in-None t c =
     says_on {P = Reads rule Other c.args.ts.now} {Q = Reads rule Statement c.args.ts.now} (λ o q. reads (skipped c.in-None.ensures (last q))) c.other.result c.other.ensures
 
--- ---- statements behind their first token
+-- ---- statements after their first token
 
 pub braces-returns : goal.braces-returns
 braces-returns t c =
     rule_on (lines.braces_rule c.args.at) (done (placed c.args.at (Z.Block c.in_ok-inside.inside), true)) c.args.ts.now c.in_ok-inside.behind.now c.statement_at.result
     (λ o q. line_read c.in_ok-inside.ensures q) c.statement_at.ensures
 
--- behind the head of a `while` and of a `for`
+-- after the head of a `while` and of a `for`
 abbrev whiled : ℕ → Expr → R (Stmt × Bool)
 whiled at e = call Statement (λ s. done (placed at (Z.While e s.0), s.1))
 
@@ -116,7 +116,7 @@ other-returns-in-None t c =
 
 -- ---- an `if`
 
--- behind a condition
+-- after a condition
 abbrev armed : ℕ → List (Expr × Stmt) → Expr → R (Stmt × Bool)
 armed at arms e = call Statement (λ s. lines.arms_end at (arms ++ (e, s.0) ∷ []) s.1)
 
