@@ -263,7 +263,7 @@ module _ (clauses : Clauses) (fit : IsFitting (operator_of clauses))
     abbrev body : Item → Makes
     body x = aggregate_body op.functions clauses.window.now clauses.partition.now clauses.group.now clauses.output.now earlier x
 
-    -- what is made of an item is what is made of it with the values of arguments behind tuples
+    -- what is made of an item is what is made of it with the values of arguments after tuples
     body_is : (x : Item) → ItemHas own.input x → body x ≡ item_makes clauses rule held x
     body_is (I.Tuple t) has = by (arguments op.functions clauses.output.now (at_tuple t) most_turns) refl
       where

@@ -1,4 +1,4 @@
--- The arguments of assignments for a tuple, and the tuple with their values behind its own.
+-- The arguments of assignments for a tuple, and the tuple with their values after its own.
 use Rattle.std.specs.Prelude.{◌≡◌, ⊤, ℕ, false, List, [], ◌++◌, map, Option, None, Some, slice_get}
 use Rattle.spl_value.specs.declared.types.SplType.{SplType}
 use Rattle.spl_value.specs.declared.value.Value.{Value}
@@ -25,7 +25,7 @@ abbrev pub blank : Option Value → Value
 blank None = V.Bool false
 blank (Some v) = v
 
--- a tuple with the values of its arguments behind its own
+-- a tuple with the values of its arguments after its own
 abbrev pub extended : List Function → List Collected → List Value → List Value
 extended functions output t = t ++ map blank (arguments_of functions output t)
 

@@ -1,5 +1,5 @@
 -- The histories by ports that an Aggregate stands for: its window stands for what came on its port, where each tuple has the values of its
--- arguments behind it.
+-- arguments after it.
 use Rattle.std.specs.Prelude.{◌≡◌, true, List, length}
 use Rattle.language_model.specs.declared.checked.Part.TheVariants as A
 use Rattle.language_model.specs.declared.env.Env.{Env}

@@ -66,7 +66,7 @@ fn arguments(
     Ok(values)
 }
 
-/// A tuple with the values of its arguments behind its own.
+/// A tuple with the values of its arguments after its own.
 pub(crate) fn extended(
     alloc: Global,
     functions: &Functions,

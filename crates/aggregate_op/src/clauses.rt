@@ -14,7 +14,7 @@ pub(crate) struct Clauses<'c> {
     pub partition: &'c Places,
     pub group: &'c Places,
     pub output: &'c Items<Collected>,
-    /// How many attributes a tuple of the input port has. The values of the arguments stand behind them.
+    /// How many attributes a tuple of the input port has. The values of the arguments stand after them.
     pub width: usize,
     pub ghost small: { width < 2 ^ 63 },
 }

@@ -71,7 +71,7 @@ fn give_groups(
     Ok(())
 }
 
-/// Gives a window marker behind a content, where the window tumbles.
+/// Gives a window marker after a content, where the window tumbles.
 fn give_marker(rule: WindowRule, outs: &mut Outs) -> Result<(), NoMemory>
     ensures { IfOk result (λ _. outs.new ≡ outs.old ++ marker_after rule) }
 {

@@ -1,4 +1,4 @@
-//! What operators keep, copy and cause by their clauses, and the regions that they come to, against answers
+//! What operators keep, copy and cause by their clauses, and the regions that result, against answers
 //! that were worked out by hand from the rules.
 #![tactic(auto)]
 

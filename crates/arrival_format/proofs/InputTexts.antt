@@ -1,4 +1,4 @@
--- Numbers behind blanks, up to the end of a line.
+-- Numbers after blanks, up to the end of a line.
 use Rattle.std.specs.Fmt.{decimal}
 use Rattle.std.specs.List.{AllByRecursion}
 use Rattle.std.proofs.Common.{◌≡◌, ◌∙◌, ◌+◌, ◌^◌, ◌<◌, ◌≢◌, ◌++◌, ◌∷◌, [], ℕ, List, length, refl, sym, ap, subst, arith, append_assoc, append-nil}
@@ -19,7 +19,7 @@ no_digit_behind : (xs r : List ℕ) → NoDigitFirst r → NoDigitFirst (inputs_
 no_digit_behind [] r none = none
 no_digit_behind (x ∷ xs) r none = blank_first ((decimal x ++ inputs_text xs) ++ r)
 
--- a number in front of others, and what is behind them
+-- a number in front of others, and what comes after them
 one_before : (x : ℕ) (xs r : List ℕ) → inputs_text (x ∷ xs) ++ r ≡ 32 ∷ (decimal x ++ (inputs_text xs ++ r))
 one_before x xs r = ap (λ s. 32 ∷ s) (append_assoc (decimal x) (inputs_text xs) r)
 
@@ -63,7 +63,7 @@ module _ (bytes xs r : List ℕ) (bound : ℕ) (wide : bound < 2 ^ 32) (text : b
   left_of : (ys s : List ℕ) → IsLineEnd bytes bound ys s → (zs : List ℕ) × (ys ≡ xs ++ zs) × (r ≡ inputs_text zs ++ 10 ∷ s)
   left_of ys s h = front_inputs bound wide xs ys r s below h.inputs_are.below ended (sym text ∙ h.text)
 
-  -- no number stands behind the blank
+  -- no number comes after the blank
   pub no_number : (digits : List ℕ) → r ≡ 32 ∷ digits → ((number : ℕ) (rest : List ℕ) → BeginsWithNumber digits bound number rest → ⊥)
       → (ys s : List ℕ) → IsLineEnd bytes bound ys s → ⊥
   no_number digits blank none ys s h = go (left_of ys s h)

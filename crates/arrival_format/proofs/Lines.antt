@@ -1,4 +1,4 @@
--- The lines of a record, one behind another.
+-- The lines of a record, one after another.
 use Rattle.std.specs.List.{AllByRecursion, concat, cons_option, filter_map, flat_map}
 use Rattle.std.specs.Option.{option_map_or}
 use Rattle.std.proofs.Common.{◌≡◌, ◌∙◌, ◌+◌, ◌^◌, ◌<◌, ◌≤◌, ◌≢◌, ◌++◌, ◌∷◌, [], ℕ, zero, suc, List, Bool, true, false, Option, Some, None, Result, Ok, Err, IfOk, Bor, if◌then◌else◌, length, map, drop, slice_get, sum_by, refl, sym, ap, subst, arith, append_assoc, append-nil, drop_of_length-le}
@@ -78,7 +78,7 @@ no_line_of_name name bytes numbers bound is none inputs rest h =
 abbrev pub HaveInputs : CheckedGraph → List ArrivalList → Type 0
 HaveInputs c lists = AllByRecursion (λ l. AreInputs (connection_count (graph_of c) l.op) l.inputs) lists
 
--- a line, and what is behind it
+-- a line, and what comes after it
 line_before : (c : CheckedGraph) (l : ArrivalList) (lists : List ArrivalList) (rest : List ℕ)
     → flat_map (line_text c) (l ∷ lists) ++ rest ≡ name_at c l.op ++ (inputs_text l.inputs ++ 10 ∷ (flat_map (line_text c) lists ++ rest))
 line_before c l lists rest = simp append_assoc

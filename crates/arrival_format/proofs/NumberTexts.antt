@@ -58,7 +58,7 @@ begins_with_digit n s small none =
     go [] some all h = omega (arith, some)
     go (d ∷ ds) some all h = digit_is_first d (ds ++ s) (d ∷ (ds ++ s)) all.0 refl h
 
--- a digit behind a zero is behind no number
+-- no number begins with a zero that a digit follows
 zero_alone : (n d : ℕ) (r s : List ℕ) → n < 2 ^ 64 → d < 10 → NoDigitFirst s → decimal 0 ++ (48 + d) ∷ r ≡ decimal n ++ s → ⊥
 zero_alone n d r s small digit none e = elim (eq-zero-or-pos n) [
   | inl zero ↦ none d r digit (sym (append_cancel_left (decimal 0) ((48 + d) ∷ r) s (e ∙ ap (λ k. decimal k ++ s) zero)))

@@ -47,7 +47,7 @@ whole_inputs op lists (i ∷ entries) whole = record {
       (ap (λ n. list_all (λ j. nat_lt j n) (i ∷ entries)) (sym (count_ports 0 op.ins)) ∙ ((whole_law op lists (i ∷ entries)).0 whole).named);
 }
 
--- ---- whole lists, one behind another
+-- ---- whole lists, one after another
 
 -- the operators have these inputs in a record
 abbrev AreWholeIn : ℕ → List Op → List ArrivalList → Type 0

@@ -1,5 +1,5 @@
 -- Arrival records as text: the line `arrivals 1`, and then a line for each operator with several connections, in the order of the
--- operators. It has the operator's name and the numbers of its inputs, each behind a blank. Each line ends with a line feed.
+-- operators. It has the operator's name and the numbers of its inputs, each after a blank. Each line ends with a line feed.
 use Rattle.std.specs.Prelude.{◌≡◌, ◌<◌, ◌≤◌, ◌^◌, ⊤, ℕ, List, [], ◌∷◌, ◌++◌, map, length, codes, slice_get, Result, Ok, Err}
 use Rattle.std.specs.Fmt.{decimal}
 use Rattle.std.specs.List.{AllByRecursion, flat_map}
@@ -20,7 +20,7 @@ use Rattle.arrival_format.specs.declared.answer.ArrivalsAnswer.TheVariants as A
 abbrev pub name_at : CheckedGraph → ℕ → List ℕ
 name_at c n = option_map_or (λ op. op.name) (slice_get c.graph.ops n) []
 
--- numbers without leading zeros, each behind a blank
+-- numbers without leading zeros, each after a blank
 abbrev pub inputs_text : List ℕ → List ℕ
 inputs_text inputs = flat_map (λ i. 32 ∷ decimal i) inputs
 

@@ -1,4 +1,4 @@
--- What the texts of arrival records come to.
+-- Laws of the texts of arrival records.
 use Rattle.std.specs.Prelude.{◌≡◌, ◌≤◌, ◌^◌, ◌⊎◌, ℕ, true, List, map, length, slice_get, Some, Result, Ok, Err}
 use Rattle.language_model.specs.CheckedGraph.{CheckedGraph}
 use Rattle.language_model.specs.Keeping.{Keeps}

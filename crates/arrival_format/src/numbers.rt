@@ -7,7 +7,7 @@ use crate::answer::ArrivalsAnswer;
 use spl_value::{Inputs, Items};
 use std::alloc::Global;
 
-// What is behind the first byte, where it is this one.
+// What comes after the first byte, where it is this one.
 fn behind(bytes: &[u8], first: u8) -> Option<&[u8]>
     ensures { MatchOption result ((rest : List ℕ) → bytes.now ≢ first ∷ rest)
         (λ rest. bytes.now ≡ first ∷ rest.now) }
@@ -18,7 +18,7 @@ fn behind(bytes: &[u8], first: u8) -> Option<&[u8]>
     }
 }
 
-// The digit that comes first, and what is behind it.
+// The digit that comes first, and what comes after it.
 fn first_digit(bytes: &[u8]) -> Option<(u32, &[u8])>
     ensures { MatchOption result (NoDigitFirst bytes.now)
         (λ found. (found.0 < 10) × (bytes.now ≡ (48 + found.0) ∷ found.1.now)) }
@@ -43,7 +43,7 @@ fn longer(number: u32, digit: u32, bound: u32) -> Option<u32>
     }
 }
 
-// The number below the bound that comes first, and what is behind its digits.
+// The number below the bound that comes first, and what comes after its digits.
 fn first_number(bytes: &[u8], bound: u32) -> Option<(u32, &[u8])>
     ensures { MatchOption result
         ((number : ℕ) (rest : List ℕ) → BeginsWithNumber bytes.now bound number rest → ⊥)
@@ -60,7 +60,7 @@ fn first_number(bytes: &[u8], bound: u32) -> Option<(u32, &[u8])>
     Some((number, rest))
 }
 
-/// The numbers up to the end of the line, each below the bound and behind a blank, and what is behind
+/// The numbers up to the end of the line, each below the bound and after a blank, and what comes after
 /// the line.
 pub(crate) fn read_inputs(
     alloc: Global,

@@ -30,7 +30,7 @@ fn connection_count(op: &Op) -> u32
     count
 }
 
-// The numbers of the line that begins with a name, each below the bound, and what is behind the line.
+// The numbers of the line that begins with a name, each below the bound, and what comes after the line.
 fn read_line<'a>(
     alloc: Global,
     name: &[u8],
@@ -48,7 +48,7 @@ fn read_line<'a>(
 }
 
 // Reads the line of the operator with this number, where it has several connections, and answers what
-// is behind.
+// comes after it.
 fn read_operator<'a>(
     alloc: Global,
     checked: &Checked,

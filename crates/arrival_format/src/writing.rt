@@ -18,7 +18,7 @@ fn name(checked: &Checked, op: u32) -> &[u8]
     }
 }
 
-// Adds the numbers, each behind a blank.
+// Adds the numbers, each after a blank.
 fn add_inputs(text: &mut Vec<u8>, inputs: &[u32]) -> Result<(), NoMemory>
     ensures { OnOk result (text.new.items ≡ text.old.items ++ inputs_text inputs.now) }
 {

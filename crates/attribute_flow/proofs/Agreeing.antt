@@ -74,7 +74,7 @@ agreement_append a (code ∷ codes) more =
     ap (and_then (of_source (tuple_source a code))) (agreement_append a codes more)
     ∙ sym (and_then_assoc (of_source (tuple_source a code)) (agreement a codes) (agreement a more))
 
--- ---- what comes of it
+---- what follows from it
 
 seen_first : (source : Option ℕ) (j : Agreement) → is_unseen (and_then (of_source source) j) ≡ false
 seen_first None j = refl

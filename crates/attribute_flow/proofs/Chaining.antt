@@ -22,7 +22,7 @@ in_parts c g n is lt =
     let there = operator_from c 0 c.graph.ops c.parts n o.0 (ap (λ (h : Graph). slice_get h.ops n) is ∙ o.1) in
     slice_get_within c.parts n there.part there.has
 
--- ---- one operator behind others
+-- ---- one operator after others
 
 pub ops_last : (g : Graph) (ns : List ℕ) (n : ℕ) (o : Operator) → slice_get g.ops n ≡ Some o → ops_of g (ns ++ n ∷ []) ≡ ops_of g ns ++ o ∷ []
 ops_last g [] n o at = ap (λ found. option_map_or (λ op. op ∷ []) found []) at

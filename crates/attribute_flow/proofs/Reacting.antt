@@ -38,7 +38,7 @@ module _ (P : Output → Type 0) (markers : OfMarkers P) where
   answered_has op last (Faulted kind) h = each_has (length op.outs) _ refl
   answered_has op last Stuck h = each_has (length op.outs) _ refl
 
-  -- behind a history, at one event of an operator with one connection
+  -- after a history, at one event of an operator with one connection
   reacts : (n : ℕ) (part : Part) (functions : List Function) (types : PortTypes) (s : ℕ) (outs : List ℕ) (h : List Event) (x : Item)
       → AllMade P (makes_by part (one_in n part functions types s outs) (port_events (one_in n part functions types s outs) h) 0 x)
       → AllByRecursion P (react (one_in n part functions types s outs) h (came 0 x))

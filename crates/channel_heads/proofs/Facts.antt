@@ -50,7 +50,7 @@ left_less rest c d = if d == c then [] else rest d
 
 -- ---- facts of each rule
 
--- by turns: so many rounds are over, and the channels before the turn's have given once more
+-- by turns: a number of rounds are over, and the channels before the turn's have given once more
 pub record TurnFacts (w : ℕ) (taken : ℕ → List Packet) (gifts : List Gift) (count : ℕ) : Type 0 where
   pub rounds : ℕ
   pub turn : ℕ

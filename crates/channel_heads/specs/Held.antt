@@ -74,20 +74,20 @@ least_of heads = fold least_with None heads
 abbrev pub IsLeast : Held → ℕ → Type 0
 IsLeast h n = (c m : ℕ) (x : Item) → head_at h c ≡ Some (m, x) → n ≤ m
 
--- after so many items were given, the item of this number at the head of this channel is the next
+-- after `count` items were given, the item of number `n` at the head of channel `c` is the next
 abbrev pub IsNext : Rule → ℕ → ℕ → Held → ℕ → ℕ → Type 0
 IsNext ByTurns width count h c n = (rounds : ℕ) × (count ≡ rounds * width + c)
 IsNext ByNumbers width count h c n = n ≡ count
 IsNext ByPulses width count h c n = IsLeast h n × ((d : ℕ) → d < width → is_waiting h n d ≡ false)
 
--- after so many items were given, no head is the next
+-- after `count` items were given, no head is the next
 abbrev pub IsBlocked : Rule → ℕ → ℕ → Held → Type 0
 IsBlocked ByTurns width count h = (c rounds : ℕ) × (c < width) × (count ≡ rounds * width + c) × (head_at h c ≡ None)
 IsBlocked ByNumbers width count h = (c n : ℕ) (x : Item) → head_at h c ≡ Some (n, x) → n ≡ count → ⊥
 IsBlocked ByPulses width count h = ((c : ℕ) → c < width → head_at h c ≡ None)
     ⊎ ((d : ℕ) × (d < width) × ((c n : ℕ) (x : Item) → head_at h c ≡ Some (n, x) → is_waiting h n d ≡ true))
 
--- what a new merger of so many channels holds after calls that took these packets and gave these items
+-- what a new merger of `width` channels holds after calls that took these packets and gave these items
 pub data Stands (rule : Rule) (width : ℕ) : Held → (ℕ → List Packet) → List Item → Type 0 where
   New : 0 < width → Stands rule width (new_held width) (λ c. []) []
   Took : {h : Held} {taken : ℕ → List Packet} {given : List Item} (c : ℕ) (packet : Packet) → Stands rule width h taken given

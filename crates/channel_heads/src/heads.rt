@@ -32,7 +32,7 @@ impl Model for Heads {
     ghost invariant = { λ h. (vec_len h.bounds ≡ vec_len h.heads) × (vec_len h.done ≡ vec_len h.heads) };
 }
 
-// So many channels without a head.
+// `width` channels without a head.
 fn no_heads(alloc: Global, width: usize) -> Result<Vec<Option<(u64, Item)>>, NoMemory>
     ensures { IfOk result (λ v. v.items ≡ replicate width None) }
 {
@@ -43,7 +43,7 @@ fn no_heads(alloc: Global, width: usize) -> Result<Vec<Option<(u64, Item)>>, NoM
     Ok(heads)
 }
 
-// Lets every head go.
+// Drops every head.
 fn drop_heads(heads: &mut [Option<(u64, Item)>])
     ensures { heads.new ≡ map (λ _. None) heads.old }
 {
@@ -90,7 +90,7 @@ fn closes(item: &Item) -> bool
 }
 
 impl Heads {
-    /// So many channels that have taken nothing. Nothing after this call takes memory.
+    /// `width` channels that have taken nothing. Nothing after this call takes memory.
     pub fn new(alloc: Global, width: usize) -> Result<Heads, NoMemory>
         ensures new { IfOk result (λ h. h ≡ new_held width) }
         ensures width { IfOk result (λ h. width_of h ≡ width) }

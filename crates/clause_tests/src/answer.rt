@@ -26,7 +26,7 @@ pub(crate) enum Asked {
     Types,
 }
 
-/// A program in which each character stands for the byte of its number.
+/// A program in which each character means the byte of its number.
 pub(crate) struct Bytes;
 
 impl Answers for Asked {

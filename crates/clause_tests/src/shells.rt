@@ -1,6 +1,6 @@
-//! What stands in front of the texts of rows, in place of `…`, and what stands behind.
+//! What comes before the texts of rows, in place of `…`, and what comes after.
 
-/// A line a shell, behind its word.
+/// A line a shell, after its word.
 pub(crate) const SHELLS: &str = r#"
 # The graph of the main composite.
 graph: composite Main {graph …}

@@ -15,7 +15,7 @@ use Rattle.command_line.specs.RequestLaws.{TwoFormsLaw}
 use Rattle.command_line.proofs.Reading.{first_word}
 use Rattle.spl_value.proofs.Bools.{or_first as first_false, or_second as second_false}
 
--- a name without `=`, and what is behind it
+-- a name without `=`, and what is after it
 passes_name : (name behind : List ℕ) → list_any is_equals name ≡ false → position_or_len is_equals (name ++ behind) ≡ length name + position_or_len is_equals behind
 passes_name [] behind h = omega arith
 passes_name (b ∷ name) behind h =

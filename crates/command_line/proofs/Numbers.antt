@@ -7,7 +7,7 @@ use Rattle.std.proofs.lemmas.Bool.Decides.{nat_tests}
 use Rattle.spl_value.specs.Decimal.{is_digit, digit_step, natural}
 use Rattle.command_line.specs.Options.{spelled_number, within, number_within}
 
--- each digit behind a number makes at least ten times as much of it
+-- each digit after a number makes it at least ten times as large
 fold_digits : (n : ℕ) (bytes : List ℕ) → n * 10 ^ length bytes ≤ fold digit_step n bytes
 fold_digits n [] = omega arith
 fold_digits n (b ∷ bytes) =

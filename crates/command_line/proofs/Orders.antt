@@ -20,7 +20,7 @@ use Rattle.command_line.specs.RequestLaws.{AnyOrderLaw}
 use Rattle.command_line.specs.steps.Steps.{with_front}
 use Rattle.command_line.proofs.Reading.{in_front}
 
--- ---- arguments are read one behind another
+-- ---- arguments are read one after another
 
 front_nil : (others : Option (List Argument)) → others ≡ with_front [] others
 front_nil None = refl
@@ -30,7 +30,7 @@ onto_front : (argument : Argument) (read : List Argument) (others : Option (List
 onto_front argument read None = refl
 onto_front argument read (Some others) = refl
 
--- words that are these arguments, and what they are with others behind them
+-- words that are these arguments, and what they are with others after them
 abbrev GoesOn : Option (List Argument) → Option (List Argument) → Option (List Argument) → Type 0
 GoesOn here both others = IfSome here (λ read. both ≡ with_front read others)
 

@@ -1,4 +1,4 @@
--- The arguments that the words behind a command are.
+-- The arguments that the words after a command are.
 use Rattle.std.specs.Prelude.{◌+◌, ◌==◌, ℕ, Bool, false, not, List, [], ◌∷◌, map, take, drop, position, codes, Option, Some, None, if◌then◌else◌}
 use Rattle.std.specs.String.{string_bytes}
 use Rattle.std.specs.Str.{bytes_eq}
@@ -30,7 +30,7 @@ abbrev pub cut_at : List ℕ → Option ℕ → Word
 cut_at text None = Named text
 cut_at text (Some at) = Whole (valued (take at text) (drop (at + 1) text))
 
--- what stands behind `--`: `counts` alone has no value. A name that no command has, also the empty one, is refused with
+-- what comes after `--`: `counts` alone has no value. A name that no command has, also the empty one, is refused with
 -- the options of the command.
 abbrev pub option_of : List ℕ → Word
 option_of text = if bytes_eq text (codes "counts") then Whole (Some Counts) else cut_at text (position is_equals text)
@@ -53,7 +53,7 @@ abbrev mutual
   arguments [] = Some []
   arguments (word ∷ words) = elim (word_of word) [ Whole argument ↦ onto argument (arguments words) | Named name ↦ with_value name words ]
 
-  -- the word behind `--name` is its value, whatever it looks like
+  -- the word after `--name` is its value, whatever it looks like
   pub with_value : List ℕ → List (List ℕ) → Option (List Argument)
   with_value name [] = None
   with_value name (value ∷ words) = onto (valued name value) (arguments words)

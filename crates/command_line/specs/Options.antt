@@ -58,7 +58,7 @@ optional read values = read_by read (at_most_one values)
 abbrev pub required : {A : Type 0} → (List ℕ → Option A) → List (List ℕ) → Option A
 required read values = option_flatten (optional read values)
 
--- a zero with more behind it
+-- a zero with more after it
 abbrev pub leads_with_zero : List ℕ → Bool
 leads_with_zero [] = false
 leads_with_zero (b ∷ []) = false

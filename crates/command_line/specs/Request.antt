@@ -1,4 +1,4 @@
--- What the words of the command line ask for. The first word is the command. Behind it come one file name and the options
+-- What the words of the command line ask for. The first word is the command. After it come one file name and the options
 -- of the command, in any order, each option at most once and some of them always. Other words are no request.
 use Rattle.std.specs.Prelude.{ℕ, Bool, List, [], ◌∷◌, unwrap_or, codes, Option, Some, None, option_and_then, if◌then◌else◌}
 use Rattle.std.specs.List.{list_all, cons_option}

@@ -11,7 +11,7 @@ abbrev pub TwoFormsLaw : Type 0
 TwoFormsLaw = (name value : List ℕ) (words : List (List ℕ)) → list_any is_equals name ≡ false → bytes_eq name (codes "counts") ≡ false
     → arguments ((codes "--" ++ name) ∷ value ∷ words) ≡ arguments ((codes "--" ++ name ++ codes "=" ++ value) ∷ words)
 
--- words that are arguments may stand in front of others that are arguments, or behind them
+-- words that are arguments may stand in front of others that are arguments, or after them
 abbrev pub AnyOrderLaw : Type 0
 AnyOrderLaw = (command : List ℕ) (before ones others behind : List (List ℕ)) (front xs ys : List Argument) → arguments before ≡ Some front
     → arguments ones ≡ Some xs → arguments others ≡ Some ys

@@ -1,4 +1,4 @@
-//! The arguments behind the command: a file name, options with their values, and flags.
+//! The arguments after the command: a file name, options with their values, and flags.
 ghost use Rattle.std.specs.Prelude.{◌≡◌, ◌<◌, ◌≤◌, length, drop, position, IfOk, IfSome};
 
 use spl_value::{Bytes, Items, Name, NoMemory};
@@ -52,7 +52,7 @@ fn equals_sign(text: &[u8]) -> Option<usize>
     text.iter().position(|b| *b == b'=')
 }
 
-// What a word is whose text stands behind `--`.
+// What a word is whose text comes after `--`.
 fn read_option(alloc: Global, text: &[u8]) -> Result<Word, NoMemory>
     ensures { IfOk result (λ word. word ≡ option_of text.now) }
 {
@@ -79,7 +79,7 @@ fn read_word(alloc: Global, word: &[u8]) -> Result<Word, NoMemory>
     }
 }
 
-// What begins at a place of the words: an argument, where it is one, and the place behind it.
+// What begins at a place of the words: an argument, where it is one, and the place after it.
 fn argument_at(
     alloc: Global,
     words: &[String],

@@ -44,7 +44,7 @@ pub fn request_on_literals()
         ∷ codes "p.spl" ∷ []) ≡ None }
 {}
 
-/// An option with a value may be given in one word or in two, and the order of the arguments behind
+/// An option with a value may be given in one word or in two, and the order of the arguments after
 /// the command doesn't matter.
 pub fn request_law()
     ensures two_forms { TwoFormsLaw }

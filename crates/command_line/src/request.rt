@@ -44,7 +44,7 @@ pub enum Request {
         schedule: u32,
         steps: u32,
     },
-    /// Writes so many generated rows to the file of this name. The generator begins with this number.
+    /// Writes `rows` generated rows to the file of this name. The generator begins with the number `start`.
     Make {
         name: Name,
         rows: u32,
@@ -190,7 +190,7 @@ fn request_given(
     }
 }
 
-/// The request that the words behind the program's name are, if they are one.
+/// The request that the words after the program's name are, if they are one.
 pub fn read_request(alloc: Global, words: &[String]) -> Result<Option<Request>, NoMemory>
     ensures { IfOk result (λ request. request ≡ request_of words.now) }
 {

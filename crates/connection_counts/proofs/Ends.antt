@@ -13,7 +13,7 @@ use Rattle.stream_model.proofs.ByPorts.{input_port}
 use Rattle.std.proofs.lemmas.Bool.{lt-ltb}
 use Rattle.spl_value.proofs.Results.{some_same}
 
--- the port of an input, and its counts before and behind the input's final marker
+-- the port of an input, and its counts before and after the input's final marker
 pub record Closed (op : Operator) (h : List Event) (i : ℕ) : Type 0 where
   pub there : slice_get (ports op) i ≡ Some (port_at (ports op) i)
   pub below : port_at (ports op) i < length op.ins

@@ -1,4 +1,4 @@
--- What a Custom stands for, at the start and after an event.
+-- The history that a Custom stands for, at the start and after an event.
 use Rattle.std.proofs.Common.{◌≡◌, ℕ, true, false, List, [], ◌∷◌, map, is_none, None, sym, ap, subst, ◌∙◌}
 use Rattle.spl_value.specs.declared.item.Item.{Item}
 use Rattle.spl_value.specs.declared.value.Value.{Value}
@@ -51,7 +51,7 @@ pub stands_vars : (op : Operator) (handlers : Handlers) (h : List Event) (env : 
     → state op.functions handlers h ≡ env.vars
 stands_vars op handlers h env port x stands may = sym (ap (λ (e : Env). e.vars) (stands may.goes_on).env_is)
 
--- it stands for the longer history where it goes on; behind a fault nothing is asked
+-- it stands for the longer history where it goes on; after a fault nothing is asked
 pub stands_after : (op : Operator) (handlers : Handlers) (h : List Event) (old new : Env) (port : ℕ) (x : Item) (r : Reply) → BodyLeavesLaw → ImmutableLaw
     → op.clauses ≡ A.Custom handlers → StandsFor op handlers h old → MayTakeAt op h port x → RepliesAt op h port x r → LeavesIdle (item_leaves op.functions handlers old.vars port x) r new
     → IsTaken r → StandsFor op handlers (came port x ∷ h) new

@@ -1,4 +1,4 @@
--- What a Custom stands for.
+-- The histories that a Custom stands for.
 use Rattle.std.specs.Prelude.{◌≡◌, true, List}
 use Rattle.spl_tree.specs.declared.body.Function.{Function}
 use Rattle.language_model.specs.declared.checked.Handlers.{Handlers}
@@ -15,6 +15,6 @@ pub record Holds (functions : List Function) (handlers : Handlers) (h : List Eve
   pub env_is : env ≡ idle_env (state functions handlers h)
   pub fit : StateFits handlers.state (state functions handlers h)
 
--- they do while no event came to a fault: behind a fault nobody asks for them
+-- they do while no event had a fault: after a fault nobody asks for them
 abbrev pub StandsFor : Operator → Handlers → List Event → Env → Type 0
 StandsFor op handlers h env = goes_on op h ≡ true → Holds op.functions handlers h env

@@ -73,7 +73,7 @@ fn env_of(alloc: Global) -> Result<Env, NoMemory>
     })
 }
 
-// How many evaluations come to a value that is true.
+// How many evaluations give the value true.
 fn values(alloc: Global, functions: &Functions, code: &Code<Slot>, env: &Env) -> u32
     requires { Fits functions.now code.now env.now T.Bool }
 {
@@ -101,7 +101,7 @@ fn truths(alloc: Global, functions: &Functions, code: &Code<Slot>, env: &Env) ->
     true_ones
 }
 
-// How many evaluations come to a tuple.
+// How many evaluations give a tuple.
 fn tuples(alloc: Global, functions: &Functions, code: &Code<Slot>, env: &Env) -> u32
     requires { Fits functions.now code.now env.now (T.Tuple pair) }
 {

@@ -9,7 +9,7 @@ use test_texts::rows::expect;
 /// codes and statements may nest, itself and the `return` of its function, and the number at the end one.
 const COUNT: u32 = DEEPEST / 2;
 
-// Functions behind the chain.
+// Functions after the chain.
 const BEHIND: &str = r#"
 int32 less() { return -f747(); }
 int32 least() { return -(-f747()); }

@@ -1,4 +1,4 @@
-//! Texts of expressions and bodies against what they come to by the rules of the language, worked out by
+//! Texts of expressions and bodies against their results by the rules of the language, worked out by
 //! hand.
 #![tactic(auto)]
 

@@ -1,4 +1,4 @@
-//! Texts of expressions against what they come to.
+//! Texts of expressions against their results.
 ghost use Rattle.test_scopes.specs.Contexts.{Holds};
 
 mod tables;
@@ -13,15 +13,15 @@ use test_texts::rows::{Answers, expect};
 use test_texts::text::Text;
 use test_texts::values::add_value;
 
-/// What expressions come to in a unit. A row is an expression, and in ` @ 3` behind it the turns that
-/// there are; then the turns that are left stand behind the value: `5 | 2`. A tab is written `␉`.
+/// The results of expressions in a unit. A row is an expression, and in ` @ 3` after it the turns that
+/// there are; then the turns that are left come after the value: `5 | 2`. A tab is written `␉`.
 #[derive(Drop)]
 pub(crate) struct Values {
     unit: Unit,
     came: Option<Marker>,
 }
 
-/// A text, and the number behind its last ` @ `, where there is one.
+/// A text, and the number after its last ` @ `, where there is one.
 pub(crate) fn with_turns(text: &str) -> Result<(&str, Option<u32>), Unanswered> {
     let Some((front, turns)) = text.rsplit_once(" @ ") else {
         return Ok((text, None));
@@ -32,7 +32,7 @@ pub(crate) fn with_turns(text: &str) -> Result<(&str, Option<u32>), Unanswered> 
     }
 }
 
-// Adds the value of an expression, and behind it the turns that are left, where so many are given.
+// Adds the value of an expression, and after it the turns that are left, where their number is given.
 fn add_value_of(
     alloc: Global,
     context: &Context,
@@ -79,7 +79,7 @@ impl Answers for Values {
     }
 }
 
-/// What a condition comes to where the tuple of a row came.
+/// The result of a condition where the tuple of a row came.
 #[derive(Drop)]
 struct Condition {
     text: &'static str,

@@ -1,4 +1,4 @@
--- What the operators of expressions, the built-in calls and changes of places come to.
+-- The results of the operators of expressions, the built-in calls and changes of places.
 use Rattle.std.specs.Prelude.{◌≡◌, ℕ, zero, suc, ℤ, pos, negsuc, int_div, int_rem, nat_lt, Bool, true, false, if◌then◌else◌, List, [], ◌∷◌, length, take, drop, Option, None, Some, slice_get}
 use Rattle.std.proofs.Common.{refl}
 use Rattle.spl_value.specs.declared.item.FaultKind.{FaultKind}

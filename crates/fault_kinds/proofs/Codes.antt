@@ -1,4 +1,4 @@
--- What codes come to, where calls of functions come to no fault but those of evaluation.
+-- The results of codes, where calls of functions have no faults but those of evaluation.
 use Rattle.std.specs.Prelude.{◌≡◌, ℕ, List, [], ◌∷◌}
 use Rattle.std.specs.List.{AllByRecursion}
 use Rattle.spl_value.specs.declared.value.Value.{Value}

@@ -1,4 +1,4 @@
--- What programs come to.
+-- The results of programs.
 use Rattle.std.specs.Prelude.{ℕ, zero, suc, List, slice_get}
 use Rattle.std.proofs.Common.{refl}
 use Rattle.spl_value.specs.declared.value.Value.{Value}

@@ -1,4 +1,4 @@
--- What comes to no fault but those of evaluation.
+-- Outcomes with no faults but those of evaluation.
 use Rattle.std.specs.Prelude.{◌≡◌, ℕ, zero, suc, Bool, true, false, if◌then◌else◌, Option, None, Some}
 use Rattle.std.proofs.Common.{refl, sym, subst}
 use Rattle.spl_value.specs.Calls.{CallOutcome, Gives, Faults, Unfit}
@@ -32,7 +32,7 @@ own_either false o p h k = k
 pub own_by : {A : Type 0} (o p : Outcome A) → o ≡ p → Own p → Own o
 own_by o p e h = subst Own (sym e) h
 
--- the same of what an operator of an expression or a call comes to
+-- the same of the result of an operator of an expression or of a call
 abbrev pub OwnCall : CallOutcome → Type 0
 OwnCall (Gives v) = Unit {0}
 OwnCall (Faults kind) = is_evaluation_kind kind ≡ true

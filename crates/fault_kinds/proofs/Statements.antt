@@ -1,4 +1,4 @@
--- What statements and bodies come to, where calls of functions come to no fault but those of evaluation.
+-- The results of statements and bodies, where calls of functions have no faults but those of evaluation.
 use Rattle.std.specs.Prelude.{◌≡◌, ℕ, zero, suc, List, [], ◌∷◌, map, Option, None, Some, slice_get}
 use Rattle.std.specs.List.{AllByRecursion}
 use Rattle.std.proofs.Common.{refl}

@@ -1,4 +1,4 @@
--- What is evaluated comes to faults of evaluation alone, whatever its code is and wherever it is evaluated.
+-- An evaluation has faults of evaluation alone, whatever its code is and wherever it is evaluated.
 use Rattle.std.specs.Prelude.{◌≡◌, ℕ, true, List}
 use Rattle.spl_value.specs.declared.item.FaultKind.{FaultKind}
 use Rattle.spl_value.specs.declared.value.Value.{Value}

@@ -1,4 +1,4 @@
--- The faults that operators come to by themselves are faults of evaluation.
+-- The faults that operators cause by themselves are faults of evaluation.
 use Rattle.std.specs.Prelude.{◌≡◌, ℕ, true, false, List, slice_get, Some}
 use Rattle.spl_value.specs.declared.item.Fault.{Fault}
 use Rattle.spl_value.specs.declared.item.FaultKind.{FaultKind}
@@ -18,7 +18,7 @@ use Rattle.fault_kinds.specs.EvaluationKinds.{FaultsByEvaluation}
 abbrev pub MakesKindsLaw : Type 0
 MakesKindsLaw = (part : Part) (op : Operator) (h : List Event) (port : ℕ) (x : Item) → FaultsByEvaluation (makes_by part op h port x)
 
--- an event that fits comes to an operator whose clauses fit, and that hasn't ended after events that fit
+-- an event that fits arrives at an operator whose clauses fit, and that hasn't ended after events that fit
 pub record MayCome (op : Operator) (h : List Event) (e : Event) : Type 0 where
   pub clauses : IsFitting op
   pub earlier : EventsFit op h

@@ -1,7 +1,7 @@
 //! The faults of codes, statements and bodies.
 ghost use Rattle.fault_kinds.specs.EvaluationKinds.{ValueKindsLaw, StatementKindsLaw, FunctionKindsLaw, RunsKindsLaw};
 
-/// A fault that a code comes to is a division by zero, an index out of range, a key that isn't there, or want
+/// A fault of a code is a division by zero, an index out of range, a key that isn't there, or a lack
 /// of turns: never one of a row, a file or a read.
 pub fn value_kinds_law<N>()
     ensures { ValueKindsLaw N }

@@ -1,4 +1,4 @@
-//! Of which kinds the faults are that evaluation, and so operators, come to.
+//! Of which kinds the faults of evaluation, and so of operators, are.
 #![tactic(auto)]
 
 mod evaluation;

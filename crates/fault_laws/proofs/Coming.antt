@@ -1,4 +1,4 @@
--- What holds of each event that comes to an operator, where it holds of each item of the streams that it reads.
+-- What holds of each event that arrives at an operator, where it holds of each item of the streams that it reads.
 use Rattle.std.proofs.Common.{◌≡◌, ℕ, zero, suc, ◌==◌, Bool, true, false, cond, if◌then◌else◌, not, nat_lt, List, [], ◌∷◌, map, refl, sym, ap, subst, length, slice_get, Some, None, position, ◌+◌, ◌<◌, arith}
 use Rattle.std.specs.List.{AllByRecursion, position_or_len}
 use Rattle.std.proofs.lemmas.Bool.{eqb-true, lt-ltb, ltb-true}

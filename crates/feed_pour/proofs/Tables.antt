@@ -1,4 +1,4 @@
--- What stands under a name behind a change of one entry.
+-- What stands under a name after a change of one entry.
 use Rattle.std.proofs.Common.{◌≡◌, ◌≢◌, ℕ, ◌+◌, ◌<◌, ◌≤◌, List, [], ◌∷◌, ◌++◌, length, get_or, Bool, true, false, if◌then◌else◌, cond, not, Option, Some, None, refl, sym, ◌∙◌, ap, suc, zero, arith, position, subst, inl, inr, Result, Ok, Err}
 use Rattle.std.proofs.Math.ListN.{set}
 use Rattle.std.specs.Prelude.{IsSome, OnOk, OnErr}

@@ -98,7 +98,7 @@ is_opened (O.Ok x) = true
 is_opened O.Failed = false
 is_opened O.Memory = false
 
--- an answer that is not for want of memory is a failure exactly where this says so
+-- an answer that is not for lack of memory is a failure exactly where this says so
 abbrev pub FailsWhere : {T : Type 0} → Bool → Opened T → Type 0
 FailsWhere fails (O.Ok x) = fails ≡ false
 FailsWhere fails O.Failed = fails ≡ true
@@ -137,7 +137,7 @@ AllRead (Some script) R.TooLong limit = limit < length script.bytes
 AllRead (Some script) R.Failed limit = (script.ending ≡ S.Failed) × (length script.bytes ≤ limit)
 AllRead (Some script) R.Memory limit = ⊤
 
--- what was read to its end has at most so many bytes
+-- what was read to its end has at most `limit` bytes
 abbrev pub ReadWithin : ReadAll → ℕ → Type 0
 ReadWithin (R.Whole bytes) limit = length bytes ≤ limit
 ReadWithin R.TooLong limit = ⊤
@@ -151,7 +151,7 @@ failed_read_all R.TooLong = false
 failed_read_all R.Failed = true
 failed_read_all R.Memory = false
 
--- behind these bytes, this is left of a script
+-- after these bytes, this is left of a script
 pub record Behind (script : Script) (taken : List ℕ) (now : Option Script) : Type 0 where
   pub rest : List ℕ
   pub front : script.bytes ≡ taken ++ rest
@@ -162,7 +162,7 @@ abbrev pub LeftBehind : Option Script → List ℕ → Option Script → Type 0
 LeftBehind None taken now = ⊤
 LeftBehind (Some script) taken now = Behind script taken now
 
--- all of these bytes were poured; where it failed or memory was wanting, a front of them
+-- all of these bytes were poured; where it failed or memory ran out, a front of them
 abbrev pub AllPoured : Option (List ℕ) → Option (List ℕ) → Result (Unit {0}) PourAnswer → List ℕ → Type 0
 AllPoured None now r bytes = ⊤
 AllPoured (Some old) now (Ok u) bytes = now ≡ Some (old ++ bytes)

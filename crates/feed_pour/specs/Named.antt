@@ -14,7 +14,7 @@ FetchedOf script F.OpenFailed limit = ⊤
 FetchedOf script F.ReadFailed limit = (script.ending ≡ S.Failed) × (length script.bytes ≤ limit)
 FetchedOf script F.Memory limit = ⊤
 
--- what was fetched has at most so many bytes
+-- what was fetched has at most `limit` bytes
 abbrev pub FetchedWithin : Fetched → ℕ → Type 0
 FetchedWithin (F.Whole bytes) limit = length bytes ≤ limit
 FetchedWithin F.TooLong limit = ⊤

@@ -202,7 +202,7 @@ where
         Opened::Failed
     }
 
-    // The entry and the buffer are made first, so that want of memory leaves the files alone.
+    // The entry and the buffer are made first, so that a lack of memory leaves the files alone.
     fn create(&mut self, name: &Name) -> Opened<FilePour<R::File>> {
         if know(self.alloc, &mut self.tallies, name).is_err() {
             return Opened::Memory;

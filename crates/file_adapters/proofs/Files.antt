@@ -124,7 +124,7 @@ emptied sinks last place old new within h =
       scripts = λ n out. h.scripts n (sym (named (take place sinks) n) ∙ ap (λ (ns : List (List ℕ)). is_among ns n) (sym same) ∙ out);
     }
 
--- ---- what is told, one change behind another
+-- ---- what is told, one change after another
 
 pub told_then : {A : Type 0} (a b c : Option A) (R S T : A → A → Type 0) → WhereTold a b R → WhereTold b c S → ((x y z : A) → R x y → S y z → T x z) → WhereTold a c T
 told_then None b c R S T r s then_ = tt

@@ -1,4 +1,4 @@
--- The files of sinks while they are finished, one behind another.
+-- The files of sinks while they are finished, one after another.
 use Rattle.std.proofs.Common.{◌≡◌, ◌≢◌, ℕ, ◌+◌, ◌-◌, ◌<◌, ◌≤◌, List, ◌∷◌, length, take, drop, get_or, map, Bool, true, false, Option, Some, None, Result, Ok, Err, refl, sym, ◌∙◌, ap, subst, arith, inl, inr, length-drop}
 use Rattle.std.specs.Prelude.{IsErr}
 use Rattle.std.specs.List.{All}

@@ -154,7 +154,7 @@ text_failed_counts first old mid new sinks text count created finished = record 
     front : (n : List ℕ) → is_among (sink_names sinks) n ≡ is_among (take (length sinks) (names_of sinks (Some text))) n
     front n = ap (λ (ns : List (List ℕ)). is_among ns n) (ap sink_names (sym (take_all (length sinks) sinks (omega arith))) ∙ sym (taken sinks (Some text) (length sinks) (omega arith)))
 
--- memory was wanting for it
+-- memory ran out for it
 pub text_wanting_counts : (first : Option ℕ) (old mid new : PerName) (sinks : List Sink) (text : TextFile) (count : ℕ) → CreatingCounted false old mid text.file → FinishCounted first count sinks mid new
     → FilesCounted S.Memory (names_of sinks (Some text)) old new
 text_wanting_counts first old mid new sinks text count created finished = record {

@@ -1,4 +1,4 @@
--- The pours of sinks while their rows are written, one sink behind another.
+-- The pours of sinks while their rows are written, one sink after another.
 use Rattle.std.proofs.Common.{◌≡◌, ℕ, ◌+◌, ◌-◌, ◌^◌, ◌<◌, ◌≤◌, List, [], ◌∷◌, ◌++◌, length, take, get_or, map, Option, Some, None, Ok, Err, refl, sym, ◌∙◌, ap, subst, arith, inl, inr, ◌⊎◌, min}
 use Rattle.std.proofs.Math.ListN.{set}
 use Rattle.std.specs.List.{count_by}
@@ -25,7 +25,7 @@ PouredBefore {W} poured faults i olds news sinks streams =
 abbrev pub SameFrom : {W : Type 0} → ℕ → List W → List W → Type 0
 SameFrom {W} i olds news = (k : ℕ) (d : W) → i ≤ k → get_or news k d ≡ get_or olds k d
 
--- what the writing of a stream comes to
+-- the result of writing a stream
 pub rows_text : (old now : Option (List ℕ)) (n faults : ℕ) (text : List ℕ) → RowsPoured {A = ℕ} old now (Ok n) text → TextPoured {A = ℕ} (Ok n) old now faults text
 rows_text None now n faults text h = tt
 rows_text (Some old) now n faults text h = inl h
@@ -90,7 +90,7 @@ pub none_poured : {W : Type 0} (A : Type 0) (poured : W → Option (List ℕ)) (
 none_poured A poured faults w pours sinks streams k d s small =
     no_front A w (poured (get_or pours k d)) (poured (get_or pours k d)) (faults (get_or pours k d)) (sink_text streams (get_or sinks k s)) refl
 
--- memory was wanting at one
+-- memory ran out at one
 pub some_poured : {W : Type 0} (A : Type 0) (poured : W → Option (List ℕ)) (faults : W → ℕ) (i : ℕ) (x y : W) (e w : NoMemory) (stream : List Item) (olds pours : List W) (sinks : List Sink) (streams : List (List Item))
     → i < length pours → x ≡ get_or pours i x → ((s : Sink) → sink_text streams (get_or sinks i s) ≡ text_of stream)
     → PouredBefore poured faults i olds pours sinks streams → SameFrom i olds pours → TextPoured {A = ℕ} (Err e) (poured x) (poured y) (faults y) (text_of stream)
@@ -123,7 +123,7 @@ rows_more streams sinks i x stream n olds news within is of counted before more 
 abbrev pub FaultyBefore : {W : Type 0} → (W → ℕ) → ℕ → List W → Type 0
 FaultyBefore {W} faults i pours = (k : ℕ) × (p : W) × (k < i) × (get_or pours k p ≡ p) × (0 < faults p)
 
--- so many rows of the sinks before this place were counted, unless a pour before it counts faults
+-- the rows of the sinks before this place were counted, unless a pour before it counts faults
 abbrev pub CountedBefore : {W : Type 0} → (W → ℕ) → ℕ → List W → List ℕ → List Sink → List (List Item) → Type 0
 CountedBefore faults i pours ns sinks streams = (ns ≡ map (sink_rows streams) (take i sinks)) ⊎ FaultyBefore faults i pours
 

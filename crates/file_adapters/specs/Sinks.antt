@@ -81,7 +81,7 @@ abbrev pub AllHold : List Sink → List (List Item) → Told → Type 0
 AllHold sinks streams new = All (λ s. new.holds s.file ≡ Some (sink_text streams s)) sinks
 
 -- What the sinks' files hold after the writing of all: their texts; where one file wasn't created, those before it are empty; where one
--- wasn't written, each of which nothing was counted has its text; and where memory was wanting, each is as it was or holds a front.
+-- wasn't written, each of which nothing was counted has its text; and where memory ran out, each is as it was or holds a front.
 abbrev pub SinksHold : Sunk → List Sink → List (List ℕ) → List (List Item) → PerName → PerName → Told → Told → Type 0
 SinksHold (S.Done ns) sinks names streams counts now old new = AllHold sinks streams new
 SinksHold (S.NotCreated place) sinks names streams counts now old new = EmptyBefore place names old new
@@ -90,7 +90,7 @@ SinksHold (S.NotWritten place) sinks names streams counts now old new =
 SinksHold S.Memory sinks names streams counts now old new = All (λ s. HoldsFrontOrSame (sink_text streams s) (old.holds s.file) (new.holds s.file)) sinks
 
 -- What the file of a text holds, which stands after these sinks: the text; what it held, where some file wasn't created; nothing, where a
--- sink wasn't written. Where it itself wasn't written, it holds a front, and the sinks hold their texts. Where memory was wanting, it is as it
+-- sink wasn't written. Where it itself wasn't written, it holds a front, and the sinks hold their texts. Where memory ran out, it is as it
 -- was, or empty, or that is so too.
 abbrev pub TextHolds : Sunk → List Sink → List (List Item) → TextFile → Told → Told → Type 0
 TextHolds (S.Done ns) sinks streams text old new = new.holds text.file ≡ Some text.text
@@ -118,7 +118,7 @@ abbrev pub SinksCount : Sunk → List Sink → List (List Item) → Type 0
 SinksCount (S.Done ns) sinks streams = (ns ≡ map (sink_rows streams) sinks) × All (λ n. n < 2 ^ 64) ns
 SinksCount _ sinks streams = ⊤
 
--- The file of this name, at this place, couldn't be created: no other creating failed, and nothing was counted of the files behind it.
+-- The file of this name, at this place, couldn't be created: no other creating failed, and nothing was counted of the files after it.
 pub record CreatingFailed (place : ℕ) (names : List (List ℕ)) (name : List ℕ) (old new : PerName) : Type 0 where
   pub at : slice_get names place ≡ Some name
   pub rose : Rose (old name).creating (new name).creating

@@ -13,7 +13,7 @@ use test_texts::rows::{Answers, expect, expect_spread};
 use test_texts::text::Text;
 use tree_texts::expressions::add_expression;
 
-// The tree, and a number behind it.
+// The tree, and a number after it.
 fn tree(alloc: Global, expr: &Expr, number: usize) -> Result<String, AllocError> {
     let mut text = Text::new(alloc);
     add_expression(&mut text, expr);
@@ -23,7 +23,7 @@ fn tree(alloc: Global, expr: &Expr, number: usize) -> Result<String, AllocError>
 }
 
 // What the parser answers to a program from that token on: the tree and the place in the list of the
-// token behind it, or the refusal.
+// token after it, or the refusal.
 fn parsed(alloc: Global, program: &str, from: u32) -> Result<String, AllocError> {
     let Ok(tokens) = lex(alloc, program.as_bytes()) else {
         return "no tokens".to_string(alloc);
@@ -37,7 +37,7 @@ fn parsed(alloc: Global, program: &str, from: u32) -> Result<String, AllocError>
     }
 }
 
-// Expressions of programs, from the first token or from that behind the `@`.
+// Expressions of programs, from the first token or from that after the `@`.
 struct Expressions;
 
 impl Answers for Expressions {
@@ -284,7 +284,7 @@ fn stopped(alloc: Global, stop: Stop<'_>) -> Result<String, AllocError> {
     }
 }
 
-// The tree, and the number of tokens behind it.
+// The tree, and the number of tokens after it.
 fn one(alloc: Global, taken: Taken<'_, Expr>) -> Result<String, AllocError> {
     match taken {
         Ok((expr, rest)) => tree(alloc, &expr, rest.len()),
@@ -292,7 +292,7 @@ fn one(alloc: Global, taken: Taken<'_, Expr>) -> Result<String, AllocError> {
     }
 }
 
-// The trees, and the number of tokens behind them.
+// The trees, and the number of tokens after them.
 fn several(alloc: Global, taken: Taken<'_, Exprs>) -> Result<String, AllocError> {
     match taken {
         Ok((exprs, rest)) => {
@@ -338,7 +338,7 @@ fn passed(alloc: Global, symbol: Symbol, ts: &[Token]) -> Result<String, AllocEr
     }
 }
 
-// The name of a token with its place, and the number of tokens behind it.
+// The name of a token with its place, and the number of tokens after it.
 fn name(alloc: Global, bytes: &[u8], at: u32, behind: usize) -> Result<String, AllocError> {
     let mut text = Text::new(alloc);
     text.add_bytes(bytes);
@@ -363,7 +363,7 @@ fn passed_name(alloc: Global, ts: &[Token]) -> Result<String, AllocError> {
     }
 }
 
-// What is answered to a symbol and the tokens behind it.
+// What is answered to a symbol and the tokens after it.
 fn of_symbol(alloc: Global, part: &str, ts: &[Token]) -> Result<String, AllocError> {
     let Some(
         (
@@ -384,7 +384,7 @@ fn of_symbol(alloc: Global, part: &str, ts: &[Token]) -> Result<String, AllocErr
     }
 }
 
-// Parts of programs: behind the word of one call the tokens that it is given. Arguments end at a
+// Parts of programs: after the word of one call the tokens that it is given. Arguments end at a
 // closing parenthesis, and items at a `;`.
 struct Parts;
 

@@ -11,7 +11,7 @@ use spl_value::{Items, NoMemory};
 use std::alloc::Global;
 use stream_model::React;
 
-/// The operator with this number, before anything came; `None` stands for a source.
+/// The operator with this number, before anything came; `None` for a source.
 fn operator_at<'c>(
     alloc: Global,
     checked: &'c Checked,
@@ -30,7 +30,7 @@ fn operator_at<'c>(
     Ok(Some(operator))
 }
 
-/// The operators of a graph that is run, each before anything came; `None` stands for a source.
+/// The operators of a graph that is run, each before anything came; `None` for a source.
 pub(crate) fn operators_of<'c>(
     alloc: Global,
     checked: &'c Checked,

@@ -17,7 +17,7 @@ use std::alloc::{AllocError, Global};
 use test_texts::text::Text;
 use test_texts::types::{add_attributes, integer_word};
 
-// Places, each behind a blank.
+// Places, each after a blank.
 fn add_places(text: &mut Text, places: &[u32]) {
     for place in places {
         text.add_place(" ", *place);

@@ -17,7 +17,7 @@ fn add_numbers(text: &mut Text, numbers: &[u32]) {
     }
 }
 
-// Streams, each behind a blank.
+// Streams, each after a blank.
 fn add_streams(text: &mut Text, streams: &[u32]) {
     for stream in streams {
         text.add_place(" ", *stream);

@@ -4,7 +4,7 @@ use spl_value::IntKind;
 use test_texts::text::Text;
 use test_texts::types::integer_word;
 
-// Something, and an integer type behind it.
+// Something, and an integer type after it.
 fn add_at_kind(text: &mut Text, what: &str, kind: IntKind) {
     text.add(what);
     text.add(integer_word(kind));

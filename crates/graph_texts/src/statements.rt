@@ -22,7 +22,7 @@ fn add_target(text: &mut Text, place: &Place) {
     add_takings(text, place.takings.as_slice());
 }
 
-// A code behind a word, and the end of the statement.
+// A code after a word, and the end of the statement.
 fn add_with(text: &mut Text, word: &str, code: &Code<Slot>) {
     text.add(word);
     add_code(text, code);

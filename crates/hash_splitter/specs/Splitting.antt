@@ -26,6 +26,6 @@ IsRoutable (Key key) Final = Unit {0}
 IsRoutable (Key key) (Bad fault) = Unit {0}
 IsRoutable Turns item = Unit {0}
 
--- pulses are given, the number of items sent is a multiple of 16 above 0, and no pulse was given after so many
+-- pulses are given, the number of items sent is a multiple of 16 above 0, and no pulse was given after that number
 abbrev pub is_pulse_due : Splitting → Bool
 is_pulse_due s = s.pulses && nat_lt 0 s.sent && (s.sent % 16 == 0) && not (s.pulsed == s.sent)

@@ -6,7 +6,7 @@ ghost use Rattle.hash_splitter.specs.Splitting.{new_splitting, IsRoutable, is_pu
 use spl_value::{Item, Packet, Routing, hash_key};
 use std::marker::Model;
 
-// A pulse is due after so many items.
+// A pulse is due after this number of items.
 const PULSE_EVERY: u64 = 16;
 
 /// Sends the items that enter a region to its channels, numbered from 0.
@@ -52,7 +52,7 @@ fn channel_of(routing: &Routing, width: u32, number: u64, item: &Item) -> u32
 }
 
 impl Splitter {
-    /// A splitter for so many channels, which gives pulses where `pulses` is true.
+    /// A splitter for `width` channels, which gives pulses where `pulses` is true.
     pub fn new(width: u32, routing: Routing, pulses: bool) -> Splitter
         requires { (1 ≤ width) × (width ≤ 16) }
         ensures { result ≡ new_splitting width routing pulses }

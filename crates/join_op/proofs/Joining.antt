@@ -249,7 +249,7 @@ module _ (clauses : Clauses) (l r : Window) (env : Env) (h : List Event) (port :
   pub right_replies : (reply : Reply) → port ≡ 1 → SideReplies Right l reply → RepliesAt op h port x reply
   right_replies reply second k = replies_by op h port x reply _ (body_is 1 second) (k stood.left.rule left_history sides.left_stands)
 
-  -- the state behind an event that is answered
+  -- the state after an event that is answered
   pub stands_behind : (nl nr : Window) (now : Env) (reply : Reply) → RepliesAt op h port x reply → IsTaken reply
       → WhereOut reply (SidesStand stood.left stood.right nl nr now (came port x ∷ h))
       → JoinStands op clauses.condition.now clauses.output.now nl nr now (came port x ∷ h)

@@ -27,7 +27,7 @@ with_both Right env t u ready = λ i. record { inputs = right_then_left env.inpu
 pub pair_there : (side : Side) (env now : Env) (t u : List Value) → IsReady env → now ≡ with_own side env t → with_other side now u ≡ pair_env side t u
 pair_there side env now t u ready is = (λ i. with_other side (is i) u) ∙ with_both side env t u ready
 
--- ---- behind the pairs
+-- ---- after the pairs
 
 first_stays : (xs : List (List Value)) (u : List Value) → slice_get (slice_set xs 1 u) 0 ≡ slice_get xs 0
 first_stays [] u = refl

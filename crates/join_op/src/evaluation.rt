@@ -1,4 +1,4 @@
-//! What a Join's clauses come to for a pair of tuples.
+//! The results of a Join's clauses for a pair of tuples.
 ghost use Rattle.std.specs.Prelude.{◌≡◌, IsTrue, Some};
 ghost use Rattle.spl_value.specs.declared.types.SplType.TheVariants as T;
 ghost use Rattle.spl_value.specs.declared.value.Value.TheViews.{out-Value};
@@ -51,7 +51,7 @@ fn values_of(value: Value) -> Values
     }
 }
 
-/// The tuple that the code comes to.
+/// The tuple that the code gives.
 fn made(
     alloc: Global,
     functions: &Functions,
@@ -70,7 +70,7 @@ fn made(
     }
 }
 
-/// The tuple that the code comes to where the condition holds.
+/// The tuple that the code gives where the condition holds.
 pub(crate) fn made_where(
     alloc: Global,
     functions: &Functions,

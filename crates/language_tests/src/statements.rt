@@ -38,7 +38,7 @@ fn operator_of(token: &Token) -> Result<Option<BinaryOperator>, Unanswered> {
     }
 }
 
-// A body of one statement: a list lets go of what it holds in one step, where the proof of a function that
+// A body of one statement: a list drops what it holds in one step, where the proof of a function that
 // held the statement itself would unfold the drop of each kind.
 fn alone(alloc: Global, found: Result<Statement, Unanswered>) -> Result<Body, Unanswered> {
     let mut body = Items::new(alloc);

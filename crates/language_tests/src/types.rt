@@ -21,7 +21,7 @@ use test_texts::types::add_type;
 use test_texts::values::add_value;
 use type_rules::type_of;
 
-/// The types of expressions in a scope. A row is an expression, and behind ` -> ` the type that its place
+/// The types of expressions in a scope. A row is an expression, and after ` -> ` the type that its place
 /// wants, where it wants one. `␊` is a line feed and `␉` a tab. The answer is the type and the code.
 #[derive(Drop)]
 struct Types {

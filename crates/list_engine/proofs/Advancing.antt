@@ -143,7 +143,7 @@ pub record HasTaken (g : Graph) (later : List ℕ) (o : Operator) (old mid : Sta
   pub faults : mid.faults ≡ old.faults
   pub inputs : mid.inputs ≡ old.inputs
 
--- a stream of the table behind the operator
+-- a stream of the table after the operator
 module _ (outs : List ℕ) (n : ℕ) (given : Given) (fault : Option Fault) (mid new : State) (kept : IsKept outs n given fault mid new) where
   pub table_other : (s : ℕ) → list_any (λ x. x == s) outs ≡ false → slice_get new.streams s ≡ slice_get mid.streams s
   table_other s other = go outs refl

@@ -184,7 +184,7 @@ remains_first spec stands c order rows rest operators state k are fit is streams
   stood = λ g e. subst (λ ns. Stands c order g rows ns state) (same_topo c g e ∙ sym is) (begins c order g rows state k e (fit g e) streams same sinks faults inputs);
 }
 
--- ---- behind the last operator
+-- ---- after the last operator
 
 -- what is kept is all of the meaning, under the record that was made of it
 module _ (c : CheckedGraph) (order : Order) (g : Graph) (rows : List (List Item)) (rest : List ℕ) (state : State) (lists : List ArrivalList) (k : Keeps c) (e : graph_of c ≡ g)

@@ -64,7 +64,7 @@ get_later (x ∷ xs) ys i =
     let same : length (x ∷ xs) + i ≡ suc (length xs + i) = omega arith in
     ap (slice_get (x ∷ (xs ++ ys))) same ∙ get_later xs ys i
 
--- an input below n, or so many behind it
+-- an input below n, or k after it
 split_below : (n i : ℕ) → (i < n) ⊎ ((k : ℕ) × (i ≡ n + k))
 split_below zero i = inr (i, omega arith)
 split_below (suc n) zero = inl (omega arith)

@@ -188,7 +188,7 @@ arrive_more (i ∷ front) more l = go (l i) (λ items. arrive_more front more (w
     go [] rest = ([], refl)
     go (x ∷ xs) rest = let r = rest xs in (r.0, ap (λ es. came i x ∷ es) r.1)
 
--- a record that goes on behind the end isn't whole
+-- a record that goes on after the end isn't whole
 too_long : (op : Operator) (l : Lists) (front : List ℕ) (y : ℕ) (more : List ℕ) (done : List Event) → arrive l front ≡ done → inputs_of done ≡ front → has_ended op done ≡ true
     → is_whole op l (front ++ y ∷ more) ≡ false
 too_long op l front y more done takes inputs over =

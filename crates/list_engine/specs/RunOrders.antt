@@ -36,7 +36,7 @@ pub record IsFirstNotWhole (g : Graph) (m : Meaning) (entries : Entries) (n : �
   pub order : g.topo ≡ before ++ n ∷ behind
   pub earlier : (k : ℕ) (o : Operator) → Contains before k → slice_get g.ops k ≡ Some o → has_several (connections o) ≡ true → is_whole_at m entries o ≡ true
 
--- why a run in this order isn't made: for want of memory, or since the record isn't whole in the meaning of the graph for these rows
+-- why a run in this order isn't made: for lack of memory, or since the record isn't whole in the meaning of the graph for these rows
 -- under it
 abbrev pub StopsRun : RunAnswer → Order → Graph → Lists → Type 0
 StopsRun Memory order g rows = Unit {0}

@@ -1,4 +1,4 @@
--- When the lists of a run can be computed, from fresh operators and the rows of its sources, and what the run comes to.
+-- When the lists of a run can be computed, from fresh operators and the rows of its sources, and the result of the run.
 use Rattle.std.specs.Prelude.{◌≡◌, ℕ, Bool, true, false, List, [], length, Option, Some, None, slice_get}
 use Rattle.std.specs.Option.{unwrap_or}
 use Rattle.spl_value.specs.declared.item.Item.{Item}
@@ -35,7 +35,7 @@ pub record RowsFit (g : Graph) (rows : List (List Item)) : Type 0 where
   pub closed : (n : ℕ) (op : Operator) (file : List ℕ) (strict : Bool) → slice_get g.ops n ≡ Some op → op.clauses ≡ A.FileSource file strict → is_closed (rows_at rows n) ≡ true
   pub fit : (n : ℕ) (op : Operator) (file : List ℕ) (strict : Bool) → slice_get g.ops n ≡ Some op → op.clauses ≡ A.FileSource file strict → TuplesFit (output_attributes op 0) (rows_at rows n)
 
--- ---- what comes of it
+---- the result
 
 -- the meaning of the graph for these rows, under the record that a run returned
 abbrev pub meant : Graph → List (List Item) → Run → Meaning

@@ -36,7 +36,7 @@ fn fault_of_stream(streams: &Items<Items<Item>>, stream: u32) -> Option<Fault>
     }
 }
 
-/// The fault of a stream that nobody reads.
+/// The fault of a stream that nothing reads.
 fn unread_fault(checked: &Checked, streams: &Items<Items<Item>>, stream: u32) -> Option<Fault>
     ensures { (g : Graph) → graph_of checked.now ≡ g → result ≡ unread_fault g streams.now stream }
 {
@@ -47,7 +47,7 @@ fn unread_fault(checked: &Checked, streams: &Items<Items<Item>>, stream: u32) ->
     }
 }
 
-/// The first fault of those of some streams that nobody reads.
+/// The first fault of those of some streams that nothing reads.
 fn unread_faults(checked: &Checked, streams: &Items<Items<Item>>, outs: &[u32]) -> Option<Fault>
     ensures { (g : Graph) → graph_of checked.now ≡ g → result ≡ unread_faults g streams.now outs.now }
 {
@@ -73,7 +73,7 @@ fn own_fault(faults: &Items<Option<Fault>>, number: usize) -> Option<Fault>
 }
 
 /// The fault of the first of an operator's ends with one: its own where it has no output port, else that
-/// of one of its streams that nobody reads.
+/// of one of its streams that nothing reads.
 fn fault_of_end(checked: &Checked, state: &State, number: usize) -> Option<Fault>
     requires number { number < length checked.now.graph.ops }
     ensures { (g : Graph) (op : Operator) → graph_of checked.now ≡ g → slice_get g.ops number ≡ Some op

@@ -46,7 +46,7 @@ fn copy_items(alloc: Global, items: &[Item]) -> Result<Items<Item>, NoMemory>
     Ok(copied)
 }
 
-/// Whether a stream is one of those behind, or one of the later operators reads it.
+/// Whether a stream is one of those that come after it, or one of the later operators reads it.
 fn is_wanted(checked: &Checked, later: &[u32], behind: &[u32], stream: u32) -> bool
     ensures { (g : Graph) → graph_of checked.now ≡ g
         → result ≡ (list_any (λ n. n == stream) behind.now || is_read (ops_at g later.now) stream) }
@@ -54,8 +54,8 @@ fn is_wanted(checked: &Checked, later: &[u32], behind: &[u32], stream: u32) -> b
     is_among(behind, stream) || is_read_later(checked, later, stream)
 }
 
-/// A stream that an operator reads, which reads those behind it too. It is taken out of the table where
-/// nobody wants it any more.
+/// A stream that an operator reads, which reads those after it too. It is taken out of the table where
+/// nothing reads it any more.
 fn stream_for(
     alloc: Global,
     checked: &Checked,

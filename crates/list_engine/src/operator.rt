@@ -26,7 +26,7 @@ pub(crate) enum Standing {
     Ended(Option<Fault>),
 }
 
-/// Adds an item on its port. One on a port that there isn't is let go of.
+/// Adds an item on its port. One on a port that there isn't is dropped.
 #[inline(always)]
 fn add_output(output: Output, outs: &mut Items<Items<Item>>) -> Result<(), NoMemory>
     ensures { IfOk result (λ _. Adds (output ∷ []) outs.old outs.new) }
@@ -50,7 +50,7 @@ fn add_all(outputs: Items<Output>, outs: &mut Items<Items<Item>>) -> Result<(), 
     Ok(())
 }
 
-/// Adds what is caused behind a first item. Mostly there is nothing.
+/// Adds what is caused after a first item. Mostly there is nothing.
 #[inline(always)]
 #[tactic(auto, using(crate::proofs::Taking::adds_empty))]
 fn add_rest(rest: Items<Output>, outs: &mut Items<Items<Item>>) -> Result<(), NoMemory>

@@ -27,7 +27,7 @@ use std::alloc::Global;
 use std::mem::replace;
 use stream_model::{Arrivals, React};
 
-/// What a run comes to.
+/// The result of a run.
 #[derive(Drop)]
 pub struct Run {
     /// What each operator without output ports gave its writer, by the operator's number. Those with output
@@ -122,7 +122,7 @@ fn take_operator<R: React>(operators: &mut Items<Option<R>>, at: usize) -> Optio
     replace(operators.item_mut(at), None)
 }
 
-/// Runs the operator with this number. Those with the later numbers are run behind it.
+/// Runs the operator with this number. Those with the later numbers are run after it.
 fn run_operator<R: React>(
     alloc: Global,
     checked: &Checked,

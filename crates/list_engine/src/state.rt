@@ -1,13 +1,13 @@
-//! What a run has come to, from one operator to the next.
+//! The state of a run, from one operator to the next.
 ghost use Rattle.std.specs.Prelude.{◌≡◌, [], None, IfOk, replicate};
 
 use spl_value::{Fault, Inputs, Item, Items, NoMemory};
 use std::alloc::Global;
 
-/// What a run has come to so far.
+/// The state of a run so far.
 #[derive(Drop)]
 pub(crate) struct State {
-    /// The streams that are made, by their numbers; one that nobody wants any more is empty.
+    /// The streams that are made, by their numbers; one that nothing reads any more is empty.
     pub streams: Items<Items<Item>>,
     /// The rows of the sources that are still to be run, by their operators' numbers.
     pub rows: Items<Items<Item>>,
@@ -19,7 +19,7 @@ pub(crate) struct State {
     pub inputs: Items<Option<Inputs>>,
 }
 
-/// So many empty lists.
+/// `count` empty lists.
 pub(crate) fn empty_lists(alloc: Global, count: usize) -> Result<Items<Items<Item>>, NoMemory>
     ensures { IfOk result (λ lists. lists ≡ replicate count []) }
 {
@@ -30,7 +30,7 @@ pub(crate) fn empty_lists(alloc: Global, count: usize) -> Result<Items<Items<Ite
     Ok(lists)
 }
 
-/// So many places with nothing.
+/// `count` places with nothing.
 pub(crate) fn nothing<T: Drop>(alloc: Global, count: usize) -> Result<Items<Option<T>>, NoMemory>
     ensures { IfOk result (λ places. places ≡ replicate count None) }
 {
@@ -42,7 +42,7 @@ pub(crate) fn nothing<T: Drop>(alloc: Global, count: usize) -> Result<Items<Opti
 }
 
 impl State {
-    /// Before the first of so many operators, which make so many streams.
+    /// Before the first operator, with the numbers of operators and of the streams that they make.
     pub(crate) fn new(
         alloc: Global,
         operators: usize,

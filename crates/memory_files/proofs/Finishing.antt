@@ -1,4 +1,4 @@
--- What a name holds behind a failed finish.
+-- What a name holds after a failed finish.
 use Rattle.std.proofs.Common.{◌≡◌, ℕ, List, length, sym, ◌∙◌, ap, Option, Some, Result, Ok, Err, true}
 use Rattle.std.specs.Prelude.{IsOk, OnOk}
 use Rattle.std.proofs.Math.Seq.{take-length}

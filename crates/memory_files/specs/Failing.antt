@@ -20,7 +20,7 @@ abbrev pub next_failing : ℕ → List ℕ → Option ℕ
 next_failing calls [] = None
 next_failing calls (k ∷ ks) = if nat_lt calls k then sooner k (next_failing calls ks) else next_failing calls ks
 
--- a call was counted, and is to fail or not; behind 2^64 - 1 calls none is
+-- a call was counted, and is to fail or not; after 2^64 - 1 calls none is
 abbrev pub CallCounted : Bool → ℕ → ℕ → List ℕ → Type 0
 CallCounted true old new failing = next_failing old failing ≡ Some (old + 1)
 CallCounted false old new failing =

@@ -16,7 +16,7 @@ script_up_to calls (Some k) left =
     then record { bytes = take ((k - (calls + 1)) * 8192) left; ending = S.Failed }
     else record { bytes = left; ending = End }
 
--- the script of a feed with these calls behind it and these bytes before it
+-- the script of a feed after this number of calls, with these bytes left
 abbrev pub script_of : ℕ → List ℕ → List ℕ → Script
 script_of calls failing left = script_up_to calls (next_failing calls failing) left
 
@@ -30,7 +30,7 @@ pub record FirstToFail (failing : List ℕ) (call : ℕ) : Type 0 where
   pub counted : 0 < call
   pub first : (k : ℕ) → is_to_fail k failing ≡ true → 0 < k → call ≤ k
 
--- reads in pieces of 8,192 come to the file's end before this call: it has fewer pieces than calls before it
+-- reads in pieces of 8,192 reach the file's end before this call: it has fewer pieces than calls before it
 abbrev pub IsBehindEnd : List ℕ → ℕ → Type 0
 IsBehindEnd bytes call = length bytes + 8192 ≤ (call - 1) * 8192
 

@@ -23,7 +23,7 @@ fn is_named(number: u64, failing: &[u64]) -> bool
     failing.iter().any(|k| *k == number)
 }
 
-// Behind 2^64 - 1 calls none is to fail.
+// After 2^64 - 1 calls none is to fail.
 fn next_fails(made: u64, failing: &[u64]) -> bool
     ensures fails { result ≡ is_to_fail (made + 1) failing.now }
     ensures step { CallCounted result made (one_more made) failing.now }

@@ -112,7 +112,7 @@ impl Pour for PlainPour {
     }
 }
 
-/// Files in memory. No call fails, so that all counts are 0, but memory may be wanting.
+/// Files in memory. No call fails, so that all counts are 0, but memory may run out.
 #[derive(Debug, Drop)]
 pub struct PlainShelf {
     alloc: Global,

@@ -103,7 +103,7 @@ fn take_next<W: Wait>(rt: &W, link: &Link, pass: &mut TakePass) -> Option<u64>
     None
 }
 
-// Takes so many packets, and tells how many of them came in their order.
+// Takes `count` packets, and tells how many of them came in their order.
 fn take_all<W: Wait>(rt: &W, link: &Link, mut pass: TakePass, count: u64) -> (TakePass, u64)
     requires { IsTakerOf link.now pass }
     ensures { IsTakerOf link.now result.0 }
@@ -117,7 +117,7 @@ fn take_all<W: Wait>(rt: &W, link: &Link, mut pass: TakePass, count: u64) -> (Ta
     (pass, ordered)
 }
 
-// So many packets from one thread to another, over a link of this capacity: how many were sent, were taken, and came
+// `count` packets from one thread to another, over a link of this capacity: how many were sent, were taken, and came
 // in their order.
 fn carried<R: Threads + Wait + Sync>(
     rt: &R,

@@ -46,7 +46,7 @@ fn item_of(alloc: Global, letter: &str) -> Result<Item, AllocError> {
     })
 }
 
-// The packet of a word behind its channel.
+// The packet of a word after its channel.
 fn packet_of(alloc: Global, word: &str) -> Result<Packet, AllocError> {
     if word == "close" {
         return Ok(Packet::Close);
@@ -157,7 +157,7 @@ fn add_word<M: Merges>(
     add_packet(alloc, merger, width, word, shown)
 }
 
-/// What a merger of so many channels tells for the words of a script.
+/// What a merger of `width` channels tells for the words of a script.
 pub(crate) fn told<M: Merges>(
     alloc: Global,
     mut merger: M,

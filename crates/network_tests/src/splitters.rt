@@ -38,7 +38,7 @@ fn add_marker(splitter: &mut Splitter, shown: &mut String) -> Result<(), AllocEr
     }
 }
 
-// Window markers that a splitter for so many channels sends in turn: their channels and numbers, and the pulses.
+// Window markers that a splitter for `width` channels sends in turn: their channels and numbers, and the pulses.
 fn markers(alloc: Global, width: u32, pulses: bool, count: u64) -> Result<String, AllocError>
     requires { (1 ≤ width) × (width ≤ 16) × (count < 2 ^ 60) }
 {
@@ -70,7 +70,7 @@ fn items_go_to_channels_in_turn(rt: HostRuntime) -> Result<(), Fail> {
     Ok(())
 }
 
-// The channel of a tuple that is sent first, or of the window marker behind it, which goes in turn.
+// The channel of a tuple that is sent first, or of the window marker after it, which goes in turn.
 fn channels_of(
     alloc: Global,
     width: u32,

@@ -147,7 +147,7 @@ not_waiting op h i x none = ap (λ b. b && not (port_ended op (port_at (ports op
 pub not_last : (op : Operator) (h : List Event) (i : ℕ) (x : Item) → is_final x ≡ false → is_last op h (came i x) ≡ false
 not_last op h i x none = ap (λ b. b && all_ended op (came i x ∷ h)) none
 
--- the last one causes final markers behind that
+-- the last one causes final markers after that
 react_last : (op : Operator) (h : List Event) (i : ℕ) (a : Answer) → is_waiting op h (came i I.Final) ≡ false → is_last op h (came i I.Final) ≡ true → body op h (came i I.Final) ≡ a
     → (react op h (came i I.Final) ≡ answered op true a) × (ended op h (came i I.Final) ≡ ended_by op true a)
 react_last op h i a moves last is = (
@@ -180,7 +180,7 @@ replies_waiting op s h i own open_of left outputs (R.Out outs) law stands waits 
 replies_waiting op s h i own open_of left outputs (R.Ended outs fault) law stands waits k = absurd k
 replies_waiting op s h i own open_of left outputs R.Memory law stands waits k = tt
 
--- ---- what the operator stands for
+---- the histories that the operator stands for
 
 pub taken_before : (ports : ℕ) (r result : Reply) → EndsAs ports r result → IsTaken result → IsTaken r
 taken_before ports (R.Out outs) result ends taken = tt
@@ -266,7 +266,7 @@ replies_end op s h i p own open_of left outputs r result law stands may port mov
     (subst (λ q. RepliesAt op (port_events op h) q I.Final r) (port_is op h i p own open_of left stands.counts port) (replies (port_events op h) stands.stands k))
     (subst (λ n. EndsAs n r result) stands.outs ends)
 
--- what it stands for behind an event that doesn't wait
+-- the history that it stands for after an event that doesn't wait
 pub stands_on : (op next : Operator) (old new : List Event → Type 0) (h : List Event) (i p : ℕ) (x : Item) (own open_of : List ℕ) (left outputs : ℕ) (own_now open_now : List ℕ) (left_now : ℕ)
     (r : Reply) → PortEndLaw → next ≡ op → StandsFor op old h own open_of left outputs → MayTake op h (came i x) → p ≡ port_at own i → is_waiting op h (came i x) ≡ false
     → Counts op (came i x ∷ h) own_now open_now left_now → ((k : List Event) → old k → MayTakeAt op k p x → IsTaken r → new (came p x ∷ k)) → IsTaken r

@@ -1,4 +1,4 @@
--- What an operator stands for, whose connections are counted apart from it.
+-- The histories that an operator stands for, whose connections are counted apart from it.
 use Rattle.std.specs.Prelude.{◌≡◌, ℕ, true, List, length}
 use Rattle.stream_model.specs.Fitting.{EventsFit, IsFitting}
 use Rattle.stream_model.specs.Operators.{Operator}

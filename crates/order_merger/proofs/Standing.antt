@@ -1,4 +1,4 @@
--- What a merger stands for after each call.
+-- What a merger has taken and given after each call.
 use Rattle.std.proofs.Common.{◌≡◌, ◌<◌, ◌≤◌, ◌⊎◌, inl, inr, ℕ, suc, ◌+◌, ◌*◌, true, false, List, [], ◌∷◌, ◌++◌, length, length-append, refl, sym, ap, ◌∙◌, arith, subst, Option, Some, None}
 use Rattle.std.specs.Option.{MatchOption, option_to_list}
 use Rattle.spl_value.specs.declared.item.Item.{Item}

@@ -13,7 +13,7 @@ pub record Turning : Type 0 where
 abbrev pub new_turning : ℕ → Turning
 new_turning width = record { held = new_held width; turn = 0 }
 
--- a merger by turns of so many channels that took these packets and gave these items
+-- a merger by turns of `width` channels that took these packets and gave these items
 pub record TurnStands (width : ℕ) (m : Turning) (taken : ℕ → List Packet) (given : List Item) : Type 0 where
   pub held : Stands ByTurns width m.held taken given
   pub rounds : ℕ
@@ -27,7 +27,7 @@ pub record Numbering : Type 0 where
 abbrev pub new_numbering : ℕ → Numbering
 new_numbering width = record { held = new_held width; next = 0 }
 
--- a merger by numbers of so many channels that took these packets and gave these items
+-- a merger by numbers of `width` channels that took these packets and gave these items
 pub record NumberStands (width : ℕ) (m : Numbering) (taken : ℕ → List Packet) (given : List Item) : Type 0 where
   pub held : Stands ByNumbers width m.held taken given
   pub next : length given ≡ m.next

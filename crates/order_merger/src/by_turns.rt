@@ -35,7 +35,7 @@ impl Model for TurnMerger {
 }
 
 impl TurnMerger {
-    /// A merger of so many channels, which has taken nothing. No later call takes memory.
+    /// A merger of `width` channels, which has taken nothing. No later call takes memory.
     pub fn new(alloc: Global, width: u32) -> Result<TurnMerger, NoMemory>
         requires { (1 ≤ width) × (width ≤ 16) }
         ensures width { IfOk result (λ m. width_of m.held ≡ width) }

@@ -35,7 +35,7 @@ IsSenderOf l p = IsPassOf l.queue p.pass × (p.capacity ≡ l.capacity) × (p.we
 abbrev pub IsTakerOf : Link → TakePass → Type 0
 IsTakerOf l p = IsPassOf l.queue p.pass × (p.capacity ≡ l.capacity) × (p.wear ≡ l.wear)
 
--- no packet like this one may follow these on a link that carries so many
+-- no packet like this one may follow these on a link that carries `wear` packets
 abbrev pub IsWornFor : ℕ → List Packet → Packet → Type 0
 IsWornFor wear sent x = (length sent ≡ wear) ⊎ ((length sent + 1 ≡ wear) × (is_last x ≡ false))
 

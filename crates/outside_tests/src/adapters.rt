@@ -39,7 +39,7 @@ fn tuple_of(alloc: Global, row: &str) -> Result<Values, AllocError> {
     Ok(values)
 }
 
-// A stream with a tuple of each row, and with markers behind them.
+// A stream with a tuple of each row, and with markers after them.
 fn stream_of(alloc: Global, rows: &str) -> Result<Items<Item>, AllocError> {
     let mut items = Items::new(alloc);
     for row in rows.split(" | ") {
@@ -82,7 +82,7 @@ fn two_sinks(alloc: Global, first: u32, second: u32) -> Result<Items<Sink>, Allo
     Ok(sinks)
 }
 
-// What comes of sinks of these streams.
+// What becomes of sinks of these streams.
 fn sunk_of(
     alloc: Global,
     shelf: &mut MemoryShelf,
@@ -106,7 +106,7 @@ fn shown_row(alloc: Global, shelf: &MemoryShelf, sunk: &Sunk) -> Result<String, 
     with_signs(alloc, shown.finish()?.as_str())
 }
 
-// What comes of a stream of the file `a`.
+// What becomes of a stream of the file `a`.
 fn row_sunk(
     alloc: Global,
     shelf: &mut MemoryShelf,
@@ -188,7 +188,7 @@ fn shown_files(alloc: Global, shelf: &MemoryShelf, sunk: &Sunk) -> Result<String
     with_signs(alloc, shown.finish()?.as_str())
 }
 
-// What comes of sinks of two streams.
+// What becomes of sinks of two streams.
 fn files_sunk(
     alloc: Global,
     shelf: &mut MemoryShelf,

@@ -15,7 +15,7 @@ use test_texts::signs::{with_signs, without_signs};
 use test_texts::text::Text;
 use test_texts::words::{bytes, cut, number};
 
-// A feed of so many bytes, of whose reads one of this number fails and the 90th: how many bytes reads of
+// A feed of a number of bytes, of whose reads those of given numbers and the 90th fail: how many bytes reads of
 // 8,192 give, and whether one fails.
 struct FeedReads;
 
@@ -103,7 +103,7 @@ const POUR_WRITES: &str = r#"
 2 a␊ b␊ c␊ => 2; failed; 2; a␊c␊; 1; a␊c␊
 "#;
 
-// A feed and a pour whose calls never fail: how much a read of two bytes gives, what stands behind it, and
+// A feed and a pour whose calls never fail: how much a read of two bytes gives, what comes after it, and
 // what the pour takes of that.
 struct PlainRest;
 

@@ -47,7 +47,7 @@ const CODES: &[(&str, Code)] = &[
     ("check NoTextForm", Code::Check(Check::NoTextForm)),
 ];
 
-// The code with which a text begins, and what stands behind it.
+// The code with which a text begins, and what comes after it.
 fn code(text: &str) -> Option<(Code, &str)> {
     for (name, code) in CODES {
         if let Some(parts) = text.strip_prefix(*name) {
@@ -72,7 +72,7 @@ fn refused(alloc: Global, code: Code, parts: &str) -> Result<Cause, AllocError> 
     }))
 }
 
-// A cause with a file's name, or want of memory.
+// A cause with a file's name, or a lack of memory.
 fn named(alloc: Global, text: &str) -> Result<Cause, AllocError> {
     let (kind, name) = cut(text);
     let name = Items::from_slice(alloc, name.as_bytes())?;

@@ -74,7 +74,7 @@ fn add_written<H: Shelf>(text: &mut Text, shelf: &mut H, name: &Name, pieces: &s
     }
 }
 
-// Adds what comes of a step that each shelf has.
+// Adds the result of a step that each shelf has.
 fn add_step<H: Shelf>(
     alloc: Global,
     text: &mut Text,

@@ -5,7 +5,7 @@ use std::alloc::{AllocError, Global};
 use test_texts::text::Text;
 use test_texts::words::number;
 
-/// So many bytes.
+/// `size` bytes.
 pub(crate) fn fives(alloc: Global, size: u32) -> Result<Bytes, AllocError> {
     let mut fives = Vec::new(alloc);
     fives.resize(size as usize, 5u8)?;

@@ -26,7 +26,7 @@ and_false : (a : Bool) → (a && false) ≡ true → false ≡ true
 and_false true e = e
 and_false false e = e
 
--- an operator that goes on behind a reply didn't end with it
+-- an operator that goes on after a reply didn't end with it
 pub where_out : (op : Operator) (h : List Event) (port : ℕ) (x : Item) (r : Reply) (P : Type 0) → RepliesAt op h port x r → IsTaken r → goes_on op (came port x ∷ h) ≡ true
     → WhereOut r P → P
 where_out op h port x (R.Out outs) P replies taken goes k = k
@@ -40,7 +40,7 @@ both_out (R.Out outs) P Q S p q f = f p q
 both_out (R.Ended outs fault) P Q S p q f = tt
 both_out R.Memory P Q S p q f = tt
 
--- for want of memory nothing is said
+-- for lack of memory nothing is said
 pub memory_replies : (number ports : ℕ) (a : Answer) → RepliesTo number ports a R.Memory
 memory_replies number ports (Gives outs) = tt
 memory_replies number ports (Faults kind) = tt

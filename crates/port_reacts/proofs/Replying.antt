@@ -56,7 +56,7 @@ replies_by op h port x r a is k = replies_at op h port x r (subst (λ b. Replies
 
 -- ---- what fits
 
--- an operator that goes on came to no fault
+-- an operator that goes on had no fault
 pub none_faulted : (op : Operator) (h : List Event) → goes_on op h ≡ true → NoneFaulted op h
 none_faulted op [] goes = tt
 none_faulted op (e ∷ h) goes =

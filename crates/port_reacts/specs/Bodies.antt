@@ -16,18 +16,18 @@ GoesOn given (R.Out outs) = outs ≡ given
 GoesOn given (R.Ended outs fault) = ⊥
 GoesOn given R.Memory = ⊤
 
--- the operator ends by a fault, which goes to each of so many output ports
+-- the operator ends by a fault, which goes to each of its output ports, whose number is given
 abbrev pub EndsBy : ℕ → Fault → Reply → Type 0
 EndsBy ports f (R.Out outs) = ⊥
 EndsBy ports f (R.Ended outs fault) = (outs ≡ on_each ports (I.Bad f)) × (fault ≡ Some f)
 EndsBy ports f R.Memory = ⊤
 
--- the operator with this number and so many output ports gives what its body gives, or ends by its body's fault
+-- the operator with this number and number of output ports gives what its body gives, or ends by its body's fault
 abbrev pub RepliesTo : ℕ → ℕ → Answer → Reply → Type 0
 RepliesTo number ports (Gives outs) reply = GoesOn outs reply
 RepliesTo number ports (Faults kind) reply = EndsBy ports (fault_by number kind) reply
 
--- it replies so to an item, of which its body makes this, but for a fault that comes: that ends it
+-- it replies so to an item, of which its body makes this, except for a fault that comes: that ends it
 abbrev pub RepliesToItem : ℕ → ℕ → Answer → Item → Reply → Type 0
 RepliesToItem number ports answer (I.Bad f) reply = EndsBy ports f reply
 RepliesToItem number ports answer _ reply = RepliesTo number ports answer reply

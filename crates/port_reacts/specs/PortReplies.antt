@@ -1,7 +1,7 @@
--- What an operator may be asked by its ports, and what it answers: what an item on a port causes by what came on its ports before, but for
+-- What an operator may be asked by its ports, and what it answers: what an item on a port causes by what came on its ports before, except for
 -- the final markers with which it ends. These follow where no port is left, which is seen where the connections of the ports are counted.
 --
--- A history has its newest event first. An event has the number of its port, and the final marker of a port stands for the port's end.
+-- A history has its newest event first. An event has the number of its port, and the final marker of a port is the port's end.
 use Rattle.std.specs.Prelude.{◌≡◌, ⊤, ℕ, Bool, true, false, List, [], ◌∷◌, length, Option, Some, None, is_none, ◌&&◌, if◌then◌else◌}
 use Rattle.spl_value.specs.declared.item.Item.{Item}
 use Rattle.language_model.specs.declared.outs.Output.{Output}

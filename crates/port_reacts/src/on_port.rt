@@ -17,7 +17,7 @@ pub trait OnPort: Drop {
     /// The histories by ports that the state stands for. A history has its newest event first.
     ghost stands: { Self → List Event → Type 0 };
 
-    /// Takes an item on an input port, and answers what it causes, but for the final markers with which
+    /// Takes an item on an input port, and answers what it causes, except for the final markers with which
     /// the operator ends. The operator hasn't ended, the port is one of its ports and hasn't ended, and a
     /// tuple has the attributes of the port. A final marker is the end of the port.
     ///

@@ -11,7 +11,7 @@ use stream_model::Reply;
 /// The turns that an operator may take for one event.
 pub const MOST_TURNS: u32 = 1_000_000;
 
-/// The item on each of so many output ports, by ascending port.
+/// The item on each of `ports` output ports, by ascending port.
 pub fn on_each_port(alloc: Global, ports: usize, item: &Item) -> Result<Outs, NoMemory>
     requires { ports ≤ 16 }
     ensures { IfOk result (λ outs. outs ≡ on_each ports item.now) }

@@ -27,7 +27,7 @@ pub(crate) const NESTED: &str = "«0 COUNT (»price«0 COUNT )» > 10l";
 pub(crate) const SOURCES: &str =
     r#"composite Main {graph «1000 COUNT stream<int64 n> S{n} = FileSource() {param file: "t.csv";} »}"#;
 
-/// A program in which Filters stand one behind the other. Each drops its own number.
+/// A program in which Filters stand one after the other. Each drops its own number.
 pub(crate) const CHAIN: &str =
     r#"composite Main {graph stream<int64 n> F0 = FileSource() {param file: "t.csv";} «0 COUNT stream<int64 n> F{n+1} = Filter(F{n}) {param filter: n != {n+1}l;} »() as Out = FileSink(FCOUNT) {param file: "o.csv";}}"#;
 
@@ -37,13 +37,13 @@ pub(crate) fn counted(alloc: Global, text: &str, count: &str) -> Result<String, 
     spread(alloc, text.as_str())
 }
 
-/// A program with blanks behind it, so that it has so many bytes.
+/// A program with blanks after it, so that it has `size` bytes.
 pub(crate) fn padded(alloc: Global, program: &str, size: u32) -> Result<String, AllocError> {
     let blanks = " ".repeat(alloc, (size as usize).saturating_sub(program.len()))?;
     format!(in alloc; "{program}{blanks}")
 }
 
-// A piece so many times, and what stands behind it.
+// A piece, repeated, and what comes after it.
 fn times(alloc: Global, asked: &str) -> Result<String, AllocError> {
     let (count, rest) = cut(asked);
     let (piece, behind) = cut(rest);

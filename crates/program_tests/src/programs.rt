@@ -23,8 +23,8 @@ use std::alloc::{AllocError, Global};
 use test_texts::signs::without_signs;
 use test_texts::words::{cut, number};
 
-// What stands in front of the text of a composite behind its source, and in front of a condition and
-// behind it.
+// What comes before the text of a composite after its source, and before a condition and
+// after it.
 const SOURCE: &str =
     r#"composite Main {graph stream<int64 price> T = FileSource() {param file: "t.csv";} "#;
 
@@ -32,7 +32,7 @@ const FILTER: &str = r#"stream<int64 price> B = Filter(T) {param filter: "#;
 
 const SINK: &str = r#";} () as Out = FileSink(B) {param file: "o.csv";}}"#;
 
-// Programs in which FIRST and THEN stand for the two texts of a row.
+// Programs in which the two texts of a row replace FIRST and THEN.
 const ROWS: &str =
     r#"composite Main {graph stream<FIRST> T = FileSource() {param file: "t.csv";} () as Out = FileSink(T) {param file: "o.csv";}}"#;
 
@@ -80,7 +80,7 @@ const UNION: &str = r#"composite Main {
 }
 "#;
 
-// Three sources, and two Unions one behind the other.
+// Three sources, and two Unions one after the other.
 const UNIONS: &str = r#"composite Main {
   graph
     stream<int64 n> A = FileSource() { param file: "a.csv"; }
@@ -157,7 +157,7 @@ fn filled(alloc: Global, program: &str, text: &str) -> Result<String, AllocError
     edited(alloc, program.as_str(), "THEN", then)
 }
 
-// The text behind the number, padded to so many bytes.
+// The text after the number, padded to that number of bytes.
 fn padded_of(alloc: Global, text: &str) -> Result<String, AllocError> {
     let (size, program) = cut(text);
     let program = if program == "@first" { FIRST } else { program };
@@ -170,7 +170,7 @@ fn nested_of(alloc: Global, count: &str) -> Result<String, AllocError> {
     edited(alloc, FIRST, "price > 10l", condition.as_str())
 }
 
-// A program by its name and what stands behind the name.
+// A program by its name and what comes after the name.
 fn program_by_name(alloc: Global, name: &str, text: &str) -> Result<String, AllocError> {
     match name {
         "text" => text.to_string(alloc),

@@ -1,6 +1,6 @@
 //! What `replay` does. Unless a row says otherwise, the record stands in `r.txt`.
 
-/// Interleavings of the items that come to a Union or a Join.
+/// Interleavings of the items that arrive at a Union or a Join.
 pub(crate) const INTERLEAVED: &str = r#"
 # A Union takes the items of two sources in the order of the record.
 # one of each, and then the others

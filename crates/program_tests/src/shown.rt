@@ -1,10 +1,10 @@
 //! What is answered, as a text.
 //!
-//! The parts of an answer stand behind one another:
+//! The parts of an answer come one after another:
 //!
 //! | Text | Part |
 //! |---|---|
-//! | `3 stopped B DivZero␊` | the status, and behind a blank what was told, where anything was |
+//! | `3 stopped B DivZero␊` | the status, and after a blank what was told, where anything was |
 //! | `; o.csv 20␊` | a file that a sink made, and what it holds, or its length, `of 1200 bytes` |
 //! | `; t.csv changed` | a file that was there before, and isn't as it was |
 //! | `; t.csv unread` | of status 4, a file of which a read failed |

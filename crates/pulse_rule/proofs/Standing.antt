@@ -1,4 +1,4 @@
--- What a merger by pulses stands for after each call.
+-- What a merger by pulses has taken and given after each call.
 use Rattle.std.proofs.Common.{◌≡◌, ◌≢◌, ◌<◌, ◌≤◌, ◌⊎◌, ◌^◌, inl, inr, ℕ, Bool, true, false, refl, List, ◌∷◌, [], ◌++◌, sym, ◌∙◌, arith, subst, Option, Some, None}
 use Rattle.std.specs.Prelude.{nat_lt, ◌&&◌}
 use Rattle.std.specs.Option.{MatchOption, option_to_list}

@@ -30,7 +30,7 @@ impl Model for PulseMerger {
 }
 
 impl PulseMerger {
-    /// A merger of so many channels, which has taken nothing. No later call takes memory.
+    /// A merger of `width` channels, which has taken nothing. No later call takes memory.
     pub fn new(alloc: Global, width: u32) -> Result<PulseMerger, NoMemory>
         requires { (1 ≤ width) × (width ≤ 16) }
         ensures width { IfOk result (λ m. width_of m ≡ width) }

@@ -16,7 +16,7 @@ times x (y ∷ ys) = one_if (y == x) + times x ys
 
 -- ---- what a plan is
 
--- each may stand behind the one before it
+-- each may follow the one before it
 abbrev pub Linked : Chains → ℕ → List ℕ → Type 0
 Linked c a [] = ⊤
 Linked c a (b ∷ rest) = (c.links a b ≡ true) × Linked c b rest
@@ -46,7 +46,7 @@ pub record IsChainPlan (c : Chains) (plan : List (List ℕ)) : Type 0 where
 pub record IsSound (c : Chains) : Type 0 where
   -- each operator stands once
   pub once : (x : ℕ) → times x c.topo ≤ 1
-  -- behind the one that makes its stream
+  -- after the one that makes its stream
   pub ordered : (before after : List ℕ) (a b : ℕ) → c.topo ≡ before ++ b ∷ after → c.links a b ≡ true → 1 ≤ times a before
   pub one_maker : (a b x : ℕ) → c.links a x ≡ true → c.links b x ≡ true → a ≡ b
   pub one_reader : (a x y : ℕ) → c.links a x ≡ true → c.links a y ≡ true → x ≡ y

@@ -142,7 +142,7 @@ last_behind d y [] ys = refl
 last_behind d y (x ∷ xs) ys = last_behind x y xs ys
 
 module _ (g : Chains) (sound : IsSound g) where
-  -- what reads an operator stands behind it
+  -- what reads an operator comes after it
   is_behind : (front after : List ℕ) (x : ℕ) → g.topo ≡ front ++ x ∷ after → (y : ℕ) → g.links x y ≡ true → times y (front ++ x ∷ []) ≡ 0
   is_behind front after x t y e = by_number (times y (front ++ x ∷ [])) refl where
     by_number : (n : ℕ) → times y (front ++ x ∷ []) ≡ n → n ≡ 0

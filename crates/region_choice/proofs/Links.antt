@@ -1,4 +1,4 @@
--- Operators of a graph of which one may stand behind the other.
+-- Operators of a graph of which one may follow the other.
 use Rattle.std.specs.Prelude.{◌≡◌, ◌≤◌, ◌==◌, ◌&&◌, ◌||◌, ◌+◌, not, ℕ, zero, suc, Bool, true, false, if◌then◌else◌, List, [], ◌∷◌, map, filter, length, Option, None, Some, slice_get}
 use Rattle.std.specs.List.{concat, list_all, list_any}
 use Rattle.std.specs.Option.{option_map_or}

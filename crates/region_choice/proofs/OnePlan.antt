@@ -86,7 +86,7 @@ module _ (g : Chains) (sound : IsSound g) where
     by_number k zero is = there (k (let parts = times_append x (a ∷ rest) (concat regions) in omega arith))
     by_number k (suc n) is = here (in_links a rest x all.0.linked (omega arith))
 
-  -- ---- what is left of a plan, behind regions that are done
+  -- ---- what is left of a plan, after regions that are done
 
   record Rest (done rest : List ℕ) (more : List (List ℕ)) : Type 0 where
     regions : AllByRecursion (IsChainOf g) more

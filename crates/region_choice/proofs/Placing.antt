@@ -405,7 +405,7 @@ region_times n (q ∷ regions) zero r at =
 region_times n (q ∷ regions) (suc i) r at =
     let rest = region_times n regions i r at in let parts = times_append n q.ops (concat (map (λ (r : Growing). r.ops) regions)) in omega arith
 
--- an operator of the order that stands behind some isn't in the regions that these are put in
+-- an operator of the order that comes after some isn't in the regions that these are put in
 pub still_outside : (c : Chains) (choice : Choice) (front after : List ℕ) (n : ℕ) → times n c.topo ≤ 1 → c.topo ≡ front ++ n ∷ after → numbers_of choice ≡ chosen_from c [] front
     → IsOutside choice n
 still_outside c choice front after n once whole numbers i r at = by_case (is_among n r.ops) refl where
@@ -420,7 +420,7 @@ still_outside c choice front after n once whole numbers i r at = by_case (is_amo
       let one = one_same n n refl in
       absurd (omega arith)
 
--- the regions that they have come to
+-- the regions as they have grown
 pub regions_are : (g : Graph) (regions : List Growing) → ((i : ℕ) (r : Growing) → slice_get regions i ≡ Some r → IsGrown g r)
     → map region_of regions ≡ map (made g) (map (λ (r : Growing). r.ops) regions)
 regions_are g [] grown = refl

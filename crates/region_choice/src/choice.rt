@@ -20,7 +20,7 @@ use state_analysis::state_of;
 use std::alloc::Global;
 use stream_model::{Plan, StateKind};
 
-/// The regions as far as they have come.
+/// The regions as they have grown so far.
 #[derive(Drop)]
 struct Choice {
     pub regions: Items<Growing>,
@@ -102,7 +102,7 @@ fn region_before(
     }
 }
 
-/// Adds an operator, which reads this stream, to the region behind whose last one it may stand.
+/// Adds an operator, which reads this stream, to the region whose last one it may follow.
 fn join(
     alloc: Global,
     checked: &Checked,
@@ -151,7 +151,7 @@ fn begin(
     Ok(())
 }
 
-/// Takes an operator, which reads this stream, into the region behind whose last one it may stand, or lets it
+/// Takes an operator, which reads this stream, into the region whose last one it may follow, or lets it
 /// begin one.
 fn join_or_begin(
     alloc: Global,
@@ -207,7 +207,7 @@ fn settle(
     }
 }
 
-/// The regions that they have come to.
+/// The regions as they have grown.
 fn plan_of(alloc: Global, regions: Items<Growing>) -> Result<Plan, NoMemory>
     ensures { IfOk result (λ plan. plan ≡ map region_of regions) }
 {

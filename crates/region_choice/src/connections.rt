@@ -9,7 +9,7 @@ use language_model::Checked;
 use spl_value::{Ids, Items, NoMemory};
 use std::alloc::Global;
 
-/// So many zeros.
+/// `many` zeros.
 fn zeros(alloc: Global, many: usize) -> Result<Items<u32>, NoMemory>
     ensures { IfOk result (λ counts. counts ≡ replicate many 0) }
 {

@@ -18,7 +18,7 @@ use spl_value::{Ids, Items, NoMemory, Places};
 use std::alloc::Global;
 use stream_model::{Gives, Merge, Region, StateKind};
 
-/// A region, as far as it has come.
+/// A region, as far as it has grown.
 #[derive(Drop)]
 pub(crate) struct Growing {
     pub ops: Ids,
@@ -79,7 +79,7 @@ fn key_sources(
     Ok(sources)
 }
 
-/// The first of these operators, or else the one behind them.
+/// The first of these operators, or else the one after them.
 fn first_of(op: u32, ops: &Ids) -> u32
     ensures { result ≡ first_of op ops.now }
 {
@@ -119,7 +119,7 @@ fn key_with(
     }
 }
 
-/// Adds an operator behind the last one.
+/// Adds an operator after the last one.
 fn add(checked: &Checked, growing: &mut Growing, op: u32) -> Result<(), NoMemory>
     requires number { op < length checked.now.parts }
     ensures { IfOk result (λ _. (g : Graph) (o : Operator) → graph_of checked.now ≡ g → slice_get g.ops op ≡ Some o
@@ -158,7 +158,7 @@ fn grow_keyed(
     Ok(true)
 }
 
-/// Adds an operator with this state behind the last one, where the region has a key with it or needs none.
+/// Adds an operator with this state after the last one, where the region has a key with it or needs none.
 pub(crate) fn grow(
     alloc: Global,
     checked: &Checked,
@@ -194,7 +194,7 @@ fn merge_of(keyed: bool, one_each: bool) -> Merge
     }
 }
 
-/// The region that it has come to.
+/// The region as it has grown.
 pub(crate) fn region_of(growing: Growing) -> Region
     ensures { result ≡ region_of growing }
 {

@@ -39,7 +39,7 @@ fn copied(sources: &[KeySource], attribute: usize) -> Option<u32>
     None
 }
 
-/// The attributes of a stream with so many of which one of the keys is a copy.
+/// Of a stream's attributes, whose number is given, those of which one of the keys is a copy.
 pub(crate) fn first_key(
     alloc: Global,
     attributes: usize,

@@ -8,7 +8,7 @@ use Rattle.spl_tree.specs.declared.code.Slot.{Slot}
 use Rattle.spl_tree.specs.declared.code.Slot.TheVariants as L
 use Rattle.relational_ops.specs.steps.Moving.{AreSoFar, Keeps, Takes, is_moved}
 
--- what stands in a list behind which something was put
+-- what stands in a list to whose end something was added
 at_pushed : {A : Type 0} (xs : List A) (x y : A) (i : ℕ) → slice_get (xs ++ x ∷ []) i ≡ Some y → (slice_get xs i ≡ Some y) ⊎ ((i ≡ length xs) × (x ≡ y))
 at_pushed [] x y zero e = let same : x ≡ y = cc in inr (refl, same)
 at_pushed [] x y (suc i) e = absurd cc

@@ -24,7 +24,7 @@ pub(crate) fn idle_env(alloc: Global) -> Result<Env, NoMemory>
     })
 }
 
-/// What a condition comes to for a tuple.
+/// The result of a condition for a tuple.
 #[derive(Drop)]
 pub(crate) enum Judged {
     /// Whether it holds, and the tuple.
@@ -34,7 +34,7 @@ pub(crate) enum Judged {
     Memory,
 }
 
-/// Whether a condition holds for a tuple, which comes back. The environment is idle before and behind.
+/// Whether a condition holds for a tuple, which comes back. The environment is idle before and after.
 pub(crate) fn judge(
     alloc: Global,
     functions: &Functions,

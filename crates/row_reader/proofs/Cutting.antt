@@ -72,7 +72,7 @@ pub record ReadSoFar (schema : List (Named SplType)) (line : List ℕ) (values :
   pub fields : tuple_of schema (split [] line) ≡ onto values (tuple_of (drop place schema) (fields_left more rest))
   pub marks : list_any is_mark line ≡ list_any is_mark (rest_of more rest)
 
--- a field with more behind it
+-- a field with more after it
 pub field_more : (schema : List (Named SplType)) (line rest : List ℕ) (values values2 : List Value) (place end : ℕ) (a : Named SplType) (v : Value)
     → drop place schema ≡ a ∷ drop (place + 1) schema → IsCut rest end → end < length rest → field_value a.kind (take end rest) ≡ Some v → values2 ≡ values ++ v ∷ []
     → ReadSoFar schema line values true rest place → ReadSoFar schema line values2 true (drop (end + 1) rest) (place + 1)

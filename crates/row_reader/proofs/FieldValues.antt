@@ -1,4 +1,4 @@
--- Values of fields behind others.
+-- Values of fields after others.
 use Rattle.std.specs.Prelude.{◌&&◌, ◌-◌, IsTrue, codes, if◌then◌else◌, option_map}
 use Rattle.std.specs.Int.{w128}
 use Rattle.std.proofs.Common.{◌≡◌, ◌∙◌, ◌++◌, ◌∷◌, [], ℕ, ℤ, Bool, true, false, List, Option, Some, None, refl, sym, ap, subst, inl, inr, arith, of_z, to_z}

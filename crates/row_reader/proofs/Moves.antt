@@ -61,7 +61,7 @@ line_step o how line left x y h =
     let (p, ps, e) = first_piece y in
     rw (pieces_line x y h, e) refl
 
--- the bytes behind the last line feed
+-- the bytes after the last line feed
 pub last_step : (o : Setting) (how : Ending) (line left : ℕ) (x : List ℕ) → list_any is_feed x ≡ false
     → items_from o how line left (pieces (x ++ [])) ≡ last_items o how line left x
 last_step o how line left x h = rw (pieces_last x h) refl

@@ -67,7 +67,7 @@ pub at_end : (s : State) (fields : List (List ℕ)) (field : List ℕ)
 unfolding next_record
 at_end s fields field = refl
 
--- behind a carriage return a record begins as at the start
+-- after a carriage return a record begins as at the start
 pub after_return : (xs : List ℕ) → next_record default_config st.AfterCr [] [] xs ≡ first_record xs
 after_return [] = at_end st.AfterCr [] [] ∙ sym (at_end st.StartRecord [] [])
 after_return (c ∷ rest) = elim (cases_Bool (c == 10)) [
@@ -99,7 +99,7 @@ inside st.InQuoted = true
 inside st.AfterQuote = true
 inside _ = false
 
--- a record is read, with some field behind these
+-- a record is read, with some field after these
 pub record Finishes (fields : List (List ℕ)) (r : Option Read) : Type 0 where
   pub field : List ℕ
   pub more : List (List ℕ)
@@ -263,7 +263,7 @@ bare_ends text at end n r s = record {
   read = λ fields. start_bare fields (drop at text) (begins_bare text at n) ∙ run_read fields [] text at end r;
 }
 
--- a field in quotes, and what joins it behind them
+-- a field in quotes, and what joins it after them
 pub quoted_ends : (text : List ℕ) (at closed end : ℕ) (field : List ℕ) → at < length text → slice_index text at ≡ 34
     → ((fields : List (List ℕ)) → next_record default_config st.InQuoted fields [] (drop (at + 1) text) ≡ next_record default_config st.InField fields field (drop closed text))
     → IsRun text closed end → StopsAt text end → FieldEnds text at (field ++ take (end - closed) (drop closed text)) end
@@ -361,7 +361,7 @@ pub begins_at : (text : List ℕ) (at : ℕ) → at < length text → L.is_end (
 begins_at text at h e =
     ap first_record (byte_at text at h) ∙ first_begins (slice_index text at) (drop (at + 1) text) e ∙ ap (next_record default_config st.StartField [] []) (sym (byte_at text at h))
 
--- the state behind a record reads on as at the start
+-- the state after a record reads on as at the start
 pub record Restarts (s : State) : Type 0 where
   pub same : (xs : List ℕ) → next_record default_config s [] [] xs ≡ first_record xs
 
@@ -497,7 +497,7 @@ too_few columns text values more at place p m r =
     ∙ ap (λ z. onto values (tuple_of z [])) (column_at columns place C.Bool p) in
     misfit (attributes columns) text r.fields s (drop at text) read none
 
--- a record with this field behind the others
+-- a record with this field after the others
 record EndsWith (fields : List (List ℕ)) (field : List ℕ) (r : Option Read) : Type 0 where
   more : List (List ℕ)
   state : State

@@ -106,7 +106,7 @@ unread_behind : (r r2 : Rows) (n i : ℕ) (s : Script) → IsBehind r r2 n i
 unread_behind r r2 n i s b =
     λ k. items_from (b.setting k) s.ending (b.line k) (b.left k) (pieces ((b.carry k ++ take (b.filled k - b.at k) (drop (b.at k) (b.piece k))) ++ s.bytes))
 
--- the items of the line, and those behind it
+-- the items of the line, and those after it
 pub line_unread : (r r2 : Rows) (n i : ℕ) (given : Given) (s : Script) → LineGiven r n i given → IsBehind r r2 n i → unread r s ≡ line_items (setting_of r) r.line given (unread r2 s)
 line_unread r r2 n i given s l b =
     let same : line_gives (attributes (columns_in r)) (r.carry.items ++ take i (take (r.filled - r.at) (drop r.at r.piece.items))) ≡ given =

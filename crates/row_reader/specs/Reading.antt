@@ -47,7 +47,7 @@ by_stage S.Ended items = Some closing
 by_stage S.Marked items = Some (I.Final ∷ [])
 by_stage S.Done items = Some []
 
--- what a source is yet to give, where its feed tells what it has left, and behind its feed's end
+-- what a source is yet to give, where its feed tells what it has left, and after its feed's end
 abbrev pub to_come : Rows → Option Script → Option (List Item)
 to_come r script = by_stage r.stage (option_map (unread r) script)
 
@@ -67,7 +67,7 @@ is_done S.Done = true
 abbrev pub is_over : Rows → Bool
 is_over r = is_done r.stage
 
--- at most so many items are yet to come: each row takes a byte of the limit at least
+-- the most items that are yet to come: each row takes a byte of the limit at least
 abbrev pub most_at : Stage → ℕ → ℕ
 most_at S.Reading left = left + 2
 most_at S.Ended left = 2

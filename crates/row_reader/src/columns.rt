@@ -64,7 +64,7 @@ impl Spare {
         Ok(Items::from_vec(text))
     }
 
-    /// An empty list for a tuple of so many values.
+    /// An empty list for a tuple of this number of values.
     pub(crate) fn list(&mut self, values: usize) -> Result<Values, NoMemory>
         ensures { IfOk result (λ list. list ≡ []) }
     {
@@ -77,7 +77,7 @@ impl Spare {
         }
     }
 
-    /// Takes the room of a tuple's texts, of so many at most. The list is empty behind it.
+    /// Takes the room of a tuple's texts, of `most` at most. The list is empty after it, unless memory runs out.
     pub(crate) fn take_texts(&mut self, values: &mut Values, most: usize) {
         for _ in 0..values.len() {
             if let Some(Value::Text(text)) = values.pop() {

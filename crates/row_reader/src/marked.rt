@@ -25,7 +25,7 @@ fn begins_marked(line: &[u8]) -> bool
     line.len() >= 3 && (line[0] == 0xEF && (line[1] == 0xBB && line[2] == 0xBF))
 }
 
-/// The line behind a byte order mark.
+/// The line after a byte order mark.
 fn behind_mark(line: &[u8]) -> &[u8]
     ensures { result.now ≡ strip_bom line.now }
 {
@@ -81,7 +81,7 @@ fn run_end(text: &[u8], from: usize) -> usize
     at
 }
 
-/// Adds what stands in quotes that are opened in front of this place, and answers the place behind
+/// Adds what stands in quotes that are opened in front of this place, and answers the place after
 /// it.
 fn add_quoted(field: &mut Vec<u8>, text: &[u8], from: usize) -> Result<usize, NoMemory>
     requires { from ≤ length text.now }
@@ -187,7 +187,7 @@ fn next_place(text: &[u8], at: usize) -> usize
 }
 
 /// Reads the first record of a text, which begins here, as the fields of a row, and looks for a
-/// second one behind it.
+/// second one after it.
 fn read_record(
     values: &mut Values,
     spare: &mut Spare,

@@ -35,7 +35,7 @@ pub enum Stage {
     Done,
 }
 
-/// The rows of a source's file as its stream: a tuple for each row, and behind the last one a window
+/// The rows of a source's file as its stream: a tuple for each row, and after the last one a window
 /// marker and the final marker, or a fault in their place.
 #[derive(Drop)]
 pub struct Rows {

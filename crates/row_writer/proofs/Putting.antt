@@ -9,7 +9,7 @@ use Rattle.stream_model.specs.Rows.{item_text, text_of}
 use Rattle.stream_model.proofs.PathLaws.{text_of-append}
 use Rattle.row_writer.specs.Writing.{TextPoured}
 
--- the text of the rows before place i, of the row there, and of the rows behind it
+-- the text of the rows before place i, of the row there, and of the rows after it
 pub text_cut : (items : List Item) (i : ℕ) (x : Item) → i < length items → x ≡ get_or items i x
     → text_of items ≡ text_of (take i items) ++ (item_text x ++ text_of (drop (i + 1) items))
 text_cut items i x lt is =
@@ -19,7 +19,7 @@ text_cut items i x lt is =
     ∙ ap (λ (t : List ℕ). t ++ text_of (drop (i + 1) items)) (text_of-append (take i items) (x ∷ []) ∙ ap (λ (t : List ℕ). text_of (take i items) ++ t) (append-nil (item_text x)))
     ∙ append_assoc (text_of (take i items)) (item_text x) (text_of (drop (i + 1) items))
 
--- a front of the row behind the rows before it is a front of all
+-- a front of the row after the rows before it is a front of all
 pub front_of : (a b c : List ℕ) (n : ℕ) → n ≤ length b → take (length a + n) (a ++ (b ++ c)) ≡ a ++ take n b
 front_of a b c n h = take-append-add a (b ++ c) n ∙ ap (λ (t : List ℕ). a ++ t) (take-append-le n b c h)
 

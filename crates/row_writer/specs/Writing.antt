@@ -5,7 +5,7 @@ use Rattle.feed_pour.specs.declared.outside.PourAnswer.TheVariants as P
 use Rattle.row_writer.specs.declared.writer.PutAnswer.{PutAnswer}
 use Rattle.row_writer.specs.declared.writer.PutAnswer.TheVariants as W
 
--- a text was poured; where it failed or memory was wanting, a front of it
+-- a text was poured; where it failed or memory ran out, a front of it
 abbrev pub TextPoured : {A : Type 0} → Option (List ℕ) → Option (List ℕ) → Result A PutAnswer → List ℕ → Type 0
 TextPoured None now r text = ⊤
 TextPoured (Some old) now (Ok x) text = now ≡ Some (old ++ text)

@@ -13,7 +13,7 @@ pub enum ExpansionError {
     Twice,
     /// `E4`: an operator waits for itself, or for one that does.
     Loop,
-    /// `E5`: a sink's file is had by another operator or the command line.
+    /// `E5`: a sink's file is used by another operator or the command line.
     SameFile,
     /// `E6`: there are too many operators or connections.
     TooMany,

@@ -1,4 +1,4 @@
--- Counts add up as the numbers that they stand for.
+-- Counts add up as their numbers do.
 use Rattle.std.specs.Prelude.{◌≡◌, ◌≤◌, ◌+◌, ◌||◌, ℕ, zero, suc, Bool, Option, None, Some, min, max}
 use Rattle.std.proofs.Common.{refl, ap, ◌∙◌, arith}
 use Rattle.selectivity_rules.specs.declared.counts.Count.{Count}

@@ -55,7 +55,7 @@ only_need Q (Some x) f k = k x
 
 -- ---- numbers
 
--- from the first number to the second there are at most so many, where there is a greatest number
+-- the second number is at most the first plus the greatest number, where there is one
 abbrev IsWithin : Option ℕ → ℕ → ℕ → Type 0
 IsWithin (Some m) a b = b ≤ a + m
 IsWithin None a b = ⊤
@@ -215,7 +215,7 @@ module _ (marker : Option Marker) (bodies : Bodies) where
 
   -- ---- conditions
 
-  -- a condition that the marker decides comes to that
+  -- a condition that the marker decides has that value
   abbrev Agrees : Option Bool → Bool → Type 0
   Agrees None b = ⊤
   Agrees (Some c) b = b ≡ c

@@ -13,7 +13,7 @@ abbrev pub IsUpTo : Option ℕ → ℕ → Type 0
 IsUpTo (Some m) n = n ≤ m
 IsUpTo None n = ⊤
 
--- a body that comes to its end, whatever the functions, the variables, the tuples and the turns, submits so many items
+-- a body that runs to its end submits a number of items within its bounds, whatever it runs with
 abbrev pub IntervalLaw : Type 0
 IntervalLaw = (functions : List Function) (row : List Statement) (env : Env) (turns rest : ℕ) (left : Left) → runs functions row env turns ≡ Done left rest
     → (least_number env.punct row ≤ length left.submits) × IsUpTo (greatest_number env.punct row) (length left.submits)

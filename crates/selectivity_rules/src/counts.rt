@@ -50,7 +50,7 @@ fn larger(a: Count, b: Count) -> Count
     }
 }
 
-/// So many any number of times.
+/// A count, taken any number of times.
 fn several(a: Count) -> Count
     ensures { result ≡ several a }
 {

@@ -1,4 +1,4 @@
--- The counts of faults while the sources' files are read, one behind another.
+-- The counts of faults while the sources' files are read, one after another.
 use Rattle.std.proofs.Common.{◌≡◌, ◌≢◌, ◌∙◌, ◌<◌, ◌≤◌, ◌+◌, ◌-◌, ◌^◌, ℕ, Bool, true, false, List, [], ◌∷◌, ◌++◌, length, take, drop, get_or, refl, sym, ap, subst, inl, inr, Option, Some, None}
 use Rattle.std.specs.Prelude.{IfSome, ◌||◌}
 use Rattle.std.specs.Str.{bytes_eq}
@@ -83,7 +83,7 @@ not_opened parts i part name old mid new within at before (is, now) = record {
   others = λ n other. read_same (old n) (mid n) (new n) (before.reads n) (now.others n other);
 }
 
--- want of memory at one
+-- lack of memory at one
 pub wanting_on : (parts : List Part) (i : ℕ) (part : Part) (old mid new : PerName) → i < length parts → part ≡ get_or parts i part
     → OnlyReads (source_files (take i parts)) old mid → OnlyOf (source_files (part ∷ [])) mid new → OnlyOf (source_files parts) old new
 wanting_on parts i part old mid new within at before now n free =
@@ -91,7 +91,7 @@ wanting_on parts i part old mid new within at before now n free =
     let q = parts_free (source_files (part ∷ [])) (source_files (drop (i + 1) parts)) n p.1 in
     now n q.0 ∙ before.others n p.0
 
--- before the files behind a place
+-- before the files after a place
 pub wanting_before : (parts : List Part) (i : ℕ) (old mid : PerName) → OnlyReads (source_files (take i parts)) old mid → OnlyOf (source_files parts) old mid
 wanting_before parts i old mid before n free =
     let cut = ap source_files (sym (take-append-drop i parts)) ∙ filter_map-append source_file (take i parts) (drop i parts) in

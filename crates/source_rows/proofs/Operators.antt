@@ -161,7 +161,7 @@ told_before None mid file strict op items same h = tt
 told_before (Some t) None file strict op items same h = absurd same
 told_before (Some t) (Some u) file strict op items same h = h ∙ ap (rows_of op strict) (same.script file)
 
--- and those that were read behind others
+-- and those that were read after others
 rows_behind : (part : Part) (op : Operator) (items : List Item) (told between : Option Told) (counts mid now : PerName) → WhereTold told between TellsSame → ((n : List ℕ) → (counts n).reading ≤ (mid n).reading)
     → RowsOf part op items between mid now → RowsOf part op items told counts now
 rows_behind (A.FileSource file strict) op items told between counts mid now same grows h = record {

@@ -80,7 +80,7 @@ read_counted failed before after old mid new name none counted opened closed =
     let is : nat_lt 0 after ≡ failed = faults_are failed after (subst (λ (k : ℕ). Counted failed k after) none counted) in
     subst (λ (k : PerName). ReadingCounted failed k new name) (same_counts old mid (opened_quiet old mid name opened)) (subst (λ (b : Bool). ReadingCounted b mid new name) is closed)
 
--- where memory was wanting
+-- where memory ran out
 pub wanting_counted : (before after : ℕ) (old mid new : PerName) (name : List ℕ) → before ≡ 0 → Counted false before after → OpeningCounted false old mid name → ReadingCounted (nat_lt 0 after) mid new name
     → (n : List ℕ) → new n ≡ old n
 wanting_counted before after old mid new name none counted opened closed = closed_quiet old new name (read_counted false before after old mid new name none counted opened closed)

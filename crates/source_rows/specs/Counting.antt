@@ -22,7 +22,7 @@ OnlyOf files old new = (n : List ℕ) → is_named files n ≡ false → new n �
 abbrev pub Grows : PerName → PerName → Type 0
 Grows old new = (n : List ℕ) → (old n).reading ≤ (new n).reading
 
--- A file that is opened couldn't be. Nothing was counted of the files behind it, and of those before it nothing but reading.
+-- A file that is opened couldn't be. Nothing was counted of the files after it, and of those before it nothing but reading.
 pub record OpeningFailed (opened : List (List ℕ)) (name : List ℕ) (old new : PerName) : Type 0 where
   pub before : List (List ℕ)
   pub behind : List (List ℕ)

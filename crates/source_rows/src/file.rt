@@ -13,7 +13,7 @@ use std::alloc::Global;
 /// The most bytes of a source's file.
 const MOST_BYTES: u64 = 1 << 40;
 
-/// What the file of a source comes to.
+/// The result of reading the file of a source.
 #[derive(Debug, Drop)]
 pub(crate) enum FileRows {
     Rows(Items<Item>),

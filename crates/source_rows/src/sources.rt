@@ -16,7 +16,7 @@ use spl_tree::Op;
 use spl_value::{Item, Items, Name, Schema};
 use std::alloc::Global;
 
-/// What the file of an operator comes to.
+/// The result of reading the file of an operator.
 #[derive(Debug, Drop)]
 pub(crate) enum OneSource {
     /// Its rows. An operator that is no source has none.
@@ -26,7 +26,7 @@ pub(crate) enum OneSource {
     Memory,
 }
 
-/// What the sources of a run come to.
+/// The result of reading the sources of a run.
 #[derive(Debug, Drop)]
 pub enum Sources {
     /// The rows of each operator, by its number. An operator that is no source has none.

@@ -375,7 +375,7 @@ may_be_said request c r Text (inr (inr (e, run, text))) h = subst (MayBe request
 
 -- ---- completeness
 
--- each answer is what the request comes to
+-- each answer is the result of the request
 complete_at : (k : Cause) (Is : RequestOutcome → Type 0) (result : RequestOutcome) (whole : List (List ℕ)) (Failed : Type 0) (ended : Ended) (t u : Told) → IsOne Is → CauseMeans k Is ended t u
     → (NamesFile k → Failed) → (NamesFile k → (program : List ℕ) → result ≡ Unreadable program → IsUnread whole k) → Is result → IsAnswer result whole Failed ⊥ k
 complete_at C.Done Is result whole Failed ended t u one (inl (report, c, is, same, counted)) failed unread comes =

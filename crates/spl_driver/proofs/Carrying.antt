@@ -48,7 +48,7 @@ quiet_counts cause k files counts is quiet words unrun parts = record {
 
 -- ---- what is told of a program
 
--- the request comes to this where its program is accepted, and runs nothing
+-- the request has this result where its program is accepted, and runs nothing
 pub record Asks (request : Request) (report : Report) (c : CheckedGraph) : Type 0 where
   pub outcome : (t : Told) (arrivals : Arrivals) → IsAcceptedOutcome request c arrivals t (Reports report c)
   pub may : (arrivals : Arrivals) (counts now : PerName) → MayBeOutcome request c arrivals counts now (Reports report c)
@@ -189,7 +189,7 @@ module _ (p : List ℕ) (whole : List (List ℕ)) (most : List ℕ → ℕ) (fil
     stopped = h.stopped;
   }
 
--- ---- a run, behind its program
+-- ---- a run, after its program
 
 -- the files of a run are those of its sources, its sinks and its record, with the program in front
 creates_are : (p : List ℕ) (options : RunOptions) (c : CheckedGraph) (o : Option (List ℕ)) → options.arrivals ≡ o → creates (Some (R.Run p options)) c.parts ≡ created_by options.arrivals c
@@ -247,7 +247,7 @@ none_written (Some t) (Some u) request c ended counts later h other = by request
     by (R.Simulate p width schedule steps) other = tt
     by (R.Make name rows start) other = tt
 
--- ---- a replay, behind its program
+-- ---- a replay, after its program
 
 second_named : (p file n : List ℕ) → is_named (file ∷ []) n ≡ true → is_named (p ∷ file ∷ []) n ≡ true
 second_named p file n e = ap (λ (b : Bool). bytes_eq p n || b) e ∙ or_true (bytes_eq p n)

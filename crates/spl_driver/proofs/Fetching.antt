@@ -96,7 +96,7 @@ long_fault most s h = ap (λ (b : Bool). b && is_failed s.ending) (beyond (lengt
 less_more : (n a b : ℕ) → a ≤ b → nat_le n a ≡ true → nat_le n b ≡ true
 less_more n a b le h = grind arith
 
--- a reader that fails within so many bytes fails within more
+-- a reader that fails within a number of bytes fails within a greater one
 pub fails_more : (a b : ℕ) (s : Script) → a ≤ b → fails_within a s ≡ true → fails_within b s ≡ true
 fails_more a b s le h =
     ap (λ (x : Bool). x && is_failed s.ending) (less_more (length s.bytes) a b le (and_left (nat_le (length s.bytes) a) (is_failed s.ending) h))
@@ -137,7 +137,7 @@ pub fetch_fails : (told : Option Told) (r : Fetched) (name : List ℕ) (old new 
 fetch_fails None r name old new counted h = tt
 fetch_fails (Some t) r name old new counted h = reads_at (2 ^ 32) r name old new t counted h
 
--- a reader that fails within so many bytes fails
+-- a reader that fails within some number of bytes fails
 pub failed_within : (most : ℕ) (s : Script) → fails_within most s ≡ true → is_failed s.ending ≡ true
 failed_within most s e = and_right (nat_le (length s.bytes) most) (is_failed s.ending) e
 

@@ -1,4 +1,4 @@
--- A program comes to one thing, and its checked graph keeps what such a graph has to keep.
+-- A program has one result, and its checked graph keeps what such a graph has to keep.
 use Rattle.std.specs.Prelude.{◌≡◌, ℕ, List, Result, Ok, Err}
 use Rattle.std.proofs.Common.{refl, sym, ap, ◌∙◌, subst, inl, inr}
 use Rattle.spl_tree.specs.declared.graph.Graph.{Graph}
@@ -23,21 +23,21 @@ use Rattle.spl_driver.specs.AcceptedLaws.{OneAcceptedLaw, KeptLaw}
 abbrev Come : Type 0
 Come = Result CheckedGraph ProgramRefusal
 
--- ---- what a program comes to, stage by stage
+---- the result of a program, stage by stage
 
--- what a unit comes to whose graph or refusal is this
+-- the result of a unit whose graph or refusal is this
 abbrev behind_graph : List Definition → Found Graph → Come
 behind_graph unit (Ok g) = refused_check (checked unit g)
 behind_graph unit (Err refusal) = Err (Expansion refusal)
 
--- what tokens come to of which this is answered
+-- the result of tokens of which this is answered
 abbrev BehindAnswer : List (List ℕ) → Result (List Definition) SyntaxAnswer → Come → Type 0
 BehindAnswer names (Ok unit) x = (found : Found Graph) × IsFlat unit names found × (x ≡ behind_graph unit found)
 BehindAnswer names (Err (S.Unexpected at)) x = x ≡ Err (Unexpected at)
 BehindAnswer names (Err (S.TooDeep at)) x = x ≡ Err (TooDeep at)
 BehindAnswer names (Err S.Memory) x = ⊥
 
--- what bytes come to whose tokens or refusal this is
+-- the result of bytes whose tokens or refusal this is
 abbrev BehindTokens : List (List ℕ) → Result Tokens lexical.Refusal → Come → Type 0
 BehindTokens names (Ok ts) x = (answer : Result (List Definition) SyntaxAnswer) × Parses ts answer × BehindAnswer names answer x
 BehindTokens names (Err refusal) x = x ≡ Err (Lexical refusal.0 refusal.1)

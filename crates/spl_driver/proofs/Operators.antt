@@ -1,4 +1,4 @@
--- The operators of the graph that a checked graph stands for, by their numbers.
+-- The operators of the graph that a checked graph means, by their numbers.
 use Rattle.std.proofs.Common.{◌≡◌, ℕ, ◌+◌, sym, ap, ◌∙◌, slice_get, Some, arith}
 use Rattle.spl_tree.specs.declared.graph.Op.{Op}
 use Rattle.language_model.specs.declared.checked.Part.{Part}

@@ -40,7 +40,7 @@ plain_request told now request k answer counts later lent left is other plain re
     text_at (Ok l) e = plain_text (wants_counts request) answer.ended.cause k (IsToldOutcome request told answer.ended.arrivals counts later) l is other (plain_record k plain) e
     text_at (Err x) e = tt
 
--- the answer of a cause, or of want of memory for its name, after which no count is shown by the words
+-- the answer of a cause, or of a lack of memory for its name, after which no count is shown by the words
 pub named_request : (told now : Option Told) (request : Request) (k : Cause) (answer : Answer) (counts later : PerName) (lent left : ℕ) → IsOr k answer.ended.cause → (IsRun k → ⊥) → IsPlainCause k → IsReason k (Some request)
     → MayBe (Some request) k → Shown answer.ended.cause (Some request) counts later ⊥ → is_built request ≡ true → IfOk answer.text (λ l. l ≡ status_text None answer.ended.cause) → NothingRan answer.ended
     → (lent < 2 ^ 64 - 257 → left ≡ lent) → WhereTold told now (Answered (Some request) answer.ended counts later ⊥) → AnswersRequest (Some request) answer told now counts later lent left

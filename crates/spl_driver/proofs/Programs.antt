@@ -1,4 +1,4 @@
--- What the file of a program comes to.
+-- The result of reading the file of a program.
 use Rattle.std.proofs.Common.{◌≡◌, ◌<◌, arith, ℕ, List, length, replicate, Option, Some, None, Ok, Err, refl, sym, ap, subst}
 use Rattle.std.proofs.lemmas.List.{length-replicate}
 use Rattle.std.specs.Prelude.{IfSome, Result}
@@ -30,7 +30,7 @@ compiled_long None program names refusal law h is = tt
 compiled_long (Some t) program names refusal law h is =
     (long_fault 1048576 (t.script program) h, (Lexical TooLong 1048576, law (t.script program).bytes names h, is))
 
--- a program of so many bytes is too long
+-- some program has this refusal
 abbrev SomeRefused : List (List ℕ) → Refusal → Type 0
 SomeRefused names refusal = (bytes : List ℕ) × (p : ProgramRefusal) × IsAccepted bytes names (Err p) × (refusal ≡ refusal_of p)
 

@@ -1,4 +1,4 @@
--- What a run under a record comes to, and what the file of one does.
+-- The result of a run under a record, and of one under the record in a file.
 use Rattle.std.proofs.Common.{◌≡◌, ◌<◌, ◌∙◌, zero, suc, arith, ℕ, Bool, true, false, List, [], ◌∷◌, ◌++◌, length, refl, sym, ap, subst, inl, inr, ◌⊎◌, slice_get, Option, Some, None, append-nil, append_assoc}
 use Rattle.std.specs.List.{Contains}
 use Rattle.std.proofs.lemmas.List.Elements.{Contains-append_cases}
@@ -74,7 +74,7 @@ module _ (g : Graph) (m : Meaning) (entries : Entries) where
       only n (zero, within, is) = is
       only n (suc i, within, is) = absurd (omega (arith, within))
 
-  -- one operator more, and those behind it
+  -- one operator more, and those after it
   abbrev WholeAt : ℕ → Type 0
   WholeAt k = (op : Operator) → slice_get g.ops k ≡ Some op → has_several (connections op) ≡ true → is_whole_at m entries op ≡ true
 

@@ -1,4 +1,4 @@
--- What is known of a replay, from what the file of its record comes to and from its run.
+-- What is known of a replay, from the result of reading the file of its record and from its run.
 use Rattle.std.proofs.Common.{◌≡◌, ◌≢◌, ◌<◌, ◌≤◌, ◌-◌, ◌^◌, ◌∙◌, arith, ℕ, Bool, true, false, List, [], ◌∷◌, refl, sym, ap, subst, inl, inr, ◌⊎◌, Option, Some, None, Result, Ok, Err}
 use Rattle.std.specs.Prelude.{IfSome, IfOk, ◌||◌, if◌then◌else◌}
 use Rattle.std.specs.Str.{bytes_eq}
@@ -146,7 +146,7 @@ module _ (told now : Option Told) (file : List ℕ) (c : CheckedGraph) (answer :
   abbrev Comes : RequestOutcome → Type 0
   Comes = ReplayComes c file answer.ended.arrivals told counts later
 
-  -- memory was wanting
+  -- memory ran out
   pub wanting_replay : answer.ended.cause ≡ C.NoMemory → ((n : List ℕ) → n ≢ file → later n ≡ counts n) → IfOk answer.text (λ l. l ≡ status_text None C.NoMemory) → Replays file c answer told now counts later before after
   wanting_replay is others text = record {
     files = same_files told now (λ t. IsReplay t c file) (replay_files file c) C.NoMemory answer.ended counts later is same (record_reads told file counts later reads)
@@ -226,7 +226,7 @@ misspelt_replay told now file c answer counts later before after given same read
 
 -- ---- its run
 
--- what a run under the record of the file comes to is what the replay does
+-- the result of a run under the record of the file is that of the replay
 to_replay : (c : CheckedGraph) (file : List ℕ) (t : Told) (order : Order) (arrivals : Arrivals) (r : RequestOutcome) → RecordAt (D.Order order) (t.script file) c → IsRunOf c order arrivals t r → IsReplay t c file r
 to_replay c file t O.InTurn arrivals r at is = absurd at
 to_replay c file t (O.Recorded given) arrivals r (quiet, has) is = spelled given r quiet has is

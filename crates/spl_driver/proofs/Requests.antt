@@ -167,7 +167,7 @@ pub one_outcome : OneAcceptedLaw → SomeAcceptedLaw → KeptLaw → OneRecordLa
 one_outcome one some kept law request t arrivals r s e d =
     one_by (record { one = one; some = some; kept = kept; record_one = law }) request t arrivals r s (by_questions t arrivals request r e) (by_questions t arrivals request s d)
 
--- what a program comes to that is accepted with this graph
+-- the result of a program that is accepted with this graph
 pub back_found : OneAcceptedLaw → (t : Told) (arrivals : Arrivals) (request : Request) (program : List ℕ) (c : CheckedGraph) (r : RequestOutcome) → is_built request ≡ true → program_of request ≡ Some program
     → IsFound t program (file_names request) (Ok c) → IsOutcome t arrivals (Some request) r → IsAcceptedOutcome request c arrivals t r
 back_found one t arrivals request program c r built of found is =

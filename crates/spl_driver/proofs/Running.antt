@@ -1,4 +1,4 @@
--- What stands behind a run, from its streams and what was written of them.
+-- What holds after a run, from its streams and what was written of them.
 use Rattle.std.proofs.Common.{◌≡◌, ◌≢◌, ◌∙◌, ◌<◌, ◌≤◌, ◌+◌, ◌-◌, ◌^◌, ℕ, zero, suc, arith, slice_get, slice_index_or, Bool, true, false, List, [], ◌∷◌, ◌++◌, length, take, drop, refl, sym, ap, subst, inl, inr, Option, Some, None, Result, Ok, Err}
 use Rattle.std.specs.Prelude.{IfSome, IfOk, ◌⊎◌}
 use Rattle.std.specs.Str.{bytes_eq}
@@ -153,7 +153,7 @@ unopened_counts cause files name old new is counted opened parts = record {
   stopped = subst (λ (k : Cause). StoppedBy k parts old new) (sym is) tt;
 }
 
--- ---- behind the sinks
+-- ---- after the sinks
 
 meaning_same : (g : Graph) (rows : List (List Item)) (t : Told) (run : Run) (arrivals : Arrivals) → arrivals ≡ run.arrivals → ((n : ℕ) → rows_at rows n ≡ rows_told g t n)
     → ran g rows run ≡ meant g t arrivals.lists
@@ -164,7 +164,7 @@ runs_as : (fault : Option Fault) (Is : RequestOutcome → Type 0) (c : CheckedGr
 runs_as None Is c g m ended t u is e h = inr (c, g, m, is, e, h)
 runs_as (Some fault) Is c g m ended t u is e h = (c, g, m, is, e, h)
 
--- what a run comes to behind its sinks, and what stands then
+-- the result of a run after its sinks, and what holds then
 pub record Sunken (law : SinkLaw) (r : Sunk) (written : Option (List ℕ)) (c : CheckedGraph) (run : Run) (ended : Ended) (before mid counts now : PerName) (t u : Told) : Type 0 where
   pub keeps : Keeps c
   pub made : RanFor c run (Some t) before mid
@@ -259,7 +259,7 @@ sunk_stands law S.Memory written c run ended before mid counts now t u h rec at 
 
 -- ---- which device failed
 
--- the names before a place, the one there, and those behind it
+-- the names before a place, the one there, and those after it
 names_at : (names : List (List ℕ)) (place : ℕ) (name : List ℕ) → slice_get names place ≡ Some name → names ≡ take place names ++ name ∷ drop (suc place) names
 names_at [] place name e = cc
 names_at (m ∷ names) zero name e = let is : Some m ≡ Some name = e in let same : m ≡ name = cc in ap (λ (n : List ℕ). n ∷ names) same
@@ -288,7 +288,7 @@ before_last (Some file) c place k name d at less =
     let small : k < length (sink_files c.parts) = omega (arith, within, size, less) in
     (small, get_or_append_left (sink_files c.parts) (file ∷ []) d k small)
 
--- a file that couldn't be created, behind sources that were read
+-- a file that couldn't be created, after sources that were read
 creating_failed : (written : Option (List ℕ)) (c : CheckedGraph) (place : ℕ) (old mid new : PerName) (name : List ℕ) → OnlyReads (source_files c.parts) old mid
     → ((n : List ℕ) → (new n).opening ≡ (mid n).opening) → Y.CreatingFailed place (created_by written c) name mid new → CreatingFailed (run_files written c) name old new
 creating_failed written c place old mid new name reads opening h = record {
@@ -326,7 +326,7 @@ writing_failed written c place old mid new name names own reads counted h = reco
         let at : slice_index_or (take place (created_by written c)) k n ≡ slice_index_or (sink_files c.parts) k n = get_or-take place (created_by written c) k n less ∙ b.1 in
         ap mid at ∙ reads.others (slice_index_or (sink_files c.parts) k n) (named_free c names own k n b.0) ∙ ap old (sym at)
 
--- what the counts show behind the sinks
+-- what the counts show after the sinks
 sunk_devices : (r : Sunk) (written : Option (List ℕ)) (c : CheckedGraph) (fault : Option Fault) (ended : Ended) (old mid new : PerName) (names : List (List ℕ)) → OwnFiles names c.parts
     → OnlyReads (source_files c.parts) old mid → FilesCounted r (created_by written c) mid new → EndsBehind r fault c (created_by written c) ended → DevicesShow ended.cause (run_files written c) old new
 sunk_devices (S.Done ns) written c fault ended old mid new names own reads counted (inl (is, sinks)) = subst (λ (k : Cause). DevicesShow k (run_files written c) old new) (sym is) (by fault)
@@ -365,7 +365,7 @@ sinks_words S.Memory written c fault ended old new counted is e = let h : C.NoMe
 sinks_words (S.NotCreated place) written c fault ended old new counted ends e = or_words (C.OpenFailed counted.cause.0) ended.cause (λ bad. cc) (ends counted.cause.0 counted.cause.1.at) e
 sinks_words (S.NotWritten place) written c fault ended old new counted ends e = or_words (C.WriteFailed counted.cause.0) ended.cause (λ bad. cc) (ends counted.cause.0 counted.cause.1.at) e
 
--- a run that stops at a read that failed, behind the sinks
+-- a run that stops at a read that failed, after the sinks
 unread_on : (parts : List Part) (op : ℕ) (old mid new : PerName) → ((n : List ℕ) → (new n).reading ≡ (mid n).reading) → SourceUnread parts op old mid → SourceUnread parts op old new
 unread_on parts op old mid new same h =
     record { file = h.file; strict = h.strict; source = h.source; rose = subst (λ (k : ℕ). Rose (old h.file).reading k) (sym (same h.file)) h.rose }
@@ -574,7 +574,7 @@ lent_behind c sinks old mid new keeps e first second small =
 
 -- ---- texts
 
--- what the run came to, behind its sinks
+-- the result of the run, after its sinks
 ran_on : (told : Option Told) (c : CheckedGraph) (run : Run) (arrivals : Arrivals) (counts between later : PerName) (p : RanFor c run told counts between) → arrivals ≡ run.arrivals
     → ((n : List ℕ) → (later n).reading ≡ (between n).reading) → RanTo c p.graph (ran p.graph p.rows run) arrivals counts later
 ran_on told c run arrivals counts between later p is same = record {
@@ -587,7 +587,7 @@ ran_on told c run arrivals counts between later p is same = record {
   recorded = subst (λ (a : Arrivals). IsRecordOf p.graph (ran p.graph p.rows run) a) (sym is) p.recorded;
 }
 
--- what the run comes to
+-- the result of the run
 comes_for : (told : Option Told) (c : CheckedGraph) (run : Run) (arrivals : Arrivals) (counts between later : PerName) → arrivals ≡ run.arrivals → ((n : List ℕ) → (later n).reading ≡ (between n).reading)
     → (p : RanFor c run told counts between) → RunComesAs c arrivals told counts later (Runs c p.graph (ran p.graph p.rows run))
 comes_for told c run arrivals counts between later is same p = ((p.graph, m, ran_on told c run arrivals counts between later p is same, refl), by told p.told_rows p.outcome)
@@ -640,7 +640,7 @@ plain_text counted cause k Is text is other plain e = subst (λ (x : Cause). IsT
     go (C.BadArrivals op) other plain e = cc
     go (C.WriteFailed name) other plain e = e
 
--- the text of a cause that is this one or want of memory
+-- the text of a cause that is this one or a lack of memory
 or_text_of : (counted : Bool) (expected cause : Cause) (Is : RequestOutcome → Type 0) (text : List ℕ) → IsOr expected cause → (IsRun expected → ⊥) → is_bad_arrivals expected ≡ false → text ≡ status_text None cause → IsText counted cause Is text
 or_text_of counted expected cause Is text (inl is) other plain e = plain_text counted cause expected Is text is other plain (e ∙ ap (status_text None) is)
 or_text_of counted expected cause Is text (inr is) other plain e = subst (λ (x : Cause). IsText counted x Is text) (sym is) tt
@@ -711,7 +711,7 @@ pub sunk_reason : (r : Sunk) (c : CheckedGraph) (fault : Option Fault) (names : 
 sunk_reason r c fault names ended old new counted ends =
     sunk_each (λ k. ReasonOf k c) (done_reason c) (λ name. tt) (λ name. tt) tt r c fault names ended (file_at r names old new counted) ends
 
--- what a run came to behind its sinks
+-- the result of a run after its sinks
 module _ (law : SinkLaw) (told : Option Told) (c : CheckedGraph) (run : Run) (ended : Ended) (counts between later : PerName) (keeps : Keeps c) (p : RanFor c run told counts between)
     (same : (n : List ℕ) → (later n).reading ≡ (between n).reading) where
   abbrev came_meaning : Meaning

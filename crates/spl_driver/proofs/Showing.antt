@@ -126,7 +126,7 @@ text_shown c request counts later Text Failed run failed h =
     let only = only_stop c request counts later Text run h in
     record { named = refl; failed = failed; parts = only.0; are = only.1; counted = only.2 }
 
--- memory may be wanting behind each answer
+-- memory may run out after each answer
 wanting_by : (c : Cause) (request : Option Request) (counts later : PerName) → ShownBy c request counts later → ShownBy C.NoMemory request counts later
 wanting_by c request counts later h = record { parts = h.parts; are = h.are; device = tt; stopped = tt; others = h.others; reading = λ n free differs. inr refl }
 
@@ -303,7 +303,7 @@ run_same C.NotBuilt Program Check ended r status counts now none = none_same end
 run_same (C.ReadFailed name) Program Check ended r status counts now none = none_same ended r status none
 run_same (C.BadArrivals op) Program Check ended r status counts now none = none_same ended r status none
 
--- memory was wanting behind it
+-- memory ran out after it
 run_wanting : (cause : Cause) (Program : CheckedGraph → Type 0) (Check : Type 0) (ended : Ended) (counts now : PerName) → RunShown cause Program Check ended counts now → (ended.arrivals.lists ≡ []) ⊎ Ran Program ended counts now
 run_wanting C.Done Program Check ended counts now (inl (check, none)) = inl none.lists
 run_wanting C.Done Program Check ended counts now (inr (c, g, m, p, ran, fault, counted)) = inr (c, g, m, p, ran)

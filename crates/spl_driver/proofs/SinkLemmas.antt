@@ -298,7 +298,7 @@ rows_are c g m lists n op file k e law are there has small =
     sym ((law c g n sink file k e at refl).1 (m.events n)) ∙ ap (count_by is_tuple) (sym (given c g m lists n op file k e law are there has)) in
     ap (λ (j : ℕ). min j (2 ^ 64 - 1)) made ∙ least (sink_rows lists (sink_with n file)) small
 
--- so many tuples at each place
+-- the number of tuples of the sink at each place
 abbrev CountsAt : Meaning → List (List Item) → CheckedGraph → ℕ → List Op → List Part → Type 0
 CountsAt m lists c from ops parts = (n number : ℕ) (op : Op) (file : List ℕ) → number ≡ from + n → slice_get ops n ≡ Some op → slice_get parts n ≡ Some (A.FileSink file)
     → sink_rows lists (sink_with number file) < 2 ^ 64 → tuples_of m (operator_with c number op (A.FileSink file)) ≡ sink_rows lists (sink_with number file)

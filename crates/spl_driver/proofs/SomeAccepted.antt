@@ -1,4 +1,4 @@
--- No program comes to nothing, and a program that is too long is refused.
+-- No program is without a result, and a program that is too long is refused.
 use Rattle.std.specs.Prelude.{◌≡◌, ◌<◌, ℕ, ◌+◌, Bool, if◌then◌else◌, List, [], ◌∷◌, ◌++◌, length, take, drop, Option, Some, None, Result, Ok, Err}
 use Rattle.std.proofs.Common.{refl, sym, ap, ◌∙◌, subst, arith, append_assoc, length-append}
 use Rattle.std.proofs.lemmas.Bool.{lt-ltb}
@@ -40,7 +40,7 @@ none_longest ts no_front front (t ∷ rest) splits starts =
       stops = λ u others is more. let same : u ≡ t = cc in longer (subst (λ (x : Token). Starts SpellsUnit (front ++ x ∷ [])) same more);
     })
 
--- a front and what stands behind it, by the number of its tokens
+-- a front and what comes after it, by the number of its tokens
 by_number : (ts front rest : List Token) → Longest SpellsUnit ts front rest → Longest SpellsUnit ts (take (length front) ts) (drop (length front) ts)
 by_number ts front rest l =
     let first : front ≡ take (length front) ts = sym (take-append_seam front rest) ∙ ap (take (length front)) (sym l.splits) in

@@ -1,4 +1,4 @@
--- A unit comes to a graph or to a refusal.
+-- The result of a unit is a graph or a refusal.
 use Rattle.std.specs.Prelude.{◌≡◌, ◌<◌, ◌≤◌, ◌⊎◌, ℕ, zero, suc, ◌+◌, Bool, true, false, if◌then◌else◌, codes, List, [], ◌∷◌, filter_map, Option, Some, None, Err, slice_get}
 use Rattle.std.specs.List.{Contains}
 use Rattle.std.specs.Option.{option_map}
@@ -137,7 +137,7 @@ main_there unit place is =
 
 -- ---- the whole
 
--- no unit comes to nothing
+-- no unit is without a result
 pub some_flat : (unit : List Definition) (names : List (List ℕ)) → ((x : Found Graph) → IsFlat unit names x → ⊥) → ⊥
 some_flat unit names none = by_names (declared_twice unit) refl
   where

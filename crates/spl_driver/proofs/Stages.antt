@@ -66,7 +66,7 @@ module _ (bytes : List ℕ) (names : List (List ℕ)) where
       expanded r answer expands is = same_answer bytes names r (expanding_answer answer) is (by_expansion answer expands)
 
       module _ (g : Graph) (flat : IsFlat unit names (Ok g)) where
-        -- what is found of the graph is what the program comes to
+        -- what is found of the graph is the result of the program
         comes_to : (found : Result CheckedGraph CheckRefusal) → checked unit g ≡ found → IsAccepted bytes names (refused_check found)
         comes_to found is = subst (λ x. IsAccepted bytes names (refused_check x)) is (checks ts unit g has spells flat)
 

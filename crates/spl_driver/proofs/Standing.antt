@@ -262,7 +262,7 @@ quiet_answer (Some t) (Some u) request cause ended counts later is other unread 
   recorded = writes_none request (IsOutcome t ended.arrivals request) ended counts later ⊥ t u (ap is_ended_run is ∙ none) same.holds;
 }
 
--- want of memory
+-- lack of memory
 pub wanting_answer : BegunSame → (told now : Option Told) (request : Option Request) (ended : Ended) (counts later : PerName) → ended.cause ≡ C.NoMemory
     → WhereTold told now TellsSame → NoCountChanged counts later → WhereTold told now (Answered request ended counts later ⊥)
 wanting_answer begun told now request ended counts later is same quiet =
@@ -413,7 +413,7 @@ program_answer (Some t) (Some u) request program cause ended counts later of is 
     by_names p file e (inl wanting) = inl wanting
     by_names p file e (inr by) = inr (program, named_first request program of p file e, by)
 
--- the same where memory was wanting for the name
+-- the same where memory ran out for the name
 or_wanting : (expected cause : Cause) (Good : Cause → Type 0) → IsOr expected cause → Good expected → Good C.NoMemory → Good cause
 or_wanting expected cause Good (inl e) good wanting = subst Good (sym e) good
 or_wanting expected cause Good (inr e) good wanting = subst Good (sym e) wanting

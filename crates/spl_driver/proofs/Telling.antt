@@ -143,9 +143,9 @@ said cause r request Is counts later (Ok text) (Some old) now Failed shown is po
     said_poured cause r request Is counts later text old now Failed (shelf_shows cause request counts later Failed shown) is poured
 said cause r request Is counts later (Err e) old now Failed shown is poured = said_nothing r request Is counts later old now Failed poured
 
--- ---- how the text of a request that was carried out comes to be told
+---- how the text of a request that was carried out is told
 
--- its writing failed, or memory was wanting for that name
+-- its writing failed, or memory ran out for that name
 pub unwritten : (cause r : Cause) (Failed : Type 0) → IsOr (C.WriteFailed OUT) r → IsRun cause → Failed → ToldAs cause r Failed
 unwritten cause r Failed (inl e) run rises = inr (inr (e, run, rises))
 unwritten cause r Failed (inr e) run rises = inr (inl e)

@@ -1,19 +1,19 @@
--- What programs come to.
+-- The results of programs.
 use Rattle.std.specs.Prelude.{◌≡◌, ◌<◌, ℕ, List, length, Result, Ok, Err}
 use Rattle.spl_tree.specs.declared.token.LexicalError.TheVariants.{TooLong}
 use Rattle.language_model.specs.Accepted.{ProgramRefusal, Lexical, IsAccepted}
 use Rattle.language_model.specs.CheckedGraph.{CheckedGraph}
 use Rattle.language_model.specs.Keeping.{Keeps}
 
--- a program comes to one thing at most
+-- a program has one result at most
 abbrev pub OneAcceptedLaw : Type 0
 OneAcceptedLaw = (bytes : List ℕ) (names : List (List ℕ)) (x y : Result CheckedGraph ProgramRefusal) → IsAccepted bytes names x → IsAccepted bytes names y → x ≡ y
 
--- and none comes to nothing
+-- and none is without one
 abbrev pub SomeAcceptedLaw : Type 0
 SomeAcceptedLaw = (bytes : List ℕ) (names : List (List ℕ)) → ((x : Result CheckedGraph ProgramRefusal) → IsAccepted bytes names x → ⊥) → ⊥
 
--- one of more than so many bytes is refused
+-- a program of more than 1,048,576 bytes is refused
 abbrev pub TooLongLaw : Type 0
 TooLongLaw = (bytes : List ℕ) (names : List (List ℕ)) → 1048576 < length bytes → IsAccepted bytes names (Err (Lexical TooLong 1048576))
 

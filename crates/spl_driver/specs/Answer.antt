@@ -124,7 +124,7 @@ pub record ReadingFailed (files : FilesOf) (name : List ℕ) (old new : PerName)
   pub only : OnlyRead (old name) (new name)
   pub others : (n : List ℕ) → n ≢ name → new n ≡ old n
 
--- A file that is created couldn't be. All files that are opened were, and nothing was counted of those that are created behind it.
+-- A file that is created couldn't be. All files that are opened were, and nothing was counted of those that are created after it.
 pub record CreatingFailed (files : FilesOf) (name : List ℕ) (old new : PerName) : Type 0 where
   pub before : List (List ℕ)
   pub behind : List (List ℕ)
@@ -208,7 +208,7 @@ pub record WroteOthers (Is : RequestOutcome → Type 0) (counts now : PerName) (
   pub texts : EachSink (HoldsUnlessFailed meaning counts now new) graph.ops
   pub recorded : IsRecordOf graph meaning ended.arrivals
 
--- the name that stands for standard output
+-- the name that means standard output
 abbrev pub OUT : List ℕ
 OUT = codes "-"
 
@@ -238,7 +238,7 @@ DevicesMean C.NoMemory files counts now TextFailed Is ended old new = ⊤
 abbrev pub WholeFails : PerName → PerName → Told → Type 0
 WholeFails counts now old = (n : List ℕ) → (now n).reading ≢ (counts n).reading → has_fault (old.script n) ≡ true
 
--- the count of reading changed of a file that is read as a whole: its reader fails within its bound, and the answer names it, or memory was wanting
+-- the count of reading changed of a file that is read as a whole: its reader fails within its bound, and the answer names it, or memory ran out
 pub record ReadingAnswered (cause : Cause) (most : ℕ) (old : Told) (name : List ℕ) : Type 0 where
   pub fails : fails_within most (old.script name) ≡ true
   pub answer : (cause ≡ C.ReadFailed name) ⊎ (cause ≡ C.NoMemory)
@@ -253,7 +253,7 @@ is_ended_run (C.Stopped fault) = true
 is_ended_run (C.WriteFailed name) = true
 is_ended_run _ = false
 
--- one of these files, which are read as a whole, couldn't be opened or read, or memory was wanting
+-- one of these files, which are read as a whole, couldn't be opened or read, or memory ran out
 abbrev pub IsUnread : List (List ℕ) → Cause → Type 0
 IsUnread whole cause = (cause ≡ C.NoMemory) ⊎ ((name : List ℕ) × (is_named whole name ≡ true) × ((cause ≡ C.OpenFailed name) ⊎ (cause ≡ C.ReadFailed name)))
 
@@ -286,7 +286,7 @@ pub data RecordUnwritten (name : List ℕ) (parts : List Part) (file text : List
       → RecordUnwritten name parts file text counts now TextFailed Sinks new
 
 -- What this file holds, into which a run writes its record, by how the run ends: the record's text, where the run was carried out, beside the texts
--- of the sinks; where a file couldn't be written, as above; where memory was wanting, what it held, or nothing, or a prefix of the text beside
+-- of the sinks; where a file couldn't be written, as above; where memory ran out, what it held, or nothing, or a prefix of the text beside
 -- those of the sinks; and else what it held.
 abbrev pub RecordHolds : Cause → List Part → List ℕ → List ℕ → PerName → PerName → Type 0 → Type 0 → Told → Told → Type 0
 RecordHolds C.Done parts file text counts now TextFailed Sinks old new = Sinks × (new.holds file ≡ Some text)
@@ -389,7 +389,7 @@ pub data DeviceFailed (files : FilesOf) (old new : PerName) : Type 0 where
   creating : (n : List ℕ) → is_named files.created n ≡ true → Rose (old n).creating (new n).creating → DeviceFailed files old new
   writing : (n : List ℕ) → is_named files.created n ≡ true → Rose (old n).writing (new n).writing → DeviceFailed files old new
 
--- where no device failed, the outcome of the request is the answer, or memory was wanting
+-- where no device failed, the outcome of the request is the answer, or memory ran out
 abbrev pub IsAnswer : RequestOutcome → List (List ℕ) → Type 0 → Type 0 → Cause → Type 0
 IsAnswer NoRequest whole Failed TextFailed cause = (Failed → ⊥) → IsOr C.BadWords cause
 IsAnswer (Unreadable file) whole Failed TextFailed cause = IsUnread whole cause
@@ -405,7 +405,7 @@ IsComplete request ended counts now TextFailed told =
     (result : RequestOutcome) → IsOutcome told ended.arrivals request result → (parts : List Part) → ArePartsIn told request parts
     → IsAnswer result (whole_files request) (DeviceFailed (files_of request parts) counts now) TextFailed ended.cause
 
--- the cause is this one, or memory was wanting, and nothing was touched
+-- the cause is this one, or memory ran out, and nothing was touched
 pub record Untouched (expected cause : Cause) (old new : PerName) : Type 0 where
   pub answer : IsOr expected cause
   pub counts : NoCountChanged old new

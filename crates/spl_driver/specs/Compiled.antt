@@ -6,7 +6,7 @@ use Rattle.run_report.specs.Refusals.{refusal_of}
 use Rattle.spl_driver.specs.declared.compile_answer.CompileAnswer.{CompileAnswer}
 use Rattle.spl_driver.specs.declared.compile_answer.CompileAnswer.TheVariants as A
 
--- the checked graph or the refusal that the program comes to; nothing is said where memory was wanting
+-- the checked graph or the refusal that is the result of the program; nothing is said where memory ran out
 abbrev pub IsCompiled : List ℕ → List (List ℕ) → Result CheckedGraph CompileAnswer → Type 0
 IsCompiled bytes names (Ok c) = IsAccepted bytes names (Ok c)
 IsCompiled bytes names (Err (A.Refused refusal)) = (p : ProgramRefusal) × IsAccepted bytes names (Err p) × (refusal ≡ refusal_of p)

@@ -48,7 +48,7 @@ pub data RequestOutcome : Type 0 where
   BadArrivals : (checked : CheckedGraph) → Option ℕ → RequestOutcome
   Runs : (checked : CheckedGraph) (graph : Graph) (meaning : Meaning) → RequestOutcome
 
--- a read of a file fails before it is known to have more than so many bytes
+-- a read of a file fails before it is known to have more than `most` bytes
 abbrev pub fails_within : ℕ → Script → Bool
 fails_within most script = nat_le (length script.bytes) most && is_failed script.ending
 
@@ -77,14 +77,14 @@ IsSomeProgram request c = (bytes : List ℕ) × IsAccepted bytes (file_names req
 abbrev pub IsSomeRefusal : Request → Refusal → Type 0
 IsSomeRefusal request refusal = (bytes : List ℕ) × (p : ProgramRefusal) × IsAccepted bytes (file_names request) (Err p) × (refusal ≡ refusal_of p)
 
--- What a run of an accepted program under a record comes to: it isn't whole for an operator, of which this is the first in topological
--- order; or it is.
+-- The result of a run of an accepted program under a record: the record isn't whole for an operator, of which this is the
+-- first in topological order; or it is.
 pub data IsUnder (told : Told) (c : CheckedGraph) (arrivals : Arrivals) : RequestOutcome → Type 0 where
   partial : (n : ℕ) → IsFirstNotWhole (graph_of c) (meant (graph_of c) told arrivals.lists) (entries_in arrivals.lists) n
       → IsUnder told c arrivals (BadArrivals c (Some n))
   whole : AreWhole (graph_of c) (meant (graph_of c) told arrivals.lists) (entries_in arrivals.lists) → IsUnder told c arrivals (run_outcome c told arrivals)
 
--- What a replay of an accepted program comes to, by the file of its record: it can't be read; it spells none; or what it spells is followed.
+-- The result of a replay of an accepted program, by the file of its record: it can't be read; it spells none; or what it spells is followed.
 pub data IsReplay (told : Told) (c : CheckedGraph) (file : List ℕ) : RequestOutcome → Type 0 where
   unread : has_record_fault (told.script file) ≡ true → IsReplay told c file (Unreadable file)
   misspelt : has_record_fault (told.script file) ≡ false → ((arrivals : Arrivals) → Spells c (told.script file).bytes arrivals → ⊥) → IsReplay told c file (BadArrivals c None)

@@ -1,4 +1,4 @@
--- What a replay of the record that a run wrote comes to.
+-- The result of a replay of the record that a run wrote.
 use Rattle.std.specs.Prelude.{◌≡◌, ◌≤◌, ◌^◌, ℕ, false, true, List, length, Option, Some}
 use Rattle.feed_pour.specs.Counts.{PerName, Rose}
 use Rattle.feed_pour.specs.Contents.{Told}
@@ -20,7 +20,7 @@ use Rattle.spl_driver.specs.declared.ended.Ended.{Ended}
 abbrev pub AreReadAlike : Option Request → Told → Told → Type 0
 AreReadAlike request t u = (parts : List Part) → ArePartsIn t request parts → (n : List ℕ) → is_named (opens request parts) n ≡ true → u.script n ≡ t.script n
 
--- Where a run comes to a meaning under a record that is whole in it, a replay comes to the same, if its program and sources are read alike, and
+-- Where the result of a run is a meaning under a record that is whole in it, a replay has the same, if its program and sources are read alike, and
 -- it reads the record's text, which isn't too long, without a fault.
 abbrev pub ReplayLaw : Type 0
 ReplayLaw = (t u : Told) (program file : List ℕ) (options : RunOptions) (c : CheckedGraph) (g : Graph) (m : Meaning) (arrivals other : Arrivals)

@@ -1,4 +1,4 @@
--- What requests come to.
+-- The results of requests.
 use Rattle.std.specs.Prelude.{◌≡◌, List, Option}
 use Rattle.feed_pour.specs.Contents.{Told}
 use Rattle.language_model.specs.declared.checked.Part.{Part}
@@ -6,11 +6,11 @@ use Rattle.stream_model.specs.declared.record.Arrivals.{Arrivals}
 use Rattle.command_line.specs.declared.request.Request.{Request}
 use Rattle.spl_driver.specs.Outcome.{RequestOutcome, IsOutcome, ArePartsIn}
 
--- a request comes to one thing at most, under an arrival record
+-- a request has one result at most, under an arrival record
 abbrev pub OneOutcomeLaw : Type 0
 OneOutcomeLaw = (request : Option Request) (t : Told) (arrivals : Arrivals) (r s : RequestOutcome) → IsOutcome t arrivals request r → IsOutcome t arrivals request s → r ≡ s
 
--- and none comes to nothing
+-- and none is without one
 abbrev pub SomeOutcomeLaw : Type 0
 SomeOutcomeLaw = (request : Option Request) (t : Told) (arrivals : Arrivals) → ((r : RequestOutcome) → IsOutcome t arrivals request r → ⊥) → ⊥
 

@@ -61,7 +61,7 @@ IsReason C.NoMemory request = ⊤
 -- ---- the counts of faults
 
 -- For the operators of the program: which device failed, and which source couldn't be read. Nothing was counted of other names, and of a name
--- that isn't a source's, reading was counted only where the answer names it, or where memory was wanting.
+-- that isn't a source's, reading was counted only where the answer names it, or where memory ran out.
 pub record ShownBy (cause : Cause) (request : Option Request) (old new : PerName) : Type 0 where
   pub parts : List Part
   pub are : ArePartsOf request parts
@@ -92,7 +92,7 @@ Shown C.NoMemory request old new TextFailed = ShownBy C.NoMemory request old new
 
 -- ---- the run
 
--- A run of the graph came to this meaning: that for closed rows of its sources, which they name in their faults and of which a read that failed was
+-- A run of the graph had this meaning: that for closed rows of its sources, which they name in their faults and of which a read that failed was
 -- counted, under a record that is whole in it.
 pub record RanTo (c : CheckedGraph) (g : Graph) (m : Meaning) (arrivals : Arrivals) (counts now : PerName) : Type 0 where
   pub graph : graph_of c ≡ g

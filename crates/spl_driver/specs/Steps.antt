@@ -1,4 +1,4 @@
--- What the steps of a request come to: the program compiled, its graph run, its sinks written.
+-- The results of the steps of a request: the program compiled, its graph run, its sinks written.
 use Prim.Native.Nat.{suc}
 use Rattle.std.specs.Prelude.{◌≡◌, ◌≢◌, ◌<◌, ◌-◌, ◌^◌, ◌⊎◌, ◌||◌, ℕ, List, [], ◌∷◌, ◌++◌, map, if◌then◌else◌, Bool, true, false, ⊤, Option, Some, None, Ok, Err, IfOk, IfSome, slice_get}
 use Rattle.std.specs.Str.{bytes_eq}
@@ -98,7 +98,7 @@ IsCompiledFrom P.OpenFailed names = ⊤
 IsCompiledFrom P.ReadFailed names = ⊤
 IsCompiledFrom P.Memory names = ⊤
 
--- what the program's file comes to
+-- the result of compiling the program's file
 abbrev pub CompiledAt : Compiled → Script → List (List ℕ) → Type 0
 CompiledAt (P.Checked c) script names = (has_fault script ≡ false) × IsAccepted script.bytes names (Ok c)
 CompiledAt (P.Refused refusal) script names =
@@ -121,7 +121,7 @@ RecordCounted D.Memory file old new = NoCountChanged old new
 abbrev pub RecordFails : List ℕ → PerName → PerName → Told → Type 0
 RecordFails file counts now old = (n : List ℕ) → (now n).reading ≢ (counts n).reading → (n ≡ file) × (has_record_fault (old.script n) ≡ true)
 
--- what the file comes to
+-- the result of reading the file
 abbrev pub RecordAt : RecordRead → Script → CheckedGraph → Type 0
 RecordAt (D.Order O.InTurn) script c = ⊥
 RecordAt (D.Order (O.Recorded arrivals)) script c = (has_record_fault script ≡ false) × Spells c script.bytes arrivals
@@ -221,7 +221,7 @@ sinks_from n (_ ∷ parts) = sinks_from (suc n) parts
 abbrev pub sinks_of : CheckedGraph → List Sink
 sinks_of c = sinks_from 0 c.parts
 
--- so many rows of each sink
+-- the number of rows of each sink
 abbrev pub counts_from : ℕ → List Part → List ℕ → List SinkCount
 counts_from n [] rows = []
 counts_from n (A.FileSink file ∷ parts) [] = []
@@ -236,12 +236,12 @@ IsSomeRun c arrivals counts now result = (g : Graph) × (m : Meaning) × RanTo c
 abbrev pub IsSomeReplay : CheckedGraph → Arrivals → PerName → PerName → RequestOutcome → Type 0
 IsSomeReplay c arrivals counts now result = IsSomeRun c arrivals counts now result ⊎ ((op : Option ℕ) × IsBadFor c op × (result ≡ BadArrivals c op))
 
--- what it may come to in this order
+-- what its result may be in this order
 abbrev pub IsSomeIn : Order → CheckedGraph → Arrivals → PerName → PerName → RequestOutcome → Type 0
 IsSomeIn O.InTurn c arrivals counts now result = IsSomeRun c arrivals counts now result
 IsSomeIn (O.Recorded given) c arrivals counts now result = IsSomeReplay c arrivals counts now result
 
--- what a run with this record may come to
+-- what the result of a run with this record may be
 abbrev pub RunComesAs : CheckedGraph → Arrivals → Option Told → PerName → PerName → RequestOutcome → Type 0
 RunComesAs c arrivals told counts now result = IsSomeRun c arrivals counts now result × IfSome told (λ t. IsRunAs c arrivals t result)
 
@@ -257,7 +257,7 @@ IsAcceptedOutcome (R.Run program options) c arrivals told result = result ≡ ru
 IsAcceptedOutcome (R.Replay program file) c arrivals told result = IsReplay told c file result
 IsAcceptedOutcome _ c arrivals told result = result ≡ NotBuilt
 
--- what it may come to, whatever the files hold
+-- what its result may be, whatever the files hold
 abbrev pub MayBeOutcome : Request → CheckedGraph → Arrivals → PerName → PerName → RequestOutcome → Type 0
 MayBeOutcome (R.Check program) c arrivals counts now result = result ≡ Reports OfSize c
 MayBeOutcome (R.Plan program) c arrivals counts now result = result ≡ Reports OfPlan c
@@ -339,7 +339,7 @@ pub record FilesShow (Is : RequestOutcome → Type 0) (files : FilesOf) (ended :
   pub whole : WholeReads ended.cause files counts now old
   pub reads : ReadsFail counts now old
 
--- a run with this fault, or none, ends with these counts, unless memory was wanting for them
+-- a run with this fault, or none, ends with these counts, unless memory ran out for them
 abbrev pub EndsAs : Option Fault → List SinkCount → Ended → Type 0
 EndsAs fault sinks ended = ((ended.cause ≡ cause_of fault) × (ended.counts ≡ record { channels = []; sinks = sinks })) ⊎ (ended.cause ≡ C.NoMemory)
 
@@ -374,7 +374,7 @@ pub record EndsRun (sunk : Sunk) (counted : Bool) (c : CheckedGraph) (names : Li
   pub text : IfOk answer.text (TellsBehind sunk counted c answer.ended)
   pub recorded : RecordedBy sunk answer.ended arrivals
 
--- what a replay of an accepted program may come to, which is its outcome where the shelf tells its files
+-- what the result of a replay of an accepted program may be, which is its outcome where the shelf tells its files
 abbrev pub ReplayComes : CheckedGraph → List ℕ → Arrivals → Option Told → PerName → PerName → RequestOutcome → Type 0
 ReplayComes c file arrivals told counts now result = IsSomeReplay c arrivals counts now result × IfSome told (λ t. IsReplay t c file result)
 

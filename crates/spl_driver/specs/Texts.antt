@@ -21,8 +21,8 @@ use Rattle.spl_driver.specs.Answer.{IsRun, OUT, cause_of, counts_of}
 use Rattle.spl_driver.specs.Outcome.{Report, OfSize, OfPlan, RequestOutcome, Reports, BadArrivals, Runs, IsOutcome, IsSomeProgram}
 use Rattle.spl_driver.specs.Shown.{IsBadFor, TextShown, RanTo, ShownBy}
 
--- What a request whose program is accepted may come to, whatever its files hold: to what is told of the checked graph of a program, to a meaning
--- that a run of it came to, or to a record that isn't one or isn't whole.
+-- What the result of a request may be whose program is accepted, whatever its files hold: what is told of the checked graph of a
+-- program, a meaning that a run of it had, or a record that isn't one or isn't whole.
 abbrev pub MayComeTo : Option Request → Arrivals → PerName → PerName → RequestOutcome → Type 0
 MayComeTo (Some (R.Check program)) arrivals counts now (Reports OfSize c) = IsSomeProgram (R.Check program) c
 MayComeTo (Some (R.Plan program)) arrivals counts now (Reports OfPlan c) = IsSomeProgram (R.Plan program) c
@@ -31,7 +31,7 @@ MayComeTo (Some (R.Replay program file)) arrivals counts now (Runs c g m) = IsSo
 MayComeTo (Some (R.Replay program file)) arrivals counts now (BadArrivals c op) = IsSomeProgram (R.Replay program file) c × IsBadFor c op
 MayComeTo _ arrivals counts now _ = ⊥
 
--- what it may come to, which is its outcome where the shelf tells its files
+-- what its result may be, which is its outcome where the shelf tells its files
 abbrev pub IsToldOutcome : Option Request → Option Told → Arrivals → PerName → PerName → RequestOutcome → Type 0
 IsToldOutcome request told arrivals counts now result = MayComeTo request arrivals counts now result × IfSome told (λ t. IsOutcome t arrivals request result)
 
@@ -67,7 +67,7 @@ EndsWith _ cause = ⊥
 abbrev pub IsTextOf : Bool → (RequestOutcome → Type 0) → Cause → List ℕ → Type 0
 IsTextOf counted Is cause text = (result : RequestOutcome) × Is result × EndsWith result cause × IsOutcomeText counted result cause text
 
--- the text of a cause; nothing is said of that of want of memory
+-- the text of a cause; nothing is said of that of a lack of memory
 abbrev pub IsText : Bool → Cause → (RequestOutcome → Type 0) → List ℕ → Type 0
 IsText counted C.NoMemory Is text = ⊤
 IsText counted C.Done Is text = IsTextOf counted Is C.Done text
@@ -93,7 +93,7 @@ abbrev pub PouredFront : Bool → (RequestOutcome → Type 0) → List ℕ → O
 PouredFront counted Is old now Failed =
     Failed × ((cause : Cause) × (text : List ℕ) × IsTextOf counted Is cause text × (n : ℕ) × (now ≡ Some (old ++ take n text)))
 
--- The cause's text was poured; nothing is said of want of memory. Where a write failed, that is one of a file that the request creates, and its text was poured; or
+-- The cause's text was poured; nothing is said of a lack of memory. Where a write failed, that is one of a file that the request creates, and its text was poured; or
 -- it is that of the text that would have come, which was begun.
 abbrev pub Said : Cause → Option Request → (RequestOutcome → Type 0) → PerName → PerName → Option (List ℕ) → Option (List ℕ) → Type 0 → Type 0
 Said cause request Is counts later None now Failed = ⊤
@@ -118,12 +118,12 @@ is_run C.Done = true
 is_run (C.Stopped fault) = true
 is_run _ = false
 
--- what is told of a cause becomes of it: it stays, unless memory was wanting; but where the text of a request that was carried out isn't
+-- what is told of a cause becomes of it: it stays, unless memory ran out; but where the text of a request that was carried out isn't
 -- poured, its writing failed
 abbrev pub ToldAs : Cause → Cause → Type 0 → Type 0
 ToldAs cause result Failed = (result ≡ cause) ⊎ ((result ≡ C.NoMemory) ⊎ ((result ≡ C.WriteFailed OUT) × IsRun cause × Failed))
 
--- the text was poured whole; or a front of it, since the pour failed or memory was wanting
+-- the text was poured whole; or a front of it, since the pour failed or memory ran out
 pub data TextPoured (cause result : Cause) (text : List ℕ) (old : List ℕ) (now : Option (List ℕ)) (Failed : Type 0) : Type 0 where
   whole : result ≡ cause → now ≡ Some (old ++ text) → TextPoured cause result text old now Failed
   front : result ≡ cause → (IsRun cause → ⊥) → Failed → (n : ℕ) → now ≡ Some (old ++ take n text) → TextPoured cause result text old now Failed

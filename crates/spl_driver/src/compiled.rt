@@ -18,7 +18,7 @@ use spl_tree::{LexicalError, MOST_BYTES};
 use spl_value::{Items, Name};
 use std::alloc::Global;
 
-/// What the file of a program comes to.
+/// The result of compiling the file of a program.
 #[derive(Drop)]
 pub enum Compiled {
     Checked(Checked),

@@ -15,7 +15,7 @@ use unit_parser::parse_unit;
 /// program's first refusal. Its tokens are looked at first, then what they spell, then the graph that
 /// its composites expand to, and then the types and clauses of this.
 ///
-/// `Memory` stands also for what nests too deep for the stack, and for types of more than a million
+/// `Memory` is also the answer for what nests too deep for the stack, and for types of more than a million
 /// parts.
 pub fn compile(alloc: Global, bytes: &[u8], names: &Items<Name>) -> Result<Checked, CompileAnswer>
     ensures { IsCompiled bytes.now names.now result }

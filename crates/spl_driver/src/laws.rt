@@ -1,4 +1,4 @@
-//! What programs and requests come to.
+//! The results of programs and requests.
 ghost use Rattle.spl_driver.specs.AcceptedLaws.{KeptLaw, OneAcceptedLaw, SomeAcceptedLaw, TooLongLaw};
 ghost use Rattle.spl_driver.specs.ReplayLaws.{ReplayLaw, SameFilesLaw};
 ghost use Rattle.spl_driver.specs.RequestLaws.{OneOutcomeLaw, SomeOutcomeLaw, OnePartsLaw, SomePartsLaw};
@@ -8,7 +8,7 @@ use check_laws::keeps_law;
 use language_model::flat_law;
 use unit_parser::units_law;
 
-/// A program comes to a checked graph or to a refusal, and to that alone. One that is too long is
+/// The result of a program is a checked graph or a refusal, and that alone. One that is too long is
 /// refused, and a checked graph keeps what such a graph has to keep.
 pub fn accepted_law()
     ensures one { OneAcceptedLaw }
@@ -21,7 +21,7 @@ pub fn accepted_law()
     keeps_law();
 }
 
-/// Under an arrival record a request comes to one thing, and its program has one list of operators.
+/// Under an arrival record a request has one result, and its program has one list of operators.
 pub fn outcome_law()
     ensures one { OneOutcomeLaw }
     ensures some { SomeOutcomeLaw }
@@ -32,7 +32,7 @@ pub fn outcome_law()
     format_law();
 }
 
-/// A replay of the record that a run wrote comes to what the run came to, if the program and the sources are
+/// A replay of the record that a run wrote has the result of the run, if the program and the sources are
 /// read alike: where both are carried out, they end alike, and each sink's file holds the same after both.
 pub fn replay_law()
     ensures outcome { ReplayLaw }

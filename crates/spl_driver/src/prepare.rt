@@ -14,7 +14,7 @@ use source_rows::{Sources, read_sources};
 use spl_value::Name;
 use std::alloc::Global;
 
-/// What a run comes to up to its sinks.
+/// The result of a run up to its sinks.
 #[derive(Drop)]
 pub enum Prepared {
     /// What it gives its sinks, its fault and its record.

@@ -14,7 +14,7 @@ use std::alloc::Global;
 // The most bytes of such a file.
 const MOST_BYTES: usize = 0x1_0000_0000;
 
-/// What the file of an arrival record comes to.
+/// The result of reading the file of an arrival record.
 #[derive(Drop)]
 pub enum RecordRead {
     /// The order that it says.

@@ -91,7 +91,7 @@ pub fn name_at(files: &RunFiles, place: usize) -> &[u8]
     }
 }
 
-/// The counts of the sinks of a graph, of which each wrote so many rows.
+/// The counts of the sinks of a graph, by the number of rows that each wrote.
 pub fn sink_counts(
     alloc: Global,
     checked: &Checked,

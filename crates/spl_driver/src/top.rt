@@ -120,7 +120,7 @@ pub fn spl<W: Threads + Wait + Sync, H: Shelf, S: Starter, G: Gate, P: Pour>(
     // A request for what is told of a program that is not run ends with no fault, and is built.
     ensures kinds { MayBe (request_of words.now) result.cause }
 
-    // Where no device fails, the outcome of the request is the answer, unless memory is wanting.
+    // Where no device fails, the outcome of the request is the answer, unless memory runs out.
     ensures complete { IfSome (H.told shelf.old)
         (IsComplete (request_of words.now) result (H.counts shelf.old) (H.counts shelf.new)
         (Rose (P.faults out.old) (P.faults out.new))) }

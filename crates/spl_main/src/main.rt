@@ -9,7 +9,7 @@ use std::{env, io};
 // The status where there is no memory for the words of the command line.
 const NO_MEMORY: u8 = 9;
 
-// The words behind the program's name; none where some word is no text, so that they are no request.
+// The words after the program's name; none where some word is no text, so that they are no request.
 fn words(rt: &HostRuntime) -> io::Result<Vec<String>> {
     let mut words = Vec::new(rt.alloc());
     let all = match env::args(rt) {

@@ -33,7 +33,7 @@ pub fn scope_of(alloc: Global, text: &str, came: Option<Marker>) -> Result<Scope
     Ok(context.scope)
 }
 
-// What stands for a parameter: its default, where it has one.
+// The value of a parameter: its default, where it has one.
 fn found(
     alloc: Global,
     types: &TypeScope,

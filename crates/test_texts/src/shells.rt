@@ -5,7 +5,7 @@
 use crate::spelled::spelled_out;
 use std::alloc::{AllocError, Global};
 
-// What stands in front of and behind the texts of rows that begin with this word.
+// What comes before and after the texts of rows that begin with this word.
 fn shell<'s>(shells: &'s str, word: &str) -> Option<(&'s str, &'s str)> {
     for line in shells.lines() {
         if let Some((own, around)) = line.split_once(": ")

@@ -1,6 +1,6 @@
 //! Signs for what a row of a table can't have.
 //!
-//! | Sign | What it stands for |
+//! | Sign | What it means |
 //! |---|---|
 //! | `␊`, `␍`, `␉`, `␀` | a line feed, a carriage return, a tab, a byte of number 0 |
 //! | `␣` | a blank, where it would be lost or would part two words |
@@ -8,7 +8,7 @@
 //! | `∅` | nothing: an empty text or word |
 use std::alloc::{AllocError, Global};
 
-// What a character of a row stands for.
+// What a character of a row means.
 fn meant(sign: char) -> Option<char> {
     match sign {
         '␊' => Some('\n'),
@@ -22,7 +22,7 @@ fn meant(sign: char) -> Option<char> {
     }
 }
 
-// What stands for a character in a row.
+// The sign for a character, in a row.
 fn sign(meant: char) -> char {
     match meant {
         '\n' => '␊',

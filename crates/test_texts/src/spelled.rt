@@ -1,4 +1,4 @@
-//! What stands in rows for many like pieces: `«5 20 A{n}, B{n+1}; »` is 20 times the piece behind the two
+//! How rows spell many like pieces: `«5 20 A{n}, B{n+1}; »` is 20 times the piece after the two
 //! numbers, with 5, 6 and so on for `{n}`, and the next number for `{n+1}`.
 use crate::signs::without_signs;
 use std::alloc::{AllocError, Global};
@@ -46,7 +46,7 @@ pub fn spread(alloc: Global, row: &str) -> Result<String, AllocError> {
     Ok(text)
 }
 
-/// The text that a row stands for: with all its pieces, and without signs.
+/// The text that a row means: with all its pieces, and without signs.
 pub fn spelled_out(alloc: Global, row: &str) -> Result<String, AllocError> {
     without_signs(alloc, spread(alloc, row)?.as_str())
 }

@@ -1,7 +1,7 @@
 //! Texts that grow piece by piece.
 use std::alloc::{AllocError, Global};
 
-/// A text that grows, and whether it shows where in the program things stand. Once memory is wanting,
+/// A text that grows, and whether it shows where in the program things stand. Once memory runs out,
 /// nothing more is added.
 #[derive(Drop)]
 pub struct Text {
@@ -52,7 +52,7 @@ impl Text {
         }
     }
 
-    /// Adds a word and a place behind it, as in `v3`.
+    /// Adds a word and a place after it, as in `v3`.
     pub fn add_place(&mut self, word: &str, place: u32) {
         self.add(word);
         self.add_number(i128::from(place));

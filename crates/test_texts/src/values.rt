@@ -83,7 +83,7 @@ const KINDS: [FaultKind; 8] = [
     FaultKind::ReadFailed,
 ];
 
-/// The fault that has this name; what names none stands for that of turns.
+/// The fault that has this name; what names none gives that of turns.
 pub fn fault_named(name: &str) -> FaultKind {
     for kind in KINDS {
         if fault(kind) == name {

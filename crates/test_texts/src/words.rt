@@ -2,7 +2,7 @@
 use spl_value::{Bytes, Items};
 use std::alloc::{AllocError, Global};
 
-/// The pieces of a text that stand in front of the first blank and behind it.
+/// The pieces of a text that come before the first blank and after it.
 pub fn cut(text: &str) -> (&str, &str) {
     text.split_once(' ').unwrap_or((text, ""))
 }

@@ -5,7 +5,7 @@ use spl_tree::{Expr, ExprKind, Field, Number, Step};
 use spl_value::IntKind;
 use test_texts::text::Text;
 
-// What stands behind the digits of a literal of that type.
+// What comes after the digits of a literal of that type.
 fn suffix(kind: IntKind) -> &'static str {
     match kind {
         IntKind::I8 => "b",

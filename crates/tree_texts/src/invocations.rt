@@ -133,7 +133,7 @@ fn add_parts(text: &mut Text, parts: &[WindowPart]) {
     }
 }
 
-/// Adds names with their values, if there are some, behind what begins their clause.
+/// Adds names with their values, if there are some, after what begins their clause.
 pub fn add_parameters(text: &mut Text, begin: &str, parameters: &[Parameter]) {
     if parameters.is_empty() {
         return;

@@ -42,7 +42,7 @@ fn add_prefix(text: &mut Text, prefix: &Prefix) {
     text.add(" ");
 }
 
-/// Adds prefix operators and casts, each with a space behind it.
+/// Adds prefix operators and casts, each with a space after it.
 pub fn add_prefixes(text: &mut Text, prefixes: &[Prefix]) {
     for prefix in prefixes {
         add_prefix(text, prefix);

@@ -29,7 +29,7 @@ fn add_function(text: &mut Text, function: &FunctionDefinition) {
     add_block(text, function.body.as_slice());
 }
 
-// The ports of a head, if there are some, behind their word.
+// The ports of a head, if there are some, after their word.
 fn add_ports(text: &mut Text, word: &str, ports: &[HeadPort]) {
     for (at, port) in ports.iter().enumerate() {
         text.add(if at == 0 { word } else { ", " });

@@ -14,7 +14,7 @@ column_at [] p i r within is = absurd (omega (arith, within))
 column_at (x ∷ refs) p zero r within is = ap (λ (y : Bor (List Value)). cons_option (slice_get y.now p) (column p (seen refs))) (sym is)
 column_at (x ∷ refs) p (suc i) r within is = column_at refs p i r (omega (arith, within)) is
 
--- the values from the tuple before on are its own and those behind
+-- the values from the tuple before on are its own and those after it
 pub column_before : (refs : List (Bor (List Value))) (p n : ℕ) (r : Bor (List Value)) (o : Option (Bor Value)) → 0 < n → n ≤ length refs → r ≡ get_or refs (n - 1) r
     → option_copied o ≡ slice_get r.now p → cons_option (option_copied o) (column p (seen (drop n refs))) ≡ column p (seen (drop (n - 1) refs))
 column_before refs p n r o some within is value =
@@ -31,7 +31,7 @@ last_at refs p zero v is = ap last is
 last_at [] p (suc i) v is = absurd cc
 last_at (x ∷ refs) p (suc i) v is = last_more (slice_get x.now p) (column p (seen refs)) v (last_at refs p i v is)
 
--- a value behind which there is none is the last one
+-- a value after which there is none is the last one
 pub last_found : (refs : List (Bor (List Value))) (p n : ℕ) (r : Bor (List Value)) (v : Bor Value) → 0 < n → n ≤ length refs → r ≡ get_or refs (n - 1) r
     → option_copied (Some v) ≡ slice_get r.now p → column p (seen (drop n refs)) ≡ [] → Some v.now ≡ last (column p (seen refs))
 last_found refs p n r v some within is value none =

@@ -27,7 +27,7 @@ at_key : (places : List ℕ) (ts : List (List Value)) (t key k : List Value) (ne
 at_key places ts t key k new o true same at stood = let equal = same_key-equal k key same in subst (λ q. At (Some new) (of_group places ts q ++ t ∷ [])) (sym equal) at
 at_key places ts t key k new o false same at stood = subst (At o) (sym (append-nil (of_group places ts k))) stood
 
--- each group stands behind a tuple that goes into its own
+-- each group is right after a tuple that goes into its own
 pub gathered : (places : List ℕ) (ts : List (List Value)) (t key : List Value) → key ≡ key_of t places → (new : Members) → At (Some new) (of_group places ts key ++ t ∷ [])
     → (m n : List Value → Option Members) → ((q : List Value) → n q ≡ cond (equal_key key q) (Some new) (m q)) → ((q : List Value) → At (m q) (of_group places ts q))
     → (k : List Value) → At (n k) (of_group places (ts ++ t ∷ []) k)

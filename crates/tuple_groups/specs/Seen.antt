@@ -4,7 +4,7 @@ use Rattle.std.specs.Borrow.{Bor}
 use Rattle.std.specs.Global.{Vec}
 use Rattle.spl_value.specs.declared.value.Value.{Value}
 
--- the tuples behind references
+-- the tuples that references point to
 abbrev pub seen : List (Bor (List Value)) → List (List Value)
 seen refs = map (λ (r : Bor (List Value)). r.now) refs
 

@@ -20,7 +20,7 @@ fn first<'a>(alloc: Global, tuple: &'a Values) -> Result<Vec<&'a Values>, NoMemo
     Ok(members)
 }
 
-/// Adds a tuple behind the others of its group.
+/// Adds a tuple after the others of its group.
 fn add<'a>(members: &mut Vec<&'a Values>, tuple: &'a Values) -> Result<(), NoMemory>
     ensures { IfOk result (λ _. seen members.new.items ≡ seen members.old.items ++ tuple.now ∷ []) }
 {

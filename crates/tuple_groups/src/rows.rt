@@ -34,7 +34,7 @@ fn attribute_of(
 }
 
 /// The tuple of a group, where the values of the first assignment stand at place `width` of its tuples,
-/// and those of the others behind.
+/// and those of the others after it.
 pub fn group_tuple(
     alloc: Global,
     output: &Items<Collected>,

@@ -20,7 +20,7 @@ length_more : (front : List Value) (v : Value) → length (front ++ v ∷ []) �
 length_more [] v = refl
 length_more (w ∷ front) v = ap suc (length_more front v)
 
--- the places from the length of the front on, of the values behind it
+-- the places from the length of the front on, of the values after it
 all_behind : (front vs : List Value) (places : List ℕ) → length places ≡ length vs → ((k : ℕ) → k < length places → get_or places k 0 ≡ length front + k)
     → values_at (front ++ vs) places ≡ Some vs
 all_behind front [] [] e at = refl

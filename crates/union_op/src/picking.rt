@@ -33,7 +33,7 @@ fn copy_at(alloc: Global, values: &Values, place: usize) -> Result<Value, NoMemo
     }
 }
 
-/// Takes the value at a place. It is copied where the place comes again behind.
+/// Takes the value at a place. It is copied where the place comes again later.
 fn take_value(
     alloc: Global,
     values: &mut Values,

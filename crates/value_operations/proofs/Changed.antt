@@ -20,7 +20,7 @@ use Rattle.value_operations.specs.declared.stop.Stop.TheVariants as S
 use Rattle.value_operations.specs.Changing.{IsPlaceIn}
 use Rattle.value_operations.specs.Changing.{Changes}
 
--- what the change of a part comes to is passed on to the whole
+-- the result of the change of a part is passed on to the whole
 passes_on : (r : Result (Unit {0}) Stop) (whole part : CallOutcome) (put : Value → Value) (new : Value) → whole ≡ passed_on part (λ new. Gives (put new))
     → Changes part r new → Changes whole r (put new)
 passes_on (Ok u) whole part put new e h = e ∙ ap (λ o. passed_on o (λ new. Gives (put new))) h

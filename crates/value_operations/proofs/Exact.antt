@@ -1,4 +1,4 @@
--- What operators of integers come to, from the results in 128 bits.
+-- The results of operators of integers, from those in 128 bits.
 use Rattle.std.specs.Prelude.{◌≡◌, ℕ, zero, suc, ◌*◌, ◌/◌, ◌%◌, ◌≤◌, ◌^◌, ℤ, pos, negsuc, unsigned_abs, ◌+ℤ◌, ◌-ℤ◌, ◌*ℤ◌, int_div, int_rem, IsTrue, FitsSigned}
 use Rattle.std.specs.Int.{w128, int_wrap}
 use Rattle.std.specs.Int.Bits.{bit_and, bit_or, bit_xor}

@@ -35,7 +35,7 @@ followed_stops o f S.Memory h = tt
 pub stops_by : {A : Type 0} (o p : Outcome A) (s : Stop) → o ≡ p → StopsAs p s → StopsAs o s
 stops_by o p s e h = subst (λ o. StopsAs o s) (sym e) h
 
--- what `?` hands on
+-- what `?` returns
 pub exit : {B : Type 0} (P : Result B Stop → Type 0) (r : Result B Stop) (s : Stop) → IsErrAnd r (λ y. y ≡ s) → P (Err s) → P r
 exit P r s h q = let p = err_from_is_err_and r h in subst P (sym (p.1 ∙ ap Err p.2)) q
 

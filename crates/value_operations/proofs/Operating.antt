@@ -1,4 +1,4 @@
--- What operators come to, in the code's words.
+-- The results of operators, in the code's words.
 use Rattle.std.specs.Prelude.{◌≡◌, ℕ, ℤ, pos, negsuc, unsigned_abs, neg_ℤ, ◌-ℤ◌, ◌^◌, ◌+◌, ◌≤◌, ◌<◌, Bool, true, false, if◌then◌else◌, IsTrue, FitsSigned, List, ◌||◌, length, take}
 use Rattle.std.specs.Int.{w128}
 use Rattle.std.specs.List.{list_any}

@@ -23,7 +23,7 @@ use Rattle.value_operations.specs.Changing.{StepsLeadTo, ArgumentFits, CanChange
 use Rattle.value_operations.specs.Taking.{HasMember, HasElements, HasKeys}
 use Rattle.value_operations.proofs.Parts.{pairs_of}
 
--- the steps behind the first
+-- the steps after the first
 abbrev pub rest_of : List (Taking Value) → List (Taking Value)
 rest_of steps = take (length steps - 1) (drop 1 steps)
 

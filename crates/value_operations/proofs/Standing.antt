@@ -1,4 +1,4 @@
--- What a slot stands for is there.
+-- The value of a slot is there.
 use Rattle.std.specs.Prelude.{◌≡◌, ℕ, ◌<◌, List, length, Some, slice_get}
 use Rattle.std.specs.Option.{option_map, option_and_then}
 use Rattle.std.proofs.Common.{refl, sym, ap, subst, ◌∙◌, get_or}

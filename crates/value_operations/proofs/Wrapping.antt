@@ -95,7 +95,7 @@ bits_below n q h = omega (arith, ints)
 bits_of_negative : (n q : ℕ) → suc n ≤ q → pos (q - suc n) ≡ negsuc n +ℤ pos 1 *ℤ pos q
 bits_of_negative n q h = omega (arith, ints)
 
--- the number that bits stand for
+-- the number that bits mean
 pub signed_congruent : (n : ℕ) → n < 2 ^ 128 → IsCongruent (2 ^ 128) (to_z w128 n) (pos n)
 signed_congruent n h =
     elim (nat_lt n (2 ^ 127)) as (λ b. nat_lt n (2 ^ 127) ≡ b → IsCongruent (2 ^ 128) (to_z w128 n) (pos n)) [

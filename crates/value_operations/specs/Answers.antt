@@ -1,4 +1,4 @@
--- What a call answers, against what an evaluation comes to. Of want of memory nothing is said.
+-- What a call answers, against the result of an evaluation. Of a lack of memory nothing is said.
 use Rattle.std.specs.Prelude.{◌≡◌, ℕ, suc, Bool, List, Option, Some, Result, Ok, Err}
 use Rattle.spl_value.specs.declared.item.Evaluated.{Evaluated}
 use Rattle.spl_value.specs.declared.item.Evaluated.TheVariants as E
@@ -16,7 +16,7 @@ use Rattle.value_operations.specs.declared.answers.Truth.TheVariants as R
 use Rattle.value_operations.specs.declared.stop.Stop.{Stop}
 use Rattle.value_operations.specs.declared.stop.Stop.TheVariants as S
 
--- the value that is held, or the one that it stands for
+-- the value that is held, or the one that is lent
 abbrev pub held : Held → Value
 held (H.Own v) = v
 held (H.Lent v) = v.now
@@ -35,7 +35,7 @@ abbrev pub AnswersHeld : Outcome Value → Result Held Stop → ℕ → Type 0
 AnswersHeld outcome (Ok h) turns = outcome ≡ Done (held h) turns
 AnswersHeld outcome (Err stop) turns = StopsAs outcome stop
 
--- what an operator or a call comes to is answered
+-- the result of an operator or a call is answered
 abbrev pub Settles : CallOutcome → Result Value Stop → Type 0
 Settles outcome (Ok v) = outcome ≡ Gives v
 Settles outcome (Err (S.Fault kind)) = outcome ≡ Faults kind
@@ -67,7 +67,7 @@ abbrev pub Makes : {A : Type 0} → Option A → Result A Stop → Type 0
 Makes made (Ok x) = made ≡ Some x
 Makes made (Err stop) = stop ≡ S.Memory
 
--- the truth of what an evaluation comes to
+-- the truth of the value of an evaluation
 abbrev pub as_truth : Outcome Value → Outcome Bool
 as_truth outcome = followed outcome (λ v turns. need (truth_of v) (λ b. Done b turns))
 

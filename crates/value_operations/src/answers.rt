@@ -9,7 +9,7 @@ pub enum Truth {
     Memory,
 }
 
-/// What a code of a tuple came to.
+/// The result of a code of a tuple.
 #[derive(Debug, PartialEq, Eq, Drop)]
 pub enum Made {
     Tuple(Values),

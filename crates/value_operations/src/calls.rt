@@ -66,7 +66,7 @@ fn three_arguments(
     }
 }
 
-/// A call with one argument, where that came to a value.
+/// A call with one argument, where that gave a value.
 pub fn call_with_one(call: BuiltIn, first: Result<Held<'_>, Stop>) -> Result<Value, Stop>
     requires { (h : Held) → first ≡ Ok h → FitBuiltIn call (held h ∷ []) }
     ensures { (outcome : Outcome Value) (turns : ℕ) → AnswersHeld outcome first.entry turns
@@ -78,7 +78,7 @@ pub fn call_with_one(call: BuiltIn, first: Result<Held<'_>, Stop>) -> Result<Val
     }
 }
 
-/// A call with two arguments, where the second one came to a value.
+/// A call with two arguments, where the second one gave a value.
 pub fn call_with_two(
     alloc: Global,
     call: BuiltIn,
@@ -107,7 +107,7 @@ fn second_argument(
     two_arguments(alloc, call, first, second.value())
 }
 
-/// A call with three arguments, where the third one came to a value.
+/// A call with three arguments, where the third one gave a value.
 pub fn call_with_three(
     alloc: Global,
     call: BuiltIn,

@@ -107,7 +107,7 @@ fn change_at_key(
     }
 }
 
-/// Lets go of a change that can't be made.
+/// Drops a change that can't be made.
 fn refused<T: Drop>(_: T, stop: Stop) -> Result<(), Stop>
     ensures { result ≡ Err stop }
 {
@@ -162,7 +162,7 @@ fn make(value: &mut Value, change: Change<Value>) -> Result<(), Stop>
     Ok(())
 }
 
-/// Adds an element behind those of a list.
+/// Adds an element after those of a list.
 fn append(list: &mut Value, new: Value) -> Result<(), Stop>
     requires { CanChange [] (H.Append new) list.old }
     ensures { Changes (change_of (H.Append new) (Some list.old)) result list.new }

@@ -81,7 +81,7 @@ pub fn tuple_values(value: Value) -> Values
     }
 }
 
-/// The values of a tuple, where an evaluation came to one.
+/// The values of a tuple, where an evaluation gave one.
 pub fn values_of_tuple(tuple: Result<Value, Stop>) -> Result<Values, Stop>
     requires { (v : Value) → tuple ≡ Ok v → level_tuple (out-Value v) ≡ None → ⊥ }
     ensures { (outcome : Outcome Value) (turns : ℕ) → Answers outcome tuple turns

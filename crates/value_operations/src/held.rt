@@ -10,7 +10,7 @@ use crate::stop::Stop;
 use spl_value::{Evaluated, NoMemory, Pairs, Value, Values, copy_value};
 use std::alloc::Global;
 
-/// A value that an evaluation came to: one of its own, or one that stands in what is evaluated.
+/// The value of an evaluation: one of its own, or one that stands in what is evaluated.
 #[derive(Drop)]
 pub enum Held<'e> {
     Own(Value),
@@ -39,7 +39,7 @@ impl<'e> Held<'e> {
     }
 }
 
-/// What an evaluation answers, by what it came to: a value of its own, or a fault.
+/// What an evaluation answers, by its result: a value of its own, or a fault.
 pub fn evaluated(alloc: Global, answer: Result<Held<'_>, Stop>) -> Evaluated
     ensures { (outcome : Outcome Value) (turns : ℕ) → AnswersHeld outcome answer.entry turns → Evaluates outcome result turns }
 {
@@ -97,7 +97,7 @@ pub fn map_value<'e>(pairs: Result<Pairs, Stop>) -> Result<Held<'e>, Stop>
     }
 }
 
-/// Lets go of what was evaluated, where an evaluation behind it stopped.
+/// Drops what was evaluated, where an evaluation after it stopped.
 pub fn stopped<T: Drop>(_: T, stop: Stop) -> Result<Value, Stop>
     ensures { result ≡ Err stop }
 {

@@ -10,7 +10,7 @@ use crate::stop::Stop;
 use spl_tree::IntegerOperator;
 use spl_value::{FaultKind, IntKind, Value, wrap};
 
-/// What an operator of two integers of a type comes to: the result, wrapped in the type, or a division
+/// The result of an operator of two integers of a type, wrapped in the type, or a division
 /// by zero.
 pub(crate) fn on_integers(
     operator: IntegerOperator,

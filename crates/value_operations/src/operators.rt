@@ -37,7 +37,7 @@ fn in_order(operator: OrderOperator, ordering: Ordering) -> bool
     }
 }
 
-/// What an operator of two values comes to, one that evaluates both.
+/// The result of an operator of two values that evaluates both.
 fn binary_of(
     alloc: Global,
     operator: BinaryCode,
@@ -116,7 +116,7 @@ fn has_key(map: &Value, key: &Value) -> bool
     pairs.contains_key(key)
 }
 
-/// What an operator or a cast in front of a value comes to.
+/// The result of an operator or a cast in front of a value.
 fn unary_of(alloc: Global, operator: UnaryCode, value: &Value) -> Result<Value, Stop>
     requires { FitsUnary operator value.now }
     ensures { Settles (unary_of operator value.now) result }
@@ -188,7 +188,7 @@ pub fn unaries_of<'e>(
     Ok(value)
 }
 
-/// What an operator or a cast in front of a value that is held comes to.
+/// The result of an operator or a cast in front of a value that is held.
 fn applied<'e>(alloc: Global, operator: UnaryCode, value: Held<'e>) -> Result<Held<'e>, Stop>
     requires { FitsUnary operator (held value) }
     ensures { SettlesHeld (unary_of operator (held value.entry)) result }
@@ -196,7 +196,7 @@ fn applied<'e>(alloc: Global, operator: UnaryCode, value: Held<'e>) -> Result<He
     owned(unary_of(alloc, operator, value.value()))
 }
 
-/// What an operator comes to, where its right operand came to a value.
+/// The result of an operator, where its right operand gave a value.
 pub fn operator_with<'e>(
     alloc: Global,
     operator: BinaryCode,

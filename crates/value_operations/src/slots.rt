@@ -1,4 +1,4 @@
-//! What names, markers and fields stand for.
+//! The values of names, markers and fields.
 ghost use Rattle.std.specs.Prelude.{◌≡◌, IsTrue, IfOk, MatchOption, Some, length};
 ghost use Rattle.spl_value.specs.declared.types.SplType.TheVariants as T;
 ghost use Rattle.spl_value.specs.Values.{fits};
@@ -14,7 +14,7 @@ use spl_tree::{Marker, Slot};
 use spl_value::{FaultKind, Reserved, Value, Values, copy_values};
 use std::alloc::{AllocError, Global};
 
-/// The value that a variable or an attribute stands for, where it stands. That of a port stands nowhere.
+/// The value of a variable or an attribute, where it stands. That of a port stands nowhere.
 pub fn standing_value(env: &Env, slot: Slot) -> Option<&Value>
     requires { HasSlot env.now slot }
     ensures { MatchOption result (IsPort slot) (λ v. slot_value env.now slot ≡ Some v.now) }
@@ -29,7 +29,7 @@ pub fn standing_value(env: &Env, slot: Slot) -> Option<&Value>
     }
 }
 
-/// The value that a name stands for. The tuple of a port is a copy.
+/// The value of a name. The tuple of a port is a copy.
 pub fn slot_value(alloc: Global, env: &Env, slot: Slot) -> Result<Held<'_>, Stop>
     requires { HasSlot env.now slot }
     ensures { ReadsHeld (slot_value env.now slot) result }
@@ -89,7 +89,7 @@ pub fn enter(turns: &mut u32) -> Result<(), Stop>
     }
 }
 
-/// So many values, each of which is to be replaced, in the room of a list whose values are let go of.
+/// `count` values, each of which is to be replaced, in the room of a list whose values are dropped.
 pub fn blanks(list: Values, count: usize) -> Result<Values, AllocError>
     ensures { IfOk result (λ values. length values ≡ count) }
 {

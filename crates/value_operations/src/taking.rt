@@ -80,7 +80,7 @@ fn taken_out(mut values: Values, at: usize) -> Option<Value>
     }
 }
 
-/// The element of a list, where its index came to a value.
+/// The element of a list, where its index gave a value.
 pub fn element_at<'e>(list: Held<'e>, index: Result<Held<'e>, Stop>) -> Result<Held<'e>, Stop>
     requires { (h : Held) → index ≡ Ok h → HasElements (held list) (held h) }
     ensures { (outcome : Outcome Value) (turns : ℕ) → AnswersHeld outcome index.entry turns
@@ -92,7 +92,7 @@ pub fn element_at<'e>(list: Held<'e>, index: Result<Held<'e>, Stop>) -> Result<H
     }
 }
 
-/// The value of a map, where its key came to a value.
+/// The value of a map, where its key gave a value.
 pub fn value_at<'e>(map: Held<'e>, key: Result<Held<'e>, Stop>) -> Result<Held<'e>, Stop>
     requires { (h : Held) → key ≡ Ok h → HasKeys (held map) (held h) }
     ensures { (outcome : Outcome Value) (turns : ℕ) → AnswersHeld outcome key.entry turns
@@ -143,7 +143,7 @@ fn step_of<'e>(value: Held<'e>, step: &Taking<Value>) -> Result<Held<'e>, Stop>
     }
 }
 
-/// Takes a step of a value, and adds it behind those that were taken.
+/// Takes a step of a value, and adds it after those that were taken.
 pub fn take_step<'e>(
     value: Held<'e>,
     step: Taking<Value>,

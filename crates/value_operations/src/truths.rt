@@ -14,7 +14,7 @@ use crate::stop::Stop;
 use spl_tree::BinaryCode;
 use spl_value::{Value, Values};
 
-/// Whether a relation holds, where its right operand came to a value.
+/// Whether a relation holds, where its right operand gave a value.
 pub fn related_with(
     operator: BinaryCode,
     left: Held<'_>,

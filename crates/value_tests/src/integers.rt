@@ -21,7 +21,7 @@ fn natural(alloc: Global, digits: &[u8]) -> Result<String, AllocError> {
     optional(alloc, read_natural(digits).map(i128::from))
 }
 
-// The number behind `n=`.
+// The number after `n=`.
 fn added(alloc: Global, number: i128) -> Result<String, NoMemory> {
     let mut text = b"n=".to_vec(alloc)?;
     add_integer(&mut text, number)?;

@@ -87,7 +87,7 @@ fn changed(alloc: Global, items: Items<u32>) -> Result<String, AllocError> {
     text.finish()
 }
 
-// Whether a list of so many items is empty once it is cleared.
+// Whether a list of `count` items is empty once it is cleared.
 fn is_cleared(alloc: Global, count: u32) -> Result<bool, AllocError> {
     let mut items = Items::new(alloc);
     for item in 0..count {

@@ -38,7 +38,7 @@ fn is_hashed_as(alloc: Global, value: &str, bytes: &[u8]) -> Result<String, Allo
     format!(in alloc; "{}", hash == fnv(bytes))
 }
 
-// The hash of bytes, the channel of so many that a text goes to, and whether a value is hashed as
+// The hash of bytes, the channel that a text goes to, of a number of them, and whether a value is hashed as
 // bytes.
 struct Hashes;
 

@@ -77,7 +77,7 @@ fn removed(alloc: Global, key: &Value, pairs: Pairs) -> Result<String, NoMemory>
     Ok(text.finish()?)
 }
 
-// What a call on a key and pairs comes to.
+// The result of a call on a key and pairs.
 fn called(alloc: Global, call: &str, key: Value, words: &str) -> Result<String, NoMemory> {
     let pairs = pairs_of(alloc, words)?;
     match call {

@@ -1,9 +1,9 @@
-//! Words of rows, and the values that they stand for.
+//! Words of rows, and their values.
 use spl_value::{Items, Value, Values};
 use std::alloc::{AllocError, Global};
 use test_texts::words::cut;
 
-/// The number that a word spells; what spells none stands for 0.
+/// The number that a word spells; what spells none is 0.
 pub(crate) fn number(word: &str) -> i128 {
     word.parse::<i128>().unwrap_or(0)
 }

@@ -48,7 +48,7 @@ module _ (a : ℕ) (limit new : ℤ) where
   goes_on t xs ys zs is goes before =
       (λ rises. tail_rises t ys (subst (Rises a) is (before.0 rises)), before.1 ∙ ap (filter (is_left a limit new)) is ∙ front_goes t ys goes)
 
-  -- ---- one after the other goes behind the others, or away
+  ---- one after the other is moved to the end, or dropped
 
   abbrev pub Passing : ℕ → List (List Value) → List (List Value) → Type 0
   Passing i xs now = now ≡ drop i xs ++ filter (is_left a limit new) (take i xs)

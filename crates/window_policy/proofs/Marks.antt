@@ -57,7 +57,7 @@ pub flushes_all : (rule : WindowRule) → rule ≡ W.TumblingPunct → (h : List
 flushes_all rule is h es f up found =
     subst (λ r. ((q : List Value) → At r (f q) (tuples_with q (relevant r h))) → map taken es ≡ flushed_behind r h) (sym is) (flushes_parts h es f up found)
 
--- nothing counts behind a marker, where markers flush
+-- nothing counts after a marker, where markers flush
 pub nothing_counts : (rule : WindowRule) → rule ≡ W.TumblingPunct → (k : List Value) (h : List WindowEvent) → tuples_with k (relevant rule (Mark ∷ h)) ≡ []
 nothing_counts rule is k h = ap (λ r. tuples_with k (relevant r (Mark ∷ h))) is
 

@@ -62,7 +62,7 @@ module _ (t : List Value) (ts : List (List Value)) where
       ≡ filter (λ u. not (exceeds a limit t u)) (held (W.SlidingDelta a limit every) us) ++ t ∷ [])
       (own_tuples ts) (sliding_delta_insert a limit every [] t (map (Insert []) ts)).0
 
-  -- what an added tuple comes to
+  -- the effect of an added tuple
   abbrev pub Added : WindowRule → Part → Part → Fired → Type 0
   Added rule p q f = Keeps rule p ts → Keeps rule q (t ∷ ts) × (firing_of f (held rule (t ∷ ts)) ≡ fires_behind rule t ts)
 

@@ -1,4 +1,4 @@
--- What is kept of each key behind an insertion, and which keys are known.
+-- What is kept of each key after an insertion, and which keys are known.
 use Rattle.std.proofs.Common.{◌≡◌, ◌<◌, Bool, true, false, cond, not, ◌||◌, List, [], ◌∷◌, length, Option, Some, None, is_some, refl, sym, ap, subst, ◌∙◌, true≢false, arith}
 use Rattle.std.specs.HashMap.{HashMap, get}
 use Rattle.spl_value.specs.declared.value.Value.{Value}
@@ -55,7 +55,7 @@ at_key : (rule : WindowRule) (b : Bool) (o m : Option Part) (t : List Value) (ts
 at_key rule true o m t ts new old = new refl
 at_key rule false o m t ts new old = old
 
--- each key stands behind an insertion that changes what is kept of one
+-- what is kept of each key is right after an insertion that changes what is kept of one
 pub inserted : {S : Type 0} (rule : WindowRule) (m n : HashMap (List Value) Part S) (key t : List Value) (part : Part) (h : List WindowEvent)
     → ((q : List Value) → get equal_key n q ≡ cond (equal_key key q) (Some part) (get equal_key m q))
     → ((k : List Value) → At rule (get equal_key m k) (tuples_with k (relevant rule h))) → Keeps rule part (t ∷ tuples_with key (relevant rule h))

@@ -17,7 +17,7 @@ IsAllowed W.TumblingPunct = Unit {0}
 IsAllowed (W.SlidingCount n every) = ForSome every (λ m. 0 < m)
 IsAllowed (W.SlidingDelta a limit every) = ForSome every (λ m. 0 < m)
 
--- what an insertion answers, where the content behind it is that
+-- what an insertion answers, where the content after it is that
 abbrev pub firing_of : Fired → List (List Value) → Firing
 firing_of No held = Silent
 firing_of (Whole tuples) held = Flushes tuples

@@ -1,4 +1,4 @@
-//! Windows of so many tuples, and triggers.
+//! Windows of a number of tuples, and triggers.
 ghost use Rattle.std.specs.Prelude.{◌≡◌, ◌∷◌, [], ◌++◌, ◌==◌, suc, length, IfOk, if◌then◌else◌};
 ghost use Rattle.stream_model.specs.Windows.{flush_if, trigger_if};
 ghost use Rattle.window_policy.specs.Answers.{firing_of};
@@ -29,7 +29,7 @@ pub fn fill(
     }
 }
 
-/// Counts one more tuple for a trigger, which fires after every so many. A window without one never fires.
+/// Counts one more tuple for a trigger, which fires once every `every` tuples. A window without one never fires.
 pub fn count_tuple(since: &mut u64, every: Option<u64>) -> Fired
     ensures { (n stays : _) → CountsTo every since.old n
         → CountsTo every since.new (suc n) × (firing_of result stays ≡ trigger_if every (suc n) stays) }

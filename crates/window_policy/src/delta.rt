@@ -64,7 +64,7 @@ pub fn tumble(
     }
 }
 
-/// Moves the first tuple behind the others, unless the new integer exceeds its attribute by more than the
+/// Moves the first tuple to the end, unless the new integer exceeds its attribute by more than the
 /// limit: then it is evicted.
 fn pass_first(kept: &mut HeapCircularBuffer<Values>, attr: u32, limit: i128, new: i128)
     ensures items { kept.new.items ≡ passed attr limit new kept.old.items }
@@ -135,7 +135,7 @@ fn rises_to(kept: &HeapCircularBuffer<Values>, attr: u32, new: i128) -> bool
 }
 
 /// Evicts every tuple that the new integer exceeds by more than the limit. Where the attribute is known to
-/// rise, only what goes is looked at, and one more. Answers whether it is known to rise in what is left.
+/// rise, only what is evicted is looked at, and one more. Answers whether it is known to rise in what is left.
 fn make_way(
     kept: &mut HeapCircularBuffer<Values>,
     rises: bool,
@@ -155,7 +155,7 @@ fn make_way(
     }
 }
 
-/// A sliding window takes one more tuple, and every one goes that it exceeds by more than the limit.
+/// A sliding window takes one more tuple, and evicts every one that it exceeds by more than the limit.
 /// `rises` says that the attribute is known to rise.
 pub fn slide(
     kept: &mut HeapCircularBuffer<Values>,

@@ -78,7 +78,7 @@ impl Window {
         })
     }
 
-    /// Inserts a tuple under its key, which is empty where the window isn't partitioned. After want of memory
+    /// Inserts a tuple under its key, which is empty where the window isn't partitioned. After a lack of memory
     /// nothing is said of the window.
     pub fn insert(&mut self, key: Values, tuple: Values) -> Result<Fired, NoMemory>
         ensures fires { IfOk result (λ f. (rule h : _) → Stands rule self.old h

@@ -39,7 +39,7 @@ fn contents(alloc: Global, pairs: Vec<(Values, Part)>) -> Result<Flushed, NoMemo
 
 impl Window {
     /// Takes a window marker. Where markers flush, each content that isn't empty leaves the window, and they
-    /// are the answer, by ascending key. After want of memory nothing is said of the window.
+    /// are the answer, by ascending key. After a lack of memory nothing is said of the window.
     pub fn mark(&mut self) -> Result<Flushed, NoMemory>
         ensures flushed { IfOk result (λ f. (rule h : _) → Stands rule self.old h → map entry_of f ≡ flushed_behind rule h) }
         ensures stands { IfOk result (λ _. (rule h : _) → Stands rule self.old h → Stands rule self.new (Mark ∷ h)) }

@@ -24,7 +24,7 @@ fn make_room(ring: &mut HeapCircularBuffer<Values>, most: usize) -> Result<(), N
     Ok(())
 }
 
-/// Adds a tuple behind the others.
+/// Adds a tuple after the others.
 pub fn push(ring: &mut HeapCircularBuffer<Values>, tuple: Values) -> Result<(), NoMemory>
     ensures { IfOk result (λ _. ring.new.items ≡ ring.old.items ++ tuple ∷ []) }
 {
@@ -33,7 +33,7 @@ pub fn push(ring: &mut HeapCircularBuffer<Values>, tuple: Values) -> Result<(), 
     Ok(())
 }
 
-/// Adds a tuple behind the others, of which at most `keep` are kept: the oldest goes where they are so many.
+/// Adds a tuple after the others, of which at most `keep` are kept: where there are as many, the oldest is dropped.
 pub fn shift(
     ring: &mut HeapCircularBuffer<Values>,
     keep: u64,

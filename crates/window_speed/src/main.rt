@@ -3,7 +3,7 @@
 //! Usage: `window_speed KIND SIZE KEYS`. 1,000,000 tuples of two numbers come under KEYS keys in turn, or
 //! under the empty key where KEYS is 0. KIND is
 //!
-//! - `none`: the tuples and keys are made and let go of;
+//! - `none`: the tuples and keys are made and dropped;
 //! - `count`: they come into a sliding window of SIZE tuples;
 //! - `tumbling`: into a tumbling one of SIZE tuples;
 //! - `rising`: into a sliding delta of SIZE, with an attribute that rises by one from tuple to tuple;
@@ -87,7 +87,7 @@ fn insert_one(
     Ok(())
 }
 
-// A marker behind every so many tuples, where `marks` isn't 0.
+// A marker after each `marks` tuples, where that isn't 0.
 fn mark(window: &mut Window, number: u64, marks: u64) -> Result<(), NoMemory> {
     if marks > 0 && number % marks == marks - 1 {
         let _ = window.mark()?;

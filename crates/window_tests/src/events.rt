@@ -103,7 +103,7 @@ fn answers(alloc: Global, rule: &str, events: &str) -> Result<Text, NoMemory> {
     Ok(text)
 }
 
-/// The answers of a window, whose rule stands in front of ` | ` and what comes behind it.
+/// The answers of a window, whose rule stands in front of ` | ` and what comes after it.
 pub(crate) struct Windows;
 
 impl Answers for Windows {

@@ -69,7 +69,7 @@ fn filled(alloc: Global, rule: &str, tuples: u64) -> Result<Text, NoMemory> {
     Ok(text)
 }
 
-/// What becomes of so many tuples in a window, whose rule stands in front of ` | `.
+/// What becomes of a number of tuples in a window, whose rule stands in front of ` | `.
 pub(crate) struct Tuples;
 
 impl Answers for Tuples {
@@ -93,7 +93,7 @@ fn are_ascending(flushed: &Flushed) -> bool {
     true
 }
 
-// A tuple under each of so many keys, in another order.
+// A tuple under each of `keys` keys, in another order.
 fn insert_keys(alloc: Global, window: &mut Window, keys: u64) -> Result<(), NoMemory> {
     for number in 0..keys {
         let key = number.wrapping_mul(7919).checked_rem(keys).unwrap_or(0);
@@ -127,7 +127,7 @@ fn add_keys(
     add_marks(alloc, text, window)
 }
 
-// So many keys, and then two markers.
+// `keys` keys, and then two markers.
 fn flushed(alloc: Global, keys: u64) -> Result<Text, NoMemory> {
     let mut text = Text::new(alloc);
     if let Some(mut window) = window_of(alloc, "tumbling punct", true)? {
@@ -136,7 +136,7 @@ fn flushed(alloc: Global, keys: u64) -> Result<Text, NoMemory> {
     Ok(text)
 }
 
-/// What markers flush of so many keys.
+/// What markers flush of a number of keys.
 pub(crate) struct Keys;
 
 impl Answers for Keys {

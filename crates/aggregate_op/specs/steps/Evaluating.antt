@@ -6,12 +6,12 @@ use Rattle.value_operations.specs.declared.stop.Stop.{Stop}
 use Rattle.value_operations.specs.Answers.{StopsAs}
 use Rattle.aggregate_op.specs.Arguments.{blank}
 
--- the values to which the outcome comes
+-- the values of the outcome
 abbrev pub EvaluatesTo : Outcome (List (Option Value)) → Result (List Value) Stop → Type 0
 EvaluatesTo outcome (Ok values) = (args : List (Option Value)) × (turns : ℕ) × (outcome ≡ Done args turns) × (values ≡ map blank args)
 EvaluatesTo outcome (Err stop) = StopsAs outcome stop
 
--- a tuple with these values behind its own
+-- a tuple with these values after its own
 abbrev pub ExtendsAs : Outcome (List (Option Value)) → List Value → Result (List Value) Stop → Type 0
 ExtendsAs outcome t (Ok us) = (args : List (Option Value)) × (turns : ℕ) × (outcome ≡ Done args turns) × (us ≡ t ++ map blank args)
 ExtendsAs outcome t (Err stop) = StopsAs outcome stop

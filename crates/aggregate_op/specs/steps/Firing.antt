@@ -1,4 +1,4 @@
--- What an Aggregate asks and makes of what comes into its window, where tuples have the values of their arguments behind them.
+-- What an Aggregate asks and makes of what comes into its window, where tuples have the values of their arguments after them.
 use Rattle.std.specs.Prelude.{◌≡◌, ⊤, ℕ, List, [], ◌∷◌, ◌++◌, Option, Some}
 use Rattle.spl_value.specs.declared.item.Item.{Item}
 use Rattle.spl_value.specs.declared.item.Item.TheVariants as I
@@ -32,7 +32,7 @@ abbrev pub EventGives : Clauses → Window → WindowEvent → Type 0
 EventGives clauses w e =
     (rule : WindowRule) × (h : List WindowEvent) × (given : List Output) × Stands rule w h × (contents_given clauses (fired_contents rule e h) ≡ Some given)
 
--- those of a tuple do, where its arguments come to values
+-- those of a tuple do, where its arguments have values
 abbrev pub TupleGives : Clauses → Window → List Value → Type 0
 TupleGives clauses w t = (args : List (Option Value)) (turns : ℕ)
     → arguments clauses.at.checked.now.functions clauses.output.now (at_tuple t) most_turns ≡ Done args turns → EventGives clauses w (tuple_event clauses t)
@@ -59,7 +59,7 @@ MayCome clauses w I.Window = EventGives clauses w Mark
 MayCome clauses w I.Final = ⊤
 MayCome clauses w (I.Bad f) = ⊤
 
--- what is in the window behind an item
+-- what is in the window after an item
 abbrev pub behind : Clauses → Item → List WindowEvent → List WindowEvent
 behind clauses (I.Tuple t) h = tuple_event clauses t ∷ h
 behind clauses I.Window h = Mark ∷ h

@@ -1,4 +1,4 @@
--- What an Aggregate gives for contents whose tuples have the values of their arguments behind them.
+-- What an Aggregate gives for contents whose tuples have the values of their arguments after them.
 use Rattle.std.specs.Prelude.{◌≡◌, List, [], ◌∷◌, ◌++◌, Option, Some}
 use Rattle.std.specs.Option.{option_and_then, option_map}
 use Rattle.spl_value.specs.declared.item.Item.TheVariants as I
@@ -29,6 +29,6 @@ abbrev pub contents_given : Clauses → List (List (List Value)) → Option (Lis
 contents_given clauses [] = Some []
 contents_given clauses (us ∷ contents) = option_and_then (λ outs. option_map (λ more. outs ++ more) (contents_given clauses contents)) (content_given clauses us)
 
--- what is given is put behind the others
+-- what is given is added after the others
 abbrev pub AreGiven : Option (List Output) → List Output → List Output → Type 0
 AreGiven given old new = (outs : List Output) → given ≡ Some outs → new ≡ old ++ outs

@@ -100,7 +100,7 @@ fn given_fired(
     }
 }
 
-/// Inserts a tuple that has the values of its arguments behind it, and answers what it fires with gives.
+/// Inserts a tuple that has the values of its arguments after it, and answers what it fires with gives.
 fn fire(
     alloc: Global,
     clauses: &Clauses<'_>,

@@ -1,4 +1,4 @@
-//! Chains of all operators behind the first one: for each attribute of the last output the place of the attribute
+//! Chains of all operators after the first one: for each attribute of the last output the place of the attribute
 //! of the stream that the chain reads that it is a copy of.
 
 pub(crate) const ROWS: &str = r#"

@@ -1,4 +1,4 @@
--- The parts of a text, and what is left behind them.
+-- The parts of a text, and what is left after them.
 use Prim.Native.Nat.{suc}
 use Rattle.std.specs.Prelude.{◌≡◌, ◌<◌, ◌+◌, ℕ, List, [], ◌∷◌, ◌++◌, map, drop, Some, None, if◌then◌else◌}
 use Rattle.std.specs.Fmt.{decimal}

@@ -41,7 +41,7 @@ is_unseen A.Failed = false
 
 -- ---- submits
 
--- those of one statement, and those of the rows behind conditions
+-- those of one statement, and those of the rows after conditions
 abbrev pub statement_submits : Statement → List (Code Slot)
 statement_submits = fold-Statement (List (Code Slot)) level_submits
 

@@ -1,4 +1,4 @@
-//! What names of types stand for, and types that don't fit.
+//! What names of types mean, and types that don't fit.
 
 pub(crate) const ROWS: &str = r#"
 # A name of a type has a meaning.

@@ -32,7 +32,7 @@ MayRunOn functions handlers vars port I.Window = MayRun functions (handler handl
 MayRunOn functions handlers vars port I.Final = MayRun functions (handler handlers.on_punct port) (marker_env vars M.Final)
 MayRunOn functions handlers vars port (I.Bad f) = ⊤
 
--- it left these variables in an environment that is else as it was, and submitted this, or it came to a fault
+-- it left these variables in an environment that is otherwise as it was, and submitted this, or it had a fault
 abbrev pub HandledAs : Outcome Left → Handled → Env → Env → Type 0
 HandledAs outcome (H.Done submits) old new =
     (left : Left) × (turns : ℕ) × (outcome ≡ Done left turns) × (submits ≡ left.submits) × (new ≡ record { inputs = old.inputs; vars = left.vars; punct = old.punct })

@@ -23,7 +23,7 @@ use spl_value::{Item, Items, NoMemory, Values};
 use std::alloc::Global;
 use stream_model::{Reply, fits_law};
 
-/// What a run came to, as the operator replies it.
+/// The result of a run, as the operator replies it.
 fn replied(alloc: Global, at: &CheckedOperator<'_>, handled: Handled) -> Reply
     ensures { RepliesAs at.now.number (length at.now.op.now.outs) handled result }
 {

@@ -13,7 +13,7 @@ use spl_tree::{Body, Functions, Marker};
 use spl_value::{FaultKind, Items, Values};
 use std::alloc::Global;
 
-/// What the run of a body came to.
+/// The result of the run of a body.
 #[derive(Drop)]
 pub(crate) enum Handled {
     /// What it submitted.

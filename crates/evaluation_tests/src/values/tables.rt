@@ -1,4 +1,4 @@
-//! The unit in which expressions have values, and what they come to.
+//! The unit in which expressions have values, and their results.
 
 mod comparisons;
 mod integers;
@@ -55,7 +55,7 @@ void ports() {
 }
 "#;
 
-/// What expressions come to where a tuple came.
+/// The results of expressions where a tuple came.
 pub(super) const VALUES: [&str; 3] = [integers::ROWS, comparisons::ROWS, parts::ROWS];
 
 pub(super) const WINDOW: &str = r#"
@@ -88,7 +88,7 @@ currentPunct() == Sys.WindowMarker ? 1 / zero : 2 => 2
 [currentPunct() != Sys.WindowMarker] => [true]
 "#;
 
-/// Conditions, each with the tuples that came and what it comes to there.
+/// Conditions, each with the tuples that came and its results there.
 pub(super) const CONDITIONS: &[(&str, &str)] = &[
     ("100l / price > 1l", QUOTIENTS),
     ("(int8)price < (int8)0", CASTS),

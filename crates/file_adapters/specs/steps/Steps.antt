@@ -1,4 +1,4 @@
--- What the steps of writing sinks come to: the files created, their rows written, and the files finished.
+-- The results of the steps of writing sinks: the files created, their rows written, and the files finished.
 use Rattle.std.specs.Prelude.{◌≡◌, ◌≢◌, ◌<◌, ◌≤◌, ◌⊎◌, ℕ, List, [], ◌++◌, length, take, Bool, true, false, Option, Some, None, Result, Ok, Err, ⊤, slice_get}
 use Rattle.std.specs.List.{All, Any, list_any, slice_index_or}
 use Rattle.std.specs.Str.{bytes_eq}
@@ -57,7 +57,7 @@ pub record CreateCounted (r : Result (Unit {0}) PourAnswer) (place : ℕ) (sinks
 
 -- ---- writing
 
--- a text was poured; where it failed or memory was wanting, a front of it
+-- a text was poured; where it failed or memory ran out, a front of it
 abbrev pub RowsPoured : {A : Type 0} → Option (List ℕ) → Option (List ℕ) → Result A PourAnswer → List ℕ → Type 0
 RowsPoured None now r text = ⊤
 RowsPoured (Some old) now (Ok n) text = now ≡ Some (old ++ text)
@@ -67,7 +67,7 @@ RowsPoured (Some old) now (Err e) text = (n : ℕ) × (n ≤ length text) × (no
 abbrev pub FrontPoured : List ℕ → Option (List ℕ) → List ℕ → Type 0
 FrontPoured old now text = (n : ℕ) × (n ≤ length text) × (now ≡ Some (old ++ take n text))
 
--- a text was poured, or a front of it where the pour counts faults, or where memory was wanting
+-- a text was poured, or a front of it where the pour counts faults, or where memory ran out
 abbrev pub TextPoured : {A : Type 0} → Result A NoMemory → Option (List ℕ) → Option (List ℕ) → ℕ → List ℕ → Type 0
 TextPoured r None now faults text = ⊤
 TextPoured (Ok a) (Some old) now faults text = (now ≡ Some (old ++ text)) ⊎ ((0 < faults) × FrontPoured old now text)
@@ -78,11 +78,11 @@ abbrev pub EachPoured : {W A : Type 0} → (W → Option (List ℕ)) → (W → 
 EachPoured {W} poured faults r olds news sinks streams = (k : ℕ) (d : W) (s : Sink) → k < length sinks →
     TextPoured r (poured (slice_index_or olds k d)) (poured (slice_index_or news k d)) (faults (slice_index_or news k d)) (sink_text streams (slice_index_or sinks k s))
 
--- so many rows were counted, unless the pour counts faults
+-- this number of rows was counted, unless the pour counts faults
 abbrev pub CountedUnless : ℕ → ℕ → ℕ → Type 0
 CountedUnless faults n rows = (n ≡ rows) ⊎ (0 < faults)
 
--- so many of each sink, unless some pour counts faults
+-- these numbers of each sink, unless some pour counts faults
 abbrev pub AllCounted : {W : Type 0} → (W → ℕ) → List W → List ℕ → List ℕ → Type 0
 AllCounted faults pours ns rows = (ns ≡ rows) ⊎ Any (λ p. 0 < faults p) pours
 
@@ -145,7 +145,7 @@ not_created P.Memory place = S.Memory
 
 -- ---- the text after the sinks
 
--- how the writing of so many sinks may end whose files were created
+-- how the writing of `count` sinks may end whose files were created
 abbrev pub IsFilled : Sunk → ℕ → Type 0
 IsFilled (S.Done ns) count = ⊤
 IsFilled (S.NotCreated place) count = ⊥
@@ -172,7 +172,7 @@ text_sunk (S.NotCreated at) r failed place = S.NotCreated at
 text_sunk (S.NotWritten at) r failed place = S.NotWritten at
 text_sunk S.Memory r failed place = S.Memory
 
--- what came of the sinks stays, unless the text failed after them
+-- what became of the sinks stays, unless the text failed after them
 abbrev pub EndsText : Sunk → Sunk → ℕ → Type 0
 EndsText (S.Done ns) (S.Done ms) place = ms ≡ ns
 EndsText (S.Done ns) (S.NotWritten at) place = at ≡ place
@@ -185,7 +185,7 @@ abbrev pub IsDone : Sunk → Type 0
 IsDone (S.Done ns) = ⊤
 IsDone _ = ⊥
 
--- what the text's file holds, by what came of the sinks and of all
+-- what the text's file holds, by what became of the sinks and of all
 abbrev pub LastLeft : Sunk → Sunk → ℕ → List ℕ → Option (List ℕ) → Type 0
 LastLeft sunk (S.Done ns) place text holds = holds ≡ Some text
 LastLeft sunk (S.NotCreated at) place text holds = ⊤
@@ -198,7 +198,7 @@ pub record LastFinished (sunk r : Sunk) (place : ℕ) (last : TextFile) (old : T
   pub others : TellsOthers old new last.file
   pub holds : LastLeft sunk r place last.text (new.holds last.file)
 
--- its finishing failed, where that came of all
+-- its finishing failed, where that is the result of all
 abbrev pub LastCause : Sunk → Sunk → List ℕ → PerName → PerName → Type 0
 LastCause (S.Done ns) (S.Done ms) name old new = (n : List ℕ) → new n ≡ old n
 LastCause (S.Done ns) (S.NotWritten at) name old new = Rose (old name).writing (new name).writing

@@ -33,8 +33,8 @@ void ports() {
 }
 "#;
 
-/// Variables and attributes have names that stand for something else too: `L` and `R` for ports, `now` and
-/// `size` for calls.
+/// Variables and attributes have names that mean something else too: `L` and `R` are ports, `now` and
+/// `size` calls.
 pub(crate) const HIDING: &str = r#"
 int32 inc(int32 n) { return n; }
 rstring pad(rstring s, int64 n) { return s; }

@@ -41,7 +41,7 @@ chain = record {
   parts = A.FileSource (codes "in") true ∷ A.Filter (Some divides) ∷ A.Filter None ∷ A.FileSink (codes "some") ∷ A.FileSink (codes "all") ∷ [];
 }
 
--- the operators that it stands for
+-- its operators
 abbrev pub chain_graph : Graph
 chain_graph = record {
   ops = record { number = 0; clauses = A.FileSource (codes "in") true; functions = []; types = record { ins = []; outs = numbers ∷ [] }; ins = []; outs = 0 ∷ [] }

@@ -12,7 +12,7 @@ use Rattle.list_engine.specs.Runs.{rows_at}
 abbrev pub fault_at : List (Option Fault) → ℕ → Option Fault
 fault_at faults n = unwrap_or (slice_get faults n) None
 
--- that of a stream that nobody reads
+-- that of a stream that nothing reads
 abbrev pub unread_fault : Graph → List (List Item) → ℕ → Option Fault
 unread_fault g streams s = if is_read g.ops s then None else stream_fault (rows_at streams s)
 

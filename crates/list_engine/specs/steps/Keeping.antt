@@ -13,7 +13,7 @@ abbrev pub kept_ports : List ℕ → ℕ
 kept_ports [] = 1
 kept_ports (s ∷ outs) = length (s ∷ outs)
 
--- an operator with these outputs and so many inputs has given nothing
+-- an operator with these outputs and this number of inputs has given nothing
 pub record GivesNothing (outs : List ℕ) (inputs : ℕ) (given : Given) : Type 0 where
   pub lists : given.outs ≡ replicate (kept_ports outs) []
   pub entries : given.inputs ≡ (if nat_lt 1 inputs then Some [] else None)

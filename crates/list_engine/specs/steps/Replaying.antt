@@ -37,7 +37,7 @@ pub record Replayed (task : Task) (lists : Lists) (entries : List ℕ) (given : 
   pub ends : EndsBy task.op done fault
   pub gave : HasGiven task done given
 
--- an operator stopped for want of memory, or since its record, that of this number, fails so
+-- an operator stopped for lack of memory, or since its record, that of this number, fails so
 abbrev pub Stops : ℕ → Type 0 → RunAnswer → Type 0
 Stops n Fails Memory = Unit {0}
 Stops n Fails (NotWhole k) = (k ≡ n) × Fails

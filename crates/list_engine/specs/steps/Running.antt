@@ -38,7 +38,7 @@ pub record AreLeft {S : Type 0} (spec : S → Operator) (stands : S → List Eve
   pub others : (n : ℕ) (o : Operator) → Contains rest n → slice_get g.ops n ≡ Some o → is_source o.clauses ≡ false
       → (s : S) × (slice_get operators n ≡ Some (Some s)) × (spec s ≡ o) × stands s []
 
--- ---- what they came to
+---- their results
 
 -- nobody reads the stream, or one of the operators that are still to be run does
 abbrev pub stays : Graph → List ℕ → ℕ → Bool

@@ -5,7 +5,7 @@ use Rattle.stream_model.specs.declared.reply.Reply.{Reply}
 use Rattle.stream_model.specs.declared.reply.Reply.TheVariants as R
 use Rattle.stream_model.specs.Bodies.{on_each}
 
--- behind what is given comes a final marker on each of so many output ports; a fault stays
+-- after what is given comes a final marker on each of `ports` output ports; a fault stays
 abbrev pub EndsAs : ℕ → Reply → Reply → Type 0
 EndsAs ports (R.Out outs) (R.Out given) = ⊥
 EndsAs ports (R.Out outs) (R.Ended given fault) = (given ≡ outs ++ on_each ports I.Final) × (fault ≡ None)

@@ -20,7 +20,7 @@ use spl_value::{Item, NoMemory};
 use std::alloc::Global;
 use stream_model::{React, Reply, fits_law, ports_law};
 
-/// Adds a final marker on each of so many output ports.
+/// Adds a final marker on each of `ports` output ports.
 fn add_ends(outs: &mut Outs, ports: usize) -> Result<(), NoMemory>
     requires { ports ≤ 16 }
     ensures { IfOk result (λ _. outs.new ≡ outs.old ++ on_each ports I.Final) }
@@ -34,7 +34,7 @@ fn add_ends(outs: &mut Outs, ports: usize) -> Result<(), NoMemory>
     Ok(())
 }
 
-/// The end of an operator, behind what the end of its last port caused.
+/// The end of an operator, after what the end of its last port caused.
 fn ended(ports: usize, reply: Reply) -> Reply
     requires { ports ≤ 16 }
     ensures { EndsAs ports reply result }
@@ -88,7 +88,7 @@ impl<'c> React for Operator<'c> {
 }
 
 impl<'c> Operator<'c> {
-    /// The operator with this number. There is one, of any kind but FileSource and Aggregate, which aren't
+    /// The operator with this number. There is one, of any kind but FileSource, which isn't
     /// here.
     pub fn new(alloc: Global, checked: &'c Checked, op: u32) -> Result<Operator<'c>, NoMemory>
         requires there { op < length checked.now.graph.ops }

@@ -80,7 +80,7 @@ fn pop_seen<B: Asks, W: Wait>(queue: &Line, rt: &W, pass: &mut LinkPass) -> Opti
 
 impl Link {
     /// Puts the packet at the back. `Full` comes only where at one step of this call the link held its
-    /// capacity. `Worn` comes exactly where so many packets were sent that the link carries no more, or all
+    /// capacity. `Worn` comes exactly where as many packets were sent as the link carries, or all
     /// but one and the packet is neither `Close` nor `Cut`.
     pub fn try_put<W: Wait>(&self, rt: &W, pass: &mut SendPass, packet: Packet) -> Result<(), Put>
         requires { IsSenderOf self.now pass.old }

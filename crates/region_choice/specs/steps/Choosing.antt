@@ -1,7 +1,7 @@
 -- How regions are chosen, over what that asks of a graph: each operator in topological order joins the region that takes it, or begins one.
 use Rattle.std.specs.Prelude.{ℕ, ◌&&◌, Bool, false, if◌then◌else◌, List, [], ◌∷◌, ◌++◌}
 
--- The operators in topological order. `eligible` says which may stand in regions, `links` which may stand right behind another one, and `safe`
+-- The operators in topological order. `eligible` says which may stand in regions, `links` which may directly follow another one, and `safe`
 -- which chains have a key, or need none
 pub record Chains : Type 0 where
   pub topo : List ℕ
@@ -13,7 +13,7 @@ abbrev pub last_of : ℕ → List ℕ → ℕ
 last_of a [] = a
 last_of a (b ∷ rest) = last_of b rest
 
--- the operator may stand behind the last one of the region, which stays safe with it
+-- the operator may follow the last one of the region, which stays safe with it
 abbrev pub takes : Chains → List ℕ → ℕ → Bool
 takes c [] x = false
 takes c (a ∷ rest) x = c.links (last_of a rest) x && c.safe (a ∷ rest ++ x ∷ [])

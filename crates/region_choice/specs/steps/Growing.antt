@@ -34,7 +34,7 @@ key_source g ops p = record { place = p; source = traced g ops p }
 abbrev pub key_with : Growing → List KeySource → List ℕ → List ℕ
 key_with growing sources entries = filter (is_copied sources) (if growing.keyed then growing.key else entries)
 
--- the first of these operators, or else the one behind them
+-- the first of these operators, or else the one after them
 abbrev pub first_of : ℕ → List ℕ → ℕ
 first_of n [] = n
 first_of n (m ∷ ns) = m

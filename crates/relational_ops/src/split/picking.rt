@@ -18,7 +18,7 @@ use spl_value::{Evaluated, FaultKind, Item, Value, Values};
 use std::alloc::Global;
 use stream_model::Reply;
 
-/// What an index comes to for a tuple.
+/// The result of an index for a tuple.
 #[derive(Drop)]
 pub(crate) enum Picked {
     /// The index, and the tuple.
@@ -38,7 +38,7 @@ pub(crate) fn integer_of(value: &Value) -> i128
     }
 }
 
-/// The index of a tuple, which comes back. The environment is idle before and behind.
+/// The index of a tuple, which comes back. The environment is idle before and after.
 pub(crate) fn pick(
     alloc: Global,
     functions: &Functions,
@@ -66,7 +66,7 @@ pub(crate) fn pick(
     }
 }
 
-/// An item on the one of so many output ports that an index picks: none where the index is negative.
+/// An item on the one of `ports` output ports that an index picks: none where the index is negative.
 pub(crate) fn given_picked(alloc: Global, ports: usize, index: i128, item: Item) -> Reply
     requires some { 0 < ports }
     requires few { ports ≤ 16 }

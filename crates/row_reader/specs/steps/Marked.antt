@@ -14,7 +14,7 @@ use Rattle.row_reader.specs.declared.marked.LineGives.TheVariants as G
 abbrev pub begins_marked : List ℕ → Bool
 begins_marked line = nat_le 3 (length line) && is_bom (slice_index line 0) (slice_index line 1) (slice_index line 2)
 
--- the first record of a text, and what stands behind it
+-- the first record of a text, and what comes after it
 abbrev pub first_record : List ℕ → Option Read
 first_record text = next_record default_config st.StartRecord [] [] text
 
@@ -48,7 +48,7 @@ pub record IsMisfit (t : SplType) (text : List ℕ) (at : ℕ) : Type 0 where
   pub ends : FieldEnds text at field end
   pub value : field_value t field ≡ None
 
--- its value stands behind the others
+-- its value stands after the others
 pub record IsFit (t : SplType) (text : List ℕ) (at : ℕ) (old new : List Value) (end : ℕ) : Type 0 where
   pub field : List ℕ
   pub v : Value

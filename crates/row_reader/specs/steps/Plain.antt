@@ -15,7 +15,7 @@ may_be_marked (b ∷ bs) = b == 239
 abbrev pub is_stop_or_mark : ℕ → Bool
 is_stop_or_mark b = (b == 44) || is_mark b
 
--- the first field has so many bytes: a comma stands behind it, or nothing
+-- the first field has `end` bytes: a comma comes after it, or nothing
 pub record IsCut (line : List ℕ) (end : ℕ) : Type 0 where
   pub within : end ≤ length line
   pub free : list_any is_stop_or_mark (take end line) ≡ false

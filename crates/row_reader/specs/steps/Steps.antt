@@ -51,7 +51,7 @@ failed_step (Err e) = false
 
 -- ---- the parts of a step
 
--- the line that is ended i bytes further on was read, so many bytes of it were held, and what stands behind it is left
+-- the line that is ended i bytes further on was read, n bytes of it were held, and what comes after it is left
 pub record IsBehind (r r2 : Rows) (n i : ℕ) : Type 0 where
   pub setting : setting_of r2 ≡ setting_of r
   pub stage : r2.stage ≡ r.stage
@@ -71,7 +71,7 @@ pub record IsKept (r r2 : Rows) : Type 0 where
   pub carry : r2.carry.items ≡ r.carry.items ++ take (r.filled - r.at) (drop r.at r.piece.items)
   pub filled : r2.filled ≡ 0
 
--- a read placed so many bytes in the piece
+-- a read placed n bytes in the piece
 pub record IsRead (r r2 : Rows) (n : ℕ) : Type 0 where
   pub setting : setting_of r2 ≡ setting_of r
   pub stage : r2.stage ≡ r.stage

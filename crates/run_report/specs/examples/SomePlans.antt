@@ -38,7 +38,7 @@ row = graph_with
     (0 ∷ 1 ∷ 2 ∷ 3 ∷ [])
     (numbers (codes "a" ∷ codes "b" ∷ codes "v" ∷ []) ∷ numbers (codes "k" ∷ codes "v" ∷ []) ∷ numbers (codes "k" ∷ []) ∷ [])
 
--- a source that two Filters read, behind the first of which stand a Functor and an Aggregate; both ways end in sinks
+-- a source that two Filters read; a Functor and an Aggregate follow the first; both ways end in sinks
 abbrev pub two_ways : CheckedGraph
 two_ways = graph_with
     (op_of (codes "In") O.FileSource [] (0 ∷ [])

@@ -1,4 +1,4 @@
--- What the steps of reading sources come to: one file, and one operator.
+-- The results of the steps of reading sources: one file, and one operator.
 use Rattle.std.specs.Prelude.{◌≡◌, ◌⊎◌, ◌^◌, ⊤, ℕ, Bool, true, List, [], ◌∷◌, Option, IfSome}
 use Rattle.std.specs.List.{All, list_any}
 use Rattle.spl_value.specs.Script.{Script}
@@ -74,6 +74,6 @@ SourceCounted (O.Rows items) part old new = OnlyReads (source_files (part ∷ []
 SourceCounted (O.OpenFailed name) part old new = (source_files (part ∷ []) ≡ name ∷ []) × FirstOpening name old new
 SourceCounted O.Memory part old new = OnlyOf (source_files (part ∷ [])) old new
 
--- it couldn't be opened, or memory was wanting for its name
+-- it couldn't be opened, or memory ran out for its name
 abbrev pub IsNotOpened : OneSource → List ℕ → Type 0
 IsNotOpened result file = (result ≡ O.OpenFailed file) ⊎ (result ≡ O.Memory)

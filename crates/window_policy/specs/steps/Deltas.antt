@@ -7,7 +7,7 @@ use Rattle.stream_model.specs.Windows.{integer_at}
 abbrev pub is_left : ℕ → ℤ → ℤ → List Value → Bool
 is_left a limit new t = not (int_lt limit (new -ℤ integer_at a t))
 
--- the first tuple goes behind the others, or away
+-- the first tuple is moved to the end, or dropped
 abbrev pub passed : ℕ → ℤ → ℤ → List (List Value) → List (List Value)
 passed a limit new [] = []
 passed a limit new (t ∷ ts) = if is_left a limit new t then ts ++ t ∷ [] else ts

@@ -62,7 +62,7 @@ returns-in-NotWhole-clause-reason g c = subst (λ (k : Cause). ReasonOf k c.args
 pub returns-in-NotWhole-clause-ran : goal.returns-in-NotWhole-clause-ran
 returns-in-NotWhole-clause-ran g c = bad_ran c.bad_arrivals.result.ended.cause (Some c.in-NotWhole.op) _ _ c.bad_arrivals.result.ended _ _ c.bad_arrivals.ensures.cause c.bad_arrivals.ensures.ran
 
--- ---- memory was wanting
+-- ---- memory ran out
 
 pub returns-in-Memory-clause-files : goal.returns-in-Memory-clause-files
 returns-in-Memory-clause-files g c =
