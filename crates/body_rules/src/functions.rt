@@ -13,7 +13,9 @@ ghost use Rattle.language_model.specs.Finds.{Finds};
 use crate::bodies::{
     BodyPurpose, BodySetting, add_variable, body_of, drop_variables, ends_with_result,
 };
-use language_model::{CheckError, CheckRefusal, Scope, Signature, TypeAnswer, Unresolved};
+use language_model::{
+    CheckError, CheckRefusal, Scope, Signature, Signatures, TypeAnswer, Unresolved,
+};
 use spl_tree::{
     Body, Definition, Function, FunctionDefinition, Functions, Placed, Stmt, TypeExpr, Unit,
 };
@@ -77,11 +79,12 @@ fn add_function(
     match types_of(alloc, types, function) {
         Ok(found) => {
             let parameters = kinds(alloc, found.parameters)?;
-            scope.functions.push(Signature {
+            let signature = Signature {
                 name,
                 parameters,
                 result: found.result,
-            })?;
+            };
+            scope.functions.push(alloc, signature)?;
         }
         Err(TypeAnswer::Refused(refusal)) => {
             scope.unresolved.push(Unresolved { name, refusal })?;
@@ -98,7 +101,7 @@ fn with_functions(alloc: Global, types: &TypeScope, unit: &[Definition]) -> Resu
     let mut scope = Scope {
         vars: Items::new(alloc),
         ports: Items::new(alloc),
-        functions: Items::new(alloc),
+        functions: Signatures::new(alloc),
         unresolved: Items::new(alloc),
         dollars: Items::new(alloc),
         punct: false,

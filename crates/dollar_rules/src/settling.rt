@@ -9,7 +9,7 @@ ghost use Rattle.dollar_rules.specs.steps.Settling.{IsSettled, Settles, given_of
 ghost use Rattle.written_types.specs.TypeScopes.{types_in};
 
 use crate::heads::Head;
-use language_model::{Dollar, Scope, dollars_law};
+use language_model::{Dollar, Scope, Signatures, dollars_law};
 use spl_value::{Items, NoMemory};
 use std::alloc::Global;
 use written_types::narrow;
@@ -24,7 +24,7 @@ pub(crate) fn no_names(alloc: Global) -> Scope
     Scope {
         vars: Items::new(alloc),
         ports: Items::new(alloc),
-        functions: Items::new(alloc),
+        functions: Signatures::new(alloc),
         unresolved: Items::new(alloc),
         dollars: Items::new(alloc),
         punct: false,

@@ -1,3 +1,4 @@
+mod Placing
 pub mod KindLaws
 pub mod ExpansionAnswers
 pub mod FoundAnswers

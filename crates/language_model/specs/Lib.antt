@@ -1,3 +1,4 @@
+pub mod steps
 pub mod Kinds
 pub mod Scopes
 pub mod Typing

@@ -16,6 +16,7 @@ mod laws;
 mod named;
 mod outs;
 mod scope;
+mod signatures;
 
 pub use answer::{
     TypeAnswer, mismatch, narrow, refuse, refused, refused_name, unknown, wrong_call,
@@ -50,3 +51,4 @@ pub use outs::{Output, Outs};
 pub use scope::{
     CheckError, CheckRefusal, Dollar, Port, Scope, Signature, Typed, Unresolved, Variable,
 };
+pub use signatures::Signatures;

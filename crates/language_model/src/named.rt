@@ -6,7 +6,7 @@ ghost use Rattle.language_model.specs.Finds.{Points};
 ghost use Rattle.language_model.specs.Scopes.{attribute_of, dollar_of, first_from, function_of, unresolved_of, variable_of};
 
 use crate::scope::{CheckRefusal, Dollar, Port, Scope, Signature, Typed, Variable};
-use spl_value::Attribute;
+use spl_value::{Attribute, Name};
 
 /// The last variable of the name, with its place.
 pub fn variable_named<'s>(scope: &'s Scope, name: &[u8]) -> Option<(usize, &'s Variable)>
@@ -49,15 +49,10 @@ pub fn port_named<'s>(ports: &'s [Port], name: &[u8]) -> Option<(usize, &'s Port
 }
 
 /// The function of the name, with its place.
-pub fn function_named<'s>(scope: &'s Scope, name: &[u8]) -> Option<(usize, &'s Signature)>
+pub fn function_named<'s>(scope: &'s Scope, name: &Name) -> Option<(usize, &'s Signature)>
     ensures { Points (function_of scope.now name.now) result }
 {
-    for (at, function) in scope.functions.as_slice().iter().enumerate() {
-        if function.name.as_slice() == name {
-            return Some((at, function));
-        }
-    }
-    None
+    scope.functions.named(name)
 }
 
 /// The refusal of the types of the function of the name, which isn't among the scope's own.

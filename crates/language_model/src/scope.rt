@@ -1,3 +1,4 @@
+use crate::signatures::Signatures;
 use spl_tree::{Code, Slot};
 use spl_value::{Boxed, Items, Name, Schema, SplType};
 
@@ -48,7 +49,7 @@ pub struct Dollar {
 pub struct Scope {
     pub vars: Items<Variable>,
     pub ports: Items<Port>,
-    pub functions: Items<Signature>,
+    pub functions: Signatures,
     /// Functions that aren't among those.
     pub unresolved: Items<Unresolved>,
     pub dollars: Items<Dollar>,

@@ -10,7 +10,7 @@ ghost use Rattle.language_model.specs.Finds.{Finds};
 
 use crate::state_values::is_state_value;
 use language_model::{
-    CheckError, Dollar, Scope, StateVariable, TypeAnswer, Typed, Variable, refuse,
+    CheckError, Dollar, Scope, Signatures, StateVariable, TypeAnswer, Typed, Variable, refuse,
 };
 use spl_tree::{Code, Declaration, Expr, Slot};
 use spl_value::{Items, NoMemory, SplType, copy_type, default_of};
@@ -33,7 +33,7 @@ fn constant_scope(alloc: Global, dollars: Items<Dollar>) -> Scope
     Scope {
         vars: Items::new(alloc),
         ports: Items::new(alloc),
-        functions: Items::new(alloc),
+        functions: Signatures::new(alloc),
         unresolved: Items::new(alloc),
         dollars,
         punct: false,

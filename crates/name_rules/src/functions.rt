@@ -12,7 +12,7 @@ use language_model::{
     narrow, unknown, unresolved_named, wrong_call,
 };
 use spl_tree::{Code, Expr, Slot};
-use spl_value::{Boxed, SplType};
+use spl_value::{Boxed, Items, SplType};
 use std::alloc::Global;
 
 /// A call of what no function of the scope has as its name: the refusal of the types of one that isn't
@@ -36,7 +36,8 @@ pub fn called<'s>(
 ) -> Result<(usize, &'s Signature), TypeAnswer>
     ensures { FindsBy (λ p. at_place p.0 p.1.now) (function_found at scope.now name.now (parts all.now) (function_of scope.now name.now)) result }
 {
-    let Some((place, found)) = function_named(scope, name) else {
+    let copy = Items::from_slice(alloc, name)?;
+    let Some((place, found)) = function_named(scope, &copy) else {
         return not_callable(alloc, scope, at, name);
     };
     if all.len() != found.parameters.len() {

@@ -1,0 +1,2 @@
+-- Words of contracts within the crate.
+pub mod Signatures
