@@ -1,0 +1,4 @@
+mod Rules
+mod Texts
+mod Alone
+mod FilterChecked

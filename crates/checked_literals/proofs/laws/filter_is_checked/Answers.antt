@@ -1,0 +1,8 @@
+use Rattle.checked_literals.proofs.FilterChecked.{filter_is_checked, filter_is_flat}
+use Rattle.checked_literals.proofs.laws.filter_is_checked.Goals as goal
+
+pub returns-clause-flat : goal.returns-clause-flat
+returns-clause-flat c = filter_is_flat
+
+pub returns-clause-checked : goal.returns-clause-checked
+returns-clause-checked c = filter_is_checked
