@@ -2,3 +2,4 @@ mod Rules
 mod Texts
 mod Alone
 mod FilterChecked
+mod CustomChecked

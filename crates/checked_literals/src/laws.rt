@@ -2,10 +2,18 @@
 ghost use Rattle.std.specs.Prelude.{◌≡◌, [], Ok};
 ghost use Rattle.language_model.specs.Checking.{checked};
 ghost use Rattle.language_model.specs.Flat.{IsFlat};
+ghost use Rattle.checked_literals.specs.examples.Counted.{counted, counted_graph, counted_checked};
 ghost use Rattle.checked_literals.specs.examples.Filtered.{filtered, filtered_graph, filtered_checked};
 
 /// A source, a filter and a sink: the graph, and the types and the clauses of each operator.
 pub fn filter_is_checked()
     ensures flat { IsFlat filtered [] (Ok filtered_graph) }
     ensures checked { checked filtered filtered_graph ≡ Ok filtered_checked }
+{}
+
+/// A Custom whose handler changes two variables of its state, declares one, and submits a tuple whose
+/// fields don't stand in the order of the attributes.
+pub fn custom_is_checked()
+    ensures flat { IsFlat counted [] (Ok counted_graph) }
+    ensures checked { checked counted counted_graph ≡ Ok counted_checked }
 {}

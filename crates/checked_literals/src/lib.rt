@@ -3,4 +3,4 @@
 
 mod laws;
 
-pub use laws::filter_is_checked;
+pub use laws::{custom_is_checked, filter_is_checked};
