@@ -3,3 +3,4 @@ mod Texts
 mod Alone
 mod FilterChecked
 mod CustomChecked
+mod AggregateChecked

@@ -1,3 +1,4 @@
 pub mod Shapes
 pub mod Filtered
 pub mod Counted
+pub mod Summed

@@ -4,6 +4,7 @@ ghost use Rattle.language_model.specs.Checking.{checked};
 ghost use Rattle.language_model.specs.Flat.{IsFlat};
 ghost use Rattle.checked_literals.specs.examples.Counted.{counted, counted_graph, counted_checked};
 ghost use Rattle.checked_literals.specs.examples.Filtered.{filtered, filtered_graph, filtered_checked};
+ghost use Rattle.checked_literals.specs.examples.Summed.{summed, summed_graph, summed_checked};
 
 /// A source, a filter and a sink: the graph, and the types and the clauses of each operator.
 pub fn filter_is_checked()
@@ -16,4 +17,11 @@ pub fn filter_is_checked()
 pub fn custom_is_checked()
     ensures flat { IsFlat counted [] (Ok counted_graph) }
     ensures checked { checked counted counted_graph ≡ Ok counted_checked }
+{}
+
+/// An Aggregate over a window for each value of an attribute, with groups by two others. Attributes of
+/// the output are assigned in another order than theirs, and two of them aren't.
+pub fn aggregate_is_checked()
+    ensures flat { IsFlat summed [] (Ok summed_graph) }
+    ensures checked { checked summed summed_graph ≡ Ok summed_checked }
 {}

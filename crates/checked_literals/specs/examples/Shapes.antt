@@ -3,6 +3,7 @@ use Rattle.std.specs.Prelude.{ℕ, List, [], ◌∷◌, Some, None, codes}
 use Rattle.spl_value.specs.declared.types.IntKind.{IntKind}
 use Rattle.spl_value.specs.declared.types.IntKind.TheVariants as N
 use Rattle.spl_tree.specs.declared.expression.ExprKind.TheVariants as E
+use Rattle.spl_tree.specs.declared.expression.Field.{Field}
 use Rattle.spl_tree.specs.declared.shape.Attribute.{Attribute}
 use Rattle.spl_tree.specs.declared.shape.ShapeKind.TheVariants as H
 use Rattle.spl_tree.specs.declared.shape.TypeKind.TheVariants as Y
@@ -11,6 +12,7 @@ use Rattle.spl_tree.specs.declared.unit.InputPort.{InputPort}
 use Rattle.spl_tree.specs.declared.unit.Invocation.{Invocation}
 use Rattle.spl_tree.specs.declared.unit.OutputStream.{OutputStream}
 use Rattle.spl_tree.specs.declared.unit.Parameter.{Parameter}
+use Rattle.spl_tree.specs.declared.unit.WindowPart.{WindowPart}
 use Rattle.spl_tree.specs.Grammar.{Expr, placed}
 use Rattle.spl_tree.specs.TypeGrammar.{TypeExpr}
 use Rattle.language_model.specs.examples.FlatGraphs.{name_at, port_of_names}
@@ -22,6 +24,12 @@ int64_at at = placed at (Y.Int N.I64)
 
 abbrev pub rstring_at : ℕ → TypeExpr
 rstring_at at = placed at Y.Rstring
+
+abbrev pub int32_at : ℕ → TypeExpr
+int32_at at = placed at (Y.Int N.I32)
+
+abbrev pub boolean_at : ℕ → TypeExpr
+boolean_at at = placed at Y.Boolean
 
 -- an attribute of a type, with its name
 abbrev pub attribute_at : TypeExpr → ℕ → List ℕ → Attribute TypeExpr
@@ -44,6 +52,20 @@ number_at at kind value = placed at (E.Number (record { kind = kind; value = val
 
 abbrev pub word_at : ℕ → List ℕ → Expr
 word_at at word = placed at (E.Name word)
+
+-- name = value
+abbrev pub field_at : ℕ → List ℕ → Expr → Field Expr
+field_at at name value = record { name = name_at at name; value = value }
+
+abbrev pub call_at : ℕ → List ℕ → List Expr → Expr
+call_at at name arguments = placed at (E.Call name arguments)
+
+-- a word of a window, alone and with an argument
+abbrev pub window_word_at : ℕ → List ℕ → WindowPart
+window_word_at at name = record { name = name_at at name; arguments = None }
+
+abbrev pub window_at : ℕ → List ℕ → Expr → WindowPart
+window_at at name argument = record { name = name_at at name; arguments = Some (argument ∷ []) }
 
 -- a parameter with one value
 abbrev pub parameter_at : ℕ → List ℕ → Expr → Parameter
