@@ -4,3 +4,4 @@ mod Alone
 mod FilterChecked
 mod CustomChecked
 mod AggregateChecked
+mod JoinChecked

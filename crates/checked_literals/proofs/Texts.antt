@@ -19,7 +19,10 @@ ascii bytes h = is_utf8-from_IsUtf8 bytes (IsUtf8-from_ascii bytes (each_ascii b
 pub t_is_text : is_utf8 (codes "t.csv") ≡ true
 t_is_text = ascii (codes "t.csv") refl
 
+pub u_is_text : is_utf8 (codes "u.csv") ≡ true
+u_is_text = ascii (codes "u.csv") refl
+
 pub o_is_text : is_utf8 (codes "o.csv") ≡ true
 o_is_text = ascii (codes "o.csv") refl
 
-pub ruleset text_laws = (t_is_text, o_is_text)
+pub ruleset text_laws = (t_is_text, u_is_text, o_is_text)

@@ -2,3 +2,4 @@ pub mod Shapes
 pub mod Filtered
 pub mod Counted
 pub mod Summed
+pub mod Joined

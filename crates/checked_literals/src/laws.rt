@@ -4,6 +4,7 @@ ghost use Rattle.language_model.specs.Checking.{checked};
 ghost use Rattle.language_model.specs.Flat.{IsFlat};
 ghost use Rattle.checked_literals.specs.examples.Counted.{counted, counted_graph, counted_checked};
 ghost use Rattle.checked_literals.specs.examples.Filtered.{filtered, filtered_graph, filtered_checked};
+ghost use Rattle.checked_literals.specs.examples.Joined.{joined, joined_graph, joined_checked};
 ghost use Rattle.checked_literals.specs.examples.Summed.{summed, summed_graph, summed_checked};
 
 /// A source, a filter and a sink: the graph, and the types and the clauses of each operator.
@@ -24,4 +25,11 @@ pub fn custom_is_checked()
 pub fn aggregate_is_checked()
     ensures flat { IsFlat summed [] (Ok summed_graph) }
     ensures checked { checked summed summed_graph ≡ Ok summed_checked }
+{}
+
+/// A Join whose windows don't stand in the order of its ports. Attributes of the output are taken from
+/// both ports. The operators don't stand in the order in which they read each other.
+pub fn join_is_checked()
+    ensures flat { IsFlat joined [] (Ok joined_graph) }
+    ensures checked { checked joined joined_graph ≡ Ok joined_checked }
 {}

@@ -3,4 +3,4 @@
 
 mod laws;
 
-pub use laws::{aggregate_is_checked, custom_is_checked, filter_is_checked};
+pub use laws::{aggregate_is_checked, custom_is_checked, filter_is_checked, join_is_checked};

@@ -4,6 +4,7 @@ use Rattle.spl_value.specs.declared.types.IntKind.{IntKind}
 use Rattle.spl_value.specs.declared.types.IntKind.TheVariants as N
 use Rattle.spl_tree.specs.declared.expression.ExprKind.TheVariants as E
 use Rattle.spl_tree.specs.declared.expression.Field.{Field}
+use Rattle.spl_tree.specs.declared.expression.Step.TheVariants as T
 use Rattle.spl_tree.specs.declared.shape.Attribute.{Attribute}
 use Rattle.spl_tree.specs.declared.shape.ShapeKind.TheVariants as H
 use Rattle.spl_tree.specs.declared.shape.TypeKind.TheVariants as Y
@@ -60,12 +61,16 @@ field_at at name value = record { name = name_at at name; value = value }
 abbrev pub call_at : ℕ → List ℕ → List Expr → Expr
 call_at at name arguments = placed at (E.Call name arguments)
 
--- a word of a window, alone and with an argument
+-- name.member
+abbrev pub member_at : ℕ → List ℕ → ℕ → List ℕ → Expr
+member_at at name member_place member = placed at (E.Select (word_at at name) (T.Member (name_at member_place member) ∷ []))
+
+-- a word of a window, alone and with arguments
 abbrev pub window_word_at : ℕ → List ℕ → WindowPart
 window_word_at at name = record { name = name_at at name; arguments = None }
 
-abbrev pub window_at : ℕ → List ℕ → Expr → WindowPart
-window_at at name argument = record { name = name_at at name; arguments = Some (argument ∷ []) }
+abbrev pub window_at : ℕ → List ℕ → List Expr → WindowPart
+window_at at name arguments = record { name = name_at at name; arguments = Some arguments }
 
 -- a parameter with one value
 abbrev pub parameter_at : ℕ → List ℕ → Expr → Parameter

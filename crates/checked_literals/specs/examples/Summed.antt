@@ -50,8 +50,8 @@ window = record {
   port = name_at 241 (codes "T");
   parts =
       window_word_at 244 (codes "sliding")
-      ∷ window_at 253 (codes "count") (number_at 259 N.I32 2)
-      ∷ window_at 263 (codes "count") (number_at 269 N.I32 1)
+      ∷ window_at 253 (codes "count") (number_at 259 N.I32 2 ∷ [])
+      ∷ window_at 263 (codes "count") (number_at 269 N.I32 1 ∷ [])
       ∷ window_word_at 273 (codes "partitioned") ∷ [];
 }
 
