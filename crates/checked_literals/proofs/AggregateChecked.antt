@@ -9,7 +9,7 @@ use Rattle.language_model.specs.Flat.{IsFlat, flat_from}
 use Rattle.language_model.specs.Scopes.{At}
 use Rattle.language_model.specs.examples.FlatGraphs.{only_composite}
 use Rattle.checked_literals.specs.examples.Summed.{summed, summed_graph, summed_checked}
-use Rattle.checked_literals.proofs.Alone.{alone}
+use Rattle.checked_literals.proofs.Falling.{not_recursive}
 use Rattle.checked_literals.proofs.Rules.{computing}
 use Rattle.checked_literals.proofs.Texts.{text_laws}
 
@@ -23,7 +23,7 @@ expands : flat_from summed [] main ≡ Ok summed_graph
 expands = simp computing
 
 pub aggregate_is_flat : IsFlat summed [] (Ok summed_graph)
-aggregate_is_flat = subst (IsFlat summed []) expands (F.expands main none_twice (refl, refl) (alone summed refl refl))
+aggregate_is_flat = subst (IsFlat summed []) expands (F.expands main none_twice (refl, refl) (not_recursive summed refl refl))
 
 pub aggregate_is_checked : checked summed summed_graph ≡ Ok summed_checked
 aggregate_is_checked = simp (computing, text_laws)

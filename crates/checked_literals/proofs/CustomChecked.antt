@@ -9,7 +9,7 @@ use Rattle.language_model.specs.Flat.{IsFlat, flat_from}
 use Rattle.language_model.specs.Scopes.{At}
 use Rattle.language_model.specs.examples.FlatGraphs.{only_composite}
 use Rattle.checked_literals.specs.examples.Counted.{counted, counted_graph, counted_checked}
-use Rattle.checked_literals.proofs.Alone.{alone}
+use Rattle.checked_literals.proofs.Falling.{not_recursive}
 use Rattle.checked_literals.proofs.Rules.{computing}
 use Rattle.checked_literals.proofs.Texts.{text_laws}
 
@@ -23,7 +23,7 @@ expands : flat_from counted [] main ≡ Ok counted_graph
 expands = simp computing
 
 pub custom_is_flat : IsFlat counted [] (Ok counted_graph)
-custom_is_flat = subst (IsFlat counted []) expands (F.expands main none_twice (refl, refl) (alone counted refl refl))
+custom_is_flat = subst (IsFlat counted []) expands (F.expands main none_twice (refl, refl) (not_recursive counted refl refl))
 
 pub custom_is_checked : checked counted counted_graph ≡ Ok counted_checked
 custom_is_checked = simp (computing, text_laws)

@@ -9,7 +9,7 @@ use Rattle.language_model.specs.Flat.{IsFlat, flat_from}
 use Rattle.language_model.specs.Scopes.{At}
 use Rattle.language_model.specs.examples.FlatGraphs.{only_composite}
 use Rattle.checked_literals.specs.examples.Filtered.{filtered, filtered_graph, filtered_checked}
-use Rattle.checked_literals.proofs.Alone.{alone}
+use Rattle.checked_literals.proofs.Falling.{not_recursive}
 use Rattle.checked_literals.proofs.Rules.{computing}
 use Rattle.checked_literals.proofs.Texts.{text_laws}
 
@@ -23,7 +23,7 @@ expands : flat_from filtered [] main ≡ Ok filtered_graph
 expands = simp computing
 
 pub filter_is_flat : IsFlat filtered [] (Ok filtered_graph)
-filter_is_flat = subst (IsFlat filtered []) expands (F.expands main none_twice (refl, refl) (alone filtered refl refl))
+filter_is_flat = subst (IsFlat filtered []) expands (F.expands main none_twice (refl, refl) (not_recursive filtered refl refl))
 
 pub filter_is_checked : checked filtered filtered_graph ≡ Ok filtered_checked
 filter_is_checked = simp (computing, text_laws)

@@ -1,7 +1,8 @@
 mod Rules
 mod Texts
-mod Alone
+mod Falling
 mod FilterChecked
 mod CustomChecked
 mod AggregateChecked
 mod JoinChecked
+mod CompositeChecked

@@ -3,3 +3,4 @@ pub mod Filtered
 pub mod Counted
 pub mod Summed
 pub mod Joined
+pub mod Composed

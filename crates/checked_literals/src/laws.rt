@@ -2,6 +2,7 @@
 ghost use Rattle.std.specs.Prelude.{◌≡◌, [], Ok};
 ghost use Rattle.language_model.specs.Checking.{checked};
 ghost use Rattle.language_model.specs.Flat.{IsFlat};
+ghost use Rattle.checked_literals.specs.examples.Composed.{composed, composed_graph, composed_checked};
 ghost use Rattle.checked_literals.specs.examples.Counted.{counted, counted_graph, counted_checked};
 ghost use Rattle.checked_literals.specs.examples.Filtered.{filtered, filtered_graph, filtered_checked};
 ghost use Rattle.checked_literals.specs.examples.Joined.{joined, joined_graph, joined_checked};
@@ -32,4 +33,11 @@ pub fn aggregate_is_checked()
 pub fn join_is_checked()
     ensures flat { IsFlat joined [] (Ok joined_graph) }
     ensures checked { checked joined joined_graph ≡ Ok joined_checked }
+{}
+
+/// A composite with `$` parameters that is invoked twice. Types are given by the names of a type and of
+/// streams, and an attribute of an output has the value of a function.
+pub fn composite_is_checked()
+    ensures flat { IsFlat composed [] (Ok composed_graph) }
+    ensures checked { checked composed composed_graph ≡ Ok composed_checked }
 {}

@@ -3,4 +3,7 @@
 
 mod laws;
 
-pub use laws::{aggregate_is_checked, custom_is_checked, filter_is_checked, join_is_checked};
+pub use laws::{
+    aggregate_is_checked, composite_is_checked, custom_is_checked, filter_is_checked,
+    join_is_checked,
+};

@@ -42,6 +42,10 @@ attribute_at kind at name = record { kind = kind; name = name_at at name }
 abbrev pub output_of : ℕ → List (Attribute TypeExpr) → ℕ → List ℕ → OutputStream
 output_of shape attributes at name = record { shape = placed shape (H.Attributes attributes); name = name_at at name }
 
+-- a stream whose type is a name
+abbrev pub output_of_name : ℕ → List ℕ → ℕ → List ℕ → OutputStream
+output_of_name shape type_name at name = record { shape = placed shape (H.Type (placed shape (Y.Name type_name))); name = name_at at name }
+
 -- a port that takes one stream
 abbrev pub port_at : ℕ → List ℕ → InputPort
 port_at at name = port_of_names (name_at at name ∷ [])
