@@ -6,3 +6,4 @@ mod CustomChecked
 mod AggregateChecked
 mod JoinChecked
 mod CompositeChecked
+mod PortsChecked

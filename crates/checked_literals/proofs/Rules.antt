@@ -24,7 +24,7 @@ use Rattle.language_model.proofs.TypingLaws.{form_laws, typing_laws}
 
 pub ruleset value_type_laws = (S.outs-Int, S.outs-Bool, S.outs-Text, S.outs-List, S.outs-Map, S.outs-Tuple)
 
-pub ruleset expression_laws = (E.outs-Name, E.outs-Dollar, E.outs-Number, E.outs-Text, E.outs-Bool, E.outs-Group, E.outs-Tuple, E.outs-Call, E.outs-Select, E.outs-Unary, E.outs-Binary)
+pub ruleset expression_laws = (E.outs-Name, E.outs-Dollar, E.outs-Number, E.outs-Text, E.outs-Bool, E.outs-Group, E.outs-List, E.outs-Map, E.outs-Tuple, E.outs-Call, E.outs-Select, E.outs-Unary, E.outs-Binary, E.outs-Conditional)
 
 pub ruleset written_type_laws = (Y.outs-Boolean, Y.outs-Rstring, Y.outs-Int, Y.outs-Name, Y.outs-List, Y.outs-Map, Y.outs-Tuple)
 

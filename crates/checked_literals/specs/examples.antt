@@ -4,3 +4,4 @@ pub mod Counted
 pub mod Summed
 pub mod Joined
 pub mod Composed
+pub mod Parted

@@ -6,6 +6,7 @@ ghost use Rattle.checked_literals.specs.examples.Composed.{composed, composed_gr
 ghost use Rattle.checked_literals.specs.examples.Counted.{counted, counted_graph, counted_checked};
 ghost use Rattle.checked_literals.specs.examples.Filtered.{filtered, filtered_graph, filtered_checked};
 ghost use Rattle.checked_literals.specs.examples.Joined.{joined, joined_graph, joined_checked};
+ghost use Rattle.checked_literals.specs.examples.Parted.{parted, parted_graph, parted_checked};
 ghost use Rattle.checked_literals.specs.examples.Summed.{summed, summed_graph, summed_checked};
 
 /// A source, a filter and a sink: the graph, and the types and the clauses of each operator.
@@ -40,4 +41,11 @@ pub fn join_is_checked()
 pub fn composite_is_checked()
     ensures flat { IsFlat composed [] (Ok composed_graph) }
     ensures checked { checked composed composed_graph ≡ Ok composed_checked }
+{}
+
+/// A Punctor, a Split, a Union and a Custom of two ports, whose handlers see their own port alone, and in
+/// which a local variable has the name of one of the state, and one of the state that of an attribute.
+pub fn ports_are_checked()
+    ensures flat { IsFlat parted [] (Ok parted_graph) }
+    ensures checked { checked parted parted_graph ≡ Ok parted_checked }
 {}
