@@ -7,3 +7,4 @@ mod AggregateChecked
 mod JoinChecked
 mod CompositeChecked
 mod PortsChecked
+mod Refusals

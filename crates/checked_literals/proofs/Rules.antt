@@ -28,7 +28,7 @@ pub ruleset expression_laws = (E.outs-Name, E.outs-Dollar, E.outs-Number, E.outs
 
 pub ruleset written_type_laws = (Y.outs-Boolean, Y.outs-Rstring, Y.outs-Int, Y.outs-Name, Y.outs-List, Y.outs-Map, Y.outs-Tuple)
 
-pub ruleset statement_laws = (M.outs-Block, M.outs-Declare, M.outs-Assign, M.outs-Call, M.outs-If, M.outs-Return, M.outs-Submit)
+pub ruleset statement_laws = (M.outs-Block, M.outs-Declare, M.outs-Assign, M.outs-Call, M.outs-If, M.outs-While, M.outs-For, M.outs-Break, M.outs-Continue, M.outs-Return, M.outs-Submit)
 
 pub ruleset code_laws = (C.outs-Literal, C.outs-Name, C.outs-Unary, C.outs-Binary)
 

@@ -5,3 +5,4 @@ pub mod Summed
 pub mod Joined
 pub mod Composed
 pub mod Parted
+pub mod Refused

@@ -1,5 +1,7 @@
 //! What programs are once they are expanded and checked.
-ghost use Rattle.std.specs.Prelude.{◌≡◌, [], Ok};
+ghost use Rattle.std.specs.Prelude.{◌≡◌, [], ◌∷◌, Some, None, Ok, codes};
+ghost use Rattle.spl_tree.specs.declared.graph.OpKind.TheVariants as O;
+ghost use Rattle.language_model.specs.declared.scope.CheckError.TheVariants as E;
 ghost use Rattle.language_model.specs.Checking.{checked};
 ghost use Rattle.language_model.specs.Flat.{IsFlat};
 ghost use Rattle.checked_literals.specs.examples.Composed.{composed, composed_graph, composed_checked};
@@ -7,6 +9,7 @@ ghost use Rattle.checked_literals.specs.examples.Counted.{counted, counted_graph
 ghost use Rattle.checked_literals.specs.examples.Filtered.{filtered, filtered_graph, filtered_checked};
 ghost use Rattle.checked_literals.specs.examples.Joined.{joined, joined_graph, joined_checked};
 ghost use Rattle.checked_literals.specs.examples.Parted.{parted, parted_graph, parted_checked};
+ghost use Rattle.checked_literals.specs.examples.Refused.{IsRefused, graph_of, graph_with, refusal, sink_first, sink_first_graph, with_function, with_middle, another_type, another_width, break_alone, constant_changed, list_row, no_attribute, no_port, no_position, no_value, no_window, other_config, other_logic, other_state, other_window, two_inputs, unknown_name, unknown_parameter};
 ghost use Rattle.checked_literals.specs.examples.Summed.{summed, summed_graph, summed_checked};
 
 /// A source, a filter and a sink: the graph, and the types and the clauses of each operator.
@@ -48,4 +51,29 @@ pub fn composite_is_checked()
 pub fn ports_are_checked()
     ensures flat { IsFlat parted [] (Ok parted_graph) }
     ensures checked { checked parted parted_graph ≡ Ok parted_checked }
+{}
+
+/// Programs that are refused: the first program with another operator in the middle, each by the rule
+/// that its clause is named for. Of several refusals the first counts: that of a function, and then
+/// those of operators in the order of the text.
+pub fn programs_are_refused()
+    ensures ports { IsRefused (with_middle two_inputs) (graph_of O.Filter ((0 ∷ []) ∷ (0 ∷ []) ∷ [])) (refusal E.PortCount 108 None) }
+    ensures types { IsRefused (with_middle another_type) (graph_with O.Filter) (refusal E.Mismatch 115 None) }
+    ensures rows { IsRefused (with_middle list_row) (graph_with O.Custom) (refusal E.NoTextForm 177 None) }
+    ensures unknown { IsRefused (with_middle unknown_name) (graph_with O.Filter) (refusal E.Unknown 158 (Some (codes "cost"))) }
+    ensures width { IsRefused (with_middle another_width) (graph_with O.Filter) (refusal E.Mismatch 166 None) }
+    ensures parameter { IsRefused (with_middle unknown_parameter) (graph_with O.Filter) (refusal E.ExtraParameter 150 (Some (codes "index"))) }
+    ensures missing { IsRefused (with_middle no_position) (graph_with O.Punctor) (refusal E.MissingParameter 108 (Some (codes "position"))) }
+    ensures window { IsRefused (with_middle no_window) (graph_with O.Aggregate) (refusal E.BadWindow 108 None) }
+    ensures config { IsRefused (with_middle other_config) (graph_with O.Filter) (refusal E.LeftOut 190 (Some (codes "host"))) }
+    ensures extra_window { IsRefused (with_middle other_window) (graph_with O.Filter) (refusal E.ExtraParameter 144 (Some (codes "window"))) }
+    ensures value { IsRefused (with_middle no_value) (graph_with O.Functor) (refusal E.BadOutput 108 None) }
+    ensures attribute { IsRefused (with_middle no_attribute) (graph_with O.Functor) (refusal E.BadOutput 155 None) }
+    ensures logic { IsRefused (with_middle other_logic) (graph_with O.Filter) (refusal E.LeftOut 144 (Some (codes "logic"))) }
+    ensures state { IsRefused (with_middle other_state) (graph_with O.Custom) (refusal E.LeftOut 167 (Some (codes "state"))) }
+    ensures mutable { IsRefused (with_middle constant_changed) (graph_with O.Custom) (refusal E.NotMutable 184 None) }
+    ensures statement { IsRefused (with_middle break_alone) (graph_with O.Custom) (refusal E.WrongCall 163 None) }
+    ensures submit { IsRefused (with_middle no_port) (graph_with O.Custom) (refusal E.Unknown 187 (Some (codes "C"))) }
+    ensures function { IsRefused (with_function unknown_name) (graph_with O.Filter) (refusal E.NoReturn 306 (Some (codes "f"))) }
+    ensures in_text { IsRefused (sink_first unknown_name) sink_first_graph (refusal E.MissingParameter 177 (Some (codes "file"))) }
 {}
