@@ -20,7 +20,7 @@ no_digit_behind [] r none = none
 no_digit_behind (x ∷ xs) r none = blank_first ((decimal x ++ inputs_text xs) ++ r)
 
 -- a number in front of others, and what comes after them
-one_before : (x : ℕ) (xs r : List ℕ) → inputs_text (x ∷ xs) ++ r ≡ 32 ∷ (decimal x ++ (inputs_text xs ++ r))
+pub one_before : (x : ℕ) (xs r : List ℕ) → inputs_text (x ∷ xs) ++ r ≡ 32 ∷ (decimal x ++ (inputs_text xs ++ r))
 one_before x xs r = ap (λ s. 32 ∷ s) (append_assoc (decimal x) (inputs_text xs) r)
 
 -- where the numbers that are read are a front of a line, the others are to come

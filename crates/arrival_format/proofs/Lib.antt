@@ -4,3 +4,4 @@ pub mod Lines
 pub mod RecordTexts
 pub mod SomeTexts
 pub mod WholeRecords
+pub mod Spelling

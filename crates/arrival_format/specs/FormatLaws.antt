@@ -16,6 +16,14 @@ use Rattle.arrival_format.specs.ArrivalTexts.{FitsGraph, Reads, Spells, arrivals
 abbrev pub OneRecordLaw : Type 0
 OneRecordLaw = (c : CheckedGraph) (bytes : List ℕ) (one other : Arrivals) → Keeps c → Spells c bytes one → Spells c bytes other → one ≡ other
 
+-- bytes have an answer: the record that they spell, or that they spell none
+abbrev pub IsRead : CheckedGraph → List ℕ → Type 0
+IsRead c bytes = (x : Result Arrivals ArrivalsAnswer) × Reads c bytes x × (x ≡ Err A.Memory → ⊥)
+
+-- so all bytes do
+abbrev pub SomeReadLaw : Type 0
+SomeReadLaw = (c : CheckedGraph) (bytes : List ℕ) → IsRead c bytes
+
 -- what is read of the text of a record is that record, where the text isn't too long and there is memory
 abbrev pub ReadBackLaw : Type 0
 ReadBackLaw = (c : CheckedGraph) (arrivals : Arrivals) (answer : Result Arrivals ArrivalsAnswer) → Keeps c → FitsGraph (graph_of c) arrivals

@@ -2,13 +2,14 @@
 ghost use Rattle.std.specs.Prelude.{◌≡◌, [], ◌∷◌, codes};
 ghost use Rattle.stream_model.specs.declared.record.Arrivals.{Arrivals};
 ghost use Rattle.arrival_format.specs.ArrivalTexts.{Spells, arrivals_text};
-ghost use Rattle.arrival_format.specs.FormatLaws.{OneRecordLaw, ReadBackLaw, WholeRecordLaw};
+ghost use Rattle.arrival_format.specs.FormatLaws.{OneRecordLaw, ReadBackLaw, SomeReadLaw, WholeRecordLaw};
 ghost use Rattle.arrival_format.specs.examples.TwoStreams.{of_union, two_streams};
 
-/// Bytes spell at most one record, and the text of a record that fits the graph is read back, where it
+/// Bytes spell at most one record: one, or none. The text of a record that fits the graph is read back, where it
 /// isn't too long. A record fits where its lists are whole.
 pub fn format_law()
     ensures one { OneRecordLaw }
+    ensures some { SomeReadLaw }
     ensures read_back { ReadBackLaw }
     ensures whole { WholeRecordLaw }
 {}
