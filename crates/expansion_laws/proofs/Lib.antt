@@ -9,3 +9,5 @@ mod Outputs
 mod Meanings
 mod Orders
 mod Words
+mod Reaching
+mod SomeFlat

@@ -1,10 +1,12 @@
--- What holds of the graph of a unit: where its operators stand in the text, how they are named, what they take, and their order.
+-- What holds of the graph of a unit: that there is one, or a refusal; where its operators stand in the text, how they are named, what they
+-- take, and their order.
 use Rattle.std.specs.Prelude.{◌≡◌, ◌<◌, ◌↔◌, ℕ, List, Some, Ok, slice_get}
 use Rattle.spl_tree.specs.declared.graph.Graph.{Graph}
 use Rattle.spl_tree.specs.declared.graph.Op.{Op}
 use Rattle.spl_tree.specs.declared.unit.Definition.{Definition}
 use Rattle.spl_tree.specs.declared.unit.InputPort.{InputPort}
 use Rattle.spl_tree.specs.declared.unit.Invocation.{Invocation}
+use Rattle.language_model.specs.Expansion.{Found}
 use Rattle.language_model.specs.Flat.{IsFlat}
 use Rattle.language_model.specs.SinkFiles.{invocation_at}
 use Rattle.expansion_laws.specs.Bodies.{IsBefore, OpLies, IsNamed}
@@ -40,3 +42,11 @@ OneStandingLaw = OfFlat (λ unit g. (number : ℕ) (name : List ℕ) (xs ys : Li
 -- the graph has the topological order, and no other list of operators is one
 abbrev pub OrderLaw : Type 0
 OrderLaw = OfFlat (λ unit g. IsTheOrder g g.topo × ((order : List ℕ) → IsTheOrder g order → order ≡ g.topo))
+
+-- a unit has a graph, or a first refusal on the way to it
+abbrev pub IsFound : List Definition → List (List ℕ) → Type 0
+IsFound unit names = (x : Found Graph) × IsFlat unit names x
+
+-- so each unit does
+abbrev pub FoundLaw : Type 0
+FoundLaw = (unit : List Definition) (names : List (List ℕ)) → IsFound unit names

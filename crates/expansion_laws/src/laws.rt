@@ -2,9 +2,14 @@
 ghost use Rattle.std.specs.Prelude.{[], ◌∷◌, codes};
 ghost use Rattle.language_model.specs.examples.FlatGraphs.{reversed, reversed_graph};
 ghost use Rattle.expansion_laws.specs.Bodies.{IsBefore, Lies};
-ghost use Rattle.expansion_laws.specs.Laws.{InputLaw, NameLaw, OneStandingLaw, OrderLaw, SiteLaw, TextLaw};
+ghost use Rattle.expansion_laws.specs.Laws.{FoundLaw, InputLaw, NameLaw, OneStandingLaw, OrderLaw, SiteLaw, TextLaw};
 ghost use Rattle.expansion_laws.specs.Names.{DottedLaw};
 ghost use Rattle.expansion_laws.specs.Standing.{IsOutput, StandsFor, site};
+
+/// Each unit has a graph, or a first refusal on the way to it.
+pub fn found_law()
+    ensures some { FoundLaw }
+{}
 
 /// Each invocation in a body is one operator at most. Operators stand in the order of the text: the bodies of composites lie
 /// where they are invoked. The name of an operator is its alias or else its first output stream, after the names of
