@@ -20,3 +20,6 @@ pub mod CompositeReadings
 pub mod DefinitionReadings
 pub mod OneAnswer
 pub mod Parsed
+pub mod Ranked
+pub mod Ranks
+pub mod SomeAnswer

@@ -23,3 +23,11 @@ OneUnitLaw = (x y : List Definition) (a : List Token) → SpellsUnit x a → Spe
 abbrev pub OneAnswerLaw : Type 0
 OneAnswerLaw = (tokens : Tokens) (x y : Result (List Definition) SyntaxAnswer) → Parses tokens x → Parses tokens y
     → (x ≡ Err A.Memory) ⊎ ((y ≡ Err A.Memory) ⊎ (x ≡ y))
+
+-- tokens have an answer: they are a unit, or are refused at a place
+abbrev pub IsAnswered : Tokens → Type 0
+IsAnswered tokens = (x : Result (List Definition) SyntaxAnswer) × Parses tokens x × (x ≡ Err A.Memory → ⊥)
+
+-- so all tokens do
+abbrev pub SomeAnswerLaw : Type 0
+SomeAnswerLaw = (tokens : Tokens) → IsAnswered tokens

@@ -1,8 +1,10 @@
 //! What tokens spell.
-ghost use Rattle.unit_parser.specs.Parses.{OneAnswerLaw, OneUnitLaw};
+ghost use Rattle.unit_parser.specs.Parses.{OneAnswerLaw, OneUnitLaw, SomeAnswerLaw};
 
-/// Tokens spell one unit at most, and one thing is answered of them, want of memory apart.
+/// Tokens spell one unit at most, and one thing is answered of them, want of memory apart: a unit, or a
+/// place at which they are refused.
 pub fn units_law()
     ensures one { OneUnitLaw }
     ensures answer { OneAnswerLaw }
+    ensures some { SomeAnswerLaw }
 {}
