@@ -1,5 +1,4 @@
 mod FewTokens
-mod SomeFlat
 pub mod OneAccepted
 mod SomeAccepted
 mod Stages

@@ -1,5 +1,5 @@
 -- The result of a run under a record, and of one under the record in a file.
-use Rattle.std.proofs.Common.{◌≡◌, ◌<◌, ◌∙◌, zero, suc, arith, ℕ, Bool, true, false, List, [], ◌∷◌, ◌++◌, length, refl, sym, ap, subst, inl, inr, ◌⊎◌, slice_get, Option, Some, None, append-nil, append_assoc}
+use Rattle.std.proofs.Common.{◌≡◌, ◌<◌, ◌∙◌, zero, suc, arith, ℕ, Bool, true, false, List, [], ◌∷◌, ◌++◌, length, refl, sym, ap, subst, inl, inr, ◌⊎◌, slice_get, Option, Some, None, Ok, Err, append-nil, append_assoc}
 use Rattle.std.specs.List.{Contains}
 use Rattle.std.proofs.lemmas.List.Elements.{Contains-append_cases}
 use Rattle.std.proofs.lemmas.Option.{slice_get_within}
@@ -14,7 +14,8 @@ use Rattle.stream_model.specs.Operators.{Operator, connections}
 use Rattle.stream_model.proofs.CheckedOperators.{operators_length}
 use Rattle.list_engine.specs.RunOrders.{IsFirstNotWhole}
 use Rattle.list_engine.specs.Runs.{AreWhole, is_whole_at}
-use Rattle.arrival_format.specs.FormatLaws.{OneRecordLaw}
+use Rattle.arrival_format.specs.declared.answer.ArrivalsAnswer.TheVariants as A
+use Rattle.arrival_format.specs.FormatLaws.{IsRead, OneRecordLaw, SomeReadLaw}
 use Rattle.spl_driver.specs.Outcome.{RequestOutcome, BadArrivals, Unreadable, Runs, IsReplay, IsUnder, unread, misspelt, spelled, partial, whole, has_record_fault, meant, run_outcome}
 use Rattle.spl_value.proofs.Lists.{contains_here, contains_later}
 
@@ -104,10 +105,10 @@ in_order c k n op at =
     let same = operators_length c 0 c.graph.ops c.parts k.parts in
     (k.graph.ordered.all n).1 (omega (arith, within, same))
 
-pub some_under : (t : Told) (c : CheckedGraph) (arrivals : Arrivals) → Keeps c → ((r : RequestOutcome) → IsUnder t c arrivals r → ⊥) → ⊥
-some_under t c arrivals k none = elim (seek g m entries [] g.topo refl (λ n op among. absurd (omega (arith, among.1)))) [
-  | inl first ↦ none (BadArrivals c (Some first.0)) (partial first.0 first.1)
-  | inr all ↦ none (run_outcome c t arrivals) (whole (λ n op at many. all n op (in_order c k n op at) at many))
+pub some_under : (t : Told) (c : CheckedGraph) (arrivals : Arrivals) → Keeps c → (r : RequestOutcome) × IsUnder t c arrivals r
+some_under t c arrivals k = elim (seek g m entries [] g.topo refl (λ n op among. absurd (omega (arith, among.1)))) [
+  | inl first ↦ (BadArrivals c (Some first.0), partial first.0 first.1)
+  | inr all ↦ (run_outcome c t arrivals, whole (λ n op at many. all n op (in_order c k n op at) at many))
 ]
   where
     g : Graph
@@ -134,12 +135,17 @@ one_replay law t c file r s k (spelled a _ e is h) (spelled b _ d has i) =
     let same = law c (t.script file).bytes a b k is has in
     one_under t c a r s h (subst (λ (x : Arrivals). IsUnder t c x s) (sym same) i)
 
-pub some_replay : (t : Told) (c : CheckedGraph) (file : List ℕ) → Keeps c → ((r : RequestOutcome) → IsReplay t c file r → ⊥) → ⊥
-some_replay t c file k none = by (has_record_fault (t.script file)) refl
+pub some_replay : SomeReadLaw → (t : Told) (c : CheckedGraph) (file : List ℕ) → Keeps c → (r : RequestOutcome) × IsReplay t c file r
+some_replay law t c file k = by (has_record_fault (t.script file)) refl
   where
-    by : (b : Bool) → has_record_fault (t.script file) ≡ b → ⊥
-    by true e = none (Unreadable file) (unread e)
-    by false e = none (BadArrivals c None) (misspelt e (λ a is. some_under t c a k (λ r h. none r (spelled a r e is h))))
+    by_read : has_record_fault (t.script file) ≡ false → IsRead c (t.script file).bytes → (r : RequestOutcome) × IsReplay t c file r
+    by_read quiet (Ok a, is, some) = let h = some_under t c a k in (h.0, spelled a h.0 quiet is h.1)
+    by_read quiet (Err A.Bad, none, some) = (BadArrivals c None, misspelt quiet none)
+    by_read quiet (Err A.Memory, said, some) = absurd (some refl)
+
+    by : (b : Bool) → has_record_fault (t.script file) ≡ b → (r : RequestOutcome) × IsReplay t c file r
+    by true fault = (Unreadable file, unread fault)
+    by false quiet = by_read quiet (law c (t.script file).bytes)
 
 -- the graph that a replay runs is the program's
 pub replay_graph : (t : Told) (c : CheckedGraph) (file : List ℕ) (x : CheckedGraph) (g : Graph) (m : Meaning) → IsReplay t c file (Runs x g m) → x ≡ c

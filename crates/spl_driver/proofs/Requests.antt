@@ -10,7 +10,7 @@ use Rattle.command_line.specs.declared.request.Request.{Request}
 use Rattle.command_line.specs.declared.request.Request.TheVariants as R
 use Rattle.command_line.specs.Request.{file_names}
 use Rattle.language_model.specs.Keeping.{Keeps}
-use Rattle.arrival_format.specs.FormatLaws.{OneRecordLaw}
+use Rattle.arrival_format.specs.FormatLaws.{OneRecordLaw, SomeReadLaw}
 use Rattle.spl_driver.specs.AcceptedLaws.{KeptLaw, OneAcceptedLaw, SomeAcceptedLaw}
 use Rattle.spl_driver.specs.Built.{is_built}
 use Rattle.spl_driver.specs.Files.{program_of, parts_of}
@@ -125,7 +125,6 @@ from_questions t arrivals (Some request) r h = by_words (is_built request) refl 
 -- what is known of programs and of records
 record Laws : Type 0 where
   pub one : OneAcceptedLaw
-  pub some : SomeAcceptedLaw
   pub kept : KeptLaw
   pub record_one : OneRecordLaw
 
@@ -163,9 +162,9 @@ one_by : Laws → (request : Option Request) (t : Told) (arrivals : Arrivals) (r
 one_by laws None t arrivals r s e d = e ∙ sym d
 one_by laws (Some request) t arrivals r s e d = one_by_words laws (is_built request) request t arrivals r s e d
 
-pub one_outcome : OneAcceptedLaw → SomeAcceptedLaw → KeptLaw → OneRecordLaw → OneOutcomeLaw
-one_outcome one some kept law request t arrivals r s e d =
-    one_by (record { one = one; some = some; kept = kept; record_one = law }) request t arrivals r s (by_questions t arrivals request r e) (by_questions t arrivals request s d)
+pub one_outcome : OneAcceptedLaw → KeptLaw → OneRecordLaw → OneOutcomeLaw
+one_outcome one kept law request t arrivals r s e d =
+    one_by (record { one = one; kept = kept; record_one = law }) request t arrivals r s (by_questions t arrivals request r e) (by_questions t arrivals request s d)
 
 -- the result of a program that is accepted with this graph
 pub back_found : OneAcceptedLaw → (t : Told) (arrivals : Arrivals) (request : Request) (program : List ℕ) (c : CheckedGraph) (r : RequestOutcome) → is_built request ≡ true → program_of request ≡ Some program
@@ -178,41 +177,41 @@ back_found one t arrivals request program c r built of found is =
 
 -- ---- some outcome
 
-some_accepted_outcome : (request : Request) (c : CheckedGraph) (arrivals : Arrivals) (t : Told) → Keeps c → ((r : RequestOutcome) → IsAcceptedOutcome request c arrivals t r → ⊥) → ⊥
-some_accepted_outcome (R.Check p) c arrivals t k none = none (Reports OfSize c) refl
-some_accepted_outcome (R.Plan p) c arrivals t k none = none (Reports OfPlan c) refl
-some_accepted_outcome (R.Run p options) c arrivals t k none = none (run_outcome c t arrivals) refl
-some_accepted_outcome (R.Replay p file) c arrivals t k none = some_replay t c file k none
-some_accepted_outcome (R.Simulate p width schedule steps) c arrivals t k none = none NotBuilt refl
-some_accepted_outcome (R.Make name rows start) c arrivals t k none = none NotBuilt refl
+module _ (some : SomeAcceptedLaw) (kept : KeptLaw) (read : SomeReadLaw) where
+  some_accepted_outcome : (request : Request) (c : CheckedGraph) (arrivals : Arrivals) (t : Told) → Keeps c → (r : RequestOutcome) × IsAcceptedOutcome request c arrivals t r
+  some_accepted_outcome (R.Check p) c arrivals t k = (Reports OfSize c, refl)
+  some_accepted_outcome (R.Plan p) c arrivals t k = (Reports OfPlan c, refl)
+  some_accepted_outcome (R.Run p options) c arrivals t k = (run_outcome c t arrivals, refl)
+  some_accepted_outcome (R.Replay p file) c arrivals t k = some_replay read t c file k
+  some_accepted_outcome (R.Simulate p width schedule steps) c arrivals t k = (NotBuilt, refl)
+  some_accepted_outcome (R.Make name rows start) c arrivals t k = (NotBuilt, refl)
 
-some_found : KeptLaw → (request : Request) (bytes : List ℕ) (t : Told) (arrivals : Arrivals) (found : Result CheckedGraph ProgramRefusal) → IsAccepted bytes (file_names request) found
-    → ((r : RequestOutcome) → IsFoundOutcome request t arrivals found r → ⊥) → ⊥
-some_found kept request bytes t arrivals (Err refusal) is none = none (Refused (refusal_of refusal)) refl
-some_found kept request bytes t arrivals (Ok c) is none = some_accepted_outcome request c arrivals t (kept bytes (file_names request) c is) none
+  some_found : (request : Request) (bytes : List ℕ) (t : Told) (arrivals : Arrivals) (found : Result CheckedGraph ProgramRefusal) → IsAccepted bytes (file_names request) found
+      → (r : RequestOutcome) × IsFoundOutcome request t arrivals found r
+  some_found request bytes t arrivals (Err refusal) is = (Refused (refusal_of refusal), refl)
+  some_found request bytes t arrivals (Ok c) is = some_accepted_outcome request c arrivals t (kept bytes (file_names request) c is)
 
-some_by_fault : SomeAcceptedLaw → KeptLaw → (b : Bool) (request : Request) (program bytes : List ℕ) (t : Told) (arrivals : Arrivals)
-    → ((r : RequestOutcome) → OutcomeByFault b request program bytes t arrivals r → ⊥) → ⊥
-some_by_fault law kept true request program bytes t arrivals none = none (Unreadable program) refl
-some_by_fault law kept false request program bytes t arrivals none =
-    law bytes (file_names request) (λ x is. some_found kept request bytes t arrivals x is (λ r h. none r (x, is, h)))
+  some_by_fault : (b : Bool) (request : Request) (program bytes : List ℕ) (t : Told) (arrivals : Arrivals) → (r : RequestOutcome) × OutcomeByFault b request program bytes t arrivals r
+  some_by_fault true request program bytes t arrivals = (Unreadable program, refl)
+  some_by_fault false request program bytes t arrivals =
+      let x = some bytes (file_names request) in
+      let h = some_found request bytes t arrivals x.0 x.1 in
+      (h.0, (x.0, x.1, h.1))
 
-some_by_file : SomeAcceptedLaw → KeptLaw → (program : Option (List ℕ)) (request : Request) (t : Told) (arrivals : Arrivals)
-    → ((r : RequestOutcome) → OutcomeByFile program request t arrivals r → ⊥) → ⊥
-some_by_file law kept None request t arrivals none = none NotBuilt refl
-some_by_file law kept (Some p) request t arrivals none = some_by_fault law kept (has_fault (t.script p)) request p (t.script p).bytes t arrivals none
+  some_by_file : (program : Option (List ℕ)) (request : Request) (t : Told) (arrivals : Arrivals) → (r : RequestOutcome) × OutcomeByFile program request t arrivals r
+  some_by_file None request t arrivals = (NotBuilt, refl)
+  some_by_file (Some p) request t arrivals = some_by_fault (has_fault (t.script p)) request p (t.script p).bytes t arrivals
 
-some_by_words : SomeAcceptedLaw → KeptLaw → (b : Bool) (request : Request) (t : Told) (arrivals : Arrivals)
-    → ((r : RequestOutcome) → OutcomeByWords b request t arrivals r → ⊥) → ⊥
-some_by_words law kept true request t arrivals none = some_by_file law kept (program_of request) request t arrivals none
-some_by_words law kept false request t arrivals none = none NotBuilt refl
+  some_by_words : (b : Bool) (request : Request) (t : Told) (arrivals : Arrivals) → (r : RequestOutcome) × OutcomeByWords b request t arrivals r
+  some_by_words true request t arrivals = some_by_file (program_of request) request t arrivals
+  some_by_words false request t arrivals = (NotBuilt, refl)
 
-some_by : SomeAcceptedLaw → KeptLaw → (request : Option Request) (t : Told) (arrivals : Arrivals) → ((r : RequestOutcome) → OutcomeBy request t arrivals r → ⊥) → ⊥
-some_by law kept None t arrivals none = none NoRequest refl
-some_by law kept (Some request) t arrivals none = some_by_words law kept (is_built request) request t arrivals none
+  some_by : (request : Option Request) (t : Told) (arrivals : Arrivals) → (r : RequestOutcome) × OutcomeBy request t arrivals r
+  some_by None t arrivals = (NoRequest, refl)
+  some_by (Some request) t arrivals = some_by_words (is_built request) request t arrivals
 
-pub some_outcome : SomeAcceptedLaw → KeptLaw → SomeOutcomeLaw
-some_outcome law kept request t arrivals none = some_by law kept request t arrivals (λ r h. none r (from_questions t arrivals request r h))
+  pub some_outcome : SomeOutcomeLaw
+  some_outcome request t arrivals = let h = some_by request t arrivals in (h.0, from_questions t arrivals request h.0 h.1)
 
 -- ---- a file that can't be read
 
@@ -315,17 +314,18 @@ one_parts_by law (Some request) t x y e d = one_parts_by_file law (program_of re
 pub one_parts : OneAcceptedLaw → OnePartsLaw
 one_parts law request t x y e d = one_parts_by law request t x y (parts_by t request x e) (parts_by t request y d)
 
-some_parts_by_fault : SomeAcceptedLaw → (fault : Bool) (request : Request) (bytes : List ℕ) → ((x : List Part) → PartsByFault fault request bytes x → ⊥) → ⊥
-some_parts_by_fault law true request bytes none = none [] refl
-some_parts_by_fault law false request bytes none = law bytes (file_names request) (λ found is. none (parts_of found) (found, is, refl))
+module _ (some : SomeAcceptedLaw) where
+  some_parts_by_fault : (fault : Bool) (request : Request) (bytes : List ℕ) → (x : List Part) × PartsByFault fault request bytes x
+  some_parts_by_fault true request bytes = ([], refl)
+  some_parts_by_fault false request bytes = let h = some bytes (file_names request) in (parts_of h.0, (h.0, h.1, refl))
 
-some_parts_by_file : SomeAcceptedLaw → (program : Option (List ℕ)) (request : Request) (t : Told) → ((x : List Part) → PartsByFile program request t x → ⊥) → ⊥
-some_parts_by_file law None request t none = none [] refl
-some_parts_by_file law (Some p) request t none = some_parts_by_fault law (has_fault (t.script p)) request (t.script p).bytes none
+  some_parts_by_file : (program : Option (List ℕ)) (request : Request) (t : Told) → (x : List Part) × PartsByFile program request t x
+  some_parts_by_file None request t = ([], refl)
+  some_parts_by_file (Some p) request t = some_parts_by_fault (has_fault (t.script p)) request (t.script p).bytes
 
-some_parts_by : SomeAcceptedLaw → (request : Option Request) (t : Told) → ((x : List Part) → PartsBy request t x → ⊥) → ⊥
-some_parts_by law None t none = none [] refl
-some_parts_by law (Some request) t none = some_parts_by_file law (program_of request) request t none
+  some_parts_by : (request : Option Request) (t : Told) → (x : List Part) × PartsBy request t x
+  some_parts_by None t = ([], refl)
+  some_parts_by (Some request) t = some_parts_by_file (program_of request) request t
 
-pub some_parts : SomeAcceptedLaw → SomePartsLaw
-some_parts law request t none = some_parts_by law request t (λ x h. none x (parts_from t request x h))
+  pub some_parts : SomePartsLaw
+  some_parts request t = let h = some_parts_by request t in (h.0, parts_from t request h.0 h.1)

@@ -9,9 +9,9 @@ use Rattle.language_model.specs.Keeping.{Keeps}
 abbrev pub OneAcceptedLaw : Type 0
 OneAcceptedLaw = (bytes : List ℕ) (names : List (List ℕ)) (x y : Result CheckedGraph ProgramRefusal) → IsAccepted bytes names x → IsAccepted bytes names y → x ≡ y
 
--- and none is without one
+-- and each has one
 abbrev pub SomeAcceptedLaw : Type 0
-SomeAcceptedLaw = (bytes : List ℕ) (names : List (List ℕ)) → ((x : Result CheckedGraph ProgramRefusal) → IsAccepted bytes names x → ⊥) → ⊥
+SomeAcceptedLaw = (bytes : List ℕ) (names : List (List ℕ)) → (x : Result CheckedGraph ProgramRefusal) × IsAccepted bytes names x
 
 -- a program of more than 1,048,576 bytes is refused
 abbrev pub TooLongLaw : Type 0

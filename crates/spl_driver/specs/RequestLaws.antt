@@ -10,14 +10,14 @@ use Rattle.spl_driver.specs.Outcome.{RequestOutcome, IsOutcome, ArePartsIn}
 abbrev pub OneOutcomeLaw : Type 0
 OneOutcomeLaw = (request : Option Request) (t : Told) (arrivals : Arrivals) (r s : RequestOutcome) → IsOutcome t arrivals request r → IsOutcome t arrivals request s → r ≡ s
 
--- and none is without one
+-- and each has one
 abbrev pub SomeOutcomeLaw : Type 0
-SomeOutcomeLaw = (request : Option Request) (t : Told) (arrivals : Arrivals) → ((r : RequestOutcome) → IsOutcome t arrivals request r → ⊥) → ⊥
+SomeOutcomeLaw = (request : Option Request) (t : Told) (arrivals : Arrivals) → (r : RequestOutcome) × IsOutcome t arrivals request r
 
 -- its program has the operators of one list at most
 abbrev pub OnePartsLaw : Type 0
 OnePartsLaw = (request : Option Request) (t : Told) (x y : List Part) → ArePartsIn t request x → ArePartsIn t request y → x ≡ y
 
--- and none has those of no list
+-- and it has those of one
 abbrev pub SomePartsLaw : Type 0
-SomePartsLaw = (request : Option Request) (t : Told) → ((x : List Part) → ArePartsIn t request x → ⊥) → ⊥
+SomePartsLaw = (request : Option Request) (t : Told) → (x : List Part) × ArePartsIn t request x

@@ -5,6 +5,7 @@ ghost use Rattle.spl_driver.specs.RequestLaws.{OneOutcomeLaw, SomeOutcomeLaw, On
 
 use arrival_format::format_law;
 use check_laws::keeps_law;
+use expansion_laws::found_law;
 use language_model::flat_law;
 use unit_parser::units_law;
 
@@ -18,6 +19,7 @@ pub fn accepted_law()
 {
     units_law();
     flat_law();
+    found_law();
     keeps_law();
 }
 

@@ -6,7 +6,7 @@ pub returns-clause-one : goal.returns-clause-one
 returns-clause-one c = one_accepted c.units_law.ensures.answer c.flat_law.ensures.one
 
 pub returns-clause-some : goal.returns-clause-some
-returns-clause-some c = some_accepted
+returns-clause-some c = some_accepted c.units_law.ensures.some c.found_law.ensures.some
 
 pub returns-clause-too_long : goal.returns-clause-too_long
 returns-clause-too_long c = too_long
