@@ -20,6 +20,8 @@ mod faults;
 #[cfg(test)]
 mod generated;
 #[cfg(test)]
+mod hostile;
+#[cfg(test)]
 mod operators;
 #[cfg(test)]
 mod plans;

@@ -13,6 +13,7 @@
 //! | `@sums OLD → NEW` | that program with the first such piece replaced |
 //! | `@nested 9` | `@first` with its attribute in nine pairs of parentheses |
 //! | `@parentheses 9`, `@sources 9`, `@chain 9`, `@padded 9 TEXT` | what `generated` says |
+//! | `@spread TEXT` | the text with its pieces, as `«0 9 x»` for nine times `x` |
 //! | `@text TEXT` | the text, where it begins with `#` or `@` |
 //! | another text | the text |
 use crate::examples::{
@@ -21,6 +22,7 @@ use crate::examples::{
 use crate::generated::{CHAIN, NESTED, PARENTHESES, SOURCES, counted, edited, padded};
 use std::alloc::{AllocError, Global};
 use test_texts::signs::without_signs;
+use test_texts::spelled::spread;
 use test_texts::words::{cut, number};
 
 // What comes before the text of a composite after its source, and before a condition and
@@ -187,6 +189,7 @@ fn program_by_name(alloc: Global, name: &str, text: &str) -> Result<String, Allo
         "sources" => counted(alloc, SOURCES, text),
         "chain" => counted(alloc, CHAIN, text),
         "padded" => padded_of(alloc, text),
+        "spread" => spread(alloc, text),
         name => named_of(alloc, name, text),
     }
 }

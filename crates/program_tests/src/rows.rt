@@ -7,6 +7,7 @@ use crate::customs::{CUSTOMS, LOOPS};
 use crate::devices::{DEVICES, FAILING, failing};
 use crate::examples::EXAMPLES;
 use crate::faults::{FAULTS, TURNS};
+use crate::hostile::HOSTILE;
 use crate::operators::OPERATORS;
 use crate::plans::PLANS;
 use crate::recorded::{WRITTEN, recorded};
@@ -194,5 +195,11 @@ fn the_turns_of_an_event_are_spent_by_all_that_it_evaluates(rt: HostRuntime) -> 
 #[test]
 fn a_clause_that_takes_all_turns_ends_the_run(rt: HostRuntime) -> Result<(), Fail> {
     no_others(others_of(&rt, rt.alloc(), &[(RUN, SPENT)])?)?;
+    Ok(())
+}
+
+#[test]
+fn a_hostile_program_is_answered(rt: HostRuntime) -> Result<(), Fail> {
+    no_others(others_of(&rt, rt.alloc(), &[(CHECK, HOSTILE)])?)?;
     Ok(())
 }
