@@ -11,3 +11,4 @@ mod Orders
 mod Words
 mod Reaching
 mod SomeFlat
+mod CheckedOrders

@@ -7,6 +7,8 @@ use Rattle.spl_tree.specs.declared.unit.Definition.{Definition}
 use Rattle.spl_tree.specs.declared.unit.InputPort.{InputPort}
 use Rattle.spl_tree.specs.declared.unit.Invocation.{Invocation}
 use Rattle.language_model.specs.Expansion.{Found}
+use Rattle.language_model.specs.CheckedGraph.{CheckedGraph}
+use Rattle.language_model.specs.Checking.{checked}
 use Rattle.language_model.specs.Flat.{IsFlat}
 use Rattle.language_model.specs.SinkFiles.{invocation_at}
 use Rattle.expansion_laws.specs.Bodies.{IsBefore, OpLies, IsNamed}
@@ -50,3 +52,12 @@ IsFound unit names = (x : Found Graph) × IsFlat unit names x
 -- so each unit does
 abbrev pub FoundLaw : Type 0
 FoundLaw = (unit : List Definition) (names : List (List ℕ)) → IsFound unit names
+
+-- what is found of a graph has this graph
+abbrev pub SameGraphLaw : Type 0
+SameGraphLaw = (unit : List Definition) (g : Graph) (c : CheckedGraph) → checked unit g ≡ Ok c → c.graph ≡ g
+
+-- so what is found of the graph of a unit has the topological order, and no other list of operators is one
+abbrev pub CheckedOrderLaw : Type 0
+CheckedOrderLaw = (unit : List Definition) (names : List (List ℕ)) (g : Graph) (c : CheckedGraph) → IsFlat unit names (Ok g) → checked unit g ≡ Ok c
+    → IsTheOrder c.graph c.graph.topo × ((order : List ℕ) → IsTheOrder c.graph order → order ≡ c.graph.topo)

@@ -2,7 +2,7 @@
 ghost use Rattle.std.specs.Prelude.{[], ◌∷◌, codes};
 ghost use Rattle.language_model.specs.examples.FlatGraphs.{reversed, reversed_graph};
 ghost use Rattle.expansion_laws.specs.Bodies.{IsBefore, Lies};
-ghost use Rattle.expansion_laws.specs.Laws.{FoundLaw, InputLaw, NameLaw, OneStandingLaw, OrderLaw, SiteLaw, TextLaw};
+ghost use Rattle.expansion_laws.specs.Laws.{CheckedOrderLaw, FoundLaw, InputLaw, NameLaw, OneStandingLaw, OrderLaw, SameGraphLaw, SiteLaw, TextLaw};
 ghost use Rattle.expansion_laws.specs.Names.{DottedLaw};
 ghost use Rattle.expansion_laws.specs.Standing.{IsOutput, StandsFor, site};
 
@@ -35,6 +35,15 @@ pub fn inputs_law()
 pub fn order_law()
     ensures order { OrderLaw }
 {}
+
+/// What is found of a graph by the checks has this graph. So a checked graph of a unit has the topological
+/// order, and no other list of its operators is one.
+pub fn checked_law()
+    ensures graph { SameGraphLaw }
+    ensures order { CheckedOrderLaw }
+{
+    order_law();
+}
 
 /// In the graph of a program that invokes a composite twice: where an operator lies, the stream that the output of a composite is, and
 /// those that the input of its head has, which come from two names.

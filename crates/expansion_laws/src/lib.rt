@@ -3,4 +3,4 @@
 
 mod laws;
 
-pub use laws::{found_law, inputs_law, inputs_on_literals, order_law, sites_law};
+pub use laws::{checked_law, found_law, inputs_law, inputs_on_literals, order_law, sites_law};
