@@ -8,3 +8,4 @@ mod JoinChecked
 mod CompositeChecked
 mod PortsChecked
 mod Refusals
+mod FilterSpelled

@@ -1,19 +1,23 @@
 //! What programs are once they are expanded and checked.
-ghost use Rattle.std.specs.Prelude.{◌≡◌, [], ◌∷◌, Some, None, Ok, codes};
+ghost use Rattle.std.specs.Prelude.{◌≡◌, [], ◌∷◌, Some, None, Ok, IsOkAnd, codes};
 ghost use Rattle.spl_tree.specs.declared.graph.OpKind.TheVariants as O;
 ghost use Rattle.language_model.specs.declared.scope.CheckError.TheVariants as E;
+ghost use Rattle.spl_tree.specs.Tokens.{tokens};
+ghost use Rattle.spl_tree.specs.UnitGrammar.{SpellsUnit};
 ghost use Rattle.language_model.specs.Checking.{checked};
 ghost use Rattle.language_model.specs.Flat.{IsFlat};
 ghost use Rattle.checked_literals.specs.examples.Composed.{composed, composed_graph, composed_checked};
 ghost use Rattle.checked_literals.specs.examples.Counted.{counted, counted_graph, counted_checked};
-ghost use Rattle.checked_literals.specs.examples.Filtered.{filtered, filtered_graph, filtered_checked};
+ghost use Rattle.checked_literals.specs.examples.Filtered.{filtered, filtered_text, filtered_graph, filtered_checked};
 ghost use Rattle.checked_literals.specs.examples.Joined.{joined, joined_graph, joined_checked};
 ghost use Rattle.checked_literals.specs.examples.Parted.{parted, parted_graph, parted_checked};
 ghost use Rattle.checked_literals.specs.examples.Refused.{IsRefused, graph_of, graph_with, refusal, sink_first, sink_first_graph, with_function, with_middle, another_type, another_width, break_alone, constant_changed, list_row, no_attribute, no_port, no_position, no_value, no_window, other_config, other_logic, other_state, other_window, two_inputs, unknown_name, unknown_parameter};
 ghost use Rattle.checked_literals.specs.examples.Summed.{summed, summed_graph, summed_checked};
 
-/// A source, a filter and a sink: the graph, and the types and the clauses of each operator.
+/// A source, a filter and a sink: the tree that their text spells, its graph, and the types and the
+/// clauses of each operator.
 pub fn filter_is_checked()
+    ensures spells { IsOkAnd (tokens filtered_text) (λ ts. SpellsUnit filtered ts.list) }
     ensures flat { IsFlat filtered [] (Ok filtered_graph) }
     ensures checked { checked filtered filtered_graph ≡ Ok filtered_checked }
 {}

@@ -6,7 +6,7 @@
 --       stream<int64 price> B = Filter(T) { param filter: price > 10l; }
 --       () as Out = FileSink(B) { param file: "o.csv"; format: csv; }
 --   }
-use Rattle.std.specs.Prelude.{pos, true, List, [], ◌∷◌, Some, None, codes}
+use Rattle.std.specs.Prelude.{◌++◌, ℕ, pos, true, List, [], ◌∷◌, Some, None, codes}
 use Rattle.spl_value.specs.declared.types.IntKind.TheVariants as N
 use Rattle.spl_value.specs.declared.types.SplType.TheVariants as S
 use Rattle.spl_value.specs.declared.value.Value.TheVariants as V
@@ -29,6 +29,17 @@ use Rattle.language_model.specs.examples.FlatGraphs.{composite_of_graph, name_at
 use Rattle.language_model.specs.CheckedGraph.{CheckedGraph}
 use Rattle.language_model.specs.StreamTypes.{Attributes}
 use Rattle.checked_literals.specs.examples.Shapes.{attribute_at, int64_at, file_parameters, number_at, output_of, port_at, source_at, sink_at, with_parameters}
+
+-- ---- the text
+
+abbrev pub filtered_text : List ℕ
+filtered_text =
+    codes "composite Main {\n"
+    ++ codes "  graph\n"
+    ++ codes "    stream<int64 price> T = FileSource() { param file: \"t.csv\"; format: csv; }\n"
+    ++ codes "    stream<int64 price> B = Filter(T) { param filter: price > 10l; }\n"
+    ++ codes "    () as Out = FileSink(B) { param file: \"o.csv\"; format: csv; }\n"
+    ++ codes "}"
 
 -- ---- the tree
 

@@ -1,3 +1,5 @@
+use Rattle.spl_tree.specs.Tokens.{front, tokens}
+use Rattle.checked_literals.proofs.FilterSpelled.{spells_filtered}
 use Rattle.checked_literals.proofs.FilterChecked.{filter_is_checked, filter_is_flat}
 use Rattle.checked_literals.proofs.laws.filter_is_checked.Goals as goal
 
@@ -6,3 +8,7 @@ returns-clause-flat c = filter_is_flat
 
 pub returns-clause-checked : goal.returns-clause-checked
 returns-clause-checked c = filter_is_checked
+
+pub returns-clause-spells : goal.returns-clause-spells
+unfolding tokens front
+returns-clause-spells c = spells_filtered
