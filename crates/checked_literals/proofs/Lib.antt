@@ -1,11 +1,7 @@
 mod Rules
 mod Texts
 mod Falling
-mod FilterChecked
-mod CustomChecked
-mod AggregateChecked
-mod JoinChecked
-mod CompositeChecked
-mod PortsChecked
-mod Refusals
+mod Flattened
+mod Programs
 mod FilterSpelled
+mod Refusals

@@ -1,6 +1,6 @@
 -- Programs that are refused, each with its graph.
 use Rattle.std.specs.Prelude.{◌≡◌, List, [], ◌∷◌, Some, None, Ok, Err, codes}
-use Rattle.std.proofs.Common.{refl, subst}
+use Rattle.std.proofs.Common.{refl}
 use Rattle.spl_tree.specs.declared.graph.Graph.{Graph}
 use Rattle.spl_tree.specs.declared.graph.OpKind.TheVariants as O
 use Rattle.spl_tree.specs.declared.unit.Composite.{Composite}
@@ -9,20 +9,19 @@ use Rattle.language_model.specs.declared.scope.CheckError.TheVariants as E
 use Rattle.language_model.specs.declared.scope.CheckRefusal.{CheckRefusal}
 use Rattle.language_model.specs.Checking.{checked}
 use Rattle.language_model.specs.Declarations.{declared_twice}
-use Rattle.language_model.specs.Flat as F
-use Rattle.language_model.specs.Flat.{IsFlat, IsMain, flat_from}
+use Rattle.language_model.specs.Flat.{IsMain, flat_from}
 use Rattle.language_model.specs.Recursion.{IsNotRecursive}
 use Rattle.language_model.specs.Scopes.{At}
 use Rattle.language_model.specs.examples.FlatGraphs.{only_composite}
 use Rattle.checked_literals.specs.examples.Refused.{IsRefused, graph_of, graph_with, refusal, sink_first, sink_first_graph, with_function, with_middle, another_type, another_width, break_alone, constant_changed, list_row, no_attribute, no_port, no_position, no_value, no_window, other_config, other_logic, other_state, other_window, two_inputs, unknown_name, unknown_parameter}
 use Rattle.checked_literals.proofs.Falling.{not_recursive}
+use Rattle.checked_literals.proofs.Flattened.{flat_as}
 use Rattle.checked_literals.proofs.Rules.{computing}
 use Rattle.checked_literals.proofs.Texts.{text_laws}
 
 refused_as : (unit : List Definition) (main : At Composite) (g : Graph) (r : CheckRefusal) → IsMain unit main → IsNotRecursive unit → declared_twice unit ≡ None
     → flat_from unit [] main ≡ Ok g → checked unit g ≡ Err r → IsRefused unit g r
-refused_as unit main g r is_main not_recursive none_twice expands found =
-    (subst (IsFlat unit []) expands (F.expands main none_twice is_main not_recursive), found)
+refused_as unit main g r is_main not_recursive none_twice expands found = (flat_as unit main g is_main not_recursive none_twice expands, found)
 
 pub ports_refused : IsRefused (with_middle two_inputs) (graph_of O.Filter ((0 ∷ []) ∷ (0 ∷ []) ∷ [])) (refusal E.PortCount 108 None)
 ports_refused =

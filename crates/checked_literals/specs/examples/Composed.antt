@@ -27,10 +27,9 @@
 --         output D: double = twice(price);
 --       }
 --   }
-use Rattle.std.specs.Prelude.{ℕ, pos, true, false, List, [], ◌∷◌, Some, None, codes}
+use Rattle.std.specs.Prelude.{true, false, List, [], ◌∷◌, Some, None, codes}
 use Rattle.spl_value.specs.declared.types.IntKind.TheVariants as N
 use Rattle.spl_value.specs.declared.types.SplType.TheVariants as S
-use Rattle.spl_value.specs.declared.value.Value.TheVariants as V
 use Rattle.spl_tree.specs.declared.body.Function.{Function}
 use Rattle.spl_tree.specs.declared.body.Statement.TheVariants as T
 use Rattle.spl_tree.specs.declared.code.BinaryCode.TheVariants as D
@@ -39,7 +38,6 @@ use Rattle.spl_tree.specs.declared.code.Code.TheVariants as C
 use Rattle.spl_tree.specs.declared.code.IntegerOperator.TheVariants.{Add}
 use Rattle.spl_tree.specs.declared.code.OrderOperator.TheVariants.{Greater, Less}
 use Rattle.spl_tree.specs.declared.code.Slot.{Slot}
-use Rattle.spl_tree.specs.declared.code.Slot.TheVariants as L
 use Rattle.spl_tree.specs.declared.code.UnaryCode.TheVariants as R
 use Rattle.spl_tree.specs.declared.expression.BinaryOperator.TheVariants as B
 use Rattle.spl_tree.specs.declared.expression.ExprKind.TheVariants as E
@@ -62,6 +60,7 @@ use Rattle.language_model.specs.declared.checked.Part.TheVariants as A
 use Rattle.language_model.specs.examples.FlatGraphs.{composite_of_graph, name_at, op_at}
 use Rattle.language_model.specs.CheckedGraph.{CheckedGraph}
 use Rattle.language_model.specs.StreamTypes.{Attributes}
+use Rattle.checked_literals.specs.examples.Codes.{attribute, number, variable}
 use Rattle.checked_literals.specs.examples.Shapes.{attribute_at, call_at, field_at, int64_at, rstring_at, file_parameters, number_at, output_of, output_of_name, parameter_at, port_at, source_at, sink_at, with_parameters, word_at}
 
 -- ---- the tree
@@ -224,19 +223,16 @@ twice_checked = record {
   parameters = S.Int N.I64 ∷ [];
   result = Some (S.Int N.I64);
   body =
-      T.Declare (C.Binary (D.Integers Add N.I64) (C.Name (L.Variable 0)) (C.Name (L.Variable 0)))
-      ∷ T.Return (Some (C.Name (L.Variable 1))) ∷ [];
+      T.Declare (C.Binary (D.Integers Add N.I64) (variable 0) (variable 0))
+      ∷ T.Return (Some (variable 1)) ∷ [];
 }
-
-abbrev pub number : ℕ → Code Slot
-number n = C.Literal (V.Int (pos n))
 
 -- the attributes of a trade
 abbrev pub symbol : Code Slot
-symbol = C.Name (L.Attribute 0 0)
+symbol = attribute 0
 
 abbrev pub price : Code Slot
-price = C.Name (L.Attribute 0 1)
+price = attribute 1
 
 -- a price between two numbers
 abbrev pub is_between : Code Slot → Code Slot → Code Slot

@@ -1,4 +1,5 @@
--- A program with a Custom, which keeps a sum and a count, as a tree, with its graph and its checked graph:
+-- A program with the source of the first one and a Custom, which keeps a sum and a count, as a tree, with its graph and its checked
+-- graph:
 --
 --   composite Main {
 --     graph
@@ -15,19 +16,15 @@
 --       }
 --       () as Out = FileSink(C) { param file: "o.csv"; format: csv; }
 --   }
-use Rattle.std.specs.Prelude.{ℕ, pos, true, false, List, [], ◌∷◌, Some, None, codes}
+use Rattle.std.specs.Prelude.{true, false, List, [], ◌∷◌, Some, None, codes}
 use Rattle.spl_value.specs.declared.types.IntKind.TheVariants as N
 use Rattle.spl_value.specs.declared.types.SplType.TheVariants as S
-use Rattle.spl_value.specs.declared.value.Value.TheVariants as V
 use Rattle.spl_tree.specs.declared.body.Change.TheVariants as H
 use Rattle.spl_tree.specs.declared.body.Statement.{Statement}
 use Rattle.spl_tree.specs.declared.body.Statement.TheVariants as T
 use Rattle.spl_tree.specs.declared.code.BinaryCode.TheVariants as D
-use Rattle.spl_tree.specs.declared.code.Code.{Code}
 use Rattle.spl_tree.specs.declared.code.Code.TheVariants as C
 use Rattle.spl_tree.specs.declared.code.IntegerOperator.TheVariants.{Add}
-use Rattle.spl_tree.specs.declared.code.Slot.{Slot}
-use Rattle.spl_tree.specs.declared.code.Slot.TheVariants as L
 use Rattle.spl_tree.specs.declared.expression.BinaryOperator.TheVariants as B
 use Rattle.spl_tree.specs.declared.expression.ExprKind.TheVariants as E
 use Rattle.spl_tree.specs.declared.graph.Graph.{Graph}
@@ -48,13 +45,11 @@ use Rattle.language_model.specs.declared.checked.StateVariable.{StateVariable}
 use Rattle.language_model.specs.examples.FlatGraphs.{composite_of_graph, name_at, op_at}
 use Rattle.language_model.specs.CheckedGraph.{CheckedGraph}
 use Rattle.language_model.specs.StreamTypes.{Attributes}
-use Rattle.checked_literals.specs.examples.Shapes.{attribute_at, int64_at, file_parameters, number_at, output_of, port_at, source_at, sink_at, word_at}
+use Rattle.checked_literals.specs.examples.Codes.{attribute, number, variable}
+use Rattle.checked_literals.specs.examples.Filtered.{prices, source}
+use Rattle.checked_literals.specs.examples.Shapes.{attribute_at, int64_at, file_parameters, number_at, output_of, port_at, sink_at, word_at}
 
 -- ---- the tree
-
-abbrev pub source : Invocation
-source = source_at 29 (output_of 36 (attribute_at (int64_at 36) 42 (codes "price") ∷ []) 49 (codes "T")) 53
-    (file_parameters 74 80 (codes "t.csv") 89 97)
 
 abbrev pub sum : Declaration
 sum = record { mutable = true; kind = int64_at 194; name = name_at 200 (codes "sum"); value = Some (number_at 206 N.I64 5) }
@@ -127,14 +122,8 @@ counted_graph = record {
 
 -- ---- the checked graph
 
-abbrev pub prices : Attributes
-prices = record { name = codes "price"; kind = S.Int N.I64 } ∷ []
-
 abbrev pub totals : Attributes
 totals = record { name = codes "count"; kind = S.Int N.I64 } ∷ record { name = codes "total"; kind = S.Int N.I64 } ∷ []
-
-abbrev pub number : ℕ → Code Slot
-number n = C.Literal (V.Int (pos n))
 
 -- `sum` begins with 5, and `seen` with the default of its type
 abbrev pub state : List StateVariable
@@ -142,13 +131,10 @@ state =
     record { variable = record { name = codes "sum"; kind = S.Int N.I64; mutable = true }; first = number 5 }
     ∷ record { variable = record { name = codes "seen"; kind = S.Int N.I64; mutable = true }; first = number 0 } ∷ []
 
-abbrev pub variable : ℕ → Code Slot
-variable place = C.Name (L.Variable place)
-
 -- the variables are `sum`, `seen` and `now`, and the fields of the tuple stand in the order of the text
 abbrev pub body : List Statement
 body =
-    T.Declare (C.Binary (D.Integers Add N.I64) (variable 0) (C.Name (L.Attribute 0 0)))
+    T.Declare (C.Binary (D.Integers Add N.I64) (variable 0) (attribute 0))
     ∷ T.Change (record { variable = 0; takings = [] }) (H.Put (variable 2))
     ∷ T.Change (record { variable = 1; takings = [] }) (H.Put (C.Binary (D.Integers Add N.I64) (variable 1) (number 1)))
     ∷ T.Submit 0 (C.Tuple ((1, variable 2) ∷ (0, variable 1) ∷ [])) ∷ []

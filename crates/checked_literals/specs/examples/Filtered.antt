@@ -6,16 +6,14 @@
 --       stream<int64 price> B = Filter(T) { param filter: price > 10l; }
 --       () as Out = FileSink(B) { param file: "o.csv"; format: csv; }
 --   }
-use Rattle.std.specs.Prelude.{◌++◌, ℕ, pos, true, List, [], ◌∷◌, Some, None, codes}
+use Rattle.std.specs.Prelude.{◌++◌, ℕ, true, List, [], ◌∷◌, Some, None, codes}
 use Rattle.spl_value.specs.declared.types.IntKind.TheVariants as N
 use Rattle.spl_value.specs.declared.types.SplType.TheVariants as S
-use Rattle.spl_value.specs.declared.value.Value.TheVariants as V
 use Rattle.spl_tree.specs.declared.code.BinaryCode.TheVariants as D
 use Rattle.spl_tree.specs.declared.code.Code.{Code}
 use Rattle.spl_tree.specs.declared.code.Code.TheVariants as C
 use Rattle.spl_tree.specs.declared.code.OrderOperator.TheVariants.{Greater}
 use Rattle.spl_tree.specs.declared.code.Slot.{Slot}
-use Rattle.spl_tree.specs.declared.code.Slot.TheVariants as L
 use Rattle.spl_tree.specs.declared.expression.BinaryOperator.TheVariants as B
 use Rattle.spl_tree.specs.declared.expression.ExprKind.TheVariants as E
 use Rattle.spl_tree.specs.declared.graph.Graph.{Graph}
@@ -28,6 +26,7 @@ use Rattle.language_model.specs.declared.checked.Part.TheVariants as A
 use Rattle.language_model.specs.examples.FlatGraphs.{composite_of_graph, name_at, op_at}
 use Rattle.language_model.specs.CheckedGraph.{CheckedGraph}
 use Rattle.language_model.specs.StreamTypes.{Attributes}
+use Rattle.checked_literals.specs.examples.Codes.{attribute, number}
 use Rattle.checked_literals.specs.examples.Shapes.{attribute_at, int64_at, file_parameters, number_at, output_of, port_at, source_at, sink_at, with_parameters}
 
 -- ---- the text
@@ -87,7 +86,7 @@ prices = record { name = codes "price"; kind = S.Int N.I64 } ∷ []
 
 -- the first attribute at the first port, and the number 10
 abbrev pub is_above : Code Slot
-is_above = C.Binary (D.Order Greater) (C.Name (L.Attribute 0 0)) (C.Literal (V.Int (pos 10)))
+is_above = C.Binary (D.Order Greater) (attribute 0) (number 10)
 
 abbrev pub filtered_checked : CheckedGraph
 filtered_checked = record {

@@ -38,6 +38,7 @@ use Rattle.language_model.specs.declared.checked.WindowRule.TheVariants as W
 use Rattle.language_model.specs.examples.FlatGraphs.{composite_of_graph, name_at, op_at}
 use Rattle.language_model.specs.CheckedGraph.{CheckedGraph}
 use Rattle.language_model.specs.StreamTypes.{Attributes}
+use Rattle.checked_literals.specs.examples.Codes.{attribute}
 use Rattle.checked_literals.specs.examples.Shapes.{attribute_at, field_at, int64_at, member_at, rstring_at, file_parameters, number_at, output_of, parameter_at, port_at, source_at, sink_at, window_at, window_word_at, word_at}
 
 -- ---- the tree
@@ -156,7 +157,7 @@ pairs =
 
 -- an attribute of a trade, at the first port, and of an order, at the second
 abbrev pub of_trade : ℕ → Code Slot
-of_trade place = C.Name (L.Attribute 0 place)
+of_trade = attribute
 
 abbrev pub of_order : ℕ → Code Slot
 of_order place = C.Name (L.Attribute 1 place)

@@ -20,10 +20,9 @@
 --       }
 --       () as Out = FileSink(W) { param file: "o.csv"; format: csv; }
 --   }
-use Rattle.std.specs.Prelude.{ℕ, pos, true, false, List, [], ◌∷◌, Some, None, codes}
+use Rattle.std.specs.Prelude.{true, false, List, [], ◌∷◌, Some, None, codes}
 use Rattle.spl_value.specs.declared.types.IntKind.TheVariants as N
 use Rattle.spl_value.specs.declared.types.SplType.TheVariants as S
-use Rattle.spl_value.specs.declared.value.Value.TheVariants as V
 use Rattle.spl_tree.specs.declared.body.Change.TheVariants as H
 use Rattle.spl_tree.specs.declared.body.Statement.{Statement}
 use Rattle.spl_tree.specs.declared.body.Statement.TheVariants as T
@@ -60,6 +59,7 @@ use Rattle.language_model.specs.declared.checked.StateVariable.{StateVariable}
 use Rattle.language_model.specs.examples.FlatGraphs.{composite_of_graph, name_at, op_at}
 use Rattle.language_model.specs.CheckedGraph.{CheckedGraph}
 use Rattle.language_model.specs.StreamTypes.{Attributes}
+use Rattle.checked_literals.specs.examples.Codes.{attribute, number, variable}
 use Rattle.checked_literals.specs.examples.Shapes.{attribute_at, boolean_at, call_at, field_at, int32_at, member_at, rstring_at, file_parameters, number_at, output_of, output_of_name, parameter_at, port_at, source_at, sink_at, with_parameters, word_at}
 
 -- ---- the tree
@@ -228,15 +228,6 @@ united = record { name = codes "n"; kind = S.Int N.I32 } ∷ record { name = cod
 
 abbrev pub numbers : Attributes
 numbers = record { name = codes "n"; kind = S.Int N.I32 } ∷ []
-
-abbrev pub number : ℕ → Code Slot
-number n = C.Literal (V.Int (pos n))
-
-abbrev pub attribute : ℕ → Code Slot
-attribute place = C.Name (L.Attribute 0 place)
-
-abbrev pub variable : ℕ → Code Slot
-variable place = C.Name (L.Variable place)
 
 abbrev pub on_numbers : IntegerOperator → Code Slot → Code Slot → Code Slot
 on_numbers op left right = C.Binary (D.Integers op N.I32) left right

@@ -13,8 +13,6 @@
 use Rattle.std.specs.Prelude.{true, List, [], ◌∷◌, Some, None, codes}
 use Rattle.spl_value.specs.declared.types.IntKind.TheVariants as N
 use Rattle.spl_value.specs.declared.types.SplType.TheVariants as S
-use Rattle.spl_tree.specs.declared.code.Code.TheVariants as C
-use Rattle.spl_tree.specs.declared.code.Slot.TheVariants as L
 use Rattle.spl_tree.specs.declared.graph.Graph.{Graph}
 use Rattle.spl_tree.specs.declared.graph.OpKind.TheVariants as O
 use Rattle.spl_tree.specs.declared.unit.Definition.{Definition}
@@ -32,6 +30,7 @@ use Rattle.language_model.specs.declared.checked.WindowRule.TheVariants as W
 use Rattle.language_model.specs.examples.FlatGraphs.{composite_of_graph, name_at, op_at}
 use Rattle.language_model.specs.CheckedGraph.{CheckedGraph}
 use Rattle.language_model.specs.StreamTypes.{Attributes}
+use Rattle.checked_literals.specs.examples.Codes.{attribute}
 use Rattle.checked_literals.specs.examples.Shapes.{attribute_at, boolean_at, call_at, field_at, int32_at, int64_at, rstring_at, file_parameters, number_at, output_of, port_at, source_at, sink_at, window_at, window_word_at, word_at}
 
 -- ---- the tree
@@ -134,9 +133,9 @@ last_two = record { partitioned = true; rule = W.SlidingCount 2 (Some 1) }
 abbrev pub collected : List Collected
 collected =
     record { attribute = 2; collector = G.Count; argument = None }
-    ∷ record { attribute = 1; collector = G.Sum N.I32; argument = Some (C.Name (L.Attribute 0 2)) }
-    ∷ record { attribute = 0; collector = G.Last; argument = Some (C.Name (L.Attribute 0 3)) }
-    ∷ record { attribute = 3; collector = G.Last; argument = Some (C.Name (L.Attribute 0 1)) } ∷ []
+    ∷ record { attribute = 1; collector = G.Sum N.I32; argument = Some (attribute 2) }
+    ∷ record { attribute = 0; collector = G.Last; argument = Some (attribute 3) }
+    ∷ record { attribute = 3; collector = G.Last; argument = Some (attribute 1) } ∷ []
 
 -- a partition for each symbol, and in it a group for each `open` with `second`, in the order of the text
 abbrev pub summed_checked : CheckedGraph

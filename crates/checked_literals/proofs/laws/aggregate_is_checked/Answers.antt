@@ -1,4 +1,4 @@
-use Rattle.checked_literals.proofs.AggregateChecked.{aggregate_is_checked, aggregate_is_flat}
+use Rattle.checked_literals.proofs.Programs.{aggregate_is_checked, aggregate_is_flat}
 use Rattle.checked_literals.proofs.laws.aggregate_is_checked.Goals as goal
 
 pub returns-clause-flat : goal.returns-clause-flat

@@ -1,4 +1,4 @@
-use Rattle.checked_literals.proofs.CompositeChecked.{composite_is_checked, composite_is_flat}
+use Rattle.checked_literals.proofs.Programs.{composite_is_checked, composite_is_flat}
 use Rattle.checked_literals.proofs.laws.composite_is_checked.Goals as goal
 
 pub returns-clause-flat : goal.returns-clause-flat

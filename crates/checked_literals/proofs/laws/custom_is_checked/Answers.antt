@@ -1,4 +1,4 @@
-use Rattle.checked_literals.proofs.CustomChecked.{custom_is_checked, custom_is_flat}
+use Rattle.checked_literals.proofs.Programs.{custom_is_checked, custom_is_flat}
 use Rattle.checked_literals.proofs.laws.custom_is_checked.Goals as goal
 
 pub returns-clause-flat : goal.returns-clause-flat

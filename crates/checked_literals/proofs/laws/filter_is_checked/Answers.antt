@@ -1,6 +1,6 @@
 use Rattle.spl_tree.specs.Tokens.{front, tokens}
 use Rattle.checked_literals.proofs.FilterSpelled.{spells_filtered}
-use Rattle.checked_literals.proofs.FilterChecked.{filter_is_checked, filter_is_flat}
+use Rattle.checked_literals.proofs.Programs.{filter_is_checked, filter_is_flat}
 use Rattle.checked_literals.proofs.laws.filter_is_checked.Goals as goal
 
 pub returns-clause-flat : goal.returns-clause-flat

@@ -1,4 +1,4 @@
-use Rattle.checked_literals.proofs.JoinChecked.{join_is_checked, join_is_flat}
+use Rattle.checked_literals.proofs.Programs.{join_is_checked, join_is_flat}
 use Rattle.checked_literals.proofs.laws.join_is_checked.Goals as goal
 
 pub returns-clause-flat : goal.returns-clause-flat

@@ -1,4 +1,4 @@
-use Rattle.checked_literals.proofs.PortsChecked.{ports_are_checked, ports_are_flat}
+use Rattle.checked_literals.proofs.Programs.{ports_are_checked, ports_are_flat}
 use Rattle.checked_literals.proofs.laws.ports_are_checked.Goals as goal
 
 pub returns-clause-flat : goal.returns-clause-flat
