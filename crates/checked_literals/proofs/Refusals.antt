@@ -13,7 +13,7 @@ use Rattle.language_model.specs.Flat.{IsMain, flat_from}
 use Rattle.language_model.specs.Recursion.{IsNotRecursive}
 use Rattle.language_model.specs.Scopes.{At}
 use Rattle.language_model.specs.examples.FlatGraphs.{only_composite}
-use Rattle.checked_literals.specs.examples.Refused.{IsRefused, graph_of, graph_with, refusal, sink_first, sink_first_graph, with_function, with_middle, another_type, another_width, break_alone, constant_changed, list_row, no_attribute, no_port, no_position, no_value, no_window, other_config, other_logic, other_state, other_window, two_inputs, unknown_name, unknown_parameter}
+use Rattle.checked_literals.specs.examples.Refused.{IsRefused, graph_of, graph_with, refusal, sink_first, sink_first_graph, with_function, with_middle, another_type, another_width, break_alone, constant_changed, list_row, no_attribute, no_port, no_position, no_value, no_window, other_config, other_logic, other_state, other_window, two_inputs, unknown_name, unknown_parameter, unknown_without_position, config_without_index, no_group_attribute, partition_alone}
 use Rattle.checked_literals.proofs.Falling.{not_recursive}
 use Rattle.checked_literals.proofs.Flattened.{flat_as}
 use Rattle.checked_literals.proofs.Rules.{computing}
@@ -63,6 +63,16 @@ window_refused =
     let unit = with_middle no_window in
     refused_as unit (only_composite unit) (graph_with O.Aggregate) (refusal E.BadWindow 108 None) (refl, refl) (not_recursive unit refl refl) (simp computing) (simp computing) (simp (computing, text_laws))
 
+pub partition_refused : IsRefused (with_middle partition_alone) (graph_with O.Aggregate) (refusal E.ExtraParameter 183 (Some (codes "partitionBy")))
+partition_refused =
+    let unit = with_middle partition_alone in
+    refused_as unit (only_composite unit) (graph_with O.Aggregate) (refusal E.ExtraParameter 183 (Some (codes "partitionBy"))) (refl, refl) (not_recursive unit refl refl) (simp computing) (simp computing) (simp (computing, text_laws))
+
+pub group_refused : IsRefused (with_middle no_group_attribute) (graph_with O.Aggregate) (refusal E.BadOutput 187 None)
+group_refused =
+    let unit = with_middle no_group_attribute in
+    refused_as unit (only_composite unit) (graph_with O.Aggregate) (refusal E.BadOutput 187 None) (refl, refl) (not_recursive unit refl refl) (simp computing) (simp computing) (simp (computing, text_laws))
+
 pub config_refused : IsRefused (with_middle other_config) (graph_with O.Filter) (refusal E.LeftOut 190 (Some (codes "host")))
 config_refused =
     let unit = with_middle other_config in
@@ -107,6 +117,16 @@ pub submit_refused : IsRefused (with_middle no_port) (graph_with O.Custom) (refu
 submit_refused =
     let unit = with_middle no_port in
     refused_as unit (only_composite unit) (graph_with O.Custom) (refusal E.Unknown 187 (Some (codes "C"))) (refl, refl) (not_recursive unit refl refl) (simp computing) (simp computing) (simp (computing, text_laws))
+
+pub types_first_refused : IsRefused (with_middle unknown_without_position) (graph_with O.Punctor) (refusal E.Unknown 164 (Some (codes "cost")))
+types_first_refused =
+    let unit = with_middle unknown_without_position in
+    refused_as unit (only_composite unit) (graph_with O.Punctor) (refusal E.Unknown 164 (Some (codes "cost"))) (refl, refl) (not_recursive unit refl refl) (simp computing) (simp computing) (simp (computing, text_laws))
+
+pub config_first_refused : IsRefused (with_middle config_without_index) (graph_with O.Split) (refusal E.LeftOut 150 (Some (codes "host")))
+config_first_refused =
+    let unit = with_middle config_without_index in
+    refused_as unit (only_composite unit) (graph_with O.Split) (refusal E.LeftOut 150 (Some (codes "host"))) (refl, refl) (not_recursive unit refl refl) (simp computing) (simp computing) (simp (computing, text_laws))
 
 pub function_refused : IsRefused (with_function unknown_name) (graph_with O.Filter) (refusal E.NoReturn 306 (Some (codes "f")))
 function_refused =

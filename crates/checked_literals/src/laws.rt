@@ -11,7 +11,7 @@ ghost use Rattle.checked_literals.specs.examples.Counted.{counted, counted_graph
 ghost use Rattle.checked_literals.specs.examples.Filtered.{filtered, filtered_text, filtered_graph, filtered_checked};
 ghost use Rattle.checked_literals.specs.examples.Joined.{joined, joined_graph, joined_checked};
 ghost use Rattle.checked_literals.specs.examples.Parted.{parted, parted_graph, parted_checked};
-ghost use Rattle.checked_literals.specs.examples.Refused.{IsRefused, graph_of, graph_with, refusal, sink_first, sink_first_graph, with_function, with_middle, another_type, another_width, break_alone, constant_changed, list_row, no_attribute, no_port, no_position, no_value, no_window, other_config, other_logic, other_state, other_window, two_inputs, unknown_name, unknown_parameter};
+ghost use Rattle.checked_literals.specs.examples.Refused.{IsRefused, graph_of, graph_with, refusal, sink_first, sink_first_graph, with_function, with_middle, another_type, another_width, break_alone, constant_changed, list_row, no_attribute, no_port, no_position, no_value, no_window, other_config, other_logic, other_state, other_window, two_inputs, unknown_name, unknown_parameter, unknown_without_position, config_without_index, no_group_attribute, partition_alone};
 ghost use Rattle.checked_literals.specs.examples.Summed.{summed, summed_graph, summed_checked};
 
 /// A source, a filter and a sink: the tree that their text spells, its graph, and the types and the
@@ -69,6 +69,8 @@ pub fn programs_are_refused()
     ensures parameter { IsRefused (with_middle unknown_parameter) (graph_with O.Filter) (refusal E.ExtraParameter 150 (Some (codes "index"))) }
     ensures missing { IsRefused (with_middle no_position) (graph_with O.Punctor) (refusal E.MissingParameter 108 (Some (codes "position"))) }
     ensures window { IsRefused (with_middle no_window) (graph_with O.Aggregate) (refusal E.BadWindow 108 None) }
+    ensures partition { IsRefused (with_middle partition_alone) (graph_with O.Aggregate) (refusal E.ExtraParameter 183 (Some (codes "partitionBy"))) }
+    ensures group { IsRefused (with_middle no_group_attribute) (graph_with O.Aggregate) (refusal E.BadOutput 187 None) }
     ensures config { IsRefused (with_middle other_config) (graph_with O.Filter) (refusal E.LeftOut 190 (Some (codes "host"))) }
     ensures extra_window { IsRefused (with_middle other_window) (graph_with O.Filter) (refusal E.ExtraParameter 144 (Some (codes "window"))) }
     ensures value { IsRefused (with_middle no_value) (graph_with O.Functor) (refusal E.BadOutput 108 None) }
@@ -78,6 +80,8 @@ pub fn programs_are_refused()
     ensures mutable { IsRefused (with_middle constant_changed) (graph_with O.Custom) (refusal E.NotMutable 184 None) }
     ensures statement { IsRefused (with_middle break_alone) (graph_with O.Custom) (refusal E.WrongCall 163 None) }
     ensures submit { IsRefused (with_middle no_port) (graph_with O.Custom) (refusal E.Unknown 187 (Some (codes "C"))) }
+    ensures types_first { IsRefused (with_middle unknown_without_position) (graph_with O.Punctor) (refusal E.Unknown 164 (Some (codes "cost"))) }
+    ensures config_first { IsRefused (with_middle config_without_index) (graph_with O.Split) (refusal E.LeftOut 150 (Some (codes "host"))) }
     ensures function { IsRefused (with_function unknown_name) (graph_with O.Filter) (refusal E.NoReturn 306 (Some (codes "f"))) }
     ensures in_text { IsRefused (sink_first unknown_name) sink_first_graph (refusal E.MissingParameter 177 (Some (codes "file"))) }
 {}

@@ -28,7 +28,7 @@ use Rattle.language_model.specs.Checking.{checked}
 use Rattle.language_model.specs.Flat.{IsFlat}
 use Rattle.language_model.specs.examples.FlatGraphs.{composite_of_graph, name_at, op_at}
 use Rattle.checked_literals.specs.examples.Filtered.{filtered_graph, sink, source}
-use Rattle.checked_literals.specs.examples.Shapes.{attribute_at, field_at, int32_at, int64_at, number_at, output_of, parameter_at, port_at, sink_at, window_word_at, with_parameters, word_at}
+use Rattle.checked_literals.specs.examples.Shapes.{attribute_at, call_at, field_at, int32_at, int64_at, number_at, output_of, parameter_at, port_at, sink_at, window_at, window_word_at, with_parameters, word_at}
 
 -- ---- programs
 
@@ -145,6 +145,34 @@ other_window = middle (prices_at 115 121 128) 132 (codes "Filter") (reads 139) (
   config = [];
 })
 
+-- `window T: tumbling, count(2);`
+abbrev pub tumbles : ℕ → ℕ → ℕ → ℕ → ℕ → Option (Placed (List PortWindow))
+tumbles at port word count number =
+    Some (placed at (record {
+      port = name_at port (codes "T");
+      parts = window_word_at word (codes "tumbling") ∷ window_at count (codes "count") (number_at number N.I32 2 ∷ []) ∷ [];
+    } ∷ []))
+
+-- stream<int64 price> B = Aggregate(T) { window T: tumbling, count(2); param partitionBy: price; }
+abbrev pub partition_alone : Invocation
+partition_alone = middle (prices_at 115 121 128) 132 (codes "Aggregate") (reads 142) (record {
+  logic = None;
+  window = tumbles 147 154 157 167 173;
+  parameters = parameter_at 183 (codes "partitionBy") (word_at 196 (codes "price")) ∷ [];
+  output = None;
+  config = [];
+})
+
+-- stream<int64 price> B = Aggregate(T) { window T: tumbling, count(2); output B: cost = Count(); }
+abbrev pub no_group_attribute : Invocation
+no_group_attribute = middle (prices_at 115 121 128) 132 (codes "Aggregate") (reads 142) (record {
+  logic = None;
+  window = tumbles 147 154 157 167 173;
+  parameters = [];
+  output = Some (placed 177 (record { stream = name_at 184 (codes "B"); assignments = field_at 187 (codes "cost") (call_at 194 (codes "Count") []) ∷ [] } ∷ []));
+  config = [];
+})
+
 -- ---- outputs
 
 -- stream<int64 cost> B = Functor(T);
@@ -191,6 +219,21 @@ no_port = middle (prices_at 115 121 128) 132 (codes "Custom") (reads 139) (with_
     (on_tuple 150 158 (placed 163 (M.Submit (placed 170 (E.Tuple (field_at 171 (codes "price") (word_at 179 (codes "price")) ∷ []))) (name_at 187 (codes "C"))))))
 
 -- ---- several refusals
+
+-- stream<int64 price> B = Punctor(T) { param punctuation: cost; }
+abbrev pub unknown_without_position : Invocation
+unknown_without_position = middle (prices_at 115 121 128) 132 (codes "Punctor") (reads 140)
+    (with_parameters (parameter_at 151 (codes "punctuation") (word_at 164 (codes "cost")) ∷ []))
+
+-- stream<int64 price> B = Split(T) { config host: 1; }
+abbrev pub config_without_index : Invocation
+config_without_index = middle (prices_at 115 121 128) 132 (codes "Split") (reads 138) (record {
+  logic = None;
+  window = None;
+  parameters = [];
+  output = None;
+  config = parameter_at 150 (codes "host") (number_at 156 N.I32 1) ∷ [];
+})
 
 -- `int64 f() {}` after the composite
 abbrev pub with_function : Invocation → List Definition

@@ -1,4 +1,4 @@
-use Rattle.checked_literals.proofs.Refusals.{ports_refused, types_refused, rows_refused, unknown_refused, width_refused, parameter_refused, missing_refused, window_refused, config_refused, extra_window_refused, value_refused, attribute_refused, logic_refused, state_refused, mutable_refused, statement_refused, submit_refused, function_refused, in_text_refused}
+use Rattle.checked_literals.proofs.Refusals.{group_refused, partition_refused, config_first_refused, types_first_refused, ports_refused, types_refused, rows_refused, unknown_refused, width_refused, parameter_refused, missing_refused, window_refused, config_refused, extra_window_refused, value_refused, attribute_refused, logic_refused, state_refused, mutable_refused, statement_refused, submit_refused, function_refused, in_text_refused}
 use Rattle.checked_literals.proofs.laws.programs_are_refused.Goals as goal
 
 pub returns-clause-ports : goal.returns-clause-ports
@@ -57,3 +57,15 @@ returns-clause-function c = function_refused
 
 pub returns-clause-in_text : goal.returns-clause-in_text
 returns-clause-in_text c = in_text_refused
+
+pub returns-clause-types_first : goal.returns-clause-types_first
+returns-clause-types_first c = types_first_refused
+
+pub returns-clause-config_first : goal.returns-clause-config_first
+returns-clause-config_first c = config_first_refused
+
+pub returns-clause-partition : goal.returns-clause-partition
+returns-clause-partition c = partition_refused
+
+pub returns-clause-group : goal.returns-clause-group
+returns-clause-group c = group_refused
