@@ -1,0 +1,6 @@
+mod Comments
+mod Texts
+mod Numbers
+mod Symbols
+mod Showing
+mod Refusing

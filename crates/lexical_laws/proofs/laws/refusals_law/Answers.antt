@@ -1,0 +1,5 @@
+use Rattle.lexical_laws.proofs.Refusing.{refused_law, refusal_law}
+use Rattle.lexical_laws.proofs.laws.refusals_law.Goals as goal
+
+pub returns : goal.returns
+returns c = record { shown = refused_law; refused = refusal_law }

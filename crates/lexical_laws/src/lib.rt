@@ -1,0 +1,6 @@
+//! Where a program's bytes are no tokens.
+#![tactic(auto)]
+
+mod laws;
+
+pub use laws::refusals_law;
