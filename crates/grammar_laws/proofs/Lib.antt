@@ -1,2 +1,7 @@
 mod Forms
+mod TypeLines
+mod ExpressionLines
+mod PartLines
+mod StatementLines
+mod DefinitionLines
 mod Weighing

@@ -1,2 +1,6 @@
 pub mod Forms
+pub mod Pieces
+pub mod ExpressionLines
+pub mod Lines
+pub mod UnitLines
 pub mod Weighing

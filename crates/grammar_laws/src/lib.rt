@@ -3,4 +3,4 @@
 
 mod laws;
 
-pub use laws::{forms_law, weighing_law};
+pub use laws::{expression_lines_law, forms_law, lines_law, unit_lines_law, weighing_law};
