@@ -4,3 +4,4 @@ mod Numbers
 mod Symbols
 mod Showing
 mod Refusing
+mod Before

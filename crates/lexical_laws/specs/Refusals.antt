@@ -2,7 +2,7 @@
 -- text that isn't closed on its line and a comment that isn't closed are refused at their start, a backslash that begins
 -- no escape at itself, a number that exceeds its type or runs into a word at its start, and a byte that begins no token
 -- at itself.
-use Rattle.std.specs.Prelude.{◌≡◌, ℕ, ◌+◌, ◌-◌, ◌*◌, ◌<◌, ◌≤◌, Bool, true, false, List, [], ◌∷◌, ◌++◌, length, Err}
+use Rattle.std.specs.Prelude.{◌≡◌, ℕ, ◌+◌, ◌-◌, ◌*◌, ◌<◌, ◌≤◌, Bool, true, false, List, [], ◌∷◌, ◌++◌, length, take, Ok, Err}
 use Rattle.std.specs.List.{list_all}
 use Rattle.spl_value.specs.declared.types.IntKind.{IntKind}
 use Rattle.spl_value.specs.declared.types.IntKind.TheVariants.{I8, I16, I32, I64, U8, U16, U32, U64}
@@ -131,3 +131,8 @@ RefusedLaw = (bytes : List ℕ) (e : LexicalError) (at : ℕ) → tokens bytes �
 -- and what shows why is refused, for that reason and there alone
 abbrev pub RefusalLaw : Type 0
 RefusalLaw = (bytes : List ℕ) (e : LexicalError) (at : ℕ) → IsRefused bytes e at → tokens bytes ≡ Err (e, at)
+
+-- and the bytes before the place at which they show it are a program of those tokens
+abbrev pub BeforeLaw : Type 0
+BeforeLaw = (bytes : List ℕ) (ts : List Token) (place : ℕ) (rest : List ℕ) → length bytes ≤ MOST_BYTES → CutTo 0 bytes ts place rest
+    → tokens (take place bytes) ≡ Ok (record { list = ts; length = place })
