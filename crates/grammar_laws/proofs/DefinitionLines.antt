@@ -205,8 +205,8 @@ in_braces x _ (joined _ _ (one o left) (joined a _ d (one c right))) = U.in_brac
 
 -- a head begins where what it begins does
 head_first : {xs : List OutputStream} {l : Option (Placed (List ℕ))} {a : List Token} {at : ℕ} → SpellsHead xs l a → (b : List Token) → first (a ++ b) ≡ Some at → first a ≡ Some at
-head_first (U.one_stream x l a b (U.output h t n d (U.stream w o c k f is left dk right) named) alias) e is_first = is_first
-head_first (U.streams o c xs l a b left d right alias) e is_first = is_first
+head_first (U.one_stream x l a b (U.output h t n d (U.stream w o c k f is left dk right) named) last) e is_first = is_first
+head_first (U.streams o c xs l a b left d right last) e is_first = is_first
 head_first (U.no_stream o c n a left right d) e is_first = is_first
 
 invocation_is : (at : ℕ) {xs : List OutputStream} {l : Option (Placed (List ℕ))} {n : Placed (List ℕ)} {ps : List InputPort} {x : Clauses} {ts : List Token}

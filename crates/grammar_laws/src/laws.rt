@@ -1,4 +1,4 @@
-//! How phrases begin, and where tokens are too deep.
+//! How phrases begin, which pieces they are made of, and where tokens are too deep.
 ghost use Rattle.grammar_laws.specs.Forms.{DefinitionFormLaw, FormLaw, TypeFormLaw};
 ghost use Rattle.grammar_laws.specs.ExpressionLines.{ListLines, OperatorLines, PrimaryLineLaw};
 ghost use Rattle.grammar_laws.specs.Lines.{FirstArmLaw, NextArmLaw, PartLines, StatementLineLaw, TypeLineLaw};

@@ -1,4 +1,4 @@
-//! How the phrases of the grammar begin, and where tokens are too deep.
+//! How the phrases of the grammar begin, which pieces they are made of, and where tokens are too deep.
 #![tactic(auto)]
 
 mod laws;

@@ -5,3 +5,4 @@ mod Symbols
 mod Showing
 mod Refusing
 mod Before
+mod Writing

@@ -276,29 +276,53 @@ digit_stands bs h =
     by end v k false true is = stood (T.Number (record { kind = k; value = v })) end is
     by end v k false false is = refused is
 
--- bytes that are a number by their suffix are digits and a suffix
-kind_number : (bs : List ℕ) (kind : TokenKind) → begins is_digit bs ≡ true → kind_of bs ≡ Ok kind → IsNumber bs × (list_all is_word_byte bs ≡ true)
-kind_number bs kind h is = by (suffix_kind (suffix bs)) refl (sym (digit_kind bs h) ∙ is)
+-- bytes that are that number: digits and a suffix
+pub record Numbered (bs : List ℕ) (kind : TokenKind) : Type 0 where
+  pub n : ℕ
+  pub ds : List ℕ
+  pub letters : List ℕ
+  pub k : IntKind
+  pub begun : begins is_digit ds ≡ true
+  pub says : Decimal n ds
+  pub suffix : IsSuffix k letters
+  pub small : n < top k
+  pub are : ds ++ letters ≡ bs
+  pub is : T.Number (record { kind = k; value = n }) ≡ kind
+
+pub numbered : (bs : List ℕ) (kind : TokenKind) → begins is_digit bs ≡ true → kind_of bs ≡ Ok kind → Numbered bs kind
+numbered bs kind h is = by (suffix_kind (suffix bs)) refl (sym (digit_kind bs h) ∙ is)
   where
     some : begins is_digit (digits bs) ≡ true
     some = begins-take is_digit (prefix_len is_digit bs) bs (prefix_len-first is_digit bs h) ∙ h
 
-    by : (o : Option IntKind) → suffix_kind (suffix bs) ≡ o → number_kind (fold digit_step 0 (digits bs)) o ≡ Ok kind → IsNumber bs × (list_all is_word_byte bs ≡ true)
+    by : (o : Option IntKind) → suffix_kind (suffix bs) ≡ o → number_kind (fold digit_step 0 (digits bs)) o ≡ Ok kind → Numbered bs kind
     by None e is = absurd (cc)
     by (Some k) e is = by_size (nat_lt (fold digit_step 0 (digits bs)) (top k)) refl is
       where
         by_size : (t : Bool) → nat_lt (fold digit_step 0 (digits bs)) (top k) ≡ t
             → cond {A = Result TokenKind Refusal} t (Ok (T.Number (record { kind = k; value = fold digit_step 0 (digits bs) }))) (Err (E.BadNumber, 0)) ≡ Ok kind
-            → IsNumber bs × (list_all is_word_byte bs ≡ true)
+            → Numbered bs kind
         by_size false small is = absurd (cc)
-        by_size true small is =
-            let s = suffix_is k (suffix bs) e in
-            let words : list_all is_word_byte (digits bs ++ suffix bs) ≡ true
-            = list_all-append is_word_byte (digits bs) (suffix bs) ∙ rw (digits_words (digits bs) (take-prefix_len is_digit bs), (suffix_letters s).0) refl in (
-              subst IsNumber (take-append-drop (prefix_len is_digit bs) bs)
-                  (number (fold digit_step 0 (digits bs)) (digits bs) (suffix bs) k some (decimal_from 0 [] (digits bs) none (take-prefix_len is_digit bs)) s (ltb-true (fold digit_step 0 (digits bs)) (top k) small)),
-              subst (λ cs. list_all is_word_byte cs ≡ true) (take-append-drop (prefix_len is_digit bs) bs) words,
-            )
+        by_size true small is = record {
+          n = fold digit_step 0 (digits bs);
+          ds = digits bs;
+          letters = suffix bs;
+          k = k;
+          begun = some;
+          says = decimal_from 0 [] (digits bs) none (take-prefix_len is_digit bs);
+          suffix = suffix_is k (suffix bs) e;
+          small = ltb-true (fold digit_step 0 (digits bs)) (top k) small;
+          are = take-append-drop (prefix_len is_digit bs) bs;
+          is = cc;
+        }
+
+-- so they are a number, and belong to words
+kind_number : (bs : List ℕ) (kind : TokenKind) → begins is_digit bs ≡ true → kind_of bs ≡ Ok kind → IsNumber bs × (list_all is_word_byte bs ≡ true)
+kind_number bs kind h is =
+    let d = numbered bs kind h is in
+    let words : list_all is_word_byte (d.ds ++ d.letters) ≡ true
+    = list_all-append is_word_byte d.ds d.letters ∙ rw (digits_words d.ds (decimal_read d.says).1, (suffix_letters d.suffix).0) refl in
+    (subst IsNumber d.are (number d.n d.ds d.letters d.k d.begun d.says d.suffix d.small), subst (λ cs. list_all is_word_byte cs ≡ true) d.are words)
 
 -- ---- what stands at the front
 

@@ -23,7 +23,7 @@ abbrev NoSymbol : List ℕ → Type 0
 NoSymbol bs = (s : Symbol) (rest : List ℕ) → bs ≡ symbol_text s ++ rest → ⊥
 
 -- what is found passes
-find_passes : {X : Type 0} (p : X → Bool) (xs : List X) (x : X) → find p xs ≡ Some x → p x ≡ true
+pub find_passes : {X : Type 0} (p : X → Bool) (xs : List X) (x : X) → find p xs ≡ Some x → p x ≡ true
 find_passes p [] x e = absurd (cc)
 find_passes p (y ∷ xs) x e = by (p y) refl (find_passes p xs x) e
   where
@@ -32,7 +32,7 @@ find_passes p (y ∷ xs) x e = by (p y) refl (find_passes p xs x) e
     by false passes later e = later e
 
 -- the symbol of bytes has them for its text
-symbol_of-text : (bs : List ℕ) (s : Symbol) → symbol_of bs ≡ Some s → symbol_text s ≡ bs
+pub symbol_of-text : (bs : List ℕ) (s : Symbol) → symbol_of bs ≡ Some s → symbol_text s ≡ bs
 symbol_of-text bs s e = (bytes_eq-Decides (symbol_text s) bs).0 (find_passes (λ s. bytes_eq (symbol_text s) bs) symbols s e)
 
 -- a symbol has one byte or two

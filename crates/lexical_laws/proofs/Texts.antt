@@ -14,7 +14,7 @@ use Rattle.lexical_laws.specs.Refusals.{IsPlain, Inside, nothing, plain, pair, I
 -- ---- the closing quote
 
 -- a byte isn't another one, by their test
-unequal : (b c : ℕ) → (b ≡ c → ⊥) → (b == c) ≡ false
+pub unequal : (b c : ℕ) → (b ≡ c → ⊥) → (b == c) ≡ false
 unequal b c apart = false_from_ne_true (b == c) (λ e. apart (eqb-true b c e))
 
 equal_not : (b c : ℕ) → (b == c) ≡ false → b ≡ c → ⊥
@@ -36,12 +36,12 @@ module _ (quote : ℕ) (quotes : is_quote quote ≡ true) where
   text_length-inside (pair c bs feed d) after = rw (quote_backslash quote quotes, unequal c 10 feed, text_length-inside d after) refl
 
 -- bytes with a quote that closes a text of them
-record Closing (quote : ℕ) (bs : List ℕ) (n : ℕ) : Type 0 where
-  inside : List ℕ
-  after : List ℕ
-  text : Inside quote inside
-  are : bs ≡ inside ++ quote ∷ after
-  count : n ≡ suc (length inside)
+pub record Closing (quote : ℕ) (bs : List ℕ) (n : ℕ) : Type 0 where
+  pub inside : List ℕ
+  pub after : List ℕ
+  pub text : Inside quote inside
+  pub are : bs ≡ inside ++ quote ∷ after
+  pub count : n ≡ suc (length inside)
 
 -- the same behind a backslash
 record ClosingPair (quote : ℕ) (bs : List ℕ) (n : ℕ) : Type 0 where
@@ -86,7 +86,7 @@ closing_slash quote bs n (Some m) later e =
 
 mutual
   -- a quote that is found closes the text
-  closing : (quote : ℕ) (bs : List ℕ) (n : ℕ) → text_length quote false bs ≡ Some n → Closing quote bs n
+  pub closing : (quote : ℕ) (bs : List ℕ) (n : ℕ) → text_length quote false bs ≡ Some n → Closing quote bs n
   closing quote [] n e = absurd (cc)
   closing quote (b ∷ bs) n e = by (b == 10) refl (b == quote) refl (b == 92) refl (closing quote bs) (closing_pair quote bs) e
     where
@@ -154,7 +154,7 @@ escape_feed tab e = absurd (omega (arith, e))
 escape_feed carriage_return e = absurd (omega (arith, e))
 
 -- a byte that is no backslash stands for itself
-unescaped_plain : (at b : ℕ) (bs : List ℕ) → (b == 92) ≡ false → unescaped at (b ∷ bs) ≡ onto b (unescaped (at + 1) bs)
+pub unescaped_plain : (at b : ℕ) (bs : List ℕ) → (b == 92) ≡ false → unescaped at (b ∷ bs) ≡ onto b (unescaped (at + 1) bs)
 unescaped_plain at b [] h = rw h refl
 unescaped_plain at b (c ∷ bs) h = rw h refl
 

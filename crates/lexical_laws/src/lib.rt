@@ -1,6 +1,6 @@
-//! Where a program's bytes are no tokens.
+//! How tokens are written, and where bytes are none.
 #![tactic(auto)]
 
 mod laws;
 
-pub use laws::refusals_law;
+pub use laws::{refusals_law, written_law};
