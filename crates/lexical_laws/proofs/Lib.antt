@@ -6,3 +6,4 @@ mod Showing
 mod Refusing
 mod Before
 mod Writing
+mod Reading

@@ -231,7 +231,7 @@ module _ (n : ℕ) (ds letters : List ℕ) (k : IntKind) (h : begins is_digit ds
       ∙ ap (λ m. number_kind m (Some k)) (decimal_read d).0
       ∙ rw (lt-ltb n (top k) small) refl
 
-  number_token : (after : List ℕ) → begins is_word_byte after ≡ false → IsToken (T.Number (record { kind = k; value = n })) (ds ++ letters) after
+  pub number_token : (after : List ℕ) → begins is_word_byte after ≡ false → IsToken (T.Number (record { kind = k; value = n })) (ds ++ letters) after
   number_token after stops = record {
     formed =
         digit_formed (ds ++ letters) (begins-append is_digit ds letters h)

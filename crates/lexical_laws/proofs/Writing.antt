@@ -33,7 +33,7 @@ use Rattle.lexical_laws.proofs.Symbols.{find_passes, symbol_of-text}
 -- ---- words
 
 -- the keyword of bytes has them for its word
-keyword_of-word : (bs : List ℕ) (k : Keyword) → keyword_of bs ≡ Some k → keyword_word k ≡ bs
+pub keyword_of-word : (bs : List ℕ) (k : Keyword) → keyword_of bs ≡ Some k → keyword_word k ≡ bs
 keyword_of-word bs k e = (bytes_eq-Decides (keyword_word k) bs).0 (find_passes (λ k. bytes_eq (keyword_word k) bs) KEYWORDS k e)
 
 word_written : (b : ℕ) (bs : List ℕ) (kind : TokenKind) → is_letter b ≡ true → list_all is_word_byte bs ≡ true → word_kind (b ∷ bs) (keyword_of (b ∷ bs)) ≡ kind

@@ -1,5 +1,5 @@
 -- How tokens are written: which bytes are a token of each kind.
-use Rattle.std.specs.Prelude.{◌≡◌, ℕ, ◌<◌, true, List, [], ◌∷◌, ◌++◌, All, Ok}
+use Rattle.std.specs.Prelude.{◌≡◌, ℕ, ◌<◌, ◌≤◌, true, List, [], ◌∷◌, ◌++◌, length, All, Ok}
 use Rattle.std.specs.List.{list_all}
 use Rattle.spl_value.specs.declared.types.IntKind.{IntKind}
 use Rattle.spl_value.specs.Values.{top}
@@ -9,6 +9,7 @@ use Rattle.spl_tree.specs.declared.symbol.Symbol.{Symbol}
 use Rattle.spl_tree.specs.declared.token.TokenKind.{TokenKind}
 use Rattle.spl_tree.specs.declared.token.TokenKind.TheVariants as T
 use Rattle.spl_tree.specs.declared.token.Tokens.{Tokens}
+use Rattle.spl_tree.specs.declared.token.TheConstants.{MOST_BYTES}
 use Rattle.spl_tree.specs.Bytes.{is_letter, is_word_byte, is_quote, begins}
 use Rattle.spl_tree.specs.Words.{symbol_text, keyword_word}
 use Rattle.spl_tree.specs.Tokens.{tokens}
@@ -46,3 +47,8 @@ pub data Written : TokenKind → List ℕ → Type 0 where
 -- each token of a program is written in its own bytes
 abbrev pub WrittenLaw : Type 0
 WrittenLaw = (bytes : List ℕ) (ts : Tokens) → tokens bytes ≡ Ok ts → All (λ t. Written t.kind (own_bytes bytes t)) ts.list
+
+-- and bytes that are written so are that token
+abbrev pub TokenLaw : Type 0
+TokenLaw = (kind : TokenKind) (text : List ℕ) → length text ≤ MOST_BYTES → Written kind text
+    → tokens text ≡ Ok (record { list = record { kind = kind; start = 0; end = length text } ∷ []; length = length text })
