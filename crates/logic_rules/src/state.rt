@@ -107,7 +107,7 @@ fn state_of(
 }
 
 /// The variables of a state of a Custom that stands in a scope. Of that their values see the `$`
-/// parameters alone. Where they are found, the scope is as before.
+/// parameters alone. Whatever the answer, the scope is as before after it.
 pub fn state_in(
     alloc: Global,
     types: &TypeScope,
@@ -115,13 +115,13 @@ pub fn state_in(
     declarations: &[Declaration],
 ) -> Result<Items<StateVariable>, TypeAnswer>
     ensures code { Finds (state_typing (types_in types.now) scope.old.dollars declarations.now) result }
-    ensures same_scope { IfOk result (λ _. scope.new ≡ scope.old) }
+    ensures same_scope { scope.new ≡ scope.old }
 {
     let dollars = replace(&mut scope.dollars, Items::new(alloc));
     let constants = constant_scope(alloc, dollars);
-    let state = state_of(alloc, types, &constants, declarations)?;
+    let state = state_of(alloc, types, &constants, declarations);
     scope.dollars = constants.dollars;
-    Ok(state)
+    state
 }
 
 /// The variables without their first values.
