@@ -4,7 +4,7 @@ ghost use Rattle.std.specs.Prelude.{◌≡◌, codes};
 ghost use Rattle.std.specs.Option.{option_copied};
 ghost use Rattle.language_model.specs.Checking.{code_given, file_given, places_given, position_given, strict_given};
 ghost use Rattle.language_model.specs.ParameterTyping.{value_given};
-ghost use Rattle.parameter_rules.specs.Taking.{IsFirst, KeepsOthers};
+ghost use Rattle.parameter_rules.specs.Taking.{IsFirst, KeepsOthers, without_first};
 
 use language_model::{Given, ParameterValue, Position};
 use spl_tree::{Code, Slot};
@@ -35,9 +35,10 @@ fn value_given<'g>(given: &'g [Given], name: &[u8]) -> Option<&'g ParameterValue
     None
 }
 
-/// The same, moved out of the list.
+/// The same, moved out of the list with its name.
 fn take_value(given: &mut Items<Given>, name: &[u8]) -> Option<ParameterValue>
     ensures value { result ≡ value_given given.old name.now }
+    ensures rest { given.new ≡ without_first name.now given.old }
     ensures others { KeepsOthers name.now given.old given.new }
 {
     let at = place_given(given.as_slice(), name)?;
@@ -47,9 +48,11 @@ fn take_value(given: &mut Items<Given>, name: &[u8]) -> Option<ParameterValue>
 /// Drops a value.
 fn release(_value: Option<ParameterValue>) {}
 
-/// The code of a condition or an index, by its name. What is given by other names stays.
+/// The code of a condition or an index, by its name. The first parameter of the name leaves the list with
+/// its value, also where that is no code, and the others stay.
 pub fn take_code(given: &mut Items<Given>, name: &[u8]) -> Option<Code<Slot>>
     ensures code { result ≡ code_given given.old name.now }
+    ensures rest { given.new ≡ without_first name.now given.old }
     ensures others { KeepsOthers name.now given.old given.new }
 {
     match take_value(given, name)? {
@@ -58,9 +61,11 @@ pub fn take_code(given: &mut Items<Given>, name: &[u8]) -> Option<Code<Slot>>
     }
 }
 
-/// The name of the file; without one it is empty. What is given by other names stays.
+/// The name of the file; without one it is empty. The first parameter of the name leaves the list with its
+/// value, and the others stay.
 pub fn take_file(alloc: Global, given: &mut Items<Given>) -> Bytes
     ensures file { result ≡ file_given given.old }
+    ensures rest { given.new ≡ without_first (codes "file") given.old }
     ensures others { KeepsOthers (codes "file") given.old given.new }
 {
     match take_value(given, b"file") {
@@ -72,10 +77,11 @@ pub fn take_file(alloc: Global, given: &mut Items<Given>) -> Bytes
     }
 }
 
-/// The places of attributes, by the parameter's name; without one there are none. What is given by other
-/// names stays.
+/// The places of attributes, by the parameter's name; without one there are none. The first parameter of the
+/// name leaves the list with its value, and the others stay.
 pub fn take_places(alloc: Global, given: &mut Items<Given>, name: &[u8]) -> Places
     ensures places { result ≡ places_given given.old name.now }
+    ensures rest { given.new ≡ without_first name.now given.old }
     ensures others { KeepsOthers name.now given.old given.new }
 {
     match take_value(given, name) {

@@ -5,6 +5,7 @@ use Rattle.std.proofs.Common.{arith, refl, ap, sym, ◌∙◌}
 use Rattle.std.proofs.lemmas.Option.{slice_get_read}
 use Rattle.std.proofs.lemmas.Slice.Eq.{bytes_eq-Decides}
 use Rattle.parameter_rules.proofs.Giving.{given_here}
+use Rattle.parameter_rules.proofs.Taking.{left_here, left_on, left_past}
 use Rattle.parameter_rules.proofs.parameters.given.place_given.Goals as goal
 
 pub returns-then-eq : goal.returns-then-eq
@@ -16,5 +17,6 @@ returns-then-eq c =
     let read = slice_get_read given (length given) c.loop-at.at g refl c.loop-at-test.true c.index-given-at.is in (
       c.loop-at-test.true,
       ap (option_map (λ g. g.name)) read ∙ ap Some ((bytes_eq-Decides g.name name).0 named),
-      sym (c.loop-at.invariant ∙ given_here given name c.loop-at.at g c.loop-at-test.true c.index-given-at.is named),
+      sym (c.loop-at.invariant.value ∙ given_here given name c.loop-at.at g c.loop-at-test.true c.index-given-at.is named),
+      left_here given name c.loop-at.at c.loop-at.invariant.left g c.loop-at-test.true c.index-given-at.is named,
     )
