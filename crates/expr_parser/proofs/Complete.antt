@@ -99,11 +99,11 @@ items_opens (next_item es e t a b ds comma d) rest = rw (append_assoc a (t ∷ b
 -- how a look at the first token goes
 module _ {A : Type 0} {p : Token → Bool} {f : Token → R A} {d : R A} {o : Answer A} where
   -- the first token passes
-  takes : {t : Token} {ts : List Token} → p t ≡ true → RunsTo rule (f t) ts o → RunsTo rule (look p f d) (t ∷ ts) o
+  pub takes : {t : Token} {ts : List Token} → p t ≡ true → RunsTo rule (f t) ts o → RunsTo rule (look p f d) (t ∷ ts) o
   takes {t} {ts} passes r = runs_take (t ∷ ts) t ts refl passes r
 
   -- no first token does
-  skips : {ts : List Token} → begins_with p ts ≡ false → RunsTo rule d ts o → RunsTo rule (look p f d) ts o
+  pub skips : {ts : List Token} → begins_with p ts ≡ false → RunsTo rule d ts o → RunsTo rule (look p f d) ts o
   skips {ts} none r = runs_skip ts none r
 
 -- Where lines end

@@ -6,7 +6,8 @@ use Rattle.expr_parser.specs.Rules.{Rule, Answer, Took, Refused, Spent, read, Re
 use Rattle.expr_parser.specs.RuleLaws.{Settled, read_more, reads_one}
 use Rattle.expr_parser.proofs.Locality.{rest_of, leaving, Keeps, leaves, keeps}
 use Rattle.spl_tree.specs.Fronts.{Starts, Longest, IsPhrase, IsUnexpected}
-use Rattle.expr_parser.proofs.Soundness.{Takes, Begins, Sound}
+use Rattle.expr_parser.specs.Parts.{Takes, Begins}
+use Rattle.expr_parser.proofs.Soundness.{Sound}
 
 module _ {Line : Type 0} {Value : Line → Type 0} (rule : (x : Line) → Rule Line Value (Value x)) (whole : Line)
     (Spells : Value whole → List Token → Type 0)

@@ -6,6 +6,7 @@ pub mod Soundness
 pub mod Exactness
 pub mod PhraseLaws
 pub mod Expressions
+pub mod PartReadings
 pub mod Derive
 pub mod Front
 pub mod LineSteps

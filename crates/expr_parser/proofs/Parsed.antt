@@ -79,6 +79,6 @@ module _ (tokens : Tokens) (from : ℕ) (list rest : List Token) (same : list �
         }
 
 -- a refusal of an expression
-pub begun_stop : (ts : List Token) (e : Stop) → Gives Whole ts (Err e) → Begun ts (Err e)
+pub begun_stop : (ts : List Token) (e : Stop) → Gives Whole ts (Err e) → Begun Spells ts (Err e)
 begun_stop ts (S.At rest) g = exact_refused g
 begun_stop ts S.Memory g = tt

@@ -13,8 +13,10 @@ use Rattle.spl_tree.specs.declared.expression.Step.TheVariants as N
 use Rattle.spl_tree.specs.Grammar.{Expr, Prefix, placed, Is, Names, Literal, dollar, number, text, yes, no, Prefixes, no_prefixes, operator, cast, Primary, literal, name, call, group, list, empty_map, map, tuple, Elements, no_elements, elements, Items, first_item, next_item, Entries, first_entry, next_entry, Fields, first_field, next_field, Steps, no_steps, member, index, Operand, primary, select, Unary, operand, prefixed, At, unary, tighter, binary, Spells, plain, conditional}
 use Rattle.expr_parser.specs.Rules as rules
 use Rattle.expr_parser.specs.Rules.{done, stop, look, read}
+use Rattle.spl_tree.specs.Phrases.{Phrase}
 use Rattle.spl_tree.specs.Fronts.{Starts}
-use Rattle.expr_parser.proofs.Soundness.{Phrase, Behind, After, Leads, leads_some, Sound, sound as sound_lines}
+use Rattle.expr_parser.specs.Parts.{Closed, closed, SpellsSteps, alone, selects}
+use Rattle.expr_parser.proofs.Soundness.{Behind, After, Leads, leads_some, Sound, sound as sound_lines}
 use Rattle.expr_parser.specs.Lines as lines
 use Rattle.expr_parser.specs.Lines.{Line, Value, Whole, Rest, Climb, Chain, Prefixed, Group, Named, Brace, rule, R, is, expect, field, field_rule, operator_of, is_name, name_of}
 use Rattle.expr_parser.proofs.TestLaws.{is-true, is_name-true, is_literal-true, is_prefix-true, is_target-true, is_operator-true}
@@ -84,14 +86,6 @@ LeadingEntry es key a = (v : Expr) (b : List Token) → Spells v b → Entries (
 abbrev pub LeadingField : List (Field Expr) → Placed (List ℕ) → List Token → Type 0
 LeadingField fs named a = (v : Expr) (b : List Token) → Spells v b → Fields (fs ++ field named v ∷ []) (a ++ b)
 
--- expressions with commas between them, or none, and the closing bracket
-pub record Closed (close : Symbol) (es : List Expr) (a : List Token) : Type 0 where
-  pub inside : List Token
-  pub last : Token
-  pub splits : a ≡ inside ++ last ∷ []
-  pub spells : Elements es inside
-  pub is : Is close last
-
 -- what each line spells, behind what it has
 abbrev pub Phrases : (x : Line) → Phrase (Value x)
 Phrases Whole = Spells
@@ -102,12 +96,12 @@ Phrases (Prefixed ps) = After Prefixes Unary ps
 Phrases lines.Primary = Primary
 Phrases (Group at) = From S.LeftParen at Primary
 Phrases (Named at n) = λ e b. (t : Token) → Names n t → t.start ≡ at → Primary e (t ∷ b)
-Phrases (lines.Elements close) = Closed close
-Phrases (lines.Items close es) = After Leading (Closed close) es
+Phrases (lines.Elements close) = Closed Elements close
+Phrases (lines.Items close es) = After Leading (Closed Items close) es
 Phrases (Brace at) = From S.LeftBrace at Primary
 Phrases (lines.Entries at es key) = After (LeadingEntry es) (From S.LeftBrace at Primary) key
 Phrases (lines.Fields at fs named) = After (LeadingField fs) (From S.LeftBrace at Primary) named
-Phrases (lines.Steps e ss) = After Steps (After Primary Operand e) ss
+Phrases (lines.Steps e ss) = After Steps (SpellsSteps e) ss
 
 -- Phrases put together
 
@@ -128,10 +122,29 @@ unary_spells : (ps : List Prefix) {e : Expr} {a b : List Token} → Prefixes ps 
 unary_spells [] {e} {a} {b} ds d = rw (prefixes_none ds refl) (operand e b d)
 unary_spells (p ∷ ps) {e} {a} {b} ds d = prefixed p ps e a b ds d
 
+-- steps that are taken, or none
+steps_spell : {e : Expr} (ss : List (Step Expr)) {a : List Token} → Steps ss a → SpellsSteps e (lines.selected e ss) a
+steps_spell [] {a} ds = rw (steps_none ds refl) alone
+steps_spell (s ∷ ss) {a} ds = selects s ss a ds
+
 -- a primary expression with steps behind it, or none
-operand_spells : {e : Expr} (ss : List (Step Expr)) {a b : List Token} → Primary e a → Steps ss b → Operand (lines.selected e ss) (a ++ b)
-operand_spells {e} [] {a} {b} d ds = rw (steps_none ds refl, append-nil a) (primary e a d)
-operand_spells {e} (s ∷ ss) {a} {b} d ds = select e s ss a b d ds
+operand_spells : {e p : Expr} {a b : List Token} → Primary e a → SpellsSteps e p b → Operand p (a ++ b)
+operand_spells {e} {p} {a} d alone = rw (append-nil a) (primary e a d)
+operand_spells {e} {p} {a} d (selects s ss b ds) = select e s ss a b d ds
+
+-- a list and its closing bracket
+list_spells : {o : Token} {es : List Expr} {a : List Token} → Is S.LeftBracket o → Closed Elements S.RightBracket es a
+    → Primary (placed o.start (X.List es)) (o ∷ a)
+list_spells {o} left (closed es c a d right) = list o c es a left d right
+
+-- a call and its closing parenthesis
+call_spells : {t o : Token} {n : List ℕ} {es : List Expr} {a : List Token} → Names n t → Is S.LeftParen o → Closed Elements S.RightParen es a
+    → Primary (placed t.start (X.Call n es)) (t ∷ o ∷ a)
+call_spells {t} {o} {n} named left (closed es c a d right) = call t o c n es a named left d right
+
+-- one expression or more are what may be none
+some_closed : {close : Symbol} {es : List Expr} {a : List Token} → Closed Items close es a → Closed Elements close es a
+some_closed (closed es c a d right) = closed es c a (elements es a d) right
 
 -- an operand is an expression at each level
 at_spells : (k : ℕ) {e : Expr} {a : List Token} → Unary e a → At k e a
@@ -141,14 +154,8 @@ at_spells (suc k) {e} {a} d = tighter k e a (at_spells k d)
 -- the last expression in brackets
 module _ (e : Expr) (a b : List Token) (c : Token) (d : Spells e b) where
   -- expressions and their closing bracket
-  closed_spells : (close : Symbol) (es : List Expr) → Leading es a → Is close c → Closed close (es ++ e ∷ []) (a ++ (b ++ c ∷ []))
-  closed_spells close es lead right = record {
-    inside = a ++ b;
-    last = c;
-    splits = sym (append_assoc a b (c ∷ []));
-    spells = elements (es ++ e ∷ []) (a ++ b) (lead e b d);
-    is = right;
-  }
+  closed_spells : (close : Symbol) (es : List Expr) → Leading es a → Is close c → Closed Items close (es ++ e ∷ []) (a ++ (b ++ c ∷ []))
+  closed_spells close es lead right = rw (← append_assoc a b (c ∷ [])) (closed (es ++ e ∷ []) c (a ++ b) (lead e b d) right)
 
   -- a map and its closing brace
   map_spells : (at : ℕ) (es : List (Expr × Expr)) (key : Expr) → LeadingEntry es key a → Is S.RightBrace c
@@ -234,7 +241,7 @@ has (Named at n) = record { behind = []; value = placed at (X.Name n); spells = 
 has (lines.Elements close) = record {
   behind = a_symbol close ∷ [];
   value = [];
-  spells = record { inside = []; last = a_symbol close; splits = refl; spells = no_elements; is = refl };
+  spells = closed [] (a_symbol close) [] no_elements refl;
 }
 has (lines.Items close es) = record {
   behind = a_word ∷ a_symbol close ∷ [];
@@ -256,7 +263,7 @@ has (lines.Fields at fs named) = record {
   value = placed at (X.Tuple (fs ++ field named a_name ∷ []));
   spells = λ a lead. tuple_spells a_name a (a_word ∷ []) (a_symbol S.RightBrace) a_name_spells at fs named lead refl;
 }
-has (lines.Steps e ss) = record { behind = []; value = lines.selected e ss; spells = λ a ds b d. rw (append-nil a) (operand_spells ss d ds) }
+has (lines.Steps e ss) = record { behind = []; value = lines.selected e ss; spells = λ a ds. rw (append-nil a) (steps_spell ss ds) }
 
 -- Each line's rule leads to its phrases
 
@@ -278,8 +285,8 @@ leads_name U r q = (λ t e. q t (is_name-true t e), starts_behind U a_word (r a_
 
 -- an operand behind prefixes, from a primary expression and what is taken of it
 leads_operand : (ps : List Prefix) (p u : Expr) (f a b : List Token) → Prefixes ps f → Primary p a
-    → After Steps (After Primary Operand p) [] u b → Unary (lines.prefixed ps u) (f ++ (a ++ (b ++ [])))
-leads_operand ps p u f a b ds d s = rw (append-nil b) (unary_spells ps ds (s [] no_steps a d))
+    → After Steps (SpellsSteps p) [] u b → Unary (lines.prefixed ps u) (f ++ (a ++ (b ++ [])))
+leads_operand ps p u f a b ds d s = rw (append-nil b) (unary_spells ps ds (operand_spells d (s [] no_steps)))
 
 -- in braces, a name alone is that of a field, and any other expression a key
 leads_field : (at place : ℕ) (k : ExprKind) → Leads Phrases (After Spells (From S.LeftBrace at Primary) (placed place k)) (field_rule at place k)
@@ -326,7 +333,7 @@ leads lines.Primary = (
   (
     λ t e v b r. rw (append-nil b) (r t (is_name-true t e) refl),
     (
-      λ o e es b closed. rw (append-nil b, closed.splits) (list o closed.last es closed.inside (is-true S.LeftBracket o e) closed.spells closed.is),
+      λ o e es b d. rw (append-nil b) (list_spells (is-true S.LeftBracket o e) d),
       (λ o e v b r. rw (append-nil b) (r o (is-true S.LeftBrace o e) refl), has lines.Primary),
     ),
   ),
@@ -334,13 +341,12 @@ leads lines.Primary = (
 leads (Group at) = λ e. leads_expect _ S.RightParen (done (placed at (X.Group e))) (λ c right a d o left start.
     rw (← start) (group o c e a left d right))
 leads (Named at n) = (
-  λ o e es b closed t named start.
-      rw (← start, append-nil b, closed.splits) (call t o closed.last n es closed.inside named (is-true S.LeftParen o e) closed.spells closed.is),
+  λ o e es b d t named start. rw (← start, append-nil b) (call_spells named (is-true S.LeftParen o e) d),
   λ t named start. rw (← start) (name t n named),
 )
 leads (lines.Elements close) = (
-  λ c e. record { inside = []; last = c; splits = refl; spells = no_elements; is = is-true close c e },
-  λ es b r. rw (append-nil b) (r [] first_item),
+  λ c e. closed [] c [] no_elements (is-true close c e),
+  λ es b r. rw (append-nil b) (some_closed (r [] first_item)),
 )
 leads (lines.Items close es) = λ e. (
   λ t comma all b r d s a lead.
@@ -376,7 +382,7 @@ leads (lines.Steps e ss) = (
   (
     λ o left i. leads_expect _ S.RightBracket (rules.call (lines.Steps e (ss ++ N.Index i ∷ [])) done) (λ c right v b r d s q ds.
         rw (append-nil b) (simp append_assoc at (r (q ++ o ∷ (d ++ c ∷ [])) (index ss i o c q d ds (is-true S.LeftBracket o left) s right)))),
-    λ q ds p d. rw (append-nil q) (operand_spells ss d ds),
+    λ q ds. rw (append-nil q) (steps_spell ss ds),
   ),
 )
 

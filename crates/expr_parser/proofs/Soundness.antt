@@ -2,11 +2,9 @@
 use Rattle.std.proofs.Common.{◌≡◌, ◌∙◌, ℕ, zero, suc, Bool, true, false, if◌then◌else◌, List, [], ◌∷◌, ◌++◌, refl, sym, ap, append_assoc}
 use Rattle.spl_tree.specs.declared.token.Token.{Token}
 use Rattle.expr_parser.specs.Rules.{Rule, done, stop, look, call, Answer, Took, Refused, Spent, Reader, and_then, run, read}
+use Rattle.spl_tree.specs.Phrases.{Phrase}
 use Rattle.spl_tree.specs.Fronts.{Starts}
-
--- which tokens spell a value
-abbrev pub Phrase : Type 0 → Type 1
-Phrase A = A → List Token → Type 0
+use Rattle.expr_parser.specs.Parts.{Takes, Begins}
 
 -- what completes a token to a phrase
 abbrev pub Behind : {A : Type 0} → Token → Phrase A → Phrase A
@@ -15,18 +13,6 @@ Behind t U v b = U v (t ∷ b)
 -- what completes each phrase of a value to another phrase
 abbrev pub After : {A B : Type 0} → Phrase A → Phrase B → A → Phrase B
 After P U y v b = (a : List Token) → P y a → U v (a ++ b)
-
--- what was taken is a phrase
-pub record Takes {A : Type 0} (P : Phrase A) (ts : List Token) (value : A) (rest : List Token) : Type 0 where
-  pub front : List Token
-  pub splits : ts ≡ front ++ rest
-  pub spells : P value front
-
--- what was taken starts a phrase
-pub record Begins {A : Type 0} (P : Phrase A) (ts rest : List Token) : Type 0 where
-  pub front : List Token
-  pub splits : ts ≡ front ++ rest
-  pub starts : Starts P front
 
 -- a value that is taken has its phrase, and a refusal stands where a phrase was started
 abbrev pub Sound : {A : Type 0} → Phrase A → List Token → Answer A → Type 0

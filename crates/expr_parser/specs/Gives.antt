@@ -9,10 +9,12 @@ use Rattle.spl_tree.specs.declared.symbol.Symbol.{Symbol}
 use Rattle.spl_tree.specs.declared.expression.Step.{Step}
 use Rattle.spl_tree.specs.declared.symbol.Symbol.TheVariants as K
 use Rattle.spl_tree.specs.declared.expression.Placed.{Placed}
-use Rattle.spl_tree.specs.Grammar.{Expr, Prefix, placed, Spells}
+use Rattle.spl_tree.specs.Phrases.{Phrase}
+use Rattle.spl_tree.specs.Grammar.{Expr, Prefix, placed}
 use Rattle.spl_tree.specs.Fronts.{IsPhrase, IsUnexpected}
 use Rattle.expr_parser.specs.RuleLaws.{begins_with}
 use Rattle.expr_parser.specs.Taken.{Taken, TakenAs}
+use Rattle.expr_parser.specs.Parts.{Takes, Begins}
 use Rattle.expr_parser.specs.Lines.{Line, Value, Prefixed, Primary, Group, Steps, rule, R, is, is_name, name_of, operand_rule}
 
 -- a value, a height of which nothing is said, and the tokens behind
@@ -38,11 +40,17 @@ abbrev pub Answers : (x : Line) → List Token → Result (Value x × Bor (List 
 Answers x ts (Ok found) = Reads rule x ts (Took found.0 found.1.now)
 Answers x ts (Err e) = Gives x ts (Err e)
 
--- the longest front of the tokens that starts an expression is this one, or is none
-abbrev pub Begun : List Token → Result (Expr × Bor (List Token)) Stop → Type 0
-Begun ts (Ok found) = IsPhrase Spells ts found.0 found.1.now
-Begun ts (Err (S.At rest)) = IsUnexpected Spells ts rest.now
-Begun ts (Err S.Memory) = Unit {0}
+-- the longest front of the tokens that starts a phrase is the phrase that is answered, or is none
+abbrev pub Begun : {A : Type 0} → Phrase A → List Token → Result (A × Bor (List Token)) Stop → Type 0
+Begun P ts (Ok found) = IsPhrase P ts found.0 found.1.now
+Begun P ts (Err (S.At rest)) = IsUnexpected P ts rest.now
+Begun P ts (Err S.Memory) = Unit {0}
+
+-- the tokens in front of the rest spell the phrase that is answered; where they are refused at the rest, they start one
+abbrev pub Spelled : {A : Type 0} → Phrase A → List Token → Result (A × Bor (List Token)) Stop → Type 0
+Spelled P ts (Ok found) = Takes P ts found.0 found.1.now
+Spelled P ts (Err (S.At rest)) = Begins P ts rest.now
+Spelled P ts (Err S.Memory) = Unit {0}
 
 -- the symbol comes first, with these tokens behind it, or else it is refused where they begin
 abbrev pub Passes : Symbol → List Token → Result (Bor (List Token)) Stop → Type 0

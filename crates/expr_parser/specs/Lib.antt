@@ -2,6 +2,7 @@ pub mod Rules
 pub mod RuleLaws
 pub mod Lines
 pub mod Taken
+pub mod Parts
 pub mod Gives
 pub mod Weighed
 pub mod Parses

@@ -39,7 +39,7 @@ Parses tokens from (Err A.Memory) = Unit {0}
 abbrev pub OneTreeLaw : Type 0
 OneTreeLaw = (e f : Expr) (a : List Token) → Spells e a → Spells f a → e ≡ f
 
--- want of memory apart, there is one answer
+-- lack of memory apart, there is one answer
 abbrev pub OneAnswerLaw : Type 0
 OneAnswerLaw = (tokens : Tokens) (from : ℕ) (x y : Result ParsedExpr SyntaxAnswer) → Parses tokens from x → Parses tokens from y
     → (x ≡ Err A.Memory) ⊎ ((y ≡ Err A.Memory) ⊎ (x ≡ y))

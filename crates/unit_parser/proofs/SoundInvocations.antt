@@ -1,5 +1,5 @@
 -- What is read of invocations and their clauses is spelled so.
-use Rattle.std.proofs.Common.{ℕ, List, [], ◌∷◌, ◌++◌, Option, refl, append_assoc, append-nil}
+use Rattle.std.proofs.Common.{ℕ, List, [], ◌∷◌, ◌++◌, Option, Some, refl, append_assoc, append-nil}
 use Rattle.spl_tree.specs.declared.expression.Field.{Field}
 use Rattle.spl_tree.specs.declared.expression.Placed.{Placed}
 use Rattle.spl_tree.specs.declared.keyword.Keyword.{Keyword}
@@ -16,16 +16,17 @@ use Rattle.spl_tree.specs.declared.unit.OutputStream.{OutputStream}
 use Rattle.spl_tree.specs.declared.unit.Parameter.{Parameter}
 use Rattle.spl_tree.specs.declared.unit.PortWindow.{PortWindow}
 use Rattle.spl_tree.specs.declared.unit.WindowPart.{WindowPart}
-use Rattle.spl_tree.specs.Grammar.{Expr, Is, Names, Items, first_item, Fields, first_field, next_field}
+use Rattle.spl_tree.specs.Grammar.{Expr, placed, Is, Names, Elements, Items, first_item, Fields, first_field, next_field}
 use Rattle.spl_tree.specs.Phrases.{IsKeyword, Row, none, Separated, Listed, empty, some}
 use Rattle.spl_tree.specs.TypeGrammar.{Shape, SpellsShape}
 use Rattle.spl_tree.specs.StatementGrammar.{SpellsDeclaration, BeginsAt}
 use Rattle.spl_tree.specs.UnitGrammar as units
 use Rattle.spl_tree.specs.UnitGrammar.{SpellsName, SpellsAlias, SpellsParameter, parameter, no_clause, clause, absent, placed_clause, SpellsStream, SpellsOutputStream, SpellsHead, SpellsInput, SpellsState, SpellsWindowPart, SpellsPortWindow, port_window, SpellsOutputAssignments, output_assignments, SpellsEnd, SpellsInvocation}
 use Rattle.expr_parser.specs.Lines.{name_of}
+use Rattle.expr_parser.specs.Parts.{Closed, closed}
 use Rattle.statement_parser.specs.Lines as lines
 use Rattle.statement_parser.specs.Lines.{Name, rule, name_at}
-use Rattle.unit_parser.proofs.SoundPhrases.{Leading, Closed, closed, SpellsField, field, Phrases}
+use Rattle.unit_parser.proofs.SoundPhrases.{Leading, SpellsField, field, Phrases}
 use Rattle.unit_parser.proofs.SoundSamples.{listing_closed}
 use Rattle.unit_parser.proofs.SoundRules.{LeadsTo, ended, called, last, comes_symbol, comes_word, comes_name, may_symbol, may_word, may_name, row_more, lead_first, lead_next}
 
@@ -149,10 +150,15 @@ window_parts_leads ps = comes_name (λ t word. called (λ es. may_symbol S.Comma
     simp append_assoc at (r ((z ++ t ∷ a) ++ c ∷ []) (lead_next c part comma))))
     (comes_symbol S.Semicolon (λ s semicolon. ended (λ a d z lead. listing_closed ps z s lead (d t (name_of t) word) semicolon)))))
 
+-- a part of a window with its arguments
+part_spells : {o : Token} {es : List Expr} {a : List Token} → Is S.LeftParen o → Closed Elements S.RightParen es a → (t : Token) (n : List ℕ) → Names n t
+    → SpellsWindowPart (record { name = placed t.start n; arguments = Some es }) (t ∷ o ∷ a)
+part_spells {o} left (closed es c a d right) t n word = units.with_arguments t o c n es a word left d right
+
 pub part_arguments_leads : LeadsTo (Phrases lines.PartArguments) (rule lines.PartArguments)
 unfolding rule
 part_arguments_leads = may_symbol S.LeftParen
-    (λ o left. last (λ es a d t n word. rw d.splits (units.with_arguments t o d.last n es d.inside word left d.spells d.is)))
+    (λ o left. last (λ es a d. part_spells left d))
     (ended (λ t n word. units.word t n word))
 
 pub parameter_clause_leads : (k : Keyword) → LeadsTo (Phrases (lines.ParameterClause k)) (rule (lines.ParameterClause k))

@@ -1,7 +1,6 @@
 -- What each line of units spells, behind what it has.
 use Rattle.std.proofs.Common.{◌≡◌, ℕ, Bool, true, List, [], ◌∷◌, ◌++◌, Option}
 use Rattle.spl_tree.specs.declared.expression.Field.{Field}
-use Rattle.spl_tree.specs.declared.expression.Step.{Step}
 use Rattle.spl_tree.specs.declared.keyword.Keyword.{Keyword}
 use Rattle.spl_tree.specs.declared.keyword.Keyword.TheVariants as K
 use Rattle.spl_tree.specs.declared.shape.Attribute.{Attribute}
@@ -9,15 +8,14 @@ use Rattle.spl_tree.specs.declared.symbol.Symbol.{Symbol}
 use Rattle.spl_tree.specs.declared.symbol.Symbol.TheVariants as S
 use Rattle.spl_tree.specs.declared.token.Token.{Token}
 use Rattle.spl_tree.specs.declared.unit.WindowPart.{WindowPart}
-use Rattle.spl_tree.specs.Grammar.{Expr, placed, Is, Names, Items, Fields, Steps, Spells}
-use Rattle.spl_tree.specs.Phrases.{IsKeyword, Row, Separated, Listed}
+use Rattle.spl_tree.specs.Grammar.{Expr, placed, Is, Names, Fields, Spells}
+use Rattle.spl_tree.specs.Phrases.{Phrase, IsKeyword, Row, Separated, Listed}
 use Rattle.spl_tree.specs.TypeGrammar.{TypeExpr, named, SpellsType, SpellsAttributes, SpellsShape, SpellsFunctionParameters}
 use Rattle.spl_tree.specs.StatementGrammar.{Stmt, SpellsMutable, SpellsDeclaration, SpellsStmt, SpellsArms, SpellsStmts, SpellsBlock, BeginsAt, IsNoIf}
 use Rattle.spl_tree.specs.UnitGrammar.{SpellsName, SpellsAlias, SpellsTypeDefinition, SpellsParameter, Clause, PlacedClause, SpellsOutputStream, SpellsHead, SpellsInput, SpellsStateClause, HandlesEvent, SpellsHandler, SpellsLogic, SpellsWindowPart, SpellsPortWindow, SpellsOutputAssignments, SpellsEnd, SpellsInvocation, SpellsHeadPort, SpellsHeadPorts, SpellsDefault, SpellsCompositeParameter, SpellsPublic, SpellsComposite, SpellsResultType, SpellsFunction, SpellsDefinition, SpellsNamespace, SpellsUnit}
-use Rattle.expr_parser.specs.Lines as expressions
-use Rattle.expr_parser.specs.Lines.{selected}
+use Rattle.expr_parser.specs.Parts.{Closed}
 use Rattle.expr_parser.proofs.Sound as sound
-use Rattle.expr_parser.proofs.Soundness.{Phrase, After}
+use Rattle.expr_parser.proofs.Soundness.{After}
 use Rattle.statement_parser.specs.Lines.{Line, Value, Name, Expression, TypeExpression, ListType, MapType, TupleType, Attributes, MoreAttributes, Shaped, Declare, Declared, Valued, Declarations, Statement, Other, Begun, Arms, Statements, Block, Alias, Stream, Streams, StreamHead, ListHead, Invoked, Inputs, MoreInputs, InputStreams, End, LogicClause, State, Handlers, HandlerOf, WindowClause, Windows, WindowParts, PartArguments, ParameterClause, Parameters, OutputClause, Outputs, Assignments, CompositeOf, HeadPorts, Ports, Port, CompositeParameterClause, CompositeParameters, Default, TypeClause, Types, GraphClause, Graph, TypeOf, FunctionOf, FunctionParameters, Definitions, Namespace, Whole, parameter_with}
 
 -- Parts of phrases
@@ -33,10 +31,6 @@ FromWord k at U v b = (t : Token) → IsKeyword k t → t.start ≡ at → U v (
 -- what one more phrase of P completes to a list of them
 abbrev pub Leading : {A : Type 0} → Phrase A → Phrase (List A) → Phrase (List A)
 Leading P Q xs a = (x : _) (b : List Token) → P x b → Q (xs ++ x ∷ []) (a ++ b)
-
--- a phrase and the symbol that closes it
-pub data Closed {A : Type 0} (Q : Phrase A) (close : Symbol) : A → List Token → Type 0 where
-  closed : (x : A) (c : Token) (a : List Token) → Q x a → Is close c → Closed Q close x (a ++ c ∷ [])
 
 -- one more phrase of a list, and more of them up to the symbol that closes it
 abbrev pub Listing : {A : Type 0} → Phrase A → Phrase (List A) → Symbol → List A → Phrase (List A)
@@ -54,19 +48,6 @@ pub data SpellsAttribute : Attribute TypeExpr → List Token → Type 0 where
 pub data SpellsField : Field Expr → List Token → Type 0 where
   field : (t s : Token) (n : List ℕ) (e : Expr) (a : List Token) → Names n t → Is S.Assign s → Spells e a
       → SpellsField (record { name = placed t.start n; value = e }) (t ∷ s ∷ a)
-
--- the steps that are taken of an expression
-pub record TakesSteps (e p : Expr) (a : List Token) : Type 0 where
-  pub steps : List (Step Expr)
-  pub is : p ≡ selected e steps
-  pub spells : Steps steps a
-
--- a line of expressions; of steps and of expressions with commas between them more is said than there: which steps are
--- taken, and that there is an expression
-abbrev pub ExpressionPhrases : (x : expressions.Line) → Phrase (expressions.Value x)
-ExpressionPhrases (expressions.Items close es) = Listing Spells Items close es
-ExpressionPhrases (expressions.Steps e ss) = After Steps (TakesSteps e) ss
-ExpressionPhrases x = sound.Phrases x
 
 -- a statement, and whether it is closed
 abbrev pub SpellsEither : Phrase (Stmt × Bool)
@@ -91,7 +72,7 @@ part_with t n es = record { name = placed t.start n; arguments = es }
 
 -- what each line spells, behind what it has
 abbrev pub Phrases : (x : Line) → Phrase (Value x)
-Phrases (Expression x) = ExpressionPhrases x
+Phrases (Expression x) = sound.Phrases x
 Phrases TypeExpression = SpellsType
 Phrases (ListType at) = FromWord K.List at SpellsType
 Phrases (MapType at) = FromWord K.Map at SpellsType

@@ -7,8 +7,8 @@ use Rattle.spl_tree.specs.declared.symbol.Symbol.{Symbol}
 use Rattle.spl_tree.specs.declared.symbol.Symbol.TheVariants as S
 use Rattle.spl_tree.specs.declared.token.Token.{Token}
 use Rattle.spl_tree.specs.declared.token.TokenKind.TheVariants as T
-use Rattle.spl_tree.specs.Grammar.{Expr, Is, Names, Primary, elements, Items, Steps, Operand, primary, select}
-use Rattle.spl_tree.specs.Phrases.{IsKeyword, Row, more, Separated, first, next}
+use Rattle.spl_tree.specs.Grammar.{Expr, Is, Names}
+use Rattle.spl_tree.specs.Phrases.{Phrase, IsKeyword, Row, more, Separated, first, next}
 use Rattle.spl_tree.specs.TypeGrammar.{TypeExpr, SpellsType}
 use Rattle.spl_tree.specs.StatementGrammar.{assignment_of}
 use Rattle.expr_parser.specs.Rules.{Rule, done, stop, look, call}
@@ -18,13 +18,12 @@ use Rattle.expr_parser.specs.Lines.{is, is_name, name_of, selected}
 use Rattle.expr_parser.proofs.TestLaws.{is-true, is_name-true}
 use Rattle.expr_parser.proofs.Sound as expression_phrases
 use Rattle.expr_parser.proofs.Soundness as soundness
-use Rattle.expr_parser.proofs.Soundness.{Phrase, Behind, After, leads_some}
+use Rattle.expr_parser.proofs.Soundness.{Behind, After, leads_some}
 use Rattle.statement_parser.specs.Lines.{Line, Value, R, is_word, type_of, is_dollar, dollar_at, is_assignment, assignment_at, lifted, expect, expect_word, a_type}
 use Rattle.unit_parser.proofs.SoundTests.{is_type-true, is_dollar-true, is_assignment-true}
-use Rattle.unit_parser.proofs.SoundPhrases.{Closed, closed, Rows, TakesSteps, ExpressionPhrases, Phrases}
+use Rattle.unit_parser.proofs.SoundPhrases.{Rows, Phrases}
 use Rattle.unit_parser.proofs.SoundSamples.{has, a_token, a_symbol, a_keyword, a_word}
 use Rattle.statement_parser.proofs.CompleteParts.{word_is}
-use Rattle.expr_parser.proofs.Sound.{steps_none}
 
 -- each way through a rule completes a phrase of U, and where it stops, some tokens would complete one
 abbrev pub Leads : {A : Type 0} → Phrase A → R A → Type 0
@@ -39,32 +38,12 @@ leads_map U V m (call x k) q = λ y. leads_map (After (Phrases x) U y) (After (P
 
 -- Expressions
 
--- expressions with commas between them and the closing bracket
-closed_elements : {close : Symbol} {es : List Expr} {a : List Token} → Closed Items close es a → expression_phrases.Closed close es a
-closed_elements (closed es c a d right) = record { inside = a; last = c; splits = refl; spells = elements es a d; is = right }
-
--- a primary expression and the steps that are taken of it
-operand_spells : {e p : Expr} {a b : List Token} → TakesSteps e p b → Primary e a → Operand p (a ++ b)
-operand_spells {e} {p} {a} {b} d base = rw d.is (by d.steps d.spells)
-  where
-    by : (ss : List (Step Expr)) → Steps ss b → Operand (selected e ss) (a ++ b)
-    by [] ds = rw (steps_none ds refl, append-nil a) (primary e a base)
-    by (s ∷ ss) ds = select e s ss a b base ds
-
--- what is spelled as those lines ask is spelled as expressions have it
-forget : (x : expressions.Line) (v : expressions.Value x) (a : List Token) → ExpressionPhrases x v a → expression_phrases.Phrases x v a
-forget (expressions.Items close es) v a d = λ z lead. closed_elements (d z lead)
-forget (expressions.Steps e ss) p a d = λ z ds y base. operand_spells (d z ds) base
-forget x v a d = d
-
 -- a rule of expressions leads to the same phrases among the rules of units
 pub leads_lifted : {A : Type 0} (U : Phrase A) (r : Rule expressions.Line expressions.Value A) → soundness.Leads expression_phrases.Phrases U r → Leads U (lifted r)
 leads_lifted U (done v) q = q
 leads_lifted U stop q = q
 leads_lifted U (look p f d) q = (λ t e. leads_lifted (Behind t U) (f t) (q.0 t e), leads_lifted U d q.1)
-leads_lifted U (call x k) q = λ y.
-    leads_map (After (expression_phrases.Phrases x) U y) (After (ExpressionPhrases x) U y) (λ v b u a d. u a (forget x y a d)) (lifted (k y))
-    (leads_lifted (After (expression_phrases.Phrases x) U y) (k y) (q y))
+leads_lifted U (call x k) q = λ y. leads_lifted (After (expression_phrases.Phrases x) U y) (k y) (q y)
 
 -- the same as a record, whose type shows the rule
 pub record LeadsTo {A : Type 0} (U : Phrase A) (r : R A) : Type 0 where

@@ -14,7 +14,7 @@ use Rattle.spl_tree.specs.declared.token.TokenKind.{TokenKind}
 use Rattle.spl_tree.specs.declared.token.TokenKind.TheVariants as T
 use Rattle.spl_tree.specs.declared.unit.OutputStream.{OutputStream}
 use Rattle.spl_tree.specs.Grammar.{Expr, placed, Is, Spells, no_elements}
-use Rattle.spl_tree.specs.Phrases.{IsKeyword, none, first, empty}
+use Rattle.spl_tree.specs.Phrases.{Phrase, IsKeyword, none, first, empty}
 use Rattle.spl_tree.specs.TypeGrammar as types
 use Rattle.spl_tree.specs.TypeGrammar.{TypeExpr, Shape, SpellsType, SpellsShape, no_parameters}
 use Rattle.spl_tree.specs.StatementGrammar as statements
@@ -23,11 +23,11 @@ use Rattle.spl_tree.specs.UnitGrammar as units
 use Rattle.spl_tree.specs.UnitGrammar.{SpellsName, SpellsOutputStream}
 use Rattle.expr_parser.specs.Lines as expression_lines
 use Rattle.spl_tree.specs.Fronts.{Starts}
+use Rattle.expr_parser.specs.Parts.{Closed, closed}
 use Rattle.expr_parser.proofs.Sound as expressions
-use Rattle.expr_parser.proofs.Soundness.{Phrase}
 use Rattle.statement_parser.specs.Lines as lines
 use Rattle.statement_parser.specs.Lines.{Line, Name, declared, parameter_with}
-use Rattle.unit_parser.proofs.SoundPhrases.{Leading, Closed, closed, SpellsAttribute, attribute, field, ExpressionPhrases, Phrases, part_with}
+use Rattle.unit_parser.proofs.SoundPhrases.{Leading, SpellsAttribute, attribute, field, Phrases, part_with}
 
 -- Tokens, and phrases of them
 
@@ -108,23 +108,9 @@ pub declaration_spells : {m : Bool} {k : TypeExpr} {n : Name} {v : Option Expr} 
     → SpellsDeclaration (declared m k n v) (z ++ (a ++ (c ++ (b ++ s ∷ []))))
 declaration_spells {m} {k} {v} {z} {a} {b} s mut d (units.name t n word) dv semicolon = declaration m k t s n v z a b mut d word dv semicolon
 
--- a phrase of each line of expressions
-has_expression : (x : expression_lines.Line) → Starts (ExpressionPhrases x) []
-has_expression (expression_lines.Items close es) = record {
-  behind = an_expression.behind ++ a_symbol close ∷ [];
-  value = es ++ an_expression.value ∷ [];
-  spells = λ a lead. listing_closed es a (a_symbol close) lead an_expression.spells refl;
-}
-has_expression (expression_lines.Steps e ss) = record {
-  behind = [];
-  value = expression_lines.selected e ss;
-  spells = λ a d. record { steps = ss; is = refl; spells = rw (append-nil a) d };
-}
-has_expression x = expressions.has x
-
 -- a phrase of each line
 pub has : (x : Line) → Starts (Phrases x) []
-has (lines.Expression x) = has_expression x
+has (lines.Expression x) = expressions.has x
 has lines.TypeExpression = record { behind = some_type; value = a_type; spells = a_type_spells }
 has (lines.ListType at) = record {
   behind = a_symbol S.Less ∷ a_keyword K.Boolean ∷ a_symbol S.Greater ∷ [];

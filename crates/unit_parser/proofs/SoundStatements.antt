@@ -2,14 +2,13 @@
 use Rattle.std.proofs.Common.{◌≡◌, ◌∙◌, ℕ, Bool, true, false, List, [], ◌∷◌, ◌++◌, Option, Some, None, refl, ap, append_assoc, append-nil}
 use Rattle.spl_tree.specs.declared.expression.BinaryOperator.{BinaryOperator}
 use Rattle.spl_tree.specs.declared.expression.ExprKind.TheVariants as X
-use Rattle.spl_tree.specs.declared.expression.Step.{Step}
 use Rattle.spl_tree.specs.declared.keyword.Keyword.TheVariants as K
 use Rattle.spl_tree.specs.declared.shape.TypeKind.TheVariants as Y
 use Rattle.spl_tree.specs.declared.statement.Declaration.{Declaration}
 use Rattle.spl_tree.specs.declared.statement.StmtKind.TheVariants as Z
 use Rattle.spl_tree.specs.declared.symbol.Symbol.TheVariants as S
 use Rattle.spl_tree.specs.declared.token.Token.{Token}
-use Rattle.spl_tree.specs.Grammar.{Expr, placed, Is, Names, Steps, no_steps, Spells}
+use Rattle.spl_tree.specs.Grammar.{Expr, placed, Is, Names, Elements, no_steps, Spells}
 use Rattle.spl_tree.specs.Phrases.{IsKeyword, more}
 use Rattle.spl_tree.specs.TypeGrammar as types
 use Rattle.spl_tree.specs.TypeGrammar.{TypeExpr, SpellsType}
@@ -17,17 +16,16 @@ use Rattle.spl_tree.specs.StatementGrammar as statements
 use Rattle.spl_tree.specs.StatementGrammar.{Stmt, assignment_of, SpellsPlace, variable, taken, no_value, SpellsMutable, constant, mutable, SpellsDeclaration, BeginsAt, begins, IsNoIf, SpellsStmt, SpellsArms, first_arm, next_arm, SpellsStmts, no_statements, more_statements, SpellsBlock, block_of}
 use Rattle.spl_tree.specs.UnitGrammar as units
 use Rattle.spl_tree.specs.UnitGrammar.{SpellsName}
-use Rattle.expr_parser.specs.Lines.{name_of, selected}
-use Rattle.expr_parser.proofs.Sound as sound
+use Rattle.expr_parser.specs.Lines.{name_of}
+use Rattle.expr_parser.specs.Parts.{Closed, closed, SpellsSteps, alone, selects}
 use Rattle.expr_parser.proofs.Soundness.{After}
 use Rattle.statement_parser.specs.Lines as lines
 use Rattle.statement_parser.specs.Lines.{Name, rule, arms_end}
-use Rattle.unit_parser.proofs.SoundPhrases.{Closed, closed, TakesSteps, SpellsEither, LeadingArm, Phrases}
+use Rattle.unit_parser.proofs.SoundPhrases.{SpellsEither, LeadingArm, Phrases}
 use Rattle.unit_parser.proofs.SoundSamples.{declaration_spells}
 use Rattle.unit_parser.proofs.SoundRules.{LeadsTo, weaker, ended, called, last, comes_symbol, comes_word, comes_name, comes_assignment, may_symbol, may_word, may_name}
 use Rattle.unit_parser.proofs.SoundTypes.{begins_more}
 use Rattle.unit_parser.proofs.CompleteTypes.{type_at}
-use Rattle.expr_parser.proofs.Sound.{steps_none}
 
 -- Declarations
 
@@ -65,17 +63,14 @@ block_spells : {o : Token} {ss : List Stmt} {a : List Token} → Is S.LeftBrace 
 block_spells {o} left (closed ss c a d right) = statements.block o c ss a left d right
 
 -- a place, from its name and the steps that are taken of it
-place_spells : {at : ℕ} {n : List ℕ} {p : Expr} {a : List Token} → TakesSteps (placed at (X.Name n)) p a → (t : Token) → Names n t → t.start ≡ at → SpellsPlace p (t ∷ a)
-place_spells {at} {n} {a} d t word start = rw d.is (by d.steps d.spells)
-  where
-    by : (ss : List (Step Expr)) → Steps ss a → SpellsPlace (selected (placed at (X.Name n)) ss) (t ∷ a)
-    by [] ds = rw (← start, steps_none ds refl) (variable t n word)
-    by (s ∷ ss) ds = rw (← start) (taken t n s ss a word ds)
+place_spells : {at : ℕ} {n : List ℕ} {p : Expr} {a : List Token} → SpellsSteps (placed at (X.Name n)) p a → (t : Token) → Names n t → t.start ≡ at → SpellsPlace p (t ∷ a)
+place_spells {n} alone t word start = rw (← start) (variable t n word)
+place_spells {n} (selects s ss a ds) t word start = rw (← start) (taken t n s ss a word ds)
 
 -- what is taken of an expression is placed there
-selected_at : (e : Expr) (ss : List (Step Expr)) → (selected e ss).at ≡ e.at
-selected_at e [] = refl
-selected_at e (s ∷ ss) = refl
+steps_at : {e p : Expr} {a : List Token} → SpellsSteps e p a → p.at ≡ e.at
+steps_at alone = refl
+steps_at (selects s ss a ds) = refl
 
 -- a declaration as a statement
 declare_spells : {at : ℕ} {d : Declaration} {a : List Token} → SpellsDeclaration d a → BeginsAt at a → Plain (placed at (Z.Declare d)) a
@@ -117,19 +112,19 @@ begun_declaration {n} {v} {d} {b} r word t is start =
     declare_spells (r (v ∷ []) (units.name v (name_of v) word) (t ∷ []) (rw (← start) (types.name t n is)) [] constant) (rw (← start) (begins t (v ∷ b)))
 
 -- a call behind its name
-begun_call : {n : List ℕ} {es : List Expr} {a : List Token} (o s t : Token) → Is S.LeftParen o → sound.Closed S.RightParen es a → Is S.Semicolon s
+begun_call : {n : List ℕ} {es : List Expr} {a : List Token} (o s t : Token) → Is S.LeftParen o → Closed Elements S.RightParen es a → Is S.Semicolon s
     → Names n t → Plain (placed t.start (Z.Call (placed t.start (X.Call n es)))) (t ∷ o ∷ (a ++ s ∷ []))
-begun_call {n} {es} o s t left d semicolon is = rw d.splits (
-  statements.call_alone (placed t.start (X.Call n es)) s (t ∷ o ∷ (d.inside ++ d.last ∷ [])) (statements.call t o d.last n es d.inside is left d.spells d.is) semicolon,
+begun_call {n} o s t left (closed es c a d right) semicolon is = (
+  statements.call_alone (placed t.start (X.Call n es)) s (t ∷ o ∷ (a ++ c ∷ [])) (statements.call t o c n es a is left d right) semicolon,
   λ arms other e. absurd (cc),
 )
 
 -- an assignment behind its name
-begun_assignment : {at : ℕ} {n : List ℕ} {p e : Expr} {op : Option BinaryOperator} {a b : List Token} (q s : Token) → TakesSteps (placed at (X.Name n)) p a
+begun_assignment : {at : ℕ} {n : List ℕ} {p e : Expr} {op : Option BinaryOperator} {a b : List Token} (q s : Token) → SpellsSteps (placed at (X.Name n)) p a
     → assignment_of q.kind ≡ Some op → Spells e b → Is S.Semicolon s → (t : Token) → Names n t → t.start ≡ at
     → Plain (placed at (Z.Assign p op e)) (t ∷ (a ++ q ∷ (b ++ s ∷ [])))
 begun_assignment {at} {n} {p} {e} {op} {a} {b} q s d known de semicolon t word start =
-    let same : p.at ≡ at = ap (λ (x : Expr). x.at) d.is ∙ selected_at (placed at (X.Name n)) d.steps in
+    let same : p.at ≡ at = steps_at d in
     rw (← same) (statements.assign p e q s op (t ∷ a) b (place_spells d t word start) known de semicolon, λ arms other e. absurd (cc))
 
 pub begun_leads : (at : ℕ) (n : List ℕ) → LeadsTo (Phrases (lines.Begun at n)) (rule (lines.Begun at n))

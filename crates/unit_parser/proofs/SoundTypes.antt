@@ -15,33 +15,20 @@ use Rattle.spl_tree.specs.StatementGrammar.{BeginsAt, begins}
 use Rattle.expr_parser.specs.Rules.{done}
 use Rattle.expr_parser.specs.Lines as expressions
 use Rattle.expr_parser.specs.Lines.{name_of}
+use Rattle.expr_parser.specs.Parts.{Closed, closed}
 use Rattle.expr_parser.proofs.Sound as sound
 use Rattle.statement_parser.specs.Lines as lines
 use Rattle.statement_parser.specs.Lines.{rule}
-use Rattle.unit_parser.proofs.SoundPhrases.{Leading, Closed, closed, SpellsAttribute, attribute, Phrases}
+use Rattle.unit_parser.proofs.SoundPhrases.{Leading, SpellsAttribute, attribute, Phrases}
 use Rattle.unit_parser.proofs.SoundSamples.{has, listing_closed}
 use Rattle.unit_parser.proofs.SoundRules.{LeadsTo, leads_lifted, ended, called, last, stops, comes_symbol, comes_name, may_symbol, may_name, may_type}
 use Rattle.unit_parser.proofs.CompleteTypes.{type_at}
 
 -- Expressions
 
--- behind a comma one more expression may come
-lead_item : {es : List grammar.Expr} {a : List Token} (t : Token) → Items es a → Is S.Comma t → Leading grammar.Spells Items es (a ++ t ∷ [])
-lead_item {es} {a} t ds comma e b d = rw (append_assoc a (t ∷ []) b) (grammar.next_item es e t a b ds comma d)
-
 -- the rule of each line of expressions leads to what is said of it
 pub expression_leads : (x : expressions.Line) → LeadsTo (Phrases (lines.Expression x)) (rule (lines.Expression x))
 unfolding rule expressions.rule
-expression_leads (expressions.Items close es) = called (λ e. may_symbol S.Comma
-    (λ t comma. last (λ v b r a d z lead. simp append_assoc at (r ((z ++ a) ++ t ∷ []) (lead_item t (lead e a d) comma))))
-    (comes_symbol close (λ c right. ended (λ a d z lead. listing_closed es z c lead d right))))
-expression_leads (expressions.Steps e ss) =
-    may_symbol S.Dot
-    (λ o dot. comes_name (λ t word. last (λ p b r z ds. simp append_assoc at (r (z ++ o ∷ t ∷ []) (grammar.member ss z o t (name_of t) ds dot word)))))
-    (may_symbol S.LeftBracket
-    (λ o left. called (λ i. comes_symbol S.RightBracket (λ c right. last (λ p b r a d z ds.
-    simp append_assoc at (r (z ++ o ∷ (a ++ c ∷ [])) (grammar.index ss i o c z a ds left d right))))))
-    (ended (λ z ds. record { steps = ss; is = refl; spells = rw (append-nil z) ds })))
 expression_leads x = record { leads = leads_lifted (sound.Phrases x) (expressions.rule x) (sound.leads x) }
 
 -- Places

@@ -19,9 +19,10 @@ use Rattle.spl_tree.specs.StatementGrammar.{Stmt, SpellsBlock, begins}
 use Rattle.spl_tree.specs.UnitGrammar.{SpellsTypeDefinition, type_definition, no_clause, clause, untyped, typed, SpellsPorts, ports, SpellsHeadPorts, outputs_alone, inputs_alone, outputs_first, inputs_first, no_ports, in_parentheses, no_default, default, composite_parameter, not_public, public, composite, SpellsResultType, void, a_type, SpellsFunction, function, a_typedef, a_function, a_composite, no_namespace, namespace, unit}
 use Rattle.expr_parser.specs.Rules.{call, done}
 use Rattle.expr_parser.specs.Lines.{name_of}
+use Rattle.expr_parser.specs.Parts.{Closed, closed}
 use Rattle.statement_parser.specs.Lines as lines
 use Rattle.statement_parser.specs.Lines.{Name, rule, name_at, dollar_at}
-use Rattle.unit_parser.proofs.SoundPhrases.{Closed, closed, LeadingDefault, Phrases}
+use Rattle.unit_parser.proofs.SoundPhrases.{LeadingDefault, Phrases}
 use Rattle.unit_parser.proofs.SoundRules.{LeadsTo, ended, called, last, comes_symbol, comes_word, comes_name, comes_dollar, may_symbol, may_word, may_name, may_type, row_more, lead_first, lead_next}
 use Rattle.unit_parser.proofs.SoundTypes.{lead_first_attribute}
 use Rattle.unit_parser.proofs.SoundInvocations.{named_spells, stream_spells}

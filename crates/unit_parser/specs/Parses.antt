@@ -19,7 +19,7 @@ Parses tokens (Err A.Memory) = Unit {0}
 abbrev pub OneUnitLaw : Type 0
 OneUnitLaw = (x y : List Definition) (a : List Token) → SpellsUnit x a → SpellsUnit y a → x ≡ y
 
--- want of memory apart, there is one answer
+-- lack of memory apart, there is one answer
 abbrev pub OneAnswerLaw : Type 0
 OneAnswerLaw = (tokens : Tokens) (x y : Result (List Definition) SyntaxAnswer) → Parses tokens x → Parses tokens y
     → (x ≡ Err A.Memory) ⊎ ((y ≡ Err A.Memory) ⊎ (x ≡ y))

@@ -33,18 +33,18 @@ unfolding lines.rule
 returns-in_err-values c =
     fails (lines.Parameters []) c.args.ts.now c.in_ok-behind.behind.now _ c.from_residual-in_err-values.result c.in_err-values.field-0.0 c.from_residual-in_err-values.ensures.1
     (λ o q. c.parameters.invariant o (reads (taken_as is_name name_at (parameter_behind c.parameters.all) c.in_ok-name.ensures (passed S.Colon c.in_ok-behind.ensures q))))
-    (expression_fails _ _ _ _ c.in_err-values.ensures)
+    (expression_fails _ _ _ _ c.in_err-values.ensures.rule)
 
 pub parameters-preserved : goal.parameters-preserved
 unfolding lines.rule
 parameters-preserved c =
     λ o r. c.parameters.invariant o
-    (reads (taken_as is_name name_at (parameter_behind c.parameters.all) c.in_ok-name.ensures (passed S.Colon c.in_ok-behind.ensures (expression_read c.in_ok-values.ensures
+    (reads (taken_as is_name name_at (parameter_behind c.parameters.all) c.in_ok-name.ensures (passed S.Colon c.in_ok-behind.ensures (expression_read c.in_ok-values.ensures.rule
     (last (subst (λ xs. Reads lines.rule (lines.Parameters xs) c.in_ok-values.behind.now o) c.in_ok-push.ensures.ok r))))))
 
 pub parameters-smaller : goal.parameters-smaller
 parameters-smaller c =
     let one = taken_as_shrinks c.in_ok-name.ensures in
     let two = taken_shrinks c.in_ok-behind.ensures.1 in
-    let three = reads_shrinks c.in_ok-values.ensures in
+    let three = reads_shrinks c.in_ok-values.ensures.rule in
     omega arith

@@ -11,8 +11,8 @@ unfolding lines.rule
 returns-in_err-arguments c =
     fails lines.PartArguments c.args.ts.now c.in-Some.behind.now _ c.from_residual.result c.in_err-arguments.field-0.0 c.from_residual.ensures.1
     (λ o q. reads (taken c.in-Some.ensures q))
-    (expression_fails _ _ _ _ c.in_err-arguments.ensures)
+    (expression_fails _ _ _ _ c.in_err-arguments.ensures.rule)
 
 pub returns : goal.returns
 unfolding lines.rule
-returns c = reads (taken c.in-Some.ensures (expression_read c.in_ok-arguments.ensures finished))
+returns c = reads (taken c.in-Some.ensures (expression_read c.in_ok-arguments.ensures.rule finished))
