@@ -24,7 +24,7 @@ use Rattle.checked_literals.specs.examples.Shapes.{attribute_at, file_parameters
 
 -- ---- tokens
 
--- a token from a place on, of so many bytes
+-- a token of a kind from the byte s on, of `length` bytes
 abbrev token : TokenKind → ℕ → ℕ → Token
 token kind s length = record { kind = kind; start = s; end = s + length }
 

@@ -22,7 +22,7 @@ use Rattle.expr_parser.proofs.TestLaws.{opens, opens_kind, opens_symbol, is-open
 
 -- What a phrase begins with
 
--- whatever comes behind them, the tokens begin with one that begins an expression
+-- whatever comes after them, the tokens begin with one that begins an expression
 abbrev pub Opens : List Token → Type 0
 Opens a = (rest : List Token) → begins_with opens (a ++ rest) ≡ true
 
@@ -68,7 +68,7 @@ prefix_opens (T.Symbol s) p e = by s e
     by _ e = absurd (cc)
 prefix_opens _ p e = absurd (cc)
 
--- prefixes and an operand behind them
+-- prefixes and an operand after them
 prefixes_opens : {ps : List Prefix} {a : List Token} → Prefixes ps a → (rest : List Token) → begins_with opens rest ≡ true
     → begins_with opens (a ++ rest) ≡ true
 prefixes_opens no_prefixes rest e = e
@@ -115,7 +115,7 @@ unfolding rule
 steps_end e ss rest stops =
     line (skips (is-stops S.Dot 0 rest (omega arith) stops) (skips (is-stops S.LeftBracket 0 rest (omega arith) stops) runs_done))
 
--- how operators go on behind an expression of a level
+-- how operators go on after an expression of a level
 abbrev goes_on : ℕ → Expr → R Expr
 goes_on zero e = done e
 goes_on (suc k) e = chain_rule k e
@@ -127,7 +127,7 @@ level_ends (suc k) e rest stops = skips (is_operator-stops (suc k) rest stops) r
 
 -- Operands
 
--- prefixes are read up to what is behind them
+-- prefixes are read up to what comes after them
 prefixes_reads : {ps : List Prefix} {a : List Token} → Prefixes ps a → (rest : List Token) {w : Expr} {out : List Token}
     → Reads rule (Prefixed ps) rest (Took w out) → Reads rule (Prefixed []) (a ++ rest) (Took w out)
 unfolding rule
@@ -161,17 +161,17 @@ closes_parens = record { opens_none = refl; stops = omega arith; no_comma = refl
 closes_brackets : Closes S.RightBracket
 closes_brackets = record { opens_none = refl; stops = omega arith; no_comma = refl; itself = refl }
 
--- what comes behind expressions with commas between them
+-- what comes after expressions with commas between them
 abbrev pub behind_items : Symbol → List Expr → R (List Expr)
 behind_items close es = look (is S.Comma) (λ _. rules.call (lines.Items close es) done) (expect close (done es))
 
--- what comes behind entries of a map
+-- what comes after entries of a map
 abbrev behind_entries : ℕ → List (Expr × Expr) → R Expr
 behind_entries at es =
     look (is S.Comma) (λ _. rules.call Whole (λ k. expect S.Colon (rules.call (lines.Entries at es k) done)))
     (expect S.RightBrace (done (placed at (X.Map es))))
 
--- what comes behind fields of a tuple
+-- what comes after fields of a tuple
 abbrev behind_fields : ℕ → List (Field Expr) → R Expr
 behind_fields at fs =
     look (is S.Comma) (λ _. look is_name (λ t. expect S.Assign (rules.call (lines.Fields at fs (placed t.start (name_of t))) done)) stop)
@@ -192,7 +192,7 @@ by_brace : (ps : List Prefix) {e : Expr} {t : Token} {ts rest : List Token} {w :
 by_brace ps left r s =
     by_primary ps (rw left) (rw left) (skips (rw left) (skips (rw left) (skips (rw left) (takes (rw left) (runs_call r runs_done))))) s
 
--- an expression ends where nothing goes on behind it
+-- an expression ends where nothing goes on after it
 whole_ends : {u e : Expr} {ts behind rest : List Token} → Reads rule (Prefixed []) ts (Took u behind)
     → RunsTo rule (climb_rule 9 u) behind (Took e rest) → Stops 10 rest → Reads rule Whole ts (Took e rest)
 unfolding rule
@@ -205,7 +205,7 @@ name_reads : (t : Token) (n : List ℕ) (rest : List Token) → Names n t → be
 unfolding rule
 name_reads t n rest named front = skips (rw named) (takes (rw named) (rw named (runs_call (line (skips front runs_done)) runs_done)))
 
--- an operand with no operator behind it is an expression at each level
+-- an operand with no operator after it is an expression at each level
 climb_ends : (k : ℕ) (u : Expr) (rest : List Token) → Stops k rest → RunsTo rule (climb_rule k u) rest (Took u rest)
 unfolding rule
 climb_ends zero u rest stops = runs_done
@@ -240,7 +240,7 @@ Stops-below : (k : ℕ) (rest : List Token) → Stops k rest → StopsBelow k re
 Stops-below zero rest stops = stops
 Stops-below (suc k) rest stops = Stops-le k (suc k) rest (omega arith) stops
 
--- Phrases, up to what is behind them
+-- Phrases, up to what comes after them
 
 mutual
   unfolding rule
@@ -279,7 +279,7 @@ mutual
       (runs_call (items_reads d close (c ∷ rest) (rw right closes.stops)
       (skips (rw right closes.no_comma) (takes (rw right closes.itself) runs_done))) runs_done))
 
-  -- expressions with commas between them, and then what comes behind them
+  -- expressions with commas between them, and then what comes after them
   pub items_reads : {es : List Expr} {a : List Token} → Items es a → (close : Symbol) (rest : List Token) {w : List Expr} {out : List Token}
       → Stops 10 rest → RunsTo rule (behind_items close es) rest (Took w out) → Reads rule (lines.Items close []) (a ++ rest) (Took w out)
   items_reads (first_item e a d) close rest stops r = line (runs_call (spells_reads d rest stops) r)
@@ -322,7 +322,7 @@ mutual
       (steps_reads ds e (o ∷ (b ++ c ∷ rest))
       (line (skips (rw left) (takes (rw left) (runs_call (spells_reads d (c ∷ rest) (rw right (omega arith))) (takes (rw right) (runs_call r runs_done)))))))
 
-  -- an operand, behind prefixes that are read already
+  -- an operand, after prefixes that are read already
   operand_reads : {e : Expr} {a : List Token} → Operand e a → (ps : List Prefix) (rest : List Token) → Stops 0 rest
       → Reads rule (Prefixed ps) (a ++ rest) (Took (lines.prefixed ps e) rest)
   operand_reads (primary e a d) ps rest stops =
@@ -361,7 +361,7 @@ mutual
             (runs_call right.begins (runs_call (line (right.goes (level_ends k r rest stops))) (runs_call (line (rw known s)) runs_done))));
       }
 
-  -- an expression, where nothing goes on behind it
+  -- an expression, where nothing goes on after it
   pub spells_reads : {e : Expr} {a : List Token} → Spells e a → (rest : List Token) → Stops 10 rest → Reads rule Whole (a ++ rest) (Took e rest)
   spells_reads (plain e a d) rest stops =
       let h = at_reads d rest (Stops-le 8 10 rest (omega arith) stops) in

@@ -18,7 +18,7 @@ use Rattle.expr_parser.specs.Gives.{Answered, Says, Comes, Gives, Passes, Makes}
 pub exit : {B : Type 0} (P : Result B Stop → Type 0) (r : Result B Stop) (e : Stop) → IsErrAnd r (λ y. y ≡ e) → P (Err e) → P r
 exit P r e h q = let p = err_from_is_err_and r h in subst P (sym (p.1 ∙ ap Err p.2)) q
 
--- a line that comes to what another one does
+-- a rule that only reads a line gives what that line gives
 pub runs_tail : {x : Line} {ts : List Token} {o : Answer (Value x)} → Reads rule x ts o → RunsTo rule (call x done) ts o
 unfolding read
 runs_tail {o = Took v rest} r = runs_call r runs_done

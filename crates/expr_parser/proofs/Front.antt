@@ -43,7 +43,7 @@ module _ {ps : List Prefix} {ts : List Token} where
         line (runs_skip ts plain (runs_take ts t rest begins.here begins.passes (runs_take rest h.token mid h.taken.here h.taken.passes
         (runs_skip mid none runs_stop))))
 
-    -- a cast whose parenthesis isn't closed, behind a start that comes to what comes here
+    -- a cast whose parenthesis isn't closed, after a start that gives what is given here
     pub cast_fails : (start : List Token) {p : Prefix} {mid : List Token} → ((o : Answer Expr) → Reads rule (Prefixed ps) ts o → Reads rule (Prefixed []) start o)
         → TakenAs is_target (cast_token t.start) rest p mid → (e : Stop) → Passes K.RightParen mid (Err e) → Fronts start (Err e)
     cast_fails start on h (S.At left) none = on (Refused left.now) (subst (λ r. Reads rule (Prefixed ps) ts (Refused r)) (sym none.1) (cast_stops h none.0))

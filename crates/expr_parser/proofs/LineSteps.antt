@@ -1,4 +1,4 @@
--- What a line comes to, from what its parts come to.
+-- What a line gives, from what its parts give.
 use Rattle.std.proofs.Common.{◌≡◌, ℕ, zero, suc, ◌+◌, ◌-◌, ◌<◌, ◌≤◌, Bool, true, false, List, [], ◌∷◌, ◌++◌, length, Some, None, Ok, Err, refl, sym, ap, subst, arith, add-one}
 use Rattle.std.specs.Borrow.{Bor}
 use Rattle.spl_tree.specs.declared.symbol.Symbol.{Symbol}

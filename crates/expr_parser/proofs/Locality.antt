@@ -1,5 +1,5 @@
 -- Rules look at one token at a time: what is left stands at the end of what was given, and no answer depends on
--- what stands behind the first token of that.
+-- what comes after the first token of that.
 use Rattle.std.proofs.Common.{◌≡◌, ◌∙◌, ℕ, zero, suc, ◌<◌, ◌≤◌, Bool, true, false, if◌then◌else◌, List, [], ◌∷◌, ◌++◌, length, refl, sym, ap, subst, arith, append_assoc, append-nil, length-append, ◌⊎◌, inl, inr}
 use Rattle.spl_tree.specs.declared.token.Token.{Token}
 use Rattle.expr_parser.specs.Rules.{Rule, done, stop, look, call, Answer, Took, Refused, Spent, Reader, and_then, run, read}
@@ -110,7 +110,7 @@ extends {f = f} v t rest more l =
 module _ {Line : Type 0} {Value : Line → Type 0} (c : (x : Line) → Reader (Value x))
     (leaves : (x : Line) (ts : List Token) → Leaves (c x) ts (c x ts))
     (keeps : (x : Line) (ts more : List Token) (v : Value x) → c x ts ≡ Took v [] → Keeps v more (c x (ts ++ more))) where
-  -- where a rule takes all, tokens behind are left, or some of them are read too
+  -- where a rule takes all tokens, those added after them are all left, or fewer of them are
   keeps_run : {A : Type 0} (r : Rule Line Value A) (ts more : List Token) (v : A) → run c r ts ≡ Took v [] → Keeps v more (run c r (ts ++ more))
   keeps_run (done x) ts more v e =
       let none : ts ≡ [] = cc in
@@ -151,11 +151,11 @@ module _ {Line : Type 0} {Value : Line → Type 0} (rule : (x : Line) → Rule L
   leaves_read zero x ts = record { front = ts; splits = sym (append-nil ts); stands = λ more s. absurd s }
   leaves_read (suc n) x ts = leaves_run (read rule n) (leaves_read n) (rule x) ts
 
-  -- what is left stands at the end of what was given, and no answer depends on what stands behind its first token
+  -- what is left stands at the end of what was given, and no answer depends on what comes after its first token
   pub leaves : (n : ℕ) (x : Line) (ts : List Token) (o : Answer (Value x)) → read rule n x ts ≡ o → Leaves (read rule n x) ts o
   leaves n x ts o e = subst (Leaves (read rule n x) ts) e (leaves_read n x ts)
 
-  -- where a line takes all, tokens behind are left, or some of them are read too
+  -- where a line takes all tokens, those added after them are all left, or fewer of them are
   pub keeps : (n : ℕ) (x : Line) (ts more : List Token) (v : Value x) → read rule n x ts ≡ Took v [] → Keeps v more (read rule n x (ts ++ more))
   unfolding read
   keeps zero x ts more v e = absurd (cc)

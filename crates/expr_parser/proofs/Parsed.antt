@@ -1,4 +1,4 @@
--- What reading comes to, by the places of tokens in the list.
+-- The result of reading, by the places of tokens in the list.
 use Rattle.std.proofs.Common.{◌≡◌, ◌∙◌, ℕ, ◌+◌, ◌-◌, ◌≤◌, List, ◌++◌, length, take, drop, None, Err, sym, ap, subst, arith, length-append, length-drop}
 use Rattle.std.proofs.Math.Seq.{drop-append_seam}
 use Rattle.std.proofs.lemmas.List.{take_rest, drop-drop}
@@ -16,7 +16,7 @@ use Rattle.expr_parser.specs.Gives.{Gives, Begun}
 use Rattle.spl_tree.specs.Units.{place_of}
 use Rattle.expr_parser.specs.Parses.{IsParsed, IsUnexpectedAt}
 
--- what stands behind a front of the tokens from a place on
+-- what comes after a front of the tokens from a place on
 record Ends (list : List Token) (from : ℕ) (rest : List Token) : Type 0 where
   pub within : length rest + from ≤ length list
   pub is : rest ≡ drop (length list - length rest) list

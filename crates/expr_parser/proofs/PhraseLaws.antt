@@ -3,7 +3,7 @@ use Rattle.std.proofs.Common.{◌≡◌, ◌∙◌, ◌⊎◌, inl, inr, List, [
 use Rattle.spl_tree.specs.declared.token.Token.{Token}
 use Rattle.spl_tree.specs.Fronts.{Starts, Longest, IsPhrase, IsUnexpected}
 
--- the first front is the second one with more tokens behind it
+-- the first front is the second one with more tokens after it
 pub record Exceeds (f r g s : List Token) : Type 0 where
   pub more : List Token
   pub front : f ≡ g ++ more

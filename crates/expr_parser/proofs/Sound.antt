@@ -70,7 +70,7 @@ spells_name (conditional c x y q k a b d dc question dx colon dy) n is = absurd 
 
 -- Phrases
 
--- the tokens behind a symbol at a place
+-- the tokens after a symbol at a place
 abbrev pub From : {A : Type 0} → Symbol → ℕ → Phrase A → Phrase A
 From s at U v b = (t : Token) → Is s t → t.start ≡ at → U v (t ∷ b)
 
@@ -86,7 +86,7 @@ LeadingEntry es key a = (v : Expr) (b : List Token) → Spells v b → Entries (
 abbrev pub LeadingField : List (Field Expr) → Placed (List ℕ) → List Token → Type 0
 LeadingField fs named a = (v : Expr) (b : List Token) → Spells v b → Fields (fs ++ field named v ∷ []) (a ++ b)
 
--- what each line spells, behind what it has
+-- what each line spells, after what it has
 abbrev pub Phrases : (x : Line) → Phrase (Value x)
 Phrases Whole = Spells
 Phrases (Rest u) = After Unary Spells u
@@ -127,7 +127,7 @@ steps_spell : {e : Expr} (ss : List (Step Expr)) {a : List Token} → Steps ss a
 steps_spell [] {a} ds = rw (steps_none ds refl) alone
 steps_spell (s ∷ ss) {a} ds = selects s ss a ds
 
--- a primary expression with steps behind it, or none
+-- a primary expression with steps after it, or none
 operand_spells : {e p : Expr} {a b : List Token} → Primary e a → SpellsSteps e p b → Operand p (a ++ b)
 operand_spells {e} {p} {a} d alone = rw (append-nil a) (primary e a d)
 operand_spells {e} {p} {a} d (selects s ss b ds) = select e s ss a b d ds
@@ -169,7 +169,7 @@ module _ (e : Expr) (a b : List Token) (c : Token) (d : Spells e b) where
   tuple_spells at fs named lead right o left start =
       rw (← start, ← append_assoc a b (c ∷ [])) (tuple o c (fs ++ field named e ∷ []) (a ++ b) left (lead e b d) right)
 
--- expressions with commas between them, behind which one more may come
+-- expressions with commas between them, after which one more may come
 lead_item : (es : List Expr) (e : Expr) (t : Token) (a b : List Token) → Leading es a → Spells e b → Is S.Comma t
     → Leading (es ++ e ∷ []) ((a ++ b) ++ t ∷ [])
 lead_item es e t a b lead d comma next c s =
@@ -267,7 +267,7 @@ has (lines.Steps e ss) = record { behind = []; value = lines.selected e ss; spel
 
 -- Each line's rule leads to its phrases
 
--- a token and the ways behind it have phrases
+-- a token and the ways after it have phrases
 starts_behind : {A : Type 0} (U : Phrase A) (t : Token) (r : R A) → Leads Phrases (Behind t U) r → Starts U []
 starts_behind U t r q =
     let more = leads_some Phrases has (Behind t U) r q in
@@ -283,7 +283,7 @@ leads_name : {A : Type 0} (U : Phrase A) (r : Token → R A) → ((t : Token) �
     → Leads Phrases U (look is_name r stop)
 leads_name U r q = (λ t e. q t (is_name-true t e), starts_behind U a_word (r a_word) (q a_word refl))
 
--- an operand behind prefixes, from a primary expression and what is taken of it
+-- an operand after prefixes, from a primary expression and what is taken of it
 leads_operand : (ps : List Prefix) (p u : Expr) (f a b : List Token) → Prefixes ps f → Primary p a
     → After Steps (SpellsSteps p) [] u b → Unary (lines.prefixed ps u) (f ++ (a ++ (b ++ [])))
 leads_operand ps p u f a b ds d s = rw (append-nil b) (unary_spells ps ds (operand_spells d (s [] no_steps)))

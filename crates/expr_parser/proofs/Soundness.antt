@@ -28,7 +28,7 @@ module _ {Line : Type 0} {Value : Line → Type 0} (Phrases : (x : Line) → Phr
   Leads U (look p f d) = ((t : Token) → p t ≡ true → Leads (Behind t U) (f t)) × Leads U d
   Leads U (call x k) = (y : Value x) → Leads (After (Phrases x) U y) (k y)
 
--- an answer behind a token
+-- an answer after a token
 behind_token : {A : Type 0} (U : Phrase A) (t : Token) (ts : List Token) (o : Answer A) → Sound (Behind t U) ts o → Sound U (t ∷ ts) o
 behind_token U t ts (Took v rest) s = record { front = t ∷ s.front; splits = ap (λ us. t ∷ us) s.splits; spells = s.spells }
 behind_token U t ts (Refused rest) s = record {
@@ -39,7 +39,7 @@ behind_token U t ts (Refused rest) s = record {
 behind_token U t ts Spent s = tt
 
 module _ {A B : Type 0} (P : Phrase A) (U : Phrase B) where
-  -- an answer behind a phrase
+  -- an answer after a phrase
   after_phrase : (y : A) (ts mid : List Token) (o : Answer B) → Takes P ts y mid → Sound (After P U y) mid o → Sound U ts o
   after_phrase y ts mid (Took v rest) t s = record {
     front = t.front ++ s.front;
@@ -76,7 +76,7 @@ module _ {Line : Type 0} {Value : Line → Type 0} (Phrases : (x : Line) → Phr
       starts_longer (Phrases x) U [] h (leads_some (After (Phrases x) U h.value) (k h.value) (q h.value))
 
   module _ (c : (x : Line) → Reader (Value x)) (sound : (x : Line) (ts : List Token) → Sound (Phrases x) ts (c x ts)) where
-    -- what a rule comes to, where the lines come to phrases
+    -- what a rule gives, where the lines give phrases
     sound_run : {A : Type 0} (U : Phrase A) (r : Rule Line Value A) → Leads Phrases U r → (ts : List Token) → Sound U ts (run c r ts)
     sound_run U (done v) q ts = record { front = []; splits = refl; spells = q }
     sound_run U stop q ts = record { front = []; splits = refl; starts = q }
@@ -103,7 +103,7 @@ module _ {Line : Type 0} {Value : Line → Type 0} (Phrases : (x : Line) → Phr
         by Spent s behind = tt
 
   module _ (rule : (x : Line) → Rule Line Value (Value x)) (leads : (x : Line) → Leads Phrases (Phrases x) (rule x)) where
-    -- what a line comes to, where its rule leads to its phrases
+    -- what a line gives, where its rule leads to its phrases
     pub sound : (n : ℕ) (x : Line) (ts : List Token) → Sound (Phrases x) ts (read rule n x ts)
     unfolding read
     sound zero x ts = tt

@@ -99,7 +99,7 @@ symbol_binds S.Dot = 0
 symbol_binds S.Question = 10
 symbol_binds s = operator_binds (binary_symbol s)
 
--- the tightest level at which a token goes on behind an expression
+-- the tightest level at which a token goes on after an expression
 abbrev pub binds : TokenKind → ℕ
 binds (T.Symbol s) = symbol_binds s
 binds (T.Keyword k) = operator_binds (binary_keyword k)

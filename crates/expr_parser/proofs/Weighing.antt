@@ -32,7 +32,7 @@ closing_kept true false d (before ∷ outer) = ap (λ w. record { weight = w; op
 closing_kept true true d (before ∷ outer) = refl
 closing_kept false next_adds d (before ∷ outer) = refl
 
--- what is kept behind a token is kept of the weight there
+-- what is kept after a token is kept of the weight there
 after_kept : (k : Effect) (next_adds : Bool) (d : Weighing) → kept_after k next_adds (kept d) ≡ kept (after_token k next_adds d)
 after_kept Nothing next_adds d = refl
 after_kept Adds next_adds d = ap (λ w. record { weight = w; opened = map kept_weight d.opened }) (kept_more d.weight)
@@ -99,6 +99,6 @@ module _ (ts : List Token) (i : ℕ) (t : Token) (lt : i < length ts) (is : t �
 pub looks_from : (from i : ℕ) (ws : List ℕ) → from ≡ i → position_from too_heavy i (drop i ws) ≡ position_from too_heavy from (drop from ws)
 looks_from from i ws is = ap (λ n. position_from too_heavy n (drop n ws)) (sym is)
 
--- and behind the last token there is none
+-- and after the last token there is none
 pub looks_behind : (ts : List Token) (i : ℕ) (w : code.Weighing) → Leads ts i w → length ts ≤ i → position_from too_heavy i (drop i (weights ts)) ≡ None
 looks_behind ts i w leads end = ap (position_from too_heavy i) (sym leads.on ∙ at_drop_all (λ us. weights_from leads.weighing us) ts i end)

@@ -24,31 +24,31 @@ use Rattle.expr_parser.specs.Rules.{Rule, done, stop, look, call}
 pub data Line : Type 0 where
   -- an expression
   Whole : Line
-  -- an expression, behind its first operand
+  -- an expression, after its first operand
   Rest : Expr → Line
-  -- operators up to a level, behind the first operand
+  -- operators up to a level, after the first operand
   Climb : ℕ → Expr → Line
-  -- operators of the level one above, behind their left side
+  -- operators of the level one above, after their left side
   Chain : ℕ → Expr → Line
-  -- an operand, behind prefix operators and casts
+  -- an operand, after prefix operators and casts
   Prefixed : List Prefix → Line
   -- a primary expression, but for one in parentheses
   Primary : Line
-  -- an expression in parentheses, behind the opening one at a place
+  -- an expression in parentheses, after the opening one at a place
   Group : ℕ → Line
-  -- a call, or the name alone, behind the name at a place
+  -- a call, or the name alone, after the name at a place
   Named : ℕ → List ℕ → Line
   -- the arguments of a call or the elements of a list, or none, and the closing bracket
   Elements : Symbol → Line
-  -- one more of them, behind others
+  -- one more of them, after others
   Items : Symbol → List Expr → Line
-  -- a map or a tuple, behind the opening brace at a place
+  -- a map or a tuple, after the opening brace at a place
   Brace : ℕ → Line
-  -- a map, behind entries and a key
+  -- a map, after entries and a key
   Entries : ℕ → List (Expr × Expr) → Expr → Line
-  -- a tuple, behind fields and the name of one and `=`
+  -- a tuple, after fields and the name of one and `=`
   Fields : ℕ → List (Field Expr) → Placed (List ℕ) → Line
-  -- what is taken of a primary expression, behind members and indices
+  -- what is taken of a primary expression, after members and indices
   Steps : Expr → List (Step Expr) → Line
 
 abbrev pub Value : Line → Type 0
@@ -71,8 +71,8 @@ is_name t = is_some (name_kind t.kind)
 abbrev pub name_of : Token → List ℕ
 name_of t = unwrap_or (name_kind t.kind) []
 
--- the expression that a token is by itself. Where a test comes first, as that of is_literal before literal_of, what
--- stands for a token that fails it is never made.
+-- the expression that a token is by itself. Where a test comes first, as that of is_literal before literal_of, the
+-- value for a token that fails it is never used.
 abbrev pub keyword_literal : Keyword → Option ExprKind
 keyword_literal K.True = Some (X.Bool true)
 keyword_literal K.False = Some (X.Bool false)
@@ -149,7 +149,7 @@ abbrev pub climb_rule : ℕ → Expr → R Expr
 climb_rule zero u = done u
 climb_rule (suc k) u = call (Climb k u) (λ left. call (Chain k left) done)
 
--- behind prefixes and a primary expression
+-- after prefixes and a primary expression
 abbrev pub operand_rule : List Prefix → Expr → R Expr
 operand_rule ps p = call (Steps p []) (λ u. done (prefixed ps u))
 
@@ -176,7 +176,7 @@ abbrev pub items_rule : Symbol → List Expr → R (List Expr)
 items_rule close es =
     call Whole (λ e. look (is S.Comma) (λ _. call (Items close (es ++ e ∷ [])) done) (expect close (done (es ++ e ∷ []))))
 
--- behind the first expression in braces, a name alone may be that of a field
+-- after the first expression in braces, a name alone may be that of a field
 abbrev pub field_rule : ℕ → ℕ → ExprKind → R Expr
 field_rule at place (X.Name n) = expect S.Assign (call (Fields at [] (placed place n)) done)
 field_rule at place _ = stop
@@ -204,7 +204,7 @@ steps_rule e ss =
     (look (is S.LeftBracket) (λ _. call Whole (λ i. expect S.RightBracket (call (Steps e (ss ++ N.Index i ∷ [])) done)))
     (done (selected e ss)))
 
--- behind the `?` of a conditional
+-- after the `?` of a conditional
 abbrev pub choice_rule : Expr → R Expr
 choice_rule test = call Whole (λ x. expect S.Colon (call Whole (λ y. done (conditional test x y))))
 

@@ -28,7 +28,7 @@ pub record IsUnexpectedAt (tokens : Tokens) (from at : ℕ) : Type 0 where
   pub place : at ≡ place_of tokens token
   pub unexpected : IsUnexpected Spells (drop from tokens.list) (drop token tokens.list)
 
--- what is answered of the expression at a token; nothing is said where memory was wanting, or room on the stack
+-- what is answered of the expression at a token; nothing is said where memory was lacking, or room on the stack
 abbrev pub Parses : Tokens → ℕ → Result ParsedExpr SyntaxAnswer → Type 0
 Parses tokens from (Ok parsed) = IsParsed tokens from parsed
 Parses tokens from (Err (A.Unexpected at)) = IsUnexpectedAt tokens from at

@@ -1,4 +1,4 @@
--- How readings go together: what a rule comes to, from what its parts come to.
+-- How readings go together: what a rule gives, from what its parts give.
 use Rattle.std.proofs.Common.{◌≡◌, ◌∙◌, ℕ, zero, suc, ◌+◌, ◌≤◌, Bool, true, false, if◌then◌else◌, List, [], ◌∷◌, refl, sym, subst, arith}
 use Rattle.spl_tree.specs.declared.token.Token.{Token}
 use Rattle.expr_parser.specs.Rules.{Rule, done, stop, look, call, Answer, Took, Refused, Spent, Reader, and_then, run, read, RunsTo, Reads}
@@ -8,15 +8,15 @@ abbrev pub begins_with : (Token → Bool) → List Token → Bool
 begins_with p [] = false
 begins_with p (t ∷ ts) = p t
 
--- reading went deep enough to come to something
+-- reading went deep enough to give a value or a refusal
 abbrev pub Settled : {A : Type 0} → Answer A → Type 0
 Settled (Took x rest) = Unit {0}
 Settled (Refused rest) = Unit {0}
 Settled Spent = ⊥
 
--- Deeper readings come to the same
+-- Deeper readings give the same
 
--- of two choices by one test, what follows on each way from that the first comes to o
+-- two choices by one test: where the first is o, P holds of the second if that is so in each case of the test
 pub if_both : {X Y : Type 0} (P : Y → Type 0) (o : X) (b : Bool) {x y : X} {x' y' : Y} → (x ≡ o → P x') → (y ≡ o → P y')
     → (if b then x else y) ≡ o → P (if b then x' else y')
 if_both P o true h k e = h e
@@ -24,7 +24,7 @@ if_both P o false h k e = k e
 
 module _ {Line : Type 0} {Value : Line → Type 0} (c d : (x : Line) → Reader (Value x))
     (more : (x : Line) (ts : List Token) (o : Answer (Value x)) → c x ts ≡ o → Settled o → d x ts ≡ o) where
-  -- a rule comes to the same where the lines do
+  -- a rule gives the same where the lines do
   run_same : {A : Type 0} (r : Rule Line Value A) (ts : List Token) (o : Answer A) → run c r ts ≡ o → Settled o → run d r ts ≡ o
   run_same (done x) ts o e s = e
   run_same stop ts o e s = e
@@ -40,7 +40,7 @@ module _ {Line : Type 0} {Value : Line → Type 0} (c d : (x : Line) → Reader 
       by Spent is e behind = absurd (subst Settled (sym e) s)
 
 module _ {Line : Type 0} {Value : Line → Type 0} (rule : (x : Line) → Rule Line Value (Value x)) where
-  -- a line comes to the same at each depth from one that was enough on
+  -- a line gives the same at each depth from one that was enough on
   pub read_more : (n m : ℕ) (x : Line) (ts : List Token) (o : Answer (Value x)) → n ≤ m → read rule n x ts ≡ o → Settled o → read rule m x ts ≡ o
   unfolding read
   read_more zero m x ts o le e s = absurd (subst Settled (sym e) s)
@@ -56,7 +56,7 @@ module _ {Line : Type 0} {Value : Line → Type 0} (rule : (x : Line) → Rule L
 -- Answers of rules
 
 module _ {Line : Type 0} {Value : Line → Type 0} {rule : (x : Line) → Rule Line Value (Value x)} where
-  -- a line comes to what its rule comes to
+  -- a line gives what its rule gives
   pub line : {x : Line} {ts : List Token} {o : Answer (Value x)} → RunsTo rule (rule x) ts o → Reads rule x ts o
   unfolding read
   line r = record { depth = suc r.depth; is = r.is }
@@ -88,7 +88,7 @@ module _ {Line : Type 0} {Value : Line → Type 0} {rule : (x : Line) → Rule L
         let took = read_more rule first.depth n y ts (Took v mid) (omega arith) first.is tt in
         record { depth = n; is = rw took (run_more rule behind.depth n (k v) mid o (omega arith) behind.is s) }
 
-    -- another line is read first, and the rest behind it
+    -- another line is read first, and the rest after it
     pub runs_call : {v : Value y} {mid : List Token} {o : Answer A} → Reads rule y ts (Took v mid) → RunsTo rule (k v) mid o → RunsTo rule (call y k) ts o
     unfolding read
     runs_call {o = Spent} first behind = record { depth = 0; is = refl }
@@ -99,7 +99,7 @@ module _ {Line : Type 0} {Value : Line → Type 0} {rule : (x : Line) → Rule L
     pub runs_fail : {rest : List Token} → Reads rule y ts (Refused rest) → RunsTo rule (call y k) ts (Refused rest)
     runs_fail first = record { depth = first.depth; is = rw first.is refl }
 
-  -- a line comes to one answer
+  -- a line gives one answer
   pub reads_one : {x : Line} {ts : List Token} {o o' : Answer (Value x)} → Reads rule x ts o → Reads rule x ts o' → Settled o → Settled o' → o ≡ o'
   reads_one {x} {ts} {o} {o'} r q s s' =
       let n = r.depth + q.depth in

@@ -11,7 +11,7 @@ pub data Rule (Line : Type 0) (Value : Line → Type 0) (A : Type 0) : Type 0 wh
   look : (Token → Bool) → (Token → Rule Line Value A) → Rule Line Value A → Rule Line Value A
   call : (x : Line) → (Value x → Rule Line Value A) → Rule Line Value A
 
--- what reading comes to: a value and the tokens behind it; or a refusal, and the tokens from the refused one on; or
+-- the result of reading: a value and the tokens after it; or a refusal, and the tokens from the refused one on; or
 -- nothing yet, since it may go no deeper
 pub data Answer (A : Type 0) : Type 0 where
   Took : A → List Token → Answer A
@@ -26,7 +26,7 @@ and_then (Took x rest) go = go x rest
 and_then (Refused rest) go = Refused rest
 and_then Spent go = Spent
 
--- what a rule comes to, where the lines come to what c says
+-- what a rule gives, where the lines give what c says
 abbrev pub run : {Line : Type 0} {Value : Line → Type 0} {A : Type 0} → ((x : Line) → Reader (Value x)) → Rule Line Value A → Reader A
 run c (done x) ts = Took x ts
 run c stop ts = Refused ts
@@ -34,18 +34,18 @@ run c (look p f d) [] = run c d []
 run c (look p f d) (t ∷ ts) = if p t then run c (f t) ts else run c d (t ∷ ts)
 run c (call x k) ts = and_then (c x ts) (λ y rest. run c (k y) rest)
 
--- what a line comes to, where lines are read in lines so deep at most
+-- what a line gives, where lines are read in one another to a given depth at most
 unfoldable pub read : {Line : Type 0} {Value : Line → Type 0} → ((x : Line) → Rule Line Value (Value x)) → ℕ → (x : Line) → Reader (Value x)
 read rule zero x ts = Spent
 read rule (suc n) x ts = run (read rule n) (rule x) ts
 
 module _ {Line : Type 0} {Value : Line → Type 0} (rule : (x : Line) → Rule Line Value (Value x)) where
-  -- a rule comes to an answer at some depth
+  -- a rule gives an answer at some depth
   pub record RunsTo {A : Type 0} (r : Rule Line Value A) (ts : List Token) (answer : Answer A) : Type 0 where
     pub depth : ℕ
     pub is : run (read rule depth) r ts ≡ answer
 
-  -- a line comes to an answer at some depth
+  -- a line gives an answer at some depth
   pub record Reads (x : Line) (ts : List Token) (answer : Answer (Value x)) : Type 0 where
     pub depth : ℕ
     pub is : read rule depth x ts ≡ answer

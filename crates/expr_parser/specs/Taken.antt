@@ -2,7 +2,7 @@
 use Rattle.std.specs.Prelude.{◌≡◌, Bool, true, List, ◌∷◌}
 use Rattle.spl_tree.specs.declared.token.Token.{Token}
 
--- the tokens are this one, which passes, and those behind it
+-- the tokens are this one, which passes, and those after it
 pub record Taken (p : Token → Bool) (ts : List Token) (t : Token) (rest : List Token) : Type 0 where
   pub here : ts ≡ t ∷ rest
   pub passes : p t ≡ true

@@ -46,7 +46,7 @@ kept_after W.Opens next_adds d = record { weight = kept_weight (d.weight + 1); o
 kept_after W.Separates next_adds d = record { weight = kept_start d.opened; opened = d.opened }
 kept_after (W.Closes brace) next_adds d = kept_closing brace next_adds d d.opened
 
--- behind so many tokens this is kept of the weight there
+-- after the first i tokens, w is what is kept of the weight there
 pub record Leads (ts : List Token) (i : ℕ) (w : Weighing) : Type 0 where
   pub weighing : W.Weighing
   pub is : weighing_of w ≡ kept weighing

@@ -4,7 +4,7 @@ ghost use Rattle.expr_parser.specs.declared.answer.SyntaxAnswer.TheVariants.{Mem
 use spl_tree::Expr;
 use spl_value::NoMemory;
 
-/// An expression, and the place in the list of the token behind it.
+/// An expression, and the place in the list of the token after it.
 #[derive(Drop)]
 pub struct ParsedExpr {
     pub expr: Expr,

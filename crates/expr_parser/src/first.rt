@@ -23,7 +23,7 @@ fn is(token: &Token, symbol: Symbol) -> bool
     }
 }
 
-/// The first token, where it is the symbol, and the tokens behind it.
+/// The first token, where it is the symbol, and the tokens after it.
 pub fn after(ts: &[Token], symbol: Symbol) -> Option<(&Token, &[Token])>
     ensures { MatchOption result (begins_with (is symbol) ts.now ≡ false)
         (λ found. Taken (is symbol) ts.now found.0.now found.1.now) }
@@ -36,7 +36,7 @@ pub fn after(ts: &[Token], symbol: Symbol) -> Option<(&Token, &[Token])>
     }
 }
 
-/// The tokens behind a symbol that has to come first.
+/// The tokens after a symbol that has to come first.
 pub fn pass<'t>(ts: &'t [Token], symbol: Symbol) -> Result<&'t [Token], Stop<'t>>
     ensures { Passes symbol ts.now result }
 {
@@ -46,7 +46,7 @@ pub fn pass<'t>(ts: &'t [Token], symbol: Symbol) -> Result<&'t [Token], Stop<'t>
     }
 }
 
-/// A name that has to come first, with its place, and the tokens behind it.
+/// A name that has to come first, with its place, and the tokens after it.
 pub fn pass_name<'t>(
     alloc: Global,
     ts: &'t [Token],
@@ -63,7 +63,7 @@ pub fn pass_name<'t>(
     }
 }
 
-/// The first token, where it is a name, with the name and the tokens behind it.
+/// The first token, where it is a name, with the name and the tokens after it.
 pub fn name_first(ts: &[Token]) -> Option<(&Token, &Name, &[Token])>
     ensures { MatchOption result (begins_with is_name ts.now ≡ false)
         (λ found. Taken is_name ts.now found.0.now found.2.now × (found.1.now ≡ name_of found.0.now)) }
@@ -75,7 +75,7 @@ pub fn name_first(ts: &[Token]) -> Option<(&Token, &Name, &[Token])>
     }
 }
 
-/// The first token, where it is an expression by itself, and the tokens behind it.
+/// The first token, where it is an expression by itself, and the tokens after it.
 pub(crate) fn literal_first(ts: &[Token]) -> Option<(&Token, &[Token])>
     ensures { MatchOption result (begins_with is_literal ts.now ≡ false)
         (λ found. Taken is_literal ts.now found.0.now found.1.now) }
@@ -117,7 +117,7 @@ fn prefix_operator(kind: &TokenKind) -> Option<PrefixOperator>
     }
 }
 
-/// The prefix operator that the first token is, and the tokens behind it.
+/// The prefix operator that the first token is, and the tokens after it.
 pub(crate) fn prefix_first(ts: &[Token]) -> Option<(Prefix, &[Token])>
     ensures { MatchOption result (begins_with is_prefix ts.now ≡ false)
         (λ found. TakenAs is_prefix prefix_token ts.now found.0 found.1.now) }
@@ -144,7 +144,7 @@ fn cast_target(kind: &TokenKind) -> Option<CastTarget>
 }
 
 /// The type that the first token names, where an expression can be cast to it, as a prefix at the
-/// place, and the tokens behind it.
+/// place, and the tokens after it.
 pub(crate) fn cast_first(ts: &[Token], at: u32) -> Option<(Prefix, &[Token])>
     ensures { MatchOption result (begins_with is_target ts.now ≡ false)
         (λ found. TakenAs is_target (cast_token at) ts.now found.0 found.1.now) }
@@ -214,7 +214,7 @@ fn level(operator: BinaryOperator) -> u32
     }
 }
 
-/// The operator of that level that the first token is, and the tokens behind it.
+/// The operator of that level that the first token is, and the tokens after it.
 pub(crate) fn operator_first(ts: &[Token], at_level: u32) -> Option<(BinaryOperator, &[Token])>
     ensures { MatchOption result (begins_with (is_operator at_level) ts.now ≡ false)
         (λ found. TakenAs (is_operator at_level) operator_of ts.now found.0 found.1.now) }

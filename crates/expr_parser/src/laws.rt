@@ -1,4 +1,4 @@
-//! What the definitions come to.
+//! What follows from the definitions.
 ghost use Rattle.expr_parser.specs.Parses.{OneTreeLaw, OneAnswerLaw};
 
 /// Tokens spell one expression at most: the tree of an expression is that of its tokens. And what

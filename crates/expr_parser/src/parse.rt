@@ -25,12 +25,12 @@ fn place(tokens: &Tokens, at: usize) -> u32
 }
 
 /// The expression that begins at the token `from` of the list, and the place in the list of the
-/// token behind it.
+/// token after it.
 ///
 /// As many tokens are taken as can begin an expression. Where they aren't one themselves, the answer
-/// is `Unexpected`, at the token behind them or at the program's end. Before all, the answer is
+/// is `Unexpected`, at the token after them or at the program's end. Before all, the answer is
 /// `TooDeep` where a token from `from` on weighs too much in the list, at the first that does.
-/// `Memory` also stands for what nests too deep for the stack.
+/// `Memory` is also the answer for what nests too deep for the stack.
 pub fn parse_expr(alloc: Global, tokens: &Tokens, from: u32) -> Result<ParsedExpr, SyntaxAnswer>
     requires few { length tokens.now.list ≤ 1048576 }
     requires within { from ≤ length tokens.now.list }

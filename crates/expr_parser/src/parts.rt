@@ -11,11 +11,11 @@ use crate::stop::Stop;
 use spl_tree::{Expr, Exprs, Symbol, Token};
 use std::alloc::Global;
 
-/// A value that is read, and the tokens behind it.
+/// A value that is read, and the tokens after it.
 pub type Taken<'t, T> = Result<(T, &'t [Token]), Stop<'t>>;
 
 /// The expression with which the tokens begin: as many tokens are taken as can begin an expression.
-/// Where they aren't one themselves, the token behind them is refused. No token is weighed.
+/// Where they aren't one themselves, the token after them is refused. No token is weighed.
 pub fn read_expression<'t>(alloc: Global, ts: &'t [Token]) -> Taken<'t, Expr>
     ensures rule { Answers lines.Whole ts.now result }
     ensures phrase { Begun Spells ts.now result }

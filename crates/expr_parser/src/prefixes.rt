@@ -7,7 +7,7 @@ use spl_tree::{Prefixes, Symbol, Token};
 use spl_value::Items;
 use std::alloc::Global;
 
-/// Prefix operators and casts, and the tokens behind them. Where an opening parenthesis that begins no
+/// Prefix operators and casts, and the tokens after them. Where an opening parenthesis that begins no
 /// cast follows, it is taken too, and its place stands between.
 pub(crate) fn prefixes<'t>(
     alloc: Global,

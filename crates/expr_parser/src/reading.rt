@@ -55,7 +55,7 @@ fn rest<'t>(
     }
 }
 
-/// The two expressions of a conditional, behind its `?`.
+/// The two expressions of a conditional, after its `?`.
 #[cycle(reader)]
 fn choice<'t>(alloc: Global, depth: u32, test: Expr, height: u32, ts: &'t [Token]) -> Read<'t, Expr>
     ensures { Comes (choice_rule test) ts.now result }
@@ -67,7 +67,7 @@ fn choice<'t>(alloc: Global, depth: u32, test: Expr, height: u32, ts: &'t [Token
     making::conditional(alloc, test, first, second, height.max(tall), behind)
 }
 
-/// Operators up to a level, behind the first operand.
+/// Operators up to a level, after the first operand.
 #[cycle(reader)]
 fn climb<'t>(
     alloc: Global,
@@ -87,7 +87,7 @@ fn climb<'t>(
     chain(alloc, depth, level - 1, left, height, behind)
 }
 
-/// Operators of the level above `below`, behind their left side.
+/// Operators of the level above `below`, after their left side.
 #[cycle(reader)]
 fn chain<'t>(
     alloc: Global,
@@ -172,7 +172,7 @@ fn primary<'t>(alloc: Global, depth: u32, ts: &'t [Token]) -> Read<'t, Expr>
     }
 }
 
-/// An expression in parentheses, behind the opening one.
+/// An expression in parentheses, after the opening one.
 #[cycle(reader)]
 fn group<'t>(alloc: Global, depth: u32, at: u32, ts: &'t [Token]) -> Read<'t, Expr>
     ensures { Gives (Group at) ts.now result }
@@ -199,7 +199,7 @@ fn named<'t>(alloc: Global, depth: u32, at: u32, name: Name, ts: &'t [Token]) ->
     }
 }
 
-/// A list, behind its opening bracket.
+/// A list, after its opening bracket.
 #[cycle(reader)]
 fn list<'t>(alloc: Global, depth: u32, at: u32, ts: &'t [Token]) -> Read<'t, Expr>
     ensures { Comes (list_rule at) ts.now result }
@@ -261,7 +261,7 @@ fn name_alone(expr: Expr) -> Option<Placed<Name>>
     }
 }
 
-/// A map or a tuple, behind the opening brace.
+/// A map or a tuple, after the opening brace.
 #[cycle(reader)]
 fn brace<'t>(alloc: Global, depth: u32, at: u32, ts: &'t [Token]) -> Read<'t, Expr>
     ensures { Gives (Brace at) ts.now result }
@@ -283,7 +283,7 @@ fn brace<'t>(alloc: Global, depth: u32, at: u32, ts: &'t [Token]) -> Read<'t, Ex
     }
 }
 
-/// A map, behind its first key and the colon.
+/// A map, after its first key and the colon.
 #[cycle(reader)]
 fn entries<'t>(
     alloc: Global,
@@ -314,7 +314,7 @@ fn entries<'t>(
     }
 }
 
-/// A tuple, behind the name of its first field and `=`.
+/// A tuple, after the name of its first field and `=`.
 #[cycle(reader)]
 fn fields<'t>(
     alloc: Global,

@@ -15,7 +15,7 @@ pub enum Stop<'t> {
     Memory,
 }
 
-/// What a line gives, how high its highest tree is, and the tokens behind it.
+/// What a line gives, how high its highest tree is, and the tokens after it.
 pub(crate) type Read<'t, T> = Result<(T, u32, &'t [Token]), Stop<'t>>;
 
 impl<'t> From<AllocError> for Stop<'t> {

@@ -32,7 +32,7 @@ record Begins (P : TokenKind → Type 0) (ts : List Token) : Type 0 where
 begin : (P : TokenKind → Type 0) (t : Token) (rest : List Token) → P t.kind → Begins P (t ∷ rest)
 begin P t rest h = record { first = t; rest = rest; is = refl; holds = h }
 
--- so it is with more tokens behind them
+-- so it is with more tokens after them
 longer : (P : TokenKind → Type 0) (a b : List Token) → Begins P a → Begins P (a ++ b)
 longer P a b x = record { first = x.first; rest = x.rest ++ b; is = ap (λ ts. ts ++ b) x.is; holds = x.holds }
 

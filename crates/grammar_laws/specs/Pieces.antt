@@ -8,7 +8,7 @@ use Rattle.spl_tree.specs.declared.token.Token.{Token}
 use Rattle.spl_tree.specs.declared.token.TokenKind.{TokenKind}
 use Rattle.spl_tree.specs.declared.token.TokenKind.TheVariants as T
 
--- which tokens a piece stands for
+-- which lists of tokens spell a piece
 abbrev pub Piece : Type 1
 Piece = List Token → Type 0
 

@@ -64,7 +64,7 @@ module _ (quote : ℕ) (feed : (quote == 10) ≡ false) (slash : (92 == quote) �
   text_ends (written.plain b bs cs p d) = rw (unequal b 10 p.feed, unequal b quote p.other, unequal b 92 p.backslash) (text_ends d)
   text_ends (written.escape c b bs cs e d) = rw (slash, (escape_found e).1) (text_ends d)
 
-  -- and stand for what they mean
+  -- and unescaping gives the bytes that they mean
   text_means : {inside bytes : List ℕ} → Means quote inside bytes → (at : ℕ) → unescaped at inside ≡ Ok bytes
   text_means written.nothing at = refl
   text_means (written.plain b bs cs p d) at = unescaped_plain at b bs (unequal b 92 p.backslash) ∙ ap (onto b) (text_means d (at + 1))

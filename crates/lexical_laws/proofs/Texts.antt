@@ -43,7 +43,7 @@ pub record Closing (quote : ℕ) (bs : List ℕ) (n : ℕ) : Type 0 where
   pub are : bs ≡ inside ++ quote ∷ after
   pub count : n ≡ suc (length inside)
 
--- the same behind a backslash
+-- the same after a backslash
 record ClosingPair (quote : ℕ) (bs : List ℕ) (n : ℕ) : Type 0 where
   first : ℕ
   others : List ℕ
@@ -53,7 +53,7 @@ record ClosingPair (quote : ℕ) (bs : List ℕ) (n : ℕ) : Type 0 where
   closing : Closing quote others later
   count : n ≡ suc later
 
--- what closes a text behind a byte of it
+-- what closes a text after a byte of it
 closing_plain : (quote b : ℕ) (bs : List ℕ) (n : ℕ) → IsPlain quote b → (o : Option ℕ) → ((m : ℕ) → o ≡ Some m → Closing quote bs m)
     → option_map suc o ≡ Some n → Closing quote (b ∷ bs) n
 closing_plain quote b bs n p None later e = absurd (cc)
@@ -68,7 +68,7 @@ closing_plain quote b bs n p (Some m) later e =
       count = omega (arith, d.count);
     }
 
--- and behind a backslash
+-- and after a backslash
 closing_slash : (quote : ℕ) (bs : List ℕ) (n : ℕ) → (o : Option ℕ) → ((m : ℕ) → o ≡ Some m → ClosingPair quote bs m)
     → option_map suc o ≡ Some n → Closing quote (92 ∷ bs) n
 closing_slash quote bs n None later e = absurd (cc)
@@ -105,7 +105,7 @@ mutual
       by false f false q false s later pairs e =
           closing_plain quote b bs n (record { feed = equal_not b 10 f; backslash = equal_not b 92 s; other = equal_not b quote q }) (text_length quote false bs) later e
 
-  -- also behind a backslash
+  -- also after a backslash
   closing_pair : (quote : ℕ) (bs : List ℕ) (n : ℕ) → text_length quote true bs ≡ Some n → ClosingPair quote bs n
   closing_pair quote [] n e = absurd (cc)
   closing_pair quote (c ∷ bs) n e = by (c == 10) refl (text_length quote false bs) (closing quote bs) e

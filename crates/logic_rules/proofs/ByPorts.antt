@@ -74,7 +74,7 @@ module _ (event : HandledEvent) (h : Handled) (hs : List Handled) where
 
 -- ---- the loop
 
--- those behind the handlers that are left stand at their ports
+-- the handlers after those that are left are at their ports
 pub record Reaches (all left : List Handled) (count : ℕ) (on_tuple on_punct : List (Option (List Statement))) : Type 0 where
   pub rest : List Handled
   pub joined : all ≡ left ++ rest

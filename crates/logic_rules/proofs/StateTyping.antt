@@ -1,4 +1,4 @@
--- What the state of a Custom comes to.
+-- How the state of a Custom is typed.
 use Rattle.std.specs.Prelude.{◌≡◌, Bool, true, false, List, if◌then◌else◌, codes, Some}
 use Rattle.std.proofs.Common.{refl, ap, sym}
 use Rattle.spl_value.specs.declared.types.SplType.{SplType}

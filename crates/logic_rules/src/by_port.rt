@@ -31,7 +31,7 @@ fn put_body(bodies: &mut Items<Option<Body>>, port: u32, body: Body)
     }
 }
 
-/// Handlers by their ports, of which there are so many. Of several of one event and port the first
+/// Handlers by their ports, of which there are `count`. Of several of one event and port the first
 /// counts.
 pub fn by_ports(
     alloc: Global,

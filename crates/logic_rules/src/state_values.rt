@@ -8,8 +8,8 @@ use crate::plain_codes::is_plain;
 use language_model::{Dollar, dollar_named};
 use spl_tree::{Expr, ExprKind, Field, Prefix, PrefixOperator};
 
-/// Whether what stands for the `$` parameter of the name is made of literals. Where nothing stands for
-/// it, that is refused where it is looked at.
+/// Whether the value of the `$` parameter of the name is made of literals. True too where it has none,
+/// or one that is refused: the refusal is given where the parameter is used.
 fn is_plain_parameter(dollars: &[Dollar], name: &[u8]) -> bool
     ensures { result ≡ plain_parameter (dollar_of dollars.now name.now) }
 {

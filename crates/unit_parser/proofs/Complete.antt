@@ -24,7 +24,7 @@ use Rattle.unit_parser.proofs.CompleteComposites.{type_definition_reads, composi
 
 -- Functions
 
--- a function behind the type of its result
+-- a function after the type of its result
 function_reads : {xs : List (Attribute TypeExpr)} {ss : List Stmt} {b d : List Token} → SpellsFunctionParameters xs b → SpellsBlock ss d → (k : Option TypeExpr) (t o c : Token)
     (n : List ℕ) (rest : List Token) → Names n t → Is S.LeftParen o → Is S.RightParen c
     → Reads rule (FunctionOf k) (t ∷ o ∷ (b ++ c ∷ (d ++ rest))) (Took (record { result = k; name = placed t.start n; parameters = xs; body = ss }) rest)
@@ -34,7 +34,7 @@ function_reads {d = d} dx ds k t o c n rest named left right = line (takes (rw n
 
 -- Definitions
 
--- definitions up to the end of the tokens, behind some
+-- definitions up to the end of the tokens, after others
 abbrev Behind : List Definition → List Definition → List Token → Type 0
 Behind all xs ts = Reads rule (Definitions xs) ts (Took all [])
 
@@ -107,11 +107,11 @@ definition_front x b' ts (a_composite y g (composite w t o c n us ins ps types g
 
 -- Units
 
--- what comes behind a name of a namespace
+-- what comes after a name of a namespace
 abbrev behind_name : R (Unit {0})
 behind_name = look (is S.Dot) (λ _. call Namespace done) (expect S.Semicolon (done tt))
 
--- the names of a namespace, and then what comes behind them
+-- the names of a namespace, and then what comes after them
 namespace_reads : {ns : List Name} {a : List Token} → Separated S.Dot SpellsName ns a → (rest : List Token) {out : List Token} → RunsTo rule behind_name rest (Took tt out)
     → Reads rule Namespace (a ++ rest) (Took tt out)
 unfolding rule

@@ -139,7 +139,7 @@ window_clause_reads d rest front no_more = line (placed_reads rest (λ t xs b ds
 
 -- Outputs
 
--- assignments, and then what comes behind them
+-- assignments, and then what comes after them
 assignments_reads : {fs : List (Field Expr)} {a : List Token} → Fields fs a → (rest : List Token) {w : List (Field Expr)} {out : List Token} → Stops 10 rest
     → RunsTo rule (look (is S.Comma) (λ _. call (Assignments fs) done) (expect S.Semicolon (done fs))) rest (Took w out)
     → Reads rule (Assignments []) (a ++ rest) (Took w out)
@@ -229,7 +229,7 @@ logic_reads (logic t ds hs a b e d rows) rest front no_more no_tuple no_punct = 
 
 -- What ends an invocation
 
--- the rule of the clauses, behind the opening brace
+-- the rule of the clauses, after the opening brace
 abbrev clauses_rule : R Clauses
 clauses_rule =
     call LogicClause (λ l. call WindowClause (λ w. call (ParameterClause K.Param) (λ ps. call OutputClause (λ u. call (ParameterClause K.Config) (λ gs.

@@ -186,7 +186,7 @@ module _ {ps : List CompositeParameter} {ts : List TypeDefinition} {xs : List In
   body_reads n h = runs_call parameters_part (runs_call types_part (runs_call graph_part
       (runs_call (parameter_clause_reads sg (c ∷ rest) (rw right refl) (rw right refl)) (expects right runs_done))))
 
-  -- a composite behind its first word
+  -- a composite after its first word
   pub composite_reads : {us ins : List HeadPort} {a : List Token} → SpellsHeadPorts us ins a → (t o : Token) (n : List ℕ) → Names n t → Is S.LeftBrace o
       → Reads rule CompositeOf (t ∷ (a ++ o ∷ (b ++ (d ++ (e ++ (f ++ c ∷ rest))))))
       (Took (record { name = placed t.start n; outputs = us; inputs = ins; parameters = ps; types = ts; graph = xs; config = gs }) rest)

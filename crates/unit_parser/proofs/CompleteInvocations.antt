@@ -43,7 +43,7 @@ separated_begins q all (next xs x t a b ds e d) rest = rw (append_assoc a (t ∷
 
 -- Streams
 
--- how a stream begins: with its word, and the line behind that one comes to it
+-- how a stream begins: with its word, and the line after that word gives it
 data StreamFront (x : OutputStream) : List Token → List Token → Type 0 where
   behind_word : (t : Token) (ts rest : List Token) → IsKeyword K.Stream t → Reads rule Stream ts (Took x rest) → StreamFront x (t ∷ ts) rest
 
@@ -80,7 +80,7 @@ streams_reads {xs = all} ds c rest right =
 
 -- Heads
 
--- how a head begins at a place: with `stream` or an opening parenthesis, and the line behind that token comes to it
+-- how a head begins at a place: with `stream` or an opening parenthesis, and the line after that token gives it
 data HeadFront (xs : List OutputStream) (l : Option Name) : ℕ → List Token → List Token → Type 0 where
   by_stream : (t : Token) (ts rest : List Token) → IsKeyword K.Stream t → Reads rule StreamHead ts (Took (xs, l) rest) → HeadFront xs l t.start (t ∷ ts) rest
   by_list : (t : Token) (ts rest : List Token) → Is S.LeftParen t → Reads rule ListHead ts (Took (xs, l) rest) → HeadFront xs l t.start (t ∷ ts) rest
@@ -175,7 +175,7 @@ inputs_reads (some ps a ds) c rest right =
 
 -- Invocations
 
--- an invocation, from its head and what comes behind it
+-- an invocation, from its head and what comes after it
 head_reads : {xs : List OutputStream} {l : Option Name} {at : ℕ} {ts rest mid out : List Token} {x : Invocation} {zs w : List Invocation}
     → HeadFront xs l at ts rest → Reads rule (Invoked at xs l) rest (Took x mid) → Reads rule (Graph (zs ++ x ∷ [])) mid (Took w out)
     → Reads rule (Graph zs) ts (Took w out)

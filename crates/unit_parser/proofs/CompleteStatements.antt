@@ -137,7 +137,7 @@ value_reads no_value m k n s rest semi = line (skips (rw semi refl) (expects sem
 value_reads (value t e a equals d) m k n s rest semi =
     line (takes (rw equals refl) (expression_reads d S.Semicolon (omega arith) semi (expects semi runs_done)))
 
--- a variable behind its type
+-- a variable after its type
 declared_reads : {v : Option Expr} {a : List Token} → SpellsValue v a → (m : Bool) (k : TypeExpr) (t s : Token) (n : List ℕ) (rest : List Token) → Names n t
     → Is S.Semicolon s → Reads rule (Declared m k) (t ∷ (a ++ s ∷ rest)) (Took (declared m k (placed t.start n) v) rest)
 unfolding rule
@@ -249,7 +249,7 @@ steps_begin q no_dot no_bracket (member ss a d t n ds dot named) rest e =
 steps_begin q no_dot no_bracket (index ss i o c a b ds left d right) rest e =
     rw (append_assoc a (o ∷ (b ++ c ∷ [])) rest) (steps_begin q no_dot no_bracket ds (o ∷ ((b ++ c ∷ []) ++ rest)) (rw left no_bracket))
 
--- an assignment behind the name with which it begins
+-- an assignment after the name with which it begins
 begun_assign : {p e : Expr} {ts b : List Token} {op : Option BinaryOperator} (at : ℕ) (n : List ℕ) (t s : Token) (rest : List Token) → begins_with is_name ts ≡ false
     → begins_with (is S.LeftParen) ts ≡ false → Reads expressions.rule (expressions.Steps (placed at (X.Name n)) []) ts (Took p (t ∷ (b ++ s ∷ rest)))
     → assignment_of t.kind ≡ Some op → Spells e b → Is S.Semicolon s → Reads rule (Begun at n) ts (Took (placed at (Z.Assign p op e)) rest)
@@ -286,7 +286,7 @@ assign_other {e = e} {b = b} {op = op} place t s rest known d semi = by place
 
 -- Statements
 
--- behind a statement that is not closed stands no `else`
+-- no `else` comes after a statement that is not closed
 abbrev pub Ends : Bool → List Token → Type 0
 Ends true rest = Unit {0}
 Ends false rest = begins_with (is_word K.Else) rest ≡ false
@@ -317,7 +317,7 @@ is_if : {closed : Bool} {s : Stmt} {a : List Token} → (IsNoIf s → ⊥)
     → ((rest : List Token) → Ends closed rest → Reads rule Statement (a ++ rest) (Took (s, closed) rest)) → IsRead closed s a
 is_if clash r = record { whole = r; other = λ none rest ends. absurd (clash none); front = λ none rest. absurd (clash none) }
 
--- what comes behind `return`
+-- what comes after `return`
 abbrev return_rule : ℕ → R (Stmt × Bool)
 return_rule at = look (is S.Semicolon) (λ _. done (placed at (Z.Return None), true))
     (expression (λ e. expect S.Semicolon (done (placed at (Z.Return (Some e)), true))))
@@ -390,7 +390,7 @@ mutual
       (expects left (expression_reads d S.Comma (omega arith) comma (expects comma
       (takes (rw named refl) (rw named (expects right (expects semi runs_done)))))))))))))))
 
-  -- the arms of an `if`, and then what comes behind them
+  -- the arms of an `if`, and then what comes after them
   arms_reads : {last : Bool} {at : ℕ} {arms : List (Expr × Stmt)} {a : List Token} → SpellsArms last at arms a → (rest : List Token) → Ends last rest
       → {o : Stmt × Bool} {out : List Token} → RunsTo rule (arms_end at arms last) rest (Took o out) → Reads rule Statement (a ++ rest) (Took o out)
   arms_reads (first_arm closed t o c e s a b word left d right ds) rest ends r = rw (append_assoc a (c ∷ b) rest)
@@ -402,7 +402,7 @@ mutual
       (runs_call (line (expects left (expression_reads de S.RightParen (omega arith) right (expects right
       (runs_call ((statement_reads dst).whole rest ends) r))))) runs_done))))
 
-  -- statements in a row, and then what comes behind them
+  -- statements in a row, and then what comes after them
   statements_reads : {ss : List Stmt} {a : List Token} → SpellsStmts ss a → (rest : List Token) → begins_with (is_word K.Else) rest ≡ false
       → {w : List Stmt} {out : List Token} → Reads rule (Statements ss) rest (Took w out) → Reads rule (Statements []) (a ++ rest) (Took w out)
   statements_reads no_statements rest front r = r

@@ -61,7 +61,7 @@ pub attributes_end : (close : Symbol) (c : Token) (rest : List Token) (xs : List
 unfolding rule
 attributes_end close c rest xs no_comma right = line (skips (rw right no_comma) (expects right runs_done))
 
--- how a type begins: it is its first token, or a line behind that one comes to it
+-- how a type begins: it is its first token, or a line after that token gives it
 data Front (k : TypeExpr) : List Token → List Token → Type 0 where
   alone : (t : Token) (rest : List Token) → is_type t ≡ true → type_of t ≡ k → Front k (t ∷ rest) rest
   of_list : (t : Token) (ts rest : List Token) → IsKeyword K.List t → Reads rule (ListType t.start) ts (Took k rest) → Front k (t ∷ ts) rest
@@ -100,7 +100,7 @@ mutual
       (of_tuple t (o ∷ (a ++ c ∷ rest)) rest e
       (line (expects left (runs_call (attributes_reads d S.Greater (c ∷ rest) (attributes_end S.Greater c rest xs refl right)) runs_done))))
 
-  -- attributes, and then what comes behind them
+  -- attributes, and then what comes after them
   pub attributes_reads : {xs : List (Attribute TypeExpr)} {a : List Token} → SpellsAttributes xs a → (close : Symbol) (rest : List Token)
       {w : List (Attribute TypeExpr)} {out : List Token} → Reads rule (MoreAttributes close xs) rest (Took w out) → Reads rule (Attributes close []) (a ++ rest) (Took w out)
   attributes_reads (first_attribute k t n a d e) close rest s = rw (append_assoc a (t ∷ []) rest)
@@ -129,7 +129,7 @@ parameters_reads (parameters xs a d) c rest right =
 
 -- Shapes
 
--- what a shape comes to that begins with these attributes, where these tokens stand behind them
+-- what a shape that begins with these attributes gives, where these tokens come after them
 record Begun (close : Symbol) (xs : List (Attribute TypeExpr)) (a rest : List Token) : Type 0 where
   first : Attribute TypeExpr
   others : List (Attribute TypeExpr)
@@ -182,7 +182,7 @@ type_at (list t o c k a e left d right) = begins t (o ∷ (a ++ c ∷ []))
 type_at (map t o m c k v a b e left dk comma dv right) = begins t (o ∷ (a ++ m ∷ (b ++ c ∷ [])))
 type_at (tuple t o c xs a e left d right) = begins t (o ∷ (a ++ c ∷ []))
 
--- tokens begin at one place, whatever comes behind them
+-- tokens begin at one place, whatever comes after them
 pub at_one : {m n : ℕ} {a : List Token} (b : List Token) → BeginsAt m a → BeginsAt n (a ++ b) → m ≡ n
 at_one b (begins t a) y = by y refl
   where

@@ -1,4 +1,4 @@
--- Lengths, rules that go on as others do, and the rests of the rules of composites behind a name.
+-- Lengths, rules that go on as others do, and the rests of the rules of composites after a name.
 use Rattle.std.proofs.Common.{◌≡◌, ◌∙◌, ℕ, zero, suc, ◌+◌, ◌<◌, ◌≤◌, Bool, true, false, if◌then◌else◌, List, [], ◌∷◌, ◌++◌, length, Option, Err, refl, sym, ap, subst, arith}
 use Rattle.spl_tree.specs.declared.keyword.Keyword.TheVariants as K
 use Rattle.spl_tree.specs.declared.symbol.Symbol.TheVariants as S
@@ -40,7 +40,7 @@ name_takes {A} k (t ∷ ts) mid v r = by (is_name t) r.is
 
 -- ---- rules that go on
 
--- a rule, and behind it another one with its value
+-- a rule, and after it another one with its value
 abbrev pub bound : {A B : Type 0} → R A → (A → R B) → R B
 bound (done v) k = k v
 bound stop k = stop
@@ -80,7 +80,7 @@ module _ {A B : Type 0} (k : A → R B) where
   bound_fails r ts (E.At rest) c = bound_refuses r c
   bound_fails r ts E.Memory c = tt
 
--- a line that comes to something does by its rule
+-- a value or a refusal that a line gives is given by its rule
 pub by_rule : {x : Line} {ts : List Token} {o : Answer (Value x)} → Settled o → Reads rule x ts o → RunsTo rule (rule x) ts o
 unfolding read
 by_rule {x} {ts} {o} s r = at_depth r.depth r.is
@@ -110,7 +110,7 @@ pub spent : {x : Line} {ts : List Token} → Reads rule x ts Spent
 unfolding read
 spent = record { depth = 0; is = refl }
 
--- ---- behind a name
+-- ---- after a name
 
 abbrev pub port_named : Option Shape → Name → R HeadPort
 port_named h n = done (record { shape = h; name = n })

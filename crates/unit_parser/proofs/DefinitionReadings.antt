@@ -44,7 +44,7 @@ pub names_stopped : (ts : List Token) (e : Stop) → PassesNames ts (Err e) → 
 names_stopped ts (S.At rest) g = g
 names_stopped ts S.Memory g = tt
 
--- names that come to what a rule does that stops
+-- names whose answer is that of a rule that stops
 pub names_fail : (ts mid : List Token) (r : R (Unit {0})) (res : Result (Bor (List Token)) Stop) (e : Stop) → IsErrAnd res (λ y. y ≡ e)
     → ((o : Answer (Unit {0})) → RunsTo rule r mid o → Reads rule Namespace ts o) → Comes r mid (Err e) → PassesNames ts res
 names_fail ts mid r res e h on c =
@@ -67,7 +67,7 @@ function_named result n =
 abbrev pub type_behind : List Definition → R (List Definition)
 type_behind xs = call TypeOf (λ x. call (Definitions (xs ++ D.Type x ∷ [])) done)
 
--- a definition that comes to what a rule does that stops
+-- a definition whose answer is that of a rule that stops
 define_stop : (ts : List Token) (e : Stop) → ((xs : List Definition) → Gives (Definitions xs) ts (Err e)) → DefinesOn ts (Err e)
 define_stop ts (S.At rest) g = g
 define_stop ts S.Memory g = tt
@@ -194,7 +194,7 @@ module _ {ts : List Token} (w : NoWord ts) (xs : List Definition) where
   unfolding rule
   typed begins o q = behind_words (type_begins {r = λ k. function_behind (Some k) xs} {other = done xs} begins q)
 
-  -- its type is read, and what comes behind it
+  -- its type is read, and what comes after it
   pub typed_read : {kind : TypeExpr} {mid : List Token} → begins_with is_type_front ts ≡ true → Reads rule TypeExpression ts (Took kind mid)
       → (o : Answer (List Definition)) → RunsTo rule (function_behind (Some kind) xs) mid o → Reads rule (Definitions xs) ts o
   typed_read begins first (Took v rest) behind = typed begins (Took v rest) (runs_bound (λ k. function_behind (Some k) xs) (rule TypeExpression) (by_rule tt first) behind tt)

@@ -1,4 +1,4 @@
--- What reading a unit comes to, by the places of tokens in the list.
+-- The result of reading a unit, by the places of tokens in the list.
 use Rattle.std.proofs.Common.{◌≡◌, ◌∙◌, nat_eq, true, false, ◌-◌, ◌≤◌, List, [], ◌∷◌, ◌++◌, length, take, drop, None, refl, sym, ap, subst, arith, length-append, append_assoc, append-nil}
 use Rattle.std.proofs.Math.Seq.{take-append_seam, drop-append_seam}
 use Rattle.std.proofs.lemmas.Bool.{eqb-true}
@@ -15,7 +15,7 @@ use Rattle.statement_parser.specs.Lines.{Whole, rule}
 use Rattle.spl_tree.specs.Units.{IsUnit, IsUnexpectedAt}
 use Rattle.unit_parser.proofs.WholeUnits.{exact_took, exact_refused}
 
--- with a token left behind the longest front, the tokens spell no unit
+-- with a token left after the longest front, the tokens spell no unit
 none_left : (ts front rest : List Token) → Longest SpellsUnit ts front rest → (t : Token) (others : List Token) → rest ≡ t ∷ others
     → (unit : List Definition) → SpellsUnit unit ts → ⊥
 none_left ts front rest l t others is unit s =

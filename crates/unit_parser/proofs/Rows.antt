@@ -31,7 +31,7 @@ made {v = v} {ts = ts} e = subst (λ x. RunsTo rule (done v) ts (Took x ts)) (sy
 pub handed_on : {B : Type 0} (P : Result B Stop → Type 0) (res : Result B Stop) (e : Stop) → IsErrAnd res (λ y. y ≡ e) → P (Err e) → P res
 handed_on P res e h q = let p = err_from_is_err_and res h in subst P (sym (p.1 ∙ ap Err p.2)) q
 
--- a line whose rule comes to the rule r at mid, and what that comes to
+-- a line that gives at ts what the rule r gives at mid, and what that is
 pub goes_as : (x : Line) (ts mid : List Token) (r : R (Value x)) (res : Answered (Value x))
     → ((o : Answer (Value x)) → RunsTo rule r mid o → Reads rule x ts o) → Comes r mid res → Gives x ts res
 goes_as x ts mid r res on c = says_on {P = RunsTo rule r mid} {Q = Reads rule x ts} on res c

@@ -130,7 +130,7 @@ pub window_leads : LeadsTo (Phrases lines.WindowClause) (rule lines.WindowClause
 unfolding rule
 window_leads = may_word K.Window (λ t is. last (λ ws b r. placed_clause t ws b is (r [] none))) (ended absent)
 
--- the parts of a window behind a port
+-- the parts of a window after a port
 port_window_spells : {ps : List WindowPart} {a : List Token} (t c : Token) → Names (name_of t) t → Is S.Colon c
     → Closed (Separated S.Comma SpellsWindowPart) S.Semicolon ps a → SpellsPortWindow (record { port = name_at t; parts = ps }) (t ∷ c ∷ a)
 port_window_spells t c word colon (closed ps s a d semicolon) = port_window t c s (name_of t) ps a word colon d semicolon
@@ -185,7 +185,7 @@ output_leads = may_word K.Output (λ t is. last (λ us b r. placed_clause t us b
 lead_first_field : (x : Field Expr) (b : List Token) → SpellsField x b → Fields (x ∷ []) b
 lead_first_field x b (field t q n e a word assign d) = first_field t q n e a word assign d
 
--- behind a comma one more may come
+-- after a comma one more may come
 lead_next_field : {fs : List (Field Expr)} {a : List Token} (c : Token) → Fields fs a → Is S.Comma c → Leading SpellsField Fields fs (a ++ c ∷ [])
 lead_next_field {fs} {a} c ds comma x b (field t q n e d word assign de) = rw (append_assoc a (c ∷ []) (t ∷ q ∷ d)) (next_field fs c t q n e a d ds comma word assign de)
 
@@ -220,7 +220,7 @@ end_leads = may_symbol S.Semicolon
     let inside = units.clauses l w ps u gs a b d e f dl dw dp du dg in
     simp append_assoc at (units.in_braces o c (record { logic = l; window = w; parameters = ps; output = u; config = gs }) (a ++ (b ++ (d ++ (e ++ f)))) left inside right))))))))))
 
--- an invocation behind its head
+-- an invocation after its head
 invocation_spells : {at : ℕ} {xs : List OutputStream} {l : Option Name} {ps : List InputPort} {x : Clauses} {b d : List Token} (q t o : Token)
     → Is S.Assign q → Names (name_of t) t → Is S.LeftParen o → Closed (Listed S.Semicolon SpellsInput) S.RightParen ps b → SpellsEnd x d
     → (a : List Token) → SpellsHead xs l a → BeginsAt at a

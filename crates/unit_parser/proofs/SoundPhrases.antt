@@ -1,4 +1,4 @@
--- What each line of units spells, behind what it has.
+-- What each line of units spells, after what it has.
 use Rattle.std.proofs.Common.{◌≡◌, ℕ, Bool, true, List, [], ◌∷◌, ◌++◌, Option}
 use Rattle.spl_tree.specs.declared.expression.Field.{Field}
 use Rattle.spl_tree.specs.declared.keyword.Keyword.{Keyword}
@@ -20,11 +20,11 @@ use Rattle.statement_parser.specs.Lines.{Line, Value, Name, Expression, TypeExpr
 
 -- Parts of phrases
 
--- the tokens behind a reserved word
+-- the tokens after a reserved word
 abbrev pub BehindWord : {A : Type 0} → Keyword → Phrase A → Phrase A
 BehindWord k U v b = (t : Token) → IsKeyword k t → U v (t ∷ b)
 
--- the tokens behind a reserved word at a place
+-- the tokens after a reserved word at a place
 abbrev pub FromWord : {A : Type 0} → Keyword → ℕ → Phrase A → Phrase A
 FromWord k at U v b = (t : Token) → IsKeyword k t → t.start ≡ at → U v (t ∷ b)
 
@@ -70,7 +70,7 @@ LeadingDefault k n a = (e : Option Expr) (s : Token) (b : List Token) → Spells
 abbrev pub part_with : Token → List ℕ → Option (List Expr) → WindowPart
 part_with t n es = record { name = placed t.start n; arguments = es }
 
--- what each line spells, behind what it has
+-- what each line spells, after what it has
 abbrev pub Phrases : (x : Line) → Phrase (Value x)
 Phrases (Expression x) = sound.Phrases x
 Phrases TypeExpression = SpellsType

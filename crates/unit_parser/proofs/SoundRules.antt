@@ -74,7 +74,7 @@ last q = record { leads = λ y a d. rw (append-nil a) (q y a d) }
 pub stops : {A : Type 0} {U : Phrase A} → Starts U [] → LeadsTo U stop
 stops s = record { leads = s }
 
--- a token has to come that is tested for P: some token is that, and the ways behind it have phrases
+-- a token has to come that is tested for P: some token is that, and the ways after it have phrases
 comes : {A : Type 0} {U : Phrase A} {p : Token → Bool} {f : Token → R A} (P : Token → Type 0) (t : Token) → P t → ((t : Token) → p t ≡ true → P t)
     → ((t : Token) → P t → LeadsTo (Behind t U) (f t)) → LeadsTo U (look p f stop)
 comes {U} {f} P t d test q =
@@ -93,7 +93,7 @@ comes_word k q = comes (IsKeyword k) (a_keyword k) refl (word_is k) q
 pub comes_name : {A : Type 0} {U : Phrase A} {f : Token → R A} → ((t : Token) → Names (name_of t) t → LeadsTo (Behind t U) (f t)) → LeadsTo U (look is_name f stop)
 comes_name q = comes (λ t. Names (name_of t) t) a_word refl is_name-true q
 
--- a name behind a `$`
+-- a name after a `$`
 pub comes_dollar : {A : Type 0} {U : Phrase A} {f : Token → R A} → ((t : Token) → t.kind ≡ T.Dollar (dollar_at t).what → LeadsTo (Behind t U) (f t))
     → LeadsTo U (look is_dollar f stop)
 comes_dollar q = comes (λ t. t.kind ≡ T.Dollar (dollar_at t).what) (a_token (T.Dollar [])) refl is_dollar-true q
@@ -129,7 +129,7 @@ may_type f q other =
 
 -- Phrases in a row, and in lists
 
--- one more phrase in a row, with more behind it
+-- one more phrase in a row, with more after it
 pub row_more : {A : Type 0} {P : Phrase A} (xs : List A) (x : A) (v : List A) (a c b : List Token) → Rows P (xs ++ x ∷ []) v b → Row P xs a → P x c → Row P v (a ++ (c ++ b))
 row_more xs x v a c b r ds d = rw (← append_assoc a c b) (r (a ++ c) (more xs x a c ds d))
 
@@ -137,7 +137,7 @@ row_more xs x v a c b r ds d = rw (← append_assoc a c b) (r (a ++ c) (more xs 
 pub lead_first : {A : Type 0} {P : Phrase A} {s : Symbol} (x : A) (b : List Token) → P x b → Separated s P (x ∷ []) b
 lead_first x b d = first x b d
 
--- behind a symbol one more may come
+-- after a symbol one more may come
 pub lead_next : {A : Type 0} {P : Phrase A} {s : Symbol} {xs : List A} {a : List Token} (t : Token) → Separated s P xs a → Is s t
     → (x : A) (b : List Token) → P x b → Separated s P (xs ++ x ∷ []) ((a ++ t ∷ []) ++ b)
 lead_next {xs} {a} t ds is x b d = rw (append_assoc a (t ∷ []) b) (next xs x t a b ds is d)

@@ -104,14 +104,14 @@ other_leads =
     (may_name (λ t word. last (λ s b r. r t word refl))
     (called (λ k. last (λ v b r a d. declare_spells (r a d [] constant) (begins_more (type_at d) b))))))))))))
 
--- a declaration behind the name of its type
+-- a declaration after the name of its type
 begun_declaration : {at : ℕ} {n : List ℕ} {v : Token} {d : Declaration} {b : List Token}
     → After SpellsName (After SpellsType (After SpellsMutable SpellsDeclaration false) (placed at (Y.Name n))) (placed v.start (name_of v)) d b → Names (name_of v) v
     → (t : Token) → Names n t → t.start ≡ at → Plain (placed at (Z.Declare d)) (t ∷ v ∷ b)
 begun_declaration {n} {v} {d} {b} r word t is start =
     declare_spells (r (v ∷ []) (units.name v (name_of v) word) (t ∷ []) (rw (← start) (types.name t n is)) [] constant) (rw (← start) (begins t (v ∷ b)))
 
--- a call behind its name
+-- a call after its name
 begun_call : {n : List ℕ} {es : List Expr} {a : List Token} (o s t : Token) → Is S.LeftParen o → Closed Elements S.RightParen es a → Is S.Semicolon s
     → Names n t → Plain (placed t.start (Z.Call (placed t.start (X.Call n es)))) (t ∷ o ∷ (a ++ s ∷ []))
 begun_call {n} o s t left (closed es c a d right) semicolon is = (
@@ -119,7 +119,7 @@ begun_call {n} o s t left (closed es c a d right) semicolon is = (
   λ arms other e. absurd (cc),
 )
 
--- an assignment behind its name
+-- an assignment after its name
 begun_assignment : {at : ℕ} {n : List ℕ} {p e : Expr} {op : Option BinaryOperator} {a b : List Token} (q s : Token) → SpellsSteps (placed at (X.Name n)) p a
     → assignment_of q.kind ≡ Some op → Spells e b → Is S.Semicolon s → (t : Token) → Names n t → t.start ≡ at
     → Plain (placed at (Z.Assign p op e)) (t ∷ (a ++ q ∷ (b ++ s ∷ [])))
@@ -138,13 +138,13 @@ begun_leads at n =
 
 -- Conditions
 
--- behind `else if` one more condition may come
+-- after `else if` one more condition may come
 lead_next_arm : {at : ℕ} {arms : List (Expr × Stmt)} {a : List Token} (l t : Token) → SpellsArms true at arms a → IsKeyword K.Else l → IsKeyword K.If t
     → LeadingArm at arms (a ++ l ∷ t ∷ [])
 lead_next_arm {at} {arms} {a} l t ds otherwise again shut o c e s b d left de right spells =
     rw (append_assoc a (l ∷ t ∷ []) (o ∷ (b ++ c ∷ d))) (next_arm shut at arms l t o c e s a b d ds otherwise again left de right spells)
 
--- what comes behind arms
+-- what comes after arms
 arms_end_leads : (at : ℕ) (arms : List (Expr × Stmt)) (shut : Bool) → LeadsTo (After (SpellsArms shut at) SpellsEither arms) (arms_end at arms shut)
 arms_end_leads at arms true = may_word K.Else
     (λ l otherwise. may_word K.If

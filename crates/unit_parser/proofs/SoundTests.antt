@@ -31,7 +31,7 @@ is_type-true t e = by t.kind refl e
     by (T.Keyword k) is e = by_keyword k is e
     by _ is e = absurd (cc)
 
--- a name behind a `$`
+-- a name after a `$`
 pub is_dollar-true : (t : Token) → is_dollar t ≡ true → t.kind ≡ T.Dollar (unwrap_or (dollar_kind t.kind) [])
 is_dollar-true t e = by t.kind e
   where

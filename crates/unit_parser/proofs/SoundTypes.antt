@@ -63,13 +63,13 @@ attributes_begin (next_attribute xs k c t n a b ds comma d word) =
 pub lead_first_attribute : (x : Attribute TypeExpr) (b : List Token) → SpellsAttribute x b → SpellsAttributes (x ∷ []) b
 lead_first_attribute x b (attribute k t n a d word) = first_attribute k t n a d word
 
--- behind a comma one more may come
+-- after a comma one more may come
 lead_next_attribute : {xs : List (Attribute TypeExpr)} {a : List Token} (c : Token) → SpellsAttributes xs a → Is S.Comma c
     → Leading SpellsAttribute SpellsAttributes xs (a ++ c ∷ [])
 lead_next_attribute {xs} {a} c ds comma x b (attribute k t n d dk word) =
     rw (append_assoc a (c ∷ []) (d ++ t ∷ [])) (next_attribute xs k c t n a d ds comma dk word)
 
--- a tuple type behind its word
+-- a tuple type after its word
 tuple_spells : {xs : List (Attribute TypeExpr)} {a : List Token} {t o : Token} → IsKeyword K.Tuple t → Is S.Less o → Closed SpellsAttributes S.Greater xs a
     → SpellsType (placed t.start (Y.Tuple xs)) (t ∷ o ∷ a)
 tuple_spells {t} {o} is less (closed xs c a d greater) = tuple t o c xs a is less d greater

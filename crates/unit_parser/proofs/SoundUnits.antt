@@ -29,7 +29,7 @@ use Rattle.unit_parser.proofs.SoundInvocations.{named_spells, stream_spells}
 
 -- Definitions of types
 
--- a shape behind its name
+-- a shape after its name
 type_definition_spells : {h : Shape} {a : List Token} (t q : Token) → Names (name_of t) t → Is S.Assign q → Closed SpellsShape S.Semicolon h a
     → SpellsTypeDefinition (record { name = name_at t; shape = h }) (t ∷ q ∷ a)
 type_definition_spells t q word assign (closed h s a d semicolon) = type_definition t q s (name_of t) h a word assign d semicolon
@@ -63,7 +63,7 @@ ports_leads ps = called (λ p. may_symbol S.Comma
     (λ c comma. last (λ v b r a d z lead. simp append_assoc at (r ((z ++ a) ++ c ∷ []) (lead_next c (lead p a d) comma))))
     (ended (λ a d z lead. rw (append-nil a) (lead p a d))))
 
--- ports behind their word
+-- ports after their word
 ports_spell : {ps : List HeadPort} {a : List Token} (k : Keyword) (t : Token) → IsKeyword k t → Phrases (lines.Ports []) ps a → SpellsPorts k ps (t ∷ a)
 ports_spell {ps} {a} k t is d = ports k t ps a is (d [] lead_first)
 

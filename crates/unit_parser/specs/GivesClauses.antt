@@ -11,18 +11,18 @@ use Rattle.expr_parser.specs.Rules.{done, call, Answer, Took, Refused, RunsTo, R
 use Rattle.statement_parser.specs.Gives.{Answered}
 use Rattle.statement_parser.specs.Lines.{Handlers, HandlerOf, Graph, rule, R}
 
--- one more handler, behind its first word at a place, and more of them, behind some
+-- one more handler, after its first word at a place, and more of them, after others
 abbrev pub more_handlers : ℕ → HandledEvent → List (Placed Handler) → R (List (Placed Handler))
 more_handlers at event hs = call (HandlerOf at event) (λ h. call (Handlers (hs ++ h ∷ [])) done)
 
--- the first word of a handler comes first, with these tokens behind it, or no handler does
+-- the first word of a handler comes first, with these tokens after it, or no handler does
 abbrev pub EventFirst : List Token → Option (ℕ × HandledEvent × Bor (List Token)) → Type 0
 EventFirst ts None = (hs : List (Placed Handler)) → Reads rule (Handlers hs) ts (Took hs ts)
 EventFirst ts (Some found) =
     (length found.2.now < length ts)
     × ((hs : List (Placed Handler)) (o : Answer (List (Placed Handler))) → RunsTo rule (more_handlers found.0 found.1 hs) found.2.now o → Reads rule (Handlers hs) ts o)
 
--- one more invocation comes first, with these tokens behind it, or no invocation does
+-- one more invocation comes first, with these tokens after it, or no invocation does
 abbrev pub InvocationFound : List Token → Option Invocation → List Token → Type 0
 InvocationFound ts None rest = (xs : List Invocation) → Reads rule (Graph xs) ts (Took xs rest)
 InvocationFound ts (Some x) rest =

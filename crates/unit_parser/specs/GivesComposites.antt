@@ -18,13 +18,13 @@ use Rattle.expr_parser.specs.Rules.{done, look, call, Answer, Took, Refused, Run
 use Rattle.statement_parser.specs.Gives.{Answered}
 use Rattle.statement_parser.specs.Lines.{rule, R, expect, expect_word, CompositeOf, Definitions, FunctionOf, Namespace, Ports}
 
--- behind the first ports of a head: `;` and the ports behind that word, or none, and the closing parenthesis
+-- after the first ports of a head: `;` and the ports after that word, or none, and the closing parenthesis
 abbrev pub other_ports_rule : Keyword → R (List HeadPort)
 other_ports_rule word =
     look (is Y.Semicolon) (λ _. expect_word word (call (Ports []) (λ ps. expect Y.RightParen (done ps))))
     (expect Y.RightParen (done []))
 
--- the names of a namespace and the `;` come first, with these tokens behind them
+-- the names of a namespace and the `;` come first, with these tokens after them
 abbrev pub PassesNames : List Token → Result (Bor (List Token)) Stop → Type 0
 PassesNames ts (Ok rest) = Reads rule Namespace ts (Took tt rest.now)
 PassesNames ts (Err (S.At rest)) = Reads rule Namespace ts (Refused rest.now)
@@ -60,11 +60,11 @@ DefinesOn ts (Ok found) = DefinitionFound ts found.0 found.1.now
 DefinesOn ts (Err (S.At rest)) = (xs : List Definition) → Reads rule (Definitions xs) ts (Refused rest.now)
 DefinesOn ts (Err S.Memory) = Unit {0}
 
--- a composite, behind its first words, and then more definitions behind some
+-- a composite, after its first words, and then more definitions after others
 abbrev pub composite_behind : List Definition → R (List Definition)
 composite_behind xs = call CompositeOf (λ x. call (Definitions (xs ++ D.Composite x ∷ [])) done)
 
--- likewise a function, behind the type of its result
+-- likewise a function, after the type of its result
 abbrev pub function_behind : Option TypeExpr → List Definition → R (List Definition)
 function_behind kind xs = call (FunctionOf kind) (λ x. call (Definitions (xs ++ D.Function x ∷ [])) done)
 

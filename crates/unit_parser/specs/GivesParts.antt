@@ -16,7 +16,7 @@ use Rattle.spl_tree.specs.TypeGrammar.{TypeExpr}
 use Rattle.expr_parser.specs.Rules.{done, stop, look, call}
 use Rattle.statement_parser.specs.Lines.{Name, R, expect, expect_name, is_dollar, dollar_at, TypeExpression, Inputs, LogicClause, WindowClause, ParameterClause, OutputClause, CompositeParameterClause, Default, TypeClause, GraphClause, FunctionParameters}
 
--- what is invoked, behind a head, and its inputs
+-- what is invoked, after a head, and its inputs
 abbrev pub operator_and_inputs : R (Name × List InputPort)
 operator_and_inputs = expect S.Assign (expect_name (λ n. expect S.LeftParen (call Inputs (λ ps. done (n, ps)))))
 
@@ -32,7 +32,7 @@ param_to_config =
 abbrev pub output_and_config : R (Option (Placed (List OutputAssignments)) × List Parameter)
 output_and_config = call OutputClause (λ u. call (ParameterClause K.Config) (λ gs. expect S.RightBrace (done (u, gs))))
 
--- a parameter of a composite, behind its first word
+-- a parameter of a composite, after its first word
 abbrev pub composite_parameter : R CompositeParameter
 composite_parameter =
     expect S.Less (call TypeExpression (λ k. expect S.Greater (look is_dollar (λ t. call (Default k (dollar_at t)) done) stop)))

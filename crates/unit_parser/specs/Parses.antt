@@ -8,7 +8,7 @@ use Rattle.spl_tree.specs.Units.{IsTooDeepAt, IsUnexpectedAt, IsUnit}
 use Rattle.expr_parser.specs.declared.answer.SyntaxAnswer.{SyntaxAnswer}
 use Rattle.expr_parser.specs.declared.answer.SyntaxAnswer.TheVariants as A
 
--- what is answered of a program; nothing is said where memory was wanting, or room on the stack
+-- what is answered of a program; nothing is said where memory was lacking, or room on the stack
 abbrev pub Parses : Tokens → Result (List Definition) SyntaxAnswer → Type 0
 Parses tokens (Ok unit) = IsUnit tokens unit
 Parses tokens (Err (A.Unexpected at)) = IsUnexpectedAt tokens at

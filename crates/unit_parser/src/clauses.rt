@@ -131,7 +131,7 @@ fn handlers<'t>(alloc: Global, ts: &'t [Token]) -> Taken<'t, Items<Placed<Handle
     }
 }
 
-/// The event that the first word handles, with its place, and the tokens behind it.
+/// The event that the first word handles, with its place, and the tokens after it.
 fn event_first(ts: &[Token]) -> Option<(u32, HandledEvent, &[Token])>
     ensures { EventFirst ts.now result }
 {
@@ -142,7 +142,7 @@ fn event_first(ts: &[Token]) -> Option<(u32, HandledEvent, &[Token])>
     Some((word.start, HandledEvent::Punctuation, behind))
 }
 
-/// A handler, behind its first word.
+/// A handler, after its first word.
 fn handler<'t>(
     alloc: Global,
     at: u32,

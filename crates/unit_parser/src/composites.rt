@@ -27,7 +27,7 @@ type CompositeClauses = (
     Items<Parameter>,
 );
 
-/// A composite, behind its first word.
+/// A composite, after its first word.
 pub(crate) fn composite<'t>(alloc: Global, ts: &'t [Token]) -> Taken<'t, Composite>
     ensures { Gives lines.CompositeOf ts.now result }
 {
@@ -103,7 +103,7 @@ fn head_ports<'t>(alloc: Global, ts: &'t [Token]) -> Taken<'t, Ports>
     }
 }
 
-/// `;` and the ports behind the word, or none, and the closing parenthesis.
+/// `;` and the ports after the word, or none, and the closing parenthesis.
 fn other_ports<'t>(alloc: Global, word: Keyword, ts: &'t [Token]) -> Taken<'t, Items<HeadPort>>
     ensures { Comes (other_ports_rule word) ts.now result }
 {
@@ -177,7 +177,7 @@ fn composite_parameters<'t>(alloc: Global, ts: &'t [Token]) -> Taken<'t, Items<C
     }
 }
 
-/// A parameter, behind its first word.
+/// A parameter, after its first word.
 fn composite_parameter<'t>(alloc: Global, ts: &'t [Token]) -> Taken<'t, CompositeParameter>
     ensures { Comes composite_parameter ts.now result }
 {
@@ -188,7 +188,7 @@ fn composite_parameter<'t>(alloc: Global, ts: &'t [Token]) -> Taken<'t, Composit
     defaulted(alloc, kind, name, behind)
 }
 
-/// A parameter, behind its name.
+/// A parameter, after its name.
 fn defaulted<'t>(
     alloc: Global,
     kind: TypeExpr,

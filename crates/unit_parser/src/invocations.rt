@@ -48,7 +48,7 @@ fn invocation<'t>(alloc: Global, ts: &'t [Token]) -> Taken<'t, Option<Invocation
     Ok((Some(one), behind))
 }
 
-/// A head of one stream, behind the word `stream`.
+/// A head of one stream, after the word `stream`.
 fn stream_head<'t>(alloc: Global, ts: &'t [Token]) -> Taken<'t, Head>
     ensures { Gives lines.StreamHead ts.now result }
 {
@@ -59,7 +59,7 @@ fn stream_head<'t>(alloc: Global, ts: &'t [Token]) -> Taken<'t, Head>
     Ok(((outputs, alias), behind))
 }
 
-/// A head in parentheses, behind the opening one.
+/// A head in parentheses, after the opening one.
 fn list_head<'t>(alloc: Global, ts: &'t [Token]) -> Taken<'t, Head>
     ensures { Gives lines.ListHead ts.now result }
 {
@@ -73,7 +73,7 @@ fn list_head<'t>(alloc: Global, ts: &'t [Token]) -> Taken<'t, Head>
     Ok(((outputs, alias), behind))
 }
 
-/// A stream, behind the word `stream`.
+/// A stream, after the word `stream`.
 fn stream<'t>(alloc: Global, ts: &'t [Token]) -> Taken<'t, OutputStream>
     ensures { Gives lines.Stream ts.now result }
 {
@@ -112,7 +112,7 @@ fn alias<'t>(alloc: Global, ts: &'t [Token]) -> Taken<'t, Option<Placed<Name>>>
     Ok((Some(name), behind))
 }
 
-/// An invocation, behind its head.
+/// An invocation, after its head.
 fn invoked<'t>(alloc: Global, at: u32, head: Head, ts: &'t [Token]) -> Taken<'t, Invocation>
     ensures { Gives (lines.Invoked at head.0 head.1) ts.now result }
 {
@@ -130,7 +130,7 @@ fn invoked<'t>(alloc: Global, at: u32, head: Head, ts: &'t [Token]) -> Taken<'t,
     Ok((one, behind))
 }
 
-/// What is invoked, behind a head, and its inputs.
+/// What is invoked, after a head, and its inputs.
 fn operator_and_inputs<'t>(
     alloc: Global,
     ts: &'t [Token],

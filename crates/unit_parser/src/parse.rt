@@ -33,7 +33,7 @@ fn unexpected(tokens: &Tokens, rest: &[Token]) -> SyntaxAnswer
 ///
 /// Where they spell none, the answer is `Unexpected`, at the first token at which no unit goes on, or
 /// at the program's end. Before that, the answer is `TooDeep` where a token weighs too much, at the
-/// first that does. `Memory` also stands for what nests too deep for the stack.
+/// first that does. `Memory` is also the answer for what nests too deep for the stack.
 pub fn parse_unit(alloc: Global, tokens: &Tokens) -> Result<Unit, SyntaxAnswer>
     requires few { length tokens.now.list ≤ 1048576 }
     ensures { Parses tokens.now result }

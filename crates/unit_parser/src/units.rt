@@ -29,7 +29,7 @@ pub(crate) fn unit<'t>(alloc: Global, ts: &'t [Token]) -> Taken<'t, Unit>
     }
 }
 
-/// The names of a namespace, up to the `;`, and the tokens behind it.
+/// The names of a namespace, up to the `;`, and the tokens after it.
 fn namespace<'t>(alloc: Global, ts: &'t [Token]) -> Result<&'t [Token], Stop<'t>>
     ensures { PassesNames ts.now result }
 {
@@ -84,7 +84,7 @@ fn definition<'t>(alloc: Global, ts: &'t [Token]) -> Taken<'t, Option<Definition
     function_defined(alloc, Some(kind), behind)
 }
 
-/// A composite, behind its first words.
+/// A composite, after its first words.
 fn composite_defined<'t>(alloc: Global, ts: &'t [Token]) -> Taken<'t, Option<Definition>>
     ensures { Defines composite_behind ts.now result }
 {
@@ -92,7 +92,7 @@ fn composite_defined<'t>(alloc: Global, ts: &'t [Token]) -> Taken<'t, Option<Def
     Ok((Some(Definition::Composite(one)), behind))
 }
 
-/// A function, behind the type of its result.
+/// A function, after the type of its result.
 fn function_defined<'t>(
     alloc: Global,
     kind: Option<TypeExpr>,
@@ -139,7 +139,7 @@ fn word_begins_type(word: Keyword) -> bool
     )
 }
 
-/// A function, behind the type of its result.
+/// A function, after the type of its result.
 fn function<'t>(
     alloc: Global,
     kind: Option<TypeExpr>,

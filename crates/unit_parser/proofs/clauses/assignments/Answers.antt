@@ -11,7 +11,7 @@ use Rattle.unit_parser.proofs.Rows.{reads_shrinks, taken_as_shrinks, made}
 use Rattle.unit_parser.proofs.clauses.assignments.Goals as goal
 use Rattle.expr_parser.proofs.LineSteps.{taken_shrinks}
 
--- behind the name of one more attribute
+-- after the name of one more attribute
 abbrev assignment_behind : List (Field Expr) → Name → R (List (Field Expr))
 assignment_behind fs n =
     expect S.Assign (expression (λ e. let all = fs ++ expressions.field n e ∷ [] in

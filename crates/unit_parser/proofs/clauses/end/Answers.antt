@@ -16,14 +16,14 @@ use Rattle.unit_parser.proofs.Rows.{made}
 use Rattle.statement_parser.proofs.StatementReadings.{behind, part_read, part_fails}
 use Rattle.unit_parser.proofs.clauses.end.Goals as goal
 
--- the rule behind the closing brace, and behind the windows
+-- the rule after the closing brace, and after the windows
 abbrev closed : Option (Placed Logic) × Option (Placed (List PortWindow)) → List Parameter × Option (Placed (List OutputAssignments)) × List Parameter → R Clauses
 closed a b = done (record { logic = a.0; window = a.1; parameters = b.0; output = b.1; config = b.2 })
 
 abbrev windowed : Option (Placed Logic) × Option (Placed (List PortWindow)) → R Clauses
 windowed a = behind param_to_config (closed a)
 
--- what its rule comes to
+-- what its rule gives
 end_read : {ts : List Token} {o : Answer Clauses} → RunsTo rule lines.end_rule ts o → Reads rule lines.End ts o
 unfolding lines.rule
 end_read r = reads r

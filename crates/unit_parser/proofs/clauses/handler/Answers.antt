@@ -10,7 +10,7 @@ use Rattle.statement_parser.specs.Lines as lines
 use Rattle.statement_parser.proofs.Readings.{finished, reads, passed, name_passed, line_read, fails, pass_fails, name_fails, line_fails}
 use Rattle.unit_parser.proofs.clauses.handler.Goals as goal
 
--- behind the port of the event
+-- after the port of the event
 abbrev port_behind : ℕ → HandledEvent → Name → R (Placed Handler)
 port_behind at event n = expect S.Colon (call lines.Block (λ ss. done (placed at (record { event = event; port = n; body = ss }))))
 

@@ -8,7 +8,7 @@ use Rattle.unit_parser.specs.GivesParts.{logic_and_window}
 use Rattle.statement_parser.specs.Lines.{R, LogicClause, WindowClause}
 use Rattle.unit_parser.proofs.clauses.logic_and_window.Goals as goal
 
--- the rule behind `logic`
+-- the rule after `logic`
 abbrev windowed : Option (Placed Logic) → R (Option (Placed Logic) × Option (Placed (List PortWindow)))
 windowed l = call WindowClause (λ w. done (l, w))
 

@@ -10,7 +10,7 @@ use Rattle.unit_parser.specs.GivesParts.{output_and_config}
 use Rattle.statement_parser.specs.Lines.{R, ParameterClause, OutputClause, expect}
 use Rattle.unit_parser.proofs.clauses.output_and_config.Goals as goal
 
--- the rule behind `config`, and behind `output`
+-- the rule after `config`, and after `output`
 abbrev closed : Option (Placed (List OutputAssignments)) → List Parameter → R (Option (Placed (List OutputAssignments)) × List Parameter)
 closed u gs = expect S.RightBrace (done (u, gs))
 

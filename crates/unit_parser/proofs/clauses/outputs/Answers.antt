@@ -10,7 +10,7 @@ use Rattle.unit_parser.proofs.Rows.{reads_shrinks, taken_as_shrinks, none_says}
 use Rattle.unit_parser.proofs.clauses.outputs.Goals as goal
 use Rattle.expr_parser.proofs.LineSteps.{taken_shrinks}
 
--- behind the name of one more stream
+-- after the name of one more stream
 abbrev output_behind : List OutputAssignments → Name → R (List OutputAssignments)
 output_behind xs n = expect S.Colon (call (lines.Assignments []) (λ ys. call (lines.Outputs (xs ++ record { stream = n; assignments = ys } ∷ [])) done))
 

@@ -10,7 +10,7 @@ use Rattle.unit_parser.specs.GivesParts.{param_to_config, output_and_config}
 use Rattle.statement_parser.specs.Lines.{R, ParameterClause}
 use Rattle.unit_parser.proofs.clauses.param_to_config.Goals as goal
 
--- the rule behind the closing brace, and behind the parameters
+-- the rule after the closing brace, and after the parameters
 abbrev closed : List Parameter → Option (Placed (List OutputAssignments)) × List Parameter → R (List Parameter × Option (Placed (List OutputAssignments)) × List Parameter)
 closed ps b = done (ps, b.0, b.1)
 

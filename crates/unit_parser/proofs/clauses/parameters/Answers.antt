@@ -11,7 +11,7 @@ use Rattle.unit_parser.proofs.Rows.{reads_shrinks, taken_as_shrinks, none_says}
 use Rattle.unit_parser.proofs.clauses.parameters.Goals as goal
 use Rattle.expr_parser.proofs.LineSteps.{taken_shrinks}
 
--- behind the name of one more parameter
+-- after the name of one more parameter
 abbrev parameter_behind : List Parameter → Name → R (List Parameter)
 parameter_behind xs n = expect S.Colon (call (lines.Expression (expressions.Items S.Semicolon [])) (λ ys. call (lines.Parameters (xs ++ record { name = n; values = ys } ∷ [])) done))
 

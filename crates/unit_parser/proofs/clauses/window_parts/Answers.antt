@@ -10,7 +10,7 @@ use Rattle.unit_parser.proofs.Rows.{reads_shrinks, taken_as_shrinks, made}
 use Rattle.unit_parser.proofs.clauses.window_parts.Goals as goal
 use Rattle.expr_parser.proofs.LineSteps.{taken_shrinks}
 
--- behind the name of one more part
+-- after the name of one more part
 abbrev part_behind : List WindowPart → Name → R (List WindowPart)
 part_behind ps n =
     call lines.PartArguments (λ es. let all = ps ++ record { name = n; arguments = es } ∷ [] in

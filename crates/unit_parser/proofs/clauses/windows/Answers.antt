@@ -10,7 +10,7 @@ use Rattle.unit_parser.proofs.Rows.{reads_shrinks, taken_as_shrinks, none_says}
 use Rattle.unit_parser.proofs.clauses.windows.Goals as goal
 use Rattle.expr_parser.proofs.LineSteps.{taken_shrinks}
 
--- behind the name of one more port
+-- after the name of one more port
 abbrev window_behind : List PortWindow → Name → R (List PortWindow)
 window_behind xs n = expect S.Colon (call (lines.WindowParts []) (λ ys. call (lines.Windows (xs ++ record { port = n; parts = ys } ∷ [])) done))
 

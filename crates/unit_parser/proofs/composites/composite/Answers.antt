@@ -14,7 +14,7 @@ use Rattle.statement_parser.specs.Lines as lines
 use Rattle.statement_parser.specs.Lines.{Name, R}
 use Rattle.unit_parser.proofs.composites.composite.Goals as goal
 
--- the rule behind the closing brace
+-- the rule after the closing brace
 abbrev made : Name → List HeadPort × List HeadPort → List CompositeParameter × List TypeDefinition × List Invocation × List Parameter → R Composite
 made n h b = done (record { name = n; outputs = h.0; inputs = h.1; parameters = b.0; types = b.1; graph = b.2; config = b.3 })
 

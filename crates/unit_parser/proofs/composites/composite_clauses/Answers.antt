@@ -10,7 +10,7 @@ use Rattle.unit_parser.specs.GivesParts.{composite_clauses, parameters_and_types
 use Rattle.statement_parser.specs.Lines.{R}
 use Rattle.unit_parser.proofs.composites.composite_clauses.Goals as goal
 
--- the rule behind the second half, and behind the first
+-- the rule after the second half, and after the first
 abbrev both : List CompositeParameter × List TypeDefinition → List Invocation × List Parameter → R (List CompositeParameter × List TypeDefinition × List Invocation × List Parameter)
 both a b = done (a.0, a.1, b.0, b.1)
 

@@ -7,7 +7,7 @@ use Rattle.unit_parser.specs.GivesParts.{composite_parameter}
 use Rattle.statement_parser.specs.Lines.{Name, R, TypeExpression, Default, expect, is_dollar, dollar_at, rule}
 use Rattle.unit_parser.proofs.composites.composite_parameter.Goals as goal
 
--- the rule behind the name, and behind the type
+-- the rule after the name, and after the type
 abbrev named : TypeExpr → Name → R CompositeParameter
 named k n = call (Default k n) done
 

@@ -9,7 +9,7 @@ use Rattle.statement_parser.specs.Lines.{R}
 use Rattle.unit_parser.proofs.composites.composite_parameters.Goals as goal
 use Rattle.expr_parser.proofs.LineSteps.{taken_shrinks}
 
--- the rule behind one more parameter
+-- the rule after one more parameter
 abbrev more : List CompositeParameter → CompositeParameter → R (List CompositeParameter)
 more ps p = call (lines.CompositeParameters (ps ++ p ∷ [])) done
 

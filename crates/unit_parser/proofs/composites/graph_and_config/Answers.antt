@@ -9,7 +9,7 @@ use Rattle.unit_parser.specs.GivesParts.{graph_and_config}
 use Rattle.statement_parser.specs.Lines.{R, GraphClause, ParameterClause, expect}
 use Rattle.unit_parser.proofs.composites.graph_and_config.Goals as goal
 
--- the rule behind `config`, and behind the graph
+-- the rule after `config`, and after the graph
 abbrev closed : List Invocation → List Parameter → R (List Invocation × List Parameter)
 closed xs gs = expect S.RightBrace (done (xs, gs))
 

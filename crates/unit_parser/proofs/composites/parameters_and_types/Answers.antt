@@ -8,7 +8,7 @@ use Rattle.unit_parser.specs.GivesParts.{parameters_and_types}
 use Rattle.statement_parser.specs.Lines.{R, CompositeParameterClause, TypeClause}
 use Rattle.unit_parser.proofs.composites.parameters_and_types.Goals as goal
 
--- the rule behind the parameters
+-- the rule after the parameters
 abbrev typed : List CompositeParameter → R (List CompositeParameter × List TypeDefinition)
 typed ps = call TypeClause (λ ts. done (ps, ts))
 

@@ -11,7 +11,7 @@ use Rattle.statement_parser.proofs.Readings.{says_on}
 use Rattle.unit_parser.proofs.Rows.{handed_on}
 use Rattle.unit_parser.proofs.invocations.graph.Goals as goal
 
--- an invocation is begun and doesn't go on, behind some
+-- an invocation is begun and doesn't go on, after others
 stops : (ts : List Token) (xs : List Invocation) (e : Stop) → InvocationsOn ts (Err e) → Gives (lines.Graph xs) ts (Err e)
 stops ts xs (S.At rest) g = g xs
 stops ts xs S.Memory g = tt

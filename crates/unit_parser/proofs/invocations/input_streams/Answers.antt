@@ -9,7 +9,7 @@ use Rattle.unit_parser.proofs.Rows.{taken_as_shrinks, made}
 use Rattle.unit_parser.proofs.invocations.input_streams.Goals as goal
 use Rattle.expr_parser.proofs.LineSteps.{taken_shrinks}
 
--- behind the name of one more stream
+-- after the name of one more stream
 abbrev stream_behind : List Name → Name → R (List Name)
 stream_behind ns n = look (expressions.is S.Comma) (λ _. call (lines.InputStreams (ns ++ n ∷ [])) done) (done (ns ++ n ∷ []))
 

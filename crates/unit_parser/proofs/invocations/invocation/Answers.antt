@@ -15,7 +15,7 @@ use Rattle.unit_parser.proofs.Rows.{reads_shrinks, handed_on}
 use Rattle.unit_parser.proofs.invocations.invocation.Goals as goal
 use Rattle.expr_parser.proofs.LineSteps.{taken_shrinks}
 
--- behind the head of one more invocation at a place, behind some
+-- after the head of one more invocation at a place, after others
 abbrev head_behind : ℕ → List Invocation → List OutputStream × Option Name → R (List Invocation)
 head_behind at xs h = call (lines.Invoked at h.0 h.1) (λ x. call (lines.Graph (xs ++ x ∷ [])) done)
 

@@ -10,7 +10,7 @@ use Rattle.statement_parser.proofs.Readings.{finished, reads, line_read, fails, 
 use Rattle.statement_parser.proofs.StatementReadings.{part_read, part_fails}
 use Rattle.unit_parser.proofs.invocations.invoked.Goals as goal
 
--- behind the operator and its inputs
+-- after the operator and its inputs
 abbrev applied : ℕ → List OutputStream → Option Name → Name × List InputPort → R Invocation
 applied at xs l h =
     call lines.End (λ c. done (record { at = at; outputs = xs; alias = l; operator = h.0; inputs = h.1; clauses = c }))

@@ -9,7 +9,7 @@ use Rattle.statement_parser.proofs.Readings.{finished, reads, taken, skipped, wo
 use Rattle.unit_parser.proofs.Rows.{made}
 use Rattle.unit_parser.proofs.invocations.list_head.Goals as goal
 
--- behind the word `as` of a head without streams
+-- after the word `as` of a head without streams
 abbrev alias_behind : Name → R (List OutputStream × Option Name)
 alias_behind n = done ([], Some n)
 

@@ -7,7 +7,7 @@ use Rattle.statement_parser.specs.Lines.{Name, R, Inputs, expect, expect_name}
 use Rattle.statement_parser.proofs.Readings.{finished, passed, name_passed, line_read, rule_fails, pass_fails, name_fails, line_fails}
 use Rattle.unit_parser.proofs.invocations.operator_and_inputs.Goals as goal
 
--- the rule behind the parenthesis, and behind the name
+-- the rule after the parenthesis, and after the name
 abbrev given : Name → R (Name × List InputPort)
 given n = call Inputs (λ ps. done (n, ps))
 

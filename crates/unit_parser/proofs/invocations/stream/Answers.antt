@@ -7,7 +7,7 @@ use Rattle.statement_parser.specs.Lines as lines
 use Rattle.statement_parser.proofs.Readings.{finished, reads, passed, name_passed, line_read, fails, pass_fails, name_fails, line_fails}
 use Rattle.unit_parser.proofs.invocations.stream.Goals as goal
 
--- behind the shape of a stream
+-- after the shape of a stream
 abbrev shape_behind : Shape → Name → R OutputStream
 shape_behind h n = done (record { shape = h; name = n })
 

@@ -10,7 +10,7 @@ use Rattle.statement_parser.specs.Lines as lines
 use Rattle.statement_parser.specs.Lines.{Name, R}
 use Rattle.unit_parser.proofs.units.function.Goals as goal
 
--- the rule behind the name and the parameters
+-- the rule after the name and the parameters
 abbrev bodied : Option TypeExpr → Name × List (Attribute TypeExpr) → R FunctionDefinition
 bodied k h = call lines.Block (λ ss. done (record { result = k; name = h.0; parameters = h.1; body = ss }))
 

@@ -8,7 +8,7 @@ use Rattle.unit_parser.specs.GivesParts.{signature}
 use Rattle.statement_parser.specs.Lines.{Name, R, FunctionParameters, expect}
 use Rattle.unit_parser.proofs.units.signature.Goals as goal
 
--- the rule behind the parenthesis, and behind the name
+-- the rule after the parenthesis, and after the name
 abbrev listed : Name → R (Name × List (Attribute TypeExpr))
 listed n = call FunctionParameters (λ xs. done (n, xs))
 
