@@ -20,15 +20,6 @@ use Rattle.body_rules.specs.Handling.{handled_in, handlers_in, seen_scope}
 use Rattle.language_model.proofs.FoundAnswers.{finds_by, stops}
 use Rattle.spl_value.proofs.Lists.{drop_at}
 
-abbrev second : {A B : Type 0} → B → Found (A × B) → B
-second y (Ok x) = x.1
-second y (Err refusal) = y
-
--- what is given back beside what is found is what was given
-pub given_back : {A B : Type 0} (o : Found A) (y : B) (x : A) (z : B) → after {B = A × B} o (λ x. Ok (x, y)) ≡ Ok (x, z) → y ≡ z
-given_back (Ok w) y x z e = ap (second y) e
-given_back (Err refusal) y x z e = ap (second y) e
-
 -- ---- one handler
 
 pub port_there : (ports seen : List Port) (written name : List ℕ) (o : Option (At Port)) → seen ≡ ports → name ≡ written

@@ -16,7 +16,7 @@ use Rattle.body_rules.specs.Leads.{Leads, inside_loop}
 pub leads_by : (o p : Found (Statement × Scope)) (r : Result Statement TypeAnswer) (scope : Scope) → o ≡ p → Leads p r scope → Leads o r scope
 leads_by o p r scope e h = subst (λ o. Leads o r scope) (sym e) h
 
-stays : (scope next : Scope) (found : Found Statement) (r : Result Statement TypeAnswer) → Finds found r → IfOk r (λ x. next ≡ scope) → Leads (staying scope found) r next
+stays : (scope next : Scope) (found : Found Statement) (r : Result Statement TypeAnswer) → Finds found r → next ≡ scope → Leads (staying scope found) r next
 stays scope next found (Ok x) h same = ap (staying scope) h ∙ ap (λ s. Ok (x, s)) (sym same)
 stays scope next found (Err (Refused q)) h same = ap (staying scope) h
 stays scope next found (Err Memory) h same = tt
@@ -27,13 +27,8 @@ module _ (s : Stmt) (k : StmtKind) (setting : Setting) (inside : Bool) (scope ne
   stands : part_stated (stated s) setting inside scope ≡ staying scope found
   stands = ap (λ k. kind_stated k s.at setting inside scope) is ∙ law
 
-  pub leads_on : (r : Result Statement TypeAnswer) → Finds found r → IfOk r (λ x. next ≡ scope) → Leads (part_stated (stated s) setting inside scope) r next
+  pub leads_on : (r : Result Statement TypeAnswer) → Finds found r → next ≡ scope → Leads (part_stated (stated s) setting inside scope) r next
   leads_on r h same = leads_by _ _ r next stands (stays scope next found r h same)
-
--- what is so anyway is so where the answer is Ok
-pub anyway : {A E : Type 0} (r : Result A E) (P : Type 0) → P → IfOk r (λ x. P)
-anyway (Ok x) P p = p
-anyway (Err e) P p = tt
 
 pub way_is : (at : ℕ) (inside : Bool) (x : Statement) → way_out at inside x ≡ after (inside_loop at inside) (λ u. Ok x)
 way_is at true x = refl

@@ -14,7 +14,7 @@ use Rattle.spl_tree.specs.TypeGrammar.{TypeExpr}
 use Rattle.spl_value.proofs.Lists.{total}
 
 abbrev level_weight : StmtKind-F ℕ → ℕ
-level_weight (Z.Block ss) = 3 + total (λ s. s.what) ss
+level_weight (Z.Block ss) = 4 + total (λ s. s.what) ss
 level_weight (Z.If arms other) = 4 + (total (λ a. a.1.what) arms + option_map_or (λ s. s.what) other 0)
 level_weight (Z.While c s) = 3 + s.what
 level_weight (Z.For a e s) = 3 + s.what
@@ -41,10 +41,10 @@ other_weight s = option_map_or statement_weight s 0
 weight_at : (k : StmtKind) (x : StmtKind-F StmtKind) → out-StmtKind k ≡ x → weight k ≡ level_weight (map-StmtKind StmtKind ℕ weight x)
 weight_at k x e = fold_out-StmtKind ℕ level_weight k ∙ ap (λ y. level_weight (map-StmtKind StmtKind ℕ weight y)) e
 
-pub block_weight : (ss : List Stmt) → weight (V.Block ss) ≡ 3 + statement_weights ss
+pub block_weight : (ss : List Stmt) → weight (V.Block ss) ≡ 4 + statement_weights ss
 block_weight ss = weight_at (V.Block ss) (Z.Block ss) (V.outs-Block ss) ∙ along ss
   where
-    along : (ss : List Stmt) → level_weight (map-StmtKind StmtKind ℕ weight (Z.Block ss)) ≡ 3 + statement_weights ss
+    along : (ss : List Stmt) → level_weight (map-StmtKind StmtKind ℕ weight (Z.Block ss)) ≡ 4 + statement_weights ss
     along [] = refl
     along (s ∷ ss) = let h = along ss in omega arith
 

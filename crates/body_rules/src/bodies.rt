@@ -1,5 +1,5 @@
 //! The code of bodies.
-ghost use Rattle.std.specs.Prelude.{◌≡◌, ◌++◌, ◌∷◌, [], IfOk, OnOk, length};
+ghost use Rattle.std.specs.Prelude.{◌≡◌, ◌++◌, ◌∷◌, [], OnOk, length};
 ghost use Rattle.language_model.specs.BodyTyping.{alone, arms_typing, body_typing, for_typing, other_typing, part_stated, row_typing, stated};
 ghost use Rattle.body_rules.specs.Choices.{block_typing, if_typing, while_typing};
 ghost use Rattle.language_model.specs.BodyTypingLaws.{arms_stated, other_stated, row_stated};
@@ -42,8 +42,7 @@ pub struct BodySetting<'s, 'u> {
 /// The code of a body's statements in a scope.
 ///
 /// Where it has none, the answer is `Refused`, with the first refusal in the order of the text.
-/// The scope is then left with some of the variables that the body declares; behind a body that has
-/// code it is as before. `Memory` is as that of `type_of`.
+/// `Memory` is as that of `type_of`. Whatever the answer, the scope is as before after it.
 pub fn body_of(
     alloc: Global,
     setting: &BodySetting,
@@ -51,12 +50,12 @@ pub fn body_of(
     statements: &[Stmt],
 ) -> Result<Body, TypeAnswer>
     ensures code { Finds (body_typing (setting_meant setting.now) scope.old statements.now) result }
-    ensures same_scope { IfOk result (λ _. scope.new ≡ scope.old) }
+    ensures same_scope { scope.new ≡ scope.old }
 {
     row(alloc, setting, false, scope, statements)
 }
 
-/// Statements one after another. What they declare ends with them.
+/// Statements one after another. What they declare ends with them, or with the first refusal.
 #[cycle(bodies)]
 fn row(
     alloc: Global,
@@ -66,15 +65,31 @@ fn row(
     statements: &[Stmt],
 ) -> Result<Body, TypeAnswer>
     ensures code { Finds (row_typing (setting_meant setting.now) inside scope.old (row_stated statements.now)) result }
-    ensures same_scope { IfOk result (λ _. scope.new ≡ scope.old) }
+    ensures same_scope { scope.new ≡ scope.old }
 {
     let before = scope.vars.len();
+    let body = statements_of(alloc, setting, inside, scope, statements);
+    drop_variables(scope, before);
+    body
+}
+
+/// The same. What they declare stays after the variables that there were.
+#[cycle(bodies)]
+fn statements_of(
+    alloc: Global,
+    setting: &BodySetting,
+    inside: bool,
+    scope: &mut Scope,
+    statements: &[Stmt],
+) -> Result<Body, TypeAnswer>
+    ensures code { Finds (row_typing (setting_meant setting.now) inside scope.old (row_stated statements.now)) result }
+    ensures longer { shortened (length scope.old.vars) scope.new ≡ scope.old }
+{
     let mut body = Items::new(alloc);
     for statement in statements {
         let next = statement_of(alloc, setting, inside, scope, statement)?;
         body.push(next)?;
     }
-    drop_variables(scope, before);
     Ok(body)
 }
 
@@ -88,11 +103,12 @@ fn alone(
     statement: &Stmt,
 ) -> Result<Body, TypeAnswer>
     ensures code { Finds (alone (setting_meant setting.now) inside scope.old (stated statement.now)) result }
-    ensures same_scope { IfOk result (λ _. scope.new ≡ scope.old) }
+    ensures same_scope { scope.new ≡ scope.old }
 {
     let before = scope.vars.len();
-    let only = statement_of(alloc, setting, inside, scope, statement)?;
+    let answer = statement_of(alloc, setting, inside, scope, statement);
     drop_variables(scope, before);
+    let only = answer?;
     let mut body = Items::new(alloc);
     body.push(only)?;
     Ok(body)
@@ -108,7 +124,7 @@ fn branches(
     arms: &[(Expr, Stmt)],
 ) -> Result<Items<(Code<Slot>, Body)>, TypeAnswer>
     ensures code { Finds (arms_typing (setting_meant setting.now) inside scope.old (arms_stated arms.now)) result }
-    ensures same_scope { IfOk result (λ _. scope.new ≡ scope.old) }
+    ensures same_scope { scope.new ≡ scope.old }
 {
     let mut branches = Items::new(alloc);
     for arm in arms {
@@ -140,7 +156,7 @@ fn otherwise(
     other: &Option<Stmt>,
 ) -> Result<Body, TypeAnswer>
     ensures code { Finds (other_typing (setting_meant setting.now) inside scope.old (other_stated other.now)) result }
-    ensures same_scope { IfOk result (λ _. scope.new ≡ scope.old) }
+    ensures same_scope { scope.new ≡ scope.old }
 {
     match other {
         None => Ok(Items::new(alloc)),
@@ -159,14 +175,15 @@ fn for_each(
     body: &Stmt,
 ) -> Result<Statement, TypeAnswer>
     ensures code { Finds (for_typing (setting_meant setting.now) scope.old variable.now values.now (stated body.now)) result }
-    ensures same_scope { IfOk result (λ _. scope.new ≡ scope.old) }
+    ensures same_scope { scope.new ≡ scope.old }
 {
     let kind = type_boxed(alloc, &setting.types, &variable.kind)?;
     let code = over(alloc, scope, kind.get(), values)?;
     let before = scope.vars.len();
     add_variable(alloc, scope, false, &variable.name.what, kind)?;
-    let row = alone(alloc, setting, true, scope, body)?;
+    let answer = alone(alloc, setting, true, scope, body);
     drop_variables(scope, before);
+    let row = answer?;
     Ok(Statement::For(code.into_inner(), row))
 }
 
@@ -180,7 +197,7 @@ fn block(
     statements: &[Stmt],
 ) -> Result<Statement, TypeAnswer>
     ensures code { Finds (block_typing (setting_meant setting.now) inside scope.old (row_stated statements.now)) result }
-    ensures same_scope { IfOk result (λ _. scope.new ≡ scope.old) }
+    ensures same_scope { scope.new ≡ scope.old }
 {
     let row = row(alloc, setting, inside, scope, statements)?;
     Ok(Statement::Block(row))
@@ -197,7 +214,7 @@ fn choice(
     other: &Option<Stmt>,
 ) -> Result<Statement, TypeAnswer>
     ensures code { Finds (if_typing (setting_meant setting.now) inside scope.old (arms_stated arms.now) (other_stated other.now)) result }
-    ensures same_scope { IfOk result (λ _. scope.new ≡ scope.old) }
+    ensures same_scope { scope.new ≡ scope.old }
 {
     let branches = branches(alloc, setting, inside, scope, arms)?;
     let other = otherwise(alloc, setting, inside, scope, other)?;
@@ -214,7 +231,7 @@ fn repeated(
     statement: &Stmt,
 ) -> Result<Statement, TypeAnswer>
     ensures code { Finds (while_typing (setting_meant setting.now) scope.old test.now (stated statement.now)) result }
-    ensures same_scope { IfOk result (λ _. scope.new ≡ scope.old) }
+    ensures same_scope { scope.new ≡ scope.old }
 {
     let code = condition(alloc, scope, test)?;
     let row = alone(alloc, setting, true, scope, statement)?;
@@ -231,7 +248,7 @@ fn statement_of(
     statement: &Stmt,
 ) -> Result<Statement, TypeAnswer>
     ensures code { Leads (part_stated (stated statement.now) (setting_meant setting.now) inside scope.old) result scope.new }
-    ensures longer { IfOk result (λ _. shortened (length scope.old.vars) scope.new ≡ scope.old) }
+    ensures longer { shortened (length scope.old.vars) scope.new ≡ scope.old }
 {
     let at = statement.at;
     match statement.what.get() {

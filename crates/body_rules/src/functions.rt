@@ -1,11 +1,12 @@
 //! The functions of a program.
-ghost use Rattle.std.specs.Prelude.{◌≡◌, [], Ok, Some, IfOk};
+ghost use Rattle.std.specs.Prelude.{◌≡◌, [], Ok, Some, IfOk, length};
 ghost use Rattle.std.specs.Option.{option_copied};
 ghost use Rattle.language_model.specs.BodyFits.{OfFunction};
 ghost use Rattle.language_model.specs.BodyTyping.{body_typing};
 ghost use Rattle.language_model.specs.FunctionTyping.{function_types, functions_typing, if_returning, kinds, result_type, unit_scope};
 ghost use Rattle.language_model.specs.TypeNames.{unit_types};
 ghost use Rattle.spl_tree.specs.declared.unit.Definition.TheVariants as D;
+ghost use Rattle.body_rules.specs.Leads.{shortened};
 ghost use Rattle.body_rules.specs.Signatures.{MayEnd, as_types, function_in, scope_in, with_definition, with_parameters};
 ghost use Rattle.written_types.specs.TypeScopes.{types_in};
 ghost use Rattle.language_model.specs.Finds.{Finds};
@@ -124,13 +125,14 @@ pub fn scope_of_unit(alloc: Global, unit: &Unit) -> Result<Scope, NoMemory>
     with_functions(alloc, &types, unit.as_slice())
 }
 
-/// Adds parameters as variables that don't change.
+/// Adds parameters as variables that don't change, after those that there are.
 fn add_parameters(
     alloc: Global,
     scope: &mut Scope,
     parameters: &[Attribute],
 ) -> Result<(), NoMemory>
-    ensures { IfOk result (λ _. scope.new ≡ with_parameters scope.old parameters.now) }
+    ensures ok { IfOk result (λ _. scope.new ≡ with_parameters scope.old parameters.now) }
+    ensures longer { shortened (length scope.old.vars) scope.new ≡ scope.old }
 {
     for parameter in parameters {
         let kind = Boxed::new(alloc, copy_type(alloc, &parameter.kind)?)?;
@@ -163,18 +165,33 @@ fn body_in(
 ) -> Result<Body, TypeAnswer>
     ensures code { Finds (body_typing (record { types = types_in types.now; purpose = OfFunction found.now.result; outputs = [] })
         (with_parameters scope.old found.now.parameters) statements.now) result }
-    ensures same_scope { IfOk result (λ _. scope.new ≡ scope.old) }
+    ensures same_scope { scope.new ≡ scope.old }
 {
     let before = scope.vars.len();
+    let body = body_with(alloc, types, scope, found, statements);
+    drop_variables(scope, before);
+    body
+}
+
+/// The same. The parameters stay after the variables that there were.
+fn body_with(
+    alloc: Global,
+    types: &TypeScope,
+    scope: &mut Scope,
+    found: &FunctionTypes,
+    statements: &[Stmt],
+) -> Result<Body, TypeAnswer>
+    ensures code { Finds (body_typing (record { types = types_in types.now; purpose = OfFunction found.now.result; outputs = [] })
+        (with_parameters scope.old found.now.parameters) statements.now) result }
+    ensures longer { shortened (length scope.old.vars) scope.new ≡ scope.old }
+{
     add_parameters(alloc, scope, found.parameters.as_slice())?;
     let purpose = BodyPurpose::Function(found.result.as_ref());
     let setting = BodySetting {
         types: *types,
         purpose,
     };
-    let body = body_of(alloc, &setting, scope, statements)?;
-    drop_variables(scope, before);
-    Ok(body)
+    body_of(alloc, &setting, scope, statements)
 }
 
 /// A function of these types with the code of its body, which ends with a result where it has one.
@@ -207,7 +224,7 @@ fn function_of(
     function: &FunctionDefinition,
 ) -> Result<Function, TypeAnswer>
     ensures code { Finds (function_in (types_in types.now) scope.old function.now) result }
-    ensures same_scope { IfOk result (λ _. scope.new ≡ scope.old) }
+    ensures same_scope { scope.new ≡ scope.old }
 {
     let found = types_of(alloc, types, function)?;
     let body = body_in(alloc, types, scope, &found, function.body.as_slice())?;

@@ -1,12 +1,12 @@
 //! The handlers of a Custom.
-ghost use Rattle.std.specs.Prelude.{◌≡◌, ◌<◌, ◌==◌, ◌&&◌, ◌∷◌, [], length, false, true, is_some, slice_get, Some, Ok, IfOk};
+ghost use Rattle.std.specs.Prelude.{◌≡◌, ◌<◌, ◌==◌, ◌&&◌, ◌∷◌, [], length, false, true, is_some, slice_get, Some};
 ghost use Rattle.std.specs.Str.{bytes_eq};
 ghost use Rattle.language_model.specs.declared.scope.Port.{Port};
 ghost use Rattle.language_model.specs.BodyTyping.{body_typing};
 ghost use Rattle.language_model.specs.declared.scope.CheckError.TheVariants as E;
 ghost use Rattle.language_model.specs.LogicTyping.{event_word, handler_of, is_event};
 ghost use Rattle.language_model.specs.Scopes.{first_from};
-ghost use Rattle.language_model.specs.Typing.{after, refused, unknown};
+ghost use Rattle.language_model.specs.Typing.{refused, unknown};
 ghost use Rattle.body_rules.specs.Settings.{setting_meant};
 ghost use Rattle.language_model.specs.Finds.{Finds};
 ghost use Rattle.body_rules.specs.Handling.{handled_in, handlers_in, seen_scope};
@@ -16,6 +16,7 @@ use language_model::{CheckError, Handled, Port, Scope, TypeAnswer, narrow, port_
 use spl_tree::{Body, HandledEvent, Handler, Placed, Stmt};
 use spl_value::Items;
 use std::alloc::Global;
+use std::mem::replace;
 
 /// A port that no input has as its name.
 fn unknown<T>(alloc: Global, at: u32, name: &[u8]) -> Result<T, TypeAnswer>
@@ -62,24 +63,38 @@ fn is_handled(handled: &[Handled], event: HandledEvent, port: u32) -> bool
     false
 }
 
-/// The body of a handler of tuples, which sees its port alone. The port is given back.
+/// A port without a name and without attributes.
+fn empty_port(alloc: Global) -> Port
+    ensures { result ≡ record { name = []; schema = [] } }
+{
+    Port {
+        name: Items::new(alloc),
+        schema: Items::new(alloc),
+    }
+}
+
+/// The body of a handler of tuples, which sees its port alone. The port is lent to the scope.
 fn tuple_body(
     alloc: Global,
     setting: &BodySetting,
     scope: &mut Scope,
-    port: Port,
+    port: &mut Port,
     body: &[Stmt],
-) -> Result<(Body, Port), TypeAnswer>
+) -> Result<Body, TypeAnswer>
     requires { scope.old.ports ≡ [] }
-    ensures code { Finds (after (body_typing (setting_meant setting.now) (record scope.old { ports = port ∷ [] }) body.now) (λ row. Ok (row, port))) result }
-    ensures same_scope { IfOk result (λ _. scope.new ≡ scope.old) }
+    ensures code { Finds (body_typing (setting_meant setting.now) (record scope.old { ports = port.old ∷ [] }) body.now) result }
+    ensures same_scope { scope.new ≡ scope.old }
+    ensures same_port { port.new ≡ port.old }
 {
-    scope.ports.push(port)?;
-    let body = body_of(alloc, setting, scope, body)?;
-    let Some(port) = scope.ports.pop() else {
+    scope.ports.push(empty_port(alloc))?;
+    let own = replace(port, empty_port(alloc));
+    scope.ports.set(0, own);
+    let found = body_of(alloc, setting, scope, body);
+    let Some(own) = scope.ports.pop() else {
         unreachable!()
     };
-    Ok((body, port))
+    *port = own;
+    found
 }
 
 /// The body of a handler of markers, which sees no port, and may ask for the marker.
@@ -91,12 +106,12 @@ fn marker_body(
 ) -> Result<Body, TypeAnswer>
     requires { scope.old.punct ≡ false }
     ensures code { Finds (body_typing (setting_meant setting.now) (record scope.old { punct = true }) body.now) result }
-    ensures same_scope { IfOk result (λ _. scope.new ≡ scope.old) }
+    ensures same_scope { scope.new ≡ scope.old }
 {
     scope.punct = true;
-    let body = body_of(alloc, setting, scope, body)?;
+    let found = body_of(alloc, setting, scope, body);
     scope.punct = false;
-    Ok(body)
+    found
 }
 
 /// The body of a handler of the event on the port at the place.
@@ -113,17 +128,12 @@ fn body_on(
     requires no_ports { scope.old.ports ≡ [] }
     requires no_marker { scope.old.punct ≡ false }
     ensures code { (port : Port) → slice_get ports.old place ≡ Some port → Finds (body_typing (setting_meant setting.now) (seen_scope scope.old event port) body.now) result }
-    ensures same_scope { IfOk result (λ _. scope.new ≡ scope.old) }
-    ensures same_ports { IfOk result (λ _. ports.new ≡ ports.old) }
+    ensures same_scope { scope.new ≡ scope.old }
+    ensures same_ports { ports.new ≡ ports.old }
 {
     match event {
         HandledEvent::Punctuation => marker_body(alloc, setting, scope, body),
-        HandledEvent::Tuple => {
-            let port = ports.remove(place);
-            let (body, port) = tuple_body(alloc, setting, scope, port, body)?;
-            ports.insert(place, port)?;
-            Ok(body)
-        }
+        HandledEvent::Tuple => tuple_body(alloc, setting, scope, ports.item_mut(place), body),
     }
 }
 
@@ -139,8 +149,8 @@ fn handled_next(
     requires no_ports { scope.old.ports ≡ [] }
     requires no_marker { scope.old.punct ≡ false }
     ensures code { Finds (handled_in (setting_meant setting.now) scope.old before.now handler.now (first_from (λ p. bytes_eq p.name handler.now.what.port.what) 0 ports.old)) result }
-    ensures same_scope { IfOk result (λ _. scope.new ≡ scope.old) }
-    ensures same_ports { IfOk result (λ _. ports.new ≡ ports.old) }
+    ensures same_scope { scope.new ≡ scope.old }
+    ensures same_ports { ports.new ≡ ports.old }
 {
     let Handler {
         event,
@@ -163,8 +173,8 @@ fn handled_next(
     })
 }
 
-/// Handlers in the order of the text, on these ports, in a scope without ports. Where
-/// they are found, both are as before.
+/// Handlers in the order of the text, on these ports, in a scope without ports. Whatever the answer,
+/// both are as before after it.
 pub fn handlers_of(
     alloc: Global,
     setting: &BodySetting,
@@ -175,8 +185,8 @@ pub fn handlers_of(
     requires no_ports { scope.old.ports ≡ [] }
     requires no_marker { scope.old.punct ≡ false }
     ensures code { Finds (handlers_in (setting_meant setting.now) scope.old ports.old [] handlers.now) result }
-    ensures same_scope { IfOk result (λ _. scope.new ≡ scope.old) }
-    ensures same_ports { IfOk result (λ _. ports.new ≡ ports.old) }
+    ensures same_scope { scope.new ≡ scope.old }
+    ensures same_ports { ports.new ≡ ports.old }
 {
     let mut handled = Items::new(alloc);
     for handler in handlers {

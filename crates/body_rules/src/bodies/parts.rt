@@ -1,5 +1,5 @@
 //! Statements without statements in them, and what stands in others.
-ghost use Rattle.std.specs.Prelude.{◌≡◌, IfOk, Ok, Some, length};
+ghost use Rattle.std.specs.Prelude.{◌≡◌, Ok, Some, length};
 ghost use Rattle.std.specs.Option.{option_copied};
 ghost use Rattle.spl_value.specs.declared.types.SplType.TheViews.{out-SplType};
 ghost use Rattle.language_model.specs.BodyTyping.{assigned, condition_typing, declaration_typing, first_value, level_over, over_typing, return_typing};
@@ -53,7 +53,7 @@ pub(super) fn declared(
     declaration: &Declaration,
 ) -> Result<Statement, TypeAnswer>
     ensures code { Leads (declaration_typing (setting_meant setting.now) scope.old declaration.now) result scope.new }
-    ensures longer { IfOk result (λ _. shortened (length scope.old.vars) scope.new ≡ scope.old) }
+    ensures longer { shortened (length scope.old.vars) scope.new ≡ scope.old }
 {
     let kind = type_boxed(alloc, &setting.types, &declaration.kind)?;
     let code = first_value(alloc, scope, kind.get(), declaration.value.as_ref())?;

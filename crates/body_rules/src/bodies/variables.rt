@@ -1,5 +1,5 @@
 //! Variables of scopes.
-ghost use Rattle.std.specs.Prelude.{◌≡◌, IfOk};
+ghost use Rattle.std.specs.Prelude.{◌≡◌, IfOk, OnErr};
 ghost use Rattle.language_model.specs.BodyFits.{with_variable};
 ghost use Rattle.language_model.specs.BodyTyping.{variable};
 ghost use Rattle.body_rules.specs.Leads.{shortened};
@@ -8,7 +8,7 @@ use language_model::{Scope, Variable};
 use spl_value::{Boxed, Items, Name, NoMemory, SplType};
 use std::alloc::Global;
 
-/// Adds a variable behind those that there are.
+/// Adds a variable after those that there are.
 pub(crate) fn add_variable(
     alloc: Global,
     scope: &mut Scope,
@@ -16,7 +16,8 @@ pub(crate) fn add_variable(
     name: &Name,
     kind: Boxed<SplType>,
 ) -> Result<(), NoMemory>
-    ensures { IfOk result (λ _. scope.new ≡ with_variable scope.old (variable mutable name.now kind)) }
+    ensures ok { IfOk result (λ _. scope.new ≡ with_variable scope.old (variable mutable name.now kind)) }
+    ensures err { OnErr result (scope.new ≡ scope.old) }
 {
     let name = Items::from_slice(alloc, name.as_slice())?;
     scope.vars.push(Variable {

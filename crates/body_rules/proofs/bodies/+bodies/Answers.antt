@@ -12,54 +12,64 @@ use Rattle.body_rules.specs.Choices.{block_typing, if_typing, while_typing}
 use Rattle.body_rules.specs.Leads.{shortened}
 use Rattle.body_rules.specs.Settings.{purpose_meant, setting_meant}
 use Rattle.body_rules.proofs.BodyRows.{branch, branch_row, branches_row, row_on, row_past, row_stops, statements_on, statements_past, statements_stop}
-use Rattle.body_rules.proofs.StatementLeads.{alone_stops, anyway, leads_by, leads_on}
-use Rattle.body_rules.proofs.Lengths.{keeps, one_more, reaches, whole}
+use Rattle.body_rules.proofs.StatementLeads.{alone_stops, leads_by, leads_on}
+use Rattle.body_rules.proofs.Lengths.{one_more, still, whole}
 use Rattle.body_rules.proofs.Stopping.{branch_stops, other_stops, over_stops, repeated_stops, while_stops}
 use Rattle.body_rules.proofs.Weights.{arm_weight, arm_weights, block_weight, for_weight, if_weight, statement_weight, statement_weights, weight, while_weight}
 use Rattle.body_rules.proofs.bodies.+bodies.Goals as goal
 use Rattle.language_model.proofs.FoundAnswers.{fails, finds_by, goes, no_front, stops}
 use Rattle.spl_tree.proofs.ExprWeights.{item_below}
 
-pub row-loop-statement-init : goal.row-loop-statement-init
-row-loop-statement-init t c =
-    record {
-      within = omega (arith, c.len-before.ensures);
-      same = no_front c.new-body.result _ c.new-body.ensures;
-      kept = ap (λ n. shortened n c.args.scope.now) c.len-before.ensures ∙ whole c.args.scope.now;
-    }
+pub row-returns-clause-same_scope : goal.row-returns-clause-same_scope
+row-returns-clause-same_scope t c =
+    c.drop_variables.ensures ∙ ap (λ n. shortened n c.statements_of-body.new.scope) c.len-before.ensures ∙ c.statements_of-body.ensures.longer
 
-pub row-statement_of-requires : goal.row-statement_of-requires
-row-statement_of-requires t c =
+pub statements_of-loop-statement-init : goal.statements_of-loop-statement-init
+statements_of-loop-statement-init t c =
+    record { same = no_front c.new-body.result _ c.new-body.ensures; longer = whole c.args.scope.now }
+
+pub statements_of-statement_of-requires : goal.statements_of-statement_of-requires
+statements_of-statement_of-requires t c =
     (let q = item_below statement_weight c.args.statements.now c.loop-statement.statement-index c.statement-item.result c.loop-statement-test.true c.statement-item.is in omega arith, tt)
 
-pub row-returns-in_err-next-clause-code : goal.row-returns-in_err-next-clause-code
-row-returns-in_err-next-clause-code t c =
+pub statements_of-returns-in_err-next-clause-code : goal.statements_of-returns-in_err-next-clause-code
+statements_of-returns-in_err-next-clause-code t c =
     finds_by _ _ _ c.loop-statement.invariant.same
     (fails _ _ _ c.from_residual.ensures.1
     (statements_stop (setting_meant c.args.setting.now) c.args.inside c.args.statements.now c.loop-statement.statement-index c.loop-statement.body c.loop-statement.scope c.statement-item.result c.loop-statement-test.true c.statement-item.is _ c.statement_of.new.scope c.in_err-next.ensures.code))
 
-pub row-loop-statement-preserved : goal.row-loop-statement-preserved
-row-loop-statement-preserved t c =
+pub statements_of-returns-in_err-next-clause-longer : goal.statements_of-returns-in_err-next-clause-longer
+statements_of-returns-in_err-next-clause-longer t c =
+    still c.args.scope.now c.loop-statement.scope c.statement_of.new.scope c.loop-statement.invariant.longer c.in_err-next.ensures.longer
+
+pub statements_of-returns-in_err-push-clause-longer : goal.statements_of-returns-in_err-push-clause-longer
+statements_of-returns-in_err-push-clause-longer t c =
+    still c.args.scope.now c.loop-statement.scope c.statement_of.new.scope c.loop-statement.invariant.longer c.in_ok-next.ensures.longer
+
+pub statements_of-loop-statement-preserved : goal.statements_of-loop-statement-preserved
+statements_of-loop-statement-preserved t c =
     let on = c.loop-statement.invariant in
-    let more = reaches c.loop-statement.scope c.statement_of.new.scope c.in_ok-next.ensures.longer in
     record {
-      within = omega (arith, on.within, more);
       same = on.same ∙ statements_on (setting_meant c.args.setting.now) c.args.inside c.args.statements.now c.loop-statement.statement-index c.loop-statement.body c.loop-statement.scope c.statement-item.result c.loop-statement-test.true c.statement-item.is c.in_ok-next.next c.statement_of.new.scope c.push.new.self c.in_ok-next.ensures.code c.in_ok-push.ensures.ok;
-      kept = keeps c.len-before.result c.args.scope.now c.loop-statement.scope c.statement_of.new.scope on.within on.kept c.in_ok-next.ensures.longer;
+      longer = still c.args.scope.now c.loop-statement.scope c.statement_of.new.scope on.longer c.in_ok-next.ensures.longer;
     }
 
-pub row-returns-clause-code : goal.row-returns-clause-code
-row-returns-clause-code t c =
+pub statements_of-returns-clause-code : goal.statements_of-returns-clause-code
+statements_of-returns-clause-code t c =
     c.loop-statement.invariant.same ∙ statements_past (setting_meant c.args.setting.now) c.args.inside c.args.statements.now c.loop-statement.statement-index c.loop-statement.body c.loop-statement.scope c.loop-statement-test.false
-
-pub row-returns-clause-same_scope : goal.row-returns-clause-same_scope
-row-returns-clause-same_scope t c =
-    c.drop_variables.ensures ∙ c.loop-statement.invariant.kept
 
 pub alone-returns-in_err-only-clause-code : goal.alone-returns-in_err-only-clause-code
 alone-returns-in_err-only-clause-code t c =
     fails _ _ _ c.from_residual.ensures.1
-    (alone_stops c.args.statement.now (setting_meant c.args.setting.now) c.args.inside c.args.scope.now c.statement_of.new.scope _ c.in_err-only.ensures.code)
+    (alone_stops c.args.statement.now (setting_meant c.args.setting.now) c.args.inside c.args.scope.now c.statement_of-answer.new.scope _ c.in_err-only.ensures.code)
+
+pub alone-returns-in_err-only-clause-same_scope : goal.alone-returns-in_err-only-clause-same_scope
+alone-returns-in_err-only-clause-same_scope t c =
+    c.drop_variables.ensures ∙ ap (λ n. shortened n c.statement_of-answer.new.scope) c.len-before.ensures ∙ c.statement_of-answer.ensures.longer
+
+pub alone-returns-in_err-push-clause-same_scope : goal.alone-returns-in_err-push-clause-same_scope
+alone-returns-in_err-push-clause-same_scope t c =
+    c.drop_variables.ensures ∙ ap (λ n. shortened n c.statement_of-answer.new.scope) c.len-before.ensures ∙ c.statement_of-answer.ensures.longer
 
 pub alone-returns-clause-code : goal.alone-returns-clause-code
 alone-returns-clause-code t c =
@@ -68,7 +78,7 @@ alone-returns-clause-code t c =
 
 pub alone-returns-clause-same_scope : goal.alone-returns-clause-same_scope
 alone-returns-clause-same_scope t c =
-    c.drop_variables.ensures ∙ ap (λ n. shortened n c.statement_of.new.scope) c.len-before.ensures ∙ c.in_ok-only.ensures.longer
+    c.drop_variables.ensures ∙ ap (λ n. shortened n c.statement_of-answer.new.scope) c.len-before.ensures ∙ c.statement_of-answer.ensures.longer
 
 pub branches-loop-arm-init : goal.branches-loop-arm-init
 branches-loop-arm-init t c =
@@ -123,22 +133,30 @@ for_each-returns-in_err-row-clause-code t c =
     fails _ _ _ c.from_residual-in_err-row.ensures.1
     (repeated_stops (setting_meant c.args.setting.now) c.args.scope.now c.args.variable.now c.args.values.now (stated c.args.body.now) c.in_ok-kind.kind c.in_ok-code.code c.in_err-row.field-0.0
     c.in_ok-kind.ensures (ap (λ t. over_typing c.args.scope.now t c.args.values.now) (sym c.get.ensures) ∙ c.in_ok-code.ensures)
-    (subst (λ s. Finds (alone (setting_meant c.args.setting.now) true s (stated c.args.body.now)) (Err c.in_err-row.field-0.0)) c.in_ok-add_variable.ensures c.in_err-row.ensures.code))
+    (subst (λ s. Finds (alone (setting_meant c.args.setting.now) true s (stated c.args.body.now)) (Err c.in_err-row.field-0.0)) c.in_ok-add_variable.ensures.ok c.in_err-row.ensures.code))
 
 pub for_each-returns-clause-code : goal.for_each-returns-clause-code
 for_each-returns-clause-code t c =
     let v = variable false c.args.variable.now.name.what c.in_ok-kind.kind in
-    let whole_row = ap (λ s. alone (setting_meant c.args.setting.now) true s (stated c.args.body.now)) (sym c.in_ok-add_variable.ensures) ∙ c.in_ok-row.ensures.code in
+    let whole_row = ap (λ s. alone (setting_meant c.args.setting.now) true s (stated c.args.body.now)) (sym c.in_ok-add_variable.ensures.ok) ∙ c.in_ok-row.ensures.code in
     goes _ _ _ (Ok (T.For c.into_inner.result c.in_ok-row.row)) c.in_ok-kind.ensures
     (goes _ _ _ (Ok (T.For c.into_inner.result c.in_ok-row.row)) (ap (λ t. over_typing c.args.scope.now t c.args.values.now) (sym c.get.ensures) ∙ c.in_ok-code.ensures)
     (goes (alone (setting_meant c.args.setting.now) true (with_variable c.args.scope.now v) (stated c.args.body.now)) (λ row. Ok (T.For c.in_ok-code.code row)) c.in_ok-row.row (Ok (T.For c.into_inner.result c.in_ok-row.row)) whole_row
     (ap (λ code. Ok (T.For code c.in_ok-row.row)) (sym c.into_inner.ensures))))
 
+pub for_each-returns-in_err-row-clause-same_scope : goal.for_each-returns-in_err-row-clause-same_scope
+for_each-returns-in_err-row-clause-same_scope t c =
+    let v = variable false c.args.variable.now.name.what c.in_ok-kind.kind in
+    c.drop_variables.ensures
+    ∙ ap (shortened c.len-before.result) (c.alone-answer.ensures.same_scope ∙ c.in_ok-add_variable.ensures.ok)
+    ∙ ap (λ n. shortened n (with_variable c.args.scope.now v)) c.len-before.ensures
+    ∙ one_more c.args.scope.now v
+
 pub for_each-returns-clause-same_scope : goal.for_each-returns-clause-same_scope
 for_each-returns-clause-same_scope t c =
     let v = variable false c.args.variable.now.name.what c.in_ok-kind.kind in
     c.drop_variables.ensures
-    ∙ ap (shortened c.len-before.result) (c.in_ok-row.ensures.same_scope ∙ c.in_ok-add_variable.ensures)
+    ∙ ap (shortened c.len-before.result) (c.alone-answer.ensures.same_scope ∙ c.in_ok-add_variable.ensures.ok)
     ∙ ap (λ n. shortened n (with_variable c.args.scope.now v)) c.len-before.ensures
     ∙ one_more c.args.scope.now v
 
@@ -199,15 +217,15 @@ statement_of-returns-in-Declare-clause-code t c =
 
 pub statement_of-returns-in-Assign-clause-code : goal.statement_of-returns-in-Assign-clause-code
 statement_of-returns-in-Assign-clause-code t c =
-    leads_on c.args.statement.now (V.Assign c.in-Assign.place c.in-Assign.operator c.in-Assign.value) (setting_meant c.args.setting.now) c.args.inside c.args.scope.now c.args.scope.now (assigned c.args.scope.now c.in-Assign.place c.in-Assign.operator c.in-Assign.value) (sym c.get.ensures ∙ c.in-Assign.is) (assign_stated c.in-Assign.place c.in-Assign.operator c.in-Assign.value c.args.statement.now.at (setting_meant c.args.setting.now) c.args.inside c.args.scope.now) _ c.assigned.ensures (anyway _ _ refl)
+    leads_on c.args.statement.now (V.Assign c.in-Assign.place c.in-Assign.operator c.in-Assign.value) (setting_meant c.args.setting.now) c.args.inside c.args.scope.now c.args.scope.now (assigned c.args.scope.now c.in-Assign.place c.in-Assign.operator c.in-Assign.value) (sym c.get.ensures ∙ c.in-Assign.is) (assign_stated c.in-Assign.place c.in-Assign.operator c.in-Assign.value c.args.statement.now.at (setting_meant c.args.setting.now) c.args.inside c.args.scope.now) _ c.assigned.ensures refl
 
 pub statement_of-returns-in-Assign-clause-longer : goal.statement_of-returns-in-Assign-clause-longer
 statement_of-returns-in-Assign-clause-longer t c =
-    anyway _ _ (whole c.args.scope.now)
+    whole c.args.scope.now
 
 pub statement_of-returns-in-Call-clause-code : goal.statement_of-returns-in-Call-clause-code
 statement_of-returns-in-Call-clause-code t c =
-    leads_on c.args.statement.now (V.Call c.in-Call.call) (setting_meant c.args.setting.now) c.args.inside c.args.scope.now c.args.scope.now (call_typing c.args.scope.now c.in-Call.call) (sym c.get.ensures ∙ c.in-Call.is) (call_stated c.in-Call.call c.args.statement.now.at (setting_meant c.args.setting.now) c.args.inside c.args.scope.now) _ c.call_of.ensures (anyway _ _ refl)
+    leads_on c.args.statement.now (V.Call c.in-Call.call) (setting_meant c.args.setting.now) c.args.inside c.args.scope.now c.args.scope.now (call_typing c.args.scope.now c.in-Call.call) (sym c.get.ensures ∙ c.in-Call.is) (call_stated c.in-Call.call c.args.statement.now.at (setting_meant c.args.setting.now) c.args.inside c.args.scope.now) _ c.call_of.ensures refl
 
 pub statement_of-returns-in-If-clause-code : goal.statement_of-returns-in-If-clause-code
 statement_of-returns-in-If-clause-code t c =
@@ -226,8 +244,8 @@ statement_of-returns-in-For-clause-code t c =
 pub statement_of-returns-in-Return-clause-code : goal.statement_of-returns-in-Return-clause-code
 statement_of-returns-in-Return-clause-code t c =
     leads_on c.args.statement.now (V.Return c.in-Return.value) (setting_meant c.args.setting.now) c.args.inside c.args.scope.now c.args.scope.now (return_typing c.args.statement.now.at (purpose_meant c.args.setting.now.purpose) c.args.scope.now c.in-Return.value) (sym c.get.ensures ∙ c.in-Return.is) (return_stated c.in-Return.value c.args.statement.now.at (setting_meant c.args.setting.now) c.args.inside c.args.scope.now) _
-    (finds_by _ _ _ (ap (return_typing c.args.statement.now.at (purpose_meant c.args.setting.now.purpose) c.args.scope.now) (sym c.as_ref.ensures.value)) c.returned.ensures) (anyway _ _ refl)
+    (finds_by _ _ _ (ap (return_typing c.args.statement.now.at (purpose_meant c.args.setting.now.purpose) c.args.scope.now) (sym c.as_ref.ensures.value)) c.returned.ensures) refl
 
 pub statement_of-returns-in-Submit-clause-code : goal.statement_of-returns-in-Submit-clause-code
 statement_of-returns-in-Submit-clause-code t c =
-    leads_on c.args.statement.now (V.Submit c.in-Submit.value c.in-Submit.stream) (setting_meant c.args.setting.now) c.args.inside c.args.scope.now c.args.scope.now (submit_typing c.args.statement.now.at (setting_meant c.args.setting.now) (purpose_meant c.args.setting.now.purpose) c.args.scope.now c.in-Submit.value c.in-Submit.stream) (sym c.get.ensures ∙ c.in-Submit.is) (submit_stated c.in-Submit.value c.in-Submit.stream c.args.statement.now.at (setting_meant c.args.setting.now) c.args.inside c.args.scope.now) _ c.submitted.ensures (anyway _ _ refl)
+    leads_on c.args.statement.now (V.Submit c.in-Submit.value c.in-Submit.stream) (setting_meant c.args.setting.now) c.args.inside c.args.scope.now c.args.scope.now (submit_typing c.args.statement.now.at (setting_meant c.args.setting.now) (purpose_meant c.args.setting.now.purpose) c.args.scope.now c.in-Submit.value c.in-Submit.stream) (sym c.get.ensures ∙ c.in-Submit.is) (submit_stated c.in-Submit.value c.in-Submit.stream c.args.statement.now.at (setting_meant c.args.setting.now) c.args.inside c.args.scope.now) _ c.submitted.ensures refl

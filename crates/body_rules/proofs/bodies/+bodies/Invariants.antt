@@ -1,4 +1,4 @@
-use Rattle.std.proofs.Common.{◌≡◌, ◌≤◌, ◌+◌, drop, length}
+use Rattle.std.proofs.Common.{◌≡◌, ◌+◌, drop, length}
 use Rattle.language_model.specs.BodyTyping.{row_typing, arms_typing}
 use Rattle.language_model.specs.BodyTypingLaws.{row_stated, arms_stated}
 use Rattle.language_model.specs.Finds.{with_front}
@@ -7,12 +7,11 @@ use Rattle.body_rules.specs.Settings.{setting_meant}
 use Rattle.body_rules.proofs.Weights.{statement_weight, statement_weights, arm_weights, other_weight}
 use Rattle.body_rules.proofs.bodies.+bodies.Given as goal
 
-abbrev pub invariant-row-loop-statement : goal.invariant-row-loop-statement
-invariant-row-loop-statement l = record {
-  within : l.before ≤ length l.scope.vars;
+abbrev pub invariant-statements_of-loop-statement : goal.invariant-statements_of-loop-statement
+invariant-statements_of-loop-statement l = record {
   same : row_typing (setting_meant l.setting) l.inside l.initial.scope (row_stated l.statements)
       ≡ with_front l.body (row_typing (setting_meant l.setting) l.inside l.scope (row_stated (drop l.statement-index l.statements)));
-  kept : shortened l.before l.scope ≡ l.initial.scope;
+  longer : shortened (length l.initial.scope.vars) l.scope ≡ l.initial.scope;
 }
 
 abbrev pub invariant-branches-loop-arm : goal.invariant-branches-loop-arm
@@ -26,7 +25,10 @@ abbrev pub decreases-statement_of : goal.decreases-statement_of
 decreases-statement_of l = statement_weight l.statement.now
 
 abbrev pub decreases-row : goal.decreases-row
-decreases-row l = statement_weights l.statements.now + 1
+decreases-row l = statement_weights l.statements.now + 2
+
+abbrev pub decreases-statements_of : goal.decreases-statements_of
+decreases-statements_of l = statement_weights l.statements.now + 1
 
 abbrev pub decreases-alone : goal.decreases-alone
 decreases-alone l = statement_weight l.statement.now + 1
@@ -41,7 +43,7 @@ abbrev pub decreases-for_each : goal.decreases-for_each
 decreases-for_each l = statement_weight l.body.now + 2
 
 abbrev pub decreases-block : goal.decreases-block
-decreases-block l = statement_weights l.statements.now + 2
+decreases-block l = statement_weights l.statements.now + 3
 
 abbrev pub decreases-choice : goal.decreases-choice
 decreases-choice l = arm_weights l.arms.now + other_weight l.other.now + 3
