@@ -4,6 +4,7 @@ mod BuiltIns
 mod Calling
 mod CodeParts
 mod Forms
+mod Keeping
 mod Leading
 mod LoopParts
 mod NewVariables

@@ -1,5 +1,5 @@
 //! What statements do, by a call for each form of statement.
-ghost use Rattle.std.specs.Prelude.{◌≡◌, ◌∷◌, [], List, Some, slice_get};
+ghost use Rattle.std.specs.Prelude.{◌≡◌, ◌≢◌, ◌∷◌, [], List, Some, length, slice_get};
 ghost use Rattle.spl_tree.specs.declared.body.Statement.TheVariants as S;
 ghost use Rattle.language_model.specs.declared.outs.Output.{Output};
 ghost use Rattle.language_model.specs.Functions.{bodies_of, runs};
@@ -8,6 +8,8 @@ ghost use Rattle.language_model.specs.Statements.{statement_acts, row_acts, scop
 ghost use Rattle.language_model.specs.StatementLaws.{arms_act};
 ghost use Rattle.value_operations.specs.Answers.{Answers};
 ghost use Rattle.expr_eval.specs.Running.{StatementIsFit, RowIsFit, ArmsAreFit, LoopIsFit, OverIsFit, PlaceIsFit, ChangeIsFit, StepsAreFit, FunctionIsFit, BodyIsFit, RanAs, ran_as, state, Leads, LeadsNext};
+ghost use Rattle.expr_eval.specs.declared.run.Ran.TheVariants as R;
+ghost use Rattle.expr_eval.specs.steps.Keeping.{Keeps};
 
 use crate::context::{Context, Program};
 use crate::evaluate::{DEEPEST, eval_all, eval_at, is_true, own_value};
@@ -17,7 +19,7 @@ use crate::statements::{
     submit_window,
 };
 use crate::variables::change_variable;
-use language_model::{Env, Flow, Outs, evaluation_law, statements_law};
+use language_model::{Env, Flow, Outs, evaluation_law};
 use spl_tree::{Body, Change, Code, Functions, Place, Slot, Statement, Taking};
 use spl_value::{FaultKind, Items, Value, Values};
 use std::alloc::Global;
@@ -32,12 +34,15 @@ pub enum Ran {
     Memory,
 }
 
-/// What a body does to the variables of an environment, and what it submits, behind what `submits`
+/// What a body does to the variables of an environment, and what it submits, after what `submits`
 /// has. `turns` are those that there are, and then those that are left.
 ///
 /// Each turn of a loop and each call of a function takes a turn, and the fault `Turns` comes where none
-/// is left. After a fault, and after `Memory`, variables and submits are such as a part of the body left
-/// them. `Memory` also stands for codes and statements that nest deeper than `DEEPEST`.
+/// is left. `Memory` also stands for codes and statements that nest deeper than `DEEPEST`.
+///
+/// After a fault, and after `Memory`, submits and turns are as before. There are as many variables as
+/// before, with the values that the part of the body that was done left in them. The inputs and the
+/// marker of the environment don't change.
 pub fn run_body(
     alloc: Global,
     functions: &Functions,
@@ -47,17 +52,31 @@ pub fn run_body(
     submits: &mut Outs,
 ) -> Ran
     requires { BodyIsFit functions.now body.now env.old }
-    ensures { RanAs (runs functions.now body.now env.old turns.old) result env.old env.new submits.old submits.new turns.new }
+    ensures runs { RanAs (runs functions.now body.now env.old turns.old) result env.old env.new submits.old submits.new turns.new }
+    ensures inputs { env.new.inputs ≡ env.old.inputs }
+    ensures marker { env.new.punct ≡ env.old.punct }
+    ensures variables { length env.new.vars ≡ length env.old.vars }
+    ensures submits { result ≢ R.Done → submits.new ≡ submits.old }
+    ensures turns { result ≢ R.Done → turns.new ≡ turns.old }
 {
     evaluation_law();
-    statements_law();
     let program = Program {
         alloc,
         functions,
         depth: *turns,
     };
     let row = body.as_slice();
-    ran_as(&run_scoped(&program, DEEPEST, row, env, turns, submits))
+    let mut left = *turns;
+    let mut outs = Outs::new(alloc);
+    let ran = ran_as(&run_scoped(&program, DEEPEST, row, env, &mut left, &mut outs));
+    let Ran::Done = ran else {
+        return ran;
+    };
+    let Ok(()) = submits.append(outs) else {
+        return Ran::Memory;
+    };
+    *turns = left;
+    ran
 }
 
 /// How a body ended, by what its row answered.
@@ -95,7 +114,8 @@ fn run_statement<'p>(
     submits: &mut Outs,
 ) -> Result<Flow, Stop>
     requires { StatementIsFit program.now.functions.now statement.now env.old }
-    ensures { Leads (statement_acts (bodies_of program.now.functions.now program.now.depth) statement.now (state env.old submits.old) turns.old) result (state env.new submits.new) turns.new }
+    ensures leads { Leads (statement_acts (bodies_of program.now.functions.now program.now.depth) statement.now (state env.old submits.old) turns.old) result (state env.new submits.new) turns.new }
+    ensures kept { Keeps env.old env.new }
 {
     evaluation_law();
     let Some(room) = room.checked_sub(1) else {
@@ -177,7 +197,8 @@ fn run_for<'p>(
     submits: &mut Outs,
 ) -> Result<Flow, Stop>
     requires { StatementIsFit program.now.functions.now (S.For code.now row.now) env.old }
-    ensures { Leads (statement_acts (bodies_of program.now.functions.now program.now.depth) (S.For code.now row.now) (state env.old submits.old) turns.old) result (state env.new submits.new) turns.new }
+    ensures leads { Leads (statement_acts (bodies_of program.now.functions.now program.now.depth) (S.For code.now row.now) (state env.old submits.old) turns.old) result (state env.new submits.new) turns.new }
+    ensures kept { Keeps env.old env.new }
 {
     evaluation_law();
     let held = eval_at(&in_env!(program, env), room, code, turns)?;
@@ -196,7 +217,8 @@ fn run_row<'p>(
     submits: &mut Outs,
 ) -> Result<Flow, Stop>
     requires { RowIsFit program.now.functions.now row.now env.old }
-    ensures { Leads (row_acts (bodies_of program.now.functions.now program.now.depth) row.now (state env.old submits.old) turns.old) result (state env.new submits.new) turns.new }
+    ensures leads { Leads (row_acts (bodies_of program.now.functions.now program.now.depth) row.now (state env.old submits.old) turns.old) result (state env.new submits.new) turns.new }
+    ensures kept { Keeps env.old env.new }
 {
     evaluation_law();
     for statement in row {
@@ -208,7 +230,7 @@ fn run_row<'p>(
     Ok(Flow::Next)
 }
 
-/// The same. The variables that are declared in the row end with it.
+/// The same. The variables that are declared in the row end with it, also where it stops.
 #[cycle(eval)]
 fn run_scoped<'p>(
     program: &Program<'p>,
@@ -219,12 +241,14 @@ fn run_scoped<'p>(
     submits: &mut Outs,
 ) -> Result<Flow, Stop>
     requires { RowIsFit program.now.functions.now row.now env.old }
-    ensures { Leads (scoped (row_acts (bodies_of program.now.functions.now program.now.depth) row.now) (state env.old submits.old) turns.old) result (state env.new submits.new) turns.new }
+    ensures leads { Leads (scoped (row_acts (bodies_of program.now.functions.now program.now.depth) row.now) (state env.old submits.old) turns.old) result (state env.new submits.new) turns.new }
+    ensures kept { Keeps env.old env.new }
+    ensures ended { length env.new.vars ≡ length env.old.vars }
 {
     let count = env.vars.len();
-    let flow = run_row(program, room, row, env, turns, submits)?;
+    let answer = run_row(program, room, row, env, turns, submits);
     env.vars.truncate(count);
-    Ok(flow)
+    answer
 }
 
 /// The statements behind the first condition that is true, or else the others.
@@ -239,7 +263,8 @@ fn run_if<'p>(
     submits: &mut Outs,
 ) -> Result<Flow, Stop>
     requires { ArmsAreFit program.now.functions.now arms.now other.now env.old }
-    ensures { Leads (arms_act (bodies_of program.now.functions.now program.now.depth) arms.now other.now (state env.old submits.old) turns.old) result (state env.new submits.new) turns.new }
+    ensures leads { Leads (arms_act (bodies_of program.now.functions.now program.now.depth) arms.now other.now (state env.old submits.old) turns.old) result (state env.new submits.new) turns.new }
+    ensures kept { Keeps env.old env.new }
 {
     for arm in arms {
         if is_true(&in_env!(program, env), room, &arm.0, turns)? {
@@ -261,7 +286,8 @@ fn run_while<'p>(
     submits: &mut Outs,
 ) -> Result<Flow, Stop>
     requires { LoopIsFit program.now.functions.now code.now row.now env.old }
-    ensures { Leads (turns_while turns.old (bodies_of program.now.functions.now program.now.depth) code.now (scoped (row_acts (bodies_of program.now.functions.now program.now.depth) row.now)) (state env.old submits.old) turns.old) result (state env.new submits.new) turns.new }
+    ensures leads { Leads (turns_while turns.old (bodies_of program.now.functions.now program.now.depth) code.now (scoped (row_acts (bodies_of program.now.functions.now program.now.depth) row.now)) (state env.old submits.old) turns.old) result (state env.new submits.new) turns.new }
+    ensures kept { Keeps env.old env.new }
 {
     evaluation_law();
     let mut rounds = *turns;
@@ -291,7 +317,8 @@ fn run_over<'p>(
     submits: &mut Outs,
 ) -> Result<Flow, Stop>
     requires { OverIsFit program.now.functions.now values row.now env.old }
-    ensures { Leads (turns_over values (row_acts (bodies_of program.now.functions.now program.now.depth) row.now) (state env.old submits.old) turns.old) result (state env.new submits.new) turns.new }
+    ensures leads { Leads (turns_over values (row_acts (bodies_of program.now.functions.now program.now.depth) row.now) (state env.old submits.old) turns.old) result (state env.new submits.new) turns.new }
+    ensures kept { Keeps env.old env.new }
 {
     evaluation_law();
     'values: for value in values.into_vec() {
@@ -315,14 +342,16 @@ fn run_turn<'p>(
     submits: &mut Outs,
 ) -> Result<Flow, Stop>
     requires { OverIsFit program.now.functions.now (value ∷ []) row.now env.old }
-    ensures { Leads (enter turns.old (λ turns. scoped (λ s turns. row_acts (bodies_of program.now.functions.now program.now.depth) row.now (declared s value) turns) (state env.old submits.old) turns)) result (state env.new submits.new) turns.new }
+    ensures leads { Leads (enter turns.old (λ turns. scoped (λ s turns. row_acts (bodies_of program.now.functions.now program.now.depth) row.now (declared s value) turns) (state env.old submits.old) turns)) result (state env.new submits.new) turns.new }
+    ensures kept { Keeps env.old env.new }
+    ensures ended { length env.new.vars ≡ length env.old.vars }
 {
     enter(turns)?;
     let count = env.vars.len();
     env.vars.push(value)?;
-    let flow = run_row(program, room, row, env, turns, submits)?;
+    let answer = run_row(program, room, row, env, turns, submits);
     env.vars.truncate(count);
-    Ok(flow)
+    answer
 }
 
 /// The steps of a place and the argument of a change, in the order in which the change has them.
@@ -429,7 +458,8 @@ fn run_change<'p>(
     turns: &mut u32,
 ) -> Result<(), Stop>
     requires { ChangeIsFit program.now.functions.now place.now change.now env.old }
-    ensures { (submits : List Output) → LeadsNext (change_acts (bodies_of program.now.functions.now program.now.depth) place.now change.now (state env.old submits) turns.old) result (state env.new submits) turns.new }
+    ensures leads { (submits : List Output) → LeadsNext (change_acts (bodies_of program.now.functions.now program.now.depth) place.now change.now (state env.old submits) turns.old) result (state env.new submits) turns.new }
+    ensures kept { Keeps env.old env.new }
 {
     evaluation_law();
     let context = in_env!(program, env);

@@ -11,6 +11,7 @@ ghost use Rattle.language_model.specs.Outcomes.{Outcome, Done, followed, need};
 ghost use Rattle.language_model.specs.Statements.{State, declared, level_tuple, submitted};
 ghost use Rattle.value_operations.specs.Answers.{Answers, AnswersHeld};
 ghost use Rattle.expr_eval.specs.Running.{Leads, LeadsNext, state};
+ghost use Rattle.expr_eval.specs.steps.Keeping.{Keeps};
 
 use language_model::{Env, Flow, Output, Outs};
 use spl_value::{Item, Value};
@@ -68,8 +69,9 @@ pub(crate) fn return_value(value: Result<Value, Stop>) -> Result<Flow, Stop>
 
 /// A variable with a value is declared.
 pub(crate) fn declare(env: &mut Env, value: Result<Value, Stop>) -> Result<Flow, Stop>
-    ensures { (outcome : Outcome Value) (submits : List Output) (turns : ℕ) → Answers outcome value turns
+    ensures leads { (outcome : Outcome Value) (submits : List Output) (turns : ℕ) → Answers outcome value turns
         → Leads (followed outcome (λ v left. Done (F.Next, declared (state env.old submits) v) left)) result (state env.new submits) turns }
+    ensures kept { Keeps env.old env.new }
 {
     match value {
         Ok(value) => {

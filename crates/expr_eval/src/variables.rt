@@ -4,6 +4,7 @@ ghost use Rattle.language_model.specs.declared.outs.Output.{Output};
 ghost use Rattle.language_model.specs.Statements.{changed_at};
 ghost use Rattle.value_operations.specs.Changing.{CanChangeAt};
 ghost use Rattle.expr_eval.specs.Running.{LeadsNext, state};
+ghost use Rattle.expr_eval.specs.steps.Keeping.{Keeps};
 
 use crate::evaluate::DEEPEST;
 use language_model::Env;
@@ -21,7 +22,8 @@ pub(crate) fn change_variable(
     change: Change<Value>,
 ) -> Result<(), Stop>
     requires { CanChangeAt variable steps.now change env.old }
-    ensures { (submits : List Output) (turns : ℕ) → LeadsNext (changed_at variable steps.now change (state env.old submits) turns) result (state env.new submits) turns }
+    ensures leads { (submits : List Output) (turns : ℕ) → LeadsNext (changed_at variable steps.now change (state env.old submits) turns) result (state env.new submits) turns }
+    ensures kept { Keeps env.old env.new }
 {
     let value = env.vars.item_mut(variable as usize);
     change_at(alloc, DEEPEST, value, steps, change)

@@ -9,7 +9,8 @@ use Rattle.expr_eval.specs.Running.{StatementIsFit}
 use Rattle.language_model.specs.Statements.{statement_acts}
 use Rattle.expr_eval.proofs.CodeParts.{field_places}
 use Rattle.expr_eval.proofs.ValueTypes.{as_long}
-use Rattle.expr_eval.proofs.Leading.{leads_by, stops_leading}
+use Rattle.expr_eval.proofs.Keeping.{keeps_all, keeps_declared, keeps_ended, keeps_then, vars_ended}
+use Rattle.expr_eval.proofs.Leading.{leads_by, scoped_leads, stops_leading}
 use Rattle.expr_eval.proofs.Forms.{arguments_stop, binary_answers, built_in_answers, call_answers, conditional_stops, first_answers, list_answers, literal_done, map_answers, marker_done, name_answers, other_marker_done, second_answers, select_answers, select_stops, tuple_answers, unary_answers, unary_stops}
 use Rattle.expr_eval.proofs.LoopParts.{arm_passed, arm_taken, arms_stop, over_on, row_ends, row_on, row_stops, while_ends, while_no_turns, while_on, while_stops, while_stops_in_turn}
 use Rattle.expr_eval.proofs.RowParts.{condition_of_arm, loop_after_turn, other_arms, other_turns, rest_of_row, row_of_arm, row_of_turn, statement_is_fit, turn_is_fit}
@@ -18,17 +19,17 @@ use Rattle.expr_eval.proofs.StepParts.{first_is_fit, has_elements, has_keys, has
 use Rattle.expr_eval.proofs.ValueTypes.{binary_of_operands, built_in_of_arguments, call_of_arguments, of_type, places_of_fields, takings_of_base, unaries_of_operand}
 use Rattle.value_operations.specs.Answers.{Answers, AnswersHeld, held}
 use Rattle.expr_eval.specs.Fitting.{IsFit}
-use Rattle.expr_eval.specs.Running.{OverIsFit, RowIsFit, state}
+use Rattle.expr_eval.specs.Running.{Leads, OverIsFit, RowIsFit, state}
 use Rattle.spl_value.specs.Pairs.{are_pairs}
 use Rattle.spl_value.specs.Values.{fits}
 use Rattle.std.proofs.Common.{[], ap, arith, length, refl, subst, sym, ◌≡◌, ◌<◌, ◌∙◌}
 use Rattle.std.proofs.lemmas.Option.{slice_get_read}
-use Rattle.std.specs.Prelude.{IsTrue}
+use Rattle.std.specs.Prelude.{IsTrue, take}
 use Rattle.language_model.specs.Evaluation.{code_value, taken, world_of}
 use Rattle.language_model.specs.EvaluationLaws.{taking_meaning}
 use Rattle.language_model.specs.Functions.{bodies_of, calls_of}
 use Rattle.language_model.specs.Outcomes.{enter}
-use Rattle.language_model.specs.Statements.{row_acts, scoped, turns_over}
+use Rattle.language_model.specs.Statements.{Acts, declared, row_acts, scoped, turns_over, with_vars}
 use Rattle.spl_tree.specs.declared.code.Code.TheVariants as C
 use Rattle.spl_tree.specs.declared.body.Statement.TheVariants as S
 use Rattle.expr_eval.proofs.StatementForms.{arguments_stopped, change_leads, declare_leads, evaluate_leads, function_leads, if_leads, return_leads, submit_leads, submit_window_leads, while_leads}
@@ -595,8 +596,8 @@ run::steps_taken-loop-taking-preserved t c = record {
 pub run::steps_taken-returns : goal.run::steps_taken-returns
 run::steps_taken-returns t c = λ v at. c.loop-taking.invariant.comes v at ∙ taken_past (bodies_of c.args.context.now.functions.now c.args.context.now.depth) (state c.args.context.now.env.now []) c.as_slice-taking-items.result.now c.loop-taking.taking-index (held c.loop-taking.value) c.loop-taking.steps c.loop-taking.turns c.loop-taking-test.false
 
-pub run::run_change-returns-in_err-steps : goal.run::run_change-returns-in_err-steps
-run::run_change-returns-in_err-steps t c = λ submits.
+pub run::run_change-returns-in_err-steps-clause-leads : goal.run::run_change-returns-in_err-steps-clause-leads
+run::run_change-returns-in_err-steps-clause-leads t c = λ submits.
     leads_next_stops _ _ _ _ _ c.from_residual.ensures.1
     (place_change_stops (bodies_of c.args.program.now.functions.now c.args.program.now.depth) c.args.env.now submits c.args.place.now c.args.change.now c.args.turns.now _ c.in_err-steps.ensures)
 
@@ -605,12 +606,12 @@ run::run_change-change_variable-requires t c =
     subst (λ steps. CanChangeAt c.args.place.now.variable steps c.in_ok-steps.change c.args.env.now) (sym c.as_slice.ensures)
     (can_change c.evaluation_law.ensures.never_stuck c.args.program.now.functions.now c.args.program.now.depth c.args.place.now c.args.env.now c.args.change.now c.requires c.args.turns.now _ (c.in_ok-steps.steps, c.in_ok-steps.change) c.in_ok-steps.ensures)
 
-pub run::run_change-returns : goal.run::run_change-returns
-run::run_change-returns t c = λ submits.
+pub run::run_change-returns-clause-leads : goal.run::run_change-returns-clause-leads
+run::run_change-returns-clause-leads t c = λ submits.
     leads_next_by _ _ _ _ _
     (place_change_done (bodies_of c.args.program.now.functions.now c.args.program.now.depth) c.args.env.now submits c.args.place.now c.args.change.now c.args.turns.now (c.in_ok-steps.steps, c.in_ok-steps.change) _ c.in_ok-steps.ensures
     ∙ ap (λ steps. changed_at c.args.place.now.variable steps c.in_ok-steps.change (state c.args.env.now submits) c.change_values.new.turns) (sym c.as_slice.ensures))
-    (c.change_variable.ensures submits _)
+    (c.change_variable.ensures.leads submits _)
 
 -- ---- functions
 
@@ -621,16 +622,16 @@ pub run::run_function-returns-in_err-flow : goal.run::run_function-returns-in_er
 run::run_function-returns-in_err-flow t c =
     stops _ _ _ _ c.from_residual-in_err-flow.ensures.1
     (stops_by _ _ _ (ap (λ turns. enter turns (λ turns. bodies_of c.args.context.now.functions.now c.args.context.now.depth c.args.place c.args.values turns)) c.in_ok-enter.ensures)
-    (body_stops c.args.context.now.functions.now c.args.place c.args.values c.requires c.in-Some.function.now (sym c.in-Some.ensures.value) c.args.context.now.depth c.enter.new.turns c.if-context-eq0.false c.as_slice-row.result.now c.as_slice-row.ensures c.new.result c.new.ensures c.new-submits.result c.new-submits.ensures _ c.in_err-flow.ensures))
+    (body_stops c.args.context.now.functions.now c.args.place c.args.values c.requires c.in-Some.function.now (sym c.in-Some.ensures.value) c.args.context.now.depth c.enter.new.turns c.if-context-eq0.false c.as_slice-row.result.now c.as_slice-row.ensures c.new.result c.new.ensures c.new-submits.result c.new-submits.ensures _ c.in_err-flow.ensures.leads))
 
 pub run::run_function-returned_by-requires : goal.run::run_function-returned_by-requires
 run::run_function-returned_by-requires t c =
-    returned_there c.args.context.now.functions.now c.args.place c.args.values c.requires c.in-Some.function.now (sym c.in-Some.ensures.value) c.evaluation_law.ensures.bodies _ c.enter.new.turns c.as_slice-row.result.now c.as_slice-row.ensures c.new.result c.new.ensures c.new-submits.result c.new-submits.ensures _ _ c.in_ok-flow.ensures
+    returned_there c.args.context.now.functions.now c.args.place c.args.values c.requires c.in-Some.function.now (sym c.in-Some.ensures.value) c.evaluation_law.ensures.bodies _ c.enter.new.turns c.as_slice-row.result.now c.as_slice-row.ensures c.new.result c.new.ensures c.new-submits.result c.new-submits.ensures _ _ c.in_ok-flow.ensures.leads
 
 pub run::run_function-returns : goal.run::run_function-returns
 run::run_function-returns t c =
     ap (λ turns. enter turns (λ turns. bodies_of c.args.context.now.functions.now c.args.context.now.depth c.args.place c.args.values turns)) c.in_ok-enter.ensures
-    ∙ body_done c.args.context.now.functions.now c.args.place c.args.values c.requires c.in-Some.function.now (sym c.in-Some.ensures.value) c.args.context.now.depth c.enter.new.turns c.if-context-eq0.false c.as_slice-row.result.now c.as_slice-row.ensures c.new.result c.new.ensures c.new-submits.result c.new-submits.ensures _ _ _ c.in_ok-flow.ensures c.returned_by.ensures
+    ∙ body_done c.args.context.now.functions.now c.args.place c.args.values c.requires c.in-Some.function.now (sym c.in-Some.ensures.value) c.args.context.now.depth c.enter.new.turns c.if-context-eq0.false c.as_slice-row.result.now c.as_slice-row.ensures c.new.result c.new.ensures c.new-submits.result c.new-submits.ensures _ _ _ c.in_ok-flow.ensures.leads c.returned_by.ensures
 
 pub evaluate::value_of_call-run_function-requires : goal.evaluate::value_of_call-run_function-requires
 evaluate::value_of_call-run_function-requires t c = (omega arith, called_is_fit c.args.context.now.functions.now c.args.place c.args.values c.requires)
@@ -651,17 +652,17 @@ pub run::run_statement-run_call-requires : goal.run::run_statement-run_call-requ
 run::run_statement-run_call-requires t c =
     (omega (arith, c.in-Some.ensures.0, c.in-Some.ensures.1), subst (λ x. StatementIsFit c.args.program.now.functions.now x c.args.env.now) (c.in-Call.is ∙ (λ i. S.Call c.in-Call.place (sym c.as_slice-in-Call.ensures i))) c.requires)
 
-pub run::run_statement-returns-in-Call : goal.run::run_statement-returns-in-Call
-run::run_statement-returns-in-Call t c =
+pub run::run_statement-returns-in-Call-clause-leads : goal.run::run_statement-returns-in-Call-clause-leads
+run::run_statement-returns-in-Call-clause-leads t c =
     leads_by _ _ _ _ _ (ap (λ x. statement_acts (bodies_of c.args.program.now.functions.now c.args.program.now.depth) x (state c.args.env.now c.args.submits.now) c.args.turns.now) (c.in-Call.is ∙ (λ i. S.Call c.in-Call.place (sym c.as_slice-in-Call.ensures i)))) (c.run_call.ensures c.args.submits.now)
 
 pub run::run_statement-run_for-requires : goal.run::run_statement-run_for-requires
 run::run_statement-run_for-requires t c =
     (omega (arith, c.in-Some.ensures.0, c.in-Some.ensures.1), subst (λ x. StatementIsFit c.args.program.now.functions.now x c.args.env.now) (c.in-For.is ∙ (λ i. S.For c.in-For.code (sym c.as_slice-in-For.ensures i))) c.requires)
 
-pub run::run_statement-returns-in-For : goal.run::run_statement-returns-in-For
-run::run_statement-returns-in-For t c =
-    leads_by _ _ _ _ _ (ap (λ x. statement_acts (bodies_of c.args.program.now.functions.now c.args.program.now.depth) x (state c.args.env.now c.args.submits.now) c.args.turns.now) (c.in-For.is ∙ (λ i. S.For c.in-For.code (sym c.as_slice-in-For.ensures i)))) c.run_for.ensures
+pub run::run_statement-returns-in-For-clause-leads : goal.run::run_statement-returns-in-For-clause-leads
+run::run_statement-returns-in-For-clause-leads t c =
+    leads_by _ _ _ _ _ (ap (λ x. statement_acts (bodies_of c.args.program.now.functions.now c.args.program.now.depth) x (state c.args.env.now c.args.submits.now) c.args.turns.now) (c.in-For.is ∙ (λ i. S.For c.in-For.code (sym c.as_slice-in-For.ensures i)))) c.run_for.ensures.leads
 
 pub run::run_call-eval_all-requires : goal.run::run_call-eval_all-requires
 run::run_call-eval_all-requires t c =
@@ -687,32 +688,32 @@ pub run::run_for-run_over-requires : goal.run::run_for-run_over-requires
 run::run_for-run_over-requires t c =
     (omega arith, over_is_fit c.args.program.now.functions.now (S.For c.args.code.now c.args.row.now) c.args.env.now c.requires c.args.code.now c.args.row.now refl c.evaluation_law.ensures.never_stuck c.args.program.now.depth c.args.turns.now _ _ c.in_ok-held.ensures _ c.in_ok-values.ensures)
 
-pub run::run_statement-returns-in-If : goal.run::run_statement-returns-in-If
-run::run_statement-returns-in-If t c =
-    if_leads (bodies_of c.args.program.now.functions.now c.args.program.now.depth) c.args.statement.now (state c.args.env.now c.args.submits.now) c.args.turns.now c.as_slice-in-If.result.now c.as_slice-in-If-2.result.now (c.in-If.is ∙ (λ i. S.If (sym c.as_slice-in-If.ensures i) (sym c.as_slice-in-If-2.ensures i))) _ _ _ c.run_if.ensures
+pub run::run_statement-returns-in-If-clause-leads : goal.run::run_statement-returns-in-If-clause-leads
+run::run_statement-returns-in-If-clause-leads t c =
+    if_leads (bodies_of c.args.program.now.functions.now c.args.program.now.depth) c.args.statement.now (state c.args.env.now c.args.submits.now) c.args.turns.now c.as_slice-in-If.result.now c.as_slice-in-If-2.result.now (c.in-If.is ∙ (λ i. S.If (sym c.as_slice-in-If.ensures i) (sym c.as_slice-in-If-2.ensures i))) _ _ _ c.run_if.ensures.leads
 
-pub run::run_statement-returns-in-While : goal.run::run_statement-returns-in-While
-run::run_statement-returns-in-While t c =
-    while_leads (bodies_of c.args.program.now.functions.now c.args.program.now.depth) c.args.statement.now (state c.args.env.now c.args.submits.now) c.args.turns.now c.in-While.code c.as_slice-in-While.result.now (c.in-While.is ∙ (λ i. S.While c.in-While.code (sym c.as_slice-in-While.ensures i))) _ _ _ c.run_while.ensures
+pub run::run_statement-returns-in-While-clause-leads : goal.run::run_statement-returns-in-While-clause-leads
+run::run_statement-returns-in-While-clause-leads t c =
+    while_leads (bodies_of c.args.program.now.functions.now c.args.program.now.depth) c.args.statement.now (state c.args.env.now c.args.submits.now) c.args.turns.now c.in-While.code c.as_slice-in-While.result.now (c.in-While.is ∙ (λ i. S.While c.in-While.code (sym c.as_slice-in-While.ensures i))) _ _ _ c.run_while.ensures.leads
 
 pub run::run_statement-own_value-requires : goal.run::run_statement-own_value-requires
 run::run_statement-own_value-requires t c =
     (omega (arith, c.in-Some.ensures.0, c.in-Some.ensures.1), result_is_fit c.args.program.now.functions.now c.args.statement.now c.args.env.now c.requires c.in-Some-result.code (c.in-Return.is ∙ (λ i. S.Return (c.in-Some-result.is i))))
 
-pub run::run_statement-returns-in-Declare : goal.run::run_statement-returns-in-Declare
-run::run_statement-returns-in-Declare t c =
-    declare_leads (bodies_of c.args.program.now.functions.now c.args.program.now.depth) c.args.statement.now (state c.args.env.now c.args.submits.now) c.args.turns.now c.in-Declare.code c.in-Declare.is _ _ _ (c.declare.ensures _ c.args.submits.now _ c.own_value-value.ensures)
+pub run::run_statement-returns-in-Declare-clause-leads : goal.run::run_statement-returns-in-Declare-clause-leads
+run::run_statement-returns-in-Declare-clause-leads t c =
+    declare_leads (bodies_of c.args.program.now.functions.now c.args.program.now.depth) c.args.statement.now (state c.args.env.now c.args.submits.now) c.args.turns.now c.in-Declare.code c.in-Declare.is _ _ _ (c.declare.ensures.leads _ c.args.submits.now _ c.own_value-value.ensures)
 
-pub run::run_statement-returns-in-Change : goal.run::run_statement-returns-in-Change
-run::run_statement-returns-in-Change t c =
-    change_leads (bodies_of c.args.program.now.functions.now c.args.program.now.depth) c.args.statement.now (state c.args.env.now c.args.submits.now) c.args.turns.now c.in-Change.place c.in-Change.change c.in-Change.is _ _ _ (c.next_follows.ensures _ _ _ (c.run_change.ensures c.args.submits.now))
+pub run::run_statement-returns-in-Change-clause-leads : goal.run::run_statement-returns-in-Change-clause-leads
+run::run_statement-returns-in-Change-clause-leads t c =
+    change_leads (bodies_of c.args.program.now.functions.now c.args.program.now.depth) c.args.statement.now (state c.args.env.now c.args.submits.now) c.args.turns.now c.in-Change.place c.in-Change.change c.in-Change.is _ _ _ (c.next_follows.ensures _ _ _ (c.run_change.ensures.leads c.args.submits.now))
 
-pub run::run_statement-returns-in-Evaluate : goal.run::run_statement-returns-in-Evaluate
-run::run_statement-returns-in-Evaluate t c =
+pub run::run_statement-returns-in-Evaluate-clause-leads : goal.run::run_statement-returns-in-Evaluate-clause-leads
+run::run_statement-returns-in-Evaluate-clause-leads t c =
     evaluate_leads (bodies_of c.args.program.now.functions.now c.args.program.now.depth) c.args.statement.now (state c.args.env.now c.args.submits.now) c.args.turns.now c.in-Evaluate.code c.in-Evaluate.is _ _ _ (c.next_follows_value.ensures _ (state c.args.env.now c.args.submits.now) _ c.eval_at.ensures)
 
-pub run::run_statement-returns-in-Some-result : goal.run::run_statement-returns-in-Some-result
-run::run_statement-returns-in-Some-result t c =
+pub run::run_statement-returns-in-Some-result-clause-leads : goal.run::run_statement-returns-in-Some-result-clause-leads
+run::run_statement-returns-in-Some-result-clause-leads t c =
     return_leads (bodies_of c.args.program.now.functions.now c.args.program.now.depth) c.args.statement.now (state c.args.env.now c.args.submits.now) c.args.turns.now c.in-Some-result.code (c.in-Return.is ∙ (λ i. S.Return (c.in-Some-result.is i))) _ _ _ (c.return_value.ensures _ (state c.args.env.now c.args.submits.now) _ c.own_value.ensures)
 
 pub run::run_statement-submit-requires : goal.run::run_statement-submit-requires
@@ -720,12 +721,12 @@ run::run_statement-submit-requires t c = λ v is.
     has_tuple c.args.program.now.functions.now c.args.statement.now c.args.env.now c.requires c.in-Submit.port c.in-Submit.code c.in-Submit.is c.evaluation_law.ensures.never_stuck c.args.program.now.depth c.args.turns.now _ v
     (subst (λ r. Answers (code_value (calls_of c.args.program.now.functions.now c.args.program.now.depth) c.in-Submit.code (world_of c.args.env.now) c.args.turns.now) r c.own_value-tuple.new.turns) is c.own_value-tuple.ensures)
 
-pub run::run_statement-returns-in-Submit : goal.run::run_statement-returns-in-Submit
-run::run_statement-returns-in-Submit t c =
+pub run::run_statement-returns-in-Submit-clause-leads : goal.run::run_statement-returns-in-Submit-clause-leads
+run::run_statement-returns-in-Submit-clause-leads t c =
     submit_leads (bodies_of c.args.program.now.functions.now c.args.program.now.depth) c.args.statement.now (state c.args.env.now c.args.submits.now) c.args.turns.now c.in-Submit.port c.in-Submit.code c.in-Submit.is _ _ _ (c.submit.ensures _ c.args.env.now _ c.own_value-tuple.ensures)
 
-pub run::run_statement-returns-in-SubmitWindow : goal.run::run_statement-returns-in-SubmitWindow
-run::run_statement-returns-in-SubmitWindow t c =
+pub run::run_statement-returns-in-SubmitWindow-clause-leads : goal.run::run_statement-returns-in-SubmitWindow-clause-leads
+run::run_statement-returns-in-SubmitWindow-clause-leads t c =
     submit_window_leads (bodies_of c.args.program.now.functions.now c.args.program.now.depth) c.args.statement.now (state c.args.env.now c.args.submits.now) c.args.turns.now c.in-SubmitWindow.port c.in-SubmitWindow.is _ _ _ (c.submit_window.ensures c.args.env.now c.args.turns.now)
 
 -- ---- rows and loops
@@ -734,37 +735,44 @@ pub run::run_row-run_statement-requires : goal.run::run_row-run_statement-requir
 run::run_row-run_statement-requires t c =
     (omega arith, statement_is_fit c.args.program.now.functions.now c.args.row.now c.loop-statement.statement-index c.statement-item.result c.loop-statement-test.true c.statement-item.is c.loop-statement.env c.loop-statement.invariant.rest)
 
-pub run::run_row-returns-in_err-flow : goal.run::run_row-returns-in_err-flow
-run::run_row-returns-in_err-flow t c =
+pub run::run_row-returns-in_err-flow-clause-leads : goal.run::run_row-returns-in_err-flow-clause-leads
+run::run_row-returns-in_err-flow-clause-leads t c =
     stops_leading _ _ _ _ _ c.from_residual.ensures.1
     (stops_by _ _ _ c.loop-statement.invariant.comes
     (row_stops (bodies_of c.args.program.now.functions.now c.args.program.now.depth) c.args.row.now c.loop-statement.statement-index
     c.statement-item.result c.loop-statement-test.true c.statement-item.is (state c.loop-statement.env c.loop-statement.submits) c.loop-statement.turns
-    _ c.in_err-flow.ensures))
+    _ c.in_err-flow.ensures.leads))
 
-pub run::run_row-returns-in-Some : goal.run::run_row-returns-in-Some
-run::run_row-returns-in-Some t c =
+pub run::run_row-returns-in-Some-clause-leads : goal.run::run_row-returns-in-Some-clause-leads
+run::run_row-returns-in-Some-clause-leads t c =
     c.loop-statement.invariant.comes
     ∙ row_ends (bodies_of c.args.program.now.functions.now c.args.program.now.depth) c.args.row.now c.loop-statement.statement-index
     c.statement-item.result c.loop-statement-test.true c.statement-item.is (state c.loop-statement.env c.loop-statement.submits) c.loop-statement.turns
-    _ _ _ c.in_ok-flow.ensures c.in-Some.end c.in-Some.ensures
+    _ _ _ c.in_ok-flow.ensures.leads c.in-Some.end c.in-Some.ensures
 
 pub run::run_row-loop-statement-preserved : goal.run::run_row-loop-statement-preserved
 run::run_row-loop-statement-preserved t c = record {
   comes = c.loop-statement.invariant.comes
       ∙ row_on (bodies_of c.args.program.now.functions.now c.args.program.now.depth) c.args.row.now c.loop-statement.statement-index
       c.statement-item.result c.loop-statement-test.true c.statement-item.is (state c.loop-statement.env c.loop-statement.submits) c.loop-statement.turns
-      _ _ _ c.in_ok-flow.ensures c.in_default.ensures;
+      _ _ _ c.in_ok-flow.ensures.leads c.in_default.ensures;
   rest = rest_of_row c.args.program.now.functions.now c.args.row.now c.loop-statement.statement-index c.statement-item.result c.loop-statement-test.true c.statement-item.is c.loop-statement.env
-      c.loop-statement.invariant.rest c.evaluation_law.ensures.statements c.args.program.now.depth c.loop-statement.turns _ c.loop-statement.submits _ _ c.in_ok-flow.ensures;
+      c.loop-statement.invariant.rest c.evaluation_law.ensures.statements c.args.program.now.depth c.loop-statement.turns _ c.loop-statement.submits _ _ c.in_ok-flow.ensures.leads;
+  kept = keeps_then _ _ _ c.loop-statement.invariant.kept c.in_ok-flow.ensures.kept;
 }
+
+pub run::run_row-returns-in_err-flow-clause-kept : goal.run::run_row-returns-in_err-flow-clause-kept
+run::run_row-returns-in_err-flow-clause-kept t c = keeps_then _ _ _ c.loop-statement.invariant.kept c.in_err-flow.ensures.kept
+
+pub run::run_row-returns-in-Some-clause-kept : goal.run::run_row-returns-in-Some-clause-kept
+run::run_row-returns-in-Some-clause-kept t c = keeps_then _ _ _ c.loop-statement.invariant.kept c.in_ok-flow.ensures.kept
 
 pub run::run_if-is_true-requires : goal.run::run_if-is_true-requires
 run::run_if-is_true-requires t c =
     (omega arith, condition_of_arm c.args.program.now.functions.now c.args.arms.now c.args.other.now c.loop-arm.arm-index c.arm-item.result c.loop-arm-test.true c.arm-item.is c.loop-arm.env c.loop-arm.invariant.rest)
 
-pub run::run_if-returns-in_err-is_true : goal.run::run_if-returns-in_err-is_true
-run::run_if-returns-in_err-is_true t c =
+pub run::run_if-returns-in_err-is_true-clause-leads : goal.run::run_if-returns-in_err-is_true-clause-leads
+run::run_if-returns-in_err-is_true-clause-leads t c =
     stops_leading _ _ _ _ _ c.from_residual.ensures.1
     (stops_by _ _ _ c.loop-arm.invariant.comes
     (arms_stop (bodies_of c.args.program.now.functions.now c.args.program.now.depth) c.args.arms.now c.args.other.now c.loop-arm.arm-index c.arm-item.result c.loop-arm-test.true c.arm-item.is (state c.loop-arm.env c.loop-arm.submits) c.loop-arm.turns
@@ -777,14 +785,14 @@ run::run_if-run_scoped-requires t c = (
       (row_of_arm c.args.program.now.functions.now c.args.arms.now c.args.other.now c.loop-arm.arm-index c.arm-item.result c.loop-arm-test.true c.arm-item.is c.loop-arm.env c.loop-arm.invariant.rest),
 )
 
-pub run::run_if-returns-then-branch : goal.run::run_if-returns-then-branch
-run::run_if-returns-then-branch t c =
+pub run::run_if-returns-then-branch-clause-leads : goal.run::run_if-returns-then-branch-clause-leads
+run::run_if-returns-then-branch-clause-leads t c =
     leads_by _ _ _ _ _
     (c.loop-arm.invariant.comes
     ∙ arm_taken (bodies_of c.args.program.now.functions.now c.args.program.now.depth) c.args.arms.now c.args.other.now c.loop-arm.arm-index c.arm-item.result c.loop-arm-test.true c.arm-item.is (state c.loop-arm.env c.loop-arm.submits) c.loop-arm.turns
     _ _ c.in_ok-is_true.ensures c.if-branch.true
     ∙ ap (λ row. scoped (row_acts (bodies_of c.args.program.now.functions.now c.args.program.now.depth) row) (state c.loop-arm.env c.loop-arm.submits) c.is_true.new.turns) (sym c.as_slice.ensures))
-    c.run_scoped.ensures
+    c.run_scoped.ensures.leads
 
 pub run::run_if-loop-arm-preserved : goal.run::run_if-loop-arm-preserved
 run::run_if-loop-arm-preserved t c = record {
@@ -792,48 +800,59 @@ run::run_if-loop-arm-preserved t c = record {
       ∙ arm_passed (bodies_of c.args.program.now.functions.now c.args.program.now.depth) c.args.arms.now c.args.other.now c.loop-arm.arm-index c.arm-item.result c.loop-arm-test.true c.arm-item.is (state c.loop-arm.env c.loop-arm.submits) c.loop-arm.turns
       _ _ c.in_ok-is_true.ensures c.if-branch.false;
   rest = other_arms c.args.program.now.functions.now c.args.arms.now c.args.other.now c.loop-arm.arm-index c.arm-item.result c.loop-arm-test.true c.arm-item.is c.loop-arm.env c.loop-arm.invariant.rest;
+  kept = c.loop-arm.invariant.kept;
 }
 
-pub run::run_while-returns-in_err-is_true : goal.run::run_while-returns-in_err-is_true
-run::run_while-returns-in_err-is_true t c =
+pub run::run_if-returns-then-branch-clause-kept : goal.run::run_if-returns-then-branch-clause-kept
+run::run_if-returns-then-branch-clause-kept t c = keeps_then _ _ _ c.loop-arm.invariant.kept c.run_scoped.ensures.kept
+
+pub run::run_while-returns-in_err-is_true-clause-leads : goal.run::run_while-returns-in_err-is_true-clause-leads
+run::run_while-returns-in_err-is_true-clause-leads t c =
     stops_leading _ _ _ _ _ c.from_residual.ensures.1
     (stops_by _ _ _ c.rounds.invariant.comes
     (while_stops c.rounds.rounds (bodies_of c.args.program.now.functions.now c.args.program.now.depth) c.args.code.now (scoped (row_acts (bodies_of c.args.program.now.functions.now c.args.program.now.depth) c.args.row.now))
     (state c.rounds.env c.rounds.submits) c.rounds.turns
     _ c.in_err-is_true.ensures))
 
-pub run::run_while-returns-in_err-enter : goal.run::run_while-returns-in_err-enter
-run::run_while-returns-in_err-enter t c =
+pub run::run_while-returns-in_err-enter-clause-leads : goal.run::run_while-returns-in_err-enter-clause-leads
+run::run_while-returns-in_err-enter-clause-leads t c =
     stops_leading _ _ _ _ _ c.from_residual-in_err-enter.ensures.1
     (stops_by _ _ _ c.rounds.invariant.comes
     (while_no_turns c.rounds.rounds (bodies_of c.args.program.now.functions.now c.args.program.now.depth) c.args.code.now (scoped (row_acts (bodies_of c.args.program.now.functions.now c.args.program.now.depth) c.args.row.now))
     (state c.rounds.env c.rounds.submits) c.rounds.turns
     _ _ c.in_ok-is_true.ensures c.if-branch.true _ c.in_err-enter.ensures.0 c.in_err-enter.ensures.1))
 
-pub run::run_while-returns-in_err-flow : goal.run::run_while-returns-in_err-flow
-run::run_while-returns-in_err-flow t c =
+pub run::run_while-returns-in_err-flow-clause-leads : goal.run::run_while-returns-in_err-flow-clause-leads
+run::run_while-returns-in_err-flow-clause-leads t c =
     stops_leading _ _ _ _ _ c.from_residual-in_err-flow.ensures.1
     (stops_by _ _ _ c.rounds.invariant.comes
     (while_stops_in_turn c.rounds.rounds (bodies_of c.args.program.now.functions.now c.args.program.now.depth) c.args.code.now (scoped (row_acts (bodies_of c.args.program.now.functions.now c.args.program.now.depth) c.args.row.now))
     (state c.rounds.env c.rounds.submits) c.rounds.turns
-    _ _ c.in_ok-is_true.ensures c.if-branch.true _ c.in_ok-enter.ensures _ c.in_err-flow.ensures))
+    _ _ c.in_ok-is_true.ensures c.if-branch.true _ c.in_ok-enter.ensures _ c.in_err-flow.ensures.leads))
 
-pub run::run_while-returns-in-Some : goal.run::run_while-returns-in-Some
-run::run_while-returns-in-Some t c =
+pub run::run_while-returns-in-Some-clause-leads : goal.run::run_while-returns-in-Some-clause-leads
+run::run_while-returns-in-Some-clause-leads t c =
     c.rounds.invariant.comes
     ∙ while_ends c.rounds.rounds (bodies_of c.args.program.now.functions.now c.args.program.now.depth) c.args.code.now (scoped (row_acts (bodies_of c.args.program.now.functions.now c.args.program.now.depth) c.args.row.now))
     (state c.rounds.env c.rounds.submits) c.rounds.turns
-    _ _ c.in_ok-is_true.ensures c.if-branch.true _ c.in_ok-enter.ensures _ _ _ c.in_ok-flow.ensures c.in-Some.end c.in-Some.ensures
+    _ _ c.in_ok-is_true.ensures c.if-branch.true _ c.in_ok-enter.ensures _ _ _ c.in_ok-flow.ensures.leads c.in-Some.end c.in-Some.ensures
+
+pub run::run_while-returns-in_err-flow-clause-kept : goal.run::run_while-returns-in_err-flow-clause-kept
+run::run_while-returns-in_err-flow-clause-kept t c = keeps_then _ _ _ c.rounds.invariant.kept c.in_err-flow.ensures.kept
+
+pub run::run_while-returns-in-Some-clause-kept : goal.run::run_while-returns-in-Some-clause-kept
+run::run_while-returns-in-Some-clause-kept t c = keeps_then _ _ _ c.rounds.invariant.kept c.in_ok-flow.ensures.kept
 
 pub run::run_while-rounds-preserved : goal.run::run_while-rounds-preserved
 run::run_while-rounds-preserved t c = record {
   comes = c.rounds.invariant.comes
       ∙ while_on c.rounds.rounds (bodies_of c.args.program.now.functions.now c.args.program.now.depth) c.args.code.now (scoped (row_acts (bodies_of c.args.program.now.functions.now c.args.program.now.depth) c.args.row.now))
       (state c.rounds.env c.rounds.submits) c.rounds.turns
-      _ _ c.in_ok-is_true.ensures c.if-branch.true _ c.in_ok-enter.ensures _ _ _ c.in_ok-flow.ensures c.in_default.ensures c.in-Some-checked_sub.left
+      _ _ c.in_ok-is_true.ensures c.if-branch.true _ c.in_ok-enter.ensures _ _ _ c.in_ok-flow.ensures.leads c.in_default.ensures c.in-Some-checked_sub.left
       (omega (arith, c.in-Some-checked_sub.ensures.0, c.in-Some-checked_sub.ensures.1));
   again = loop_after_turn c.args.program.now.functions.now c.evaluation_law.ensures.statements c.args.code.now c.args.row.now c.rounds.env c.rounds.invariant.again c.args.program.now.depth
-      c.enter.new.turns _ c.rounds.submits _ _ c.in_ok-flow.ensures;
+      c.enter.new.turns _ c.rounds.submits _ _ c.in_ok-flow.ensures.leads;
+  kept = keeps_then _ _ _ c.rounds.invariant.kept c.in_ok-flow.ensures.kept;
 }
 
 pub run::run_over-values-init : goal.run::run_over-values-init
@@ -841,6 +860,7 @@ run::run_over-values-init t c =
     let all : c.into_iter-value-iterator.result.rest.items ≡ c.args.values = c.into_iter-value-iterator.ensures.into_iter_gives.0 ∙ c.into_vec-value-items.ensures in record {
       comes = ap (λ values. turns_over values (row_acts (bodies_of c.args.program.now.functions.now c.args.program.now.depth) c.args.row.now) (state c.args.env.now c.args.submits.now) c.args.turns.now) (sym all);
       rest = subst (λ values. OverIsFit c.args.program.now.functions.now values c.args.row.now c.args.env.now) (sym all) c.requires;
+      kept = keeps_all c.args.env.now;
     }
 
 pub run::run_over-run_turn-requires : goal.run::run_over-run_turn-requires
@@ -851,11 +871,54 @@ pub run::run_over-values-preserved : goal.run::run_over-values-preserved
 run::run_over-values-preserved t c = record {
   comes = c.values.invariant.comes
       ∙ over_on c.values.value-iterator.rest.items c.next.new.self.rest.items c.in-Some.value (row_acts (bodies_of c.args.program.now.functions.now c.args.program.now.depth) c.args.row.now)
-      c.in-Some.ensures.steps.0 (state c.values.env c.values.submits) c.values.turns _ _ _ c.in_ok-flow.ensures c.in_default.ensures;
+      c.in-Some.ensures.steps.0 (state c.values.env c.values.submits) c.values.turns _ _ _ c.in_ok-flow.ensures.leads c.in_default.ensures;
   rest = other_turns c.args.program.now.functions.now c.values.value-iterator.rest.items c.next.new.self.rest.items c.in-Some.value c.args.row.now c.values.env c.in-Some.ensures.steps.0
-      c.values.invariant.rest c.evaluation_law.ensures.statements c.args.program.now.depth c.values.turns _ c.values.submits _ _ c.in_ok-flow.ensures;
+      c.values.invariant.rest c.evaluation_law.ensures.statements c.args.program.now.depth c.values.turns _ c.values.submits _ _ c.in_ok-flow.ensures.leads;
+  kept = keeps_then _ _ _ c.values.invariant.kept c.in_ok-flow.ensures.kept;
 }
 
-pub run::run_turn-run_row-requires : goal.run::run_turn-run_row-requires
-run::run_turn-run_row-requires t c =
+pub run::run_over-returns-in_err-flow-clause-kept : goal.run::run_over-returns-in_err-flow-clause-kept
+run::run_over-returns-in_err-flow-clause-kept t c = keeps_then _ _ _ c.values.invariant.kept c.in_err-flow.ensures.kept
+
+pub run::run_over-returns-in-Some-after_turn-clause-kept : goal.run::run_over-returns-in-Some-after_turn-clause-kept
+run::run_over-returns-in-Some-after_turn-clause-kept t c = keeps_then _ _ _ c.values.invariant.kept c.in_ok-flow.ensures.kept
+
+pub run::run_turn-run_row-answer-requires : goal.run::run_turn-run_row-answer-requires
+run::run_turn-run_row-answer-requires t c =
     (omega arith, row_of_turn c.args.program.now.functions.now c.args.value c.args.row.now c.args.env.now c.push.new.self c.requires c.in_ok-push.ensures.ok)
+
+pub run::run_turn-returns-clause-leads : goal.run::run_turn-returns-clause-leads
+run::run_turn-returns-clause-leads t c =
+    let bodies = bodies_of c.args.program.now.functions.now c.args.program.now.depth in
+    let s = state c.args.env.now c.args.submits.now in
+    let acts : Acts = λ s turns. row_acts bodies c.args.row.now (declared s c.args.value) turns in
+    leads_by _ _ _ _ _ (ap (λ turns. enter turns (λ turns. scoped acts s turns)) c.in_ok-enter.ensures)
+    (scoped_leads acts s c.enter.new.turns c.run_row-answer.result (state c.run_row-answer.new.env c.run_row-answer.new.submits) c.run_row-answer.new.turns c.truncate.new.self
+    (subst (λ vars. Leads (row_acts bodies c.args.row.now (with_vars s vars) c.enter.new.turns) c.run_row-answer.result (state c.run_row-answer.new.env c.run_row-answer.new.submits) c.run_row-answer.new.turns) c.in_ok-push.ensures.ok c.run_row-answer.ensures.leads)
+    (c.truncate.ensures ∙ ap (λ n. take n c.run_row-answer.new.env.vars) c.len-count.ensures))
+
+pub run::run_turn-returns-clause-kept : goal.run::run_turn-returns-clause-kept
+run::run_turn-returns-clause-kept t c =
+    keeps_ended c.args.env.now _ c.truncate.new.self
+    (keeps_then c.args.env.now _ _ (keeps_declared c.args.env.now c.args.value c.push.new.self c.in_ok-push.ensures.ok) c.run_row-answer.ensures.kept)
+    (c.truncate.ensures ∙ ap (λ n. take n c.run_row-answer.new.env.vars) c.len-count.ensures)
+
+pub run::run_turn-returns-clause-ended : goal.run::run_turn-returns-clause-ended
+run::run_turn-returns-clause-ended t c =
+    vars_ended c.args.env.now _ c.truncate.new.self
+    (keeps_then c.args.env.now _ _ (keeps_declared c.args.env.now c.args.value c.push.new.self c.in_ok-push.ensures.ok) c.run_row-answer.ensures.kept)
+    (c.truncate.ensures ∙ ap (λ n. take n c.run_row-answer.new.env.vars) c.len-count.ensures)
+
+pub run::run_scoped-returns-clause-leads : goal.run::run_scoped-returns-clause-leads
+run::run_scoped-returns-clause-leads t c =
+    scoped_leads (row_acts (bodies_of c.args.program.now.functions.now c.args.program.now.depth) c.args.row.now) (state c.args.env.now c.args.submits.now) c.args.turns.now c.run_row-answer.result
+    (state c.run_row-answer.new.env c.run_row-answer.new.submits) c.run_row-answer.new.turns c.truncate.new.self c.run_row-answer.ensures.leads
+    (c.truncate.ensures ∙ ap (λ n. take n c.run_row-answer.new.env.vars) c.len-count.ensures)
+
+pub run::run_scoped-returns-clause-kept : goal.run::run_scoped-returns-clause-kept
+run::run_scoped-returns-clause-kept t c =
+    keeps_ended c.args.env.now _ c.truncate.new.self c.run_row-answer.ensures.kept (c.truncate.ensures ∙ ap (λ n. take n c.run_row-answer.new.env.vars) c.len-count.ensures)
+
+pub run::run_scoped-returns-clause-ended : goal.run::run_scoped-returns-clause-ended
+run::run_scoped-returns-clause-ended t c =
+    vars_ended c.args.env.now _ c.truncate.new.self c.run_row-answer.ensures.kept (c.truncate.ensures ∙ ap (λ n. take n c.run_row-answer.new.env.vars) c.len-count.ensures)

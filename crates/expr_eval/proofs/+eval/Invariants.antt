@@ -12,6 +12,7 @@ use Rattle.language_model.specs.Outcomes.{Done, followed}
 use Rattle.language_model.specs.Statements.{step_values, steps_taken}
 use Rattle.expr_eval.proofs.StepValues.{steps_from, taken_from, StepsFrom}
 use Rattle.expr_eval.specs.Running.{StepsAreFit, state}
+use Rattle.expr_eval.specs.steps.Keeping.{Keeps}
 use Rattle.spl_value.specs.declared.value.Value.{Value}
 use Rattle.std.specs.Prelude.{[], Some, slice_get}
 use Rattle.language_model.specs.Statements.{row_acts, turns_over}
@@ -170,6 +171,7 @@ invariant-run::run_row-loop-statement l = record {
   comes : row_acts (bodies_of l.program.functions.now l.program.depth) l.row (state l.fn.env l.fn.submits) l.fn.turns
       ≡ row_acts (bodies_of l.program.functions.now l.program.depth) (drop l.statement-index l.row) (state l.env l.submits) l.turns;
   rest : RowIsFit l.program.functions.now (drop l.statement-index l.row) l.env;
+  kept : Keeps l.fn.env l.env;
 }
 
 abbrev pub invariant-run::run_if-loop-arm : goal.invariant-run::run_if-loop-arm
@@ -177,6 +179,7 @@ invariant-run::run_if-loop-arm l = record {
   comes : arms_act (bodies_of l.program.functions.now l.program.depth) l.arms l.other (state l.fn.env l.fn.submits) l.fn.turns
       ≡ arms_act (bodies_of l.program.functions.now l.program.depth) (drop l.arm-index l.arms) l.other (state l.env l.submits) l.turns;
   rest : ArmsAreFit l.program.functions.now (drop l.arm-index l.arms) l.other l.env;
+  kept : Keeps l.fn.env l.env;
 }
 
 abbrev pub invariant-run::run_while-rounds : goal.invariant-run::run_while-rounds
@@ -184,6 +187,7 @@ invariant-run::run_while-rounds l = record {
   comes : while_from l.fn.turns l.program.functions.now l.program.depth l.code l.row (state l.fn.env l.fn.submits) l.fn.turns
       ≡ while_from l.rounds l.program.functions.now l.program.depth l.code l.row (state l.env l.submits) l.turns;
   again : LoopIsFit l.program.functions.now l.code l.row l.env;
+  kept : Keeps l.fn.env l.env;
 }
 
 abbrev pub decreases-run::run_while-rounds : goal.decreases-run::run_while-rounds
@@ -194,4 +198,5 @@ invariant-run::run_over-values l = record {
   comes : turns_over l.fn.values (row_acts (bodies_of l.program.functions.now l.program.depth) l.row) (state l.fn.env l.fn.submits) l.fn.turns
       ≡ turns_over l.value-iterator.rest.items (row_acts (bodies_of l.program.functions.now l.program.depth) l.row) (state l.env l.submits) l.turns;
   rest : OverIsFit l.program.functions.now l.value-iterator.rest.items l.row l.env;
+  kept : Keeps l.fn.env l.env;
 }

@@ -8,8 +8,8 @@ returns-in_default c = ran_none c.args.functions.now (option_copied c.args.body)
 
 pub returns-in-Done : goal.returns-in-Done
 returns-in-Done c =
-    let l = c.in-Done.ensures in
+    let l = c.in-Done.ensures.runs in
     ran_done c.args.functions.now (option_copied c.args.body) _ c.args.env.now l.0 c.run_body.new.turns c.run_body.new.submits c.run_body.new.env (ap option_copied c.in-Some.is) l.1 (l.3 ∙ ap (λ s. s ++ l.0.submits) c.new-submits.ensures) l.2
 
 pub returns-in-Bad : goal.returns-in-Bad
-returns-in-Bad c = ran_bad c.args.functions.now (option_copied c.args.body) _ c.args.env.now c.in-Bad.kind (ap option_copied c.in-Some.is) c.in-Bad.ensures
+returns-in-Bad c = ran_bad c.args.functions.now (option_copied c.args.body) _ c.args.env.now c.in-Bad.kind (ap option_copied c.in-Some.is) c.in-Bad.ensures.runs
