@@ -19,7 +19,7 @@ function is_word(letter) {
     return letter != "" && index("abcdefghijklmnopqrstuvwxyzABCDEFGHIJKLMNOPQRSTUVWXYZ0123456789_$", letter)
 }
 
-# Reads the text whose quote is at `at`, and answers the place behind it.
+# Reads the text whose quote is at `at`, and answers the place after it.
 function read_text(at,    start, quote, letter, text) {
     start = at
     quote = substr($0, at++, 1)

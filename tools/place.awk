@@ -1,10 +1,10 @@
 # Finds a byte of a text, which is counted from 0. It prints `LINE:COLUMN:`, the line, and a caret under the
-# byte. The text may be cut behind the byte. A column is a character of UTF-8, and so is a tab. Of a long
+# byte. The text may be cut after the byte. A column is a character of UTF-8, and so is a tab. Of a long
 # line what is near the byte is printed.
 #
 # usage: awk -v at=BYTE -f place.awk <TEXT
 
-# Tells the place that is behind `before` and in front of `after` in a line.
+# Tells the place that is after `before` and in front of `after` in a line.
 function tell(number, before, after,    column, pad) {
     column = before
     gsub(/[\200-\277]/, "", column)
