@@ -12,7 +12,7 @@ pub(crate) const HOSTILE: &str = r#"
 @spread «10000 20000 int32 f{n}(int32 a) {return f{n+1}(a);} »int32 f30000(int32 a) {return f10000(a);} composite Main {} => 2 refused E2 at 30 f10000␊
 # one calls all the others
 @spread «0 20000 void f{n}() {} »void g() {«0 20000 f{n}(); »} composite Main {} => 0 ok 0 operators 0 streams␊
-# one that isn't there is called behind them
+# one that isn't there is called after them
 @spread «10000 20000 int32 f{n}(int32 a) {return f{n+1}(a);} »composite Main {} => 2 refused Y1 at 839988 f30000␊
 
 # Casts in a row weigh nothing, signs and sums weigh one each.
@@ -32,7 +32,7 @@ pub(crate) const HOSTILE: &str = r#"
 # Long rows of one form.
 # elements of a list
 @spread list<int32> f() {return [1«0 199999 , 1»];} composite Main {} => 0 ok 0 operators 0 streams␊
-# an element of another type behind them
+# an element of another type after them
 @spread list<int32> f() {return [1«0 199999 , 1», true];} composite Main {} => 2 refused Y2 at 600025␊
 # branches
 @spread void f(int32 a) {if (a == 0) return;«0 20000  else if (a == {n}) return;»} composite Main {} => 0 ok 0 operators 0 streams␊
