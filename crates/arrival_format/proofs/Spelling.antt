@@ -4,6 +4,7 @@ use Rattle.std.specs.List.{AllByRecursion, flat_map}
 use Rattle.std.proofs.Common.{◌≡◌, ◌∙◌, ◌^◌, ◌<◌, ◌≤◌, ◌⊎◌, ◌++◌, ◌∷◌, [], ℕ, zero, suc, List, Ok, Err, length, map, codes, refl, sym, ap, subst, arith, append_assoc, length-append, inl, inr}
 use Rattle.std.proofs.Math.Decide.{map_dec, ℕ_discrete, dec_le}
 use Rattle.std.proofs.lemmas.Bool.{cases_lt}
+use Rattle.spl_value.proofs.Decided.{either_decided}
 use Rattle.language_model.specs.CheckedGraph.{CheckedGraph}
 use Rattle.stream_model.specs.declared.record.ArrivalList.{ArrivalList}
 use Rattle.stream_model.specs.declared.record.Arrivals.{Arrivals}
@@ -16,15 +17,6 @@ use Rattle.arrival_format.proofs.InputTexts.{one_before}
 use Rattle.arrival_format.proofs.Lines.{HaveInputs}
 
 -- ---- what is decided
-
-either_decided : {P Q : Type 0} → Dec P → Dec Q → Dec (P ⊎ Q)
-either_decided (yes p) q = yes (inl p)
-either_decided (no none) (yes q) = yes (inr q)
-either_decided {P} {Q} (no none) (no never) = no neither
-  where
-    neither : P ⊎ Q → ⊥
-    neither (inl p) = none p
-    neither (inr q) = never q
 
 -- a number below a bound has a property
 abbrev Below : ℕ → (ℕ → Type 0) → Type 0

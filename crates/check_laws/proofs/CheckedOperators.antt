@@ -24,7 +24,7 @@ use Rattle.language_model.specs.SinkFiles.{composite_of, invocation_at}
 use Rattle.language_model.specs.StreamTypes.{Attributes, Body, body_at, outputs_attributes, passed, ports_attributes}
 use Rattle.language_model.specs.Typing.{Found, after, mismatch, refused}
 use Rattle.check_laws.specs.PartsLaw.{PartsLaw}
-use Rattle.check_laws.proofs.FoundSteps.{after_gives, same_Ok}
+use Rattle.language_model.proofs.FoundAnswers.{after_gives, same_Ok}
 use Rattle.check_laws.proofs.GraphLimits.{HasPlaces}
 use Rattle.check_laws.proofs.StreamSchemas.{EachHas, outputs_have, ports_have}
 

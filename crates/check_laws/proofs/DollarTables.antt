@@ -19,7 +19,7 @@ use Rattle.language_model.specs.Scopes.{at_place, first_from}
 use Rattle.language_model.specs.SinkFiles.{arguments_of, composite_of, value_named}
 use Rattle.language_model.specs.TypeNames.{Types, composite_types, type_meant}
 use Rattle.language_model.specs.Typing.{Found, mismatch, typing}
-use Rattle.check_laws.proofs.FoundSteps.{after_gives}
+use Rattle.language_model.proofs.FoundAnswers.{after_gives}
 
 -- ---- parameters
 

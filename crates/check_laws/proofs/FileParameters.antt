@@ -18,7 +18,7 @@ use Rattle.language_model.specs.Literals.{file_typing}
 use Rattle.language_model.specs.ParameterTyping.{Site, extra, missing, needed, one_value, parameter_typing, parameters_typing, role_of, single_value, value_given, value_typing}
 use Rattle.language_model.specs.SinkFiles.{only_value, value_named}
 use Rattle.language_model.specs.Typing.{after, mismatch}
-use Rattle.check_laws.proofs.FoundSteps.{after_gives, same_Ok}
+use Rattle.language_model.proofs.FoundAnswers.{after_gives, same_Ok}
 
 abbrev file_name : List ℕ
 file_name = codes "file"

@@ -34,8 +34,7 @@ use Rattle.language_model.specs.StreamTypes.{Attributes, Body, body_at}
 use Rattle.language_model.specs.Typing.{Found, after, mismatch}
 use Rattle.check_laws.proofs.FileParameters.{HasFile, has_file}
 use Rattle.check_laws.proofs.FollowedTexts.{file_found}
-use Rattle.check_laws.proofs.FoundSteps.{after_gives, same_Ok}
-use Rattle.language_model.proofs.FoundAnswers.{Gives, gives_from, gives_then}
+use Rattle.language_model.proofs.FoundAnswers.{Gives, after_gives, gives_from, gives_then, same_Ok}
 
 -- ---- files without their places
 

@@ -18,7 +18,7 @@ use Rattle.language_model.specs.Literals as L
 use Rattle.language_model.specs.Literals.{Behind, Here, Outside, Nowhere, behind, behind_in, file_or_mismatch, file_typing, followed, followed_within, here_or, is_file_name, level_behind, level_file, parameter_behind, text_at}
 use Rattle.language_model.specs.SinkFiles.{Text, Argument, NoText, argument_or, arguments_of, default_named, dollar_text, heads_of, level_text, literal_or, own_text, text_in, text_of, value_named}
 use Rattle.language_model.specs.Typing.{mismatch, typing}
-use Rattle.check_laws.proofs.FoundSteps.{after_gives, same_Ok}
+use Rattle.language_model.proofs.FoundAnswers.{after_gives, same_Ok}
 
 -- ---- within an expansion
 

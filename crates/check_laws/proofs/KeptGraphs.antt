@@ -20,7 +20,7 @@ use Rattle.check_laws.specs.KeepsLaw.{KeepsLaw}
 use Rattle.check_laws.specs.PartsLaw.{PartsLaw}
 use Rattle.check_laws.proofs.CheckedOperators.{each_checked, operator_fits}
 use Rattle.check_laws.proofs.DollarTables.{tables_fit}
-use Rattle.check_laws.proofs.FoundSteps.{after_gives, same_Ok}
+use Rattle.language_model.proofs.FoundAnswers.{after_gives, same_Ok}
 use Rattle.check_laws.proofs.GraphLimits.{has_places, is_small}
 use Rattle.check_laws.proofs.SignedFunctions.{each_signed, functions_fit}
 use Rattle.check_laws.proofs.StreamSchemas.{streams_found}

@@ -1,4 +1,3 @@
-mod FoundSteps
 mod PlainStates
 mod DollarTables
 pub mod SignedFunctions

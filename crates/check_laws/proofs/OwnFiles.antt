@@ -29,7 +29,7 @@ use Rattle.check_laws.specs.Files.{OwnFiles, is_named, sink_files, source_files}
 use Rattle.check_laws.specs.KeepsLaw.{KeepsLaw}
 use Rattle.check_laws.specs.OwnFilesLaw.{OwnFilesLaw}
 use Rattle.check_laws.proofs.FileParts.{Fitted, operators_files, part_file}
-use Rattle.check_laws.proofs.FoundSteps.{after_gives, same_Ok}
+use Rattle.language_model.proofs.FoundAnswers.{after_gives, same_Ok}
 use Rattle.check_laws.proofs.FreeFiles.{Clear, Free, all_free, bare_free}
 use Rattle.spl_value.proofs.Lists.{other_bytes}
 

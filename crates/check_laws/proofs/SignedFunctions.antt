@@ -21,7 +21,7 @@ use Rattle.language_model.specs.FunctionTyping.{FunctionTypes, as_signature, as_
 use Rattle.language_model.specs.TypeNames.{unit_types}
 use Rattle.language_model.specs.Typing.{after, refused}
 use Rattle.language_model.specs.WorldFits.{FunctionFits, FunctionsFit, body_scope}
-use Rattle.check_laws.proofs.FoundSteps.{after_gives, same_Ok}
+use Rattle.language_model.proofs.FoundAnswers.{after_gives, same_Ok}
 
 -- ---- one function
 

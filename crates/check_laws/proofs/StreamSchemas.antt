@@ -17,7 +17,7 @@ use Rattle.language_model.specs.Numbering.{numbers_from}
 use Rattle.language_model.specs.StreamTypes.{Attributes, Body, Origin, are_alike, attributes_within, behind, each_name, input_heads, name_places, origin_attributes, output_heads, output_of_op, outputs_attributes, port_attributes, ports_attributes, same_attributes, stream_attributes}
 use Rattle.language_model.specs.Typing.{Found, after, mismatch}
 use Rattle.language_model.proofs.TypingLaws.{same_types_law}
-use Rattle.check_laws.proofs.FoundSteps.{after_gives, same_Ok}
+use Rattle.language_model.proofs.FoundAnswers.{after_gives, same_Ok}
 use Rattle.check_laws.proofs.SourceCounts.{number_at}
 use Rattle.language_model.proofs.Flattening.{numbers_length}
 use Rattle.spl_value.proofs.TypesLaws.{rows_equal}

@@ -17,6 +17,7 @@ use Rattle.language_model.specs.Numbering.{ops_from, streams_from, expansions_fr
 use Rattle.language_model.specs.Recursion.{HasNoRecursion, IsRecursive, IsNotRecursive, composite_callers}
 use Rattle.language_model.specs.Scopes.{At, first_from}
 use Rattle.language_model.specs.Taking.{taken, first_untaken, is_taken}
+use Rattle.language_model.proofs.Standing.{found_first}
 use Rattle.composite_expand.specs.declared.answer.ExpandAnswer.{ExpandAnswer}
 use Rattle.composite_expand.specs.declared.answer.ExpandAnswer.TheVariants as X
 use Rattle.composite_expand.specs.Expands.{Expands, IsAnswer}
@@ -102,19 +103,6 @@ if_main_is c place is =
       | true ↦ λ may here. (cc, may)
       | false ↦ λ may here. absurd cc
     ] refl is
-
-pub found_first : {A : Type 0} (test : A → Bool) (i : ℕ) (xs : List A) (x : At A) → first_from test i xs ≡ Some x → (k : ℕ) × (x.place ≡ i + k) × (slice_get xs k ≡ Some x.what)
-found_first test i [] x is = absurd cc
-found_first {A} test i (y ∷ ys) x is =
-    elim (test y) as (λ b. (if b then Some (record { place = i; what = y }) else first_from test (suc i) ys) ≡ Some x → (k : ℕ) × (x.place ≡ i + k) × (slice_get (y ∷ ys) k ≡ Some x.what)) [
-      | true ↦ λ here.
-          let same : record { place = i; what = y } ≡ x = cc in
-          (0, (let place : i ≡ x.place = ap (λ (z : At A). z.place) same in omega (arith, place)), ap (λ (z : At A). Some z.what) same)
-      | false ↦ λ later.
-          let h = found_first test (suc i) ys x later in
-          let place : x.place ≡ suc i + h.0 = h.1 in
-          (suc h.0, omega (arith, place), h.2)
-    ] is
 
 -- the main composite, which stands at its place and has no inputs
 pub record IsThere (unit : List Definition) (place : ℕ) (main : At Composite) : Type 0 where

@@ -6,26 +6,13 @@ use Rattle.std.proofs.Common.{refl, sym, ap, ◌∙◌, subst, arith, inl, inr}
 use Rattle.std.proofs.lemmas.Bool.{cases_lt}
 use Rattle.std.proofs.Math.Decide.{ℕ_discrete}
 use Rattle.std.proofs.lemmas.Option.{same_Some, slice_get-get_or, slice_get-map, slice_get_within}
+use Rattle.spl_value.proofs.Decided.{both_decided, either_decided}
 use Rattle.spl_tree.specs.declared.expression.Placed.{Placed}
 use Rattle.spl_tree.specs.Grammar.{placed}
 use Rattle.language_model.proofs.OneFlat.{there}
 use Rattle.language_model.specs.Recursion.{Caller, Calls, call_among, calls_among, IsCall, Leads, directly, through, IsBack, IsFirstIn, HasNoRecursion}
 
 -- ---- what is decided
-
-both_decided : {P Q : Type 0} → Dec P → Dec Q → Dec (P × Q)
-both_decided (yes p) (yes q) = yes (p, q)
-both_decided (yes p) (no none) = no (λ h. none h.1)
-both_decided (no none) q = no (λ h. none h.0)
-
-either_decided : {P Q : Type 0} → Dec P → Dec Q → Dec (P ⊎ Q)
-either_decided (yes p) q = yes (inl p)
-either_decided (no none) (yes q) = yes (inr q)
-either_decided {P} {Q} (no none) (no never) = no neither
-  where
-    neither : P ⊎ Q → ⊥
-    neither (inl p) = none p
-    neither (inr q) = never q
 
 -- ---- the least number
 

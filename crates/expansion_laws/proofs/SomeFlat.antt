@@ -11,6 +11,7 @@ use Rattle.language_model.specs.Declarations.{declared_twice}
 use Rattle.language_model.specs.Flat.{IsMain, flat_from, twice, no_main, recursive, expands}
 use Rattle.language_model.specs.Recursion.{HasNoRecursion, IsRecursive, in_functions, in_composites, IsNotRecursive, function_callers, composite_callers}
 use Rattle.language_model.specs.Scopes.{At, at_place, first_from}
+use Rattle.language_model.proofs.Standing.{found_first}
 use Rattle.expansion_laws.specs.Laws.{IsFound, FoundLaw}
 use Rattle.expansion_laws.proofs.Reaching.{Recursion, recursion_decided}
 
@@ -32,19 +33,6 @@ unit_decided unit = by_functions (recursion_decided (function_callers unit)) (re
     by_functions (inr none) composites = by_composites none composites
 
 -- ---- the main composite
-
-found_first : {A : Type 0} (test : A → Bool) (i : ℕ) (xs : List A) (x : At A) → first_from test i xs ≡ Some x → (k : ℕ) × (x.place ≡ i + k) × (slice_get xs k ≡ Some x.what)
-found_first test i [] x is = absurd cc
-found_first {A} test i (y ∷ ys) x is =
-    elim (test y) as (λ b. (if b then Some (at_place i y) else first_from test (suc i) ys) ≡ Some x → (k : ℕ) × (x.place ≡ i + k) × (slice_get (y ∷ ys) k ≡ Some x.what)) [
-      | true ↦ λ here.
-          let same : at_place i y ≡ x = same_Some (at_place i y) x here in
-          (0, (let place : i ≡ x.place = ap (λ (z : At A). z.place) same in omega (arith, place)), ap (λ (z : At A). Some z.what) same)
-      | false ↦ λ later.
-          let h = found_first test (suc i) ys x later in
-          let place : x.place ≡ suc i + h.0 = h.1 in
-          (suc h.0, omega (arith, place), h.2)
-    ] is
 
 -- the first that passes stands at its place
 first_there : {A : Type 0} (test : A → Bool) (xs : List A) (x : At A) → first_from test 0 xs ≡ Some x → slice_get xs x.place ≡ Some x.what

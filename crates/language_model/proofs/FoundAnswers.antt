@@ -19,6 +19,14 @@ pub gives_then : {A B : Type 0} (Q : B → Type 0) (r : Found A) (f : A → Foun
 gives_then Q (Ok x) f k = k x refl
 gives_then Q (Err refusal) f k = tt
 
+-- what was found first, where something was found after it
+pub after_gives : {A B : Type 0} (x : Found A) (f : A → Found B) (b : B) → after x f ≡ Ok b → (a : A) × (x ≡ Ok a) × (f a ≡ Ok b)
+after_gives (Ok a) f b e = (a, refl, e)
+after_gives (Err r) f b e = absurd cc
+
+pub same_Ok : {A : Type 0} {x y : A} → ◌≡◌ {A = Found A} (Ok x) (Ok y) → x ≡ y
+same_Ok e = cc
+
 -- nothing came before
 pub no_front : {A : Type 0} (front : List A) (found : Found (List A)) → front ≡ [] → found ≡ with_front front found
 no_front front found is = plain found ∙ ap (λ xs. with_front xs found) (sym is)

@@ -2,7 +2,7 @@
 use Rattle.std.specs.Prelude.{◌≡◌, ◌+◌, ℕ, suc, Bool, true, false, List, [], ◌∷◌, ◌++◌, Option, Some, None, slice_get, if◌then◌else◌}
 use Rattle.std.specs.Str.{bytes_eq}
 use Rattle.std.specs.Cmp.Lexicographic.{bytes_decides}
-use Rattle.std.proofs.Common.{refl, arith}
+use Rattle.std.proofs.Common.{refl, subst, arith}
 use Rattle.spl_value.specs.declared.types.Named.{Named}
 use Rattle.spl_value.specs.declared.types.SplType.{SplType}
 use Rattle.language_model.specs.declared.scope.Port.{Port}
@@ -25,6 +25,9 @@ first_stands p (x ∷ xs) i =
       | true ↦ λ passes. (0, omega arith, refl, passes)
       | false ↦ λ fails. stands_later p x xs i (first_from p (suc i) xs) (first_stands p xs (suc i))
     ] refl
+
+pub found_first : {A : Type 0} (p : A → Bool) (i : ℕ) (xs : List A) (x : At A) → first_from p i xs ≡ Some x → (k : ℕ) × (x.place ≡ i + k) × (slice_get xs k ≡ Some x.what)
+found_first p i xs x is = let h = subst (Stands p xs i) is (first_stands p xs i) in (h.0, h.1, h.2)
 
 or_before_stands : {A : Type 0} (p : A → Bool) (xs : List A) (i : ℕ) (o before : Option (At A)) → Stands p xs i o → Stands p xs i before → Stands p xs i (or_before o before)
 or_before_stands p xs i None before h b = b

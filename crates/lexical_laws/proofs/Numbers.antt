@@ -19,7 +19,7 @@ use Rattle.spl_tree.specs.Tokens.{Take, Refuse, Refusal, front, as_front, is_for
 use Rattle.spl_tree.specs.Laws.{IsToken}
 use Rattle.spl_tree.specs.TokenLaws.{Fits}
 use Rattle.spl_tree.proofs.TokenLaws.{front_fits}
-use Rattle.spl_tree.proofs.GapLaws.{take-prefix_len}
+use Rattle.spl_tree.proofs.GapLaws.{drop-prefix_len, prefix_len-append, take-prefix_len}
 use Rattle.spl_tree.proofs.FrontLaws.{Stands, front_stands, token_front-is}
 use Rattle.spl_lexer.specs.steps.Scanning.{suffix_ahead}
 use Rattle.spl_lexer.proofs.Reach.{prefix_len-first}
@@ -29,28 +29,11 @@ use Rattle.lexical_laws.specs.Refusals.{Decimal, none, digit, Sign, signed, unsi
 
 -- ---- bytes at the front that pass a test
 
--- those that pass, up to one that doesn't, are all that pass
-prefix_len-all : (p : ℕ → Bool) (a rest : List ℕ) → list_all p a ≡ true → begins p rest ≡ false → prefix_len p (a ++ rest) ≡ length a
-prefix_len-all p [] [] all stops = refl
-prefix_len-all p [] (c ∷ rest) all stops = rw stops
-prefix_len-all p (b ∷ a) rest all stops =
-    let both = and_parts (p b) (list_all p a) all in
-    rw (both.0, one-add) (ap suc (prefix_len-all p a rest both.1 stops))
-
--- after those that pass comes none
-drop-stops : (p : ℕ → Bool) (bs : List ℕ) → begins p (drop (prefix_len p bs) bs) ≡ false
-drop-stops p [] = refl
-drop-stops p (b ∷ bs) = by (p b) refl (drop-stops p bs)
-  where
-    by : (t : Bool) → p b ≡ t → begins p (drop (prefix_len p bs) bs) ≡ false → begins p (drop (cond t (1 + prefix_len p bs) 0) (b ∷ bs)) ≡ false
-    by true e stops = rw one-add stops
-    by false e stops = e
-
 -- two fronts of bytes that pass, up to one that doesn't, are one
 one_run : (p : ℕ → Bool) (a b rest others : List ℕ) → a ++ rest ≡ b ++ others → list_all p a ≡ true → begins p rest ≡ false → list_all p b ≡ true → begins p others ≡ false
     → a ≡ b
 one_run p a b rest others same all stops every ends =
-    let count : length a ≡ length b = sym (prefix_len-all p a rest all stops) ∙ ap (prefix_len p) same ∙ prefix_len-all p b others every ends in
+    let count : length a ≡ length b = sym (prefix_len-append p a rest all stops) ∙ ap (prefix_len p) same ∙ prefix_len-append p b others every ends in
     sym (take-append_seam a rest) ∙ ap₂ (λ n bs. take n bs) count same ∙ take-append_seam b others
 
 -- ---- what digits say
@@ -151,11 +134,11 @@ suffix_letters (refusals.suffix _ a b refusals.unsigned w) = ((width_letters w).
 
 -- the digits at the front are those
 digits-are : (ds rest : List ℕ) → list_all is_digit ds ≡ true → begins is_digit rest ≡ false → digits (ds ++ rest) ≡ ds
-digits-are ds rest all stops = ap (λ n. take n (ds ++ rest)) (prefix_len-all is_digit ds rest all stops) ∙ take-append_seam ds rest
+digits-are ds rest all stops = ap (λ n. take n (ds ++ rest)) (prefix_len-append is_digit ds rest all stops) ∙ take-append_seam ds rest
 
 -- and the suffix is what follows
 suffix-is : (ds rest : List ℕ) → list_all is_digit ds ≡ true → begins is_digit rest ≡ false → suffix (ds ++ rest) ≡ rest
-suffix-is ds rest all stops = ap (λ n. drop n (ds ++ rest)) (prefix_len-all is_digit ds rest all stops) ∙ drop-append_seam ds rest
+suffix-is ds rest all stops = ap (λ n. drop n (ds ++ rest)) (prefix_len-append is_digit ds rest all stops) ∙ drop-append_seam ds rest
 
 -- a digit belongs to a word
 digit_word : (d : ℕ) → is_digit d ≡ true → is_word_byte d ≡ true
@@ -370,8 +353,8 @@ number_shows bs e i h r = by (digit_stands bs h)
     word (b ∷ bs) h = digit_word b h
 
     shows : Shows (run ++ after) E.BadNumber 0
-    shows = bad_number run after (begins-take is_digit (prefix_len is_word_byte bs) bs (prefix_len-first is_word_byte bs (word bs h)) ∙ h) (take-prefix_len is_word_byte bs) (drop-stops is_word_byte bs)
-        (λ number. number_stands number after (drop-stops is_word_byte bs) e i (ap front are ∙ r))
+    shows = bad_number run after (begins-take is_digit (prefix_len is_word_byte bs) bs (prefix_len-first is_word_byte bs (word bs h)) ∙ h) (take-prefix_len is_word_byte bs) (drop-prefix_len is_word_byte bs)
+        (λ number. number_stands number after (drop-prefix_len is_word_byte bs) e i (ap front are ∙ r))
 
     by : Stood bs → Shows bs e i
     by (refused is) =

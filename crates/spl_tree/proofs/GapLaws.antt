@@ -23,7 +23,7 @@ take-prefix_len p (b ∷ bs) = by (p b) refl (take-prefix_len p bs)
     by false e all = refl
 
 -- the byte after them doesn't
-drop-prefix_len : (p : ℕ → Bool) (bs : List ℕ) → begins p (drop (prefix_len p bs) bs) ≡ false
+pub drop-prefix_len : (p : ℕ → Bool) (bs : List ℕ) → begins p (drop (prefix_len p bs) bs) ≡ false
 drop-prefix_len p [] = refl
 drop-prefix_len p (b ∷ bs) = by (p b) refl (drop-prefix_len p bs)
   where
@@ -32,7 +32,7 @@ drop-prefix_len p (b ∷ bs) = by (p b) refl (drop-prefix_len p bs)
     by false e stops = e
 
 -- bytes that pass, up to one that doesn't, are those
-prefix_len-append : (p : ℕ → Bool) (inside rest : List ℕ) → list_all p inside ≡ true → begins p rest ≡ false → prefix_len p (inside ++ rest) ≡ length inside
+pub prefix_len-append : (p : ℕ → Bool) (inside rest : List ℕ) → list_all p inside ≡ true → begins p rest ≡ false → prefix_len p (inside ++ rest) ≡ length inside
 prefix_len-append p [] [] all stops = refl
 prefix_len-append p [] (c ∷ rest) all stops = rw stops
 prefix_len-append p (b ∷ inside) rest all stops =

@@ -12,3 +12,4 @@ pub mod Powers
 pub mod HashSteps
 pub mod Widths
 pub mod Results
+pub mod Decided

@@ -24,15 +24,12 @@ use Rattle.language_model.specs.declared.scope.Typed.{Typed}
 use Rattle.language_model.specs.Scopes.{at_place, first_from, attribute_of}
 use Rattle.language_model.specs.Typing.{Wanted, Found, after, mismatch, as_wanted, typed, Part, part_typed, Anything, level_element, level_pair, level_schema, elements_typed, list_typed, wants_list, entries_typed, map_typed, wants_map, are_distinct, gives_each, field_typed, fields_typed, own_fields, tuple_typed, wants_tuple, conditional_typed, level_typed, part}
 use Rattle.language_model.specs.TypingLaws.{parted, parts, entry_parts, field_parts, step_parts}
+use Rattle.language_model.proofs.FoundAnswers.{after_gives}
 use Rattle.language_model.proofs.TypingLaws as L
 use Rattle.language_model.proofs.TypingLaws.{same_types_law}
 use Rattle.typing_laws.specs.Unwanted.{UnwantedLaw}
 
 -- ---- steps
-
-came : {A B : Type 0} (r : Found A) (f : A → Found B) (y : B) → after r f ≡ Ok y → (x : A) × (r ≡ Ok x) × (f x ≡ Ok y)
-came (Ok x) f y e = (x, refl, e)
-came (Err refusal) f y e = absurd cc
 
 goes : {A B : Type 0} (r : Found A) (f : A → Found B) (x : A) (y : B) → r ≡ Ok x → f x ≡ Ok y → after r f ≡ Ok y
 goes r f x y e g = ap (λ o. after o f) e ∙ g
@@ -46,7 +43,7 @@ Again p = (at : ℕ) (scope : Scope) (t : Typed) → p.found at scope None ≡ O
 -- where a type is compared with the wanted one at the end
 held : (at : ℕ) (r : Found Typed) (t : Typed) → after r (as_wanted at None) ≡ Ok t → after r (as_wanted at (Some t.kind)) ≡ Ok t
 held at r t e =
-    let x = came r (as_wanted at None) t e in
+    let x = after_gives r (as_wanted at None) t e in
     let same : x.0 ≡ t = cc in
     goes r (as_wanted at (Some t.kind)) t t (x.1 ∙ ap Ok same) (ap (λ b. if b then Ok t else mismatch at) ((same_types_law t.kind t.kind).1 refl))
 
@@ -58,8 +55,8 @@ AreAgain es = AllByRecursion (λ e. Again e.what) es
 list_again : (at : ℕ) (scope : Scope) (es : List (Placed Part)) → AreAgain es → (t : Typed) → list_typed at scope Anything es ≡ Ok t → list_typed at scope (wants_list (Some t.kind)) es ≡ Ok t
 list_again at scope [] h t e = absurd cc
 list_again at scope (p ∷ ps) h t e =
-    let x = came (part_typed p scope None) _ t e in
-    let xs = came (elements_typed scope x.0.kind ps) _ t x.2 in
+    let x = after_gives (part_typed p scope None) _ t e in
+    let xs = after_gives (elements_typed scope x.0.kind ps) _ t x.2 in
     let own = typed (S.List x.0.kind) (C.List (x.0.code ∷ xs.0)) in
     let same : own ≡ t = cc in
     let first : part_typed p scope (Some x.0.kind) ≡ Ok x.0 = h.0 p.at scope x.0 x.1 in
@@ -73,9 +70,9 @@ map_again : (at : ℕ) (scope : Scope) (es : List (Placed Part × Placed Part)) 
     → map_typed at scope Anything es ≡ Ok t → map_typed at scope (wants_map (Some t.kind)) es ≡ Ok t
 map_again at scope [] h t e = absurd cc
 map_again at scope (p ∷ ps) h t e =
-    let x = came (part_typed p.0 scope None) _ t e in
-    let y = came (part_typed p.1 scope None) _ t x.2 in
-    let xs = came (entries_typed scope x.0.kind y.0.kind ps) _ t y.2 in
+    let x = after_gives (part_typed p.0 scope None) _ t e in
+    let y = after_gives (part_typed p.1 scope None) _ t x.2 in
+    let xs = after_gives (entries_typed scope x.0.kind y.0.kind ps) _ t y.2 in
     let entry : Code Slot × Code Slot = (x.0.code, y.0.code) in
     let codes : List (Code Slot × Code Slot) = entry ∷ xs.0 in
     let own = typed (S.Map x.0.kind y.0.kind) (C.Map codes) in
@@ -128,8 +125,8 @@ fields_again scope schema i [] own e distinct h from =
     let same : none ≡ own = cc in
     record { fields = ap (λ (o : Own). Ok o.1) same; found = refl; count = ap (λ (o : Own). length o.0) same }
 fields_again scope schema i (f ∷ fs) own e distinct h from =
-    let x = came (part_typed f.value scope None) _ own e in
-    let rest = came (own_fields scope (suc i) fs) _ own x.2 in
+    let x = after_gives (part_typed f.value scope None) _ own e in
+    let rest = after_gives (own_fields scope (suc i) fs) _ own x.2 in
     let attribute : Named SplType = record { name = f.name.what; kind = x.0.kind } in
     let code : ℕ × Code Slot = (i, x.0.code) in
     let made : Own = (attribute ∷ rest.0.0, code ∷ rest.0.1) in
@@ -159,7 +156,7 @@ tuple_again : (at : ℕ) (scope : Scope) (fs : List PartField) → AllByRecursio
 tuple_again at scope fs h t e =
     elim (are_distinct fs)
     as (λ b. are_distinct fs ≡ b → (if b then after (own_fields scope 0 fs) (λ xs. Ok (typed (S.Tuple xs.0) (C.Tuple xs.1))) else mismatch at) ≡ Ok t → tuple_typed at scope (wants_tuple (Some t.kind)) fs ≡ Ok t) [
-      | true ↦ λ distinct found. own distinct (came (own_fields scope 0 fs) (λ xs. Ok (typed (S.Tuple xs.0) (C.Tuple xs.1))) t found)
+      | true ↦ λ distinct found. own distinct (after_gives (own_fields scope 0 fs) (λ xs. Ok (typed (S.Tuple xs.0) (C.Tuple xs.1))) t found)
       | false ↦ λ distinct refused. absurd cc
     ] refl e
   where
@@ -181,9 +178,9 @@ tuple_again at scope fs h t e =
 
 conditional_again : (scope : Scope) (c a b : Placed Part) → Again a.what → (t : Typed) → conditional_typed scope None c a b ≡ Ok t → conditional_typed scope (Some t.kind) c a b ≡ Ok t
 conditional_again scope c a b h t e =
-    let x = came (part_typed c scope (Some S.Bool)) _ t e in
-    let y = came (part_typed a scope None) _ t x.2 in
-    let z = came (part_typed b scope (Some y.0.kind)) _ t y.2 in
+    let x = after_gives (part_typed c scope (Some S.Bool)) _ t e in
+    let y = after_gives (part_typed a scope None) _ t x.2 in
+    let z = after_gives (part_typed b scope (Some y.0.kind)) _ t y.2 in
     let own = typed y.0.kind (C.Conditional x.0.code y.0.code z.0.code) in
     let same : own ≡ t = cc in
     subst (λ (u : Typed). conditional_typed scope (Some u.kind) c a b ≡ Ok u) same
