@@ -3,10 +3,10 @@ ghost use Rattle.std.specs.Prelude.{◌≤◌, length};
 
 use clause_rules::check;
 use composite_expand::expand;
-use graph_run::run_graph;
 use language_model::Checked;
 use list_engine::{Order, Run, RunAnswer};
 use memory_files::MemoryShelf;
+use op_kit::run_graph;
 use source_rows::{Sources, read_sources};
 use spl_lexer::lex;
 use spl_tree::{Tokens, Unit};

@@ -277,8 +277,7 @@ surroundings unit b i scope outs = record {
   types = composite_types unit b.composite;
   scope = scope;
   outputs = map (λ o. o.name.what) i.outputs;
-  schemas = outs;
-}
+  schemas = outs }
 
 -- the clauses of an operator whose types are these
 abbrev pub clauses_checked : Op → Site → Surroundings → Clauses → Found Part

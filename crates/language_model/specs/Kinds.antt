@@ -53,107 +53,25 @@ with_partitions name role = record { name = name; role = role; presence = P.With
 
 -- ---- the table
 
+abbrev pub row : List ℕ → PortBounds → PortBounds → Bool → List ParameterRule → Option WindowForm → Option OutputForm → Bool → KindRules
+row name inputs outputs passes_on parameters window output logic =
+    record { name = name; inputs = inputs; outputs = outputs; passes_on = passes_on; parameters = parameters; window = window; output = output; logic = logic }
+
+-- the columns are those of `KindRules`, in their order
 abbrev pub rules_of : OpKind → KindRules
-rules_of O.FileSource = record {
-  name = codes "FileSource";
-  inputs = exactly 0;
-  outputs = exactly 1;
-  passes_on = false;
-  parameters = required (codes "file") R.File ∷ optional (codes "format") R.Format ∷ optional (codes "parsing") R.Parsing ∷ [];
-  window = None;
-  output = None;
-  logic = false;
-}
-rules_of O.FileSink = record {
-  name = codes "FileSink";
-  inputs = exactly 1;
-  outputs = exactly 0;
-  passes_on = false;
-  parameters = required (codes "file") R.File ∷ optional (codes "format") R.Format ∷ [];
-  window = None;
-  output = None;
-  logic = false;
-}
-rules_of O.Filter = record {
-  name = codes "Filter";
-  inputs = exactly 1;
-  outputs = exactly 1;
-  passes_on = true;
-  parameters = optional (codes "filter") R.Condition ∷ [];
-  window = None;
-  output = None;
-  logic = false;
-}
-rules_of O.Functor = record {
-  name = codes "Functor";
-  inputs = exactly 1;
-  outputs = exactly 1;
-  passes_on = false;
-  parameters = optional (codes "filter") R.Condition ∷ [];
-  window = None;
-  output = Some F.Tuple;
-  logic = false;
-}
-rules_of O.Punctor = record {
-  name = codes "Punctor";
-  inputs = exactly 1;
-  outputs = exactly 1;
-  passes_on = true;
-  parameters = required (codes "punctuation") R.Condition ∷ required (codes "position") R.Position ∷ [];
-  window = None;
-  output = None;
-  logic = false;
-}
-rules_of O.Split = record {
-  name = codes "Split";
-  inputs = exactly 1;
-  outputs = between 1 16;
-  passes_on = true;
-  parameters = required (codes "index") R.Index ∷ [];
-  window = None;
-  output = None;
-  logic = false;
-}
-rules_of O.Union = record {
-  name = codes "Union";
-  inputs = between 1 16;
-  outputs = exactly 1;
-  passes_on = false;
-  parameters = [];
-  window = None;
-  output = None;
-  logic = false;
-}
-rules_of O.Custom = record {
-  name = codes "Custom";
-  inputs = between 1 16;
-  outputs = between 0 16;
-  passes_on = false;
-  parameters = [];
-  window = None;
-  output = None;
-  logic = true;
-}
-rules_of O.Aggregate = record {
-  name = codes "Aggregate";
-  inputs = exactly 1;
-  outputs = exactly 1;
-  passes_on = false;
-  parameters = with_partitions (codes "partitionBy") R.Attributes ∷ optional (codes "groupBy") R.Attributes ∷ [];
-  window = Some W.Aggregate;
-  output = Some F.Groups;
-  logic = false;
-}
-rules_of O.Join = record {
-  name = codes "Join";
-  inputs = exactly 2;
-  outputs = exactly 1;
-  passes_on = false;
-  parameters = optional (codes "match") R.Condition ∷ [];
-  window = Some W.Join;
-  output = Some F.Tuple;
-  logic = false;
-}
+rules_of O.FileSource =
+    row (codes "FileSource") (exactly 0) (exactly 1) false (required (codes "file") R.File ∷ optional (codes "format") R.Format ∷ optional (codes "parsing") R.Parsing ∷ []) None None false
+rules_of O.FileSink = row (codes "FileSink") (exactly 1) (exactly 0) false (required (codes "file") R.File ∷ optional (codes "format") R.Format ∷ []) None None false
+rules_of O.Filter = row (codes "Filter") (exactly 1) (exactly 1) true (optional (codes "filter") R.Condition ∷ []) None None false
+rules_of O.Functor = row (codes "Functor") (exactly 1) (exactly 1) false (optional (codes "filter") R.Condition ∷ []) None (Some F.Tuple) false
+rules_of O.Punctor =
+    row (codes "Punctor") (exactly 1) (exactly 1) true (required (codes "punctuation") R.Condition ∷ required (codes "position") R.Position ∷ []) None None false
+rules_of O.Split = row (codes "Split") (exactly 1) (between 1 16) true (required (codes "index") R.Index ∷ []) None None false
+rules_of O.Union = row (codes "Union") (between 1 16) (exactly 1) false [] None None false
+rules_of O.Custom = row (codes "Custom") (between 1 16) (between 0 16) false [] None None true
+rules_of O.Aggregate =
+    row (codes "Aggregate") (exactly 1) (exactly 1) false (with_partitions (codes "partitionBy") R.Attributes ∷ optional (codes "groupBy") R.Attributes ∷ []) (Some W.Aggregate) (Some F.Groups) false
+rules_of O.Join = row (codes "Join") (exactly 2) (exactly 1) false (optional (codes "match") R.Condition ∷ []) (Some W.Join) (Some F.Tuple) false
 
 -- ---- the code's table
 

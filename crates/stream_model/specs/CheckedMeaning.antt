@@ -26,8 +26,7 @@ operator_with c n op part = record {
   functions = c.functions;
   types = record { ins = map (first_schema c) op.ins; outs = map (schema_at c) op.outs };
   ins = op.ins;
-  outs = op.outs;
-}
+  outs = op.outs }
 
 -- operators with their clauses, numbered from n on
 abbrev pub operators_from : CheckedGraph → ℕ → List Op → List Part → List Operator

@@ -84,8 +84,7 @@ events_of_number g streams entries n = option_map_or (λ op. events_of op stream
 abbrev pub meaning : Graph → Lists → Entries → Meaning
 meaning g rows entries = record {
   streams = streams_of (reverse (in_topo g)) rows entries;
-  events = events_of_number g (streams_of (reverse (in_topo g)) rows entries) entries;
-}
+  events = events_of_number g (streams_of (reverse (in_topo g)) rows entries) entries }
 
 -- how a source reads its file, which has at most 2^40 bytes: whether a bad row is a fault
 abbrev pub setting_of : Operator → Bool → Setting

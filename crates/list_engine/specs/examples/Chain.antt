@@ -38,8 +38,7 @@ chain = record {
   };
   schemas = numbers ∷ numbers ∷ numbers ∷ [];
   functions = [];
-  parts = A.FileSource (codes "in") true ∷ A.Filter (Some divides) ∷ A.Filter None ∷ A.FileSink (codes "some") ∷ A.FileSink (codes "all") ∷ [];
-}
+  parts = A.FileSource (codes "in") true ∷ A.Filter (Some divides) ∷ A.Filter None ∷ A.FileSink (codes "some") ∷ A.FileSink (codes "all") ∷ [] }
 
 -- its operators
 abbrev pub chain_graph : Graph
@@ -49,8 +48,7 @@ chain_graph = record {
       ∷ record { number = 2; clauses = A.Filter None; functions = []; types = record { ins = numbers ∷ []; outs = numbers ∷ [] }; ins = (1 ∷ []) ∷ []; outs = 2 ∷ [] }
       ∷ record { number = 3; clauses = A.FileSink (codes "some"); functions = []; types = record { ins = numbers ∷ []; outs = [] }; ins = (2 ∷ []) ∷ []; outs = [] }
       ∷ record { number = 4; clauses = A.FileSink (codes "all"); functions = []; types = record { ins = numbers ∷ []; outs = [] }; ins = (0 ∷ []) ∷ []; outs = [] } ∷ [];
-  topo = 0 ∷ 1 ∷ 2 ∷ 3 ∷ 4 ∷ [];
-}
+  topo = 0 ∷ 1 ∷ 2 ∷ 3 ∷ 4 ∷ [] }
 
 -- rows of four numbers
 abbrev pub row : ℕ → Item

@@ -31,5 +31,4 @@ after_source kind outs part = record {
   };
   schemas = texts ∷ ids ∷ texts ∷ [];
   functions = [];
-  parts = A.FileSource (codes "in") true ∷ part ∷ [];
-}
+  parts = A.FileSource (codes "in") true ∷ part ∷ [] }

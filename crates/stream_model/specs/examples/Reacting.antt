@@ -199,5 +199,4 @@ adding_one = record {
   functions = [];
   types = record { ins = (record { name = codes "a"; kind = T.Int N.I64 } ∷ []) ∷ []; outs = (record { name = codes "a"; kind = T.Int N.I64 } ∷ []) ∷ [] };
   ins = (0 ∷ []) ∷ [];
-  outs = 1 ∷ [];
-}
+  outs = 1 ∷ [] }

@@ -41,8 +41,7 @@ row_of zeroth first between second last = record {
       ∷ record { number = 1; clauses = first; functions = []; types = record { ins = zeroth ∷ []; outs = between ∷ [] }; ins = (0 ∷ []) ∷ []; outs = 1 ∷ [] }
       ∷ record { number = 2; clauses = second; functions = []; types = record { ins = between ∷ []; outs = last ∷ [] }; ins = (1 ∷ []) ∷ []; outs = 2 ∷ [] }
       ∷ record { number = 3; clauses = A.FileSink (codes "o"); functions = []; types = record { ins = last ∷ []; outs = [] }; ins = (2 ∷ []) ∷ []; outs = [] } ∷ [];
-  topo = 0 ∷ 1 ∷ 2 ∷ 3 ∷ [];
-}
+  topo = 0 ∷ 1 ∷ 2 ∷ 3 ∷ [] }
 
 -- ---- clauses
 
