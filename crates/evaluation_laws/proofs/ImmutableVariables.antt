@@ -29,7 +29,7 @@ use Rattle.language_model.specs.Outcomes.{Outcome, Done, Faulted, Stuck}
 use Rattle.language_model.specs.Statements.{State, Bodies, Left, scoped, row_acts, left_by, body_leaves}
 use Rattle.language_model.proofs.Returning.{Only, only_followed}
 use Rattle.evaluation_laws.specs.ImmutableLaws.{ImmutableLaw, StateKeptLaw}
-use Rattle.evaluation_laws.proofs.Keeping.{arms_pass, level_passes, statement_passes, row_passes, IsKept, LeftBy, body_keeps}
+use Rattle.language_model.proofs.Keeping.{arms_pass, level_passes, statement_passes, row_passes, IsKept, LeftBy, body_keeps}
 
 -- ---- no statement that fits changes the variable
 

@@ -7,7 +7,6 @@ pub mod PlainCodes
 pub mod FirstValues
 pub mod FittingOutcomes
 pub mod Handling
-pub mod Keeping
 pub mod ImmutableVariables
 mod OneCall
 mod OneHandler

@@ -60,3 +60,4 @@ mod BodyReturning
 mod LastNamed
 pub mod CodeWeights
 pub mod PlainCodes
+pub mod Keeping

@@ -22,7 +22,7 @@ use Rattle.language_model.specs.Outcomes.{Outcome, Done, Faulted, Stuck}
 use Rattle.language_model.specs.Statements.{State, Left}
 use Rattle.language_model.proofs.Returning.{Only}
 use Rattle.language_model.proofs.StatementInduction.{OfArm, StatementSteps, statement_ind}
-use Rattle.evaluation_laws.proofs.Keeping.{IsKept, LeftBy, all_pass, arms_pass, body_keeps, level_passes, statement_passes}
+use Rattle.language_model.proofs.Keeping.{IsKept, LeftBy, all_pass, arms_pass, body_keeps, level_passes, statement_passes}
 use Rattle.stream_model.specs.Stream.{closes}
 
 -- ---- all statements pass where everything passes
