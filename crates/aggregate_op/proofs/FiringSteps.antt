@@ -7,9 +7,9 @@ use Rattle.language_model.specs.declared.checked.Collected.{Collected}
 use Rattle.language_model.specs.Outcomes.{Done}
 use Rattle.stream_model.specs.Aggregates.{arguments, done_or_none}
 use Rattle.stream_model.specs.Bodies.{at_tuple, most_turns}
-use Rattle.stream_model.specs.Keys.{same_key}
+use Rattle.spl_value.specs.KeyOrder.{same_key}
 use Rattle.stream_model.specs.Windows.{Insert, WindowEvent, has_come, keys_of}
-use Rattle.stream_model.proofs.Keys.{same_key-itself}
+use Rattle.spl_value.proofs.KeyOrder.{same_key-itself}
 use Rattle.aggregate_op.specs.Arguments.{blank, extended}
 
 -- a key of which a tuple came now has come

@@ -23,7 +23,7 @@ use Rattle.language_model.specs.Functions.{calls_of, value}
 use Rattle.language_model.specs.Outcomes.{Outcome, Done, Faulted, Stuck, need}
 use Rattle.language_model.proofs.Returning.{Only, only_followed, done_followed}
 use Rattle.stream_model.specs.Stream.{is_tuple}
-use Rattle.stream_model.specs.Keys.{same_key}
+use Rattle.spl_value.specs.KeyOrder.{same_key}
 use Rattle.stream_model.specs.Windows.{contents_of, fired_at, flushes_at_markers, partition_key, tuples_with, window_events}
 use Rattle.stream_model.specs.Groups.{groups}
 use Rattle.stream_model.specs.Bodies.{at_tuple, most_turns, on_first}
@@ -32,7 +32,7 @@ use Rattle.stream_model.specs.Copies.{aggregate_source, attribute_alone, kept_so
 use Rattle.stream_model.proofs.Contents.{own_key_law}
 use Rattle.stream_model.proofs.ContentMembers.{AllContents, AllTuples, EntryIs, IsGroup, ItemIs, all_append, all_fired, all_groups, all_weaker}
 use Rattle.stream_model.proofs.Flushes.{fired_law, passing_law}
-use Rattle.stream_model.proofs.Keys.{same_key-equal, same_key-itself}
+use Rattle.spl_value.proofs.KeyOrder.{same_key-equal, same_key-itself}
 use Rattle.attribute_flow.proofs.CodeValues.{alone_value, done_same, then_some}
 use Rattle.attribute_flow.proofs.Reacting.{AllMade, Copied, Copies, IsNoTuple}
 use Rattle.attribute_flow.proofs.TupleFields.{tuple_field}

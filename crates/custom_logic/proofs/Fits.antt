@@ -34,7 +34,7 @@ use Rattle.stream_model.specs.Customs.{changed, handler, item_leaves, left_by, m
 use Rattle.stream_model.specs.Operators.{Operator}
 use Rattle.stream_model.specs.Fitting.{HasPort}
 use Rattle.custom_logic.specs.steps.Running.{MayRun, MayRunOn}
-use Rattle.stream_model.proofs.CustomFits.{port_there, handlers_fit, Fitted}
+use Rattle.port_reacts.proofs.CustomFits.{port_there, handlers_fit, Fitted}
 use Rattle.spl_value.proofs.Results.{some_same}
 
 -- ---- the environment

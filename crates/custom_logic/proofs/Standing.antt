@@ -21,7 +21,7 @@ use Rattle.custom_logic.specs.Idle.{idle_env}
 use Rattle.custom_logic.specs.Standing.{StandsFor}
 use Rattle.custom_logic.specs.steps.Running.{LeavesIdle, MayRunOn}
 use Rattle.custom_logic.proofs.Fits.{item_state, runs_on}
-use Rattle.stream_model.proofs.CustomFits.{first_fits, fitted}
+use Rattle.port_reacts.proofs.CustomFits.{first_fits, fitted}
 use Rattle.spl_value.proofs.Bools.{and_parts}
 
 -- ---- the start

@@ -15,7 +15,7 @@ use Rattle.stream_model.specs.Bodies.{Makes, on_each, output}
 use Rattle.stream_model.specs.React.{Answer, Gives, Faults, answer, answered, body, ended, ended_by, makes_by, own_fault, react}
 use Rattle.stream_model.specs.Fitting.{MakesFit, ReactsFit}
 use Rattle.stream_model.proofs.AggregateFits.{aggregate_fits}
-use Rattle.stream_model.proofs.CustomFits.{custom_fits}
+use Rattle.port_reacts.proofs.CustomFits.{custom_fits}
 use Rattle.stream_model.proofs.FittingEvents.{of_kinds, reacts_fit}
 use Rattle.stream_model.proofs.JoinFits.{join_fits}
 use Rattle.stream_model.proofs.KindBodies.{body_law}

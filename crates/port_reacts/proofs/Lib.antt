@@ -1,3 +1,4 @@
 pub mod Replying
 pub mod Operators
 pub mod Answering
+pub mod CustomFits

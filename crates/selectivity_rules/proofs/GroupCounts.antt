@@ -17,7 +17,7 @@ use Rattle.language_model.specs.Keeping.{AggregateWindow}
 use Rattle.language_model.specs.Keeping as F
 use Rattle.language_model.specs.StreamTypes.{Attributes}
 use Rattle.stream_model.specs.Stream.{is_empty}
-use Rattle.stream_model.specs.Keys.{each_key, key_cmp}
+use Rattle.spl_value.specs.KeyOrder.{each_key, key_cmp}
 use Rattle.stream_model.specs.Windows.{Silent, Triggers, contents_of, exceeds, fires_behind, in_order, last_of, near, trigger_if}
 use Rattle.stream_model.specs.Groups.{of_group}
 use Rattle.stream_model.specs.Bodies.{on_first}

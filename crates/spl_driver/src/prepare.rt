@@ -7,7 +7,7 @@ ghost use Rattle.spl_driver.specs.Steps.{IsOrderOf, PreparedCounted, PreparedOf,
 
 use fault_laws::run_faults_law;
 use feed_pour::Shelf;
-use graph_run::run_graph;
+use op_kit::run_graph;
 use language_model::Checked;
 use list_engine::{Order, Run, RunAnswer, engine_law};
 use source_rows::{Sources, read_sources};

@@ -13,3 +13,4 @@ pub mod HashSteps
 pub mod Widths
 pub mod Results
 pub mod Decided
+pub mod KeyOrder

@@ -16,3 +16,4 @@ pub mod Route
 pub mod Numbered
 pub mod Calls
 pub mod CallsLaws
+pub mod KeyOrder

@@ -13,10 +13,10 @@ use Rattle.spl_value.specs.Key.{key_of}
 use Rattle.language_model.specs.declared.checked.WindowRule.{WindowRule}
 use Rattle.language_model.specs.declared.checked.WindowRule.TheVariants as W
 use Rattle.stream_model.specs.Stream.{is_empty}
-use Rattle.stream_model.specs.Keys.{key_cmp, same_key, each_key}
+use Rattle.spl_value.specs.KeyOrder.{key_cmp, same_key, each_key}
 use Rattle.stream_model.specs.Groups.{of_group, groups}
 use Rattle.stream_model.specs.Windows.{WindowEvent, Silent, Triggers, Insert, Mark, window_events, tuples_with, keys_of, since_mark, in_order, last_of, is_start, last_start, since_start, near, exceeds, held, relevant, content, flush_if, trigger_if, contents_of, fires_behind, flushed_behind, fired_at}
-use Rattle.stream_model.proofs.Keys.{same_key-itself}
+use Rattle.spl_value.proofs.KeyOrder.{same_key-itself}
 
 -- ---- lists
 

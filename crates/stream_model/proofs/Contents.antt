@@ -11,10 +11,10 @@ use Rattle.spl_value.specs.Key.{key_of}
 use Rattle.language_model.specs.declared.checked.WindowRule.{WindowRule}
 use Rattle.language_model.specs.declared.checked.WindowRule.TheVariants as W
 use Rattle.stream_model.specs.Stream.{is_empty}
-use Rattle.stream_model.specs.Keys.{same_key}
+use Rattle.spl_value.specs.KeyOrder.{same_key}
 use Rattle.stream_model.specs.Windows.{flushes_at_markers, WindowEvent, Insert, Mark, partition_key, window_events, tuples_with, has_come, since_mark, in_order, last_of, is_start, last_start, since_start, near, exceeds, held, relevant, content, flush_if, trigger_if, fires_behind}
 use Rattle.stream_model.specs.WindowLaws.{FromStart, exceeds_first, with_key, TumblingCountLaw, SlidingCountLaw, TumblingDeltaLaw, SlidingDeltaLaw, TumblingCountInsert, TumblingDeltaInsert, TumblingPunctInsert, SlidingCountInsert, SlidingDeltaInsert, PortLaw, OneKeyLaw, OwnKeyLaw}
-use Rattle.stream_model.proofs.Keys.{same_key-itself}
+use Rattle.spl_value.proofs.KeyOrder.{same_key-itself}
 
 -- ---- the last tuples
 

@@ -3,10 +3,10 @@ use Rattle.std.proofs.Common.{◌≡◌, Bool, true, false, cond, not, true≢fa
 use Rattle.std.specs.FinMap.{is_sorted}
 use Rattle.language_model.specs.declared.checked.WindowRule.TheVariants as W
 use Rattle.stream_model.specs.Stream.{is_empty}
-use Rattle.stream_model.specs.Keys.{key_cmp}
+use Rattle.spl_value.specs.KeyOrder.{key_cmp}
 use Rattle.stream_model.specs.Windows.{tuples_with, keys_of, since_mark, in_order, content, flushed_behind}
 use Rattle.stream_model.specs.WindowLaws.{EmptiedLaw, PassingLaw, FlushedBehindLaw, FiredLaw}
-use Rattle.stream_model.proofs.Keys.{each_key-sorted, find-each_key, true_from}
+use Rattle.spl_value.proofs.KeyOrder.{each_key-sorted, find-each_key, true_from}
 use Rattle.stream_model.proofs.Contents.{come_is}
 
 pub emptied_law : EmptiedLaw

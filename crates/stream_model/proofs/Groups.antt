@@ -5,11 +5,11 @@ use Rattle.std.specs.List.{filter, list_any, cons_option, AllByRecursion}
 use Rattle.spl_value.specs.declared.value.Value.{Value}
 use Rattle.spl_value.specs.Key.{key_of}
 use Rattle.stream_model.specs.Stream.{is_empty}
-use Rattle.stream_model.specs.Keys.{key_cmp, same_key, each_key}
+use Rattle.spl_value.specs.KeyOrder.{key_cmp, same_key, each_key}
 use Rattle.stream_model.specs.Groups.{of_group, groups}
 use Rattle.stream_model.specs.GroupLaws.{AscendingLaw, GroupLaw, MemberLaw, MappedGroupsLaw, KeyBehindLaw}
 use Rattle.stream_model.proofs.MappedWindows.{map_each_key, get_behind, tuples_if}
-use Rattle.stream_model.proofs.Keys.{each_key-sorted, find-each_key, true_from}
+use Rattle.spl_value.proofs.KeyOrder.{each_key-sorted, find-each_key, true_from}
 
 pub ascending_law : AscendingLaw
 ascending_law places ts =

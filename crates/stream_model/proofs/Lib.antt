@@ -10,7 +10,6 @@ pub mod Waiting
 pub mod Growing
 pub mod Graphs
 pub mod FileRows
-pub mod Keys
 pub mod Contents
 pub mod Flushes
 pub mod MappedWindows
@@ -26,7 +25,6 @@ pub mod Stateless
 pub mod Keyed
 pub mod FittingCodes
 pub mod SimpleFits
-pub mod CustomFits
 pub mod ContentMembers
 pub mod JoinFits
 pub mod FittingEvents

@@ -10,7 +10,7 @@ use Rattle.spl_value.specs.declared.value.Value.{Value}
 use Rattle.language_model.specs.declared.checked.WindowRule.{WindowRule}
 use Rattle.language_model.specs.declared.checked.WindowRule.TheVariants as W
 use Rattle.stream_model.specs.Stream.{is_empty}
-use Rattle.stream_model.specs.Keys.{key_cmp, same_key, each_key}
+use Rattle.spl_value.specs.KeyOrder.{key_cmp, same_key, each_key}
 use Rattle.stream_model.specs.Windows.{WindowEvent, Firing, contents_of, Insert, Mark, tuples_with, keys_of, since_mark, in_order, last_of, is_start, last_start, since_start, near, integer_in, integer_at, exceeds, held, relevant, content, Silent, Flushes, Triggers, flush_if, trigger_if, fires_behind, tuple_fires, flushed_behind, fired_contents}
 use Rattle.stream_model.specs.WindowLaws.{mapped, mapped_event, Keeps, AllKeep, map_firing, MappedLaw, MappedFiringLaw, BehindLaw}
 use Rattle.stream_model.proofs.ContentMembers.{all_in_order}

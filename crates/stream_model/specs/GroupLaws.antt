@@ -5,7 +5,7 @@ use Rattle.std.specs.FinMap.{find, is_sorted}
 use Rattle.spl_value.specs.declared.value.Value.{Value}
 use Rattle.spl_value.specs.Key.{key_of}
 use Rattle.stream_model.specs.Stream.{is_empty}
-use Rattle.stream_model.specs.Keys.{key_cmp, same_key}
+use Rattle.spl_value.specs.KeyOrder.{key_cmp, same_key}
 use Rattle.stream_model.specs.Groups.{of_group, groups}
 
 -- the keys of the groups ascend, each once

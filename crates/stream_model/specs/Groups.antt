@@ -3,7 +3,7 @@
 use Rattle.std.specs.Prelude.{ℕ, List, map, filter}
 use Rattle.spl_value.specs.declared.value.Value.{Value}
 use Rattle.spl_value.specs.Key.{key_of}
-use Rattle.stream_model.specs.Keys.{same_key, each_key}
+use Rattle.spl_value.specs.KeyOrder.{same_key, each_key}
 
 -- the tuples of a group, in their order
 abbrev pub of_group : List ℕ → List (List Value) → List Value → List (List Value)

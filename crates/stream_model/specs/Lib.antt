@@ -22,7 +22,6 @@ pub mod Laws
 pub mod PathLaws
 pub mod PortLaws
 pub mod CheckedMeaning
-pub mod Keys
 pub mod Inputs
 pub mod Windows
 pub mod WindowLaws

@@ -18,7 +18,7 @@ use Rattle.stream_model.specs.declared.plan.Region.{Region}
 use Rattle.stream_model.specs.declared.plan.StateKind.{StateKind}
 use Rattle.stream_model.specs.declared.plan.StateKind.TheVariants as K
 use Rattle.stream_model.specs.Stream.{Event, came, is_empty, is_tuple}
-use Rattle.stream_model.specs.Keys.{same_key}
+use Rattle.spl_value.specs.KeyOrder.{same_key}
 use Rattle.stream_model.specs.Operators.{Operator, connections, input_attributes}
 use Rattle.stream_model.specs.React.{react}
 use Rattle.stream_model.specs.Replies.{is_live}

@@ -9,7 +9,7 @@ use Rattle.spl_value.specs.declared.value.Value.{Value}
 use Rattle.language_model.specs.declared.checked.Policy.{Policy}
 use Rattle.language_model.specs.declared.checked.WindowRule.{WindowRule}
 use Rattle.language_model.specs.declared.checked.WindowRule.TheVariants as W
-use Rattle.stream_model.specs.Keys.{key_cmp, same_key}
+use Rattle.spl_value.specs.KeyOrder.{key_cmp, same_key}
 use Rattle.stream_model.specs.Stream.{is_empty}
 use Rattle.stream_model.specs.Windows.{flushes_at_markers, WindowEvent, Insert, Mark, partition_key, window_events, tuples_with, has_come, in_order, is_start, last_start, integer_at, exceeds, content, Firing, Silent, Flushes, Triggers, flush_if, trigger_if, tuple_fires, flushed_behind, contents_of, fired_contents, fired_at}
 

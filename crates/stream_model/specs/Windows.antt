@@ -23,7 +23,7 @@ use Rattle.language_model.specs.declared.checked.Policy.{Policy}
 use Rattle.language_model.specs.declared.checked.WindowRule.{WindowRule}
 use Rattle.language_model.specs.declared.checked.WindowRule.TheVariants as W
 use Rattle.stream_model.specs.Stream.{is_empty}
-use Rattle.stream_model.specs.Keys.{same_key, each_key}
+use Rattle.spl_value.specs.KeyOrder.{same_key, each_key}
 
 -- ---- rules
 

@@ -1,7 +1,6 @@
 //! What a graph of operators means on one thread.
 #![tactic(auto)]
 
-mod fit_laws;
 mod group_laws;
 mod laws;
 mod plan;
@@ -15,7 +14,6 @@ mod reply;
 mod reply_laws;
 mod window_laws;
 
-pub use fit_laws::fits_law;
 pub use group_laws::{groups_law, groups_on_literals};
 pub use laws::{
     chain_is_ordered, ends_on_literals, graph_law, graphs_of_operators, history_law, kinds_law,

@@ -5,7 +5,7 @@ use Rattle.std.specs.Ordering.{is_lt, eq_by_cmp}
 use Rattle.std.specs.FinMap.{find, is_sorted}
 use Rattle.std.specs.FinMap.Entries.{below_all}
 use Rattle.spl_value.specs.declared.value.Value.{Value}
-use Rattle.stream_model.specs.Keys.{key_cmp}
+use Rattle.spl_value.specs.KeyOrder.{key_cmp}
 
 module _ {X Y : Type 0} (f : X → Y) where
   abbrev pub with_value : List Value × X → List Value × Y

@@ -7,13 +7,13 @@ use Rattle.std.specs.Option.{option_map}
 use Rattle.spl_value.specs.declared.value.Value.{Value}
 use Rattle.spl_value.specs.Key.{key_of}
 use Rattle.stream_model.specs.Stream.{is_empty}
-use Rattle.stream_model.specs.Keys.{each_key, key_cmp, same_key}
+use Rattle.spl_value.specs.KeyOrder.{each_key, key_cmp, same_key}
 use Rattle.stream_model.specs.Groups.{groups, of_group}
 use Rattle.stream_model.proofs.Groups.{group_law, member_law}
-use Rattle.stream_model.proofs.Keys.{find-each_key, is_each_key, same_key-equal}
-use Rattle.window_policy.proofs.KeyOrder.{key_turned}
+use Rattle.spl_value.proofs.KeyOrder.{find-each_key, is_each_key, same_key-equal}
+use Rattle.key_maps.proofs.MapKeys.{key_turned}
 use Rattle.tuple_groups.specs.Seen.{entry_of, seen}
-use Rattle.window_policy.specs.MapKeys.{equal_key}
+use Rattle.key_maps.specs.MapKeys.{equal_key}
 use Rattle.tuple_groups.specs.steps.Gathering.{At}
 use Rattle.tuple_groups.proofs.Entries.{find-mapped, sorted-mapped}
 

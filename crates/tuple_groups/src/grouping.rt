@@ -7,9 +7,9 @@ ghost use Rattle.tuple_groups.specs.steps.Gathering.{Gathers};
 
 use crate::keys::key_of;
 use indexmap::IndexMap;
+use key_maps::ascending;
 use spl_value::{Items, NoMemory, Places, Values};
 use std::alloc::Global;
-use window_policy::ascending;
 
 /// A group of one tuple.
 fn first<'a>(alloc: Global, tuple: &'a Values) -> Result<Vec<&'a Values>, NoMemory>

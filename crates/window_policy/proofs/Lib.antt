@@ -1,4 +1,3 @@
-pub mod KeyOrder
 pub mod Deltas
 pub mod Parts
 pub mod Windows

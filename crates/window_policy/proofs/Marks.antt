@@ -7,9 +7,9 @@ use Rattle.spl_value.specs.declared.value.Value.{Value}
 use Rattle.language_model.specs.declared.checked.WindowRule.{WindowRule}
 use Rattle.language_model.specs.declared.checked.WindowRule.TheVariants as W
 use Rattle.stream_model.specs.Stream.{is_empty}
-use Rattle.stream_model.specs.Keys.{key_cmp}
+use Rattle.spl_value.specs.KeyOrder.{key_cmp}
 use Rattle.stream_model.specs.Windows.{WindowEvent, Mark, tuples_with, keys_of, has_come, since_mark, relevant, content, in_order, held, flushed_behind, last_of}
-use Rattle.stream_model.proofs.Keys.{is_each_key}
+use Rattle.spl_value.proofs.KeyOrder.{is_each_key}
 use Rattle.stream_model.proofs.Contents.{come_is}
 use Rattle.window_policy.specs.declared.part.Part.{Part}
 use Rattle.window_policy.specs.steps.Parts.{At, taken}

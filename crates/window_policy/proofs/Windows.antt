@@ -5,14 +5,14 @@ use Rattle.spl_value.specs.declared.value.Value.{Value}
 use Rattle.language_model.specs.declared.checked.WindowRule.{WindowRule}
 use Rattle.language_model.specs.declared.checked.WindowRule.TheVariants as W
 use Rattle.stream_model.specs.Stream.{is_empty}
-use Rattle.stream_model.specs.Keys.{same_key}
+use Rattle.spl_value.specs.KeyOrder.{same_key}
 use Rattle.stream_model.specs.Windows.{WindowEvent, Insert, Mark, tuples_with, relevant, since_mark, has_come, held, content, tuple_fires, fires_behind}
-use Rattle.stream_model.proofs.Keys.{same_key-equal, same_key-itself}
+use Rattle.spl_value.proofs.KeyOrder.{same_key-equal, same_key-itself}
 use Rattle.stream_model.proofs.Contents.{come_is}
-use Rattle.window_policy.specs.MapKeys.{equal_key}
+use Rattle.key_maps.specs.MapKeys.{equal_key}
 use Rattle.window_policy.specs.steps.Parts.{At, Keeps, noted_or}
 use Rattle.window_policy.specs.declared.part.Part.{Part}
-use Rattle.window_policy.proofs.KeyOrder.{key_tie, key_turned}
+use Rattle.key_maps.proofs.MapKeys.{key_tie, key_turned}
 
 -- ---- what counts
 

@@ -1,4 +1,3 @@
 pub mod Answers
 pub mod Standing
 pub mod steps
-pub mod MapKeys

@@ -8,7 +8,7 @@ use Rattle.language_model.specs.declared.checked.WindowRule.{WindowRule}
 use Rattle.stream_model.specs.Windows.{WindowEvent, tuples_with, relevant, has_come, flushes_at_markers}
 use Rattle.window_policy.specs.declared.window.Window.{Window}
 use Rattle.window_policy.specs.Answers.{IsAllowed}
-use Rattle.window_policy.specs.MapKeys.{equal_key}
+use Rattle.key_maps.specs.MapKeys.{equal_key}
 use Rattle.window_policy.specs.steps.Parts.{At, noted_or}
 
 pub record Stands (rule : WindowRule) (w : Window) (h : List WindowEvent) : Type 0 where

@@ -4,7 +4,7 @@ ghost use Rattle.stream_model.specs.Windows.{Insert, held, fires_behind, content
 ghost use Rattle.indexmap.specs.IndexSet.{contains};
 ghost use Rattle.window_policy.specs.Answers.{firing_of, IsAllowed};
 ghost use Rattle.window_policy.specs.Standing.{Stands};
-ghost use Rattle.window_policy.specs.MapKeys.{equal_key};
+ghost use Rattle.key_maps.specs.MapKeys.{equal_key};
 ghost use Rattle.window_policy.specs.steps.Parts.{Keeps, Notes, noted_or};
 
 use crate::content::Content;

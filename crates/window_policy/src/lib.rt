@@ -6,7 +6,6 @@ mod count;
 mod delta;
 mod fired;
 mod insert;
-mod keys;
 mod mark;
 mod part;
 mod ring;
@@ -14,5 +13,4 @@ mod window;
 
 pub use content::Content;
 pub use fired::{Fired, Flushed, FlushedContent};
-pub use keys::ascending;
 pub use window::Window;

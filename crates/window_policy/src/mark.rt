@@ -6,11 +6,11 @@ ghost use Rattle.window_policy.specs.Standing.{Stands};
 ghost use Rattle.window_policy.specs.steps.Parts.{taken};
 
 use crate::fired::{Flushed, FlushedContent};
-use crate::keys::ascending;
 use crate::part::Part;
 use crate::ring::take_all;
 use crate::window::Window;
 use indexmap::IndexMap;
+use key_maps::ascending;
 use language_model::WindowRule;
 use spl_value::{Items, NoMemory, Values};
 use std::alloc::Global;

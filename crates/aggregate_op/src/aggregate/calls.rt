@@ -14,10 +14,10 @@ use crate::aggregate::Aggregate;
 use crate::aggregate::events::on_item;
 use crate::clauses::Clauses;
 use language_model::{Checked, Env, Part};
-use port_reacts::{CheckedOperator, OnPort};
+use port_reacts::{CheckedOperator, OnPort, fits_law};
 use spl_value::{Inputs, Item, Items, NoMemory};
 use std::alloc::Global;
-use stream_model::{Reply, fits_law};
+use stream_model::Reply;
 use window_policy::Window;
 
 impl<'c> OnPort for Aggregate<'c> {

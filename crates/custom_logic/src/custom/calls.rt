@@ -17,11 +17,11 @@ use crate::custom::first::first_values;
 use crate::custom::running::{Handled, handler, run_handler};
 use evaluation_laws::slots_law;
 use language_model::{Checked, Env, Handlers, Part, evaluation_law};
-use port_reacts::{CheckedOperator, OnPort};
+use port_reacts::{CheckedOperator, OnPort, fits_law};
 use spl_tree::{Functions, Marker};
 use spl_value::{Item, Items, NoMemory, Values};
 use std::alloc::Global;
-use stream_model::{Reply, fits_law};
+use stream_model::Reply;
 
 /// The result of a run, as the operator replies it.
 fn replied(alloc: Global, at: &CheckedOperator<'_>, handled: Handled) -> Reply

@@ -16,10 +16,10 @@ use crate::join::Join;
 use crate::join::events::on_item;
 use crate::side::Side;
 use language_model::{Checked, Env, Part, Policy};
-use port_reacts::{CheckedOperator, OnPort};
+use port_reacts::{CheckedOperator, OnPort, fits_law};
 use spl_value::{Item, Items, NoMemory};
 use std::alloc::Global;
-use stream_model::{Reply, fits_law};
+use stream_model::Reply;
 use window_policy::Window;
 
 impl<'c> OnPort for Join<'c> {

@@ -15,10 +15,10 @@ use crate::kind::Kind;
 use crate::operator::Operator;
 use connection_counts::{Closing, Connections};
 use language_model::{Checked, Output, Outs, Part};
-use port_reacts::{OnPort, given_none};
+use port_reacts::{OnPort, fits_law, given_none};
 use spl_value::{Item, NoMemory};
 use std::alloc::Global;
-use stream_model::{React, Reply, fits_law, ports_law};
+use stream_model::{React, Reply, ports_law};
 
 /// Adds a final marker on each of `ports` output ports.
 fn add_ends(outs: &mut Outs, ports: usize) -> Result<(), NoMemory>

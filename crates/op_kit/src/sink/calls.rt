@@ -8,10 +8,10 @@ ghost use Rattle.port_reacts.specs.Bodies.{RepliesToItem};
 
 use crate::sink::Sink;
 use language_model::Checked;
-use port_reacts::{CheckedOperator, OnPort, given_first, given_none};
+use port_reacts::{CheckedOperator, OnPort, fits_law, given_first, given_none};
 use spl_value::Item;
 use std::alloc::Global;
-use stream_model::{Reply, fits_law};
+use stream_model::Reply;
 
 /// What an item causes.
 fn on_item(alloc: Global, at: &CheckedOperator<'_>, item: Item) -> Reply

@@ -6,11 +6,12 @@ ghost use Rattle.stream_model.specs.PathLaws.{fault_by};
 ghost use Rattle.port_reacts.specs.Bodies.{EndsBy};
 
 use crate::checked_operator::CheckedOperator;
+use crate::fit_laws::fits_law;
 use crate::replies::on_each_port;
 use language_model::Checked;
 use spl_value::{Fault, FaultKind, Item};
 use std::alloc::Global;
-use stream_model::{Reply, fits_law};
+use stream_model::Reply;
 
 impl<'c> CheckedOperator<'c> {
     /// The operator of the graph with this number. There is one.

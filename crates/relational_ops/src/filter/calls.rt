@@ -14,11 +14,11 @@ ghost use Rattle.relational_ops.specs.Fitting.{PassesFit, WhereTuple};
 use crate::filter::Filter;
 use crate::judging::{Judged, idle_env, judge};
 use language_model::{Checked, Env, Part};
-use port_reacts::{CheckedOperator, OnPort, given_first, given_none};
+use port_reacts::{CheckedOperator, OnPort, fits_law, given_first, given_none};
 use spl_tree::{Code, Functions, Slot};
 use spl_value::{Item, NoMemory, Values};
 use std::alloc::Global;
-use stream_model::{Reply, fits_law};
+use stream_model::Reply;
 
 /// A tuple passes where the condition holds for it.
 fn on_tuple(

@@ -17,11 +17,11 @@ use crate::functor::making::{Mapped, map_tuple};
 use crate::functor::moves::moves_of;
 use crate::judging::idle_env;
 use language_model::{Checked, Env, Part};
-use port_reacts::{CheckedOperator, OnPort, given_first, given_none};
+use port_reacts::{CheckedOperator, OnPort, fits_law, given_first, given_none};
 use spl_tree::{Code, Functions, Slot};
 use spl_value::{Item, NoMemory, Values};
 use std::alloc::Global;
-use stream_model::{Reply, fits_law};
+use stream_model::Reply;
 
 /// A tuple is made of one where the condition holds for it.
 fn on_tuple(

@@ -17,11 +17,11 @@ ghost use Rattle.relational_ops.specs.Fitting.{WhereTuple};
 use crate::judging::{Judged, idle_env, judge};
 use crate::punctor::Punctor;
 use language_model::{Checked, Env, Output, Outs, Part, Position};
-use port_reacts::{CheckedOperator, OnPort, given_first, given_none};
+use port_reacts::{CheckedOperator, OnPort, fits_law, given_first, given_none};
 use spl_tree::{Code, Functions, Slot};
 use spl_value::{Item, NoMemory, Values};
 use std::alloc::Global;
-use stream_model::{Reply, fits_law};
+use stream_model::Reply;
 
 /// Two items on the first output port.
 fn given_both(alloc: Global, first: Item, second: Item) -> Result<Outs, NoMemory>

@@ -16,11 +16,11 @@ use crate::judging::idle_env;
 use crate::split::Split;
 use crate::split::picking::{Picked, given_picked, integer_of, pick};
 use language_model::{Checked, Env, Part};
-use port_reacts::{CheckedOperator, OnPort, given_none, on_each_port};
+use port_reacts::{CheckedOperator, OnPort, fits_law, given_none, on_each_port};
 use spl_tree::{Code, Functions, Slot};
 use spl_value::{Item, NoMemory, Values};
 use std::alloc::Global;
-use stream_model::{Reply, fits_law};
+use stream_model::Reply;
 
 /// A tuple goes to the port that the index picks.
 fn on_tuple(

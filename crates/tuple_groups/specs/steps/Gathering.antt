@@ -6,7 +6,7 @@ use Rattle.std.specs.HashMap.{HashMap, get}
 use Rattle.spl_value.specs.declared.value.Value.{Value}
 use Rattle.stream_model.specs.Groups.{of_group}
 use Rattle.tuple_groups.specs.Seen.{seen}
-use Rattle.window_policy.specs.MapKeys.{equal_key}
+use Rattle.key_maps.specs.MapKeys.{equal_key}
 
 -- what is gathered of a group: nothing of one without tuples
 abbrev pub At : Option (Vec (Bor (List Value))) → List (List Value) → Type 0

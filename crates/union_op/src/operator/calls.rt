@@ -12,10 +12,10 @@ ghost use Rattle.union_op.specs.Places.{PlacesThere};
 use crate::operator::Union;
 use crate::picking::{are_all, picked};
 use language_model::{Checked, Part};
-use port_reacts::{CheckedOperator, OnPort, given_first, given_none};
+use port_reacts::{CheckedOperator, OnPort, fits_law, given_first, given_none};
 use spl_value::{Item, Items, NoMemory, Places, Values};
 use std::alloc::Global;
-use stream_model::{Reply, fits_law};
+use stream_model::Reply;
 
 /// Gives the values of a tuple at the places of its port.
 fn on_tuple(alloc: Global, places: &Places, values: Values) -> Reply

@@ -7,7 +7,7 @@ use Rattle.language_model.specs.declared.checked.WindowRule.TheVariants as W
 use Rattle.stream_model.specs.Windows.{held}
 use Rattle.window_policy.specs.declared.part.Part.{Part}
 use Rattle.window_policy.specs.steps.Deltas.{Rises}
-use Rattle.window_policy.specs.MapKeys.{equal_key}
+use Rattle.key_maps.specs.MapKeys.{equal_key}
 
 -- how many of n tuples came since a trigger fired
 abbrev pub CountsTo : Option ℕ → ℕ → ℕ → Type 0

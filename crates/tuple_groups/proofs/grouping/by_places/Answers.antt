@@ -2,7 +2,7 @@ use Rattle.std.proofs.Common.{arith, ◌≡◌, take, subst}
 use Rattle.std.specs.HashMap.{get}
 use Rattle.std.proofs.lemmas.List.{take_all}
 use Rattle.tuple_groups.specs.Seen.{seen}
-use Rattle.window_policy.specs.MapKeys.{equal_key}
+use Rattle.key_maps.specs.MapKeys.{equal_key}
 use Rattle.tuple_groups.specs.steps.Gathering.{Gathers}
 use Rattle.tuple_groups.proofs.Gathered.{are_groups}
 use Rattle.tuple_groups.proofs.grouping.by_places.Goals as goal

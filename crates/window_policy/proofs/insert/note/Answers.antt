@@ -1,7 +1,7 @@
 use Rattle.std.proofs.Common.{sym}
 use Rattle.indexmap.specs.IndexSet.{contains}
 use Rattle.stream_model.specs.Windows.{flushes_at_markers}
-use Rattle.window_policy.specs.MapKeys.{equal_key}
+use Rattle.key_maps.specs.MapKeys.{equal_key}
 use Rattle.window_policy.proofs.Windows.{noted_before}
 use Rattle.window_policy.proofs.insert.note.Goals as goal
 

@@ -2,9 +2,9 @@ use Rattle.std.proofs.Common.{rules, ◌≡◌, T, sym, ap, subst, ◌∙◌}
 use Rattle.std.specs.FinMap.{find, is_sorted}
 use Rattle.std.specs.List.Sorted.{IsSorted}
 use Rattle.std.specs.Map.{keys_of}
-use Rattle.stream_model.specs.Keys.{key_cmp}
-use Rattle.window_policy.proofs.KeyOrder.{sorted_entries, derived_key_cmp, find-lookup}
-use Rattle.window_policy.proofs.keys.ascending.Goals as goal
+use Rattle.spl_value.specs.KeyOrder.{key_cmp}
+use Rattle.key_maps.proofs.MapKeys.{sorted_entries, derived_key_cmp, find-lookup}
+use Rattle.key_maps.proofs.entries.ascending.Goals as goal
 
 pub returns-clause-sorted : goal.returns-clause-sorted
 returns-clause-sorted g c =

@@ -1,8 +1,8 @@
 use Rattle.std.proofs.Common.{rules, arith, ◌≡◌, ◌<◌, ◌++◌, ◌∷◌, [], length}
 use Rattle.language_model.specs.Keeping.{Keeps}
 use Rattle.op_kit.specs.contracts.operator.calls.OperatorReact.TheImpl as kit
-use Rattle.graph_run.proofs.Making.{all_made, one_more}
-use Rattle.graph_run.proofs.operators.operators_of.Goals as goal
+use Rattle.op_kit.proofs.Making.{all_made, one_more}
+use Rattle.op_kit.proofs.operators.operators_of.Goals as goal
 
 pub operators-preserved : goal.operators-preserved
 operators-preserved c =

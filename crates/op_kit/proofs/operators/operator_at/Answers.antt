@@ -1,6 +1,6 @@
 use Rattle.std.proofs.Common.{rules, ◌≡◌, Some, slice_get}
-use Rattle.graph_run.proofs.Making.{is_there}
-use Rattle.graph_run.proofs.operators.operator_at.Goals as goal
+use Rattle.op_kit.proofs.Making.{is_there}
+use Rattle.op_kit.proofs.operators.operator_at.Goals as goal
 
 pub new-requires : goal.new-requires
 new-requires c =

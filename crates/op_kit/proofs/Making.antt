@@ -13,7 +13,7 @@ use Rattle.stream_model.specs.Operators.{Operator}
 use Rattle.stream_model.specs.Stream.{Event}
 use Rattle.op_kit.specs.Kinds.{is_held}
 use Rattle.list_engine.specs.Runs.{AreOperators, is_source}
-use Rattle.graph_run.specs.steps.Fresh.{FreshAs, IsFresh}
+use Rattle.op_kit.specs.steps.Fresh.{FreshAs, IsFresh}
 use Rattle.stream_model.proofs.GraphParts.{same_length, operator_at}
 
 -- ---- one operator

@@ -3,10 +3,10 @@ ghost use Rattle.std.specs.Prelude.{◌≡◌, ◌<◌, IfOk, length};
 ghost use Rattle.stream_model.specs.CheckedMeaning.{graph_of};
 ghost use Rattle.stream_model.specs.Meaning.{Graph};
 ghost use Rattle.list_engine.specs.Runs.{AreOperators};
-ghost use Rattle.graph_run.specs.steps.Fresh.{IsFresh};
+ghost use Rattle.op_kit.specs.steps.Fresh.{IsFresh};
 
+use crate::operator::Operator;
 use language_model::{Checked, Part};
-use op_kit::Operator;
 use spl_value::{Items, NoMemory};
 use std::alloc::Global;
 use stream_model::React;

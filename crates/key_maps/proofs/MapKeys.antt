@@ -16,9 +16,9 @@ use Rattle.spl_value.specs.contracts.value.ValueOrd.TheImpl as DerivedOrd
 use Rattle.spl_value.specs.contracts.value.ValueOrd.TheImpl.Laws as DerivedLaws
 use Rattle.spl_value.specs.Order.{value_cmp}
 use Rattle.spl_value.proofs.OrderLaws.{derived_cmp}
-use Rattle.stream_model.specs.Keys.{same_key, key_cmp}
-use Rattle.stream_model.proofs.Keys.{key_total, key_laws}
-use Rattle.window_policy.specs.MapKeys.{equal_key}
+use Rattle.spl_value.specs.KeyOrder.{same_key, key_cmp}
+use Rattle.spl_value.proofs.KeyOrder.{key_total, key_laws}
+use Rattle.key_maps.specs.MapKeys.{equal_key}
 
 value_tie : (v w : Value) → (DerivedEq.ghosts).eq v w ≡ eq_by_cmp value_cmp v w
 value_tie v w = DerivedLaws.matches_eq-law v w ∙ ap is_eq (derived_cmp v w)

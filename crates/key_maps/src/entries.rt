@@ -3,8 +3,8 @@ ghost use Rattle.std.specs.Prelude.{◌≡◌, IfOk, List, T};
 ghost use Rattle.std.specs.FinMap.{find, is_sorted};
 ghost use Rattle.indexmap.specs.IndexMap.{get};
 ghost use Rattle.spl_value.specs.declared.value.Value.{Value as V};
-ghost use Rattle.stream_model.specs.Keys.{key_cmp};
-ghost use Rattle.window_policy.specs.MapKeys.{equal_key};
+ghost use Rattle.spl_value.specs.KeyOrder.{key_cmp};
+ghost use Rattle.key_maps.specs.MapKeys.{equal_key};
 
 use indexmap::IndexMap;
 use spl_value::{NoMemory, Values};

@@ -10,8 +10,7 @@ use Rattle.std.specs.FinMap.Entries.{is_sorted-put, find-put, same_entries}
 use Rattle.std.specs.List.{list_any}
 use Rattle.spl_value.specs.declared.value.Value.{Value}
 use Rattle.spl_value.proofs.OrderLaws.{value_cmp_total, value_cmp-IsAntisymmetric}
-use Rattle.stream_model.specs.Keys.{key_cmp, same_key, each_key}
-use Rattle.stream_model.specs.WindowLaws.{SameKeyLaw}
+use Rattle.spl_value.specs.KeyOrder.{key_cmp, same_key, each_key}
 
 pub key_total : IsTotalOrder key_cmp
 key_total = lists_total value_cmp_total
@@ -33,9 +32,6 @@ same_key-equal k q e = key_only k q (equal_order (key_cmp k q) e)
 
 pub same_key-itself : (k : List Value) → same_key k k ≡ true
 same_key-itself k = ap is_eq (tied_itself key_total k)
-
-pub same_key_law : SameKeyLaw
-same_key_law k q = (same_key-equal k q, λ e. ap (same_key k) (sym e) ∙ same_key-itself k)
 
 -- ---- an entry for each key
 
