@@ -36,7 +36,8 @@ use Rattle.stream_model.specs.Operators.{Operator}
 use Rattle.stream_model.specs.Customs.{changed, custom_body, first_value, item_leaves, left_by, marker_env, state, tuple_env, value_or, vars_after}
 use Rattle.stream_model.specs.React.{makes_by}
 use Rattle.stream_model.specs.Replies.{AllFit, ItemHas, given_attributes}
-use Rattle.stream_model.specs.Fitting.{FitsAt, HasPort, HistoryFits, IsFitting, MakesFit, is_custom}
+use Rattle.stream_model.specs.Fitting.{FitsAt, HasPort, HistoryFits, IsFitting, MakesFit}
+use Rattle.stream_model.specs.Laws.{is_custom}
 use Rattle.stream_model.proofs.SimpleFits.{as_makes}
 
 -- ---- the handlers

@@ -30,7 +30,8 @@ use Rattle.stream_model.specs.Aggregates.{arguments, done_or_none, fired_give, m
 use Rattle.stream_model.specs.React.{answer, makes_by}
 use Rattle.stream_model.specs.Replies.{ItemHas, AllFit, given_attributes}
 use Rattle.stream_model.specs.Windows.{fired_at, partition_key}
-use Rattle.stream_model.specs.Fitting.{IsFitting, HistoryFits, HasPort, NoneFaulted, MakesFit, FitsAt, is_aggregate, is_given}
+use Rattle.stream_model.specs.Fitting.{IsFitting, HistoryFits, HasPort, NoneFaulted, MakesFit, FitsAt, is_given}
+use Rattle.stream_model.proofs.PartKinds.{is_aggregate}
 use Rattle.stream_model.proofs.FittingCodes.{TuplesHave, tuples_env}
 use Rattle.stream_model.proofs.ContentMembers.{all_append, all_if, all_fired, ItemIs}
 use Rattle.stream_model.proofs.GroupTuples.{ArgumentsThere, arguments_there, IsGood, OutputFits, passed_fits, contents_there}

@@ -12,7 +12,9 @@ use Rattle.stream_model.specs.PortEvents.{is_last, is_waiting, port_events}
 use Rattle.stream_model.specs.Bodies.{Makes, on_each, output}
 use Rattle.stream_model.specs.React.{Answer, Gives, Faults, answer, answered, body, ended, ended_by, makes_by, own_fault}
 use Rattle.stream_model.specs.Replies.{AllFit, is_live}
-use Rattle.stream_model.specs.Fitting.{EventFits, EventsFit, FitsAt, HasPort, HistoryFits, IsFitting, MakesFit, NoneFaulted, ReactsFit, is_aggregate, is_custom, is_given, is_join, is_simple}
+use Rattle.stream_model.specs.Fitting.{EventFits, EventsFit, FitsAt, HasPort, HistoryFits, IsFitting, MakesFit, NoneFaulted, ReactsFit, is_given}
+use Rattle.stream_model.specs.Laws.{is_custom}
+use Rattle.stream_model.proofs.PartKinds.{is_aggregate, is_join, is_simple}
 use Rattle.stream_model.proofs.SimpleFits.{both_fit, none_fit, one_fits}
 use Rattle.stream_model.proofs.ByPorts.{input_port}
 use Rattle.spl_value.proofs.Bools.{and_parts}

@@ -33,7 +33,8 @@ use Rattle.stream_model.specs.Joins.{at_pair, join_body, pairs_give, side_conten
 use Rattle.stream_model.specs.React.{makes_by}
 use Rattle.stream_model.specs.Windows.{partition_key, window_events}
 use Rattle.stream_model.specs.Replies.{AllFit, ItemHas, given_attributes}
-use Rattle.stream_model.specs.Fitting.{FitsAt, HasPort, HistoryFits, MakesFit, is_join}
+use Rattle.stream_model.specs.Fitting.{FitsAt, HasPort, HistoryFits, MakesFit}
+use Rattle.stream_model.proofs.PartKinds.{is_join}
 use Rattle.stream_model.proofs.FittingCodes.{TuplesHave}
 use Rattle.stream_model.proofs.SimpleFits.{as_makes, both_fit, made_fits, none_fit, with_clauses}
 use Rattle.stream_model.proofs.ContentMembers.{ItemIs, all_content, inserted_of}

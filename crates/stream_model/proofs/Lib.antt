@@ -24,6 +24,7 @@ pub mod Replying
 pub mod Stateless
 pub mod Keyed
 pub mod FittingCodes
+pub mod PartKinds
 pub mod SimpleFits
 pub mod ContentMembers
 pub mod JoinFits

@@ -44,7 +44,8 @@ use Rattle.stream_model.specs.Bodies.{Makes, at_tuple, made_where, most_turns, f
 use Rattle.stream_model.specs.React.{makes_by}
 use Rattle.stream_model.specs.Windows.{integer_of}
 use Rattle.stream_model.specs.Replies.{AllFit, ItemHas, given_attributes}
-use Rattle.stream_model.specs.Fitting.{FitsAt, MakesFit, is_simple}
+use Rattle.stream_model.specs.Fitting.{FitsAt, MakesFit}
+use Rattle.stream_model.proofs.PartKinds.{is_simple}
 use Rattle.stream_model.proofs.FittingCodes.{TuplesHave, passes_fits, truth_fits, tuples_env, value_fits}
 use Rattle.stream_model.proofs.FittingCodes as codes
 use Rattle.spl_value.proofs.Lists.{get_below}

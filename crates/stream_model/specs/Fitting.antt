@@ -4,7 +4,6 @@ use Rattle.std.specs.Prelude.{◌≡◌, ◌<◌, ⊤, ℕ, Bool, true, false, I
 use Rattle.spl_value.specs.declared.item.Item.{Item}
 use Rattle.spl_tree.specs.declared.graph.OpKind.{OpKind}
 use Rattle.language_model.specs.declared.checked.Part.{Part}
-use Rattle.language_model.specs.declared.checked.Part.TheVariants as A
 use Rattle.language_model.specs.declared.scope.Scope.{Scope}
 use Rattle.language_model.specs.declared.scope.Signature.{Signature}
 use Rattle.language_model.specs.CheckedGraph.{CheckedGraph}
@@ -59,25 +58,6 @@ MakesFit op Stuck = ⊥
 abbrev pub FitsAt : (Part → Bool) → Type 0
 FitsAt is_kind = (op : Operator) (h : List Event) (port : ℕ) (x : Item) → is_kind op.clauses ≡ true → IsFitting op → HistoryFits op h → NoneFaulted op h → HasPort op port x
     → MakesFit op (makes_by op.clauses op h port x)
-
-abbrev pub is_custom : Part → Bool
-is_custom (A.Custom handlers) = true
-is_custom _ = false
-
-abbrev pub is_aggregate : Part → Bool
-is_aggregate (A.Aggregate window partition group output) = true
-is_aggregate _ = false
-
-abbrev pub is_join : Part → Bool
-is_join (A.Join left right condition output) = true
-is_join _ = false
-
--- those that look at the item alone
-abbrev pub is_simple : Part → Bool
-is_simple (A.Custom handlers) = false
-is_simple (A.Aggregate window partition group output) = false
-is_simple (A.Join left right condition output) = false
-is_simple _ = true
 
 -- ---- events
 
