@@ -17,10 +17,10 @@ use Rattle.spl_value.proofs.Lists.{get_within}
 use Rattle.spl_tree.specs.declared.code.Code.{Code}
 use Rattle.spl_tree.specs.declared.code.Slot.{Slot}
 use Rattle.spl_tree.specs.declared.graph.OpKind.{OpKind}
-use Rattle.language_model.specs.declared.checked.Collected.{Collected}
+use Rattle.language_model.specs.declared.checked.CollectedAttribute.{CollectedAttribute}
 use Rattle.language_model.specs.declared.checked.Collector.{Collector}
-use Rattle.language_model.specs.declared.checked.Part.{Part}
-use Rattle.language_model.specs.declared.checked.Part.TheVariants as A
+use Rattle.language_model.specs.declared.checked.CheckedClauses.{CheckedClauses}
+use Rattle.language_model.specs.declared.checked.CheckedClauses.TheVariants as A
 use Rattle.language_model.specs.declared.checked.Policy.{Policy}
 use Rattle.language_model.specs.declared.checked.WindowRule.{WindowRule}
 use Rattle.language_model.specs.declared.env.Env.{Env}
@@ -67,7 +67,7 @@ use Rattle.stream_model.proofs.AggregateFits.{only_input, one_tuple}
 -- ---- clauses
 
 -- the clauses of an Aggregate, with the attributes of its ports
-pub record Shape (scope : Scope) (ins : List Attributes) (window : Policy) (partition group : List ℕ) (output : List Collected) : Type 0 where
+pub record Shape (scope : Scope) (ins : List Attributes) (window : Policy) (partition group : List ℕ) (output : List CollectedAttribute) : Type 0 where
   pub input : Attributes
   pub schema : Attributes
   pub takes : ins ≡ input ∷ []
@@ -75,7 +75,7 @@ pub record Shape (scope : Scope) (ins : List Attributes) (window : Policy) (part
   pub group_fits : KeysFit input group
   pub groups : GroupsFit scope schema output
 
-pub shape_of : (scope : Scope) (kind : OpKind) (ins outs : List Attributes) (part : Part) (window : Policy) (partition group : List ℕ) (output : List Collected)
+pub shape_of : (scope : Scope) (kind : OpKind) (ins outs : List Attributes) (part : CheckedClauses) (window : Policy) (partition group : List ℕ) (output : List CollectedAttribute)
     → part ≡ A.Aggregate window partition group output → PartFits scope kind ins outs part → Shape scope ins window partition group output
 shape_of scope _ _ _ _ window partition group output is (K.aggregate w p g own input schema a b d e f) =
     let same_window : w ≡ window = cc in
@@ -154,7 +154,7 @@ code_of scope _ _ _ (K.first code t f) = (t, f)
 code_of scope _ _ _ (K.last code t f) = (t, f)
 code_of scope _ _ _ K.count = tt
 
-module _ (op : Operator) (fit : IsFitting op) (window : Policy) (partition group : List ℕ) (output : List Collected) (is : op.clauses ≡ A.Aggregate window partition group output) where
+module _ (op : Operator) (fit : IsFitting op) (window : Policy) (partition group : List ℕ) (output : List CollectedAttribute) (is : op.clauses ≡ A.Aggregate window partition group output) where
   abbrev pub shape : Shape fit.scope op.types.ins window partition group output
   shape = shape_of fit.scope fit.kind op.types.ins op.types.outs op.clauses window partition group output is fit.clauses
 

@@ -4,7 +4,7 @@ use Rattle.spl_value.specs.declared.item.FaultKind.{FaultKind}
 use Rattle.spl_value.specs.declared.value.Value.{Value}
 use Rattle.spl_value.proofs.Lists.{drop_at}
 use Rattle.spl_tree.specs.declared.body.Function.{Function}
-use Rattle.language_model.specs.declared.checked.Collected.{Collected}
+use Rattle.language_model.specs.declared.checked.CollectedAttribute.{CollectedAttribute}
 use Rattle.language_model.specs.declared.env.Env.{Env}
 use Rattle.language_model.specs.Outcomes.{Outcome, Done, Faulted, Stuck, followed}
 use Rattle.stream_model.specs.Aggregates.{argument, arguments}
@@ -21,7 +21,7 @@ nothing_yet (Done more turns) = refl
 nothing_yet (Faulted kind) = refl
 nothing_yet Stuck = refl
 
-module _ (functions : List Function) (output : List Collected) (env : Env) (i : ℕ) (x : Collected) (within : i < length output) (is : x ≡ get_or output i x) where
+module _ (functions : List Function) (output : List CollectedAttribute) (env : Env) (i : ℕ) (x : CollectedAttribute) (within : i < length output) (is : x ≡ get_or output i x) where
   abbrev rest : ℕ → ℕ → Outcome (List (Option Value))
   rest n turns = arguments functions (drop n output) env turns
 

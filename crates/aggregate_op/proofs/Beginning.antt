@@ -1,7 +1,7 @@
 -- An Aggregate before anything came.
 use Rattle.std.proofs.Common.{◌≡◌, [], length, sym, subst}
 use Rattle.std.specs.Prelude.{IfOk, Result, Ok, Err}
-use Rattle.language_model.specs.declared.checked.Part.TheVariants as A
+use Rattle.language_model.specs.declared.checked.CheckedClauses.TheVariants as A
 use Rattle.stream_model.specs.Operators.{input_attributes}
 use Rattle.window_policy.specs.Standing.{Stands}
 use Rattle.aggregate_op.specs.declared.aggregate.Aggregate.{Aggregate}

@@ -3,7 +3,7 @@ use Rattle.std.proofs.Common.{◌≡◌, ◌||◌, ◌++◌, ◌∷◌, ℕ, tru
 use Rattle.std.specs.List.{list_any}
 use Rattle.spl_value.specs.declared.value.Value.{Value}
 use Rattle.spl_tree.specs.declared.body.Function.{Function}
-use Rattle.language_model.specs.declared.checked.Collected.{Collected}
+use Rattle.language_model.specs.declared.checked.CollectedAttribute.{CollectedAttribute}
 use Rattle.language_model.specs.Outcomes.{Done}
 use Rattle.stream_model.specs.Aggregates.{arguments, done_or_none}
 use Rattle.stream_model.specs.Bodies.{at_tuple, most_turns}
@@ -18,6 +18,6 @@ come_now again key t h is =
     subst (λ k. has_come k (Insert key t ∷ h) ≡ true) (sym is) (ap (λ b. b || list_any (same_key key) (keys_of h)) (same_key-itself key))
 
 -- the tuple with its values is the extended one
-pub extended_is : (functions : List Function) (output : List Collected) (t us : List Value) (args : List (Option Value)) (turns : ℕ)
+pub extended_is : (functions : List Function) (output : List CollectedAttribute) (t us : List Value) (args : List (Option Value)) (turns : ℕ)
     → arguments functions output (at_tuple t) most_turns ≡ Done args turns → us ≡ t ++ map blank args → us ≡ extended functions output t
 extended_is functions output t us args turns e is = is ∙ ap (λ xs. t ++ map blank xs) (sym (ap done_or_none e))

@@ -11,7 +11,7 @@ use Rattle.spl_value.specs.Key.{key_of}
 use Rattle.spl_tree.specs.declared.body.Function.{Function}
 use Rattle.spl_tree.specs.declared.code.Code.{Code}
 use Rattle.spl_tree.specs.declared.code.Slot.{Slot}
-use Rattle.language_model.specs.declared.checked.Collected.{Collected}
+use Rattle.language_model.specs.declared.checked.CollectedAttribute.{CollectedAttribute}
 use Rattle.language_model.specs.declared.checked.Collector.{Collector}
 use Rattle.language_model.specs.declared.checked.Collector.TheVariants as C
 use Rattle.language_model.specs.declared.outs.Output.{Output}
@@ -59,7 +59,7 @@ at_behind (v ∷ t) more k =
     let same : suc (length t) + k ≡ suc (length t + k) = omega arith in
     ap (slice_get (v ∷ t ++ more)) same ∙ at_behind t more k
 
-module _ (functions : List Function) (scope : Scope) (schema : Attributes) (output : List Collected) (fit : GroupsFit scope schema output) (width : ℕ) where
+module _ (functions : List Function) (scope : Scope) (schema : Attributes) (output : List CollectedAttribute) (fit : GroupsFit scope schema output) (width : ℕ) where
   -- a tuple of the input, whose arguments were values
   pub record IsRight (t : List Value) : Type 0 where
     pub long : length t ≡ width
@@ -70,7 +70,7 @@ module _ (functions : List Function) (scope : Scope) (schema : Attributes) (outp
 
   -- ---- values
 
-  value_there : (t : List Value) → IsRight t → (k : ℕ) (x : Collected) → slice_get output k ≡ Some x → IsArgument x.argument
+  value_there : (t : List Value) → IsRight t → (k : ℕ) (x : CollectedAttribute) → slice_get output k ≡ Some x → IsArgument x.argument
       → option_and_then (λ a. a) (slice_get (arguments_of functions output t) k) ≡ slice_get (f t) (width + k)
   value_there t right k x at is =
       by x.argument (right.values k x (fit.fit k x at).0 at (fit.fit k x at).1) is
@@ -82,15 +82,15 @@ module _ (functions : List Function) (scope : Scope) (schema : Attributes) (outp
           has.1 ∙ sym (blank_at (arguments_of functions output t) k has.0 has.1) ∙ sym (at_behind t (map blank (arguments_of functions output t)) k)
           ∙ ap (λ n. slice_get (f t) (n + k)) right.long
 
-  values_are : (ts : List (List Value)) → AllTuples IsRight ts → (k : ℕ) (x : Collected) → slice_get output k ≡ Some x → IsArgument x.argument
+  values_are : (ts : List (List Value)) → AllTuples IsRight ts → (k : ℕ) (x : CollectedAttribute) → slice_get output k ≡ Some x → IsArgument x.argument
       → values_of functions output k ts ≡ column (width + k) (map f ts)
   values_are [] all k x at is = refl
   values_are (t ∷ ts) all k x at is = λ i. cons_option (value_there t all.0 k x at is i) (values_are ts all.1 k x at is i)
 
   -- ---- the tuple of a group
 
-  attributes_are : (ts : List (List Value)) → AllTuples IsRight ts → (k p : ℕ) (xs : List Collected) → p ≡ width + k
-      → ((j m : ℕ) (x : Collected) → m ≡ k + j → slice_get xs j ≡ Some x → slice_get output m ≡ Some x)
+  attributes_are : (ts : List (List Value)) → AllTuples IsRight ts → (k p : ℕ) (xs : List CollectedAttribute) → p ≡ width + k
+      → ((j m : ℕ) (x : CollectedAttribute) → m ≡ k + j → slice_get xs j ≡ Some x → slice_get output m ≡ Some x)
       → attributes_from functions output ts k xs ≡ fields_at p xs (map f ts)
   attributes_are ts all k p [] e at = refl
   attributes_are ts all k p (x ∷ xs) e at =

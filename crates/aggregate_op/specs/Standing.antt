@@ -1,7 +1,7 @@
 -- The histories by ports that an Aggregate stands for: its window stands for what came on its port, where each tuple has the values of its
 -- arguments after it.
 use Rattle.std.specs.Prelude.{◌≡◌, true, List, length}
-use Rattle.language_model.specs.declared.checked.Part.TheVariants as A
+use Rattle.language_model.specs.declared.checked.CheckedClauses.TheVariants as A
 use Rattle.language_model.specs.declared.env.Env.{Env}
 use Rattle.stream_model.specs.CheckedMeaning.{operator_with}
 use Rattle.stream_model.specs.Operators.{Operator, input_attributes}

@@ -8,7 +8,7 @@ ghost use Rattle.aggregate_op.specs.Arguments.{ArgumentFits, ArgumentsFit, blank
 ghost use Rattle.aggregate_op.specs.steps.Evaluating.{EvaluatesTo, ExtendsAs};
 
 use expr_eval::eval;
-use language_model::{Collected, Env};
+use language_model::{CollectedAttribute, Env};
 use port_reacts::MOST_TURNS;
 use spl_tree::{Code, Functions, Slot};
 use spl_value::{Evaluated, Items, Value, Values};
@@ -51,7 +51,7 @@ fn or_blank(value: Option<Value>) -> Value
 fn arguments(
     alloc: Global,
     functions: &Functions,
-    output: &[Collected],
+    output: &[CollectedAttribute],
     env: &Env,
 ) -> Result<Values, Stop>
     requires { ArgumentsFit functions.now output.now env.now }
@@ -70,7 +70,7 @@ fn arguments(
 pub(crate) fn extended(
     alloc: Global,
     functions: &Functions,
-    output: &Items<Collected>,
+    output: &Items<CollectedAttribute>,
     env: &mut Env,
     tuple: Values,
 ) -> Result<Values, Stop>

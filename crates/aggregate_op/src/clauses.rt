@@ -1,7 +1,7 @@
 //! The clauses of an Aggregate.
 ghost use Rattle.std.specs.Prelude.{◌≡◌, ◌<◌, ◌^◌};
 
-use language_model::{Collected, Policy};
+use language_model::{CollectedAttribute, Policy};
 use port_reacts::CheckedOperator;
 use spl_tree::Functions;
 use spl_value::{Items, Places};
@@ -13,7 +13,7 @@ pub(crate) struct Clauses<'c> {
     pub window: &'c Policy,
     pub partition: &'c Places,
     pub group: &'c Places,
-    pub output: &'c Items<Collected>,
+    pub output: &'c Items<CollectedAttribute>,
     /// How many attributes a tuple of the input port has. The values of the arguments stand after them.
     pub width: usize,
     pub ghost small: { width < 2 ^ 63 },

@@ -6,7 +6,7 @@ use Rattle.std.proofs.lemmas.Grind.{flat_map-append}
 use Rattle.std.proofs.lemmas.List.{append_cancel_left, map-append}
 use Rattle.spl_value.proofs.Lists.{at_most_sum, next_rest, all_more, count_concat}
 use Rattle.spl_tree.specs.declared.graph.Op.{Op}
-use Rattle.language_model.specs.declared.checked.Part.{Part}
+use Rattle.language_model.specs.declared.checked.CheckedClauses.{CheckedClauses}
 use Rattle.language_model.specs.CheckedGraph.{CheckedGraph}
 use Rattle.language_model.specs.Keeping.{Keeps}
 use Rattle.stream_model.specs.declared.record.ArrivalList.{ArrivalList}
@@ -21,7 +21,7 @@ use Rattle.arrival_format.proofs.InputTexts.{same_line_end}
 
 -- ---- the operators with several connections
 
-pub several_are : (c : CheckedGraph) (n : ℕ) (ops : List Op) (parts : List Part) → length parts ≡ length ops → filter_map if_several (operators_from c n ops parts) ≡ several_from n ops
+pub several_are : (c : CheckedGraph) (n : ℕ) (ops : List Op) (parts : List CheckedClauses) → length parts ≡ length ops → filter_map if_several (operators_from c n ops parts) ≡ several_from n ops
 several_are c n [] parts l = refl
 several_are c n (op ∷ ops) [] l = absurd (omega (arith, l))
 several_are c n (op ∷ ops) (part ∷ parts) l =
@@ -48,7 +48,7 @@ count_small c keeps n = go (slice_get (graph_of c).ops n) refl
         let few = few_connections c keeps n is.op is.there in
         omega (arith, count, few)
 
-operator_there : (c : CheckedGraph) (from n : ℕ) (ops : List Op) (parts : List Part) (op : Op) → length parts ≡ length ops → slice_get ops n ≡ Some op
+operator_there : (c : CheckedGraph) (from n : ℕ) (ops : List Op) (parts : List CheckedClauses) (op : Op) → length parts ≡ length ops → slice_get ops n ≡ Some op
     → count_in (slice_get (operators_from c from ops parts) n) ≡ length (concat op.ins)
 operator_there c from n [] parts op l there = absurd cc
 operator_there c from n (o ∷ ops) [] op l there = absurd (omega (arith, l))

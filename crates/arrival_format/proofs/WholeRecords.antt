@@ -5,7 +5,7 @@ use Rattle.std.proofs.Common.{◌≡◌, ◌∙◌, ◌+◌, ◌<◌, ◌==◌, 
 use Rattle.std.proofs.lemmas.Bool.{eq-eqb, ne_eqb}
 use Rattle.std.proofs.lemmas.List.{length-map}
 use Rattle.spl_tree.specs.declared.graph.Op.{Op}
-use Rattle.language_model.specs.declared.checked.Part.{Part}
+use Rattle.language_model.specs.declared.checked.CheckedClauses.{CheckedClauses}
 use Rattle.language_model.specs.CheckedGraph.{CheckedGraph}
 use Rattle.stream_model.specs.declared.record.ArrivalList.{ArrivalList}
 use Rattle.stream_model.specs.Arrivals.{entries_in, has_several}
@@ -99,8 +99,8 @@ inputs_from counts from (o ∷ os) lists count ops whole =
 
 -- ---- the record of a graph
 
-operator_is : (c : CheckedGraph) (from n : ℕ) (ops : List Op) (parts : List Part) (op : Op) → length parts ≡ length ops → slice_get ops n ≡ Some op
-    → (part : Part) × (slice_get (operators_from c from ops parts) n ≡ Some (operator_with c (from + n) op part))
+operator_is : (c : CheckedGraph) (from n : ℕ) (ops : List Op) (parts : List CheckedClauses) (op : Op) → length parts ≡ length ops → slice_get ops n ≡ Some op
+    → (part : CheckedClauses) × (slice_get (operators_from c from ops parts) n ≡ Some (operator_with c (from + n) op part))
 operator_is c from n [] parts op l there = absurd cc
 operator_is c from n (o ∷ ops) [] op l there = absurd (omega (arith, l))
 operator_is c from zero (o ∷ ops) (part ∷ parts) op l there =

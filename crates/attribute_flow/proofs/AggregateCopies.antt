@@ -12,7 +12,7 @@ use Rattle.spl_value.specs.declared.value.Value.{Value}
 use Rattle.spl_tree.specs.declared.body.Function.{Function}
 use Rattle.spl_tree.specs.declared.code.Code.{Code}
 use Rattle.spl_tree.specs.declared.code.Slot.{Slot}
-use Rattle.language_model.specs.declared.checked.Collected.{Collected}
+use Rattle.language_model.specs.declared.checked.CollectedAttribute.{CollectedAttribute}
 use Rattle.language_model.specs.declared.checked.Collector.{Collector}
 use Rattle.language_model.specs.declared.checked.Collector.TheVariants as K
 use Rattle.language_model.specs.declared.checked.Policy.{Policy}
@@ -142,7 +142,7 @@ module _ (functions : List Function) (t : List Value) (b : ℕ) where
       let same : is.0 ≡ v = some_same is.0 v (done_same (Some is.0) (Some v) is.1 left is.3) in
       alone_value (calls_of functions turns) (at_tuple t) t refl b code turns is.1 is.0 alone is.2 ∙ ap Some same
 
-  arguments_value : (xs : List Collected) (k : ℕ) (x : Collected) (turns left : ℕ) (values : List (Option Value)) (v : Value) → slice_get xs k ≡ Some x
+  arguments_value : (xs : List CollectedAttribute) (k : ℕ) (x : CollectedAttribute) (turns left : ℕ) (values : List (Option Value)) (v : Value) → slice_get xs k ≡ Some x
       → option_and_then attribute_alone x.argument ≡ Some b → arguments functions xs (at_tuple t) turns ≡ Done values left → slice_get values k ≡ Some (Some v)
       → slice_get t b ≡ Some v
   arguments_value [] k x turns left values v at alone e there = absurd cc
@@ -152,7 +152,7 @@ module _ (functions : List Function) (t : List Value) (b : ℕ) where
       let are : first.0 ∷ rest.0 ≡ values = done_same (first.0 ∷ rest.0) values rest.1 left rest.3 in
       let same : y ≡ x = some_same y x at in
       let own : first.0 ≡ Some v = some_same first.0 (Some v) (ap (λ (vs : List (Option Value)). slice_get vs 0) are ∙ there) in
-      argument_value y.argument turns first.1 v (ap (λ (z : Collected). option_and_then attribute_alone z.argument) same ∙ alone)
+      argument_value y.argument turns first.1 v (ap (λ (z : CollectedAttribute). option_and_then attribute_alone z.argument) same ∙ alone)
       (first.2 ∙ ap (λ a. Done a first.1) own)
   arguments_value (y ∷ xs) (suc k) x turns left values v at alone e there =
       let first = done_followed (argument functions y.argument (at_tuple t) turns) _ values left e in
@@ -160,7 +160,7 @@ module _ (functions : List Function) (t : List Value) (b : ℕ) where
       let are : first.0 ∷ rest.0 ≡ values = done_same (first.0 ∷ rest.0) values rest.1 left rest.3 in
       arguments_value xs k x first.1 rest.1 rest.0 v at alone rest.2 (ap (λ (vs : List (Option Value)). slice_get vs (suc k)) are ∙ there)
 
-  kept_value : (output : List Collected) (k : ℕ) (x : Collected) (v : Value) → slice_get output k ≡ Some x → option_and_then attribute_alone x.argument ≡ Some b
+  kept_value : (output : List CollectedAttribute) (k : ℕ) (x : CollectedAttribute) (v : Value) → slice_get output k ≡ Some x → option_and_then attribute_alone x.argument ≡ Some b
       → option_and_then (λ a. a) (slice_get (arguments_of functions output t) k) ≡ Some v → slice_get t b ≡ Some v
   kept_value output k x v at alone e = by_case (arguments functions output (at_tuple t) most_turns) refl where
     there : slice_get (arguments_of functions output t) k ≡ Some (Some v)
@@ -201,7 +201,7 @@ picked P collector n vs v p all e = absurd cc
 -- ---- one Aggregate
 
 -- the assignment of an attribute, with its place
-record Assigns (output : List Collected) (a b : ℕ) (partition : List ℕ) (k : ℕ) (x : Collected) : Type 0 where
+record Assigns (output : List CollectedAttribute) (a b : ℕ) (partition : List ℕ) (k : ℕ) (x : CollectedAttribute) : Type 0 where
   at : slice_get output k ≡ Some x
   picks_one : picks x.collector ≡ true
   alone : option_and_then attribute_alone x.argument ≡ Some b
@@ -218,7 +218,7 @@ kept_parts true (Some c) partition b e = by_case (list_any (λ p. p == c) partit
   by_case true is e = (refl, e, ap (λ c. list_any (λ p. p == c) partition) (sym (some_same c b e)) ∙ is)
   by_case false is e = absurd cc
 
-module _ (functions : List Function) (output : List Collected) (partition : List ℕ) (a b : ℕ) (vs : List Value) where
+module _ (functions : List Function) (output : List CollectedAttribute) (partition : List ℕ) (a b : ℕ) (vs : List Value) where
   -- a tuple with the same value
   abbrev Same : List Value → Type 0
   Same t = slice_get t b ≡ slice_get vs b
@@ -227,7 +227,7 @@ module _ (functions : List Function) (output : List Collected) (partition : List
   IsValue v = slice_get vs b ≡ Some v
 
   -- of a group of such tuples, the assignment gives that value
-  given_by : (ts : List (List Value)) → AllTuples Same ts → (k : ℕ) (x : Collected) → slice_get output k ≡ Some x → picks x.collector ≡ true
+  given_by : (ts : List (List Value)) → AllTuples Same ts → (k : ℕ) (x : CollectedAttribute) → slice_get output k ≡ Some x → picks x.collector ≡ true
       → option_and_then attribute_alone x.argument ≡ Some b → (v : Value) → collected x.collector (length ts) (values_of functions output k ts) ≡ Some v → IsValue v
   given_by ts all k x at p alone v e =
       picked IsValue x.collector (length ts) (values_of functions output k ts) v p
@@ -241,8 +241,8 @@ module _ (functions : List Function) (output : List Collected) (partition : List
   pair_parts (Some v) (Some rest) n fs e = (v, rest, refl, refl, some_same ((n, v) ∷ rest) fs e)
 
   -- so does the field of its attribute
-  field_given : (ts : List (List Value)) → AllTuples Same ts → (k : ℕ) (xs : List Collected)
-      → ((j m : ℕ) (x : Collected) → m ≡ k + j → slice_get xs j ≡ Some x → slice_get output m ≡ Some x) → aggregate_source partition xs a ≡ Some b
+  field_given : (ts : List (List Value)) → AllTuples Same ts → (k : ℕ) (xs : List CollectedAttribute)
+      → ((j m : ℕ) (x : CollectedAttribute) → m ≡ k + j → slice_get xs j ≡ Some x → slice_get output m ≡ Some x) → aggregate_source partition xs a ≡ Some b
       → (fs : List (ℕ × Value)) → attributes_from functions output ts k xs ≡ Some fs → (v : Value) × (field_at a fs ≡ Some v) × IsValue v
   field_given ts all k [] at source fs e = absurd cc
   field_given ts all k (x ∷ xs) at source fs e =
@@ -313,13 +313,13 @@ module _ (functions : List Function) (output : List Collected) (partition : List
     needed (Some outs) turns all = all
 
 -- what an Aggregate whose window is partitioned and isn't flushed by markers makes of a tuple copies the attributes that its assignments keep
-module _ (functions : List Function) (window : Policy) (partition group : List ℕ) (output : List Collected) (partitioned : window.partitioned ≡ true)
+module _ (functions : List Function) (window : Policy) (partition group : List ℕ) (output : List CollectedAttribute) (partitioned : window.partitioned ≡ true)
     (passing : flushes_at_markers window.rule ≡ false) (a b : ℕ) (source : aggregate_source partition output a ≡ Some b) where
   key_is : (t : List Value) → partition_key window partition t ≡ key_of t partition
   key_is t = ap (λ (x : Bool). if x then key_of t partition else []) partitioned
 
   -- the attribute is one of the partition
-  keyed : (xs : List Collected) → aggregate_source partition xs a ≡ Some b → list_any (λ p. p == b) partition ≡ true
+  keyed : (xs : List CollectedAttribute) → aggregate_source partition xs a ≡ Some b → list_any (λ p. p == b) partition ≡ true
   keyed [] source = absurd cc
   keyed (x ∷ xs) source = by_case (keyed xs) (x.attribute == a) source where
     by_case : (aggregate_source partition xs a ≡ Some b → list_any (λ p. p == b) partition ≡ true) → (y : Bool)

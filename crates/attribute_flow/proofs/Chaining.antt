@@ -5,7 +5,7 @@ use Rattle.std.proofs.Common.{refl, sym, ap, ◌∙◌, arith, get_or}
 use Rattle.std.proofs.Math.Seq.{take-suc}
 use Rattle.std.proofs.lemmas.Option.{slice_get-get_or, slice_get_within}
 use Rattle.spl_value.proofs.Lists.{get_below}
-use Rattle.language_model.specs.declared.checked.Part.{Part}
+use Rattle.language_model.specs.declared.checked.CheckedClauses.{CheckedClauses}
 use Rattle.language_model.specs.CheckedGraph.{CheckedGraph}
 use Rattle.stream_model.specs.CheckedMeaning.{graph_of}
 use Rattle.stream_model.specs.Copies.{source_of, trace}
@@ -44,7 +44,7 @@ pub and_then_twice : (first second : ℕ → Option ℕ) (found : Option ℕ) �
 and_then_twice first second None = refl
 and_then_twice first second (Some b) = refl
 
-pub trace_last : (parts : List Part) (part : Part) (a : ℕ) → trace (parts ++ part ∷ []) a ≡ option_and_then (trace parts) (source_of part a)
+pub trace_last : (parts : List CheckedClauses) (part : CheckedClauses) (a : ℕ) → trace (parts ++ part ∷ []) a ≡ option_and_then (trace parts) (source_of part a)
 trace_last [] part a = found_only (source_of part a)
 trace_last (first ∷ parts) part a =
     ap (option_and_then (source_of first)) (trace_last parts part a) ∙ and_then_twice (source_of first) (trace parts) (source_of part a)

@@ -10,8 +10,8 @@ use Rattle.spl_value.specs.declared.value.Value.TheViews.{out-Value}
 use Rattle.spl_tree.specs.declared.body.Function.{Function}
 use Rattle.spl_tree.specs.declared.code.Code.{Code}
 use Rattle.spl_tree.specs.declared.code.Slot.{Slot}
-use Rattle.language_model.specs.declared.checked.Part.{Part}
-use Rattle.language_model.specs.declared.checked.Part.TheVariants as A
+use Rattle.language_model.specs.declared.checked.CheckedClauses.{CheckedClauses}
+use Rattle.language_model.specs.declared.checked.CheckedClauses.TheVariants as A
 use Rattle.language_model.specs.declared.checked.PortTypes.{PortTypes}
 use Rattle.language_model.specs.declared.checked.Position.{Position}
 use Rattle.language_model.specs.declared.checked.Position.TheVariants as P
@@ -176,7 +176,7 @@ no_keys : (b : Bool) (places : List ℕ) → is_whole (if b then K.Keyed places 
 no_keys true places e = refl
 no_keys false places e = absurd cc
 
-copies_of : (part : Part) (a b : ℕ) → is_whole (state_of part) ≡ false → source_of part a ≡ Some b
+copies_of : (part : CheckedClauses) (a b : ℕ) → is_whole (state_of part) ≡ false → source_of part a ≡ Some b
     → (n : ℕ) (functions : List Function) (types : PortTypes) (s : ℕ) (outs : List ℕ) (h : List Event)
     → Copies a b (makes_by part (one_in n part functions types s outs) h 0)
 copies_of (A.FileSource file strict) a b kept source n functions types s outs h = absurd cc
@@ -208,8 +208,8 @@ custom_copies_hold op handlers a b one is source =
     subst (λ (o : Operator). IsCopy o a b) (same_op op one.0 one.1)
     (is_copy op.number op.clauses op.functions op.types one.0 op.outs a b (λ h.
     (let op' = one_in op.number op.clauses op.functions op.types one.0 op.outs in
-    subst (λ (part : Part). Copies a b (makes_by part op' (port_events op' h) 0)) (sym is)
-    (custom_copies op.functions handlers a b (ap (λ (part : Part). source_of part a) (sym is) ∙ source) (port_events op' h)))))
+    subst (λ (part : CheckedClauses). Copies a b (makes_by part op' (port_events op' h) 0)) (sym is)
+    (custom_copies op.functions handlers a b (ap (λ (part : CheckedClauses). source_of part a) (sym is) ∙ source) (port_events op' h)))))
 
 pub trace_holds : TraceLaw
 trace_holds [] a b all e = some_same a b e

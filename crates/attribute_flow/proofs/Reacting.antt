@@ -6,7 +6,7 @@ use Rattle.spl_value.specs.declared.item.Item.{Item}
 use Rattle.spl_value.specs.declared.item.Item.TheVariants as I
 use Rattle.spl_value.specs.declared.value.Value.{Value}
 use Rattle.spl_tree.specs.declared.body.Function.{Function}
-use Rattle.language_model.specs.declared.checked.Part.{Part}
+use Rattle.language_model.specs.declared.checked.CheckedClauses.{CheckedClauses}
 use Rattle.language_model.specs.declared.checked.PortTypes.{PortTypes}
 use Rattle.language_model.specs.declared.outs.Output.{Output}
 use Rattle.language_model.specs.Outcomes.{Done, Faulted, Stuck}
@@ -39,7 +39,7 @@ module _ (P : Output → Type 0) (markers : OfMarkers P) where
   answered_has op last Stuck h = each_has (length op.outs) _ refl
 
   -- after a history, at one event of an operator with one connection
-  reacts : (n : ℕ) (part : Part) (functions : List Function) (types : PortTypes) (s : ℕ) (outs : List ℕ) (h : List Event) (x : Item)
+  reacts : (n : ℕ) (part : CheckedClauses) (functions : List Function) (types : PortTypes) (s : ℕ) (outs : List ℕ) (h : List Event) (x : Item)
       → AllMade P (makes_by part (one_in n part functions types s outs) (port_events (one_in n part functions types s outs) h) 0 x)
       → AllByRecursion P (react (one_in n part functions types s outs) h (came 0 x))
   reacts n part functions types s outs h (I.Tuple vs) made = answered_has (one_in n part functions types s outs) false _ made
@@ -73,7 +73,7 @@ one_of P [] i o h e = absurd cc
 one_of P (p ∷ os) zero o h e = let same : p ≡ o = cc in subst P same h.0
 one_of P (p ∷ os) (suc i) o h e = one_of P os i o h.1 e
 
-pub is_copy : (n : ℕ) (part : Part) (functions : List Function) (types : PortTypes) (s : ℕ) (outs : List ℕ) (a b : ℕ)
+pub is_copy : (n : ℕ) (part : CheckedClauses) (functions : List Function) (types : PortTypes) (s : ℕ) (outs : List ℕ) (a b : ℕ)
     → ((h : List Event) → Copies a b (makes_by part (one_in n part functions types s outs) (port_events (one_in n part functions types s outs) h) 0))
     → IsCopy (one_in n part functions types s outs) a b
 is_copy n part functions types s outs a b made = record {

@@ -2,7 +2,7 @@
 use Rattle.std.specs.Prelude.{◌≡◌, ℕ, false, List, [], ◌∷◌, map, Some}
 use Rattle.std.specs.List.{AllByRecursion}
 use Rattle.language_model.specs.declared.checked.Handlers.{Handlers}
-use Rattle.language_model.specs.declared.checked.Part.TheVariants as A
+use Rattle.language_model.specs.declared.checked.CheckedClauses.TheVariants as A
 use Rattle.stream_model.specs.Copies.{source_of, trace}
 use Rattle.stream_model.specs.Operators.{Operator}
 use Rattle.stream_model.specs.Regions.{IsCopy}

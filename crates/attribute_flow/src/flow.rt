@@ -10,7 +10,7 @@ ghost use Rattle.attribute_flow.specs.Chains.{AreNumbers, traced};
 
 use crate::codes::{attribute_alone, tuple_source};
 use crate::submits::custom_source;
-use language_model::{Checked, Collected, Collector, Part};
+use language_model::{Checked, CheckedClauses, CollectedAttribute, Collector};
 use spl_tree::{Code, Slot};
 use spl_value::{Ids, Items, Places};
 
@@ -27,20 +27,24 @@ pub fn source_of(checked: &Checked, op: u32, attr: u32) -> Option<u32>
 }
 
 /// The same by these clauses.
-fn source_by(part: &Part, attribute: u32) -> Option<u32>
+fn source_by(part: &CheckedClauses, attribute: u32) -> Option<u32>
     ensures { result ≡ source_of part.now attribute }
 {
     match part {
-        Part::Filter { .. } | Part::Punctor { .. } | Part::Split { .. } => Some(attribute),
-        Part::Union { places } => union_source(places, attribute),
-        Part::Functor { output, .. } => tuple_source(attribute, output),
-        Part::Custom { handlers } => custom_source(handlers, attribute),
-        Part::Aggregate {
+        CheckedClauses::Filter { .. }
+        | CheckedClauses::Punctor { .. }
+        | CheckedClauses::Split { .. } => Some(attribute),
+        CheckedClauses::Union { places } => union_source(places, attribute),
+        CheckedClauses::Functor { output, .. } => tuple_source(attribute, output),
+        CheckedClauses::Custom { handlers } => custom_source(handlers, attribute),
+        CheckedClauses::Aggregate {
             partition,
             output,
             ..
         } => aggregate_source(partition, output.as_slice(), attribute),
-        Part::Join { .. } | Part::FileSource { .. } | Part::FileSink { .. } => None,
+        CheckedClauses::Join { .. }
+        | CheckedClauses::FileSource { .. }
+        | CheckedClauses::FileSink { .. } => None,
     }
 }
 
@@ -53,7 +57,11 @@ fn union_source(places: &Items<Places>, attribute: u32) -> Option<u32>
     }
 }
 
-fn aggregate_source(partition: &Places, output: &[Collected], attribute: u32) -> Option<u32>
+fn aggregate_source(
+    partition: &Places,
+    output: &[CollectedAttribute],
+    attribute: u32,
+) -> Option<u32>
     ensures { result ≡ aggregate_source partition.now output.now attribute }
 {
     for x in output {
@@ -66,7 +74,7 @@ fn aggregate_source(partition: &Places, output: &[Collected], attribute: u32) ->
 
 /// An assignment gives an attribute of the partition where it is that attribute alone, of the first or the
 /// last tuple.
-fn kept_source(partition: &Places, x: &Collected) -> Option<u32>
+fn kept_source(partition: &Places, x: &CollectedAttribute) -> Option<u32>
     ensures { result ≡ kept_source partition.now x.now }
 {
     if !picks(x.collector) {

@@ -10,7 +10,7 @@ use Rattle.spl_tree.specs.declared.unit.Composite.{Composite}
 use Rattle.spl_tree.specs.declared.unit.Definition.{Definition}
 use Rattle.spl_tree.specs.declared.unit.InputPort.{InputPort}
 use Rattle.spl_tree.specs.declared.unit.Invocation.{Invocation}
-use Rattle.language_model.specs.declared.checked.Part.{Part}
+use Rattle.language_model.specs.declared.checked.CheckedClauses.{CheckedClauses}
 use Rattle.language_model.specs.declared.checked.PortTypes.{PortTypes}
 use Rattle.language_model.specs.declared.scope.CheckError.TheVariants as E
 use Rattle.language_model.specs.declared.scope.Port.{Port}
@@ -31,25 +31,25 @@ use Rattle.check_laws.proofs.StreamSchemas.{EachHas, outputs_have, ports_have}
 -- ---- each operator
 
 -- each operator has a part, which was found for it
-pub record EachChecked (unit : List Definition) (g : Graph) (tables : Tables) (ops : List Op) (parts : List Part) : Type 0 where
+pub record EachChecked (unit : List Definition) (g : Graph) (tables : Tables) (ops : List Op) (parts : List CheckedClauses) : Type 0 where
   pub count : length parts ≡ length ops
-  pub found : (n : ℕ) (op : Op) (part : Part) → slice_get ops n ≡ Some op → slice_get parts n ≡ Some part → operator_checked unit g tables op ≡ Ok part
+  pub found : (n : ℕ) (op : Op) (part : CheckedClauses) → slice_get ops n ≡ Some op → slice_get parts n ≡ Some part → operator_checked unit g tables op ≡ Ok part
 
 no_operators : (unit : List Definition) (g : Graph) (tables : Tables) → EachChecked unit g tables [] []
 no_operators unit g tables = record { count = refl; found = λ n op part at at_part. absurd cc }
 
-one_more : (unit : List Definition) (g : Graph) (tables : Tables) (op : Op) (ops : List Op) (part : Part) (parts : List Part) → operator_checked unit g tables op ≡ Ok part
+one_more : (unit : List Definition) (g : Graph) (tables : Tables) (op : Op) (ops : List Op) (part : CheckedClauses) (parts : List CheckedClauses) → operator_checked unit g tables op ≡ Ok part
     → EachChecked unit g tables ops parts → EachChecked unit g tables (op ∷ ops) (part ∷ parts)
 one_more unit g tables op ops part parts e rest = record { count = ap suc rest.count; found = at_each }
   where
-    at_each : (n : ℕ) (o : Op) (p : Part) → slice_get (op ∷ ops) n ≡ Some o → slice_get (part ∷ parts) n ≡ Some p → operator_checked unit g tables o ≡ Ok p
+    at_each : (n : ℕ) (o : Op) (p : CheckedClauses) → slice_get (op ∷ ops) n ≡ Some o → slice_get (part ∷ parts) n ≡ Some p → operator_checked unit g tables o ≡ Ok p
     at_each zero o p at at_part =
         let same : op ≡ o = same_Some op o at in
         let same_part : part ≡ p = same_Some part p at_part in
         subst (λ (x : Op). operator_checked unit g tables x ≡ Ok p) same (e ∙ ap Ok same_part)
     at_each (suc n) o p at at_part = rest.found n o p at at_part
 
-pub each_checked : (unit : List Definition) (g : Graph) (tables : Tables) (ops : List Op) (parts : List Part) → operators_checked unit g tables ops ≡ Ok parts
+pub each_checked : (unit : List Definition) (g : Graph) (tables : Tables) (ops : List Op) (parts : List CheckedClauses) → operators_checked unit g tables ops ≡ Ok parts
     → EachChecked unit g tables ops parts
 each_checked unit g tables [] parts e = let none : [] ≡ parts = same_Ok e in subst (EachChecked unit g tables []) none (no_operators unit g tables)
 each_checked unit g tables (op ∷ ops) parts e =
@@ -65,21 +65,21 @@ found_in f None at b e = absurd cc
 found_in f (Some a) at b e = (a, refl, e)
 
 -- the body in which an operator stands, the invocation there, and that it was checked
-record StandsAt (unit : List Definition) (g : Graph) (tables : Tables) (op : Op) (part : Part) : Type 0 where
+record StandsAt (unit : List Definition) (g : Graph) (tables : Tables) (op : Op) (part : CheckedClauses) : Type 0 where
   pub body : Body
   pub invocation : Invocation
   pub at_body : body_at unit g op.site.expansion ≡ Some body
   pub at_invocation : slice_get body.composite.graph op.site.invocation ≡ Some invocation
   pub checked : invocation_checked unit g tables op body invocation ≡ Ok part
 
-stands_in : (unit : List Definition) (g : Graph) (tables : Tables) (op : Op) (part : Part) (o : Option Body) → body_at unit g op.site.expansion ≡ o
+stands_in : (unit : List Definition) (g : Graph) (tables : Tables) (op : Op) (part : CheckedClauses) (o : Option Body) → body_at unit g op.site.expansion ≡ o
     → body_checked unit g tables op o ≡ Ok part → StandsAt unit g tables op part
 stands_in unit g tables op part None at e = absurd cc
 stands_in unit g tables op part (Some b) at e =
     let x = found_in (invocation_checked unit g tables op b) (slice_get b.composite.graph op.site.invocation) op.at part e in
     record { body = b; invocation = x.0; at_body = at; at_invocation = x.1; checked = x.2 }
 
-stands_at : (unit : List Definition) (g : Graph) (tables : Tables) (op : Op) (part : Part) → operator_checked unit g tables op ≡ Ok part → StandsAt unit g tables op part
+stands_at : (unit : List Definition) (g : Graph) (tables : Tables) (op : Op) (part : CheckedClauses) → operator_checked unit g tables op ≡ Ok part → StandsAt unit g tables op part
 stands_at unit g tables op part e = stands_in unit g tables op part (body_at unit g op.site.expansion) refl e
 
 -- the composite of a body
@@ -143,7 +143,7 @@ types_found unit g b op i types e =
 
 module _ (parts_law : PartsLaw) (unit : List Definition) (g : Graph) (tables : Tables) (dollars : (number : ℕ) → DollarsFit (table_at tables number))
     (all : List Attributes) (each : EachHas unit g all) where
-  invocation_fits : (op : Op) (part : Part) (b : Body) (i : Invocation) → length op.ins ≡ length i.inputs → length op.outs ≡ length i.outputs → HasPlaces op b i
+  invocation_fits : (op : Op) (part : CheckedClauses) (b : Body) (i : Invocation) → length op.ins ≡ length i.inputs → length op.outs ≡ length i.outputs → HasPlaces op b i
       → invocation_checked unit g tables op b i ≡ Ok part → OperatorFits all (unit_scope unit).functions op part
   invocation_fits op part b i as_many_ins as_many_outs places e =
       let x = after_gives (ports_checked op i) (λ u. after (port_types unit g b op i) (λ types.
@@ -183,7 +183,7 @@ module _ (parts_law : PartsLaw) (unit : List Definition) (g : Graph) (tables : T
             clauses = subst (λ (ins : List Attributes). PartFits scope op.kind ins types.outs part) schemas part_fits;
           }
 
-  pub operator_fits : (op : Op) (part : Part) → IsInvoked unit g op
+  pub operator_fits : (op : Op) (part : CheckedClauses) → IsInvoked unit g op
       → ((b : Body) (i : Invocation) → body_at unit g op.site.expansion ≡ Some b → slice_get b.composite.graph op.site.invocation ≡ Some i → HasPlaces op b i)
       → operator_checked unit g tables op ≡ Ok part → OperatorFits all (unit_scope unit).functions op part
   operator_fits op part invoked places e =

@@ -15,8 +15,8 @@ use Rattle.spl_tree.specs.declared.unit.Definition.{Definition}
 use Rattle.spl_tree.specs.declared.unit.Invocation.{Invocation}
 use Rattle.spl_tree.specs.declared.unit.OutputAssignments.{OutputAssignments}
 use Rattle.spl_tree.specs.Grammar.{placed}
-use Rattle.language_model.specs.declared.checked.Part.{Part}
-use Rattle.language_model.specs.declared.checked.Part.TheVariants as A
+use Rattle.language_model.specs.declared.checked.CheckedClauses.{CheckedClauses}
+use Rattle.language_model.specs.declared.checked.CheckedClauses.TheVariants as A
 use Rattle.language_model.specs.declared.checked.Policy.{Policy}
 use Rattle.language_model.specs.declared.kinds.Role.TheVariants as R
 use Rattle.language_model.specs.declared.scope.Port.{Port}
@@ -48,7 +48,7 @@ kind_file at kind found =
     if is_sink kind || is_source kind then option_map_or (λ bytes. record { sink = is_sink kind; file = placed at bytes } ∷ []) found [] else []
 
 -- the file of checked clauses
-abbrev pub part_file : Part → List OpFile
+abbrev pub part_file : CheckedClauses → List OpFile
 part_file (A.FileSink file) = record { sink = true; file = placed 0 file } ∷ []
 part_file (A.FileSource file strict) = record { sink = false; file = placed 0 file } ∷ []
 part_file _ = []
@@ -60,7 +60,7 @@ abbrev is_filed : OpKind → Bool
 is_filed kind = is_sink kind || is_source kind
 
 -- the part has the file that was found for an operator of the kind, where those have one
-abbrev SameFile : ℕ → OpKind → Option (List ℕ) → Part → Type 0
+abbrev SameFile : ℕ → OpKind → Option (List ℕ) → CheckedClauses → Type 0
 SameFile at kind found part = is_filed kind ≡ true → map bare (kind_file at kind found) ≡ part_file part
 
 always : {A : Type 0} (Q : A → Type 0) (r : Found A) → ((x : A) → Q x) → Gives Q r
@@ -91,7 +91,7 @@ module _ (site : Site) (clauses : Clauses) (found : Option (List ℕ)) (finds : 
 clauses_file : (op : Op) (site : Site) (around : Surroundings) (clauses : Clauses) (found : Option (List ℕ))
     → ((file : List ℕ) → HasFile site clauses.parameters file → found ≡ Some file) → Gives (SameFile op.at op.kind found) (clauses_checked op site around clauses)
 clauses_file op site around clauses found finds =
-    let Q : Part → Type 0 = SameFile op.at op.kind found in
+    let Q : CheckedClauses → Type 0 = SameFile op.at op.kind found in
     gives_then Q (config_checked clauses.config) _ (λ u none.
     gives_then Q (windows_checked op.kind (number_literal site.scope site.follow) op.at site.scope.ports clauses.window) _ (λ windows are.
     gives_then Q (parameters_checked site op.kind (is_partitioned windows) op.at clauses.parameters) _ (λ given params.
@@ -131,19 +131,19 @@ stands_at unit g number b e = of_expansion (slice_get g.expansions number) refl 
 -- ---- operators
 
 -- the part of an operator whose kind has a file has the operator's
-abbrev OwnFile : List Definition → List Expansion → Op → Part → Type 0
+abbrev OwnFile : List Definition → List Expansion → Op → CheckedClauses → Type 0
 OwnFile unit expansions op part = is_filed op.kind ≡ true → map bare (op_file unit expansions op) ≡ part_file part
 
 -- the part fits the operator's kind
-abbrev pub Fitted : Op → Part → Type 0
+abbrev pub Fitted : Op → CheckedClauses → Type 0
 Fitted op part = (scope : Scope) × (ins : List Attributes) × (outs : List Attributes) × PartFits scope op.kind ins outs part
 
-no_file : (scope : Scope) (kind : OpKind) (ins outs : List Attributes) (part : Part) → PartFits scope kind ins outs part → is_filed kind ≡ false → [] ≡ part_file part
+no_file : (scope : Scope) (kind : OpKind) (ins outs : List Attributes) (part : CheckedClauses) → PartFits scope kind ins outs part → is_filed kind ≡ false → [] ≡ part_file part
 no_file scope kind ins outs part (F.file_source file strict schema named text) none = absurd (let no : true ≡ false = none in cc)
 no_file scope kind ins outs part (F.file_sink file schema named text) none = absurd (let no : true ≡ false = none in cc)
 no_file scope kind ins outs part _ none = refl
 
-same_file : (unit : List Definition) (expansions : List Expansion) (op : Op) (part : Part) → OwnFile unit expansions op part → Fitted op part
+same_file : (unit : List Definition) (expansions : List Expansion) (op : Op) (part : CheckedClauses) → OwnFile unit expansions op part → Fitted op part
     → map bare (op_file unit expansions op) ≡ part_file part
 same_file unit expansions op part own fit = by_kind (is_filed op.kind) refl
   where
@@ -171,7 +171,7 @@ module _ (unit : List Definition) (g : Graph) (tables : Tables) where
   invocation_file : (op : Op) (b : Body) (i : Invocation) → StandsAt unit g.expansions op.site.expansion b → slice_get b.composite.graph op.site.invocation ≡ Some i
       → Gives (OwnFile unit g.expansions op) (invocation_checked unit g tables op b i)
   invocation_file op b i at there =
-      let Q : Part → Type 0 = OwnFile unit g.expansions op in
+      let Q : CheckedClauses → Type 0 = OwnFile unit g.expansions op in
       gives_then Q (ports_checked op i) _ (λ u is.
       gives_then Q (port_types unit g b op i) _ (λ types are.
       clauses_file op (site_of unit g tables b (ports_of i.inputs types.ins))
@@ -187,22 +187,22 @@ module _ (unit : List Definition) (g : Graph) (tables : Tables) where
       at_invocation None there = tt
       at_invocation (Some i) there = invocation_file op b i (stands_at unit g op.site.expansion b at) there
 
-  operator_file : (op : Op) (part : Part) → operator_checked unit g tables op ≡ Ok part → OwnFile unit g.expansions op part
+  operator_file : (op : Op) (part : CheckedClauses) → operator_checked unit g tables op ≡ Ok part → OwnFile unit g.expansions op part
   operator_file op part e =
       gives_from (OwnFile unit g.expansions op) (operator_checked unit g tables op) part (body_file op (body_at unit g op.site.expansion) refl) e
 
   -- the files of operators are those of their parts, where each of these fits
-  pub operators_files : (ops : List Op) (parts : List Part) → operators_checked unit g tables ops ≡ Ok parts
-      → ((n : ℕ) (op : Op) (part : Part) → slice_get ops n ≡ Some op → slice_get parts n ≡ Some part → Fitted op part)
+  pub operators_files : (ops : List Op) (parts : List CheckedClauses) → operators_checked unit g tables ops ≡ Ok parts
+      → ((n : ℕ) (op : Op) (part : CheckedClauses) → slice_get ops n ≡ Some op → slice_get parts n ≡ Some part → Fitted op part)
       → map bare (flat_map (op_file unit g.expansions) ops) ≡ flat_map part_file parts
   operators_files [] parts e fits = let none : [] ≡ parts = same_Ok e in ap (flat_map part_file) none
   operators_files (op ∷ ops) parts e fits =
       let x = after_gives (operator_checked unit g tables op) (λ part. after (operators_checked unit g tables ops) (λ rest. Ok (part ∷ rest))) parts e in
       let y = after_gives (operators_checked unit g tables ops) (λ rest. Ok (x.0 ∷ rest)) parts x.2 in
       let whole : x.0 ∷ y.0 ≡ parts = same_Ok y.2 in
-      let fit = fits zero op x.0 refl (ap (λ (ps : List Part). slice_get ps zero) (sym whole)) in
+      let fit = fits zero op x.0 refl (ap (λ (ps : List CheckedClauses). slice_get ps zero) (sym whole)) in
       let own = same_file unit g.expansions op x.0 (operator_file op x.0 x.1) fit in
-      let others = operators_files ops y.0 y.1 (λ n o part at there. fits (suc n) o part at (ap (λ (ps : List Part). slice_get ps (suc n)) (sym whole) ∙ there)) in
+      let others = operators_files ops y.0 y.1 (λ n o part at there. fits (suc n) o part at (ap (λ (ps : List CheckedClauses). slice_get ps (suc n)) (sym whole) ∙ there)) in
       map-append bare (op_file unit g.expansions op) (flat_map (op_file unit g.expansions) ops)
       ∙ ap₂ (λ (fs hs : List OpFile). fs ++ hs) own others
       ∙ ap (flat_map part_file) whole

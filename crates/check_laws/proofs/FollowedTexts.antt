@@ -15,7 +15,7 @@ use Rattle.spl_tree.specs.declared.unit.Parameter.{Parameter}
 use Rattle.spl_tree.specs.Grammar.{Expr}
 use Rattle.language_model.specs.declared.scope.Scope.{Scope}
 use Rattle.language_model.specs.Literals as L
-use Rattle.language_model.specs.Literals.{Behind, Here, Outside, Nowhere, behind, behind_in, file_or_mismatch, file_typing, followed, followed_within, here_or, is_file_name, level_behind, level_file, parameter_behind, text_at}
+use Rattle.language_model.specs.Literals.{Target, Here, Outside, Nowhere, target, target_in, file_or_mismatch, file_typing, followed, followed_within, here_or, is_file_name, level_target, level_file, parameter_target, text_at}
 use Rattle.language_model.specs.SinkFiles.{Text, Argument, NoText, argument_or, arguments_of, default_named, dollar_text, heads_of, level_text, literal_or, own_text, text_in, text_of, value_named}
 use Rattle.language_model.specs.Typing.{mismatch, typing}
 use Rattle.language_model.proofs.FoundAnswers.{after_gives, same_Ok}
@@ -26,42 +26,42 @@ use Rattle.language_model.proofs.FoundAnswers.{after_gives, same_Ok}
 abbrev no_parameter : List ℕ → Text
 no_parameter name = NoText
 
-abbrev as_text : Behind → Text
+abbrev as_text : Target → Text
 as_text (Here e) = text_of no_parameter e
 as_text (Outside e) = Argument e
 as_text Nowhere = NoText
 
-level_same : (parameter : List ℕ → Behind) (dollar : List ℕ → Text) → ((name : List ℕ) → dollar name ≡ as_text (parameter name))
-    → (e : Expr) (x : ExprKind-F ExprKind) → out-ExprKind e.what ≡ x → level_text dollar x ≡ as_text (level_behind parameter e x)
+level_same : (parameter : List ℕ → Target) (dollar : List ℕ → Text) → ((name : List ℕ) → dollar name ≡ as_text (parameter name))
+    → (e : Expr) (x : ExprKind-F ExprKind) → out-ExprKind e.what ≡ x → level_text dollar x ≡ as_text (level_target parameter e x)
 level_same parameter dollar same e (X.Dollar name) is = same name
 level_same parameter dollar same e (X.Text bytes) is = sym (ap (level_text no_parameter) is)
 level_same parameter dollar same e _ is = sym (ap (level_text no_parameter) is)
 
-argument_same : (o : Option Expr) (t : Text) (b : Behind) → t ≡ as_text b → argument_or o t ≡ as_text (L.argument_or o b)
+argument_same : (o : Option Expr) (t : Text) (b : Target) → t ≡ as_text b → argument_or o t ≡ as_text (L.argument_or o b)
 argument_same (Some e) t b same = refl
 argument_same None t b same = same
 
-default_same : (parameter : List ℕ → Behind) (dollar : List ℕ → Text) → ((name : List ℕ) → dollar name ≡ as_text (parameter name))
-    → (o : Option Expr) → option_map_or (text_of dollar) o NoText ≡ as_text (option_map_or (behind parameter) o Nowhere)
+default_same : (parameter : List ℕ → Target) (dollar : List ℕ → Text) → ((name : List ℕ) → dollar name ≡ as_text (parameter name))
+    → (o : Option Expr) → option_map_or (text_of dollar) o NoText ≡ as_text (option_map_or (target parameter) o Nowhere)
 default_same parameter dollar same None = refl
 default_same parameter dollar same (Some e) = level_same parameter dollar same e (out-ExprKind e.what) refl
 
 dollar_same : (count : ℕ) (heads : List CompositeParameter) (arguments : List Parameter) (name : List ℕ)
-    → dollar_text count heads arguments name ≡ as_text (parameter_behind count heads arguments name)
+    → dollar_text count heads arguments name ≡ as_text (parameter_target count heads arguments name)
 dollar_same zero heads arguments name = refl
 dollar_same (suc count) heads arguments name =
     argument_same (value_named arguments name)
     (option_map_or (text_of (dollar_text count heads arguments)) (default_named heads name) NoText)
-    (option_map_or (behind (parameter_behind count heads arguments)) (default_named heads name) Nowhere)
-    (default_same (parameter_behind count heads arguments) (dollar_text count heads arguments) (dollar_same count heads arguments) (default_named heads name))
+    (option_map_or (target (parameter_target count heads arguments)) (default_named heads name) Nowhere)
+    (default_same (parameter_target count heads arguments) (dollar_text count heads arguments) (dollar_same count heads arguments) (default_named heads name))
 
 own_same : (unit : List Definition) (expansions : List Expansion) (x : Expansion) (e : Expr)
-    → own_text unit expansions x e ≡ as_text (behind_in unit expansions x e)
+    → own_text unit expansions x e ≡ as_text (target_in unit expansions x e)
 own_same unit expansions x e =
     let count = length (heads_of unit x) in
     let heads = heads_of unit x in
     let arguments = arguments_of unit expansions x in
-    level_same (parameter_behind count heads arguments) (dollar_text count heads arguments) (dollar_same count heads arguments) e (out-ExprKind e.what) refl
+    level_same (parameter_target count heads arguments) (dollar_text count heads arguments) (dollar_same count heads arguments) e (out-ExprKind e.what) refl
 
 -- ---- through expansions
 
@@ -78,7 +78,7 @@ literal_same outside (X.Text bytes) = refl
 literal_same outside _ = refl
 
 here_same : (texts : Expr → Option (List ℕ)) (follow : Expr → Option Expr) → ((e : Expr) → texts e ≡ option_and_then literal_text (follow e))
-    → (b : Behind) → literal_or texts (as_text b) ≡ option_and_then literal_text (here_or follow b)
+    → (b : Target) → literal_or texts (as_text b) ≡ option_and_then literal_text (here_or follow b)
 here_same texts follow same (Here e) = literal_same texts (out-ExprKind e.what)
 here_same texts follow same (Outside e) = same e
 here_same texts follow same Nowhere = refl
@@ -91,7 +91,7 @@ text_at_expansion unit expansions texts e o =
 
 abbrev followed_at_expansion : List Definition → List Expansion → (ℕ → Expr → Option Expr) → Expr → Option Expansion → Option Expr
 followed_at_expansion unit expansions follow e o =
-    option_and_then (λ x. here_or (λ a. option_and_then (λ s. follow s.expansion a) x.site) (behind_in unit expansions x e)) o
+    option_and_then (λ x. here_or (λ a. option_and_then (λ s. follow s.expansion a) x.site) (target_in unit expansions x e)) o
 
 module _ (unit : List Definition) (expansions : List Expansion) (texts : ℕ → Expr → Option (List ℕ)) (follow : ℕ → Expr → Option Expr)
     (same : (number : ℕ) (e : Expr) → texts number e ≡ option_and_then literal_text (follow number e)) where
@@ -106,7 +106,7 @@ module _ (unit : List Definition) (expansions : List Expansion) (texts : ℕ →
   at_expansion e (Some x) =
       let text : Expr → Option (List ℕ) = λ a. option_and_then (λ s. texts s.expansion a) x.site in
       let next : Expr → Option Expr = λ a. option_and_then (λ s. follow s.expansion a) x.site in
-      ap (literal_or text) (own_same unit expansions x e) ∙ here_same text next (outwards x.site) (behind_in unit expansions x e)
+      ap (literal_or text) (own_same unit expansions x e) ∙ here_same text next (outwards x.site) (target_in unit expansions x e)
 
 -- the text is that of the expression that is found by following `$` parameters
 text_same : (count : ℕ) (unit : List Definition) (expansions : List Expansion) (number : ℕ) (e : Expr)

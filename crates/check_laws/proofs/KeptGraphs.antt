@@ -4,7 +4,7 @@ use Rattle.std.proofs.Common.{subst}
 use Rattle.spl_tree.specs.declared.body.Function.{Function}
 use Rattle.spl_tree.specs.declared.graph.Graph.{Graph}
 use Rattle.spl_tree.specs.declared.unit.Definition.{Definition}
-use Rattle.language_model.specs.declared.checked.Part.{Part}
+use Rattle.language_model.specs.declared.checked.CheckedClauses.{CheckedClauses}
 use Rattle.language_model.specs.BodyLaws.{BodyFitLaw, BodyReturnsLaw}
 use Rattle.language_model.specs.CheckedGraph.{CheckedGraph}
 use Rattle.language_model.specs.Checking.{each_stream, operators_checked}
@@ -50,7 +50,7 @@ graph_keeps laws unit names g m =
       taken = laws.connected unit names m.main g m.flat;
     }
 
-keeps_found : (laws : Laws) (unit : List Definition) (names : List (List ℕ)) (g : Graph) (functions : List Function) (parts : List Part) (schemas : List Attributes)
+keeps_found : (laws : Laws) (unit : List Definition) (names : List (List ℕ)) (g : Graph) (functions : List Function) (parts : List CheckedClauses) (schemas : List Attributes)
     → FromMain unit names g → functions_typing unit ≡ Ok functions → operators_checked unit g (dollar_tables unit g.expansions) g.ops ≡ Ok parts
     → each_stream unit g (numbers_from 0 (length g.streams)) ≡ Ok schemas
     → Keeps (record { graph = g; schemas = schemas; functions = functions; parts = parts })

@@ -22,9 +22,9 @@ use Rattle.spl_tree.specs.declared.expression.ExprKind.TheVariants as E
 use Rattle.spl_tree.specs.declared.expression.ExprKind.TheViews.{out-ExprKind}
 use Rattle.spl_tree.specs.declared.unit.OutputAssignments.{OutputAssignments}
 use Rattle.spl_tree.specs.Grammar.{Expr, placed}
-use Rattle.language_model.specs.declared.checked.Collected.{Collected}
+use Rattle.language_model.specs.declared.checked.CollectedAttribute.{CollectedAttribute}
 use Rattle.language_model.specs.declared.checked.Collector.TheVariants as K
-use Rattle.language_model.specs.declared.checked.Gathers.{Gathers}
+use Rattle.language_model.specs.declared.checked.CollectorCall.{CollectorCall}
 use Rattle.language_model.specs.declared.scope.Port.{Port}
 use Rattle.language_model.specs.declared.scope.Scope.{Scope}
 use Rattle.language_model.specs.declared.scope.Variable.{Variable}
@@ -101,13 +101,13 @@ module _ (laws : TypingGives) (scope : Scope) (bare : scope.vars ≡ []) (fine :
   -- ---- groups
 
   -- what an attribute gets is of its type
-  abbrev Gathered : SplType → Gathers → Type 0
+  abbrev Gathered : SplType → CollectorCall → Type 0
   Gathered t g = CollectorFits scope g.collector g.argument t
 
-  abbrev OwnGathered : Gathers → Type 0
+  abbrev OwnGathered : CollectorCall → Type 0
   OwnGathered g = Gathered g.kind g
 
-  abbrev GatheredFor : Named SplType → Gathers → Type 0
+  abbrev GatheredFor : Named SplType → CollectorCall → Type 0
   GatheredFor a g = Gathered a.kind g
 
   -- the functions that there are
@@ -199,10 +199,10 @@ module _ (laws : TypingGives) (scope : Scope) (bare : scope.vars ≡ []) (fine :
   last_fits : (schema : Attributes) (at : ℕ) → FillsFit GatheredFor schema (last_of scope at)
   last_fits schema at a = gives_after (CodeFor a) (GatheredFor a) (taken_over scope at a) _ (taken_fits schema at a) (λ code h. F.last code a.kind h)
 
-  abbrev CollectedFits : Attributes → Collected → Type 0
+  abbrev CollectedFits : Attributes → CollectedAttribute → Type 0
   CollectedFits schema x = (a : Named SplType) × (slice_get schema x.attribute ≡ Some a) × CollectorFits scope x.collector x.argument a.kind
 
-  collected_fit : (schema : Attributes) (all : Assigned Gathers) → AllByRecursion (ForAttribute GatheredFor schema) all → (k : ℕ) (x : Collected)
+  collected_fit : (schema : Attributes) (all : Assigned CollectorCall) → AllByRecursion (ForAttribute GatheredFor schema) all → (k : ℕ) (x : CollectedAttribute)
       → slice_get (collected all) k ≡ Some x → CollectedFits schema x
   collected_fit schema [] h k x e = absurd (none_at k x e)
   collected_fit schema (y ∷ all) h zero x e =
@@ -210,17 +210,17 @@ module _ (laws : TypingGives) (scope : Scope) (bare : scope.vars ≡ []) (fine :
       subst (CollectedFits schema) same h.0
   collected_fit schema (y ∷ all) h (suc k) x e = collected_fit schema all h.1 k x e
 
-  abbrev how_often : ℕ → List Collected → ℕ
+  abbrev how_often : ℕ → List CollectedAttribute → ℕ
   how_often i [] = 0
   how_often i (x ∷ xs) = cond (x.attribute == i) (1 + how_often i xs) (how_often i xs)
 
-  as_often : (i : ℕ) (all : Assigned Gathers) → how_often i (collected all) ≡ times i all
+  as_often : (i : ℕ) (all : Assigned CollectorCall) → how_often i (collected all) ≡ times i all
   as_often i [] = refl
   as_often i (x ∷ all) = ap (λ n. cond (x.0 == i) (1 + n) n) (as_often i all)
 
-  counts_collected : (i : ℕ) (all : Assigned Gathers) → count_by (λ (x : Collected). x.attribute == i) (collected all) ≡ count_by (λ (x : ℕ × Gathers). x.0 == i) all
+  counts_collected : (i : ℕ) (all : Assigned CollectorCall) → count_by (λ (x : CollectedAttribute). x.attribute == i) (collected all) ≡ count_by (λ (x : ℕ × CollectorCall). x.0 == i) all
   counts_collected i all =
-      sym (is_count_by (how_often i) (λ (x : Collected). x.attribute == i) refl (λ x xs. refl) (collected all)) ∙ as_often i all ∙ counts_times i all
+      sym (is_count_by (how_often i) (λ (x : CollectedAttribute). x.attribute == i) refl (λ x xs. refl) (collected all)) ∙ as_often i all ∙ counts_times i all
 
   pub groups_fit : (at : ℕ) (schema : Attributes) (output : List ℕ) (rows : List OutputAssignments) → Gives (GroupsFit scope schema) (groups_typing scope at schema output rows)
   groups_fit at schema output rows =

@@ -10,8 +10,8 @@ use Rattle.spl_tree.specs.declared.graph.Op.{Op}
 use Rattle.spl_tree.specs.declared.unit.Composite.{Composite}
 use Rattle.spl_tree.specs.declared.unit.Definition.{Definition}
 use Rattle.spl_tree.specs.Grammar.{placed}
-use Rattle.language_model.specs.declared.checked.Part.{Part}
-use Rattle.language_model.specs.declared.checked.Part.TheVariants as A
+use Rattle.language_model.specs.declared.checked.CheckedClauses.{CheckedClauses}
+use Rattle.language_model.specs.declared.checked.CheckedClauses.TheVariants as A
 use Rattle.language_model.specs.CheckedGraph.{CheckedGraph}
 use Rattle.language_model.specs.Checking.{checked, each_stream, operators_checked}
 use Rattle.language_model.specs.Declarations.{first_of}
@@ -35,7 +35,7 @@ use Rattle.spl_value.proofs.Lists.{other_bytes}
 
 -- ---- the files of parts
 
-abbrev pub part_files : List Part → List OpFile
+abbrev pub part_files : List CheckedClauses → List OpFile
 part_files parts = flat_map part_file parts
 
 abbrev file_of_sink : List ℕ → OpFile
@@ -57,7 +57,7 @@ apart_of m n b clear one =
     by_test false other = other
 
 -- no sink after an operator with this file has it
-sinks_apart : (g : OpFile) (parts : List Part) → Clear g (part_files parts) → is_named (sink_files parts) g.file.what ≡ false
+sinks_apart : (g : OpFile) (parts : List CheckedClauses) → Clear g (part_files parts) → is_named (sink_files parts) g.file.what ≡ false
 sinks_apart g [] clear = refl
 sinks_apart g (A.FileSink file ∷ parts) clear =
     or_from (bytes_eq file g.file.what) (is_named (sink_files parts) g.file.what)
@@ -66,7 +66,7 @@ sinks_apart g (A.FileSource file strict ∷ parts) clear = sinks_apart g parts c
 sinks_apart g (_ ∷ parts) clear = sinks_apart g parts clear
 
 -- no source after a sink reads its file
-sources_apart : (file : List ℕ) (parts : List Part) → Clear (file_of_sink file) (part_files parts) → is_named (source_files parts) file ≡ false
+sources_apart : (file : List ℕ) (parts : List CheckedClauses) → Clear (file_of_sink file) (part_files parts) → is_named (source_files parts) file ≡ false
 sources_apart file [] clear = refl
 sources_apart file (A.FileSink other ∷ parts) clear = sources_apart file parts clear.1
 sources_apart file (A.FileSource other strict ∷ parts) clear =
@@ -76,17 +76,17 @@ sources_apart file (_ ∷ parts) clear = sources_apart file parts clear
 -- ---- files of their own
 
 module _ (names : List (List ℕ)) where
-  behind : (part : Part) (parts : List Part) → Free names (part_files (part ∷ parts)) → Free names (part_files parts)
+  behind : (part : CheckedClauses) (parts : List CheckedClauses) → Free names (part_files (part ∷ parts)) → Free names (part_files parts)
   behind (A.FileSink file) parts h = h.2
   behind (A.FileSource file strict) parts h = h.2
   behind _ parts h = h
 
-  once : (before after : List Part) (file : List ℕ) → Free names (part_files (before ++ A.FileSink file ∷ after)) → is_named (sink_files after) file ≡ false
+  once : (before after : List CheckedClauses) (file : List ℕ) → Free names (part_files (before ++ A.FileSink file ∷ after)) → is_named (sink_files after) file ≡ false
   once [] after file h = sinks_apart (file_of_sink file) after h.1
   once (part ∷ before) after file h = once before after file (behind part (before ++ A.FileSink file ∷ after) h)
 
   -- what no sink has is free for a source
-  apart_behind : (own : List ℕ) (parts : List Part) (file : List ℕ) → Clear (file_of_source own) (part_files parts) → is_named (sink_files parts) file ≡ true
+  apart_behind : (own : List ℕ) (parts : List CheckedClauses) (file : List ℕ) → Clear (file_of_source own) (part_files parts) → is_named (sink_files parts) file ≡ true
       → bytes_eq own file ≡ false
   apart_behind own parts file clear is = by_test (bytes_eq own file) refl
     where
@@ -106,7 +106,7 @@ module _ (names : List (List ℕ)) where
       by_test true same is = subst P ((bytes_decides own file).0 same) here
       by_test false other is = others is
 
-  apart : (parts : List Part) → Free names (part_files parts) → (file : List ℕ) → is_named (sink_files parts) file ≡ true
+  apart : (parts : List CheckedClauses) → Free names (part_files parts) → (file : List ℕ) → is_named (sink_files parts) file ≡ true
       → is_named (source_files parts) file ≡ false
   apart [] h file is = absurd cc
   apart (A.FileSink own ∷ parts) h file is =
@@ -115,14 +115,14 @@ module _ (names : List (List ℕ)) where
       or_from (bytes_eq own file) (is_named (source_files parts) file) (apart_behind own parts file h.1 is) (apart parts h.2 file is)
   apart (_ ∷ parts) h file is = apart parts h file is
 
-  free : (parts : List Part) → Free names (part_files parts) → (file : List ℕ) → is_named (sink_files parts) file ≡ true → is_named names file ≡ false
+  free : (parts : List CheckedClauses) → Free names (part_files parts) → (file : List ℕ) → is_named (sink_files parts) file ≡ true → is_named names file ≡ false
   free [] h file is = absurd cc
   free (A.FileSink own ∷ parts) h file is =
       of_each (λ n. is_named names n ≡ false) own (is_named (sink_files parts)) file is h.0 (free parts h.2 file)
   free (A.FileSource own strict ∷ parts) h file is = free parts h.2 file is
   free (_ ∷ parts) h file is = free parts h file is
 
-  pub own_files : (parts : List Part) → Free names (part_files parts) → OwnFiles names parts
+  pub own_files : (parts : List CheckedClauses) → Free names (part_files parts) → OwnFiles names parts
   own_files parts h = record {
     once = λ before after file is. once before after file (subst (λ ps. Free names (part_files ps)) is h);
     apart = apart parts h;
@@ -184,7 +184,7 @@ parts_found unit g c e =
 
 -- the clauses of each operator fit it
 parts_fit : (g : Graph) (c : CheckedGraph) → Keeps c → g ≡ c.graph
-    → (n : ℕ) (op : Op) (part : Part) → slice_get g.ops n ≡ Some op → slice_get c.parts n ≡ Some part → Fitted op part
+    → (n : ℕ) (op : Op) (part : CheckedClauses) → slice_get g.ops n ≡ Some op → slice_get c.parts n ≡ Some part → Fitted op part
 parts_fit g c keeps same n op part at there =
     let fit = keeps.operators n op part (ap (λ (h : Graph). slice_get h.ops n) (sym same) ∙ at) there in
     (fit.scope, fit.ins, fit.outs, fit.clauses)

@@ -17,8 +17,8 @@ use Rattle.spl_tree.specs.declared.unit.OutputStream.{OutputStream}
 use Rattle.spl_tree.specs.Grammar.{Expr}
 use Rattle.language_model.specs.declared.checked.Given.{Given}
 use Rattle.language_model.specs.declared.checked.ParameterValue.{ParameterValue}
-use Rattle.language_model.specs.declared.checked.Part.{Part}
-use Rattle.language_model.specs.declared.checked.Part.TheVariants as A
+use Rattle.language_model.specs.declared.checked.CheckedClauses.{CheckedClauses}
+use Rattle.language_model.specs.declared.checked.CheckedClauses.TheVariants as A
 use Rattle.language_model.specs.declared.checked.Policy.{Policy}
 use Rattle.language_model.specs.declared.kinds.Role.{Role}
 use Rattle.language_model.specs.declared.kinds.Role.TheVariants as R
@@ -87,7 +87,7 @@ all_passed input (o ∷ os) (schema ∷ outs) long e k own at =
 
 -- ---- without logic
 
-plain_fits : (Q : Part → Type 0) (kind : OpKind) (clauses : Clauses) (part : Part) → Q part → Gives Q (plain kind clauses part)
+plain_fits : (Q : CheckedClauses → Type 0) (kind : OpKind) (clauses : Clauses) (part : CheckedClauses) → Q part → Gives Q (plain kind clauses part)
 plain_fits Q kind clauses part h = gives_then Q (logic_checked kind clauses.logic) _ (λ u is. h)
 
 -- ---- the rows of files
@@ -135,7 +135,7 @@ some_partition scope false given params =
 -- ---- one kind after another
 
 module _ (laws : TypingGives) (x : Checks) (bare : x.around.scope.vars ≡ []) (fine : DollarsFit x.around.scope.dollars) where
-  abbrev Fit : OpKind → Part → Type 0
+  abbrev Fit : OpKind → CheckedClauses → Type 0
   Fit kind part = PartFits x.around.scope kind (schemas_of x.around.scope.ports) x.around.schemas part
 
   abbrev FitPorts : OpKind → Type 0
@@ -153,7 +153,7 @@ module _ (laws : TypingGives) (x : Checks) (bare : x.around.scope.vars ≡ []) (
   Passing kind = (os : List OutputStream) × (length os ≡ length x.around.schemas) × (outputs_checked kind os x.around.schemas (schemas_of x.around.scope.ports) ≡ passed)
 
   -- what fits these ports
-  at_ports : (kind : OpKind) (part : Part) (ports : List Port) (outs : List Attributes) → x.around.scope.ports ≡ ports → x.around.schemas ≡ outs
+  at_ports : (kind : OpKind) (part : CheckedClauses) (ports : List Port) (outs : List Attributes) → x.around.scope.ports ≡ ports → x.around.schemas ≡ outs
       → PartFits x.around.scope kind (schemas_of ports) outs part → Fit kind part
   at_ports kind part ports outs ins_are outs_are h =
       subst (λ ins. PartFits x.around.scope kind (schemas_of ins) x.around.schemas part) (sym ins_are)
@@ -331,7 +331,7 @@ clauses_fit : TypingGives → (follow : Expr → Option Expr) (op : Op) (around 
     → Gives (PartFits around.scope op.kind (schemas_of around.scope.ports) around.schemas) (clauses_checked op (in_scope around.scope follow) around clauses)
 clauses_fit laws follow op around clauses bare fine count os long outs =
     let site = in_scope around.scope follow in
-    let Q : Part → Type 0 = PartFits around.scope op.kind (schemas_of around.scope.ports) around.schemas in
+    let Q : CheckedClauses → Type 0 = PartFits around.scope op.kind (schemas_of around.scope.ports) around.schemas in
     gives_then Q (config_checked clauses.config) _ (λ u none.
     gives_after (WindowsFit (rules_of op.kind).window around.scope.ports) Q (windows_checked op.kind (number_literal around.scope follow) op.at around.scope.ports clauses.window) _
     (windows_fit (rules_of op.kind).window (number_literal around.scope follow) op.at around.scope.ports clauses.window) (λ windows fit_windows.

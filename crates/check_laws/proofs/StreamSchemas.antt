@@ -14,7 +14,7 @@ use Rattle.spl_tree.specs.declared.unit.OutputStream.{OutputStream}
 use Rattle.language_model.specs.Checking.{each_stream}
 use Rattle.language_model.specs.Keeping.{PortHas, PortsHave, StreamsHave, no_ports, no_streams, one_port, stream}
 use Rattle.language_model.specs.Numbering.{numbers_from}
-use Rattle.language_model.specs.StreamTypes.{Attributes, Body, Origin, are_alike, attributes_within, behind, each_name, input_heads, name_places, origin_attributes, output_heads, output_of_op, outputs_attributes, port_attributes, ports_attributes, same_attributes, stream_attributes}
+use Rattle.language_model.specs.StreamTypes.{Attributes, Body, Origin, are_alike, attributes_within, tail, each_name, input_heads, name_places, origin_attributes, output_heads, output_of_op, outputs_attributes, port_attributes, ports_attributes, same_attributes, stream_attributes}
 use Rattle.language_model.specs.Typing.{Found, after, mismatch}
 use Rattle.language_model.proofs.TypingLaws.{same_types_law}
 use Rattle.language_model.proofs.FoundAnswers.{after_gives, same_Ok}
@@ -121,7 +121,7 @@ module _ (unit : List Definition) (g : Graph) (all : List Attributes) (each : Ea
         | false ↦ λ no. absurd cc
       ] x.2
 
-  others_behind : (places : List ℕ) (n : ℕ) → suc n ≤ length places → n ≤ length (behind places)
+  others_behind : (places : List ℕ) (n : ℕ) → suc n ≤ length places → n ≤ length (tail places)
   others_behind [] n le = absurd (omega arith)
   others_behind (p ∷ places) n le = omega arith
 
@@ -129,14 +129,14 @@ module _ (unit : List Definition) (g : Graph) (all : List Attributes) (each : Ea
       → port_attributes unit g b q streams ≡ Ok schema → PortHas all streams schema
   port_has b q [] schema le e = absurd cc
   port_has b q (s ∷ streams) schema le e =
-      let x = after_gives (stream_attributes unit g s) (λ own. after (are_alike unit g own (behind (name_places b q)) streams) (λ u.
+      let x = after_gives (stream_attributes unit g s) (λ own. after (are_alike unit g own (tail (name_places b q)) streams) (λ u.
       after (each_name (input_heads (length g.expansions) unit g own b) q.streams) (λ v. Ok own))) schema e in
-      let y = after_gives (are_alike unit g x.0 (behind (name_places b q)) streams) (λ u.
+      let y = after_gives (are_alike unit g x.0 (tail (name_places b q)) streams) (λ u.
       after (each_name (input_heads (length g.expansions) unit g x.0 b) q.streams) (λ v. Ok x.0)) schema x.2 in
       let z = after_gives (each_name (input_heads (length g.expansions) unit g x.0 b) q.streams) (λ v. Ok x.0) schema y.2 in
       let own : x.0 ≡ schema = same_Ok z.2 in
-      let fewer : length streams ≤ length (behind (name_places b q)) = others_behind (name_places b q) (length streams) le in
-      let others = alike x.0 (behind (name_places b q)) streams y.0 y.1 fewer in
+      let fewer : length streams ≤ length (tail (name_places b q)) = others_behind (name_places b q) (length streams) le in
+      let others = alike x.0 (tail (name_places b q)) streams y.0 y.1 fewer in
       let at_each = λ (k t : ℕ) (at : slice_get (s ∷ streams) k ≡ Some t). first_or_other streams s x.0 (each s x.0 x.1) others k t at in
       subst (PortHas all (s ∷ streams)) own record { some = omega arith; alike = λ t c. at_each c.0 t (contained_at (s ∷ streams) t c) }
     where

@@ -8,9 +8,9 @@ use denote.Struct.Field.{row_field}
 use denote.Struct.Tuple.{Tuple, tuple_type}
 use denote.Param.Send.{IsSend, struct_send, enum_send, view_send, sendable}
 use denote.Param.SendFields.{as_row_send, declared_send}
-use Rattle.language_model.specs.contracts.checked.Collected as Collected
+use Rattle.language_model.specs.contracts.checked.CollectedAttribute as CollectedAttribute
 use Rattle.language_model.specs.contracts.checked.Handlers as Handlers
-use Rattle.language_model.specs.contracts.checked.Part as Part
+use Rattle.language_model.specs.contracts.checked.CheckedClauses as CheckedClauses
 use Rattle.language_model.specs.contracts.checked.StateVariable as StateVariable
 use Rattle.language_model.specs.contracts.checked_graph.Checked as Checked
 use Rattle.language_model.specs.contracts.checked_graph.Checked.TheInside as CheckedFields
@@ -34,7 +34,7 @@ use Rattle.spl_tree.proofs.code.BuiltIn.TheSendSync as builtin
 use Rattle.spl_tree.proofs.code.Code.TheLaws.TheKnot as code
 use Rattle.spl_tree.proofs.code.Marker.TheSendSync as marker
 use Rattle.spl_tree.proofs.code.Slot.TheSendSync as slot
-use Rattle.spl_tree.proofs.code.Taking.TheSendSync as taking
+use Rattle.spl_tree.proofs.code.Selector.TheSendSync as taking
 use Rattle.spl_tree.proofs.code.UnaryCode.TheSendSync as unary
 use Rattle.spl_tree.proofs.graph.Graph.TheSendSync as graph
 use Rattle.spl_value.proofs.boxed.Boxed.TheSendSync as boxed
@@ -108,14 +108,14 @@ bodies = items.the_send _ (option.the_send _ (items.the_send _ statement_send))
 handlers_field : IsSend (Handlers.the_field).row
 handlers_field = struct_send (S.shape Handlers.the_type) (items.the_send _ state_row, (bodies, (bodies, tt)))
 
-collected_row : IsSend Collected.the_row
-collected_row = as_row_send Collected.the_field (struct_send (S.shape Collected.the_type) (number, (collector.the_field_send, (option.the_field_send _ code_row, tt))))
+collected_row : IsSend CollectedAttribute.the_row
+collected_row = as_row_send CollectedAttribute.the_field (struct_send (S.shape CollectedAttribute.the_type) (number, (collector.the_field_send, (option.the_field_send _ code_row, tt))))
 
-part_field : IsSend (Part.the_field).row
+part_field : IsSend (CheckedClauses.the_field).row
 part_field =
     let condition = option.the_field_send _ code_row in
     let window = policy.the_field_send in
-    enum_send (E.shape Part.the_type) (
+    enum_send (E.shape CheckedClauses.the_type) (
       (bytes, (flag, tt)),
       (
         (bytes, tt),
@@ -147,8 +147,8 @@ part_field =
       ),
     )
 
-pub part_send : IsSend Part.the_row
-part_send = as_row_send Part.the_field part_field
+pub part_send : IsSend CheckedClauses.the_row
+part_send = as_row_send CheckedClauses.the_field part_field
 
 -- checked graphs
 pub checked_send : IsSend Checked.the_row

@@ -8,9 +8,9 @@ use denote.Struct.Field.{row_field}
 use denote.Struct.Tuple.{Tuple, tuple_type}
 use denote.Param.Send.{IsSync, struct_sync, enum_sync, view_sync, sendable}
 use denote.Param.SendFields.{as_row_sync, declared_sync}
-use Rattle.language_model.specs.contracts.checked.Collected as Collected
+use Rattle.language_model.specs.contracts.checked.CollectedAttribute as CollectedAttribute
 use Rattle.language_model.specs.contracts.checked.Handlers as Handlers
-use Rattle.language_model.specs.contracts.checked.Part as Part
+use Rattle.language_model.specs.contracts.checked.CheckedClauses as CheckedClauses
 use Rattle.language_model.specs.contracts.checked.StateVariable as StateVariable
 use Rattle.language_model.specs.contracts.checked_graph.Checked as Checked
 use Rattle.language_model.specs.contracts.checked_graph.Checked.TheInside as CheckedFields
@@ -34,7 +34,7 @@ use Rattle.spl_tree.proofs.code.BuiltIn.TheSendSync as builtin
 use Rattle.spl_tree.proofs.code.Code.TheLaws.TheKnot as code
 use Rattle.spl_tree.proofs.code.Marker.TheSendSync as marker
 use Rattle.spl_tree.proofs.code.Slot.TheSendSync as slot
-use Rattle.spl_tree.proofs.code.Taking.TheSendSync as taking
+use Rattle.spl_tree.proofs.code.Selector.TheSendSync as taking
 use Rattle.spl_tree.proofs.code.UnaryCode.TheSendSync as unary
 use Rattle.spl_tree.proofs.graph.Graph.TheSendSync as graph
 use Rattle.spl_value.proofs.boxed.Boxed.TheSendSync as boxed
@@ -108,14 +108,14 @@ bodies = items.the_sync _ (option.the_sync _ (items.the_sync _ statement_sync))
 handlers_field : IsSync (Handlers.the_field).row
 handlers_field = struct_sync (S.shape Handlers.the_type) (items.the_sync _ state_row, (bodies, (bodies, tt)))
 
-collected_row : IsSync Collected.the_row
-collected_row = as_row_sync Collected.the_field (struct_sync (S.shape Collected.the_type) (number, (collector.the_field_sync, (option.the_field_sync _ code_row, tt))))
+collected_row : IsSync CollectedAttribute.the_row
+collected_row = as_row_sync CollectedAttribute.the_field (struct_sync (S.shape CollectedAttribute.the_type) (number, (collector.the_field_sync, (option.the_field_sync _ code_row, tt))))
 
-part_field : IsSync (Part.the_field).row
+part_field : IsSync (CheckedClauses.the_field).row
 part_field =
     let condition = option.the_field_sync _ code_row in
     let window = policy.the_field_sync in
-    enum_sync (E.shape Part.the_type) (
+    enum_sync (E.shape CheckedClauses.the_type) (
       (bytes, (flag, tt)),
       (
         (bytes, tt),
@@ -147,8 +147,8 @@ part_field =
       ),
     )
 
-pub part_sync : IsSync Part.the_row
-part_sync = as_row_sync Part.the_field part_field
+pub part_sync : IsSync CheckedClauses.the_row
+part_sync = as_row_sync CheckedClauses.the_field part_field
 
 -- checked graphs
 pub checked_sync : IsSync Checked.the_row

@@ -12,7 +12,7 @@ use Rattle.spl_tree.specs.declared.unit.InputPort.{InputPort}
 use Rattle.spl_tree.specs.declared.unit.Invocation.{Invocation}
 use Rattle.spl_tree.specs.declared.unit.OutputStream.{OutputStream}
 use Rattle.spl_tree.specs.Grammar.{Expr}
-use Rattle.language_model.specs.declared.checked.Part.{Part}
+use Rattle.language_model.specs.declared.checked.CheckedClauses.{CheckedClauses}
 use Rattle.language_model.specs.declared.checked.PortTypes.{PortTypes}
 use Rattle.language_model.specs.declared.scope.Port.{Port}
 use Rattle.language_model.specs.declared.scope.Scope.{Scope}
@@ -118,7 +118,7 @@ types_length unit g b op i types e l =
 -- ---- an invocation
 
 module _ (unit : List Definition) (g : Graph) (s : Scope) (op : Op) (b : Body) (i : Invocation) where
-  abbrev behind : PortTypes → Found Part
+  abbrev behind : PortTypes → Found CheckedClauses
   behind types =
       let own = record s { ports = ports_of i.inputs types.ins } in
       clauses_checked op (record { scope = own; follow = followed unit g.expansions b.number }) (surroundings unit b i own types.outs) i.clauses

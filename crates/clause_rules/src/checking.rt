@@ -13,7 +13,7 @@ use body_rules::{functions_of, scope_of_unit};
 use body_sites::Sites;
 use check_laws::keeps_law;
 use dollar_rules::dollar_tables;
-use language_model::{Checked, Part, TypeAnswer, flat_law};
+use language_model::{Checked, CheckedClauses, TypeAnswer, flat_law};
 use spl_tree::{Graph, Unit};
 use spl_value::{Items, Schema};
 use std::alloc::Global;
@@ -25,7 +25,7 @@ pub type CheckAnswer = TypeAnswer;
 /// The parts of a graph's operators, and the attributes of its streams.
 #[derive(Drop)]
 struct Found {
-    parts: Items<Part>,
+    parts: Items<CheckedClauses>,
     schemas: Items<Schema>,
 }
 
@@ -64,7 +64,7 @@ fn parts_of<'a>(
     graph: &'a Graph,
     sites: &Sites<'a>,
     streams: &StreamTable,
-) -> Result<Items<Part>, TypeAnswer>
+) -> Result<Items<CheckedClauses>, TypeAnswer>
     requires table { IsTableOf sites.now.unit.now graph.now streams.now }
     requires expansions { sites.now.expansions.now ≡ graph.now.expansions }
     requires invoked { AreInvoked sites.now.unit.now graph.now }

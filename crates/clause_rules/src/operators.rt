@@ -14,7 +14,9 @@ ghost use Rattle.clause_rules.specs.steps.Programs.{AreInvoked, IsBody, invocati
 use crate::parts::{Around, Checks, output_rows, part_of};
 use crate::ports::{config_checked, outputs_of, ports_checked, ports_of};
 use body_sites::{Body, Sites};
-use language_model::{CheckError, Dollar, Given, Part, Policy, Scope, TypeAnswer, refused};
+use language_model::{
+    CheckError, CheckedClauses, Dollar, Given, Policy, Scope, TypeAnswer, refused,
+};
 use literal_sites::{ExpressionSite, Follow};
 use parameter_rules::parameters_of;
 use spl_tree::{Clauses, Graph, Invocation, Op, Parameter};
@@ -54,7 +56,7 @@ fn clauses_checked(
     scope: &mut Scope,
     op: &Op,
     clauses: &Clauses,
-) -> Result<Part, TypeAnswer>
+) -> Result<CheckedClauses, TypeAnswer>
     requires no_variables { scope.old.vars ≡ [] }
     requires no_marker { scope.old.punct ≡ false }
     ensures part { Finds (clauses_checked op.now (site_at scope.old follow.now) (around_seen around.now scope.old) clauses.now) result }
@@ -86,7 +88,7 @@ fn invocation_checked(
     op: &Op,
     body: &Body,
     invocation: &Invocation,
-) -> Result<Part, TypeAnswer>
+) -> Result<CheckedClauses, TypeAnswer>
     requires table { IsTableOf (program_unit program.now) program.now.graph.now program.now.streams.now }
     requires expansions { program.now.sites.now.expansions.now ≡ program.now.graph.now.expansions }
     requires body { IsBody (program_unit program.now) program.now.graph.now (body_seen body.now) }
@@ -150,7 +152,7 @@ fn operator_checked(
     scope: &mut Scope,
     tables: &mut [Items<Dollar>],
     op: &Op,
-) -> Result<Part, TypeAnswer>
+) -> Result<CheckedClauses, TypeAnswer>
     requires table { IsTableOf (program_unit program.now) program.now.graph.now program.now.streams.now }
     requires expansions { program.now.sites.now.expansions.now ≡ program.now.graph.now.expansions }
     requires invoked { IsInvoked (program_unit program.now) program.now.graph.now op.now }
@@ -179,7 +181,7 @@ pub(crate) fn operators_checked(
     program: &Program,
     scope: &mut Scope,
     tables: &mut [Items<Dollar>],
-) -> Result<Items<Part>, TypeAnswer>
+) -> Result<Items<CheckedClauses>, TypeAnswer>
     requires table { IsTableOf (program_unit program.now) program.now.graph.now program.now.streams.now }
     requires expansions { program.now.sites.now.expansions.now ≡ program.now.graph.now.expansions }
     requires invoked { AreInvoked (program_unit program.now) program.now.graph.now }

@@ -4,7 +4,7 @@ ghost use Rattle.std.specs.List.{list_all};
 ghost use Rattle.std.specs.Option.{option_copied};
 ghost use Rattle.spl_value.specs.declared.types.SplType.TheViews.{out-SplType};
 ghost use Rattle.spl_tree.specs.declared.graph.OpKind.TheVariants as O;
-ghost use Rattle.language_model.specs.declared.checked.Part.TheVariants as A;
+ghost use Rattle.language_model.specs.declared.checked.CheckedClauses.TheVariants as A;
 ghost use Rattle.language_model.specs.Checking.{code_given, file_sink, file_source, aggregated, functor, has_text_form, joined, level_text_form, logic_checked, output_rows, part_of, places_given, plain, position_given, punctor, split, there, union};
 ghost use Rattle.language_model.specs.LogicTyping.{logic_typing};
 ghost use Rattle.language_model.specs.Typing.{after};
@@ -13,8 +13,8 @@ ghost use Rattle.clause_rules.specs.steps.Operators.{around_seen, checks_seen, g
 
 use crate::logic::logic_of;
 use language_model::{
-    CheckError, Collected, Given, Part, Policy, Port, Position, Scope, TypeAnswer, refused,
-    refused_name, rules_of,
+    CheckError, CheckedClauses, CollectedAttribute, Given, Policy, Port, Position, Scope,
+    TypeAnswer, refused, refused_name, rules_of,
 };
 use output_rules::{groups_of, places_of, tuple_of};
 use parameter_rules::{position_given, strict_given, take_code, take_file, take_places};
@@ -84,7 +84,12 @@ fn without_logic<T: Drop>(
 }
 
 /// A part of an operator whose logic isn't looked at any more.
-fn plain(alloc: Global, kind: OpKind, clauses: &Clauses, part: Part) -> Result<Part, TypeAnswer>
+fn plain(
+    alloc: Global,
+    kind: OpKind,
+    clauses: &Clauses,
+    part: CheckedClauses,
+) -> Result<CheckedClauses, TypeAnswer>
     ensures { Finds (plain kind clauses.now part) result }
 {
     without_logic(alloc, kind, clauses, part)
@@ -125,7 +130,7 @@ fn file_source(
     scope: &Scope,
     checks: Checks,
     clauses: &Clauses,
-) -> Result<Part, TypeAnswer>
+) -> Result<CheckedClauses, TypeAnswer>
     ensures { Finds (file_source (checks_seen around.now scope.now checks) clauses.now) result }
 {
     logic_checked(alloc, OpKind::FileSource, clauses.logic.as_ref())?;
@@ -133,7 +138,7 @@ fn file_source(
     let mut given = checks.given;
     let strict = strict_given(given.as_slice());
     let file = take_file(alloc, &mut given);
-    Ok(Part::FileSource { file, strict })
+    Ok(CheckedClauses::FileSource { file, strict })
 }
 
 fn file_sink(
@@ -142,22 +147,27 @@ fn file_sink(
     scope: &Scope,
     checks: Checks,
     clauses: &Clauses,
-) -> Result<Part, TypeAnswer>
+) -> Result<CheckedClauses, TypeAnswer>
     ensures { Finds (file_sink (checks_seen around.now scope.now checks) clauses.now) result }
 {
     logic_checked(alloc, OpKind::FileSink, clauses.logic.as_ref())?;
     rows_checked(checks.at, scope.ports.as_slice())?;
     let mut given = checks.given;
     let file = take_file(alloc, &mut given);
-    Ok(Part::FileSink { file })
+    Ok(CheckedClauses::FileSink { file })
 }
 
-fn filter(alloc: Global, checks: Checks, clauses: &Clauses) -> Result<Part, TypeAnswer>
+fn filter(alloc: Global, checks: Checks, clauses: &Clauses) -> Result<CheckedClauses, TypeAnswer>
     ensures { Finds (plain O.Filter clauses.now (A.Filter (code_given checks.given (codes "filter")))) result }
 {
     let mut given = checks.given;
     let condition = take_code(&mut given, b"filter");
-    plain(alloc, OpKind::Filter, clauses, Part::Filter { condition })
+    plain(
+        alloc,
+        OpKind::Filter,
+        clauses,
+        CheckedClauses::Filter { condition },
+    )
 }
 
 /// The output of a Functor or a Join, as the code of a tuple.
@@ -206,7 +216,7 @@ fn functor(
     checks: Checks,
     clauses: &Clauses,
     rows: &[OutputAssignments],
-) -> Result<Part, TypeAnswer>
+) -> Result<CheckedClauses, TypeAnswer>
     ensures { Finds (functor (checks_seen around.now scope.now checks) clauses.now rows.now) result }
 {
     let output = tuple(alloc, around, scope, checks.at, rows)?;
@@ -216,7 +226,7 @@ fn functor(
         alloc,
         OpKind::Functor,
         clauses,
-        Part::Functor { condition, output },
+        CheckedClauses::Functor { condition, output },
     )
 }
 
@@ -236,7 +246,7 @@ fn punctor(
     scope: &Scope,
     checks: Checks,
     clauses: &Clauses,
-) -> Result<Part, TypeAnswer>
+) -> Result<CheckedClauses, TypeAnswer>
     ensures { Finds (punctor (checks_seen around.now scope.now checks) clauses.now) result }
 {
     let (condition, position) = marking_of(checks.given);
@@ -246,7 +256,7 @@ fn punctor(
         alloc,
         OpKind::Punctor,
         clauses,
-        Part::Punctor {
+        CheckedClauses::Punctor {
             condition,
             position,
         },
@@ -259,12 +269,17 @@ fn split(
     scope: &Scope,
     checks: Checks,
     clauses: &Clauses,
-) -> Result<Part, TypeAnswer>
+) -> Result<CheckedClauses, TypeAnswer>
     ensures { Finds (split (checks_seen around.now scope.now checks) clauses.now) result }
 {
     let mut given = checks.given;
     let index = there(checks.at, take_code(&mut given, b"index"))?;
-    plain(alloc, OpKind::Split, clauses, Part::Split { index })
+    plain(
+        alloc,
+        OpKind::Split,
+        clauses,
+        CheckedClauses::Split { index },
+    )
 }
 
 fn union(
@@ -273,7 +288,7 @@ fn union(
     scope: &Scope,
     checks: Checks,
     clauses: &Clauses,
-) -> Result<Part, TypeAnswer>
+) -> Result<CheckedClauses, TypeAnswer>
     ensures { Finds (union (checks_seen around.now scope.now checks) clauses.now) result }
 {
     let schema = match around.outputs.first() {
@@ -281,7 +296,12 @@ fn union(
         None => &[],
     };
     let places = places_of(alloc, checks.at, schema, scope.ports.as_slice())?;
-    plain(alloc, OpKind::Union, clauses, Part::Union { places })
+    plain(
+        alloc,
+        OpKind::Union,
+        clauses,
+        CheckedClauses::Union { places },
+    )
 }
 
 /// The output of an Aggregate.
@@ -291,7 +311,7 @@ fn groups(
     scope: &Scope,
     at: u32,
     rows: &[OutputAssignments],
-) -> Result<Items<Collected>, TypeAnswer>
+) -> Result<Items<CollectedAttribute>, TypeAnswer>
     ensures { Finds (groups_at around.now scope.now at rows.now) result }
 {
     match around.outputs.first() {
@@ -321,7 +341,7 @@ fn aggregate(
     checks: Checks,
     clauses: &Clauses,
     rows: &[OutputAssignments],
-) -> Result<Part, TypeAnswer>
+) -> Result<CheckedClauses, TypeAnswer>
     ensures { Finds (aggregated (checks_seen around.now scope.now checks) clauses.now rows.now checks.windows) result }
 {
     let [window, ..] = checks.windows.as_slice() else {
@@ -334,7 +354,7 @@ fn aggregate(
         alloc,
         OpKind::Aggregate,
         clauses,
-        Part::Aggregate {
+        CheckedClauses::Aggregate {
             window,
             partition,
             group,
@@ -350,7 +370,7 @@ fn join(
     checks: Checks,
     clauses: &Clauses,
     rows: &[OutputAssignments],
-) -> Result<Part, TypeAnswer>
+) -> Result<CheckedClauses, TypeAnswer>
     ensures { Finds (joined (checks_seen around.now scope.now checks) clauses.now rows.now checks.windows) result }
 {
     let [left, right, ..] = checks.windows.as_slice() else {
@@ -364,7 +384,7 @@ fn join(
         alloc,
         OpKind::Join,
         clauses,
-        Part::Join {
+        CheckedClauses::Join {
             left,
             right,
             condition,
@@ -379,7 +399,7 @@ fn custom(
     scope: &mut Scope,
     _: Checks,
     clauses: &Clauses,
-) -> Result<Part, TypeAnswer>
+) -> Result<CheckedClauses, TypeAnswer>
     requires no_variables { scope.old.vars ≡ [] }
     requires no_marker { scope.old.punct ≡ false }
     ensures part { Finds (after (logic_typing (around_seen around.now scope.old) clauses.now.logic) (λ handlers. Ok (A.Custom handlers))) result }
@@ -387,7 +407,7 @@ fn custom(
 {
     let logic = clauses.logic.as_ref();
     let handlers = logic_of(alloc, &around.types, scope, around.outputs, logic)?;
-    Ok(Part::Custom { handlers })
+    Ok(CheckedClauses::Custom { handlers })
 }
 
 /// The clauses of an operator of a kind. The scope is changed on the way, and is as before where the
@@ -400,7 +420,7 @@ pub(crate) fn part_of(
     clauses: &Clauses,
     rows: &[OutputAssignments],
     kind: OpKind,
-) -> Result<Part, TypeAnswer>
+) -> Result<CheckedClauses, TypeAnswer>
     requires no_variables { scope.old.vars ≡ [] }
     requires no_marker { scope.old.punct ≡ false }
     ensures part { Finds (part_of (checks_seen around.now scope.old checks) clauses.now rows.now kind) result }

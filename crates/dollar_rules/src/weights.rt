@@ -1,6 +1,6 @@
 //! How large the codes of values of `$` parameters are. Each use of a parameter copies its code, so a
 //! row of them may grow to twice as much at each step.
-use spl_tree::{Code, Slot, Taking};
+use spl_tree::{Code, Selector, Slot};
 
 /// The depth that the code of a parameter's value may have at most.
 const DEEPEST: u32 = 1_000;
@@ -74,9 +74,9 @@ fn fields_fit(fields: &[(u32, Code<Slot>)], depth: u32, left: &mut u32) -> bool 
 }
 
 #[cycle(fits)]
-fn takings_fit(takings: &[Taking<Code<Slot>>], depth: u32, left: &mut u32) -> bool {
+fn takings_fit(takings: &[Selector<Code<Slot>>], depth: u32, left: &mut u32) -> bool {
     for taking in takings {
-        if let Taking::Element(code) | Taking::AtKey(code) = taking
+        if let Selector::Element(code) | Selector::AtKey(code) = taking
             && !fits(code, depth, left)
         {
             return false;

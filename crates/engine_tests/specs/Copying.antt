@@ -1,7 +1,7 @@
 -- A worked graph: a source of texts, and a sink that reads it.
 use Rattle.std.specs.Prelude.{true, [], ◌∷◌, codes}
 use Rattle.spl_tree.specs.declared.graph.OpKind.TheVariants as O
-use Rattle.language_model.specs.declared.checked.Part.TheVariants as A
+use Rattle.language_model.specs.declared.checked.CheckedClauses.TheVariants as A
 use Rattle.language_model.specs.CheckedGraph.{CheckedGraph}
 use Rattle.stream_model.specs.Meaning.{Graph}
 use Rattle.stream_model.specs.Operators.{Operator}

@@ -8,8 +8,8 @@ use Rattle.spl_tree.specs.declared.code.BinaryCode.{BinaryCode}
 use Rattle.spl_tree.specs.declared.code.BinaryCode.TheVariants as D
 use Rattle.spl_tree.specs.declared.code.Code.{Code}
 use Rattle.spl_tree.specs.declared.code.Code.TheVariants as S
-use Rattle.spl_tree.specs.declared.code.Taking.{Taking}
-use Rattle.spl_tree.specs.declared.code.Taking.TheVariants as K
+use Rattle.spl_tree.specs.declared.code.Selector.{Selector}
+use Rattle.spl_tree.specs.declared.code.Selector.TheVariants as K
 use Rattle.spl_tree.specs.declared.code.UnaryCode.{UnaryCode}
 use Rattle.language_model.specs.Evaluation.{World, Meaning, Calls, map_of, tuple_of, unaries_of, truth, binary, same_marker, code_value}
 use Rattle.language_model.specs.EvaluationLaws.{values_of, pair_values, field_values, takings_value, truth_value, literal_is, name_is, list_is, map_is, tuple_is, select_is, unary_is, binary_is, conditional_is, built_in_is, call_is, is_marker_is, is_not_marker_is}
@@ -80,7 +80,7 @@ module _ (most : ℕ) (calls others : Calls) (c : (i : ℕ) (values : List Value
       takes_followed (suc most) turns (code_value calls f.1 w turns) _ _ _ (h.0 turns) (λ y turns.
       takes_followed (suc most) turns (field_values calls fs w turns) _ _ _ (fields_take fs h.1 turns) (λ gs turns. takes_none (suc most) ((f.0, y) ∷ gs) turns))
 
-  takings_take : (ts : List (Taking (Code N))) → AllByRecursion (OfTaking Comes) ts → (u : Value) (turns : ℕ)
+  takings_take : (ts : List (Selector (Code N))) → AllByRecursion (OfTaking Comes) ts → (u : Value) (turns : ℕ)
       → Takes (suc most) turns (takings_value calls ts u w turns) (takings_value others ts u w)
   takings_take [] h u turns = takes_none (suc most) u turns
   takings_take (K.Member i ∷ ts) h u turns =

@@ -13,8 +13,8 @@ use Rattle.spl_tree.specs.declared.body.Statement.{Statement}
 use Rattle.spl_tree.specs.declared.body.Statement.TheVariants as T
 use Rattle.spl_tree.specs.declared.code.Code.{Code}
 use Rattle.spl_tree.specs.declared.code.Slot.{Slot}
-use Rattle.spl_tree.specs.declared.code.Taking.{Taking}
-use Rattle.spl_tree.specs.declared.code.Taking.TheVariants as G
+use Rattle.spl_tree.specs.declared.code.Selector.{Selector}
+use Rattle.spl_tree.specs.declared.code.Selector.TheVariants as G
 use Rattle.language_model.specs.declared.env.Env.{Env}
 use Rattle.language_model.specs.declared.flow.Flow.{Flow}
 use Rattle.language_model.specs.declared.flow.Flow.TheVariants as F
@@ -146,20 +146,20 @@ module _ (deepest : ℕ) (bodies others : Bodies) (c : (i : ℕ) (values : List 
 
   -- ---- changes
 
-  step_takes : (t : Taking (Code Slot)) (s : State) (turns : ℕ) → Takes (suc deepest) turns (step_value bodies t s turns) (step_value others t s)
+  step_takes : (t : Selector (Code Slot)) (s : State) (turns : ℕ) → Takes (suc deepest) turns (step_value bodies t s turns) (step_value others t s)
   step_takes (G.Member i) s turns = takes_none (suc deepest) (G.Member i) turns
   step_takes (G.Element code) s turns =
       takes_followed (suc deepest) turns (value_in bodies code s turns) _ _ _ (value_takes code s turns) (λ v turns. takes_none (suc deepest) (G.Element v) turns)
   step_takes (G.AtKey code) s turns =
       takes_followed (suc deepest) turns (value_in bodies code s turns) _ _ _ (value_takes code s turns) (λ v turns. takes_none (suc deepest) (G.AtKey v) turns)
 
-  steps_take : (ts : List (Taking (Code Slot))) (s : State) (turns : ℕ) → Takes (suc deepest) turns (step_values bodies ts s turns) (step_values others ts s)
+  steps_take : (ts : List (Selector (Code Slot))) (s : State) (turns : ℕ) → Takes (suc deepest) turns (step_values bodies ts s turns) (step_values others ts s)
   steps_take [] s turns = takes_none (suc deepest) [] turns
   steps_take (t ∷ ts) s turns =
       takes_followed (suc deepest) turns (step_value bodies t s turns) _ _ _ (step_takes t s turns) (λ step turns.
       takes_followed (suc deepest) turns (step_values bodies ts s turns) _ _ _ (steps_take ts s turns) (λ steps turns. takes_none (suc deepest) (step ∷ steps) turns))
 
-  taken_take : (ts : List (Taking (Code Slot))) (v : Value) (s : State) (turns : ℕ) → Takes (suc deepest) turns (steps_taken bodies ts v s turns) (steps_taken others ts v s)
+  taken_take : (ts : List (Selector (Code Slot))) (v : Value) (s : State) (turns : ℕ) → Takes (suc deepest) turns (steps_taken bodies ts v s turns) (steps_taken others ts v s)
   taken_take [] v s turns = takes_none (suc deepest) [] turns
   taken_take (t ∷ ts) v s turns =
       takes_followed (suc deepest) turns (step_value bodies t s turns) _ _ _ (step_takes t s turns) (λ step turns.
@@ -177,7 +177,7 @@ module _ (deepest : ℕ) (bodies others : Bodies) (c : (i : ℕ) (values : List 
 
   module _ (place : Place) where
     -- of a change that evaluates the place first
-    abbrev called_values : Bodies → Change (Code Slot) → State → ℕ → Outcome (List (Taking Value) × Change Value)
+    abbrev called_values : Bodies → Change (Code Slot) → State → ℕ → Outcome (List (Selector Value) × Change Value)
     called_values bodies change s turns =
         need (slice_get s.env.vars place.variable) (λ v.
         followed (steps_taken bodies place.takings v s turns) (λ steps turns.
@@ -197,7 +197,7 @@ module _ (deepest : ℕ) (bodies others : Bodies) (c : (i : ℕ) (values : List 
     changes_take (H.Remove code) s turns = called_takes (H.Remove code) s turns
     changes_take H.Clear s turns = called_takes H.Clear s turns
 
-    changed_takes : (steps : List (Taking Value)) (change : Change Value) → Alike (changed_at place.variable steps change) (changed_at place.variable steps change)
+    changed_takes : (steps : List (Selector Value)) (change : Change Value) → Alike (changed_at place.variable steps change) (changed_at place.variable steps change)
     changed_takes steps change s turns =
         takes_need (suc deepest) turns (slice_get s.env.vars place.variable) _ _ (λ old.
         let called = changed steps (change_of change) (Some old) in

@@ -13,7 +13,7 @@ use Rattle.spl_tree.specs.declared.code.Code.TheOpen as O
 use Rattle.spl_tree.specs.declared.code.Code.TheOpen.{Code-F}
 use Rattle.spl_tree.specs.declared.code.Code.TheViews.{out-Code}
 use Rattle.spl_tree.specs.declared.code.Slot.{Slot}
-use Rattle.spl_tree.specs.declared.code.Taking.{Taking}
+use Rattle.spl_tree.specs.declared.code.Selector.{Selector}
 use Rattle.spl_tree.specs.declared.body.Function.{Function}
 use Rattle.spl_tree.specs.declared.code.Marker.{Marker}
 use Rattle.spl_tree.specs.declared.code.UnaryCode.{UnaryCode}
@@ -142,7 +142,7 @@ module _ (functions : List Function) (env : Env) where
         let at = arguments_at h.1.scope xs p.0.parameters p.3 i x e in
         (at.0, part x at.0 at.1)
 
-    pub select_parts : (x : Code Slot) (steps : List (Taking (Code Slot))) → code ≡ C.Select x steps
+    pub select_parts : (x : Code Slot) (steps : List (Selector (Code Slot))) → code ≡ C.Select x steps
         → (t : SplType) × Fits functions x env t × ((v : Value) → IsTrue (fits t v) → FitTakings functions steps env v)
     select_parts x steps is =
         let p : Parts h.1.scope (O.Select x steps) h.0 = parts_of (O.Select x steps) (ap (out-Code Slot) is ∙ C.outs-Select x steps) in

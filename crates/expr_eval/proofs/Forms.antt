@@ -10,7 +10,7 @@ use Rattle.spl_tree.specs.declared.code.Code.{Code}
 use Rattle.spl_tree.specs.declared.code.Code.TheVariants as C
 use Rattle.spl_tree.specs.declared.code.Marker.{Marker}
 use Rattle.spl_tree.specs.declared.code.Slot.{Slot}
-use Rattle.spl_tree.specs.declared.code.Taking.{Taking}
+use Rattle.spl_tree.specs.declared.code.Selector.{Selector}
 use Rattle.spl_tree.specs.declared.code.UnaryCode.{UnaryCode}
 use Rattle.language_model.specs.Evaluation.{World, Calls, map_of, tuple_of, unaries_of, binary, same_marker, code_value}
 use Rattle.language_model.specs.EvaluationLaws.{values_of, pair_values, field_values, takings_value, truth_value, literal_is, name_is, list_is, map_is, tuple_is, select_is, unary_is, binary_is, conditional_is, built_in_is, call_is, is_marker_is, is_not_marker_is}
@@ -40,7 +40,7 @@ module _ (calls : Calls) (w : World Slot) (code : Code Slot) (turns : ℕ) where
   pub name_answers : (s : Slot) → code ≡ C.Name s → (r : Result Held Stop) → ReadsHeld (w.value_of s) r → AnswersHeld comes r turns
   name_answers s is r h = answers_held_by comes _ r turns (form (C.Name s) _ is (name_is calls s w turns)) (read_answers (w.value_of s) r turns h)
 
-  module _ (x : Code Slot) (ts : List (Taking (Code Slot))) (is : code ≡ C.Select x ts) where
+  module _ (x : Code Slot) (ts : List (Selector (Code Slot))) (is : code ≡ C.Select x ts) where
     select_form : comes ≡ followed (code_value calls x w turns) (λ v turns. takings_value calls ts v w turns)
     select_form = form (C.Select x ts) _ is (select_is calls x ts w turns)
 

@@ -13,8 +13,8 @@ use Rattle.spl_tree.specs.declared.body.Function.{Function}
 use Rattle.spl_tree.specs.declared.body.Place.{Place}
 use Rattle.spl_tree.specs.declared.code.Code.{Code}
 use Rattle.spl_tree.specs.declared.code.Slot.{Slot}
-use Rattle.spl_tree.specs.declared.code.Taking.{Taking}
-use Rattle.spl_tree.specs.declared.code.Taking.TheVariants as K
+use Rattle.spl_tree.specs.declared.code.Selector.{Selector}
+use Rattle.spl_tree.specs.declared.code.Selector.TheVariants as K
 use Rattle.language_model.specs.declared.env.Env.{Env}
 use Rattle.language_model.specs.declared.flow.Flow.{Flow}
 use Rattle.language_model.specs.declared.outs.Output.{Output}
@@ -72,11 +72,11 @@ module _ (functions : List Function) (place : Place) (env : Env) (h : PlaceIsFit
     it_is_read : (v : Value) → slice_get env.vars place.variable ≡ Some v → v ≡ x
     it_is_read v at = let both : Some v ≡ Some x = sym at ∙ variable_read in cc
 
-    module _ (items : List (Taking (Code Slot))) (e : items ≡ place.takings) where
+    module _ (items : List (Selector (Code Slot))) (e : items ≡ place.takings) where
       pub steps_begin : StepsFrom functions items env x
       steps_begin = subst (λ items. StepsFrom functions items env x) (sym e) (subst (λ v. StepsFrom functions place.takings env v) (it_is_read there.0 there.1) there.2)
 
-      pub taken_begins : (bodies : Bodies) (done : List (Taking Value)) → done ≡ [] → (turns : ℕ) (v : Value) → slice_get env.vars place.variable ≡ Some v
+      pub taken_begins : (bodies : Bodies) (done : List (Selector Value)) → done ≡ [] → (turns : ℕ) (v : Value) → slice_get env.vars place.variable ≡ Some v
           → steps_taken bodies place.takings v (state env []) turns ≡ taken_from bodies (state env []) items 0 x done turns
       taken_begins bodies done none turns v at =
           ap (λ v. steps_taken bodies place.takings v (state env []) turns) (it_is_read v at)
@@ -86,11 +86,11 @@ module _ (functions : List Function) (place : Place) (env : Env) (h : PlaceIsFit
 -- ---- the values of a change
 
 abbrev pub Changed : Type 0
-Changed = List (Taking Value) × Change Value
+Changed = List (Selector Value) × Change Value
 
 module _ (bodies : Bodies) (s : State) where
   -- those of every change but an assignment
-  abbrev with_argument : Change (Code Slot) → List (Taking Value) → ℕ → Outcome Changed
+  abbrev with_argument : Change (Code Slot) → List (Selector Value) → ℕ → Outcome Changed
   with_argument change steps turns = followed (change_value bodies change s turns) (λ c turns. Done (steps, c) turns)
 
   abbrev by_place : Place → Change (Code Slot) → ℕ → Outcome Changed
@@ -108,20 +108,20 @@ no_turn (Faults kind) turns left v e = absurd cc
 no_turn Unfit turns left v e = absurd cc
 
 module _ (bodies : Bodies) (s : State) where
-  abbrev others : List (Taking (Code Slot)) → Taking Value → ℕ → Outcome (List (Taking Value))
+  abbrev others : List (Selector (Code Slot)) → Selector Value → ℕ → Outcome (List (Selector Value))
   others ts step turns = followed (step_values bodies ts s turns) (λ steps turns. Done (step ∷ steps) turns)
 
-  abbrev taken_others : List (Taking (Code Slot)) → Taking Value → Value → ℕ → Outcome (List (Taking Value))
+  abbrev taken_others : List (Selector (Code Slot)) → Selector Value → Value → ℕ → Outcome (List (Selector Value))
   taken_others ts step u turns = followed (steps_taken bodies ts u s turns) (λ steps turns. Done (step ∷ steps) turns)
 
-  one_more : (t : Taking (Code Slot)) (ts : List (Taking (Code Slot))) (turns after same_after end left : ℕ) (step : Taking Value) (more steps : List (Taking Value))
+  one_more : (t : Selector (Code Slot)) (ts : List (Selector (Code Slot))) (turns after same_after end left : ℕ) (step : Selector Value) (more steps : List (Selector Value))
       → step_value bodies t s turns ≡ Done step after → after ≡ same_after → step_values bodies ts s same_after ≡ Done more end → Done (step ∷ more) end ≡ Done steps left
       → step_values bodies (t ∷ ts) s turns ≡ Done steps left
   one_more t ts turns after same_after end left step more steps e same d all =
       ap (λ o. followed o (others ts)) e ∙ ap (others ts step) same ∙ ap (λ o. followed o (λ steps turns. Done (step ∷ steps) turns)) d ∙ all
 
   -- steps that are taken have the same values
-  same_steps : (ts : List (Taking (Code Slot))) (v : Value) (turns left : ℕ) (steps : List (Taking Value)) → steps_taken bodies ts v s turns ≡ Done steps left
+  same_steps : (ts : List (Selector (Code Slot))) (v : Value) (turns left : ℕ) (steps : List (Selector Value)) → steps_taken bodies ts v s turns ≡ Done steps left
       → step_values bodies ts s turns ≡ Done steps left
   same_steps [] v turns left steps e = e
   same_steps (t ∷ ts) v turns left steps e =
@@ -139,7 +139,7 @@ module _ (law : NeverStuckLaw) (functions : List Function) (depth : ℕ) (env : 
   value_fits x t f = of_type law functions env depth x t (record { scope = scope; code_fits = f; env_fits = is.0.env_fits; functions_fit = is.1 })
 
   -- the values of steps lead where the steps do
-  values_lead : (ts : List (Taking (Code Slot))) (t u : SplType) → StepsLead scope ts t u → (turns left : ℕ) (steps : List (Taking Value))
+  values_lead : (ts : List (Selector (Code Slot))) (t u : SplType) → StepsLead scope ts t u → (turns left : ℕ) (steps : List (Selector Value))
       → step_values bodies ts (state env []) turns ≡ Done steps left → StepsLeadTo steps t u
   values_lead _ _ _ (F.here t) turns left steps e = let same : [] ≡ steps = cc in subst (λ steps. StepsLeadTo steps t t) same (C.here t)
   values_lead _ _ _ (F.member i rest schema a u at h) turns left steps e =
@@ -179,7 +179,7 @@ module _ (law : NeverStuckLaw) (functions : List Function) (depth : ℕ) (env : 
   argument_fits _ _ (B.clears_map k t) turns left c e = let same : H.Clear ≡ c = cc in subst (λ c. ArgumentFits c (S.Map k t)) same (inr (k, t, refl))
 
   -- the values of an assignment, and those of a call
-  abbrev Comes : Place → Change (Code Slot) → List (Taking Value) → Change Value → Type 0
+  abbrev Comes : Place → Change (Code Slot) → List (Selector Value) → Change Value → Type 0
   Comes place change steps c =
       (mid : ℕ) × (left : ℕ) × (at : ℕ) × (end : ℕ) × (step_values bodies place.takings (state env []) mid ≡ Done steps left) × (change_value bodies change (state env []) at ≡ Done c end)
 
@@ -244,18 +244,18 @@ module _ (law : NeverStuckLaw) (functions : List Function) (depth : ℕ) (place 
 -- ---- what has been submitted doesn't count
 
 module _ (bodies : Bodies) (env : Env) (submits : List Output) where
-  any_step : (t : Taking (Code Slot)) (turns : ℕ) → step_value bodies t (state env submits) turns ≡ step_value bodies t (state env []) turns
+  any_step : (t : Selector (Code Slot)) (turns : ℕ) → step_value bodies t (state env submits) turns ≡ step_value bodies t (state env []) turns
   any_step (K.Member i) turns = refl
   any_step (K.Element x) turns = refl
   any_step (K.AtKey x) turns = refl
 
-  any_steps : (ts : List (Taking (Code Slot))) (turns : ℕ) → step_values bodies ts (state env submits) turns ≡ step_values bodies ts (state env []) turns
+  any_steps : (ts : List (Selector (Code Slot))) (turns : ℕ) → step_values bodies ts (state env submits) turns ≡ step_values bodies ts (state env []) turns
   any_steps [] turns = refl
   any_steps (t ∷ ts) turns =
       ap (λ o. followed o (others bodies (state env submits) ts)) (any_step t turns)
       ∙ (λ j. followed (step_value bodies t (state env []) turns) (λ step turns. followed (any_steps ts turns j) (λ steps turns. Done (step ∷ steps) turns)))
 
-  any_taken : (ts : List (Taking (Code Slot))) (v : Value) (turns : ℕ) → steps_taken bodies ts v (state env submits) turns ≡ steps_taken bodies ts v (state env []) turns
+  any_taken : (ts : List (Selector (Code Slot))) (v : Value) (turns : ℕ) → steps_taken bodies ts v (state env submits) turns ≡ steps_taken bodies ts v (state env []) turns
   any_taken [] v turns = refl
   any_taken (t ∷ ts) v turns =
       ap (λ o. followed o (λ step turns. followed (settled (step_of step v) turns) (taken_others bodies (state env submits) ts step))) (any_step t turns)

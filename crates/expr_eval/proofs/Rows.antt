@@ -7,7 +7,7 @@ use Rattle.spl_value.specs.declared.value.Value.{Value}
 use Rattle.spl_value.specs.Pairs.{pairs_put}
 use Rattle.spl_tree.specs.declared.code.Code.{Code}
 use Rattle.spl_tree.specs.declared.code.Slot.{Slot}
-use Rattle.spl_tree.specs.declared.code.Taking.{Taking}
+use Rattle.spl_tree.specs.declared.code.Selector.{Selector}
 use Rattle.language_model.specs.Outcomes.{Outcome, Done, followed}
 use Rattle.language_model.specs.Evaluation.{World, Calls, code_value, taken, map_of}
 use Rattle.language_model.specs.EvaluationLaws.{values_of, pair_values, field_values, taking_meaning, takings_value}
@@ -173,14 +173,14 @@ module _ (calls : Calls) (w : World Slot) where
           (followed_stops (code_value calls p.1 w after) (λ v turns. Done (k, v) turns) s d))
 
   -- what is taken in turn
-  abbrev pub takings_from : List (Taking (Code Slot)) → ℕ → Value → ℕ → Outcome Value
+  abbrev pub takings_from : List (Selector (Code Slot)) → ℕ → Value → ℕ → Outcome Value
   takings_from ts i v turns = takings_value calls (drop i ts) v w turns
 
-  module _ (ts : List (Taking (Code Slot))) (i : ℕ) (v : Value) (turns : ℕ) where
+  module _ (ts : List (Selector (Code Slot))) (i : ℕ) (v : Value) (turns : ℕ) where
     pub takings_past : length ts ≤ i → takings_from ts i v turns ≡ Done v turns
     takings_past h = ap (λ ts. takings_value calls ts v w turns) (drop_all i ts h)
 
-    module _ (t : Taking (Code Slot)) (h : i < length ts) (e : t ≡ get_or ts i t) where
+    module _ (t : Selector (Code Slot)) (h : i < length ts) (e : t ≡ get_or ts i t) where
       takings_rest : takings_from ts i v turns ≡ followed (taken (taking_meaning calls t) v w turns) (λ u turns. takings_from ts (i + 1) u turns)
       takings_rest = ap (λ ts. takings_value calls ts v w turns) (drop_at ts i t h e)
 

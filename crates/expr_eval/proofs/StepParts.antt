@@ -10,8 +10,8 @@ use Rattle.spl_value.specs.Values.{fits}
 use Rattle.spl_tree.specs.declared.code.Code.{Code}
 use Rattle.spl_tree.specs.declared.body.Function.{Function}
 use Rattle.spl_tree.specs.declared.code.Slot.{Slot}
-use Rattle.spl_tree.specs.declared.code.Taking.{Taking}
-use Rattle.spl_tree.specs.declared.code.Taking.TheVariants as K
+use Rattle.spl_tree.specs.declared.code.Selector.{Selector}
+use Rattle.spl_tree.specs.declared.code.Selector.TheVariants as K
 use Rattle.language_model.specs.declared.env.Env.{Env}
 use Rattle.language_model.specs.declared.scope.Scope.{Scope}
 use Rattle.language_model.specs.CodeFits as F
@@ -28,21 +28,21 @@ use Rattle.expr_eval.proofs.ValueTypes.{of_type, taken_of_type}
 use Rattle.spl_value.proofs.Lists.{drop_at}
 
 -- what the first step asks for, and where the others lead from there
-abbrev pub Steps : Scope → List (Taking (Code Slot)) → SplType → SplType → Type 0
+abbrev pub Steps : Scope → List (Selector (Code Slot)) → SplType → SplType → Type 0
 Steps scope [] t u = Unit {0}
 Steps scope (K.Member i ∷ rest) t u = (schema : List (Named SplType)) × (a : Named SplType) × (t ≡ S.Tuple schema) × (slice_get schema i ≡ Some a) × StepsLead scope rest a.kind u
 Steps scope (K.Element x ∷ rest) t u = (k : IntKind) × (v : SplType) × (t ≡ S.List v) × CodeFits scope x (S.Int k) × StepsLead scope rest v u
 Steps scope (K.AtKey x ∷ rest) t u = (k : SplType) × (v : SplType) × (t ≡ S.Map k v) × CodeFits scope x k × StepsLead scope rest v u
 
 module _ (scope : Scope) where
-  pub steps : (ts : List (Taking (Code Slot))) (t u : SplType) → StepsLead scope ts t u → Steps scope ts t u
+  pub steps : (ts : List (Selector (Code Slot))) (t u : SplType) → StepsLead scope ts t u → Steps scope ts t u
   steps _ _ _ (F.here t) = tt
   steps _ _ _ (F.member i rest schema a u at h) = (schema, a, refl, at, h)
   steps _ _ _ (F.index x rest k t u f h) = (k, t, refl, f, h)
   steps _ _ _ (F.at_key x rest k t u f h) = (k, t, refl, f, h)
 
   -- a step, and those behind it
-  pub one_step : (step : Taking (Code Slot)) (rest : List (Taking (Code Slot))) (t u : SplType) → Steps scope (step ∷ rest) t u
+  pub one_step : (step : Selector (Code Slot)) (rest : List (Selector (Code Slot))) (t u : SplType) → Steps scope (step ∷ rest) t u
       → (v : SplType) × StepsLead scope (step ∷ []) t v × StepsLead scope rest v u
   one_step (K.Member i) rest t u h = (h.1.kind, subst (λ t. StepsLead scope (K.Member i ∷ []) t h.1.kind) (sym h.2) (F.member i [] h.0 h.1 h.1.kind h.3 (F.here h.1.kind)), h.4)
   one_step (K.Element x) rest t u h = (h.1, subst (λ t. StepsLead scope (K.Element x ∷ []) t h.1) (sym h.2) (F.index x [] h.0 h.1 h.1 h.3 (F.here h.1)), h.4)
@@ -50,8 +50,8 @@ module _ (scope : Scope) where
 
 -- ---- one taking
 
-module _ (functions : List Function) (env : Env) (taking : Taking (Code Slot)) (v : Value) (h : FitTakings functions (taking ∷ []) env v) where
-  step_at : (step : Taking (Code Slot)) → taking ≡ step → Steps h.0 (step ∷ []) h.1 h.2
+module _ (functions : List Function) (env : Env) (taking : Selector (Code Slot)) (v : Value) (h : FitTakings functions (taking ∷ []) env v) where
+  step_at : (step : Selector (Code Slot)) → taking ≡ step → Steps h.0 (step ∷ []) h.1 h.2
   step_at step is = subst (λ step. Steps h.0 (step ∷ []) h.1 h.2) is (steps h.0 (taking ∷ []) h.1 h.2 h.3)
 
   of_kind : (t : SplType) → h.1 ≡ t → IsTrue (fits t v)
@@ -82,8 +82,8 @@ module _ (functions : List Function) (env : Env) (taking : Taking (Code Slot)) (
 
 -- ---- several takings
 
-module _ (functions : List Function) (env : Env) (ts : List (Taking (Code Slot))) (i : ℕ) (v : Value) (h : FitTakings functions (drop i ts) env v)
-    (step : Taking (Code Slot)) (lt : i < length ts) (is : step ≡ get_or ts i step) where
+module _ (functions : List Function) (env : Env) (ts : List (Selector (Code Slot))) (i : ℕ) (v : Value) (h : FitTakings functions (drop i ts) env v)
+    (step : Selector (Code Slot)) (lt : i < length ts) (is : step ≡ get_or ts i step) where
   split : (m : SplType) × StepsLead h.0 (step ∷ []) h.1 m × StepsLead h.0 (drop (i + 1) ts) m h.2
   split = one_step h.0 step (drop (i + 1) ts) h.1 h.2 (steps h.0 (step ∷ drop (i + 1) ts) h.1 h.2 (subst (λ ts. StepsLead h.0 ts h.1 h.2) (drop_at ts i step lt is) h.3))
 

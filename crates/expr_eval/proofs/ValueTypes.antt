@@ -23,7 +23,7 @@ use Rattle.spl_tree.specs.declared.code.BuiltIn.{BuiltIn}
 use Rattle.spl_tree.specs.declared.code.UnaryCode.{UnaryCode}
 use Rattle.spl_tree.specs.declared.body.Function.{Function}
 use Rattle.spl_tree.specs.declared.code.Slot.{Slot}
-use Rattle.spl_tree.specs.declared.code.Taking.{Taking}
+use Rattle.spl_tree.specs.declared.code.Selector.{Selector}
 use Rattle.language_model.specs.declared.env.Env.{Env}
 use Rattle.language_model.specs.declared.scope.Scope.{Scope}
 use Rattle.language_model.specs.CodeFits as F
@@ -105,7 +105,7 @@ module _ (law : NeverStuckLaw) (functions : List Function) (env : Env) (depth : 
         ∙ both_true (of_type x t (fit x t f) turns first.1 first.0 first.2) (values_of_types xs ts h first.1 others.1 others.0 others.2)
 
     -- what is taken in a step
-    pub taken_of_type : (step : Taking (Code Slot)) (t u : SplType) → StepsLead scope (step ∷ []) t u → (v : Value) → IsTrue (fits t v) → (turns left : ℕ) (x : Value)
+    pub taken_of_type : (step : Selector (Code Slot)) (t u : SplType) → StepsLead scope (step ∷ []) t u → (v : Value) → IsTrue (fits t v) → (turns left : ℕ) (x : Value)
         → taken (taking_meaning calls step) v world turns ≡ Done x left → IsTrue (fits u x)
     taken_of_type step t u h v f turns left x e =
         of_type (C.Select (C.Literal v) (step ∷ [])) u (fit (C.Select (C.Literal v) (step ∷ [])) u (F.select (C.Literal v) (step ∷ []) t u (F.literal v t f) h)) turns left x
@@ -141,7 +141,7 @@ module _ (law : NeverStuckLaw) (functions : List Function) (env : Env) (depth : 
   -- ---- what is done with the values of a code's parts
 
   module _ (code : Code Slot) (h : IsFit functions code env) where
-    pub takings_of_base : (x : Code Slot) (steps : List (Taking (Code Slot))) → code ≡ C.Select x steps → (turns left : ℕ) (v : Value) → code_value calls x world turns ≡ Done v left
+    pub takings_of_base : (x : Code Slot) (steps : List (Selector (Code Slot))) → code ≡ C.Select x steps → (turns left : ℕ) (v : Value) → code_value calls x world turns ≡ Done v left
         → FitTakings functions steps env v
     takings_of_base x steps is turns left v e = let p = select_parts functions env code h x steps is in p.2 v (of_type x p.0 p.1 turns left v e)
 

@@ -7,7 +7,7 @@ use Rattle.spl_value.specs.Values.{fits}
 use Rattle.spl_tree.specs.declared.code.Code.{Code}
 use Rattle.spl_tree.specs.declared.body.Function.{Function}
 use Rattle.spl_tree.specs.declared.code.Slot.{Slot}
-use Rattle.spl_tree.specs.declared.code.Taking.{Taking}
+use Rattle.spl_tree.specs.declared.code.Selector.{Selector}
 use Rattle.language_model.specs.declared.env.Env.{Env}
 use Rattle.language_model.specs.declared.scope.Scope.{Scope}
 use Rattle.language_model.specs.declared.scope.Signature.{Signature}
@@ -15,7 +15,7 @@ use Rattle.language_model.specs.CodeFits.{StepsLead}
 use Rattle.language_model.specs.WorldFits.{EnvFits, FunctionsFit, Fits}
 
 -- what the takings ask of the value from which they begin
-abbrev pub FitTakings : List Function → List (Taking (Code Slot)) → Env → Value → Type 0
+abbrev pub FitTakings : List Function → List (Selector (Code Slot)) → Env → Value → Type 0
 FitTakings functions takings env v =
     (scope : Scope) × (t : SplType) × (u : SplType) × StepsLead scope takings t u × IsTrue (fits t v) × EnvFits scope env × FunctionsFit scope.functions functions
 

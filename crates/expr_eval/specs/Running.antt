@@ -12,7 +12,7 @@ use Rattle.spl_tree.specs.declared.body.Place.{Place}
 use Rattle.spl_tree.specs.declared.body.Statement.{Statement}
 use Rattle.spl_tree.specs.declared.code.Code.{Code}
 use Rattle.spl_tree.specs.declared.code.Slot.{Slot}
-use Rattle.spl_tree.specs.declared.code.Taking.{Taking}
+use Rattle.spl_tree.specs.declared.code.Selector.{Selector}
 use Rattle.language_model.specs.declared.env.Env.{Env}
 use Rattle.language_model.specs.declared.flow.Flow.{Flow}
 use Rattle.language_model.specs.declared.flow.Flow.TheVariants as F
@@ -65,7 +65,7 @@ abbrev pub ChangeIsFit : List Function → Place → Change (Code Slot) → Env 
 ChangeIsFit functions place change env = (scope : Scope) × (t : SplType) × PlaceFits scope place t × ChangeFits scope change t × IsIn functions env scope
 
 -- indexes and keys of steps from a value of some type
-abbrev pub StepsAreFit : List Function → List (Taking (Code Slot)) → Env → Type 0
+abbrev pub StepsAreFit : List Function → List (Selector (Code Slot)) → Env → Type 0
 StepsAreFit functions takings env = (scope : Scope) × (t : SplType) × (u : SplType) × StepsLead scope takings t u × IsIn functions env scope
 
 -- the function at the place takes these arguments

@@ -14,7 +14,7 @@ ghost use Rattle.expr_eval.specs.Fitting.{IsFit, AreFit, PairsAreFit, FitTakings
 use crate::context::Context;
 use crate::run::run_function;
 use language_model::{Env, evaluation_law};
-use spl_tree::{BinaryCode, BuiltIn, Code, Functions, Slot, Taking, UnaryCode};
+use spl_tree::{BinaryCode, BuiltIn, Code, Functions, Selector, Slot, UnaryCode};
 use spl_value::{Evaluated, Items, Pairs, Value, Values};
 use std::alloc::Global;
 use value_operations::{
@@ -104,7 +104,7 @@ fn select<'e>(
     context: &Context<'e>,
     room: u32,
     base: &'e Code<Slot>,
-    takings: &'e [Taking<Code<Slot>>],
+    takings: &'e [Selector<Code<Slot>>],
     turns: &mut u32,
 ) -> Result<Held<'e>, Stop>
     requires { IsFit context.now.functions.now (C.Select base.now takings.now) context.now.env.now }
@@ -315,7 +315,7 @@ pub(crate) fn eval_fields<'e>(
 fn taken_all<'e>(
     context: &Context<'e>,
     room: u32,
-    takings: &'e [Taking<Code<Slot>>],
+    takings: &'e [Selector<Code<Slot>>],
     first: Held<'e>,
     turns: &mut u32,
 ) -> Result<Held<'e>, Stop>
@@ -335,7 +335,7 @@ fn taken_all<'e>(
 fn taken<'e>(
     context: &Context<'e>,
     room: u32,
-    taking: &'e Taking<Code<Slot>>,
+    taking: &'e Selector<Code<Slot>>,
     value: Held<'e>,
     turns: &mut u32,
 ) -> Result<Held<'e>, Stop>
@@ -344,12 +344,12 @@ fn taken<'e>(
 {
     evaluation_law();
     match taking {
-        Taking::Member(place) => Ok(member(value, *place)),
-        Taking::Element(index) => {
+        Selector::Member(place) => Ok(member(value, *place)),
+        Selector::Element(index) => {
             let index = eval_at(context, room, index, turns);
             element_at(value, index)
         }
-        Taking::AtKey(key) => {
+        Selector::AtKey(key) => {
             let key = eval_at(context, room, key, turns);
             value_at(value, key)
         }

@@ -20,7 +20,7 @@ use crate::statements::{
 };
 use crate::variables::change_variable;
 use language_model::{Env, Flow, Outs, evaluation_law};
-use spl_tree::{Body, Change, Code, Functions, Place, Slot, Statement, Taking};
+use spl_tree::{Body, Change, Code, Functions, Place, Selector, Slot, Statement};
 use spl_value::{FaultKind, Items, Value, Values};
 use std::alloc::Global;
 use value_operations::{Held, Stop, elements, enter, take_step};
@@ -362,7 +362,7 @@ fn change_values<'e>(
     place: &'e Place,
     change: &'e Change<Code<Slot>>,
     turns: &mut u32,
-) -> Result<(Items<Taking<Value>>, Change<Value>), Stop>
+) -> Result<(Items<Selector<Value>>, Change<Value>), Stop>
     requires { ChangeIsFit context.now.functions.now place.now change.now context.now.env.now }
     ensures { Answers (change_values (bodies_of context.now.functions.now context.now.depth) place.now change.now (state context.now.env.now []) turns.old) result turns.new }
 {
@@ -395,9 +395,9 @@ fn change_values<'e>(
 fn step_values<'e>(
     context: &Context<'e>,
     room: u32,
-    takings: &'e [Taking<Code<Slot>>],
+    takings: &'e [Selector<Code<Slot>>],
     turns: &mut u32,
-) -> Result<Items<Taking<Value>>, Stop>
+) -> Result<Items<Selector<Value>>, Stop>
     requires { StepsAreFit context.now.functions.now takings.now context.now.env.now }
     ensures { Answers (step_values (bodies_of context.now.functions.now context.now.depth) takings.now (state context.now.env.now []) turns.old) result turns.new }
 {
@@ -413,16 +413,16 @@ fn step_values<'e>(
 fn step_value<'e>(
     context: &Context<'e>,
     room: u32,
-    taking: &'e Taking<Code<Slot>>,
+    taking: &'e Selector<Code<Slot>>,
     turns: &mut u32,
-) -> Result<Taking<Value>, Stop>
+) -> Result<Selector<Value>, Stop>
     requires { StepsAreFit context.now.functions.now (taking.now ∷ []) context.now.env.now }
     ensures { Answers (step_value (bodies_of context.now.functions.now context.now.depth) taking.now (state context.now.env.now []) turns.old) result turns.new }
 {
     match taking {
-        Taking::Member(place) => Ok(Taking::Member(*place)),
-        Taking::Element(code) => Ok(Taking::Element(own_value(context, room, code, turns)?)),
-        Taking::AtKey(code) => Ok(Taking::AtKey(own_value(context, room, code, turns)?)),
+        Selector::Member(place) => Ok(Selector::Member(*place)),
+        Selector::Element(code) => Ok(Selector::Element(own_value(context, room, code, turns)?)),
+        Selector::AtKey(code) => Ok(Selector::AtKey(own_value(context, room, code, turns)?)),
     }
 }
 
@@ -433,7 +433,7 @@ fn steps_taken<'e>(
     room: u32,
     place: &'e Place,
     turns: &mut u32,
-) -> Result<Items<Taking<Value>>, Stop>
+) -> Result<Items<Selector<Value>>, Stop>
     requires { PlaceIsFit context.now.functions.now place.now context.now.env.now }
     ensures { (v : Value) → slice_get context.now.env.now.vars place.now.variable ≡ Some v → Answers (steps_taken (bodies_of context.now.functions.now context.now.depth) place.now.takings v (state context.now.env.now []) turns.old) result turns.new }
 {

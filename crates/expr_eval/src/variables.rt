@@ -8,7 +8,7 @@ ghost use Rattle.expr_eval.specs.steps.Keeping.{Keeps};
 
 use crate::evaluate::DEEPEST;
 use language_model::Env;
-use spl_tree::{Change, Taking};
+use spl_tree::{Change, Selector};
 use spl_value::Value;
 use std::alloc::Global;
 use value_operations::{Stop, change_at};
@@ -18,7 +18,7 @@ pub(crate) fn change_variable(
     alloc: Global,
     env: &mut Env,
     variable: u32,
-    steps: &[Taking<Value>],
+    steps: &[Selector<Value>],
     change: Change<Value>,
 ) -> Result<(), Stop>
     requires { CanChangeAt variable steps.now change env.old }

@@ -29,11 +29,11 @@ pub record IsUnexpectedAt (tokens : Tokens) (from at : ℕ) : Type 0 where
   pub unexpected : IsUnexpected Spells (drop from tokens.list) (drop token tokens.list)
 
 -- what is answered of the expression at a token; nothing is said where memory was lacking, or room on the stack
-abbrev pub Parses : Tokens → ℕ → Result ParsedExpr SyntaxAnswer → Type 0
-Parses tokens from (Ok parsed) = IsParsed tokens from parsed
-Parses tokens from (Err (A.Unexpected at)) = IsUnexpectedAt tokens from at
-Parses tokens from (Err (A.TooDeep at)) = IsTooDeepAt tokens from at
-Parses tokens from (Err A.Memory) = Unit {0}
+abbrev pub ParsesExpr : Tokens → ℕ → Result ParsedExpr SyntaxAnswer → Type 0
+ParsesExpr tokens from (Ok parsed) = IsParsed tokens from parsed
+ParsesExpr tokens from (Err (A.Unexpected at)) = IsUnexpectedAt tokens from at
+ParsesExpr tokens from (Err (A.TooDeep at)) = IsTooDeepAt tokens from at
+ParsesExpr tokens from (Err A.Memory) = Unit {0}
 
 -- tokens spell one tree at most
 abbrev pub OneTreeLaw : Type 0
@@ -41,5 +41,5 @@ OneTreeLaw = (e f : Expr) (a : List Token) → Spells e a → Spells f a → e �
 
 -- lack of memory apart, there is one answer
 abbrev pub OneAnswerLaw : Type 0
-OneAnswerLaw = (tokens : Tokens) (from : ℕ) (x y : Result ParsedExpr SyntaxAnswer) → Parses tokens from x → Parses tokens from y
+OneAnswerLaw = (tokens : Tokens) (from : ℕ) (x y : Result ParsedExpr SyntaxAnswer) → ParsesExpr tokens from x → ParsesExpr tokens from y
     → (x ≡ Err A.Memory) ⊎ ((y ≡ Err A.Memory) ⊎ (x ≡ y))

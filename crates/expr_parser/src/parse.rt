@@ -1,7 +1,7 @@
 //! Expressions of a program.
 ghost use Rattle.std.specs.Prelude.{◌≡◌, ◌≤◌, length};
 ghost use Rattle.spl_tree.specs.Units.{place_of};
-ghost use Rattle.expr_parser.specs.Parses.{Parses};
+ghost use Rattle.expr_parser.specs.Parses.{ParsesExpr};
 
 use crate::answer::{ParsedExpr, SyntaxAnswer};
 use crate::reading::expr;
@@ -34,7 +34,7 @@ fn place(tokens: &Tokens, at: usize) -> u32
 pub fn parse_expr(alloc: Global, tokens: &Tokens, from: u32) -> Result<ParsedExpr, SyntaxAnswer>
     requires few { length tokens.now.list ≤ 1048576 }
     requires within { from ≤ length tokens.now.list }
-    ensures { Parses tokens.now from result }
+    ensures { ParsesExpr tokens.now from result }
 {
     let list = tokens.list.as_slice();
     if let Some(at) = too_deep(alloc, list, from as usize)? {

@@ -9,10 +9,10 @@ use Rattle.spl_tree.specs.declared.body.Statement.{Statement}
 use Rattle.spl_tree.specs.declared.code.Code.{Code}
 use Rattle.spl_tree.specs.declared.code.Marker.TheVariants as M
 use Rattle.spl_tree.specs.declared.code.Slot.{Slot}
-use Rattle.language_model.specs.declared.checked.Collected.{Collected}
+use Rattle.language_model.specs.declared.checked.CollectedAttribute.{CollectedAttribute}
 use Rattle.language_model.specs.declared.checked.Handlers.{Handlers}
-use Rattle.language_model.specs.declared.checked.Part.{Part}
-use Rattle.language_model.specs.declared.checked.Part.TheVariants as A
+use Rattle.language_model.specs.declared.checked.CheckedClauses.{CheckedClauses}
+use Rattle.language_model.specs.declared.checked.CheckedClauses.TheVariants as A
 use Rattle.language_model.specs.declared.checked.Policy.{Policy}
 use Rattle.language_model.specs.declared.env.Env.{Env}
 use Rattle.language_model.specs.declared.outs.Output.{Output}
@@ -76,13 +76,13 @@ module _ (functions : List Function) where
   own_argument None env turns = tt
   own_argument (Some code) env turns = own_followed (value functions code (world_of env) turns) _ (own_value functions code (world_of env) turns) (λ v turns. tt)
 
-  own_arguments : (xs : List Collected) (env : Env) (turns : ℕ) → Own (arguments functions xs env turns)
+  own_arguments : (xs : List CollectedAttribute) (env : Env) (turns : ℕ) → Own (arguments functions xs env turns)
   own_arguments [] env turns = tt
   own_arguments (x ∷ xs) env turns =
       own_followed (argument functions x.argument env turns) _ (own_argument x.argument env turns) (λ a turns.
       own_followed (arguments functions xs env turns) _ (own_arguments xs env turns) (λ more turns. tt))
 
-  own_aggregate : (window : Policy) (partition group : List ℕ) (collects : List Collected) (earlier : List Item) (x : Item)
+  own_aggregate : (window : Policy) (partition group : List ℕ) (collects : List CollectedAttribute) (earlier : List Item) (x : Item)
       → Own (aggregate_body functions window partition group collects earlier x)
   own_aggregate window partition group collects earlier (I.Tuple t) =
       own_followed (arguments functions collects (at_tuple t) most_turns) _ (own_arguments collects (at_tuple t) most_turns) (λ values turns.
@@ -99,7 +99,7 @@ module _ (functions : List Function) where
       own_followed (made_where functions condition code pair turns) _ (own_where condition code pair turns) (λ outs turns.
       own_followed (pairs_give functions condition code pairs turns) _ (own_pairs condition code pairs turns) (λ more turns. tt))
 
-pub own_makes : (part : Part) (op : Operator) (h : List Event) (port : ℕ) (x : Item) → Own (makes_by part op h port x)
+pub own_makes : (part : CheckedClauses) (op : Operator) (h : List Event) (port : ℕ) (x : Item) → Own (makes_by part op h port x)
 own_makes (A.FileSource file strict) op h port x = tt
 own_makes (A.FileSink file) op h port x = own_item _ [] (λ vs. tt) x
 own_makes (A.Filter condition) op h port x = own_item _ _ (λ vs. own_followed (passes op.functions condition (at_tuple vs) most_turns) _ (own_passes op.functions condition (at_tuple vs) most_turns) (λ b turns. tt)) x

@@ -21,8 +21,8 @@ use Rattle.spl_tree.specs.declared.code.BuiltIn.TheVariants as Q
 use Rattle.spl_tree.specs.declared.code.IntegerOperator.{IntegerOperator}
 use Rattle.spl_tree.specs.declared.code.IntegerOperator.TheVariants as I
 use Rattle.spl_tree.specs.declared.code.OrderOperator.{OrderOperator}
-use Rattle.spl_tree.specs.declared.code.Taking.{Taking}
-use Rattle.spl_tree.specs.declared.code.Taking.TheVariants as K
+use Rattle.spl_tree.specs.declared.code.Selector.{Selector}
+use Rattle.spl_tree.specs.declared.code.Selector.TheVariants as K
 use Rattle.spl_tree.specs.declared.code.UnaryCode.{UnaryCode}
 use Rattle.spl_tree.specs.declared.code.UnaryCode.TheVariants as U
 use Rattle.language_model.specs.Changes.{passed_on, step_of, level_changed, changed, change_of}
@@ -168,12 +168,12 @@ own_passed (Gives v) f h k = k v
 own_passed (Faults kind) f h k = h
 own_passed Unfit f h k = tt
 
-pub own_step : (step : Taking Value) (v : Value) → OwnCall (step_of step v)
+pub own_step : (step : Selector Value) (v : Value) → OwnCall (step_of step v)
 own_step (K.Member i) v = own_member i (out-Value v)
 own_step (K.Element n) v = own_element (out-Value v) (out-Value n)
 own_step (K.AtKey k) v = own_at_key (out-Value v) k
 
-own_level_changed : (step : Taking Value) (change : Option Value → CallOutcome) → ((old : Option Value) → OwnCall (change old)) → (v : Value-F Value)
+own_level_changed : (step : Selector Value) (change : Option Value → CallOutcome) → ((old : Option Value) → OwnCall (change old)) → (v : Value-F Value)
     → OwnCall (level_changed step change v)
 own_level_changed (K.Member i) change h (O.Tuple vs) =
     own_passed (given (slice_get vs i)) _ (own_given (slice_get vs i)) (λ old. own_passed (change (Some old)) _ (h (Some old)) (λ new. tt))
@@ -182,7 +182,7 @@ own_level_changed (K.Element n) change h (O.List vs) =
 own_level_changed (K.AtKey k) change h (O.Map ps) = own_passed (change (pairs_get ps k)) _ (h (pairs_get ps k)) (λ new. tt)
 own_level_changed _ change h _ = tt
 
-pub own_changed : (steps : List (Taking Value)) (change : Option Value → CallOutcome) → ((old : Option Value) → OwnCall (change old)) → (old : Option Value)
+pub own_changed : (steps : List (Selector Value)) (change : Option Value → CallOutcome) → ((old : Option Value) → OwnCall (change old)) → (old : Option Value)
     → OwnCall (changed steps change old)
 own_changed [] change h old = h old
 own_changed (t ∷ ts) change h None = refl

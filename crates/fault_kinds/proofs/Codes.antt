@@ -7,8 +7,8 @@ use Rattle.spl_tree.specs.declared.code.BinaryCode.{BinaryCode}
 use Rattle.spl_tree.specs.declared.code.BinaryCode.TheVariants as D
 use Rattle.spl_tree.specs.declared.code.Code.{Code}
 use Rattle.spl_tree.specs.declared.code.Code.TheVariants as S
-use Rattle.spl_tree.specs.declared.code.Taking.{Taking}
-use Rattle.spl_tree.specs.declared.code.Taking.TheVariants as K
+use Rattle.spl_tree.specs.declared.code.Selector.{Selector}
+use Rattle.spl_tree.specs.declared.code.Selector.TheVariants as K
 use Rattle.spl_tree.specs.declared.code.UnaryCode.{UnaryCode}
 use Rattle.language_model.specs.Evaluation.{World, Meaning, Calls, tuple_of, unaries_of, truth, binary, code_value}
 use Rattle.language_model.specs.EvaluationLaws.{values_of, pair_values, field_values, takings_value, truth_value, literal_is, name_is, list_is, map_is, tuple_is, select_is, unary_is, binary_is, conditional_is, built_in_is, call_is, is_marker_is, is_not_marker_is}
@@ -61,7 +61,7 @@ module _ (calls : Calls) (c : (i : ℕ) (values : List Value) (turns : ℕ) → 
   own_fields (f ∷ fs) h turns =
       own_followed (code_value calls f.1 w turns) _ (h.0 turns) (λ v turns. own_followed (field_values calls fs w turns) _ (own_fields fs h.1 turns) (λ gs turns. tt))
 
-  own_takings : (ts : List (Taking (Code N))) → AllByRecursion (OfTaking Comes) ts → (v : Value) (turns : ℕ) → Own (takings_value calls ts v w turns)
+  own_takings : (ts : List (Selector (Code N))) → AllByRecursion (OfTaking Comes) ts → (v : Value) (turns : ℕ) → Own (takings_value calls ts v w turns)
   own_takings [] h v turns = tt
   own_takings (K.Member i ∷ ts) h v turns =
       own_followed (settled (level_member i (out-Value v)) turns) _ (own_settled (level_member i (out-Value v)) turns (own_member i (out-Value v))) (λ u turns. own_takings ts h.1 u turns)

@@ -12,7 +12,7 @@ use Rattle.stream_model.specs.Stream.{Event, closes, is_fault}
 use Rattle.stream_model.specs.Operators.{Operator, ports, port_at}
 use Rattle.stream_model.specs.PortEvents.{is_last, is_waiting, port_events}
 use Rattle.stream_model.specs.Bodies.{Makes, on_each, output}
-use Rattle.stream_model.specs.React.{Answer, Gives, Faults, answer, answered, body, ended, ended_by, makes_by, own_fault, react}
+use Rattle.stream_model.specs.React.{Reaction, Gives, Faults, answer, answered, body, ended, ended_by, makes_by, own_fault, react}
 use Rattle.stream_model.specs.Fitting.{MakesFit, ReactsFit}
 use Rattle.stream_model.proofs.AggregateFits.{aggregate_fits}
 use Rattle.port_reacts.proofs.CustomFits.{custom_fits}
@@ -87,7 +87,7 @@ module _ (op : Operator) (h : List Event) (e : Event) (may : MayCome op h e) whe
   answered_own : (last : Bool) → OwnFaults op (answered op last (body op h e))
   answered_own last = go last (body op h e) refl
     where
-      go : (l : Bool) (a : Answer) → body op h e ≡ a → OwnFaults op (answered op l a)
+      go : (l : Bool) (a : Reaction) → body op h e ≡ a → OwnFaults op (answered op l a)
       go l (Faults kind) q = each_own op (length op.outs) (own_fault op kind) (fault_own op kind (body_kinds op h e kind may q))
       go true (Gives outs) q =
           both_own op outs (on_each (length op.outs) I.Final) (open_outs op outs (body_law op h e outs q)) (each_own op (length op.outs) I.Final (final_own op))
@@ -104,7 +104,7 @@ module _ (op : Operator) (h : List Event) (e : Event) (may : MayCome op h e) whe
   end_own : is_fault e.item ≡ false → (f : Fault) → ended op h e ≡ Some (I.Bad f) → IsOwn op f
   end_own none f = go (is_fault e.item) (is_waiting op h e) (is_last op h e) (body op h e) none refl
     where
-      go : (x w last : Bool) (a : Answer) → x ≡ false → body op h e ≡ a → (if x then Some e.item else if w then None else ended_by op last a) ≡ Some (I.Bad f) → IsOwn op f
+      go : (x w last : Bool) (a : Reaction) → x ≡ false → body op h e ≡ a → (if x then Some e.item else if w then None else ended_by op last a) ≡ Some (I.Bad f) → IsOwn op f
       go true w last a q same r = absurd (let clash : true ≡ false = q in cc)
       go false true last a q same r = absurd cc
       go false false last (Faults kind) q same r =

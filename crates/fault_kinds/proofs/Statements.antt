@@ -12,8 +12,8 @@ use Rattle.spl_tree.specs.declared.body.Statement.{Statement}
 use Rattle.spl_tree.specs.declared.body.Statement.TheVariants as T
 use Rattle.spl_tree.specs.declared.code.Code.{Code}
 use Rattle.spl_tree.specs.declared.code.Slot.{Slot}
-use Rattle.spl_tree.specs.declared.code.Taking.{Taking}
-use Rattle.spl_tree.specs.declared.code.Taking.TheVariants as G
+use Rattle.spl_tree.specs.declared.code.Selector.{Selector}
+use Rattle.spl_tree.specs.declared.code.Selector.TheVariants as G
 use Rattle.language_model.specs.declared.env.Env.{Env}
 use Rattle.language_model.specs.declared.flow.Flow.{Flow}
 use Rattle.language_model.specs.declared.flow.Flow.TheVariants as F
@@ -102,18 +102,18 @@ module _ (bodies : Bodies) (c : (i : ℕ) (values : List Value) (turns : ℕ) �
 
   -- ---- changes
 
-  own_step_value : (t : Taking (Code Slot)) (s : State) (turns : ℕ) → Own (step_value bodies t s turns)
+  own_step_value : (t : Selector (Code Slot)) (s : State) (turns : ℕ) → Own (step_value bodies t s turns)
   own_step_value (G.Member i) s turns = tt
   own_step_value (G.Element code) s turns = own_followed (value_in bodies code s turns) _ (own_value code s turns) (λ v turns. tt)
   own_step_value (G.AtKey code) s turns = own_followed (value_in bodies code s turns) _ (own_value code s turns) (λ v turns. tt)
 
-  own_step_values : (ts : List (Taking (Code Slot))) (s : State) (turns : ℕ) → Own (step_values bodies ts s turns)
+  own_step_values : (ts : List (Selector (Code Slot))) (s : State) (turns : ℕ) → Own (step_values bodies ts s turns)
   own_step_values [] s turns = tt
   own_step_values (t ∷ ts) s turns =
       own_followed (step_value bodies t s turns) _ (own_step_value t s turns) (λ step turns.
       own_followed (step_values bodies ts s turns) _ (own_step_values ts s turns) (λ steps turns. tt))
 
-  own_taken : (ts : List (Taking (Code Slot))) (v : Value) (s : State) (turns : ℕ) → Own (steps_taken bodies ts v s turns)
+  own_taken : (ts : List (Selector (Code Slot))) (v : Value) (s : State) (turns : ℕ) → Own (steps_taken bodies ts v s turns)
   own_taken [] v s turns = tt
   own_taken (t ∷ ts) v s turns =
       own_followed (step_value bodies t s turns) _ (own_step_value t s turns) (λ step turns.
@@ -128,7 +128,7 @@ module _ (bodies : Bodies) (c : (i : ℕ) (values : List Value) (turns : ℕ) �
 
   module _ (place : Place) where
     -- of a change that evaluates the place first
-    abbrev called_values : Change (Code Slot) → State → ℕ → Outcome (List (Taking Value) × Change Value)
+    abbrev called_values : Change (Code Slot) → State → ℕ → Outcome (List (Selector Value) × Change Value)
     called_values change s turns =
         need (slice_get s.env.vars place.variable) (λ v.
         followed (steps_taken bodies place.takings v s turns) (λ steps turns.
@@ -148,7 +148,7 @@ module _ (bodies : Bodies) (c : (i : ℕ) (values : List Value) (turns : ℕ) �
     own_change_values (H.Remove code) s turns = own_called (H.Remove code) s turns
     own_change_values H.Clear s turns = own_called H.Clear s turns
 
-    own_changed_at : (steps : List (Taking Value)) (change : Change Value) → OwnActs (changed_at place.variable steps change)
+    own_changed_at : (steps : List (Selector Value)) (change : Change Value) → OwnActs (changed_at place.variable steps change)
     own_changed_at steps change s turns =
         own_need (slice_get s.env.vars place.variable) _ (λ old.
         own_followed (settled (changed steps (change_of change) (Some old)) turns) _

@@ -4,7 +4,7 @@ use Rattle.spl_value.specs.declared.item.Fault.{Fault}
 use Rattle.spl_value.specs.declared.item.FaultKind.{FaultKind}
 use Rattle.spl_value.specs.declared.item.Item.{Item}
 use Rattle.spl_value.specs.declared.item.Item.TheVariants as I
-use Rattle.language_model.specs.declared.checked.Part.{Part}
+use Rattle.language_model.specs.declared.checked.CheckedClauses.{CheckedClauses}
 use Rattle.language_model.specs.declared.outs.Output.{Output}
 use Rattle.stream_model.specs.Stream.{Event, is_fault}
 use Rattle.stream_model.specs.Operators.{Operator}
@@ -16,7 +16,7 @@ use Rattle.fault_kinds.specs.EvaluationKinds.{FaultsByEvaluation}
 
 -- what an operator of any kind makes of any item, fitting or not
 abbrev pub MakesKindsLaw : Type 0
-MakesKindsLaw = (part : Part) (op : Operator) (h : List Event) (port : ℕ) (x : Item) → FaultsByEvaluation (makes_by part op h port x)
+MakesKindsLaw = (part : CheckedClauses) (op : Operator) (h : List Event) (port : ℕ) (x : Item) → FaultsByEvaluation (makes_by part op h port x)
 
 -- an event that fits arrives at an operator whose clauses fit, and that hasn't ended after events that fit
 pub record MayCome (op : Operator) (h : List Event) (e : Event) : Type 0 where

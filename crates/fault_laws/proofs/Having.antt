@@ -15,7 +15,7 @@ use Rattle.stream_model.specs.Fitting.{EventsFit, IsFitting}
 use Rattle.stream_model.specs.Operators.{Operator}
 use Rattle.stream_model.specs.PathLaws.{fault_by}
 use Rattle.stream_model.specs.PortEvents.{is_last, is_waiting}
-use Rattle.stream_model.specs.React.{Answer, Gives, Faults, answered, body, ended, own_fault, react}
+use Rattle.stream_model.specs.React.{Reaction, Gives, Faults, answered, body, ended, own_fault, react}
 use Rattle.stream_model.specs.Stages.{gives_all, next, on_port, out, start}
 use Rattle.stream_model.specs.Stream.{Event, closes, is_fault}
 use Rattle.stream_model.proofs.Closings.{end_item_law}
@@ -110,7 +110,7 @@ module _ (P : Fault → Type 0) where
     answered_have : (last : Bool) (h : List Event) (e : Event) → Come h e → OutsHave (answered op last (body op h e))
     answered_have last h e may = go last (body op h e) refl
       where
-        go : (l : Bool) (a : Answer) → body op h e ≡ a → OutsHave (answered op l a)
+        go : (l : Bool) (a : Reaction) → body op h e ≡ a → OutsHave (answered op l a)
         go l (Faults kind) q = each_has (length op.outs) (own_fault op kind) (own_has h e kind may q)
         go true (Gives outs) q = outs_both outs (on_each (length op.outs) I.Final) (open_outs outs (body_law op h e outs q)) (each_has (length op.outs) I.Final tt)
         go false (Gives outs) q = open_outs outs (body_law op h e outs q)

@@ -5,8 +5,8 @@ use Rattle.std.specs.Option.{option_map_or}
 use Rattle.std.proofs.lemmas.List.{reverse-append}
 use Rattle.spl_value.specs.declared.item.Fault.{Fault}
 use Rattle.spl_value.specs.declared.item.FaultKind.{FaultKind}
-use Rattle.language_model.specs.declared.checked.Part.{Part}
-use Rattle.language_model.specs.declared.checked.Part.TheVariants as A
+use Rattle.language_model.specs.declared.checked.CheckedClauses.{CheckedClauses}
+use Rattle.language_model.specs.declared.checked.CheckedClauses.TheVariants as A
 use Rattle.language_model.specs.CheckedGraph.{CheckedGraph}
 use Rattle.language_model.specs.Keeping.{Keeps}
 use Rattle.stream_model.specs.CheckedMeaning.{graph_of}
@@ -66,7 +66,7 @@ module _ (P : Fault → Type 0) (F : Type 0) (c : CheckedGraph) (g : Graph) (kee
       gives : AllHave P (out op p events)
       gives = out_has P F op (λ known. clauses_fit c g keeps is op here) (its_own op here) p events h has
 
-      go : (part : Part) → op.clauses ≡ part → AllHave P (made_by part op p events (rows op.number))
+      go : (part : CheckedClauses) → op.clauses ≡ part → AllHave P (made_by part op p events (rows op.number))
       go (A.FileSource file strict) q = subst (λ n. AllHave P (rows n)) (sym (is_numbered c g is here.0 op here.1)) (given here.0 op file strict here.1 q)
       go (A.FileSink file) q = gives
       go (A.Filter condition) q = gives

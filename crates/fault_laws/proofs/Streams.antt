@@ -5,8 +5,8 @@ use Rattle.std.specs.Option.{option_map_or}
 use Rattle.std.proofs.lemmas.Option.{slice_get_within}
 use Rattle.spl_value.specs.declared.item.Item.{Item}
 use Rattle.spl_value.specs.declared.item.Item.TheVariants as I
-use Rattle.language_model.specs.declared.checked.Part.{Part}
-use Rattle.language_model.specs.declared.checked.Part.TheVariants as A
+use Rattle.language_model.specs.declared.checked.CheckedClauses.{CheckedClauses}
+use Rattle.language_model.specs.declared.checked.CheckedClauses.TheVariants as A
 use Rattle.language_model.specs.CheckedGraph.{CheckedGraph}
 use Rattle.language_model.specs.Keeping.{Keeps}
 use Rattle.language_model.specs.StreamTypes.{Attributes}
@@ -88,7 +88,7 @@ module _ (c : CheckedGraph) (g : Graph) (keeps : Keeps c) (is : graph_of c ≡ g
         given : TuplesFit (schema_at c s) (out op p events)
         given = subst (λ schema. TuplesFit schema (out op p events)) (output_has op here p s at) (out_fits op p events (clauses_fit op here) h)
 
-        go : (part : Part) → op.clauses ≡ part → TuplesFit (schema_at c s) (made_by part op p events (rows op.number))
+        go : (part : CheckedClauses) → op.clauses ≡ part → TuplesFit (schema_at c s) (made_by part op p events (rows op.number))
         go (A.FileSource file strict) q =
             subst (λ schema. TuplesFit schema (rows op.number)) (source_has op file strict here q p s at)
             (subst (λ n. TuplesFit (output_attributes op 0) (rows n)) (sym (is_numbered c g is here.0 op here.1)) (fit here.0 op file strict here.1 q))

@@ -11,19 +11,19 @@ Counted true before now = (before ≤ now) × Rose before now
 Counted false before now = now ≡ before
 
 -- what a shelf has counted for a name
-pub record Counts : Type 0 where
+pub record FaultCounts : Type 0 where
   pub opening : ℕ
   pub creating : ℕ
   pub reading : ℕ
   pub writing : ℕ
 
 -- no fault
-abbrev pub no_counts : Counts
+abbrev pub no_counts : FaultCounts
 no_counts = record { opening = 0; creating = 0; reading = 0; writing = 0 }
 
 -- one count per name
 abbrev pub PerName : Type 0
-PerName = List ℕ → Counts
+PerName = List ℕ → FaultCounts
 
 -- only what is told of this name changes
 abbrev pub OthersStay : {A : Type 0} → (List ℕ → A) → (List ℕ → A) → List ℕ → Type 0

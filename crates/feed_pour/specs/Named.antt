@@ -1,6 +1,6 @@
 -- A named file read as a whole.
 use Rattle.std.specs.Prelude.{◌≡◌, ◌<◌, ◌≤◌, ℕ, List, Bool, true, false, ⊤, length}
-use Rattle.feed_pour.specs.Counts.{Counts, Counted, OthersStay}
+use Rattle.feed_pour.specs.Counts.{FaultCounts, Counted, OthersStay}
 use Rattle.spl_value.specs.Script.{Script, End}
 use Rattle.spl_value.specs.Script as S
 use Rattle.feed_pour.specs.declared.named.Fetched.{Fetched}
@@ -38,7 +38,7 @@ read_failed F.ReadFailed = true
 read_failed F.Memory = false
 
 -- a fetch counts a failed opening or a failed read of its name, and nothing else
-pub record FetchCounted (r : Fetched) (old new : List ℕ → Counts) (name : List ℕ) : Type 0 where
+pub record FetchCounted (r : Fetched) (old new : List ℕ → FaultCounts) (name : List ℕ) : Type 0 where
   pub others : OthersStay old new name
   pub opening : Counted (open_failed r) (old name).opening (new name).opening
   pub reading : Counted (read_failed r) (old name).reading (new name).reading

@@ -2,7 +2,7 @@
 ghost use Rattle.std.specs.Prelude.{◌≡◌, ◌<◌, ◌≤◌, ◌^◌, ℕ, List, [], length, Option, Some, IfOk, IfSome, IsErr, nat_lt};
 ghost use Rattle.std.specs.Io.{ReadsAtMost};
 ghost use Rattle.spl_value.specs.Script.{Script};
-ghost use Rattle.feed_pour.specs.Counts.{Counts, Counted, OpeningCounted, CreatingCounted, ReadingCounted, WritingCounted, Lends, Returns};
+ghost use Rattle.feed_pour.specs.Counts.{FaultCounts, Counted, OpeningCounted, CreatingCounted, ReadingCounted, WritingCounted, Lends, Returns};
 ghost use Rattle.feed_pour.specs.Contents.{PieceGiven, LeftTaken, Poured, failed_read, failed_write, failed_open, Told, WhereTold, TellsSame, IfOpened, is_opened, KeepsNames, Created, Finished};
 
 use spl_value::Name;
@@ -78,7 +78,7 @@ pub trait Shelf {
     type Writer: Pour + Send + Drop;
 
     /// The counts of faults of each name: of opening, creating, reading and writing.
-    ghost counts: { Self → List ℕ → Counts };
+    ghost counts: { Self → List ℕ → FaultCounts };
 
     /// What each name holds and the script of a feed that is opened on it, where they are told.
     ghost told: { Self → Option Told };

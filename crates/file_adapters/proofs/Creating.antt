@@ -4,7 +4,7 @@ use Rattle.std.specs.Prelude.{IfSome}
 use Rattle.std.specs.List.{All}
 use Rattle.std.proofs.lemmas.List.Elements.{All-more, All-weaker, All-push}
 use Rattle.std.proofs.lemmas.Option.{slice_get-get_or}
-use Rattle.feed_pour.specs.Counts.{Counts, PerName, CreatingCounted}
+use Rattle.feed_pour.specs.Counts.{FaultCounts, PerName, CreatingCounted}
 use Rattle.feed_pour.specs.Contents.{Told, WhereTold, TellsSame, Created, Empties}
 use Rattle.feed_pour.specs.declared.outside.PourAnswer.{PourAnswer}
 use Rattle.feed_pour.specs.declared.outside.PourAnswer.TheVariants as P
@@ -70,9 +70,9 @@ pub quiet : (old new : PerName) (sinks : List Sink) (place : ℕ) (r : Result (U
     → CreateCounted r place sinks old new
 quiet old new sinks place r same cause = record {
   others = λ n out. same n;
-  opening = λ n. ap (λ (c : Counts). c.opening) (same n);
-  reading = λ n. ap (λ (c : Counts). c.reading) (same n);
-  writing = λ n. ap (λ (c : Counts). c.writing) (same n);
+  opening = λ n. ap (λ (c : FaultCounts). c.opening) (same n);
+  reading = λ n. ap (λ (c : FaultCounts). c.reading) (same n);
+  writing = λ n. ap (λ (c : FaultCounts). c.writing) (same n);
   cause = cause;
 }
 
@@ -81,11 +81,11 @@ pub failed_counts : (old mid new : PerName) (sinks : List Sink) (i count : ℕ) 
     → CreatingCounted true mid new x.file → CreateCounted (Err P.Failed) count sinks old new
 failed_counts old mid new sinks i count x within is at same c = record {
   others = λ n out. c.others n (λ e. among_not sinks n i x out within (ap (λ (s : Sink). s.file) (sym is) ∙ sym e)) ∙ same n;
-  opening = λ n. field (λ (k : Counts). k.opening) c.opening n ∙ ap (λ (k : Counts). k.opening) (same n);
-  reading = λ n. field (λ (k : Counts). k.reading) c.reading n ∙ ap (λ (k : Counts). k.reading) (same n);
-  writing = λ n. field (λ (k : Counts). k.writing) c.writing n ∙ ap (λ (k : Counts). k.writing) (same n);
-  cause = (x, record { sink = rw at (slice_get-get_or sinks i x within ∙ ap (λ (s : Sink). Some s) (sym is)); rose = rw (sym (ap (λ (k : Counts). k.creating) (same x.file))) c.count.1; others = λ n e. c.others n e ∙ same n });
+  opening = λ n. field (λ (k : FaultCounts). k.opening) c.opening n ∙ ap (λ (k : FaultCounts). k.opening) (same n);
+  reading = λ n. field (λ (k : FaultCounts). k.reading) c.reading n ∙ ap (λ (k : FaultCounts). k.reading) (same n);
+  writing = λ n. field (λ (k : FaultCounts). k.writing) c.writing n ∙ ap (λ (k : FaultCounts). k.writing) (same n);
+  cause = (x, record { sink = rw at (slice_get-get_or sinks i x within ∙ ap (λ (s : Sink). Some s) (sym is)); rose = rw (sym (ap (λ (k : FaultCounts). k.creating) (same x.file))) c.count.1; others = λ n e. c.others n e ∙ same n });
 }
   where
-    field : (f : Counts → ℕ) → f (new x.file) ≡ f (mid x.file) → (n : List ℕ) → f (new n) ≡ f (mid n)
+    field : (f : FaultCounts → ℕ) → f (new x.file) ≡ f (mid x.file) → (n : List ℕ) → f (new n) ≡ f (mid n)
     field f here n = elim (one_or_other n x.file) [ inl e ↦ ap (λ (m : List ℕ). f (new m)) e ∙ here ∙ ap (λ (m : List ℕ). f (mid m)) (sym e) | inr other ↦ ap f (c.others n other) ]

@@ -6,7 +6,7 @@ use Rattle.std.proofs.lemmas.Bool.{cases_lt}
 use Rattle.std.proofs.lemmas.List.{take_all, get_or-take, get_or_read, length-take-le, drop_more}
 use Rattle.std.proofs.lemmas.List.Elements.{All-more}
 use Rattle.std.proofs.lemmas.Option.{slice_get-get_or, get_or_from_slice_get}
-use Rattle.feed_pour.specs.Counts.{Counts, PerName, WritingCounted, Rose}
+use Rattle.feed_pour.specs.Counts.{FaultCounts, PerName, WritingCounted, Rose}
 use Rattle.feed_pour.specs.Contents.{Told, WhereTold, Finished, HeldAfter, failed_read}
 use Rattle.feed_pour.specs.declared.outside.Failed.{Failed}
 use Rattle.file_adapters.specs.Sinks.{AreDistinct}
@@ -59,19 +59,19 @@ none_finished poured faults told pours sinks counts = told_itself told (EachFini
 })
 
 -- a file that was finished before
-finished_before : (first : Option ℕ) (f : Bool) (i k faults : ℕ) (counts mid now : Counts) (poured holds after : Option (List ℕ)) → now ≡ mid → after ≡ holds
+finished_before : (first : Option ℕ) (f : Bool) (i k faults : ℕ) (counts mid now : FaultCounts) (poured holds after : Option (List ℕ)) → now ≡ mid → after ≡ holds
     → FileFinished first k faults counts mid poured holds → FileFinished (first_failed first f i) k faults counts now poured after
 finished_before first f i k faults counts mid now poured holds after same held (inl (none, quiet, whole)) =
     inl (none, same ∙ quiet, subst (HeldAfter false poured) (sym held) whole)
 finished_before first f i k faults counts mid now poured holds after same held (inr (from, rose, front)) =
-    inr (from_more first f i k from, subst (λ (c : Counts). Rose counts.writing c.writing) (sym same) rose, subst (HeldAfter true poured) (sym held) front)
+    inr (from_more first f i k from, subst (λ (c : FaultCounts). Rose counts.writing c.writing) (sym same) rose, subst (HeldAfter true poured) (sym held) front)
 
 -- and one that is finished now
 finished_now : (first : Option ℕ) (f : Bool) (i faults : ℕ) (name : List ℕ) (old mid new : PerName) (poured holds : Option (List ℕ)) → IsBefore first i → mid name ≡ old name
     → (f ≡ false → faults ≡ 0) → WritingCounted f mid new name → HeldAfter f poured holds → FileFinished (first_failed first f i) i faults (old name) (new name) poured holds
 finished_now first false i faults name old mid new poured holds before same none counted held = inl (none refl, same_counts mid new name counted name ∙ same, held)
 finished_now first true i faults name old mid new poured holds before same none counted held =
-    inr (from_here first i before, subst (λ (c : Counts). Rose c.writing (new name).writing) same counted.count.1, held)
+    inr (from_here first i before, subst (λ (c : FaultCounts). Rose c.writing (new name).writing) same counted.count.1, held)
 
 -- one more file is finished
 finished_more : {W : Type 0} (poured : W → Option (List ℕ)) (faults : W → ℕ) (pours : List W) (sinks : List Sink) (i : ℕ) (x : W) (s : Sink) (first : Option ℕ) (f : Bool) (counts between now : PerName) (old mid new : Told)
@@ -138,7 +138,7 @@ cause_more (Some place) f old mid new sinks i s within is distinct below same (t
       t,
       record {
         sink = was.sink;
-        rose = subst (λ (c : Counts). Rose (old t.file).writing c.writing) (sym stays) was.rose;
+        rose = subst (λ (c : FaultCounts). Rose (old t.file).writing c.writing) (sym stays) was.rose;
         before = front_stays sinks i place s f old mid new within is distinct (omega (arith, below)) now was.before;
       },
     )
@@ -146,7 +146,7 @@ cause_more None true old mid new sinks i s within is distinct below same before 
   s,
   record {
     sink = slice_get-get_or sinks i s within ∙ ap (λ (t : Sink). Some t) (sym is);
-    rose = subst (λ (c : Counts). Rose c.writing (new s.file).writing) same now.count.1;
+    rose = subst (λ (c : FaultCounts). Rose c.writing (new s.file).writing) same now.count.1;
     before = front_stays sinks i i s true old mid new within is distinct (omega arith) now (λ k t small. before (get_or (take i sinks) k t).file);
   },
 )
@@ -156,13 +156,13 @@ pub one_counted : (first : Option ℕ) (f : Bool) (old mid new : PerName) (sinks
     → FinishCounted first i sinks old mid → WritingCounted f mid new s.file → FinishCounted (first_failed first f i) (i + 1) sinks old new
 one_counted first f old mid new sinks i s within is distinct below before now = record {
   others = λ n out. let p = out_of_more sinks n i s within out in now.others n (λ e. p.1 (e ∙ ap (λ (t : Sink). t.file) is)) ∙ before.others n p.0;
-  opening = λ n. field (λ (k : Counts). k.opening) now.opening n ∙ before.opening n;
-  creating = λ n. field (λ (k : Counts). k.creating) now.creating n ∙ before.creating n;
-  reading = λ n. field (λ (k : Counts). k.reading) now.reading n ∙ before.reading n;
+  opening = λ n. field (λ (k : FaultCounts). k.opening) now.opening n ∙ before.opening n;
+  creating = λ n. field (λ (k : FaultCounts). k.creating) now.creating n ∙ before.creating n;
+  reading = λ n. field (λ (k : FaultCounts). k.reading) now.reading n ∙ before.reading n;
   cause = cause_more first f old mid new sinks i s within is distinct below (untouched first sinks i s old mid within is distinct before) before.cause now;
 }
   where
-    field : (f : Counts → ℕ) → f (new s.file) ≡ f (mid s.file) → (n : List ℕ) → f (new n) ≡ f (mid n)
+    field : (f : FaultCounts → ℕ) → f (new s.file) ≡ f (mid s.file) → (n : List ℕ) → f (new n) ≡ f (mid n)
     field f here n = elim (one_or_other n s.file) [ inl e ↦ ap (λ (m : List ℕ). f (new m)) e ∙ here ∙ ap (λ (m : List ℕ). f (mid m)) (sym e) | inr other ↦ ap f (now.others n other) ]
 
 -- ---- faults of the pours

@@ -8,7 +8,7 @@ use Rattle.std.proofs.lemmas.List.Folds.{list_any_at}
 use Rattle.std.proofs.lemmas.Option.{get_or_from_slice_get, slice_get_within}
 use Rattle.std.proofs.lemmas.Slice.Eq.{bytes_eq-Decides}
 use Rattle.spl_value.specs.declared.item.Item.{Item}
-use Rattle.feed_pour.specs.Counts.{Counted, Counts, PerName, Rose, WritingCounted}
+use Rattle.feed_pour.specs.Counts.{Counted, FaultCounts, PerName, Rose, WritingCounted}
 use Rattle.feed_pour.specs.Contents.{Created, Empties, Finished, HeldAfter, Told, WhereTold, failed_read, failed_write}
 use Rattle.feed_pour.specs.declared.outside.Failed.{Failed}
 use Rattle.feed_pour.specs.declared.outside.PourAnswer.{PourAnswer}
@@ -89,14 +89,14 @@ pub finished_counts : (sunk : Sunk) (written : Result (Unit {0}) PourAnswer) (r 
 finished_counts sunk written r place name before after old new filled counted fault done = record {
   ends = ends_text sunk written (failed_read r) place filled;
   others = done.others;
-  opening = λ n. field (λ (k : Counts). k.opening) done.opening n;
-  creating = λ n. field (λ (k : Counts). k.creating) done.creating n;
-  reading = λ n. field (λ (k : Counts). k.reading) done.reading n;
+  opening = λ n. field (λ (k : FaultCounts). k.opening) done.opening n;
+  creating = λ n. field (λ (k : FaultCounts). k.creating) done.creating n;
+  reading = λ n. field (λ (k : FaultCounts). k.reading) done.reading n;
   cause = text_cause sunk written (failed_read r) place name old new
       (λ e. fails before after r (subst (λ (w : Result (Unit {0}) PourAnswer). Counted (failed_write w) before after) e counted) fault) done;
 }
   where
-    field : (f : Counts → ℕ) → f (new name) ≡ f (old name) → (n : List ℕ) → f (new n) ≡ f (old n)
+    field : (f : FaultCounts → ℕ) → f (new name) ≡ f (old name) → (n : List ℕ) → f (new n) ≡ f (old n)
     field f here n = elim (one_or_other n name) [ inl e ↦ ap (λ (m : List ℕ). f (new m)) e ∙ here ∙ ap (λ (m : List ℕ). f (old m)) (sym e) | inr other ↦ ap f (done.others n other) ]
 
 -- ---- all files, where that of the text was created
@@ -121,10 +121,10 @@ other_in names k n x within out same =
 other_at : (names : List (List ℕ)) (k : ℕ) (n x : List ℕ) → slice_get names k ≡ Some n → is_among names x ≡ false → n ≢ x
 other_at names k n x at out same = other_in names k n x (slice_get_within names k n at) out (get_or_from_slice_get names k n n at ∙ same)
 
-unless_moved : (text : List ℕ) (counts counts' now now' : Counts) (holds holds' : Option (List ℕ)) → counts ≡ counts' → now' ≡ now → holds' ≡ holds → HoldsUnlessFailed text counts now holds → HoldsUnlessFailed text counts' now' holds'
+unless_moved : (text : List ℕ) (counts counts' now now' : FaultCounts) (holds holds' : Option (List ℕ)) → counts ≡ counts' → now' ≡ now → holds' ≡ holds → HoldsUnlessFailed text counts now holds → HoldsUnlessFailed text counts' now' holds'
 unless_moved text counts counts' now now' holds holds' c n h (inl (quiet, whole)) = inl (n ∙ quiet ∙ c, h ∙ whole)
 unless_moved text counts counts' now now' holds holds' c n h (inr (rose, (k, front))) =
-    inr (subst (λ (x : Counts). Rose x.writing now'.writing) c (subst (λ (x : Counts). Rose counts.writing x.writing) (sym n) rose), (k, h ∙ front))
+    inr (subst (λ (x : FaultCounts). Rose x.writing now'.writing) c (subst (λ (x : FaultCounts). Rose counts.writing x.writing) (sym n) rose), (k, h ∙ front))
 
 front_moved : (text : List ℕ) (old old' new new' : Option (List ℕ)) → old ≡ old' → new' ≡ new → HoldsFrontOrSame text old new → HoldsFrontOrSame text old' new'
 front_moved text old old' new new' o n (inl same) = inl (n ∙ same ∙ o)
@@ -251,11 +251,11 @@ module _ (sinks : List Sink) (last : TextFile) (a b c d : PerName) (free : HasOw
     last.file,
     record {
       at = ap (λ (k : ℕ). slice_get (names_of sinks (Some last)) k) counted_text.ends ∙ named_last sinks last;
-      rose = subst (λ (x : Counts). Rose x.writing (d last.file).writing) (counted.cause last.file ∙ same last.file) counted_text.cause;
+      rose = subst (λ (x : FaultCounts). Rose x.writing (d last.file).writing) (counted.cause last.file ∙ same last.file) counted_text.cause;
       before = subst (All (λ n. d n ≡ a n)) (sym (ap (λ (k : ℕ). take k (names_of sinks (Some last))) counted_text.ends ∙ all_sinks sinks last)) (λ k n small.
           let m = get_or (sink_names sinks) k n in
           counted_text.others m (other_in (sink_names sinks) k n last.file small free) ∙ counted.cause m ∙ same m);
-      creating = λ n. counted_text.creating n ∙ ap (λ (x : Counts). x.creating) (counted.cause n ∙ same n);
+      creating = λ n. counted_text.creating n ∙ ap (λ (x : FaultCounts). x.creating) (counted.cause n ∙ same n);
     },
   )
 
@@ -270,14 +270,14 @@ module _ (sinks : List Sink) (last : TextFile) (a b c d : PerName) (free : HasOw
         name,
         record {
           at = append_front (sink_names sinks) (last.file ∷ []) at name was.at;
-          rose = subst (λ (x : Counts). Rose x.writing (d name).writing) (same name) (subst (λ (x : Counts). Rose (b name).writing x.writing) (sym (counted_text.others name other)) was.rose);
+          rose = subst (λ (x : FaultCounts). Rose x.writing (d name).writing) (same name) (subst (λ (x : FaultCounts). Rose (b name).writing x.writing) (sym (counted_text.others name other)) was.rose);
           before = subst (All (λ n. d n ≡ a n)) (sym first) (λ k n within.
               let long = length-take-le at (sink_names sinks) (omega (arith, size, small)) in
               let m = get_or (take at (sink_names sinks)) k n in
               let at_all : m ≡ get_or (sink_names sinks) k n = get_or-take at (sink_names sinks) k n (omega (arith, long, within)) in
               let apart : m ≢ last.file = λ e. other_in (sink_names sinks) k n last.file (omega (arith, long, within, size, small)) free (sym at_all ∙ e) in
               counted_text.others m apart ∙ was.before k n within ∙ same m);
-          creating = λ n. counted_text.creating n ∙ was.creating n ∙ ap (λ (x : Counts). x.creating) (same n);
+          creating = λ n. counted_text.creating n ∙ was.creating n ∙ ap (λ (x : FaultCounts). x.creating) (same n);
         },
       )
 
@@ -294,8 +294,8 @@ module _ (sinks : List Sink) (last : TextFile) (a b c d : PerName) (free : HasOw
   pub text_counts : (sunk r : Sunk) → IsFilled sunk (length sinks) → FilesCounted sunk (sink_names sinks) b c → LastCounted sunk r (length sinks) last.file c d → FilesCounted r (names_of sinks (Some last)) a d
   text_counts sunk r filled counted counted_text = record {
     others = λ n out. let p = with_text (sink_names sinks) last.file n out in counted_text.others n p.1 ∙ counted.others n p.0 ∙ same n;
-    opening = λ n. counted_text.opening n ∙ counted.opening n ∙ ap (λ (x : Counts). x.opening) (same n);
-    reading = λ n. counted_text.reading n ∙ counted.reading n ∙ ap (λ (x : Counts). x.reading) (same n);
+    opening = λ n. counted_text.opening n ∙ counted.opening n ∙ ap (λ (x : FaultCounts). x.opening) (same n);
+    reading = λ n. counted_text.reading n ∙ counted.reading n ∙ ap (λ (x : FaultCounts). x.reading) (same n);
     cause = cause_of sunk r filled counted counted_text;
   }
 

@@ -8,7 +8,7 @@ use Rattle.std.proofs.lemmas.List.Elements.{All-map}
 use Rattle.std.proofs.lemmas.Option.{slice_get_within}
 use Rattle.spl_value.specs.declared.item.Item.{Item}
 use Rattle.spl_value.specs.declared.memory.NoMemory.{NoMemory}
-use Rattle.feed_pour.specs.Counts.{Counts, PerName}
+use Rattle.feed_pour.specs.Counts.{FaultCounts, PerName}
 use Rattle.feed_pour.specs.Contents.{Told, WhereTold}
 use Rattle.feed_pour.specs.Contents.{HeldAfter as Finishes}
 use Rattle.file_adapters.specs.Sinks.{FilesCause, FilesCounted, FilesWritten, HoldsFront, HoldsUnlessFailed, SinksCount, SinksHold, sink_names, sink_rows, sink_text}
@@ -45,7 +45,7 @@ front_from (Ok a) f faults now h text (inr (some, (n, small, front))) held = fro
 front_from (Err e) f faults now h text (n, small, front) held = front_kept f n h text (subst (λ (p : Option (List ℕ)). Finishes f p h) front held)
 
 -- a file that was finished holds a front of its text
-front_held : {A : Type 0} (r : Result A NoMemory) (first : Option ℕ) (k faults : ℕ) (counts now : Counts) (was poured h : Option (List ℕ)) (text : List ℕ) → was ≡ Some [] → TextPoured r was poured faults text
+front_held : {A : Type 0} (r : Result A NoMemory) (first : Option ℕ) (k faults : ℕ) (counts now : FaultCounts) (was poured h : Option (List ℕ)) (text : List ℕ) → was ≡ Some [] → TextPoured r was poured faults text
     → FileFinished first k faults counts now poured h → HoldsFront text h
 front_held r first k faults counts now was poured h text empty written (inl (none, quiet, held)) =
     front_from r false faults poured h text (subst (λ (p : Option (List ℕ)). TextPoured r p poured faults text) empty written) held
@@ -61,14 +61,14 @@ whole_held : {A : Type 0} (a : A) (faults : ℕ) (was now h : Option (List ℕ))
 whole_held a faults was now h text empty none written held = whole_from a faults now h text none (subst (λ (p : Option (List ℕ)). TextPoured (Ok a) p now faults text) empty written) held
 
 -- all of it, or its finishing failed
-unless_failed : {A : Type 0} (a : A) (first : Option ℕ) (k faults : ℕ) (counts now : Counts) (was poured h : Option (List ℕ)) (text : List ℕ) → was ≡ Some [] → TextPoured (Ok a) was poured faults text
+unless_failed : {A : Type 0} (a : A) (first : Option ℕ) (k faults : ℕ) (counts now : FaultCounts) (was poured h : Option (List ℕ)) (text : List ℕ) → was ≡ Some [] → TextPoured (Ok a) was poured faults text
     → FileFinished first k faults counts now poured h → HoldsUnlessFailed text counts now h
 unless_failed a first k faults counts now was poured h text empty written (inl (none, quiet, held)) = inl (quiet, whole_held a faults was poured h text empty none written held)
 unless_failed a first k faults counts now was poured h text empty written (inr (from, rose, held)) =
     inr (rose, front_held (Ok a) first k faults counts now was poured h text empty written (inr (from, rose, held)))
 
 -- where no finishing failed
-whole_always : {A : Type 0} (a : A) (k faults : ℕ) (counts now : Counts) (was poured h : Option (List ℕ)) (text : List ℕ) → was ≡ Some [] → TextPoured (Ok a) was poured faults text
+whole_always : {A : Type 0} (a : A) (k faults : ℕ) (counts now : FaultCounts) (was poured h : Option (List ℕ)) (text : List ℕ) → was ≡ Some [] → TextPoured (Ok a) was poured faults text
     → FileFinished None k faults counts now poured h → h ≡ Some text
 whole_always a k faults counts now was poured h text empty written (inl (none, quiet, held)) = whole_held a faults was poured h text empty none written held
 whole_always a k faults counts now was poured h text empty written (inr (from, rose, held)) = absurd from
@@ -81,7 +81,7 @@ empty_kept f was h empty held = by f (subst (λ (p : Option (List ℕ)). Finishe
     by false held = held
     by true held = held.1 ∙ ap (λ (t : List ℕ). Some t) (take_all held.0 [] (omega arith))
 
-pub empty_held : (first : Option ℕ) (k faults : ℕ) (counts now : Counts) (was h : Option (List ℕ)) → was ≡ Some [] → FileFinished first k faults counts now was h → h ≡ Some []
+pub empty_held : (first : Option ℕ) (k faults : ℕ) (counts now : FaultCounts) (was h : Option (List ℕ)) → was ≡ Some [] → FileFinished first k faults counts now was h → h ≡ Some []
 empty_held first k faults counts now was h empty (inl (none, quiet, held)) = empty_kept false was h empty held
 empty_held first k faults counts now was h empty (inr (from, rose, held)) = empty_kept true was h empty held
 

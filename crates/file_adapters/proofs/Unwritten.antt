@@ -5,7 +5,7 @@ use Rattle.std.specs.List.{All}
 use Rattle.std.proofs.lemmas.Bool.{cases_lt}
 use Rattle.std.proofs.lemmas.List.{get_or-take, length-take-le, take_all}
 use Rattle.spl_value.specs.declared.item.Item.{Item}
-use Rattle.feed_pour.specs.Counts.{Counts, CreatingCounted, PerName, Rose}
+use Rattle.feed_pour.specs.Counts.{FaultCounts, CreatingCounted, PerName, Rose}
 use Rattle.feed_pour.specs.Contents.{Told, TellsSame, WhereTold}
 use Rattle.feed_pour.specs.declared.outside.PourAnswer.{PourAnswer}
 use Rattle.feed_pour.specs.declared.outside.PourAnswer.TheVariants as P
@@ -93,7 +93,7 @@ unwritten_cause P.Failed first old mid new sinks last place within created finis
       record {
         at = named_of sinks last place s rose.sink;
         rose = subst (λ (n : ℕ). Rose (old s.file).creating n) (sym (finished.creating s.file)) rose.rose;
-        creating = λ n e. finished.creating n ∙ ap (λ (c : Counts). c.creating) (rose.others n e);
+        creating = λ n e. finished.creating n ∙ ap (λ (c : FaultCounts). c.creating) (rose.others n e);
         later = λ n out e. finished.others n (sym (named (take place sinks) n) ∙ ap (λ (ns : List (List ℕ)). is_among ns n) (sym (taken sinks last place within)) ∙ out) ∙ rose.others n e;
       },
     )
@@ -135,20 +135,20 @@ pub text_failed_counts : (first : Option ℕ) (old mid new : PerName) (sinks : L
     → FilesCounted (S.NotCreated (length sinks)) (names_of sinks (Some text)) old new
 text_failed_counts first old mid new sinks text count created finished = record {
   others = λ n out. finished.others n (out_of_front sinks count n (outside sinks (Some text) n out)) ∙ created.others n (with_text (sink_names sinks) text.file n out).1;
-  opening = λ n. finished.opening n ∙ field (λ (k : Counts). k.opening) created.opening n;
-  reading = λ n. finished.reading n ∙ field (λ (k : Counts). k.reading) created.reading n;
+  opening = λ n. finished.opening n ∙ field (λ (k : FaultCounts). k.opening) created.opening n;
+  reading = λ n. finished.reading n ∙ field (λ (k : FaultCounts). k.reading) created.reading n;
   cause = (
     text.file,
     record {
       at = named_last sinks text;
       rose = subst (λ (n : ℕ). Rose (old text.file).creating n) (sym (finished.creating text.file)) created.count.1;
-      creating = λ n e. finished.creating n ∙ ap (λ (c : Counts). c.creating) (created.others n e);
+      creating = λ n e. finished.creating n ∙ ap (λ (c : FaultCounts). c.creating) (created.others n e);
       later = λ n out e. finished.others n (out_of_front sinks count n (sym (named sinks n) ∙ front n ∙ out)) ∙ created.others n e;
     },
   );
 }
   where
-    field : (f : Counts → ℕ) → f (mid text.file) ≡ f (old text.file) → (n : List ℕ) → f (mid n) ≡ f (old n)
+    field : (f : FaultCounts → ℕ) → f (mid text.file) ≡ f (old text.file) → (n : List ℕ) → f (mid n) ≡ f (old n)
     field f here n = elim (one_or_other n text.file) [ inl e ↦ ap (λ (m : List ℕ). f (mid m)) e ∙ here ∙ ap (λ (m : List ℕ). f (old m)) (sym e) | inr other ↦ ap f (created.others n other) ]
 
     front : (n : List ℕ) → is_among (sink_names sinks) n ≡ is_among (take (length sinks) (names_of sinks (Some text))) n
@@ -159,7 +159,7 @@ pub text_wanting_counts : (first : Option ℕ) (old mid new : PerName) (sinks : 
     → FilesCounted S.Memory (names_of sinks (Some text)) old new
 text_wanting_counts first old mid new sinks text count created finished = record {
   others = λ n out. finished.others n (out_of_front sinks count n (outside sinks (Some text) n out)) ∙ same_counts old mid text.file created n;
-  opening = λ n. finished.opening n ∙ ap (λ (c : Counts). c.opening) (same_counts old mid text.file created n);
-  reading = λ n. finished.reading n ∙ ap (λ (c : Counts). c.reading) (same_counts old mid text.file created n);
+  opening = λ n. finished.opening n ∙ ap (λ (c : FaultCounts). c.opening) (same_counts old mid text.file created n);
+  reading = λ n. finished.reading n ∙ ap (λ (c : FaultCounts). c.reading) (same_counts old mid text.file created n);
   cause = tt;
 }

@@ -5,7 +5,7 @@ use Rattle.std.specs.List.{All, list_any, count_by}
 use Rattle.std.specs.Option.{unwrap_or}
 use Rattle.std.specs.Str.{bytes_eq}
 use Rattle.spl_value.specs.declared.item.Item.{Item}
-use Rattle.feed_pour.specs.Counts.{Counts, PerName, Rose}
+use Rattle.feed_pour.specs.Counts.{FaultCounts, PerName, Rose}
 use Rattle.feed_pour.specs.Contents.{Told}
 use Rattle.stream_model.specs.Rows.{text_of}
 use Rattle.stream_model.specs.Stream.{is_tuple}
@@ -61,7 +61,7 @@ abbrev pub HoldsFront : List ℕ → Option (List ℕ) → Type 0
 HoldsFront text holds = (n : ℕ) × (holds ≡ Some (take n text))
 
 -- a file holds this text, and nothing was counted; or its count of writing rose, and it holds a front
-abbrev pub HoldsUnlessFailed : List ℕ → Counts → Counts → Option (List ℕ) → Type 0
+abbrev pub HoldsUnlessFailed : List ℕ → FaultCounts → FaultCounts → Option (List ℕ) → Type 0
 HoldsUnlessFailed text counts now holds = ((now ≡ counts) × (holds ≡ Some text)) ⊎ (Rose counts.writing now.writing × HoldsFront text holds)
 
 -- a file holds a front of this text, or what it held

@@ -11,7 +11,7 @@
 //! | `Aggregate partitioned tumbling count 2 by 1 0 group 2 gives 1 First, 0 Sum int64` | the window, the places of keys and of groups, the outputs in order |
 //! | `Join (sliding count 0) (sliding delta 1 5) if 0 1` | the windows of the left and of the right port |
 use crate::windows::add_policy;
-use language_model::{Checked, Collected, Collector, Handlers, Part, Position};
+use language_model::{Checked, CheckedClauses, CollectedAttribute, Collector, Handlers, Position};
 use spl_tree::{Code, Slot};
 use std::alloc::{AllocError, Global};
 use test_texts::text::Text;
@@ -38,7 +38,7 @@ fn add_collector(text: &mut Text, collector: Collector) {
     }
 }
 
-fn add_collected(text: &mut Text, output: &[Collected]) {
+fn add_collected(text: &mut Text, output: &[CollectedAttribute]) {
     for (at, collected) in output.iter().enumerate() {
         text.add_between(at, ",");
         text.add_place(" ", collected.attribute);
@@ -93,50 +93,50 @@ fn add_handlers(text: &mut Text, handlers: &Handlers) {
     }
 }
 
-fn add_part(text: &mut Text, part: &Part) {
+fn add_part(text: &mut Text, part: &CheckedClauses) {
     match part {
-        Part::FileSource { file, strict } => {
+        CheckedClauses::FileSource { file, strict } => {
             text.add("FileSource ");
             text.add_bytes(file.as_slice());
             text.add(if *strict { " strict" } else { " permissive" });
         }
-        Part::FileSink { file } => {
+        CheckedClauses::FileSink { file } => {
             text.add("FileSink ");
             text.add_bytes(file.as_slice());
         }
-        Part::Filter { condition } => {
+        CheckedClauses::Filter { condition } => {
             text.add("Filter");
             add_condition(text, condition);
         }
-        Part::Functor { condition, output } => {
+        CheckedClauses::Functor { condition, output } => {
             text.add("Functor");
             add_condition(text, condition);
             add_fields(text, output);
         }
-        Part::Punctor { position, .. } => text.add(match position {
+        CheckedClauses::Punctor { position, .. } => text.add(match position {
             Position::Before => "Punctor before",
             Position::After => "Punctor after",
         }),
-        Part::Split { .. } => text.add("Split"),
+        CheckedClauses::Split { .. } => text.add("Split"),
         _ => add_further_part(text, part),
     }
 }
 
 // Those with several ports or with windows.
-fn add_further_part(text: &mut Text, part: &Part) {
+fn add_further_part(text: &mut Text, part: &CheckedClauses) {
     match part {
-        Part::Union { places } => {
+        CheckedClauses::Union { places } => {
             text.add("Union");
             for port in places.as_slice() {
                 add_port(text, port.as_slice());
             }
         }
-        Part::Custom { handlers } => {
+        CheckedClauses::Custom { handlers } => {
             text.add("Custom");
             add_state(text, handlers);
             add_handlers(text, handlers);
         }
-        Part::Aggregate {
+        CheckedClauses::Aggregate {
             window,
             partition,
             group,
@@ -151,7 +151,7 @@ fn add_further_part(text: &mut Text, part: &Part) {
             text.add(" gives");
             add_collected(text, output.as_slice());
         }
-        Part::Join {
+        CheckedClauses::Join {
             left,
             right,
             condition,

@@ -20,7 +20,7 @@
 //! | `(f2 1)` | a call of the function at place 2 |
 //! | `is-window`, `not-final` | whether the marker is this one, or isn't |
 use crate::operators::{add_binary, add_built_in, add_unary, marker_word};
-use spl_tree::{Code, Slot, Taking};
+use spl_tree::{Code, Selector, Slot};
 use test_texts::text::Text;
 use test_texts::values::add_value;
 
@@ -133,16 +133,16 @@ fn add_fields(text: &mut Text, fields: &[(u32, Code<Slot>)]) {
 
 /// Adds what is taken, the last in parentheses.
 #[cycle(code)]
-pub fn add_takings(text: &mut Text, takings: &[Taking<Code<Slot>>]) {
+pub fn add_takings(text: &mut Text, takings: &[Selector<Code<Slot>>]) {
     for taking in takings {
         match taking {
-            Taking::Member(place) => text.add_place(" .", *place),
-            Taking::Element(index) => {
+            Selector::Member(place) => text.add_place(" .", *place),
+            Selector::Element(index) => {
                 text.add(" [");
                 add_code(text, index);
                 text.add("]");
             }
-            Taking::AtKey(key) => {
+            Selector::AtKey(key) => {
                 text.add(" {");
                 add_code(text, key);
                 text.add("}");

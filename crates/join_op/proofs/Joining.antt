@@ -10,8 +10,8 @@ use Rattle.spl_tree.specs.declared.code.Code.{Code}
 use Rattle.spl_tree.specs.declared.code.Code.TheVariants as C
 use Rattle.spl_tree.specs.declared.code.Slot.{Slot}
 use Rattle.spl_tree.specs.declared.graph.OpKind.{OpKind}
-use Rattle.language_model.specs.declared.checked.Part.{Part}
-use Rattle.language_model.specs.declared.checked.Part.TheVariants as A
+use Rattle.language_model.specs.declared.checked.CheckedClauses.{CheckedClauses}
+use Rattle.language_model.specs.declared.checked.CheckedClauses.TheVariants as A
 use Rattle.language_model.specs.declared.checked.Policy.{Policy}
 use Rattle.language_model.specs.declared.checked.WindowRule.{WindowRule}
 use Rattle.language_model.specs.declared.env.Env.{Env}
@@ -64,7 +64,7 @@ pub record Shape (scope : Scope) (ins : List Attributes) (left right : Policy) (
   pub condition_fits : ConditionFits scope condition
   pub output_fits : F.CodeFits scope output (S.Tuple schema)
 
-pub shape_of : (scope : Scope) (kind : OpKind) (ins outs : List Attributes) (part : Part) (left right : Policy) (condition : Option (Code Slot)) (output : Code Slot)
+pub shape_of : (scope : Scope) (kind : OpKind) (ins outs : List Attributes) (part : CheckedClauses) (left right : Policy) (condition : Option (Code Slot)) (output : Code Slot)
     → part ≡ A.Join left right condition output → PartFits scope kind ins outs part → Shape scope ins left right condition output
 shape_of scope _ _ _ _ left right condition output is (K.join l r c fields first second schema wl wr pl pr holds made each) =
     let same_left : l ≡ left = cc in

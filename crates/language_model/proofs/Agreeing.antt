@@ -6,8 +6,8 @@ use Rattle.spl_value.specs.declared.value.Value.TheVariants as V
 use Rattle.spl_value.specs.declared.value.Value.TheViews.{out-Value}
 use Rattle.spl_tree.specs.declared.code.Code.{Code}
 use Rattle.spl_tree.specs.declared.code.Code.TheVariants as C
-use Rattle.spl_tree.specs.declared.code.Taking.{Taking}
-use Rattle.spl_tree.specs.declared.code.Taking.TheVariants as K
+use Rattle.spl_tree.specs.declared.code.Selector.{Selector}
+use Rattle.spl_tree.specs.declared.code.Selector.TheVariants as K
 use Rattle.spl_tree.specs.declared.code.UnaryCode.{UnaryCode}
 use Rattle.spl_tree.specs.declared.code.BinaryCode.{BinaryCode}
 use Rattle.spl_tree.specs.declared.code.BinaryCode.TheVariants as D
@@ -67,7 +67,7 @@ module _ {M N : Type 0} (calls : Calls) (w : World M) (v : World N) where
   abbrev pub FieldsAgree : List (ℕ × Code M) → List (ℕ × Code N) → Type 0
   FieldsAgree fs gs = (turns : ℕ) → field_values calls fs w turns ≡ field_values calls gs v turns
 
-  abbrev pub StepsAgree : List (Taking (Code M)) → List (Taking (Code N)) → Type 0
+  abbrev pub StepsAgree : List (Selector (Code M)) → List (Selector (Code N)) → Type 0
   StepsAgree ss ts = (u : Value) (turns : ℕ) → takings_value calls ss u w turns ≡ takings_value calls ts u v turns
 
   pub literals_agree : (u : Value) → Agree (C.Literal u) (C.Literal u)
@@ -85,7 +85,7 @@ module _ {M N : Type 0} (calls : Calls) (w : World M) (v : World N) where
   pub tuples_agree : (fs : List (ℕ × Code M)) (gs : List (ℕ × Code N)) → FieldsAgree fs gs → Agree (C.Tuple fs) (C.Tuple gs)
   tuples_agree fs gs h turns = tuple_is calls fs w turns ∙ first_followed (field_values calls fs w turns) (field_values calls gs v turns) _ (h turns) ∙ sym (tuple_is calls gs v turns)
 
-  pub selects_agree : (x : Code M) (y : Code N) (ss : List (Taking (Code M))) (ts : List (Taking (Code N))) → Agree x y → StepsAgree ss ts → Agree (C.Select x ss) (C.Select y ts)
+  pub selects_agree : (x : Code M) (y : Code N) (ss : List (Selector (Code M))) (ts : List (Selector (Code N))) → Agree x y → StepsAgree ss ts → Agree (C.Select x ss) (C.Select y ts)
   selects_agree x y ss ts f g turns =
       select_is calls x ss w turns ∙ both_followed (code_value calls x w turns) (code_value calls y v turns) _ _ (f turns) (λ u turns. g u turns) ∙ sym (select_is calls y ts v turns)
 
@@ -142,15 +142,15 @@ module _ {M N : Type 0} (calls : Calls) (w : World M) (v : World N) where
 
   -- ---- what is taken
 
-  pub members_agree : (i : ℕ) (ss : List (Taking (Code M))) (ts : List (Taking (Code N))) → StepsAgree ss ts → StepsAgree (K.Member i ∷ ss) (K.Member i ∷ ts)
+  pub members_agree : (i : ℕ) (ss : List (Selector (Code M))) (ts : List (Selector (Code N))) → StepsAgree ss ts → StepsAgree (K.Member i ∷ ss) (K.Member i ∷ ts)
   members_agree i ss ts h u turns = followed_on (settled (level_member i (out-Value u)) turns) _ _ (λ u turns. h u turns)
 
-  pub elements_agree : (x : Code M) (y : Code N) (ss : List (Taking (Code M))) (ts : List (Taking (Code N))) → Agree x y → StepsAgree ss ts
+  pub elements_agree : (x : Code M) (y : Code N) (ss : List (Selector (Code M))) (ts : List (Selector (Code N))) → Agree x y → StepsAgree ss ts
       → StepsAgree (K.Element x ∷ ss) (K.Element y ∷ ts)
   elements_agree x y ss ts f h u turns =
       both_followed _ _ _ _ (first_followed (code_value calls x w turns) (code_value calls y v turns) _ (f turns)) (λ u turns. h u turns)
 
-  pub keys_agree : (x : Code M) (y : Code N) (ss : List (Taking (Code M))) (ts : List (Taking (Code N))) → Agree x y → StepsAgree ss ts
+  pub keys_agree : (x : Code M) (y : Code N) (ss : List (Selector (Code M))) (ts : List (Selector (Code N))) → Agree x y → StepsAgree ss ts
       → StepsAgree (K.AtKey x ∷ ss) (K.AtKey y ∷ ts)
   keys_agree x y ss ts f h u turns =
       both_followed _ _ _ _ (first_followed (code_value calls x w turns) (code_value calls y v turns) _ (f turns)) (λ u turns. h u turns)

@@ -18,8 +18,8 @@ use Rattle.spl_value.specs.Pairs.{pairs_get}
 use Rattle.spl_value.specs.Values.{fits, tuple_fits}
 use Rattle.spl_tree.specs.declared.body.Change.{Change}
 use Rattle.spl_tree.specs.declared.body.Change.TheVariants as H
-use Rattle.spl_tree.specs.declared.code.Taking.{Taking}
-use Rattle.spl_tree.specs.declared.code.Taking.TheVariants as K
+use Rattle.spl_tree.specs.declared.code.Selector.{Selector}
+use Rattle.spl_tree.specs.declared.code.Selector.TheVariants as K
 use Rattle.language_model.specs.Changes.{passed_on, step_of, level_index, level_changed, changed, change_of}
 use Rattle.language_model.specs.Operators.{level_member, level_element}
 use Rattle.language_model.proofs.Operating.{settles_by, settles_given, level_list, level_tuple, member_settles, element_settles, at_key_settles}
@@ -75,17 +75,17 @@ change_settles _ _ (clears_map k t) (Some old) h = settles_given (S.Map k t) (cl
 -- ---- steps
 
 -- a step with the value of its index or key leads from a value of one type to one of another
-pub data StepGives : Taking Value → SplType → SplType → Type 0 where
+pub data StepGives : Selector Value → SplType → SplType → Type 0 where
   member : (i : ℕ) (schema : List (Named SplType)) (a : Named SplType) → slice_get schema i ≡ Some a → StepGives (K.Member i) (S.Tuple schema) a.kind
   element : (n : Value) (k : IntKind) (t : SplType) → OfType (S.Int k) n → StepGives (K.Element n) (S.List t) t
   at_key : (key : Value) (k t : SplType) → OfType k key → StepGives (K.AtKey key) (S.Map k t) t
 
 -- so do several
-pub data StepsGive : List (Taking Value) → SplType → SplType → Type 0 where
+pub data StepsGive : List (Selector Value) → SplType → SplType → Type 0 where
   here : (t : SplType) → StepsGive [] t t
-  further : (step : Taking Value) (steps : List (Taking Value)) (t u r : SplType) → StepGives step t u → StepsGive steps u r → StepsGive (step ∷ steps) t r
+  further : (step : Selector Value) (steps : List (Selector Value)) (t u r : SplType) → StepGives step t u → StepsGive steps u r → StepsGive (step ∷ steps) t r
 
-pub step_settles : (step : Taking Value) (t u : SplType) → StepGives step t u → (v : Value) → OfType t v → Settles u (step_of step v)
+pub step_settles : (step : Selector Value) (t u : SplType) → StepGives step t u → (v : Value) → OfType t v → Settles u (step_of step v)
 step_settles _ _ _ (member i schema a at) v h = member_settles i schema a v at h
 step_settles _ _ _ (element n k t f) v h = element_settles t k v n h f
 step_settles _ _ _ (at_key key k t f) v h = at_key_settles k t v key h
@@ -131,13 +131,13 @@ at_key_changed key k t at change keeps v h =
     (ap (λ v. level_changed (K.AtKey key) change (out-Value v)) is.1 ∙ ap (level_changed (K.AtKey key) change) (V.outs-Map is.0))
     (settles_passed t (S.Map k t) (change (pairs_get is.0 key)) _ (keeps (pairs_get is.0 key) old) (λ new g. put_fits k t is.0 key new map_fits at g))
 
-step_changed : (step : Taking Value) (t u : SplType) → StepGives step t u → (change : Option Value → CallOutcome) → Keeps u change → (v : Value) → OfType t v
+step_changed : (step : Selector Value) (t u : SplType) → StepGives step t u → (change : Option Value → CallOutcome) → Keeps u change → (v : Value) → OfType t v
     → Settles t (level_changed step change (out-Value v))
 step_changed _ _ _ (member i schema a at) change keeps v h = member_changed i schema a at change keeps v h
 step_changed _ _ _ (element n k t f) change keeps v h = element_changed n k t f change keeps v h
 step_changed _ _ _ (at_key key k t f) change keeps v h = at_key_changed key k t f change keeps v h
 
-changed_keeps : (steps : List (Taking Value)) (t u : SplType) → StepsGive steps t u → (change : Option Value → CallOutcome) → Keeps u change
+changed_keeps : (steps : List (Selector Value)) (t u : SplType) → StepsGive steps t u → (change : Option Value → CallOutcome) → Keeps u change
     → Keeps t (changed steps change)
 changed_keeps _ _ _ (here t) change keeps old h = keeps old h
 changed_keeps _ _ _ (further step steps t u r one rest) change keeps None h = tt
@@ -145,6 +145,6 @@ changed_keeps _ _ _ (further step steps t u r one rest) change keeps (Some v) h 
     step_changed step t u one (changed steps change) (changed_keeps steps u r rest change keeps) v h
 
 -- what the steps take of a value is changed: it stays of its type
-pub changed_settles : (steps : List (Taking Value)) (change : Change Value) (t u : SplType) → StepsGive steps t u → ChangeGives change u → (v : Value) → OfType t v
+pub changed_settles : (steps : List (Selector Value)) (change : Change Value) (t u : SplType) → StepsGive steps t u → ChangeGives change u → (v : Value) → OfType t v
     → Settles t (changed steps (change_of change) (Some v))
 changed_settles steps change t u rest gives v h = changed_keeps steps t u rest (change_of change) (change_settles change u gives) (Some v) h

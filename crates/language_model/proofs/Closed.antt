@@ -6,7 +6,7 @@ use Rattle.spl_value.specs.declared.types.SplType.{SplType}
 use Rattle.spl_value.specs.declared.types.SplType.TheVariants as S
 use Rattle.spl_tree.specs.declared.code.Code.{Code}
 use Rattle.spl_tree.specs.declared.code.Slot.{Slot}
-use Rattle.spl_tree.specs.declared.code.Taking.{Taking}
+use Rattle.spl_tree.specs.declared.code.Selector.{Selector}
 use Rattle.language_model.specs.declared.scope.Scope.{Scope}
 use Rattle.language_model.specs.declared.scope.Signature.{Signature}
 use Rattle.language_model.specs.CodeFits as F
@@ -47,7 +47,7 @@ module _ (one other : Scope) (slots : (s : Slot) (t : SplType) → SlotFits one 
     arguments_refit _ _ F.no_arguments = F.no_arguments
     arguments_refit _ _ (F.argument x xs t ts f h) = F.argument x xs t ts (refits x t f) (arguments_refit xs ts h)
 
-    steps_relead : (steps : List (Taking (Code Slot))) (t u : SplType) → StepsLead one steps t u → StepsLead other steps t u
+    steps_relead : (steps : List (Selector (Code Slot))) (t u : SplType) → StepsLead one steps t u → StepsLead other steps t u
     steps_relead _ _ _ (F.here t) = F.here t
     steps_relead _ _ _ (F.member i steps schema a u at h) = F.member i steps schema a u at (steps_relead steps a.kind u h)
     steps_relead _ _ _ (F.index x steps k t u f h) = F.index x steps k t u (refits x (S.Int k) f) (steps_relead steps t u h)

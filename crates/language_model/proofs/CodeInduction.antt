@@ -12,8 +12,8 @@ use Rattle.spl_tree.specs.declared.code.Code.TheOpen.{Code-F}
 use Rattle.spl_tree.specs.declared.code.Code.TheViews.{roll-Code}
 use Rattle.spl_tree.specs.declared.code.Code.TheFolds.{map-Code, ind-Code}
 use Rattle.spl_tree.specs.declared.code.Marker.{Marker}
-use Rattle.spl_tree.specs.declared.code.Taking.{Taking}
-use Rattle.spl_tree.specs.declared.code.Taking.TheVariants as K
+use Rattle.spl_tree.specs.declared.code.Selector.{Selector}
+use Rattle.spl_tree.specs.declared.code.Selector.TheVariants as K
 use Rattle.spl_tree.specs.declared.code.UnaryCode.{UnaryCode}
 
 module _ {N : Type 0} where
@@ -25,7 +25,7 @@ module _ {N : Type 0} where
   OfField P f = P f.1
 
   -- of the index or the key, where the step has one
-  abbrev pub OfTaking : (Code N → Type 0) → Taking (Code N) → Type 0
+  abbrev pub OfTaking : (Code N → Type 0) → Selector (Code N) → Type 0
   OfTaking P (K.Member i) = Unit {0}
   OfTaking P (K.Element x) = P x
   OfTaking P (K.AtKey x) = P x
@@ -37,7 +37,7 @@ pub record CodeSteps {N : Type 0} (P : Code N → Type 0) : Type 0 where
   pub list : (xs : List (Code N)) → AllByRecursion P xs → P (S.List xs)
   pub map_of : (ps : List (Code N × Code N)) → AllByRecursion (OfPair P) ps → P (S.Map ps)
   pub tuple : (fs : List (ℕ × Code N)) → AllByRecursion (OfField P) fs → P (S.Tuple fs)
-  pub select : (x : Code N) (ts : List (Taking (Code N))) → P x → AllByRecursion (OfTaking P) ts → P (S.Select x ts)
+  pub select : (x : Code N) (ts : List (Selector (Code N))) → P x → AllByRecursion (OfTaking P) ts → P (S.Select x ts)
   pub unary : (ops : List UnaryCode) (x : Code N) → P x → P (S.Unary ops x)
   pub binary : (op : BinaryCode) (x y : Code N) → P x → P y → P (S.Binary op x y)
   pub conditional : (c x y : Code N) → P c → P x → P y → P (S.Conditional c x y)
@@ -71,14 +71,14 @@ module _ {N : Type 0} (P : Code N → Type 0) where
   all_fields [] = tt
   all_fields (e ∷ es) = (e.1.1, all_fields es)
 
-  abbrev steps_in : {A : Type 0} → Code-F N A → List (Taking A)
+  abbrev steps_in : {A : Type 0} → Code-F N A → List (Selector A)
   steps_in (C.Select x ss) = ss
   steps_in _ = []
 
-  abbrev steps_of : Known → List (Taking Known) → List (Taking (Code N))
+  abbrev steps_of : Known → List (Selector Known) → List (Selector (Code N))
   steps_of e ss = steps_in (map-Code N Known (Code N) (λ e. e.0) (C.Select e ss))
 
-  all_steps : (e : Known) (ss : List (Taking Known)) → AllByRecursion (OfTaking P) (steps_of e ss)
+  all_steps : (e : Known) (ss : List (Selector Known)) → AllByRecursion (OfTaking P) (steps_of e ss)
   all_steps e [] = tt
   all_steps e (K.Member i ∷ ss) = (tt, all_steps e ss)
   all_steps e (K.Element x ∷ ss) = (x.1, all_steps e ss)

@@ -9,12 +9,12 @@ use Rattle.spl_tree.specs.declared.code.Code.TheFolds.{fold-Code, fold_out-Code,
 use Rattle.spl_tree.specs.declared.code.Slot.{Slot}
 use Rattle.spl_tree.specs.declared.code.BinaryCode.{BinaryCode}
 use Rattle.spl_tree.specs.declared.code.BuiltIn.{BuiltIn}
-use Rattle.spl_tree.specs.declared.code.Taking.{Taking}
-use Rattle.spl_tree.specs.declared.code.Taking.TheVariants as K
+use Rattle.spl_tree.specs.declared.code.Selector.{Selector}
+use Rattle.spl_tree.specs.declared.code.Selector.TheVariants as K
 use Rattle.spl_tree.specs.declared.code.UnaryCode.{UnaryCode}
 use Rattle.spl_value.proofs.Lists.{total}
 
-abbrev taken : Taking ℕ → ℕ
+abbrev taken : Selector ℕ → ℕ
 taken (K.Member place) = 0
 taken (K.Element x) = x
 taken (K.AtKey x) = x
@@ -49,12 +49,12 @@ field_weight f = weight f.1
 abbrev pub field_weights : List (ℕ × Code Slot) → ℕ
 field_weights fs = total field_weight fs
 
-abbrev pub taking_weight : Taking (Code Slot) → ℕ
+abbrev pub taking_weight : Selector (Code Slot) → ℕ
 taking_weight (K.Member place) = 0
 taking_weight (K.Element x) = weight x
 taking_weight (K.AtKey x) = weight x
 
-abbrev pub taking_weights : List (Taking (Code Slot)) → ℕ
+abbrev pub taking_weights : List (Selector (Code Slot)) → ℕ
 taking_weights ts = total taking_weight ts
 
 at_level : (k : Code Slot) (x : Code-F Slot (Code Slot)) → out-Code Slot k ≡ x → weight k ≡ level_weight (map-Code Slot (Code Slot) ℕ weight x)
@@ -81,10 +81,10 @@ tuple_weight fs = at_level (V.Tuple fs) (C.Tuple fs) (V.outs-Tuple fs) ∙ along
     along [] = refl
     along (f ∷ fs) = let h = along fs in omega arith
 
-pub select_weight : (x : Code Slot) (ts : List (Taking (Code Slot))) → weight (V.Select x ts) ≡ 3 + (weight x + taking_weights ts)
+pub select_weight : (x : Code Slot) (ts : List (Selector (Code Slot))) → weight (V.Select x ts) ≡ 3 + (weight x + taking_weights ts)
 select_weight x ts = at_level (V.Select x ts) (C.Select x ts) (V.outs-Select x ts) ∙ along ts
   where
-    along : (ts : List (Taking (Code Slot))) → level_weight (map-Code Slot (Code Slot) ℕ weight (C.Select x ts)) ≡ 3 + (weight x + taking_weights ts)
+    along : (ts : List (Selector (Code Slot))) → level_weight (map-Code Slot (Code Slot) ℕ weight (C.Select x ts)) ≡ 3 + (weight x + taking_weights ts)
     along [] = refl
     along (K.Member place ∷ ts) = let h = along ts in omega arith
     along (K.Element y ∷ ts) = let h = along ts in omega arith

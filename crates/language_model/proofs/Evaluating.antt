@@ -18,8 +18,8 @@ use Rattle.spl_value.specs.Values.{fits, tuple_fits}
 use Rattle.spl_tree.specs.declared.code.Code.{Code}
 use Rattle.spl_tree.specs.declared.code.Code.TheVariants as C
 use Rattle.spl_tree.specs.declared.code.Slot.{Slot}
-use Rattle.spl_tree.specs.declared.code.Taking.{Taking}
-use Rattle.spl_tree.specs.declared.code.Taking.TheVariants as K
+use Rattle.spl_tree.specs.declared.code.Selector.{Selector}
+use Rattle.spl_tree.specs.declared.code.Selector.TheVariants as K
 use Rattle.spl_tree.specs.declared.code.UnaryCode.{UnaryCode}
 use Rattle.spl_tree.specs.declared.code.BinaryCode.{BinaryCode}
 use Rattle.spl_tree.specs.declared.code.BinaryCode.TheVariants as D
@@ -137,7 +137,7 @@ module _ {N : Type 0} (calls : Calls) (w : World N) where
   abbrev ArgumentsCome : List (Code N) → List SplType → Type 0
   ArgumentsCome xs ts = (turns : ℕ) → Yields (OfTypes ts) (values_of calls xs w turns)
 
-  abbrev StepsCome : List (Taking (Code N)) → SplType → SplType → Type 0
+  abbrev StepsCome : List (Selector (Code N)) → SplType → SplType → Type 0
   StepsCome steps t u = (v : Value) → OfType t v → (turns : ℕ) → Yields (OfType u) (takings_value calls steps v w turns)
 
   -- by the equation of a form
@@ -168,7 +168,7 @@ module _ {N : Type 0} (calls : Calls) (w : World N) where
       yields_need (λ vs. IsTrue (tuple_fits schema vs)) (OfType (S.Tuple schema)) (tuple_of gs) _
       (tuple_made schema gs f.1 (λ i lt. ap (how_often i) f.0 ∙ once i lt)) (λ vs g. fits_tuple schema vs ∙ g)))
 
-  select_comes : (x : Code N) (steps : List (Taking (Code N))) (t u : SplType) → Comes x t → StepsCome steps t u → Comes (C.Select x steps) u
+  select_comes : (x : Code N) (steps : List (Selector (Code N))) (t u : SplType) → Comes x t → StepsCome steps t u → Comes (C.Select x steps) u
   select_comes x steps t u f g =
       comes_by (C.Select x steps) u _ (select_is calls x steps w) (λ turns.
       yields_followed (OfType t) (OfType u) (code_value calls x w turns) _ (f turns) (λ v turns h. g v h turns))
@@ -238,20 +238,20 @@ module _ {N : Type 0} (calls : Calls) (w : World N) where
 
   -- ---- what is taken
 
-  member_comes : (i : ℕ) (steps : List (Taking (Code N))) (schema : List (Named SplType)) (a : Named SplType) (u : SplType) → slice_get schema i ≡ Some a
+  member_comes : (i : ℕ) (steps : List (Selector (Code N))) (schema : List (Named SplType)) (a : Named SplType) (u : SplType) → slice_get schema i ≡ Some a
       → StepsCome steps a.kind u → StepsCome (K.Member i ∷ steps) (S.Tuple schema) u
   member_comes i steps schema a u e g v h turns =
       yields_followed (OfType a.kind) (OfType u) (settled (level_member i (out-Value v)) turns) _
       (yields_settled a.kind (level_member i (out-Value v)) turns (member_settles i schema a v e h)) (λ x turns f. g x f turns)
 
-  index_comes : (x : Code N) (steps : List (Taking (Code N))) (k : IntKind) (t u : SplType) → Comes x (S.Int k) → StepsCome steps t u
+  index_comes : (x : Code N) (steps : List (Selector (Code N))) (k : IntKind) (t u : SplType) → Comes x (S.Int k) → StepsCome steps t u
       → StepsCome (K.Element x ∷ steps) (S.List t) u
   index_comes x steps k t u f g v h turns =
       yields_followed (OfType t) (OfType u) (followed (code_value calls x w turns) (λ n turns. settled (level_element (out-Value v) (out-Value n)) turns)) _
       (yields_followed (OfType (S.Int k)) (OfType t) (code_value calls x w turns) _ (f turns) (λ n turns i.
       yields_settled t (level_element (out-Value v) (out-Value n)) turns (element_settles t k v n h i))) (λ y turns i. g y i turns)
 
-  at_key_comes : (x : Code N) (steps : List (Taking (Code N))) (k t u : SplType) → Comes x k → StepsCome steps t u → StepsCome (K.AtKey x ∷ steps) (S.Map k t) u
+  at_key_comes : (x : Code N) (steps : List (Selector (Code N))) (k t u : SplType) → Comes x k → StepsCome steps t u → StepsCome (K.AtKey x ∷ steps) (S.Map k t) u
   at_key_comes x steps k t u f g v h turns =
       yields_followed (OfType t) (OfType u) (followed (code_value calls x w turns) (λ n turns. settled (level_at_key (out-Value v) n) turns)) _
       (yields_followed (OfType k) (OfType t) (code_value calls x w turns) _ (f turns) (λ n turns i.
@@ -296,7 +296,7 @@ module _ (scope : Scope) (env : Env) (calls : Calls) (e : EnvFits scope env) (g 
     arguments_come _ _ F.no_arguments = λ turns. tt
     arguments_come _ _ (F.argument x xs t ts f h) = argument_comes calls (world_of env) x xs t ts (code_comes x t f) (arguments_come xs ts h)
 
-    steps_come : (steps : List (Taking (Code Slot))) (t u : SplType) → StepsLead scope steps t u → StepsCome calls (world_of env) steps t u
+    steps_come : (steps : List (Selector (Code Slot))) (t u : SplType) → StepsLead scope steps t u → StepsCome calls (world_of env) steps t u
     steps_come _ _ _ (F.here t) = λ v h turns. h
     steps_come _ _ _ (F.member i steps schema a u at h) = member_comes calls (world_of env) i steps schema a u at (steps_come steps a.kind u h)
     steps_come _ _ _ (F.index x steps k t u f h) = index_comes calls (world_of env) x steps k t u (code_comes x (S.Int k) f) (steps_come steps t u h)

@@ -36,7 +36,7 @@ use Rattle.spl_tree.specs.declared.code.Code.{Code}
 use Rattle.spl_tree.specs.declared.code.Code.TheVariants as C
 use Rattle.spl_tree.specs.declared.code.Slot.{Slot}
 use Rattle.spl_tree.specs.declared.code.Slot.TheVariants as L
-use Rattle.spl_tree.specs.declared.code.Taking.{Taking}
+use Rattle.spl_tree.specs.declared.code.Selector.{Selector}
 use Rattle.spl_tree.specs.declared.code.UnaryCode.TheVariants as U
 use Rattle.spl_tree.specs.declared.code.BinaryCode.{BinaryCode}
 use Rattle.spl_tree.specs.declared.code.BinaryCode.TheVariants as D
@@ -254,8 +254,8 @@ GoodStep scope (N.Member m) = Unit {0}
 GoodStep scope (N.Index e) = Good scope e
 
 -- a step from a type, with those after it
-abbrev Leads : Scope → SplType → Taking (Code Slot) × SplType → Type 0
-Leads scope t x = (steps : List (Taking (Code Slot))) (u : SplType) → StepsLead scope steps x.1 u → StepsLead scope (x.0 ∷ steps) t u
+abbrev Leads : Scope → SplType → Selector (Code Slot) × SplType → Type 0
+Leads scope t x = (steps : List (Selector (Code Slot))) (u : SplType) → StepsLead scope steps x.1 u → StepsLead scope (x.0 ∷ steps) t u
 
 member_fits : (at : ℕ) (scope : Scope) (schema : List (Named SplType)) (name : List ℕ) (o : Option (At (Named SplType))) → Bears (λ a. a.name) schema name o
     → Gives (Leads scope (S.Tuple schema)) (member_typed at name o)
@@ -296,7 +296,7 @@ steps_fit base scope t (s ∷ ss) h =
     gives_after (λ xs. StepsLead scope xs.0 x.1 xs.1) (λ xs. StepsLead scope xs.0 t xs.1) (steps_typed base scope x.1 ss) _ (steps_fit base scope x.1 ss h.1) (λ xs rest.
     leads xs.0 xs.1 rest))
 
-selected_fits : (scope : Scope) (x : Code Slot) (steps : List (Taking (Code Slot))) (t u : SplType) → CodeFits scope x t → StepsLead scope steps t u
+selected_fits : (scope : Scope) (x : Code Slot) (steps : List (Selector (Code Slot))) (t u : SplType) → CodeFits scope x t → StepsLead scope steps t u
     → CodeFits scope (selected x steps) u
 selected_fits scope x [] t u f (F.here v) = f
 selected_fits scope x (s ∷ ss) t u f leads = F.select x (s ∷ ss) t u f leads

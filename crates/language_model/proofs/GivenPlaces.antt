@@ -9,7 +9,7 @@ use Rattle.spl_tree.specs.declared.code.Code.TheVariants as C
 use Rattle.spl_tree.specs.declared.code.Code.TheViews.{out-Code}
 use Rattle.spl_tree.specs.declared.code.Slot.{Slot}
 use Rattle.spl_tree.specs.declared.code.Slot.TheVariants as L
-use Rattle.spl_tree.specs.declared.code.Taking.{Taking}
+use Rattle.spl_tree.specs.declared.code.Selector.{Selector}
 use Rattle.spl_tree.specs.declared.expression.ExprKind.TheVariants as E
 use Rattle.spl_tree.specs.declared.expression.Placed.{Placed}
 use Rattle.spl_tree.specs.declared.expression.Step.{Step}
@@ -36,11 +36,11 @@ HasPlace t = (place : Place) × (level_place (out-Code Slot t.code) ≡ Some pla
 pub selected_reads_back : (place : Place) → level_place (out-Code Slot (read_code place)) ≡ Some place
 selected_reads_back place = taken_back place.variable place.takings
   where
-    taken_back : (i : ℕ) (takings : List (Taking (Code Slot))) → level_place (out-Code Slot (selected (C.Name (L.Variable i)) takings)) ≡ Some (record { variable = i; takings = takings })
+    taken_back : (i : ℕ) (takings : List (Selector (Code Slot))) → level_place (out-Code Slot (selected (C.Name (L.Variable i)) takings)) ≡ Some (record { variable = i; takings = takings })
     taken_back i [] = ap level_place (C.outs-Name (L.Variable i))
     taken_back i (s ∷ ss) = ap level_place (C.outs-Select (C.Name (L.Variable i)) (s ∷ ss)) ∙ ap (level_variable (s ∷ ss)) (C.outs-Name (L.Variable i))
 
-selected_has : (i : ℕ) (takings : List (Taking (Code Slot))) → (place : Place) × (level_place (out-Code Slot (selected (C.Name (L.Variable i)) takings)) ≡ Some place)
+selected_has : (i : ℕ) (takings : List (Selector (Code Slot))) → (place : Place) × (level_place (out-Code Slot (selected (C.Name (L.Variable i)) takings)) ≡ Some place)
 selected_has i takings = let place : Place = record { variable = i; takings = takings } in (place, selected_reads_back place)
 
 module _ (scope : Scope) (name : List ℕ) (v : At Variable) (is : variable_of scope name ≡ Some v) where

@@ -11,8 +11,8 @@ use Rattle.spl_tree.specs.declared.code.BuiltIn.{BuiltIn}
 use Rattle.spl_tree.specs.declared.code.Code.{Code}
 use Rattle.spl_tree.specs.declared.code.Code.TheVariants as S
 use Rattle.spl_tree.specs.declared.code.Marker.{Marker}
-use Rattle.spl_tree.specs.declared.code.Taking.{Taking}
-use Rattle.spl_tree.specs.declared.code.Taking.TheVariants as K
+use Rattle.spl_tree.specs.declared.code.Selector.{Selector}
+use Rattle.spl_tree.specs.declared.code.Selector.TheVariants as K
 use Rattle.spl_tree.specs.declared.code.UnaryCode.{UnaryCode}
 use Rattle.language_model.specs.Evaluation.{World, Meaning, Calls, map_of, tuple_of, unaries_of, truth, binary, same_marker, code_value}
 use Rattle.language_model.specs.EvaluationLaws.{values_of, pair_values, field_values, takings_value, literal_is, name_is, list_is, map_is, tuple_is, select_is, unary_is, binary_is, conditional_is, built_in_is, call_is, is_marker_is, is_not_marker_is}
@@ -108,7 +108,7 @@ module _ (more : ℕ) (calls others : Calls) (c : (i : ℕ) (values : List Value
       same_followed more Same (field_values calls fs w turns) (field_values others fs v (turns + more)) _ _ (fields_follow fs h.1 rest turns) (λ gs turns.
       ((f.0, y) ∷ gs, refl, refl)))
 
-  takings_follow : (ts : List (Taking (Code N))) → AllByRecursion (OfTaking Kept) ts → All Named (flat_map step_names ts) → (u : Value) (turns : ℕ)
+  takings_follow : (ts : List (Selector (Code N))) → AllByRecursion (OfTaking Kept) ts → All Named (flat_map step_names ts) → (u : Value) (turns : ℕ)
       → Extends more Same (takings_value calls ts u w turns) (takings_value others ts u v (turns + more))
   takings_follow [] h named u turns = (u, refl, refl)
   takings_follow (K.Member i ∷ ts) h named u turns =
@@ -155,7 +155,7 @@ module _ (more : ℕ) (calls others : Calls) (c : (i : ℕ) (values : List Value
       (fields_follow fs h (of_form (S.Tuple fs) _ (tuple_names fs) named) turns) (λ gs turns.
       need_extends more Same (tuple_of gs) (tuple_of gs) _ _ refl (λ us. (V.Tuple us, refl, refl))))
 
-  select_kept : (x : Code N) (ts : List (Taking (Code N))) → Kept x → AllByRecursion (OfTaking Kept) ts → Kept (S.Select x ts)
+  select_kept : (x : Code N) (ts : List (Selector (Code N))) → Kept x → AllByRecursion (OfTaking Kept) ts → Kept (S.Select x ts)
   select_kept x ts f h named =
       let all = of_form (S.Select x ts) _ (select_names x ts) named in
       comes_by (S.Select x ts) _ _ (select_is calls x ts w) (select_is others x ts v) (λ turns.

@@ -14,8 +14,8 @@ use Rattle.spl_tree.specs.declared.body.Statement.TheVariants as T
 use Rattle.spl_tree.specs.declared.code.Code.{Code}
 use Rattle.spl_tree.specs.declared.code.Slot.{Slot}
 use Rattle.spl_tree.specs.declared.code.Slot.TheVariants as L
-use Rattle.spl_tree.specs.declared.code.Taking.{Taking}
-use Rattle.spl_tree.specs.declared.code.Taking.TheVariants as G
+use Rattle.spl_tree.specs.declared.code.Selector.{Selector}
+use Rattle.spl_tree.specs.declared.code.Selector.TheVariants as G
 use Rattle.language_model.specs.declared.env.Env.{Env}
 use Rattle.language_model.specs.declared.flow.Flow.{Flow}
 use Rattle.language_model.specs.declared.flow.Flow.TheVariants as F
@@ -255,10 +255,10 @@ module _ (more : ℕ) (bodies others : Bodies) (Named : Slot → Type 0) (Alike 
 
   -- ---- changes
 
-  abbrev step_slots : Taking (Code Slot) → List Slot
+  abbrev step_slots : Selector (Code Slot) → List Slot
   step_slots = names_in_taking names_of
 
-  step_extends : (t : Taking (Code Slot)) → All Named (step_slots t) → (s u : State) → Alike s u → (turns : ℕ)
+  step_extends : (t : Selector (Code Slot)) → All Named (step_slots t) → (s u : State) → Alike s u → (turns : ℕ)
       → Extends more Same (step_value bodies t s turns) (step_value others t u (turns + more))
   step_extends (G.Member i) named s u a turns = (G.Member i, refl, refl)
   step_extends (G.Element code) named s u a turns =
@@ -266,7 +266,7 @@ module _ (more : ℕ) (bodies others : Bodies) (Named : Slot → Type 0) (Alike 
   step_extends (G.AtKey code) named s u a turns =
       same_followed more Same (value_in bodies code s turns) (value_in others code u (turns + more)) _ _ (value_extends code named s u a turns) (λ v turns. (G.AtKey v, refl, refl))
 
-  steps_extend : (ts : List (Taking (Code Slot))) → All Named (flat_map step_slots ts) → (s u : State) → Alike s u → (turns : ℕ)
+  steps_extend : (ts : List (Selector (Code Slot))) → All Named (flat_map step_slots ts) → (s u : State) → Alike s u → (turns : ℕ)
       → Extends more Same (step_values bodies ts s turns) (step_values others ts u (turns + more))
   steps_extend [] named s u a turns = ([], refl, refl)
   steps_extend (t ∷ ts) named s u a turns =
@@ -275,7 +275,7 @@ module _ (more : ℕ) (bodies others : Bodies) (Named : Slot → Type 0) (Alike 
       same_followed more Same (step_values bodies ts s turns) (step_values others ts u (turns + more)) _ _
       (steps_extend ts (all_behind Named (step_slots t) (flat_map step_slots ts) named) s u a turns) (λ steps turns. (step ∷ steps, refl, refl)))
 
-  taken_extend : (ts : List (Taking (Code Slot))) → All Named (flat_map step_slots ts) → (v : Value) (s u : State) → Alike s u → (turns : ℕ)
+  taken_extend : (ts : List (Selector (Code Slot))) → All Named (flat_map step_slots ts) → (v : Value) (s u : State) → Alike s u → (turns : ℕ)
       → Extends more Same (steps_taken bodies ts v s turns) (steps_taken others ts v u (turns + more))
   taken_extend [] named v s u a turns = ([], refl, refl)
   taken_extend (t ∷ ts) named v s u a turns =
@@ -298,7 +298,7 @@ module _ (more : ℕ) (bodies others : Bodies) (Named : Slot → Type 0) (Alike 
 
   module _ (place : Place) (names_variable : Named (L.Variable place.variable)) (named : All Named (flat_map step_slots place.takings)) where
     -- of a change that evaluates the place first
-    abbrev called_values : Bodies → Change (Code Slot) → State → ℕ → Outcome (List (Taking Value) × Change Value)
+    abbrev called_values : Bodies → Change (Code Slot) → State → ℕ → Outcome (List (Selector Value) × Change Value)
     called_values bodies change s turns =
         need (slice_get s.env.vars place.variable) (λ v.
         followed (steps_taken bodies place.takings v s turns) (λ steps turns.
@@ -324,7 +324,7 @@ module _ (more : ℕ) (bodies others : Bodies) (Named : Slot → Type 0) (Alike 
     changes_extend (H.Remove code) arguments s u a turns = called_extends (H.Remove code) arguments s u a turns
     changes_extend H.Clear arguments s u a turns = called_extends H.Clear arguments s u a turns
 
-    changed_follows : (steps : List (Taking Value)) (change : Change Value) → Follows (changed_at place.variable steps change) (changed_at place.variable steps change)
+    changed_follows : (steps : List (Selector Value)) (change : Change Value) → Follows (changed_at place.variable steps change) (changed_at place.variable steps change)
     changed_follows steps change s u a turns =
         need_extends more Led _ _ _ _ (l.slot (L.Variable place.variable) names_variable s u a) (λ old.
         let called = changed steps (change_of change) (Some old) in

@@ -11,8 +11,8 @@ use Rattle.spl_tree.specs.declared.code.Code.TheOpen as C
 use Rattle.spl_tree.specs.declared.code.Code.TheOpen.{Code-F}
 use Rattle.spl_tree.specs.declared.code.Code.TheViews.{out-Code}
 use Rattle.spl_tree.specs.declared.code.Code.TheFolds.{fold_out-Code, map-Code}
-use Rattle.spl_tree.specs.declared.code.Taking.{Taking}
-use Rattle.spl_tree.specs.declared.code.Taking.TheVariants as K
+use Rattle.spl_tree.specs.declared.code.Selector.{Selector}
+use Rattle.spl_tree.specs.declared.code.Selector.TheVariants as K
 use Rattle.spl_tree.specs.declared.code.UnaryCode.{UnaryCode}
 use Rattle.language_model.specs.Slots.{names_in_taking, level_names, names_of}
 
@@ -26,14 +26,14 @@ module _ {N : Type 0} where
   abbrev pub field_names : ℕ × Code N → List N
   field_names f = names_of f.1
 
-  abbrev pub step_names : Taking (Code N) → List N
+  abbrev pub step_names : Selector (Code N) → List N
   step_names = names_in_taking names_of
 
-  abbrev steps_in : {A : Type 0} → Code-F N A → List (Taking A)
+  abbrev steps_in : {A : Type 0} → Code-F N A → List (Selector A)
   steps_in (C.Select x ss) = ss
   steps_in _ = []
 
-  steps_joined : (x : Code N) (ts : List (Taking (Code N)))
+  steps_joined : (x : Code N) (ts : List (Selector (Code N)))
       → flat_map (names_in_taking (λ (xs : List N). xs)) (steps_in (map-Code N (Code N) (List N) names_of (C.Select x ts))) ≡ flat_map step_names ts
   steps_joined x [] = refl
   steps_joined x (K.Member i ∷ ts) = steps_joined x ts
@@ -52,7 +52,7 @@ module _ {N : Type 0} where
   pub tuple_names : (fs : List (ℕ × Code N)) → names_of (S.Tuple fs) ≡ flat_map field_names fs
   tuple_names fs = names_at (S.Tuple fs) (C.Tuple fs) (S.outs-Tuple fs) ∙ flat_map-map (λ f. f.1) (λ (f : ℕ × Code N). (f.0, names_of f.1)) fs
 
-  pub select_names : (x : Code N) (ts : List (Taking (Code N))) → names_of (S.Select x ts) ≡ names_of x ++ flat_map step_names ts
+  pub select_names : (x : Code N) (ts : List (Selector (Code N))) → names_of (S.Select x ts) ≡ names_of x ++ flat_map step_names ts
   select_names x ts = names_at (S.Select x ts) (C.Select x ts) (S.outs-Select x ts) ∙ ap (λ ys. names_of x ++ ys) (steps_joined x ts)
 
   pub unary_names : (ops : List UnaryCode) (x : Code N) → names_of (S.Unary ops x) ≡ names_of x

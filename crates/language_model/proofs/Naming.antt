@@ -8,7 +8,7 @@ use Rattle.spl_value.specs.declared.types.SplType.TheVariants as S
 use Rattle.spl_tree.specs.declared.code.Code.{Code}
 use Rattle.spl_tree.specs.declared.code.Slot.{Slot}
 use Rattle.spl_tree.specs.declared.code.Slot.TheVariants as L
-use Rattle.spl_tree.specs.declared.code.Taking.{Taking}
+use Rattle.spl_tree.specs.declared.code.Selector.{Selector}
 use Rattle.language_model.specs.declared.scope.Port.{Port}
 use Rattle.language_model.specs.declared.scope.Scope.{Scope}
 use Rattle.language_model.specs.CodeFits as F
@@ -16,7 +16,7 @@ use Rattle.language_model.specs.CodeFits.{CanBeNamed, CodeFits, SlotFits, Elemen
 use Rattle.language_model.specs.Evaluation.{World, Calls, slot_value, world_of}
 use Rattle.language_model.specs.Scopes.{at_place, Meant, OfVariable, OfAttribute, OfPort, Nothing, meant, variable_meant, attributes_of, port_of, attribute_of}
 use Rattle.language_model.specs.ValueLaws.{WrittenLaw, NamesLaw}
-use Rattle.language_model.specs.Written.{Bare, Of, meant_slot, attribute_slot, stands_for, no_name, is_port, attribute_name, written, before_renaming, named_world}
+use Rattle.language_model.specs.Written.{Bare, Of, meant_slot, attribute_slot, slot_of_written, no_name, is_port, attribute_name, written, before_renaming, named_world}
 use Rattle.language_model.proofs.Agreeing.{Agree, ValuesAgree, PairsAgree, FieldsAgree, StepsAgree, literals_agree, names_agree, lists_agree, maps_agree, tuples_agree, selects_agree, unaries_agree, binaries_agree, conditionals_agree, built_ins_agree, calls_agree, markers_agree, not_markers_agree, more_values, more_pairs, more_fields, members_agree, elements_agree, keys_agree}
 use Rattle.language_model.proofs.Fitting.{MeantFits, name_meant, fit_law}
 use Rattle.language_model.proofs.Renaming.{renaming_law}
@@ -36,7 +36,7 @@ port_at scope i p Nothing at h e = absurd cc
 
 module _ (scope : Scope) (i j : ℕ) (p : Port) (a : Named SplType) (at : slice_get scope.ports i ≡ Some p) (part : slice_get p.schema j ≡ Some a)
     (first : attribute_of p.schema a.name ≡ Some (at_place j a)) where
-  behind_port : meant scope p.name ≡ OfPort (at_place i p) → stands_for scope (Of p.name a.name) ≡ Some (L.Attribute i j)
+  behind_port : meant scope p.name ≡ OfPort (at_place i p) → slot_of_written scope (Of p.name a.name) ≡ Some (L.Attribute i j)
   behind_port named = ap (λ m. attribute_slot m a.name) named ∙ ap (option_map (λ a. L.Attribute i a.place)) first
 
   attribute_written : written scope (L.Attribute i j) ≡ attribute_name scope i p a.name
@@ -44,23 +44,23 @@ module _ (scope : Scope) (i j : ℕ) (p : Port) (a : Named SplType) (at : slice_
       ap (λ o. option_map_or (λ p. option_map_or (λ a. attribute_name scope i p a.name) (slice_get p.schema j) no_name) o no_name) at
       ∙ ap (λ o. option_map_or (λ a. attribute_name scope i p a.name) o no_name) part
 
-  named_attribute : CanBeNamed scope i j p a → stands_for scope (attribute_name scope i p a.name) ≡ Some (L.Attribute i j)
+  named_attribute : CanBeNamed scope i j p a → slot_of_written scope (attribute_name scope i p a.name) ≡ Some (L.Attribute i j)
   named_attribute (inl alone) =
-      elim (is_port i (meant scope p.name)) as (λ b. is_port i (meant scope p.name) ≡ b → stands_for scope (if b then Of p.name a.name else Bare a.name) ≡ Some (L.Attribute i j)) [
+      elim (is_port i (meant scope p.name)) as (λ b. is_port i (meant scope p.name) ≡ b → slot_of_written scope (if b then Of p.name a.name else Bare a.name) ≡ Some (L.Attribute i j)) [
         | true ↦ λ is. behind_port (port_at scope i p (meant scope p.name) at (name_meant scope p.name) is)
         | false ↦ λ other. ap meant_slot alone
       ] refl
   named_attribute (inr port) =
       let is : is_port i (meant scope p.name) ≡ true = ap (is_port i) port ∙ eq-eqb i i refl in
-      ap (λ b. stands_for scope (if b then Of p.name a.name else Bare a.name)) is ∙ behind_port port
+      ap (λ b. slot_of_written scope (if b then Of p.name a.name else Bare a.name)) is ∙ behind_port port
 
 pub written_law : WrittenLaw
 written_law scope _ _ (F.variable i v at found) =
-    ap (λ o. stands_for scope (option_map_or (λ v. Bare v.name) o no_name)) at
+    ap (λ o. slot_of_written scope (option_map_or (λ v. Bare v.name) o no_name)) at
     ∙ ap (λ o. meant_slot (variable_meant o (attributes_of scope v.name) (port_of scope v.name))) found
 written_law scope _ _ (F.attribute i j p a at part first named) =
-    ap (stands_for scope) (attribute_written scope i j p a at part first) ∙ named_attribute scope i j p a at part first named
-written_law scope _ _ (F.port i p at named) = ap (λ o. stands_for scope (option_map_or (λ p. Bare p.name) o no_name)) at ∙ ap meant_slot named
+    ap (slot_of_written scope) (attribute_written scope i j p a at part first) ∙ named_attribute scope i j p a at part first named
+written_law scope _ _ (F.port i p at named) = ap (λ o. slot_of_written scope (option_map_or (λ p. Bare p.name) o no_name)) at ∙ ap meant_slot named
 
 -- ---- codes that fit
 
@@ -98,7 +98,7 @@ module _ (scope : Scope) (calls : Calls) (w v : World Slot) (values : (s : Slot)
     arguments_agreed _ _ F.no_arguments = λ turns. refl
     arguments_agreed _ _ (F.argument x xs t ts f h) = more_values calls w v x x xs xs (code_agrees x t f) (arguments_agreed xs ts h)
 
-    steps_agreed : (steps : List (Taking (Code Slot))) (t u : SplType) → StepsLead scope steps t u → StepsAgree calls w v steps steps
+    steps_agreed : (steps : List (Selector (Code Slot))) (t u : SplType) → StepsLead scope steps t u → StepsAgree calls w v steps steps
     steps_agreed _ _ _ (F.here t) = λ x turns. refl
     steps_agreed _ _ _ (F.member i steps schema a u at h) = members_agree calls w v i steps steps (steps_agreed steps a.kind u h)
     steps_agreed _ _ _ (F.index x steps k t u f h) = elements_agree calls w v x x steps steps (code_agrees x (S.Int k) f) (steps_agreed steps t u h)

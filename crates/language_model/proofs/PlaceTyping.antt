@@ -15,7 +15,7 @@ use Rattle.spl_tree.specs.declared.code.Code.TheOpen.{Code-F}
 use Rattle.spl_tree.specs.declared.code.Code.TheViews.{out-Code}
 use Rattle.spl_tree.specs.declared.code.Slot.{Slot}
 use Rattle.spl_tree.specs.declared.code.Slot.TheVariants as L
-use Rattle.spl_tree.specs.declared.code.Taking.{Taking}
+use Rattle.spl_tree.specs.declared.code.Selector.{Selector}
 use Rattle.spl_tree.specs.declared.expression.ExprKind.{ExprKind}
 use Rattle.spl_tree.specs.declared.expression.ExprKind.TheVariants as E
 use Rattle.spl_tree.specs.declared.expression.ExprKind.TheOpen as X
@@ -65,7 +65,7 @@ attribute_reads : (i port attribute : ℕ) → Reads i (C.Name (L.Attribute port
 attribute_reads i port attribute place e =
     let none : level_place (O.Name (L.Attribute port attribute)) ≡ Some place = sym (ap level_place (C.outs-Name (L.Attribute port attribute))) ∙ e in absurd cc
 
-taken_reads : (i : ℕ) (x : Code Slot) (y : Code-F Slot (Code Slot)) (s : Taking (Code Slot)) (ss : List (Taking (Code Slot)))
+taken_reads : (i : ℕ) (x : Code Slot) (y : Code-F Slot (Code Slot)) (s : Selector (Code Slot)) (ss : List (Selector (Code Slot)))
     → ((place : Place) → level_place y ≡ Some place → (place.variable ≡ i) × (x ≡ read_code place))
     → (place : Place) → level_variable (s ∷ ss) y ≡ Some place → (place.variable ≡ i) × (C.Select x (s ∷ ss) ≡ read_code place)
 taken_reads i x (O.Name (L.Variable j)) s ss h place e =
@@ -73,7 +73,7 @@ taken_reads i x (O.Name (L.Variable j)) s ss h place e =
     (sym (ap variable_in e) ∙ here.0, ap (λ z. C.Select z (s ∷ ss)) here.1 ∙ ap code_in e)
 taken_reads i x _ s ss h place e = absurd cc
 
-selected_reads : (i : ℕ) (x : Code Slot) (takings : List (Taking (Code Slot))) → Reads i x → Reads i (selected x takings)
+selected_reads : (i : ℕ) (x : Code Slot) (takings : List (Selector (Code Slot))) → Reads i x → Reads i (selected x takings)
 selected_reads i x [] h place e = h place e
 selected_reads i x (s ∷ ss) h place e = taken_reads i x (out-Code Slot x) s ss h place (sym (ap level_place (C.outs-Select x (s ∷ ss))) ∙ e)
 
@@ -192,11 +192,11 @@ module _ (scope : Scope) where
   parts _ _ (F.is_marker m h) = of_open (C.IsMarker m) (O.IsMarker m) S.Bool (C.outs-IsMarker m) tt
   parts _ _ (F.is_not_marker m h) = of_open (C.IsNotMarker m) (O.IsNotMarker m) S.Bool (C.outs-IsNotMarker m) tt
 
-  slot_stands : (i : ℕ) (t : SplType) → SlotFits scope (L.Variable i) t → (takings : List (Taking (Code Slot))) (u : SplType)
+  slot_stands : (i : ℕ) (t : SplType) → SlotFits scope (L.Variable i) t → (takings : List (Selector (Code Slot))) (u : SplType)
       → StepsLead scope takings t u → Stands scope (record { variable = i; takings = takings }) u
   slot_stands _ _ (F.variable i v at named) takings u steps = (v, at, named, steps)
 
-  taken_stands : (x : Code-F Slot (Code Slot)) (takings : List (Taking (Code Slot))) (t u : SplType) (place : Place) → Parts scope x t
+  taken_stands : (x : Code-F Slot (Code Slot)) (takings : List (Selector (Code Slot))) (t u : SplType) (place : Place) → Parts scope x t
       → StepsLead scope takings t u → level_variable takings x ≡ Some place → Stands scope place u
   taken_stands (O.Name (L.Variable i)) takings t u place h steps e =
       let is : record { variable = i; takings = takings } ≡ place = cc e in subst (λ p. Stands scope p u) is (slot_stands i t h takings u steps)

@@ -8,8 +8,8 @@ use Rattle.spl_tree.specs.declared.code.Code.TheOpen as C
 use Rattle.spl_tree.specs.declared.code.Code.TheOpen.{Code-F}
 use Rattle.spl_tree.specs.declared.code.Code.TheViews.{out-Code, roll-Code}
 use Rattle.spl_tree.specs.declared.code.Code.TheFolds.{fold_out-Code, map-Code, ind-Code}
-use Rattle.spl_tree.specs.declared.code.Taking.{Taking}
-use Rattle.spl_tree.specs.declared.code.Taking.TheVariants as K
+use Rattle.spl_tree.specs.declared.code.Selector.{Selector}
+use Rattle.spl_tree.specs.declared.code.Selector.TheVariants as K
 use Rattle.spl_tree.specs.declared.code.UnaryCode.{UnaryCode}
 use Rattle.spl_tree.specs.declared.code.BinaryCode.{BinaryCode}
 use Rattle.spl_tree.specs.declared.code.BuiltIn.{BuiltIn}
@@ -67,17 +67,17 @@ module _ {N M : Type 0} (f : N → M) (calls : Calls) (w : World M) where
 
   -- ---- what is taken
 
-  abbrev steps_in : {N A : Type 0} → Code-F N A → List (Taking A)
+  abbrev steps_in : {N A : Type 0} → Code-F N A → List (Selector A)
   steps_in (C.Select x ss) = ss
   steps_in _ = []
 
-  abbrev steps_of : Known → List (Taking Known) → List (Taking (Code N))
+  abbrev steps_of : Known → List (Selector Known) → List (Selector (Code N))
   steps_of e ss = steps_in (map-Code N Known (Code N) (λ e. e.0) (C.Select e ss))
 
-  abbrev steps_renamed : Code N → List (Taking (Code N)) → List (Taking (Code M))
+  abbrev steps_renamed : Code N → List (Selector (Code N)) → List (Selector (Code M))
   steps_renamed c ss = steps_in (map-Code N (Code N) (Code M) (renamed f) (C.Select c ss))
 
-  steps_kept : (e : Known) (ss : List (Taking Known)) → StepsAgree calls w (before_renaming f w) (steps_renamed e.0 (steps_of e ss)) (steps_of e ss)
+  steps_kept : (e : Known) (ss : List (Selector Known)) → StepsAgree calls w (before_renaming f w) (steps_renamed e.0 (steps_of e ss)) (steps_of e ss)
   steps_kept e [] = λ u turns. refl
   steps_kept e (K.Member i ∷ ss) = members_agree calls w (before_renaming f w) i (steps_renamed e.0 (steps_of e ss)) (steps_of e ss) (steps_kept e ss)
   steps_kept e (K.Element x ∷ ss) =
@@ -108,7 +108,7 @@ module _ {N M : Type 0} (f : N → M) (calls : Calls) (w : World M) where
       let fs = fields_of es in
       kept_by (S.Tuple fs) (C.Tuple fs) (S.outs-Tuple fs) (tuples_agree calls w (before_renaming f w) (fields_renamed fs) fs (fields_kept es))
 
-  select_kept : (e : Known) (ss : List (Taking Known)) → Kept (S.Select e.0 (steps_of e ss))
+  select_kept : (e : Known) (ss : List (Selector Known)) → Kept (S.Select e.0 (steps_of e ss))
   select_kept e ss =
       let ts = steps_of e ss in
       kept_by (S.Select e.0 ts) (C.Select e.0 ts) (S.outs-Select e.0 ts)

@@ -20,7 +20,7 @@ use Rattle.spl_tree.specs.declared.body.Statement.{Statement}
 use Rattle.spl_tree.specs.declared.body.Statement.TheVariants as T
 use Rattle.spl_tree.specs.declared.code.Code.{Code}
 use Rattle.spl_tree.specs.declared.code.Slot.{Slot}
-use Rattle.spl_tree.specs.declared.code.Taking.{Taking}
+use Rattle.spl_tree.specs.declared.code.Selector.{Selector}
 use Rattle.language_model.specs.declared.env.Env.{Env}
 use Rattle.language_model.specs.declared.flow.Flow.{Flow}
 use Rattle.language_model.specs.declared.flow.Flow.TheVariants as F
@@ -189,7 +189,7 @@ module _ (purpose : Purpose) (Good : Output → Type 0) (can_submit : (o : Outpu
 
     -- ---- places
 
-    step_comes : (s : State) → VariablesFit scope s.env → (step : Taking (Code Slot)) (steps : List (Taking (Code Slot))) (t r : SplType) → StepsLead scope (step ∷ steps) t r
+    step_comes : (s : State) → VariablesFit scope s.env → (step : Selector (Code Slot)) (steps : List (Selector (Code Slot))) (t r : SplType) → StepsLead scope (step ∷ steps) t r
         → (turns : ℕ) → (u : SplType) × StepsLead scope steps u r × Yields (λ one. StepGives one t u) (step_value bodies step s turns)
     step_comes s v _ _ _ _ (C.member i steps schema a u at h) turns = (a.kind, h, G.member i schema a at)
     step_comes s v _ _ _ _ (C.index x steps k t u f h) turns = (
@@ -205,10 +205,10 @@ module _ (purpose : Purpose) (Good : Output → Type 0) (can_submit : (o : Outpu
           G.at_key key k t g),
     )
 
-    abbrev Giving : SplType → SplType → List (Taking Value) → Type 0
+    abbrev Giving : SplType → SplType → List (Selector Value) → Type 0
     Giving t r steps = StepsGive steps t r
 
-    steps_come : (s : State) → VariablesFit scope s.env → (steps : List (Taking (Code Slot))) (t r : SplType) → StepsLead scope steps t r → (turns : ℕ)
+    steps_come : (s : State) → VariablesFit scope s.env → (steps : List (Selector (Code Slot))) (t r : SplType) → StepsLead scope steps t r → (turns : ℕ)
         → Yields (Giving t r) (step_values bodies steps s turns)
     steps_come s v [] _ _ (C.here t) turns = G.here t
     steps_come s v (step ∷ steps) t r lead turns =
@@ -217,7 +217,7 @@ module _ (purpose : Purpose) (Good : Output → Type 0) (can_submit : (o : Outpu
         yields_followed (Giving is.0 r) (Giving t r) (step_values bodies steps s turns) _ (steps_come s v steps is.0 r is.1 turns) (λ rest turns g.
         G.further one rest t is.0 r f g))
 
-    taken_come : (s : State) → VariablesFit scope s.env → (steps : List (Taking (Code Slot))) (t r : SplType) → StepsLead scope steps t r
+    taken_come : (s : State) → VariablesFit scope s.env → (steps : List (Selector (Code Slot))) (t r : SplType) → StepsLead scope steps t r
         → (old : Value) → OfType t old → (turns : ℕ) → Yields (Giving t r) (steps_taken bodies steps old s turns)
     taken_come s v [] _ _ (C.here t) old h turns = G.here t
     taken_come s v (step ∷ steps) t r lead old h turns =
@@ -243,7 +243,7 @@ module _ (purpose : Purpose) (Good : Output → Type 0) (can_submit : (o : Outpu
     change_comes s v _ _ (B.clears_list t) turns = G.clears_list t
     change_comes s v _ _ (B.clears_map k t) turns = G.clears_map k t
 
-    abbrev Both : SplType → SplType → List (Taking Value) × Change Value → Type 0
+    abbrev Both : SplType → SplType → List (Selector Value) × Change Value → Type 0
     Both t r w = StepsGive w.0 t r × ChangeGives w.1 r
 
     module _ (place : Place) (x : Variable) (r : SplType) (at : slice_get scope.vars place.variable ≡ Some x) (lead : StepsLead scope place.takings x.kind r) where
@@ -273,7 +273,7 @@ module _ (purpose : Purpose) (Good : Output → Type 0) (can_submit : (o : Outpu
       both_come s v (H.Remove y) f turns = called_comes s v (H.Remove y) f turns
       both_come s v H.Clear f turns = called_comes s v H.Clear f turns
 
-      changed_leads : (l : Bool) (s : State) → VariablesFit scope s.env → Submitted Good s.submits → (steps : List (Taking Value)) (change : Change Value)
+      changed_leads : (l : Bool) (s : State) → VariablesFit scope s.env → Submitted Good s.submits → (steps : List (Selector Value)) (change : Change Value)
           → StepsGive steps x.kind r → ChangeGives change r → (turns : ℕ) → Yields (After l) (changed_at place.variable steps change s turns)
       changed_leads l s v g steps change gives change_gives turns =
           yields_need (OfType x.kind) (After l) (slice_get s.env.vars place.variable) _ (v.env_fits.variables place.variable x at) (λ old h.

@@ -7,7 +7,7 @@ use Rattle.spl_tree.specs.declared.body.Statement.TheVariants as T
 use Rattle.spl_tree.specs.declared.code.Code.TheVariants as C
 use Rattle.spl_tree.specs.declared.code.Slot.{Slot}
 use Rattle.spl_tree.specs.declared.code.Slot.TheVariants as L
-use Rattle.spl_tree.specs.declared.code.Taking.TheVariants as K
+use Rattle.spl_tree.specs.declared.code.Selector.TheVariants as K
 use Rattle.language_model.specs.Slots.{names_of, statement_slots, row_slots}
 use Rattle.language_model.specs.examples.TwoStatements.{appends, two_statements}
 use Rattle.language_model.proofs.NamedSlots.{declare_slots, changed_slots, if_slots, submit_window_slots}

@@ -10,8 +10,8 @@ use Rattle.spl_value.specs.Calls.{CallOutcome, Gives, Faults, Unfit, append_of, 
 use Rattle.spl_value.specs.Pairs.{pairs_get, pairs_put}
 use Rattle.spl_tree.specs.declared.body.Change.{Change}
 use Rattle.spl_tree.specs.declared.body.Change.TheVariants as H
-use Rattle.spl_tree.specs.declared.code.Taking.{Taking}
-use Rattle.spl_tree.specs.declared.code.Taking.TheVariants as K
+use Rattle.spl_tree.specs.declared.code.Selector.{Selector}
+use Rattle.spl_tree.specs.declared.code.Selector.TheVariants as K
 use Rattle.language_model.specs.Operators.{given, level_member, level_element, level_at_key}
 
 -- a value that is given is passed on
@@ -21,7 +21,7 @@ passed_on (Faults kind) f = Faults kind
 passed_on Unfit f = Unfit
 
 -- what a step takes of a value
-abbrev pub step_of : Taking Value → Value → CallOutcome
+abbrev pub step_of : Selector Value → Value → CallOutcome
 step_of (K.Member i) v = level_member i (out-Value v)
 step_of (K.Element n) v = level_element (out-Value v) (out-Value n)
 step_of (K.AtKey k) v = level_at_key (out-Value v) k
@@ -33,7 +33,7 @@ level_index _ = 0
 
 -- what becomes of a value where that which the step takes of it is changed so. At a key that a map doesn't have there is nothing to
 -- be changed; what an assignment makes of nothing is added there
-abbrev pub level_changed : Taking Value → (Option Value → CallOutcome) → Value-F Value → CallOutcome
+abbrev pub level_changed : Selector Value → (Option Value → CallOutcome) → Value-F Value → CallOutcome
 level_changed (K.Member i) change (O.Tuple vs) =
     passed_on (given (slice_get vs i)) (λ old. passed_on (change (Some old)) (λ new. Gives (V.Tuple (slice_set vs i new))))
 level_changed (K.Element n) change (O.List vs) =
@@ -43,7 +43,7 @@ level_changed (K.AtKey k) change (O.Map ps) = passed_on (change (pairs_get ps k)
 level_changed _ change _ = Unfit
 
 -- what becomes of a value where that which the steps take of it in turn is changed so. Only the last step may add a key
-abbrev pub changed : List (Taking Value) → (Option Value → CallOutcome) → Option Value → CallOutcome
+abbrev pub changed : List (Selector Value) → (Option Value → CallOutcome) → Option Value → CallOutcome
 changed [] change old = change old
 changed (t ∷ ts) change None = Faults F.NoKey
 changed (t ∷ ts) change (Some v) = level_changed t (changed ts change) (out-Value v)

@@ -4,11 +4,11 @@ use Rattle.spl_tree.specs.declared.body.Function.{Function}
 use Rattle.spl_tree.specs.declared.graph.Graph.{Graph}
 use Rattle.spl_value.specs.declared.types.Named.{Named}
 use Rattle.spl_value.specs.declared.types.SplType.{SplType}
-use Rattle.language_model.specs.declared.checked.Part.{Part}
+use Rattle.language_model.specs.declared.checked.CheckedClauses.{CheckedClauses}
 
 -- the graph, the attributes of each stream, the functions of the program in the order of the text, and the clauses of each operator
 pub record CheckedGraph : Type 0 where
   pub graph : Graph
   pub schemas : List (List (Named SplType))
   pub functions : List Function
-  pub parts : List Part
+  pub parts : List CheckedClauses

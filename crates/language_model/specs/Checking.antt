@@ -26,8 +26,8 @@ use Rattle.spl_tree.specs.declared.unit.OutputStream.{OutputStream}
 use Rattle.spl_tree.specs.declared.unit.Parameter.{Parameter}
 use Rattle.spl_tree.specs.declared.unit.PortWindow.{PortWindow}
 use Rattle.language_model.specs.declared.checked.Given.{Given}
-use Rattle.language_model.specs.declared.checked.Part.{Part}
-use Rattle.language_model.specs.declared.checked.Part.TheVariants as A
+use Rattle.language_model.specs.declared.checked.CheckedClauses.{CheckedClauses}
+use Rattle.language_model.specs.declared.checked.CheckedClauses.TheVariants as A
 use Rattle.language_model.specs.declared.checked.ParameterValue.{ParameterValue}
 use Rattle.language_model.specs.declared.checked.ParameterValue.TheVariants as V
 use Rattle.language_model.specs.declared.checked.Policy.{Policy}
@@ -214,46 +214,46 @@ first_of [] = []
 first_of (x ∷ xs) = x
 
 -- an operator whose logic isn't looked at any more
-abbrev pub plain : OpKind → Clauses → Part → Found Part
+abbrev pub plain : OpKind → Clauses → CheckedClauses → Found CheckedClauses
 plain kind clauses part = after (logic_checked kind clauses.logic) (λ u. Ok part)
 
-abbrev pub file_source : Checks → Clauses → Found Part
+abbrev pub file_source : Checks → Clauses → Found CheckedClauses
 file_source x clauses =
     after (logic_checked O.FileSource clauses.logic) (λ u. after (rows_checked x x.around.schemas) (λ v. Ok (A.FileSource (file_given x.given) (strict_given x.given))))
 
-abbrev pub file_sink : Checks → Clauses → Found Part
+abbrev pub file_sink : Checks → Clauses → Found CheckedClauses
 file_sink x clauses =
     after (logic_checked O.FileSink clauses.logic) (λ u. after (rows_checked x (map (λ p. p.schema) x.around.scope.ports)) (λ v. Ok (A.FileSink (file_given x.given))))
 
 abbrev pub tuple_of : Checks → List OutputAssignments → Found (Code Slot)
 tuple_of x rows = tuple_typing x.around.scope x.at (first_of x.around.schemas) (first_of x.around.outputs) rows
 
-abbrev pub functor : Checks → Clauses → List OutputAssignments → Found Part
+abbrev pub functor : Checks → Clauses → List OutputAssignments → Found CheckedClauses
 functor x clauses rows = after (tuple_of x rows) (λ output. plain O.Functor clauses (A.Functor (code_given x.given (codes "filter")) output))
 
-abbrev pub punctor : Checks → Clauses → Found Part
+abbrev pub punctor : Checks → Clauses → Found CheckedClauses
 punctor x clauses =
     after (there x.at (code_given x.given (codes "punctuation"))) (λ condition. after (there x.at (position_given x.given)) (λ position.
     plain O.Punctor clauses (A.Punctor condition position)))
 
-abbrev pub split : Checks → Clauses → Found Part
+abbrev pub split : Checks → Clauses → Found CheckedClauses
 split x clauses = after (there x.at (code_given x.given (codes "index"))) (λ index. plain O.Split clauses (A.Split index))
 
-abbrev pub union : Checks → Clauses → Found Part
+abbrev pub union : Checks → Clauses → Found CheckedClauses
 union x clauses = after (inputs_typing x.at (first_of x.around.schemas) x.around.scope.ports) (λ places. plain O.Union clauses (A.Union places))
 
-abbrev pub aggregated : Checks → Clauses → List OutputAssignments → List Policy → Found Part
+abbrev pub aggregated : Checks → Clauses → List OutputAssignments → List Policy → Found CheckedClauses
 aggregated x clauses rows (window ∷ windows) =
     after (groups_typing x.around.scope x.at (first_of x.around.schemas) (first_of x.around.outputs) rows) (λ output.
     plain O.Aggregate clauses (A.Aggregate window (places_given x.given (codes "partitionBy")) (places_given x.given (codes "groupBy")) output))
 aggregated x clauses rows windows = bad_window x.at
 
-abbrev pub joined : Checks → Clauses → List OutputAssignments → List Policy → Found Part
+abbrev pub joined : Checks → Clauses → List OutputAssignments → List Policy → Found CheckedClauses
 joined x clauses rows (left ∷ right ∷ windows) =
     after (tuple_of x rows) (λ output. plain O.Join clauses (A.Join left right (code_given x.given (codes "match")) output))
 joined x clauses rows windows = bad_window x.at
 
-abbrev pub part_of : Checks → Clauses → List OutputAssignments → OpKind → Found Part
+abbrev pub part_of : Checks → Clauses → List OutputAssignments → OpKind → Found CheckedClauses
 part_of x clauses rows O.FileSource = file_source x clauses
 part_of x clauses rows O.FileSink = file_sink x clauses
 part_of x clauses rows O.Filter = plain O.Filter clauses (A.Filter (code_given x.given (codes "filter")))
@@ -277,10 +277,11 @@ surroundings unit b i scope outs = record {
   types = composite_types unit b.composite;
   scope = scope;
   outputs = map (λ o. o.name.what) i.outputs;
-  schemas = outs }
+  schemas = outs;
+}
 
 -- the clauses of an operator whose types are these
-abbrev pub clauses_checked : Op → Site → Surroundings → Clauses → Found Part
+abbrev pub clauses_checked : Op → Site → Surroundings → Clauses → Found CheckedClauses
 clauses_checked op site around clauses =
     after (config_checked clauses.config) (λ u.
     after (windows_checked op.kind (number_literal site.scope site.follow) op.at site.scope.ports clauses.window) (λ windows.
@@ -288,21 +289,21 @@ clauses_checked op site around clauses =
     after (output_rows op.kind clauses.output) (λ rows.
     part_of (record { at = op.at; around = around; windows = windows; given = given }) clauses rows op.kind))))
 
-abbrev pub invocation_checked : List Definition → Graph → Tables → Op → Body → Invocation → Found Part
+abbrev pub invocation_checked : List Definition → Graph → Tables → Op → Body → Invocation → Found CheckedClauses
 invocation_checked unit g tables op b i =
     after (ports_checked op i) (λ u. after (port_types unit g b op i) (λ types.
     let site = site_of unit g tables b (ports_of i.inputs types.ins) in
     clauses_checked op site (surroundings unit b i site.scope types.outs) i.clauses))
 
 -- each operator of the graph is that of an invocation in a body
-abbrev pub body_checked : List Definition → Graph → Tables → Op → Option Body → Found Part
+abbrev pub body_checked : List Definition → Graph → Tables → Op → Option Body → Found CheckedClauses
 body_checked unit g tables op None = mismatch op.at
 body_checked unit g tables op (Some b) = option_map_or (invocation_checked unit g tables op b) (slice_get b.composite.graph op.site.invocation) (mismatch op.at)
 
-abbrev pub operator_checked : List Definition → Graph → Tables → Op → Found Part
+abbrev pub operator_checked : List Definition → Graph → Tables → Op → Found CheckedClauses
 operator_checked unit g tables op = body_checked unit g tables op (body_at unit g op.site.expansion)
 
-abbrev pub operators_checked : List Definition → Graph → Tables → List Op → Found (List Part)
+abbrev pub operators_checked : List Definition → Graph → Tables → List Op → Found (List CheckedClauses)
 operators_checked unit g tables [] = Ok []
 operators_checked unit g tables (op ∷ ops) =
     after (operator_checked unit g tables op) (λ part. after (operators_checked unit g tables ops) (λ rest. Ok (part ∷ rest)))

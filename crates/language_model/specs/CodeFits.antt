@@ -14,8 +14,8 @@ use Rattle.spl_tree.specs.declared.code.Code.{Code}
 use Rattle.spl_tree.specs.declared.code.Code.TheVariants as C
 use Rattle.spl_tree.specs.declared.code.Slot.{Slot}
 use Rattle.spl_tree.specs.declared.code.Slot.TheVariants as L
-use Rattle.spl_tree.specs.declared.code.Taking.{Taking}
-use Rattle.spl_tree.specs.declared.code.Taking.TheVariants as K
+use Rattle.spl_tree.specs.declared.code.Selector.{Selector}
+use Rattle.spl_tree.specs.declared.code.Selector.TheVariants as K
 use Rattle.spl_tree.specs.declared.code.UnaryCode.{UnaryCode}
 use Rattle.spl_tree.specs.declared.code.UnaryCode.TheVariants as U
 use Rattle.spl_tree.specs.declared.code.BinaryCode.{BinaryCode}
@@ -100,7 +100,7 @@ mutual
     map : (xs : List (Code Slot × Code Slot)) (k t : SplType) → PairsFit scope xs k t → CodeFits scope (C.Map xs) (S.Map k t)
     tuple : (fs : List (ℕ × Code Slot)) (schema : List (Named SplType)) → FieldsFit scope fs schema → OneEach (length schema) fs
         → CodeFits scope (C.Tuple fs) (S.Tuple schema)
-    select : (x : Code Slot) (steps : List (Taking (Code Slot))) (t u : SplType) → CodeFits scope x t → StepsLead scope steps t u
+    select : (x : Code Slot) (steps : List (Selector (Code Slot))) (t u : SplType) → CodeFits scope x t → StepsLead scope steps t u
         → CodeFits scope (C.Select x steps) u
     unary : (ops : List UnaryCode) (x : Code Slot) (t u : SplType) → CodeFits scope x t → UnariesGive ops t u → CodeFits scope (C.Unary ops x) u
     binary : (op : BinaryCode) (x y : Code Slot) (t u r : SplType) → CodeFits scope x t → CodeFits scope y u → BinaryGives op t u r
@@ -138,11 +138,11 @@ mutual
         → ArgumentsFit scope (x ∷ xs) (t ∷ ts)
 
   -- what is taken in turn leads from a value of one type to one of another
-  pub data StepsLead (scope : Scope) : List (Taking (Code Slot)) → SplType → SplType → Type 0 where
+  pub data StepsLead (scope : Scope) : List (Selector (Code Slot)) → SplType → SplType → Type 0 where
     here : (t : SplType) → StepsLead scope [] t t
-    member : (i : ℕ) (steps : List (Taking (Code Slot))) (schema : List (Named SplType)) (a : Named SplType) (u : SplType) → slice_get schema i ≡ Some a
+    member : (i : ℕ) (steps : List (Selector (Code Slot))) (schema : List (Named SplType)) (a : Named SplType) (u : SplType) → slice_get schema i ≡ Some a
         → StepsLead scope steps a.kind u → StepsLead scope (K.Member i ∷ steps) (S.Tuple schema) u
-    index : (x : Code Slot) (steps : List (Taking (Code Slot))) (k : IntKind) (t u : SplType) → CodeFits scope x (S.Int k)
+    index : (x : Code Slot) (steps : List (Selector (Code Slot))) (k : IntKind) (t u : SplType) → CodeFits scope x (S.Int k)
         → StepsLead scope steps t u → StepsLead scope (K.Element x ∷ steps) (S.List t) u
-    at_key : (x : Code Slot) (steps : List (Taking (Code Slot))) (k t u : SplType) → CodeFits scope x k
+    at_key : (x : Code Slot) (steps : List (Selector (Code Slot))) (k t u : SplType) → CodeFits scope x k
         → StepsLead scope steps t u → StepsLead scope (K.AtKey x ∷ steps) (S.Map k t) u

@@ -12,8 +12,8 @@ use Rattle.spl_tree.specs.declared.code.Code.{Code}
 use Rattle.spl_tree.specs.declared.code.Code.TheOpen as C
 use Rattle.spl_tree.specs.declared.code.Code.TheOpen.{Code-F}
 use Rattle.spl_tree.specs.declared.code.Code.TheFolds.{fold-Code}
-use Rattle.spl_tree.specs.declared.code.Taking.{Taking}
-use Rattle.spl_tree.specs.declared.code.Taking.TheVariants as K
+use Rattle.spl_tree.specs.declared.code.Selector.{Selector}
+use Rattle.spl_tree.specs.declared.code.Selector.TheVariants as K
 use Rattle.spl_tree.specs.declared.code.Slot.{Slot}
 use Rattle.spl_tree.specs.declared.code.Slot.TheVariants as L
 use Rattle.spl_tree.specs.declared.code.UnaryCode.{UnaryCode}
@@ -76,13 +76,13 @@ tuple_of fs = tuple_from 0 (length fs) fs
 
 -- ---- what is taken of a value
 
-abbrev pub taken : {N : Type 0} → Taking (Meaning N) → Value → World N → ℕ → Outcome Value
+abbrev pub taken : {N : Type 0} → Selector (Meaning N) → Value → World N → ℕ → Outcome Value
 taken (K.Member i) v w turns = settled (level_member i (out-Value v)) turns
 taken (K.Element m) v w turns = followed (m w turns) (λ n turns. settled (level_element (out-Value v) (out-Value n)) turns)
 taken (K.AtKey m) v w turns = followed (m w turns) (λ k turns. settled (level_at_key (out-Value v) k) turns)
 
 -- in turn
-abbrev pub taken_all : {N : Type 0} → List (Taking (Meaning N)) → Value → World N → ℕ → Outcome Value
+abbrev pub taken_all : {N : Type 0} → List (Selector (Meaning N)) → Value → World N → ℕ → Outcome Value
 taken_all [] v w turns = Done v turns
 taken_all (t ∷ ts) v w turns = followed (taken t v w turns) (λ u turns. taken_all ts u w turns)
 

@@ -9,8 +9,8 @@ use Rattle.spl_tree.specs.declared.code.Code.TheOpen as C
 use Rattle.spl_tree.specs.declared.code.Code.TheOpen.{Code-F}
 use Rattle.spl_tree.specs.declared.code.Code.TheViews.{out-Code}
 use Rattle.spl_tree.specs.declared.code.Code.TheFolds.{fold_out-Code, map-Code}
-use Rattle.spl_tree.specs.declared.code.Taking.{Taking}
-use Rattle.spl_tree.specs.declared.code.Taking.TheVariants as K
+use Rattle.spl_tree.specs.declared.code.Selector.{Selector}
+use Rattle.spl_tree.specs.declared.code.Selector.TheVariants as K
 use Rattle.spl_tree.specs.declared.code.UnaryCode.{UnaryCode}
 use Rattle.spl_tree.specs.declared.code.BinaryCode.{BinaryCode}
 use Rattle.spl_tree.specs.declared.code.BuiltIn.{BuiltIn}
@@ -37,12 +37,12 @@ module _ {N : Type 0} (calls : Calls) where
   abbrev pub field_values : List (ℕ × Code N) → World N → ℕ → Outcome (List (ℕ × Value))
   field_values fs = fields_of (map field_meaning fs)
 
-  abbrev pub taking_meaning : Taking (Code N) → Taking (Meaning N)
+  abbrev pub taking_meaning : Selector (Code N) → Selector (Meaning N)
   taking_meaning (K.Member i) = K.Member i
   taking_meaning (K.Element x) = K.Element (code_value calls x)
   taking_meaning (K.AtKey x) = K.AtKey (code_value calls x)
 
-  abbrev pub takings_value : List (Taking (Code N)) → Value → World N → ℕ → Outcome Value
+  abbrev pub takings_value : List (Selector (Code N)) → Value → World N → ℕ → Outcome Value
   takings_value ts = taken_all (map taking_meaning ts)
 
   abbrev pub truth_value : Code N → World N → ℕ → Outcome Bool
@@ -57,11 +57,11 @@ module _ {N : Type 0} (calls : Calls) where
       → code_value calls c w turns ≡ level_value calls (map-Code N (Code N) (Meaning N) (code_value calls) x) w turns
   at c x p w turns = ap (λ m. m w turns) (at_level c x p)
 
-  abbrev takings_in : {A : Type 0} → Code-F N A → List (Taking A)
+  abbrev takings_in : {A : Type 0} → Code-F N A → List (Selector A)
   takings_in (C.Select x ts) = ts
   takings_in _ = []
 
-  takings_mapped : (x : Code N) (ts : List (Taking (Code N))) → takings_in (map-Code N (Code N) (Meaning N) (code_value calls) (C.Select x ts)) ≡ map taking_meaning ts
+  takings_mapped : (x : Code N) (ts : List (Selector (Code N))) → takings_in (map-Code N (Code N) (Meaning N) (code_value calls) (C.Select x ts)) ≡ map taking_meaning ts
   takings_mapped x [] = refl
   takings_mapped x (K.Member i ∷ ts) = ap (λ us. K.Member i ∷ us) (takings_mapped x ts)
   takings_mapped x (K.Element y ∷ ts) = ap (λ us. K.Element (code_value calls y) ∷ us) (takings_mapped x ts)
@@ -84,7 +84,7 @@ module _ {N : Type 0} (calls : Calls) where
       → code_value calls (S.Tuple fs) w turns ≡ followed (field_values fs w turns) (λ gs turns. need (tuple_of gs) (λ vs. Done (V.Tuple vs) turns))
   tuple_is fs w turns = at (S.Tuple fs) (C.Tuple fs) (S.outs-Tuple fs) w turns
 
-  pub select_is : (x : Code N) (ts : List (Taking (Code N))) (w : World N) (turns : ℕ)
+  pub select_is : (x : Code N) (ts : List (Selector (Code N))) (w : World N) (turns : ℕ)
       → code_value calls (S.Select x ts) w turns ≡ followed (code_value calls x w turns) (λ v turns. takings_value ts v w turns)
   select_is x ts w turns =
       at (S.Select x ts) (C.Select x ts) (S.outs-Select x ts) w turns

@@ -110,7 +110,8 @@ operation es p number i kind = record {
   ins = ports_of es p.number i;
   outputs = length i.outputs;
   site = site_in p number;
-  at = i.at }
+  at = i.at;
+}
 
 -- how many streams the ports of an operator take
 abbrev pub connections_of : Operation → ℕ
@@ -136,7 +137,8 @@ abbrev pub opened_in : Opened → ℕ → Invocation → At Composite → Made �
 opened_in p number i c made = record {
   number = length made.expansions;
   prefix = p.prefix ++ invocation_name i ++ codes ".";
-  body = inlined p number c }
+  body = inlined p number c;
+}
 
 abbrev pub with_expansion : Inlined → Made → Made
 with_expansion e made = record { ops = made.ops; expansions = made.expansions ++ e ∷ [] }

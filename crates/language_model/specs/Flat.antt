@@ -29,7 +29,8 @@ graph_of made topo = record {
   ops = ops_from made 0 made.ops;
   streams = streams_from 0 made.ops;
   expansions = expansions_from made 0 made.expansions;
-  topo = topo }
+  topo = topo;
+}
 
 -- the first operator that can't be taken is refused
 abbrev pub if_all_taken : Made → List ℕ → Option ℕ → Found Graph

@@ -56,7 +56,8 @@ unit_scope unit = record {
   functions = filter_map (λ f. as_signature f.name.what (function_types (unit_types unit) f)) (functions unit);
   unresolved = filter_map (λ f. as_unresolved f.name.what (function_types (unit_types unit) f)) (functions unit);
   dollars = [];
-  punct = false }
+  punct = false;
+}
 
 -- ---- bodies
 

@@ -18,12 +18,12 @@ use Rattle.spl_tree.specs.declared.graph.Op.{Op}
 use Rattle.spl_tree.specs.declared.graph.OpKind.{OpKind}
 use Rattle.spl_tree.specs.declared.graph.OpKind.TheVariants as O
 use Rattle.spl_tree.specs.declared.graph.Stream.{Stream}
-use Rattle.language_model.specs.declared.checked.Collected.{Collected}
+use Rattle.language_model.specs.declared.checked.CollectedAttribute.{CollectedAttribute}
 use Rattle.language_model.specs.declared.checked.Collector.{Collector}
 use Rattle.language_model.specs.declared.checked.Collector.TheVariants as K
 use Rattle.language_model.specs.declared.checked.Handlers.{Handlers}
-use Rattle.language_model.specs.declared.checked.Part.{Part}
-use Rattle.language_model.specs.declared.checked.Part.TheVariants as A
+use Rattle.language_model.specs.declared.checked.CheckedClauses.{CheckedClauses}
+use Rattle.language_model.specs.declared.checked.CheckedClauses.TheVariants as A
 use Rattle.language_model.specs.declared.checked.Policy.{Policy}
 use Rattle.language_model.specs.declared.checked.Position.{Position}
 use Rattle.language_model.specs.declared.checked.StateVariable.{StateVariable}
@@ -143,8 +143,8 @@ pub data CollectorFits (scope : Scope) : Collector → Option (Code Slot) → Sp
   count : CollectorFits scope K.Count None int32
 
 -- each attribute of the output gets one value, of its type
-pub record GroupsFit (scope : Scope) (schema : Attributes) (output : List Collected) : Type 0 where
-  pub fit : (k : ℕ) (x : Collected) → slice_get output k ≡ Some x
+pub record GroupsFit (scope : Scope) (schema : Attributes) (output : List CollectedAttribute) : Type 0 where
+  pub fit : (k : ℕ) (x : CollectedAttribute) → slice_get output k ≡ Some x
       → (a : Named SplType) × (slice_get schema x.attribute ≡ Some a) × CollectorFits scope x.collector x.argument a.kind
   pub once : (i : ℕ) → i < length schema → count_by (λ x. x.attribute == i) output ≡ 1
 
@@ -170,7 +170,7 @@ pub record HandlersFit (scope : Scope) (outs : List Attributes) (handlers : Hand
 -- ---- operators
 
 -- the clauses of an operator of a kind, with these attributes of its inputs and outputs. Expressions are meant in the scope
-pub data PartFits (scope : Scope) : OpKind → List Attributes → List Attributes → Part → Type 0 where
+pub data PartFits (scope : Scope) : OpKind → List Attributes → List Attributes → CheckedClauses → Type 0 where
   file_source : (file : List ℕ) (strict : Bool) (schema : Attributes) → IsTrue (is_file_name file) → IsTrue (has_text_form schema)
       → PartFits scope O.FileSource [] (schema ∷ []) (A.FileSource file strict)
   file_sink : (file : List ℕ) (schema : Attributes) → IsTrue (is_file_name file) → IsTrue (has_text_form schema)
@@ -188,7 +188,7 @@ pub data PartFits (scope : Scope) : OpKind → List Attributes → List Attribut
       → ((k : ℕ) (input : Attributes) (ps : List ℕ) → slice_get ins k ≡ Some input → slice_get places k ≡ Some ps → PlacesFit input schema ps)
       → PartFits scope O.Union ins (schema ∷ []) (A.Union places)
   custom : (handlers : Handlers) (ins outs : List Attributes) → HandlersFit scope outs handlers → PartFits scope O.Custom ins outs (A.Custom handlers)
-  aggregate : (window : Policy) (partition group : List ℕ) (output : List Collected) (input schema : Attributes) → AggregateWindow input window.rule
+  aggregate : (window : Policy) (partition group : List ℕ) (output : List CollectedAttribute) (input schema : Attributes) → AggregateWindow input window.rule
       → KeysFit input partition → (IsTrue window.partitioned ↔ (0 < length partition)) → KeysFit input group → GroupsFit scope schema output
       → PartFits scope O.Aggregate (input ∷ []) (schema ∷ []) (A.Aggregate window partition group output)
   join : (left right : Policy) (condition : Option (Code Slot)) (fields : List (ℕ × Code Slot)) (first second schema : Attributes)
@@ -197,7 +197,7 @@ pub data PartFits (scope : Scope) : OpKind → List Attributes → List Attribut
       → PartFits scope O.Join (first ∷ second ∷ []) (schema ∷ []) (A.Join left right condition (C.Tuple fields))
 
 -- an operator has the ports of its kind, each with the attributes of its streams, and its clauses fit these
-pub record OperatorFits (schemas : List Attributes) (signatures : List Signature) (op : Op) (part : Part) : Type 0 where
+pub record OperatorFits (schemas : List Attributes) (signatures : List Signature) (op : Op) (part : CheckedClauses) : Type 0 where
   pub ins : List Attributes
   pub outs : List Attributes
   pub scope : Scope
@@ -216,5 +216,5 @@ pub record Keeps (c : CheckedGraph) : Type 0 where
   pub functions : FunctionsFit signatures c.functions
   pub each_signed : length c.functions ≡ length signatures
   pub parts : length c.parts ≡ length c.graph.ops
-  pub operators : (n : ℕ) (op : Op) (part : Part) → slice_get c.graph.ops n ≡ Some op → slice_get c.parts n ≡ Some part
+  pub operators : (n : ℕ) (op : Op) (part : CheckedClauses) → slice_get c.graph.ops n ≡ Some op → slice_get c.parts n ≡ Some part
       → OperatorFits c.schemas signatures op part

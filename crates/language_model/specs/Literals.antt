@@ -21,32 +21,32 @@ use Rattle.language_model.specs.Typing.{Found, after, mismatch, typing}
 -- ---- what `$` parameters mean
 
 -- an expression that is no `$` parameter, or an argument, which is meant where the composite is invoked, or nothing
-pub data Behind : Type 0 where
-  Here : Expr → Behind
-  Outside : Expr → Behind
-  Nowhere : Behind
+pub data Target : Type 0 where
+  Here : Expr → Target
+  Outside : Expr → Target
+  Nowhere : Target
 
-abbrev pub level_behind : (List ℕ → Behind) → Expr → ExprKind-F ExprKind → Behind
-level_behind parameter e (X.Dollar name) = parameter name
-level_behind parameter e _ = Here e
+abbrev pub level_target : (List ℕ → Target) → Expr → ExprKind-F ExprKind → Target
+level_target parameter e (X.Dollar name) = parameter name
+level_target parameter e _ = Here e
 
-abbrev pub behind : (List ℕ → Behind) → Expr → Behind
-behind parameter e = level_behind parameter e (out-ExprKind e.what)
+abbrev pub target : (List ℕ → Target) → Expr → Target
+target parameter e = level_target parameter e (out-ExprKind e.what)
 
-abbrev pub argument_or : Option Expr → Behind → Behind
+abbrev pub argument_or : Option Expr → Target → Target
 argument_or (Some e) other = Outside e
 argument_or None other = other
 
 -- a parameter: its argument, or else its default. Defaults are followed at most this number of times
-abbrev pub parameter_behind : ℕ → List CompositeParameter → List Parameter → List ℕ → Behind
-parameter_behind zero parameters arguments name = Nowhere
-parameter_behind (suc count) parameters arguments name =
-    argument_or (value_named arguments name) (option_map_or (behind (parameter_behind count parameters arguments)) (default_named parameters name) Nowhere)
+abbrev pub parameter_target : ℕ → List CompositeParameter → List Parameter → List ℕ → Target
+parameter_target zero parameters arguments name = Nowhere
+parameter_target (suc count) parameters arguments name =
+    argument_or (value_named arguments name) (option_map_or (target (parameter_target count parameters arguments)) (default_named parameters name) Nowhere)
 
-abbrev pub behind_in : List Definition → List Expansion → Expansion → Expr → Behind
-behind_in unit expansions x e = behind (parameter_behind (length (heads_of unit x)) (heads_of unit x) (arguments_of unit expansions x)) e
+abbrev pub target_in : List Definition → List Expansion → Expansion → Expr → Target
+target_in unit expansions x e = target (parameter_target (length (heads_of unit x)) (heads_of unit x) (arguments_of unit expansions x)) e
 
-abbrev pub here_or : (Expr → Option Expr) → Behind → Option Expr
+abbrev pub here_or : (Expr → Option Expr) → Target → Option Expr
 here_or outside (Here e) = Some e
 here_or outside (Outside e) = outside e
 here_or outside Nowhere = None
@@ -56,7 +56,7 @@ here_or outside Nowhere = None
 abbrev pub followed_within : ℕ → List Definition → List Expansion → ℕ → Expr → Option Expr
 followed_within zero unit expansions number e = None
 followed_within (suc count) unit expansions number e =
-    option_and_then (λ x. here_or (λ argument. option_and_then (λ s. followed_within count unit expansions s.expansion argument) x.site) (behind_in unit expansions x e))
+    option_and_then (λ x. here_or (λ argument. option_and_then (λ s. followed_within count unit expansions s.expansion argument) x.site) (target_in unit expansions x e))
     (slice_get expansions number)
 
 abbrev pub followed : List Definition → List Expansion → ℕ → Expr → Option Expr

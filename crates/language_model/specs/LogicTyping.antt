@@ -159,7 +159,8 @@ abbrev pub handlers_made : Surroundings → List StateVariable → List Handled 
 handlers_made around state handled = record {
   state = state;
   on_tuple = handlers_on H.Tuple handled 0 (length around.scope.ports);
-  on_punct = handlers_on H.Punctuation handled 0 (length around.scope.ports) }
+  on_punct = handlers_on H.Punctuation handled 0 (length around.scope.ports);
+}
 
 -- a Custom without logic does nothing
 abbrev pub logic_typing : Surroundings → Option (Placed Logic) → Found Handlers

@@ -83,7 +83,8 @@ op_of made n op = record {
   ins = map (streams_of made) op.ins;
   outs = numbers_from (first_stream made.ops n) op.outputs;
   site = op.site;
-  at = op.at }
+  at = op.at;
+}
 
 abbrev pub ops_from : Made → ℕ → List Operation → List Op
 ops_from made n [] = []
@@ -110,7 +111,8 @@ expansion_of made number e = record {
   composite = e.composite.place;
   site = e.site;
   streams = streams_of made (own_sources number e.composite.what);
-  inputs = map (λ k. input_streams made (input_sources (sources_of made.expansions) made.expansions e.site k)) (numbers_from 0 (length e.composite.what.inputs)) }
+  inputs = map (λ k. input_streams made (input_sources (sources_of made.expansions) made.expansions e.site k)) (numbers_from 0 (length e.composite.what.inputs));
+}
 
 abbrev pub expansions_from : Made → ℕ → List Inlined → List Expansion
 expansions_from made n [] = []

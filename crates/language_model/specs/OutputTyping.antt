@@ -19,10 +19,10 @@ use Rattle.spl_tree.specs.declared.expression.ExprKind.TheViews.{out-ExprKind}
 use Rattle.spl_tree.specs.declared.expression.Field.{Field}
 use Rattle.spl_tree.specs.declared.unit.OutputAssignments.{OutputAssignments}
 use Rattle.spl_tree.specs.Grammar.{Expr}
-use Rattle.language_model.specs.declared.checked.Collected.{Collected}
+use Rattle.language_model.specs.declared.checked.CollectedAttribute.{CollectedAttribute}
 use Rattle.language_model.specs.declared.checked.Collector.{Collector}
 use Rattle.language_model.specs.declared.checked.Collector.TheVariants as K
-use Rattle.language_model.specs.declared.checked.Gathers.{Gathers}
+use Rattle.language_model.specs.declared.checked.CollectorCall.{CollectorCall}
 use Rattle.language_model.specs.declared.scope.CheckError.TheVariants as E
 use Rattle.language_model.specs.declared.scope.Port.{Port}
 use Rattle.language_model.specs.declared.scope.Scope.{Scope}
@@ -134,11 +134,11 @@ collecting_of name =
     else None
 
 -- what an attribute gets, without its place
-abbrev pub gathers : Collector → Code Slot → SplType → Gathers
+abbrev pub gathers : Collector → Code Slot → SplType → CollectorCall
 gathers collector code t = record { collector = collector; argument = Some code; kind = t }
 
 -- a sum is one of integers, and the least and the greatest are integers or texts
-abbrev pub level_gathers : ℕ → Collecting → Code Slot → SplType → SplType-F SplType → Found Gathers
+abbrev pub level_gathers : ℕ → Collecting → Code Slot → SplType → SplType-F SplType → Found CollectorCall
 level_gathers at Summing code t (T.Int kind) = Ok (gathers (K.Sum kind) code t)
 level_gathers at (Extreme collector) code t (T.Int kind) = Ok (gathers collector code t)
 level_gathers at (Extreme collector) code t T.Text = Ok (gathers collector code t)
@@ -146,38 +146,38 @@ level_gathers at (Choosing collector) code t _ = Ok (gathers collector code t)
 level_gathers at _ code t _ = mismatch at
 
 -- one argument; `Count` has none
-abbrev pub called_typing : Scope → ℕ → Collecting → List Expr → Found Gathers
+abbrev pub called_typing : Scope → ℕ → Collecting → List Expr → Found CollectorCall
 called_typing scope at Counting [] = Ok (record { collector = K.Count; argument = None; kind = int32 })
 called_typing scope at Counting es = wrong_call at
 called_typing scope at collecting (e ∷ []) = after (typing scope e None) (λ t. level_gathers e.at collecting t.code t.kind (out-SplType t.kind))
 called_typing scope at collecting es = wrong_call at
 
-abbrev pub gathered_by : Scope → ℕ → List Expr → Option Collecting → Found Gathers
+abbrev pub gathered_by : Scope → ℕ → List Expr → Option Collecting → Found CollectorCall
 gathered_by scope at es None = mismatch at
 gathered_by scope at es (Some collecting) = called_typing scope at collecting es
 
 -- exactly one call of such a function
-abbrev pub level_gathered : Scope → ℕ → ExprKind-F ExprKind → Found Gathers
+abbrev pub level_gathered : Scope → ℕ → ExprKind-F ExprKind → Found CollectorCall
 level_gathered scope at (X.Call name es) = gathered_by scope at es (collecting_of name)
 level_gathered scope at _ = mismatch at
 
-abbrev pub of_wanted : ℕ → Wanted → Gathers → Found Gathers
+abbrev pub of_wanted : ℕ → Wanted → CollectorCall → Found CollectorCall
 of_wanted at None g = Ok g
 of_wanted at (Some t) g = if same_types g.kind t then Ok g else mismatch at
 
-abbrev pub assigned_group : Scope → Assigns Gathers
+abbrev pub assigned_group : Scope → Assigns CollectorCall
 assigned_group scope wanted e = after (level_gathered scope e.at (out-ExprKind e.what)) (of_wanted e.at wanted)
 
 -- without an assignment: the group's last tuple's attribute
-abbrev pub last_of : Scope → ℕ → Fills Gathers
+abbrev pub last_of : Scope → ℕ → Fills CollectorCall
 last_of scope at a = after (taken_over scope at a) (λ code. Ok (gathers K.Last code a.kind))
 
-abbrev pub collected : Assigned Gathers → List Collected
+abbrev pub collected : Assigned CollectorCall → List CollectedAttribute
 collected [] = []
 collected (x ∷ xs) = record { attribute = x.0; collector = x.1.collector; argument = x.1.argument } ∷ collected xs
 
 -- the output of an Aggregate
-abbrev pub groups_typing : Scope → ℕ → List (Named SplType) → List ℕ → List OutputAssignments → Found (List Collected)
+abbrev pub groups_typing : Scope → ℕ → List (Named SplType) → List ℕ → List OutputAssignments → Found (List CollectedAttribute)
 groups_typing scope at schema output rows =
     after (rows_typing (assigned_group scope) schema output [] rows) (λ xs. after (with_others (last_of scope at) schema xs) (λ all. Ok (collected all)))
 

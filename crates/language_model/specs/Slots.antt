@@ -14,8 +14,8 @@ use Rattle.spl_tree.specs.declared.code.Code.TheOpen.{Code-F}
 use Rattle.spl_tree.specs.declared.code.Code.TheFolds.{fold-Code}
 use Rattle.spl_tree.specs.declared.code.Slot.{Slot}
 use Rattle.spl_tree.specs.declared.code.Slot.TheVariants as L
-use Rattle.spl_tree.specs.declared.code.Taking.{Taking}
-use Rattle.spl_tree.specs.declared.code.Taking.TheVariants as K
+use Rattle.spl_tree.specs.declared.code.Selector.{Selector}
+use Rattle.spl_tree.specs.declared.code.Selector.TheVariants as K
 
 -- ---- codes
 
@@ -23,7 +23,7 @@ abbrev pub joined : {A : Type 0} → List (List A) → List A
 joined = flat_map (λ xs. xs)
 
 -- those of the index or key that a step has
-abbrev pub names_in_taking : {A B : Type 0} → (B → List A) → Taking B → List A
+abbrev pub names_in_taking : {A B : Type 0} → (B → List A) → Selector B → List A
 names_in_taking names (K.Member i) = []
 names_in_taking names (K.Element x) = names x
 names_in_taking names (K.AtKey x) = names x

@@ -16,7 +16,7 @@ use Rattle.spl_tree.specs.declared.code.Code.TheOpen.{Code-F}
 use Rattle.spl_tree.specs.declared.code.Code.TheViews.{out-Code}
 use Rattle.spl_tree.specs.declared.code.Slot.{Slot}
 use Rattle.spl_tree.specs.declared.code.Slot.TheVariants as L
-use Rattle.spl_tree.specs.declared.code.Taking.{Taking}
+use Rattle.spl_tree.specs.declared.code.Selector.{Selector}
 use Rattle.spl_tree.specs.declared.expression.BinaryOperator.{BinaryOperator}
 use Rattle.spl_tree.specs.declared.expression.ExprKind.TheOpen as X
 use Rattle.spl_tree.specs.declared.expression.ExprKind.TheOpen.{ExprKind-F}
@@ -40,7 +40,7 @@ pub record TypedPlace : Type 0 where
   pub kind : SplType
 
 -- the place that a code reads, where it is one of a variable
-abbrev pub level_variable : List (Taking (Code Slot)) → Code-F Slot (Code Slot) → Option Place
+abbrev pub level_variable : List (Selector (Code Slot)) → Code-F Slot (Code Slot) → Option Place
 level_variable takings (O.Name (L.Variable i)) = Some (record { variable = i; takings = takings })
 level_variable takings _ = None
 

@@ -17,8 +17,8 @@ use Rattle.spl_tree.specs.declared.body.Statement.TheOpen.{Statement-F}
 use Rattle.spl_tree.specs.declared.body.Statement.TheFolds.{fold-Statement}
 use Rattle.spl_tree.specs.declared.code.Code.{Code}
 use Rattle.spl_tree.specs.declared.code.Slot.{Slot}
-use Rattle.spl_tree.specs.declared.code.Taking.{Taking}
-use Rattle.spl_tree.specs.declared.code.Taking.TheVariants as T
+use Rattle.spl_tree.specs.declared.code.Selector.{Selector}
+use Rattle.spl_tree.specs.declared.code.Selector.TheVariants as T
 use Rattle.language_model.specs.declared.env.Env.{Env}
 use Rattle.language_model.specs.declared.flow.Flow.{Flow}
 use Rattle.language_model.specs.declared.flow.Flow.TheVariants as F
@@ -73,18 +73,18 @@ submitted s port item = record { env = s.env; submits = s.submits ++ record { po
 -- ---- places
 
 -- a step with the value of its index or key
-abbrev pub step_value : Bodies → Taking (Code Slot) → State → ℕ → Outcome (Taking Value)
+abbrev pub step_value : Bodies → Selector (Code Slot) → State → ℕ → Outcome (Selector Value)
 step_value bodies (T.Member i) s turns = Done (T.Member i) turns
 step_value bodies (T.Element code) s turns = followed (value_in bodies code s turns) (λ v turns. Done (T.Element v) turns)
 step_value bodies (T.AtKey code) s turns = followed (value_in bodies code s turns) (λ v turns. Done (T.AtKey v) turns)
 
 -- from left to right; nothing is looked up
-abbrev pub step_values : Bodies → List (Taking (Code Slot)) → State → ℕ → Outcome (List (Taking Value))
+abbrev pub step_values : Bodies → List (Selector (Code Slot)) → State → ℕ → Outcome (List (Selector Value))
 step_values bodies [] s turns = Done [] turns
 step_values bodies (t ∷ ts) s turns = followed (step_value bodies t s turns) (λ step turns. followed (step_values bodies ts s turns) (λ steps turns. Done (step ∷ steps) turns))
 
 -- the same as in an expression: each step is taken of what the steps before it give
-abbrev pub steps_taken : Bodies → List (Taking (Code Slot)) → Value → State → ℕ → Outcome (List (Taking Value))
+abbrev pub steps_taken : Bodies → List (Selector (Code Slot)) → Value → State → ℕ → Outcome (List (Selector Value))
 steps_taken bodies [] v s turns = Done [] turns
 steps_taken bodies (t ∷ ts) v s turns =
     followed (step_value bodies t s turns) (λ step turns.
@@ -92,7 +92,7 @@ steps_taken bodies (t ∷ ts) v s turns =
     followed (steps_taken bodies ts u s turns) (λ steps turns. Done (step ∷ steps) turns)))
 
 -- the variables where what the steps take of one is changed
-abbrev pub changed_at : ℕ → List (Taking Value) → Change Value → State → ℕ → Outcome (Flow × State)
+abbrev pub changed_at : ℕ → List (Selector Value) → Change Value → State → ℕ → Outcome (Flow × State)
 changed_at i steps change s turns =
     need (slice_get s.env.vars i) (λ old.
     followed (settled (changed steps (change_of change) (Some old)) turns) (λ new turns. Done (F.Next, with_vars s (slice_set s.env.vars i new)) turns))
@@ -106,7 +106,7 @@ change_value bodies H.Clear s turns = Done H.Clear turns
 
 -- an assignment evaluates its right side, and then the indexes and keys of the place. Every other change is a call, which evaluates the
 -- place and then its argument, as a call in an expression does
-abbrev pub change_values : Bodies → Place → Change (Code Slot) → State → ℕ → Outcome (List (Taking Value) × Change Value)
+abbrev pub change_values : Bodies → Place → Change (Code Slot) → State → ℕ → Outcome (List (Selector Value) × Change Value)
 change_values bodies place (H.Put code) s turns =
     followed (change_value bodies (H.Put code) s turns) (λ change turns.
     followed (step_values bodies place.takings s turns) (λ steps turns. Done (steps, change) turns))

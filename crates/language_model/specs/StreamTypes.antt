@@ -140,13 +140,13 @@ stream_attributes unit g s = attributes_within (suc (length g.streams)) unit g s
 -- ---- types that are given again
 
 -- a shape has to mean these attributes
-abbrev pub stands_for : List Definition → Graph → Body → Attributes → Shape → Passes
-stands_for unit g b schema shape =
+abbrev pub shape_matches : List Definition → Graph → Body → Attributes → Shape → Passes
+shape_matches unit g b schema shape =
     after (shape_attributes (stream_attributes unit g) unit g b shape) (λ given. if same_attributes given schema then passed else mismatch shape.at)
 
 -- the port of a head, where it has a shape
-abbrev pub port_stands_for : List Definition → Graph → Body → Attributes → Option HeadPort → Passes
-port_stands_for unit g b schema port = option_map_or (λ p. option_map_or (stands_for unit g b schema) p.shape passed) port passed
+abbrev pub port_matches : List Definition → Graph → Body → Attributes → Option HeadPort → Passes
+port_matches unit g b schema port = option_map_or (λ p. option_map_or (shape_matches unit g b schema) p.shape passed) port passed
 
 -- ---- outputs of heads
 
@@ -155,7 +155,7 @@ output_names c = map (λ p. p.name.what) c.outputs
 
 -- what an output of an invocation says, and the heads around it
 abbrev pub outer_output : (Body → List ℕ → Passes) → List Definition → Graph → Attributes → Body → OutputStream → Passes
-outer_output heads unit g schema b o = after (stands_for unit g b schema o.shape) (λ u. heads b o.name.what)
+outer_output heads unit g schema b o = after (shape_matches unit g b schema o.shape) (λ u. heads b o.name.what)
 
 abbrev pub invoked_output : (Body → List ℕ → Passes) → List Definition → Graph → Attributes → ℕ → Site → Passes
 invoked_output heads unit g schema port s =
@@ -164,7 +164,7 @@ invoked_output heads unit g schema port s =
 
 abbrev pub head_output : (Body → List ℕ → Passes) → List Definition → Graph → Attributes → Body → ℕ → Passes
 head_output heads unit g schema b port =
-    after (port_stands_for unit g b schema (slice_get b.composite.outputs port)) (λ u. option_map_or (invoked_output heads unit g schema port) b.expansion.site passed)
+    after (port_matches unit g b schema (slice_get b.composite.outputs port)) (λ u. option_map_or (invoked_output heads unit g schema port) b.expansion.site passed)
 
 -- where a stream of a body is an output of its head, that says its type, and the invocation of the composite, and so on outwards. At most
 -- this number of heads are around it
@@ -187,7 +187,7 @@ invoked_input heads unit g port s =
 
 abbrev pub head_input : (Body → List ℕ → Passes) → List Definition → Graph → Attributes → Body → ℕ → Passes
 head_input heads unit g schema b port =
-    after (port_stands_for unit g b schema (slice_get b.composite.inputs port)) (λ u. option_map_or (invoked_input heads unit g port) b.expansion.site passed)
+    after (port_matches unit g b schema (slice_get b.composite.inputs port)) (λ u. option_map_or (invoked_input heads unit g port) b.expansion.site passed)
 
 -- a stream that the graph makes has no input of the head as its name
 abbrev pub own_or_head : (Body → List ℕ → Passes) → List Definition → Graph → Attributes → Body → List ℕ → Option ℕ → Passes
@@ -220,15 +220,15 @@ are_alike unit g schema (at ∷ places) (s ∷ streams) =
     after (stream_attributes unit g s) (λ own. if same_attributes own schema then are_alike unit g schema places streams else mismatch at)
 are_alike unit g schema places streams = passed
 
-abbrev pub behind : List ℕ → List ℕ
-behind [] = []
-behind (x ∷ xs) = xs
+abbrev pub tail : List ℕ → List ℕ
+tail [] = []
+tail (x ∷ xs) = xs
 
 -- the attributes of a port: those of its first stream, which the others have too, and which each typed head on their way has
 abbrev pub port_attributes : List Definition → Graph → Body → InputPort → List ℕ → Found Attributes
 port_attributes unit g b q [] = mismatch 0
 port_attributes unit g b q (s ∷ streams) =
-    after (stream_attributes unit g s) (λ schema. after (are_alike unit g schema (behind (name_places b q)) streams) (λ u.
+    after (stream_attributes unit g s) (λ schema. after (are_alike unit g schema (tail (name_places b q)) streams) (λ u.
     after (each_name (input_heads (length g.expansions) unit g schema b) q.streams) (λ v. Ok schema)))
 
 abbrev pub ports_attributes : List Definition → Graph → Body → List InputPort → List (List ℕ) → Found (List Attributes)

@@ -38,8 +38,8 @@ use Rattle.spl_tree.specs.declared.code.Code.{Code}
 use Rattle.spl_tree.specs.declared.code.Code.TheVariants as C
 use Rattle.spl_tree.specs.declared.code.Slot.{Slot}
 use Rattle.spl_tree.specs.declared.code.Slot.TheVariants as L
-use Rattle.spl_tree.specs.declared.code.Taking.{Taking}
-use Rattle.spl_tree.specs.declared.code.Taking.TheVariants as K
+use Rattle.spl_tree.specs.declared.code.Selector.{Selector}
+use Rattle.spl_tree.specs.declared.code.Selector.TheVariants as K
 use Rattle.spl_tree.specs.declared.code.UnaryCode.{UnaryCode}
 use Rattle.spl_tree.specs.declared.code.UnaryCode.TheVariants as U
 use Rattle.spl_tree.specs.declared.code.BinaryCode.{BinaryCode}
@@ -248,12 +248,12 @@ abbrev pub level_index : ℕ → Code Slot → SplType-F SplType → Found (Code
 level_index at code (T.Int k) = Ok code
 level_index at code _ = mismatch at
 
-abbrev pub member_typed : ℕ → List ℕ → Option (At (Named SplType)) → Found (Taking (Code Slot) × SplType)
+abbrev pub member_typed : ℕ → List ℕ → Option (At (Named SplType)) → Found (Selector (Code Slot) × SplType)
 member_typed at name None = unknown at name
 member_typed at name (Some a) = Ok (K.Member a.place, a.what.kind)
 
 -- one step from a value of a type, whose expression begins at a place
-abbrev pub level_step : ℕ → Scope → SplType-F SplType → Step (Placed Part) → Found (Taking (Code Slot) × SplType)
+abbrev pub level_step : ℕ → Scope → SplType-F SplType → Step (Placed Part) → Found (Selector (Code Slot) × SplType)
 level_step base scope (T.Tuple schema) (N.Member m) = member_typed m.at m.what (attribute_of schema m.what)
 level_step base scope (T.List t) (N.Index e) =
     after (part_typed e scope None) (λ x. after (level_index e.at x.code (out-SplType x.kind)) (λ code. Ok (K.Element code, t)))
@@ -261,13 +261,13 @@ level_step base scope (T.Map k t) (N.Index e) = after (part_typed e scope (Some 
 level_step base scope _ _ = mismatch base
 
 -- steps in turn, and the type at the end of them
-abbrev pub steps_typed : ℕ → Scope → SplType → List (Step (Placed Part)) → Found (List (Taking (Code Slot)) × SplType)
+abbrev pub steps_typed : ℕ → Scope → SplType → List (Step (Placed Part)) → Found (List (Selector (Code Slot)) × SplType)
 steps_typed base scope t [] = Ok ([], t)
 steps_typed base scope t (s ∷ ss) =
     after (level_step base scope (out-SplType t) s) (λ x. after (steps_typed base scope x.1 ss) (λ xs. Ok (x.0 ∷ xs.0, xs.1)))
 
 -- what is taken of a code, where something is
-abbrev pub selected : Code Slot → List (Taking (Code Slot)) → Code Slot
+abbrev pub selected : Code Slot → List (Selector (Code Slot)) → Code Slot
 selected base [] = base
 selected base (x ∷ xs) = C.Select base (x ∷ xs)
 

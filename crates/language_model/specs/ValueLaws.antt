@@ -17,7 +17,7 @@ use Rattle.language_model.specs.BodyFits.{Purpose, StatementFits}
 use Rattle.language_model.specs.Statements.{State, statement_acts, body_leaves}
 use Rattle.language_model.specs.Typing.{Wanted, typing}
 use Rattle.language_model.specs.WorldFits.{Fits, FunctionsFit, VariablesFit, ComesTo, LeadsTo, BodyFits, Leaves}
-use Rattle.language_model.specs.Written.{stands_for, written, renamed, before_renaming, named_world}
+use Rattle.language_model.specs.Written.{slot_of_written, written, renamed, before_renaming, named_world}
 
 -- a code that fits gives a value of its type or a fault, and is never stuck, however deep calls may nest
 abbrev pub NeverStuckLaw : Type 0
@@ -42,7 +42,7 @@ RenamingLaw N M = (calls : Calls) (f : N → M) (code : Code N) (w : World M) (t
 
 -- a slot that fits is what its name means
 abbrev pub WrittenLaw : Type 0
-WrittenLaw = (scope : Scope) (slot : Slot) (t : SplType) → SlotFits scope slot t → stands_for scope (written scope slot) ≡ Some slot
+WrittenLaw = (scope : Scope) (slot : Slot) (t : SplType) → SlotFits scope slot t → slot_of_written scope (written scope slot) ≡ Some slot
 
 -- the code of an expression has the same result over the names that are written for its slots, where each has the
 -- value of what it means

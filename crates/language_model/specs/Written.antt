@@ -33,9 +33,9 @@ attribute_slot (OfPort p) name = option_map (λ a. L.Attribute p.place a.place) 
 attribute_slot _ name = None
 
 -- what a name means, as the language looks it up
-abbrev pub stands_for : Scope → Written → Option Slot
-stands_for scope (Bare name) = meant_slot (meant scope name)
-stands_for scope (Of port name) = attribute_slot (meant scope port) name
+abbrev pub slot_of_written : Scope → Written → Option Slot
+slot_of_written scope (Bare name) = meant_slot (meant scope name)
+slot_of_written scope (Of port name) = attribute_slot (meant scope port) name
 
 -- ---- from slots to names
 
@@ -85,4 +85,4 @@ before_renaming f w = record { value_of = λ n. w.value_of (f n); marker = w.mar
 
 -- where each name has the value of what it means
 abbrev pub named_world : Scope → Env → World Written
-named_world scope env = record { value_of = λ name. option_and_then (slot_value env) (stands_for scope name); marker = env.punct }
+named_world scope env = record { value_of = λ name. option_and_then (slot_value env) (slot_of_written scope name); marker = env.punct }

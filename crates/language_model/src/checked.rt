@@ -78,7 +78,7 @@ pub enum Collector {
 
 /// What an output attribute of an Aggregate gets, of which type. `Count` has no argument.
 #[derive(Drop)]
-pub struct Gathers {
+pub struct CollectorCall {
     pub collector: Collector,
     pub argument: Option<Code<Slot>>,
     pub kind: SplType,
@@ -86,7 +86,7 @@ pub struct Gathers {
 
 /// An output attribute of an Aggregate, by its place, and what it gets. `Count` has no argument.
 #[derive(Drop)]
-pub struct Collected {
+pub struct CollectedAttribute {
     pub attribute: u32,
     pub collector: Collector,
     pub argument: Option<Code<Slot>>,
@@ -119,7 +119,7 @@ pub struct Handlers {
 /// The clauses of an operator with their codes. The output of a Functor or a Join is the code of a
 /// tuple, whose fields stand in the order in which they are evaluated.
 #[derive(Drop)]
-pub enum Part {
+pub enum CheckedClauses {
     FileSource {
         file: Bytes,
         strict: bool,
@@ -152,7 +152,7 @@ pub enum Part {
         window: Policy,
         partition: Places,
         group: Places,
-        output: Items<Collected>,
+        output: Items<CollectedAttribute>,
     },
     Join {
         left: Policy,

@@ -1,5 +1,5 @@
 //! Graphs whose types and clauses fit.
-use crate::Part;
+use crate::CheckedClauses;
 use spl_tree::{Functions, Graph};
 use spl_value::{Items, Schema};
 use std::marker::Model;
@@ -16,7 +16,7 @@ pub struct Checked {
     /// The functions of the program, in the order of the text.
     pub functions: Functions,
     /// The clauses of each operator, in the operators' order.
-    pub parts: Items<Part>,
+    pub parts: Items<CheckedClauses>,
 }
 
 impl Model for Checked {
@@ -24,7 +24,7 @@ impl Model for Checked {
     ghost use Rattle.spl_value.specs.contracts.types.SplType as kind_row;
     ghost use Rattle.spl_tree.specs.contracts.body.Function as function_row;
     ghost use Rattle.spl_tree.specs.contracts.graph.Graph as graph_row;
-    ghost use Rattle.language_model.specs.contracts.checked.Part as part_row;
+    ghost use Rattle.language_model.specs.contracts.checked.CheckedClauses as part_row;
     ghost use Rattle.language_model.specs.CheckedGraph.{CheckedGraph};
     ghost use Rattle.language_model.specs.Keeping.{Keeps};
 

@@ -1,8 +1,8 @@
 //! Lists of codes.
 ghost use Rattle.std.specs.Prelude.{◌≡◌, ◌++◌, ◌∷◌, [], OnOk};
-ghost use Rattle.spl_tree.specs.declared.code.Taking.TheVariants as K;
+ghost use Rattle.spl_tree.specs.declared.code.Selector.TheVariants as K;
 
-use spl_tree::{Code, Slot, Taking};
+use spl_tree::{Code, Selector, Slot};
 use spl_value::{Boxed, Items};
 use std::alloc::AllocError;
 
@@ -16,7 +16,7 @@ pub type EntryCodes = Items<(Code<Slot>, Code<Slot>)>;
 pub type FieldCodes = Items<(u32, Code<Slot>)>;
 
 /// What is taken in turn.
-pub type Takings = Items<Taking<Code<Slot>>>;
+pub type Takings = Items<Selector<Code<Slot>>>;
 
 /// Adds a code to others.
 pub fn push_code(codes: &mut Codes, code: Boxed<Code<Slot>>) -> Result<(), AllocError>
@@ -51,12 +51,12 @@ pub fn push_field(
 pub fn push_element(takings: &mut Takings, index: Boxed<Code<Slot>>) -> Result<(), AllocError>
     ensures { OnOk result (takings.new ≡ takings.old ++ K.Element index ∷ []) }
 {
-    takings.push(Taking::Element(index.into_inner()))
+    takings.push(Selector::Element(index.into_inner()))
 }
 
 /// Adds what stands in a map at a key.
 pub fn push_key(takings: &mut Takings, key: Boxed<Code<Slot>>) -> Result<(), AllocError>
     ensures { OnOk result (takings.new ≡ takings.old ++ K.AtKey key ∷ []) }
 {
-    takings.push(Taking::AtKey(key.into_inner()))
+    takings.push(Selector::AtKey(key.into_inner()))
 }

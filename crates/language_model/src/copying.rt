@@ -7,7 +7,7 @@ use crate::code_lists::{
     push_key,
 };
 use crate::scope::{CheckRefusal, Typed};
-use spl_tree::{BinaryCode, BuiltIn, Code, Slot, Taking, UnaryCode};
+use spl_tree::{BinaryCode, BuiltIn, Code, Selector, Slot, UnaryCode};
 use spl_value::{Boxed, Items, NoMemory, SplType, Value, copy_type, copy_value};
 use std::alloc::Global;
 
@@ -133,7 +133,7 @@ fn copy_code(alloc: Global, code: &Code<Slot>) -> Result<Boxed<Code<Slot>>, NoMe
 fn copy_select(
     alloc: Global,
     base: &Code<Slot>,
-    takings: &[Taking<Code<Slot>>],
+    takings: &[Selector<Code<Slot>>],
 ) -> Result<Boxed<Code<Slot>>, NoMemory>
     ensures { IfOk result (λ copy. copy ≡ C.Select base.now takings.now) }
 {
@@ -229,18 +229,18 @@ fn copy_fields(alloc: Global, fields: &[(u32, Code<Slot>)]) -> Result<FieldCodes
 }
 
 #[cycle(copy)]
-fn copy_takings(alloc: Global, takings: &[Taking<Code<Slot>>]) -> Result<Takings, NoMemory>
+fn copy_takings(alloc: Global, takings: &[Selector<Code<Slot>>]) -> Result<Takings, NoMemory>
     ensures { IfOk result (λ copy. copy ≡ takings.now) }
 {
     let mut copied = Items::new(alloc);
     for taking in takings {
         match taking {
-            Taking::Member(place) => copied.push(Taking::Member(*place))?,
-            Taking::Element(index) => {
+            Selector::Member(place) => copied.push(Selector::Member(*place))?,
+            Selector::Element(index) => {
                 let index = copy_code(alloc, index)?;
                 push_element(&mut copied, index)?;
             }
-            Taking::AtKey(key) => {
+            Selector::AtKey(key) => {
                 let key = copy_code(alloc, key)?;
                 push_key(&mut copied, key)?;
             }

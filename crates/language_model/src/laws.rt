@@ -32,7 +32,7 @@ ghost use Rattle.language_model.specs.Slots.{row_slots};
 ghost use Rattle.language_model.specs.SlotsLaws.{VariablesLaw, UnchangedLaw, InputsLaw, KeepsLaw, AgreementLaw};
 ghost use Rattle.language_model.specs.SubmitsLaws.{SubmitsLaw};
 ghost use Rattle.language_model.specs.TurnsLaws.{ValueTurnsLaw, ValueFaultsLaw, RunsTurnsLaw, RunsFaultsLaw};
-ghost use Rattle.language_model.specs.Written.{Bare, Of, stands_for, written, renamed};
+ghost use Rattle.language_model.specs.Written.{Bare, Of, slot_of_written, written, renamed};
 
 /// The type of an expression is the one that its place wants, where it wants one, and the code fits the scope at it
 /// where what `$` parameters mean fits.
@@ -122,13 +122,13 @@ pub fn slots_on_literals()
 /// What some names mean where there are two ports, the names of some slots, and an expression
 /// with its code over slots and over names.
 pub fn names_on_literals()
-    ensures alone { stands_for (two_ports [] (codes "B")) (Bare (codes "m")) ≡ Some (L.Attribute 1 1) }
-    ensures behind_port { stands_for (two_ports [] (codes "B")) (Of (codes "B") (codes "k")) ≡ Some (L.Attribute 1 0) }
-    ensures port { stands_for (two_ports [] (codes "B")) (Bare (codes "B")) ≡ Some (L.Port 1) }
-    ensures of_both_ports { stands_for (two_ports [] (codes "B")) (Bare (codes "k")) ≡ None }
-    ensures of_first_port { stands_for (two_ports [] (codes "A")) (Of (codes "A") (codes "m")) ≡ None }
-    ensures of_variable { stands_for (two_ports (variable (codes "A") ∷ []) (codes "B")) (Of (codes "A") (codes "n")) ≡ None }
-    ensures variable { stands_for (two_ports (variable (codes "A") ∷ []) (codes "B")) (Bare (codes "A")) ≡ Some (L.Variable 0) }
+    ensures alone { slot_of_written (two_ports [] (codes "B")) (Bare (codes "m")) ≡ Some (L.Attribute 1 1) }
+    ensures behind_port { slot_of_written (two_ports [] (codes "B")) (Of (codes "B") (codes "k")) ≡ Some (L.Attribute 1 0) }
+    ensures port { slot_of_written (two_ports [] (codes "B")) (Bare (codes "B")) ≡ Some (L.Port 1) }
+    ensures of_both_ports { slot_of_written (two_ports [] (codes "B")) (Bare (codes "k")) ≡ None }
+    ensures of_first_port { slot_of_written (two_ports [] (codes "A")) (Of (codes "A") (codes "m")) ≡ None }
+    ensures of_variable { slot_of_written (two_ports (variable (codes "A") ∷ []) (codes "B")) (Of (codes "A") (codes "n")) ≡ None }
+    ensures variable { slot_of_written (two_ports (variable (codes "A") ∷ []) (codes "B")) (Bare (codes "A")) ≡ Some (L.Variable 0) }
     ensures name_of_port { written (two_ports [] (codes "B")) (L.Port 1) ≡ Bare (codes "B") }
     ensures name_of_attribute { written (two_ports [] (codes "B")) (L.Attribute 1 1) ≡ Of (codes "B") (codes "m") }
     ensures name_in_second { written (two_ports [] (codes "A")) (L.Attribute 1 1) ≡ Bare (codes "m") }

@@ -22,8 +22,8 @@ pub use answer::{
     TypeAnswer, mismatch, narrow, refuse, refused, refused_name, unknown, wrong_call,
 };
 pub use checked::{
-    Collected, Collector, Gathers, Given, Handled, Handlers, ParameterValue, Part, Policy,
-    PortTypes, Position, StateVariable, WindowRule,
+    CheckedClauses, CollectedAttribute, Collector, CollectorCall, Given, Handled, Handlers,
+    ParameterValue, Policy, PortTypes, Position, StateVariable, WindowRule,
 };
 pub use checked_graph::Checked;
 pub use checks::{bodies_law, checks_on_literals, kind_rules_law, types_law, types_on_literals};

@@ -19,8 +19,8 @@ use Rattle.spl_tree.specs.declared.graph.Graph.{Graph as Flat}
 use Rattle.spl_tree.specs.declared.graph.Op.{Op}
 use Rattle.spl_tree.specs.declared.graph.OpKind.TheVariants as O
 use Rattle.spl_tree.specs.declared.graph.Stream.{Stream}
-use Rattle.language_model.specs.declared.checked.Part.{Part}
-use Rattle.language_model.specs.declared.checked.Part.TheVariants as A
+use Rattle.language_model.specs.declared.checked.CheckedClauses.{CheckedClauses}
+use Rattle.language_model.specs.declared.checked.CheckedClauses.TheVariants as A
 use Rattle.language_model.specs.declared.scope.Port.{Port}
 use Rattle.language_model.specs.declared.scope.Scope.{Scope}
 use Rattle.language_model.specs.declared.scope.Signature.{Signature}
@@ -237,7 +237,7 @@ one_input : (t : ℕ) → slice_get chain.schemas t ≡ Some numbers → PortsHa
 one_input t at =
     K.one_port (t ∷ []) [] numbers [] (record { some = omega arith; alike = λ s h. subst (λ k. slice_get chain.schemas k ≡ Some numbers) (only t s h) at }) K.no_ports
 
-abbrev Fit : Op → Part → Type 0
+abbrev Fit : Op → CheckedClauses → Type 0
 Fit = OperatorFits chain.schemas []
 
 source_fits : Fit (op_of O.FileSource [] (0 ∷ [])) (A.FileSource (codes "in") true)
@@ -288,13 +288,13 @@ sink_fits t file at named = record {
   clauses = K.file_sink file numbers named rows_formed;
 }
 
-fit_there : (op o : Op) (part p : Part) → Fit op part → Some op ≡ Some o → Some part ≡ Some p → Fit o p
+fit_there : (op o : Op) (part p : CheckedClauses) → Fit op part → Some op ≡ Some o → Some part ≡ Some p → Fit o p
 fit_there op o part p h e f =
     let same_op : op ≡ o = cc in
     let same_part : part ≡ p = cc in
     subst (λ x. Fit x p) same_op (subst (λ x. Fit op x) same_part h)
 
-each_fits : (n : ℕ) (op : Op) (part : Part) → slice_get flat.ops n ≡ Some op → slice_get chain.parts n ≡ Some part → Fit op part
+each_fits : (n : ℕ) (op : Op) (part : CheckedClauses) → slice_get flat.ops n ≡ Some op → slice_get chain.parts n ≡ Some part → Fit op part
 each_fits zero op part e f = fit_there _ op _ part source_fits e f
 each_fits (suc zero) op part e f = fit_there _ op _ part first_fits e f
 each_fits (suc (suc zero)) op part e f = fit_there _ op _ part second_fits e f

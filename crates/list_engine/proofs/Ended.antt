@@ -12,7 +12,7 @@ use Rattle.stream_model.specs.Inputs.{inputs_of}
 use Rattle.stream_model.specs.Operators.{Operator, ports}
 use Rattle.stream_model.specs.React.{ended}
 use Rattle.stream_model.specs.Replies.{end_by}
-use Rattle.stream_model.specs.Stages.{start, after, gives_all, on_port, out}
+use Rattle.stream_model.specs.Stages.{start, stage_after, gives_all, on_port, out}
 use Rattle.stream_model.specs.Ends.{end_from, fault_of, operator_fault}
 use Rattle.stream_model.specs.Laws.{has_ended}
 use Rattle.stream_model.specs.Meaning.{Lists, arrive, taking, with_list}
@@ -32,17 +32,17 @@ ended_there op done fault e =
 
 -- ---- what it gives
 
--- events after the end give nothing
+-- events stage_after the end give nothing
 pub same_out : (op : Operator) (p : ℕ) (done rest : List Event) → has_ended op done ≡ true → out op p (done ++ rest) ≡ out op p done
 same_out op p done rest h =
     ap (on_port p)
-    (gives_all-append (start op) done rest ∙ ap (λ outs. gives_all (start op) done ++ outs) (gives_all-over (after (start op) done) rest h)
+    (gives_all-append (start op) done rest ∙ ap (λ outs. gives_all (start op) done ++ outs) (gives_all-over (stage_after (start op) done) rest h)
     ∙ append-nil (gives_all (start op) done))
 
 -- ---- how it ends
 
 -- events that don't end it come before the end
-end_front : (op : Operator) (seen front events : List Event) → (after (stage_at op seen false) front).over ≡ false
+end_front : (op : Operator) (seen front events : List Event) → (stage_after (stage_at op seen false) front).over ≡ false
     → end_from (stage_at op seen false) (front ++ events) ≡ end_from (stage_at op (reverse front ++ seen) false) events
 end_front op seen [] events h = refl
 end_front op seen (e ∷ front) events h =
@@ -50,8 +50,8 @@ end_front op seen (e ∷ front) events h =
     ∙ ap (λ es. end_from (stage_at op es false) events)
     (sym (append_assoc (reverse front) (e ∷ []) seen) ∙ ap (λ es. es ++ seen) (sym (reverse-append (e ∷ []) front)))
   where
-    go : (x : Option Item) → (after (stage_at op (e ∷ seen) (is_some x)) front).over ≡ false
-        → ((after (stage_at op (e ∷ seen) false) front).over ≡ false
+    go : (x : Option Item) → (stage_after (stage_at op (e ∷ seen) (is_some x)) front).over ≡ false
+        → ((stage_after (stage_at op (e ∷ seen) false) front).over ≡ false
         → end_from (stage_at op (e ∷ seen) false) (front ++ events) ≡ end_from (stage_at op (reverse front ++ e ∷ seen) false) events)
         → option_or x (end_from (stage_at op (e ∷ seen) (is_some x)) (front ++ events)) ≡ end_from (stage_at op (reverse front ++ e ∷ seen) false) events
     go None q rest = rest q

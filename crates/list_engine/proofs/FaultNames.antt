@@ -9,15 +9,15 @@ use Rattle.std.proofs.lemmas.Option.{slice_get_within}
 use Rattle.spl_value.specs.declared.item.Fault.{Fault}
 use Rattle.spl_value.specs.declared.item.Item.{Item}
 use Rattle.spl_value.specs.declared.item.Item.TheVariants as I
-use Rattle.language_model.specs.declared.checked.Part.{Part}
-use Rattle.language_model.specs.declared.checked.Part.TheVariants as A
+use Rattle.language_model.specs.declared.checked.CheckedClauses.{CheckedClauses}
+use Rattle.language_model.specs.declared.checked.CheckedClauses.TheVariants as A
 use Rattle.language_model.specs.declared.outs.Output.{Output}
 use Rattle.stream_model.specs.Bodies.{on_each, output}
 use Rattle.stream_model.specs.Ends.{end_fault, end_from, fault_of, first_fault, is_read, operator_fault, stream_fault, unread_fault}
 use Rattle.stream_model.specs.Meaning.{Lists, Entries, Meaning, arrive, events_at, events_of, in_topo, lists_at, made_by, makes, meaning, streams_of, taking, with_list}
 use Rattle.stream_model.specs.Operators.{Operator, connections}
 use Rattle.stream_model.specs.PortEvents.{is_last, is_waiting}
-use Rattle.stream_model.specs.React.{Answer, Gives, Faults, answered, body, ended, own_fault, react}
+use Rattle.stream_model.specs.React.{Reaction, Gives, Faults, answered, body, ended, own_fault, react}
 use Rattle.stream_model.specs.Stages.{gives_all, next, on_port, out, start}
 use Rattle.stream_model.specs.Stream.{Event, came, closes, is_fault}
 use Rattle.stream_model.proofs.Closings.{end_item_law}
@@ -87,7 +87,7 @@ module _ (count : ℕ) (op : Operator) (named : op.number < count) where
   answered_within : (last : Bool) (earlier : List Event) (e : Event) → OutsWithin count (answered op last (body op earlier e))
   answered_within last earlier e = go last (body op earlier e) refl
     where
-      go : (l : Bool) (a : Answer) → body op earlier e ≡ a → OutsWithin count (answered op l a)
+      go : (l : Bool) (a : Reaction) → body op earlier e ≡ a → OutsWithin count (answered op l a)
       go l (Faults kind) q = each_within count (length op.outs) (own_fault op kind) named
       go true (Gives outs) q = outs_both count outs (on_each (length op.outs) I.Final) (open_outs count outs (body_law op earlier e outs q)) (each_within count (length op.outs) I.Final tt)
       go false (Gives outs) q = open_outs count outs (body_law op earlier e outs q)
@@ -187,7 +187,7 @@ AllNamed count rows (op ∷ ops) = Named count rows op × AllNamed count rows op
 made_within : (count : ℕ) (rows : Lists) (op : Operator) (p : ℕ) (events : List Event) → Named count rows op → EventsWithin count events → Within count (made_by op.clauses op p events (rows op.number))
 made_within count rows op p events h k = go op.clauses refl
   where
-    go : (part : Part) → op.clauses ≡ part → Within count (made_by part op p events (rows op.number))
+    go : (part : CheckedClauses) → op.clauses ≡ part → Within count (made_by part op p events (rows op.number))
     go (A.FileSource file strict) q = h.source file strict q
     go (A.FileSink file) q = out_within count op h.number p events k
     go (A.Filter condition) q = out_within count op h.number p events k

@@ -7,8 +7,8 @@ use Rattle.std.proofs.lemmas.List.Elements.{filter_map-append}
 use Rattle.std.proofs.lemmas.Option.{slice_get_within}
 use Rattle.spl_value.specs.declared.item.Fault.{Fault}
 use Rattle.spl_value.specs.declared.item.Item.{Item}
-use Rattle.language_model.specs.declared.checked.Part.{Part}
-use Rattle.language_model.specs.declared.checked.Part.TheVariants as A
+use Rattle.language_model.specs.declared.checked.CheckedClauses.{CheckedClauses}
+use Rattle.language_model.specs.declared.checked.CheckedClauses.TheVariants as A
 use Rattle.language_model.specs.CheckedGraph.{CheckedGraph}
 use Rattle.language_model.specs.Keeping.{Keeps, Once}
 use Rattle.stream_model.specs.Arrivals.{has_several}
@@ -53,7 +53,7 @@ position_is s xs p once at =
     ap (λ k. cond (nat_lt k (length xs)) (Some k) None) (place_is s xs p once at)
     ∙ ap (λ b. cond b (Some p) None) (lt-ltb p (length xs) (slice_get_within xs p s at))
 
-pub made_by_source : (part : Part) (o : Operator) (p : ℕ) (events : List Event) (rows : List Item) → is_source part ≡ true → made_by part o p events rows ≡ rows
+pub made_by_source : (part : CheckedClauses) (o : Operator) (p : ℕ) (events : List Event) (rows : List Item) → is_source part ≡ true → made_by part o p events rows ≡ rows
 made_by_source (A.FileSource file strict) o p events rows e = refl
 made_by_source (A.FileSink file) o p events rows e = absurd cc
 made_by_source (A.Filter condition) o p events rows e = absurd cc
@@ -65,7 +65,7 @@ made_by_source (A.Custom handlers) o p events rows e = absurd cc
 made_by_source (A.Aggregate window partition group output) o p events rows e = absurd cc
 made_by_source (A.Join left right condition output) o p events rows e = absurd cc
 
-made_by_other : (part : Part) (o : Operator) (p : ℕ) (events : List Event) (rows : List Item) → is_source part ≡ false → made_by part o p events rows ≡ out o p events
+made_by_other : (part : CheckedClauses) (o : Operator) (p : ℕ) (events : List Event) (rows : List Item) → is_source part ≡ false → made_by part o p events rows ≡ out o p events
 made_by_other (A.FileSource file strict) o p events rows e = absurd cc
 made_by_other (A.FileSink file) o p events rows e = refl
 made_by_other (A.Filter condition) o p events rows e = refl

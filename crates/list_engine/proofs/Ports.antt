@@ -9,8 +9,8 @@ use Rattle.std.proofs.lemmas.Option.{slice_get_within, slice_get-get_or}
 use Rattle.spl_tree.specs.declared.graph.Op.{Op}
 use Rattle.spl_tree.specs.declared.graph.OpKind.{OpKind}
 use Rattle.spl_tree.specs.declared.graph.Stream.{Stream}
-use Rattle.language_model.specs.declared.checked.Part.{Part}
-use Rattle.language_model.specs.declared.checked.Part.TheVariants as A
+use Rattle.language_model.specs.declared.checked.CheckedClauses.{CheckedClauses}
+use Rattle.language_model.specs.declared.checked.CheckedClauses.TheVariants as A
 use Rattle.language_model.specs.declared.scope.Scope.{Scope}
 use Rattle.language_model.specs.CheckedGraph.{CheckedGraph}
 use Rattle.language_model.specs.Checking.{fit_ports}
@@ -97,7 +97,7 @@ port_of c _ _ (K.one_port streams ins schema rest h hs) p i s e = elim (split_be
       })
 ]
 
-pub input_schema : (c : CheckedGraph) (m n : ℕ) (op : Op) (part : Part) → Keeps c → slice_get c.graph.ops n ≡ Some op → slice_get c.parts n ≡ Some part
+pub input_schema : (c : CheckedGraph) (m n : ℕ) (op : Op) (part : CheckedClauses) → Keeps c → slice_get c.graph.ops n ≡ Some op → slice_get c.parts n ≡ Some part
     → (i s : ℕ) → slice_get (concat op.ins) i ≡ Some s → input_attributes (operator_with c m op part) (port_at (ports (operator_with c m op part)) i) ≡ schema_at c s
 input_schema c m n op part k there has i s at =
     let fit = k.operators n op part there has in
@@ -125,7 +125,7 @@ both_of : (m n a b : ℕ) → (is_within (exactly a) m && is_within (exactly b) 
 both_of m n a b e =
     let parts = and_parts (is_within (exactly a) m) (is_within (exactly b) n) e in (is_exactly a m parts.0, is_exactly b n parts.1)
 
-pub some_port : (scope : Scope) (kind : OpKind) (ins outs : List Attributes) (part : Part) (m n : ℕ) → PartFits scope kind ins outs part → is_source part ≡ false → fit_ports kind m n ≡ true → 0 < m
+pub some_port : (scope : Scope) (kind : OpKind) (ins outs : List Attributes) (part : CheckedClauses) (m n : ℕ) → PartFits scope kind ins outs part → is_source part ≡ false → fit_ports kind m n ≡ true → 0 < m
 some_port scope _ _ _ _ m n (K.file_source file strict schema a b) s e = absurd cc
 some_port scope _ _ _ _ m n (K.file_sink file schema a b) s e = let is = (both_of m n 1 0 e).0 in omega (arith, is)
 some_port scope _ _ _ _ m n (K.filter condition schema a) s e = let is = (both_of m n 1 1 e).0 in omega (arith, is)
@@ -137,7 +137,7 @@ some_port scope _ _ _ _ m n (K.custom handlers ins outs a) s e = let least = at_
 some_port scope _ _ _ _ m n (K.aggregate window partition group output input schema a b d f h) s e = let is = (both_of m n 1 1 e).0 in omega (arith, is)
 some_port scope _ _ _ _ m n (K.join left right condition fields first second schema a b d f h i j) s e = let is = (both_of m n 2 1 e).0 in omega (arith, is)
 
-pub some_input : (c : CheckedGraph) (n : ℕ) (op : Op) (part : Part) → Keeps c → slice_get c.graph.ops n ≡ Some op → slice_get c.parts n ≡ Some part → is_source part ≡ false → 0 < length (concat op.ins)
+pub some_input : (c : CheckedGraph) (n : ℕ) (op : Op) (part : CheckedClauses) → Keeps c → slice_get c.graph.ops n ≡ Some op → slice_get c.parts n ≡ Some part → is_source part ≡ false → 0 < length (concat op.ins)
 some_input c n op part k there has other =
     let fit = k.operators n op part there has in
     some_connection c.schemas op.ins fit.ins fit.takes (some_port fit.scope op.kind fit.ins fit.outs part (length op.ins) (length op.outs) fit.clauses other fit.ports)
@@ -145,7 +145,7 @@ some_input c n op part k there has other =
 -- ---- outputs
 
 -- the tuples on an output port have the attributes of its stream
-no_sink : (scope : Scope) (kind : OpKind) (ins outs : List Attributes) (part : Part) (m n : ℕ) → PartFits scope kind ins outs part → fit_ports kind m n ≡ true → 0 < n
+no_sink : (scope : Scope) (kind : OpKind) (ins outs : List Attributes) (part : CheckedClauses) (m n : ℕ) → PartFits scope kind ins outs part → fit_ports kind m n ≡ true → 0 < n
     → (o : Operator) (p : ℕ) → given_attributes part o p ≡ output_attributes o p
 no_sink scope _ _ _ _ m n (K.file_source file strict schema a b) e lt o p = refl
 no_sink scope _ _ _ _ m n (K.file_sink file schema a b) e lt o p = absurd (let is = (both_of m n 1 0 e).1 in omega (arith, is, lt))
@@ -163,7 +163,7 @@ mapped f [] p s e = absurd cc
 mapped f (x ∷ xs) zero s e = let same : x ≡ s = cc in ap f same
 mapped f (x ∷ xs) (suc p) s e = mapped f xs p s e
 
-pub output_schema : (c : CheckedGraph) (m n : ℕ) (op : Op) (part : Part) → Keeps c → slice_get c.graph.ops n ≡ Some op → slice_get c.parts n ≡ Some part
+pub output_schema : (c : CheckedGraph) (m n : ℕ) (op : Op) (part : CheckedClauses) → Keeps c → slice_get c.graph.ops n ≡ Some op → slice_get c.parts n ≡ Some part
     → (p s : ℕ) → slice_get op.outs p ≡ Some s → given_attributes part (operator_with c m op part) p ≡ schema_at c s
 output_schema c m n op part k there has p s at =
     let fit = k.operators n op part there has in
@@ -185,12 +185,12 @@ out_within c k n op there s h =
     slice_get_within c.graph.streams s _ ((k.graph.made s (record { maker = n; port = h.0 })).1 (op, there, slice_get-get_or op.outs h.0 s h.1 ∙ ap (λ x. Some x) h.2))
 
 -- a source has one output
-pub source_out : (c : CheckedGraph) (n : ℕ) (op : Op) (part : Part) → Keeps c → slice_get c.graph.ops n ≡ Some op → slice_get c.parts n ≡ Some part → is_source part ≡ true
+pub source_out : (c : CheckedGraph) (n : ℕ) (op : Op) (part : CheckedClauses) → Keeps c → slice_get c.graph.ops n ≡ Some op → slice_get c.parts n ≡ Some part → is_source part ≡ true
     → (length op.outs ≡ 1) × (length op.ins ≡ 0)
 source_out c n op part k there has is =
     let fit = k.operators n op part there has in by_kind fit.scope op.kind fit.ins fit.outs part fit.clauses is fit.ports
   where
-    by_kind : (scope : Scope) (kind : OpKind) (ins outs : List Attributes) (part : Part) → PartFits scope kind ins outs part → is_source part ≡ true
+    by_kind : (scope : Scope) (kind : OpKind) (ins outs : List Attributes) (part : CheckedClauses) → PartFits scope kind ins outs part → is_source part ≡ true
         → fit_ports kind (length op.ins) (length op.outs) ≡ true → (length op.outs ≡ 1) × (length op.ins ≡ 0)
     by_kind scope _ _ _ _ (K.file_source file strict schema a b) s e = let both = both_of (length op.ins) (length op.outs) 0 1 e in (both.1, both.0)
     by_kind scope _ _ _ _ (K.file_sink file schema a b) s e = absurd cc
@@ -204,12 +204,12 @@ source_out c n op part k there has is =
     by_kind scope _ _ _ _ (K.join left right condition fields first second schema a b d f h i j) s e = absurd cc
 
 -- a sink has none
-pub sink_out : (c : CheckedGraph) (n : ℕ) (op : Op) (part : Part) (file : List ℕ) → Keeps c → slice_get c.graph.ops n ≡ Some op → slice_get c.parts n ≡ Some part → part ≡ A.FileSink file
+pub sink_out : (c : CheckedGraph) (n : ℕ) (op : Op) (part : CheckedClauses) (file : List ℕ) → Keeps c → slice_get c.graph.ops n ≡ Some op → slice_get c.parts n ≡ Some part → part ≡ A.FileSink file
     → length op.outs ≡ 0
 sink_out c n op part file k there has is =
     let fit = k.operators n op part there has in by_kind fit.scope op.kind fit.ins fit.outs part fit.clauses is fit.ports
   where
-    by_kind : (scope : Scope) (kind : OpKind) (ins outs : List Attributes) (part : Part) → PartFits scope kind ins outs part → part ≡ A.FileSink file
+    by_kind : (scope : Scope) (kind : OpKind) (ins outs : List Attributes) (part : CheckedClauses) → PartFits scope kind ins outs part → part ≡ A.FileSink file
         → fit_ports kind (length op.ins) (length op.outs) ≡ true → length op.outs ≡ 0
     by_kind scope _ _ _ _ (K.file_source own strict schema a b) s e = absurd cc
     by_kind scope _ _ _ _ (K.file_sink own schema a b) s e = (both_of (length op.ins) (length op.outs) 1 0 e).1

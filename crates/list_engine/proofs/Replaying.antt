@@ -1,4 +1,4 @@
--- The items of an operator's inputs as a record names them, or input after input.
+-- The items of an operator's inputs as a record names them, or input stage_after input.
 use Rattle.std.proofs.Common.{◌≡◌, ℕ, zero, suc, ◌<◌, ◌≤◌, ◌==◌, ◌&&◌, nat_lt, not, Bool, true, false, cond, List, [], ◌∷◌, ◌++◌, append_assoc, append-nil, map, refl, sym, ap, subst, ◌∙◌, length, length-append, reverse, slice_get, Option, Some, inl, inr, arith}
 use Rattle.std.specs.Prelude.{slice_set, IfOk, Result, Ok, Err}
 use Rattle.std.specs.Option.{unwrap_or}
@@ -16,7 +16,7 @@ use Rattle.stream_model.specs.Meaning.{Lists, arrive, taking, with_list}
 use Rattle.stream_model.specs.Operators.{Operator, input_attributes, port_at, ports}
 use Rattle.stream_model.specs.Records.{ends_at_last, finds_items, input_after_input, is_whole, names_inputs, up_to_end}
 use Rattle.stream_model.specs.Replies.{MayTake}
-use Rattle.stream_model.specs.Stages.{Stage, after, next, start}
+use Rattle.stream_model.specs.Stages.{Stage, stage_after, next, start}
 use Rattle.stream_model.specs.Stream.{Event, came, is_empty, TuplesFit}
 use Rattle.stream_model.proofs.Histories.{live_law}
 use Rattle.stream_model.proofs.OneAfterAnother.{arrive_from, events_from}
@@ -39,10 +39,10 @@ use Rattle.list_engine.proofs.Taking.{map_append}
 use Rattle.list_engine.proofs.Turns.{turns_from}
 use Rattle.list_engine.proofs.Advancing.{there_is}
 
--- ---- input after input
+-- ---- input stage_after input
 
 -- the events up to the first that ends an operator
-to_end : (s : Stage) (front : List Event) (last : Event) (rest : List Event) → (after s front).over ≡ false → (after s (front ++ last ∷ [])).over ≡ true
+to_end : (s : Stage) (front : List Event) (last : Event) (rest : List Event) → (stage_after s front).over ≡ false → (stage_after s (front ++ last ∷ [])).over ≡ true
     → up_to_end s (front ++ last ∷ rest) ≡ front ++ last ∷ []
 to_end s [] last rest before ended = ap (λ b. last ∷ cond b [] (up_to_end (next s last) rest)) ended
 to_end s (e ∷ front) last rest before ended = go (next s e).over refl (to_end (next s e) front last rest before ended)
@@ -50,7 +50,7 @@ to_end s (e ∷ front) last rest before ended = go (next s e).over refl (to_end 
     go : (b : Bool) → (next s e).over ≡ b → up_to_end (next s e) (front ++ last ∷ rest) ≡ front ++ last ∷ []
         → e ∷ cond b [] (up_to_end (next s e) (front ++ last ∷ rest)) ≡ e ∷ (front ++ last ∷ [])
     go true q r =
-        let stays : (after (next s e) front).over ≡ true = ap (λ (t : Stage). t.over) (after-over (next s e) front q) ∙ q in
+        let stays : (stage_after (next s e) front).over ≡ true = ap (λ (t : Stage). t.over) (after-over (next s e) front q) ∙ q in
         let clash : false ≡ true = sym before ∙ stays in
         absurd cc
     go false q r = ap (λ zs. e ∷ zs) r
@@ -154,18 +154,18 @@ not_found op l entries apart =
 not_ended : (op : Operator) (l : Lists) (entries : List ℕ) → ends_at_last (start op) (arrive l entries) ≡ false → is_whole op l entries ≡ false
 not_ended op l entries e = and_false (names_inputs op entries && finds_items l entries) (ends_at_last (start op) (arrive l entries)) e
 
-ends_never : (s : Stage) (events : List Event) → (after s events).over ≡ false → ends_at_last s events ≡ false
+ends_never : (s : Stage) (events : List Event) → (stage_after s events).over ≡ false → ends_at_last s events ≡ false
 ends_never s [] live = refl
 ends_never s (e ∷ events) live = go (next s e).over refl (ends_never (next s e) events live)
   where
     go : (b : Bool) → (next s e).over ≡ b → ends_at_last (next s e) events ≡ false → cond b (is_empty events) (ends_at_last (next s e) events) ≡ false
     go true q r =
-        let stays : (after (next s e) events).over ≡ true = ap (λ (t : Stage). t.over) (after-over (next s e) events q) ∙ q in
+        let stays : (stage_after (next s e) events).over ≡ true = ap (λ (t : Stage). t.over) (after-over (next s e) events q) ∙ q in
         let clash : false ≡ true = sym live ∙ stays in
         absurd cc
     go false q r = r
 
-ends_earlier : (s : Stage) (front : List Event) (x : Event) (rest : List Event) → s.over ≡ false → (after s front).over ≡ true → ends_at_last s (front ++ x ∷ rest) ≡ false
+ends_earlier : (s : Stage) (front : List Event) (x : Event) (rest : List Event) → s.over ≡ false → (stage_after s front).over ≡ true → ends_at_last s (front ++ x ∷ rest) ≡ false
 ends_earlier s [] x rest live over = absurd (let clash : false ≡ true = sym live ∙ over in cc)
 ends_earlier s (e ∷ front) x rest live over = go (next s e).over refl (λ q. ends_earlier (next s e) front x rest q over)
   where
@@ -188,7 +188,7 @@ arrive_more (i ∷ front) more l = go (l i) (λ items. arrive_more front more (w
     go [] rest = ([], refl)
     go (x ∷ xs) rest = let r = rest xs in (r.0, ap (λ es. came i x ∷ es) r.1)
 
--- a record that goes on after the end isn't whole
+-- a record that goes on stage_after the end isn't whole
 too_long : (op : Operator) (l : Lists) (front : List ℕ) (y : ℕ) (more : List ℕ) (done : List Event) → arrive l front ≡ done → inputs_of done ≡ front → has_ended op done ≡ true
     → is_whole op l (front ++ y ∷ more) ≡ false
 too_long op l front y more done takes inputs over =

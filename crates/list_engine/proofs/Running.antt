@@ -10,8 +10,8 @@ use Rattle.std.proofs.lemmas.Option.{slice_get_within}
 use Rattle.spl_value.specs.declared.item.Fault.{Fault}
 use Rattle.spl_value.specs.declared.item.Item.{Item}
 use Rattle.spl_tree.specs.declared.graph.Op.{Op}
-use Rattle.language_model.specs.declared.checked.Part.{Part}
-use Rattle.language_model.specs.declared.checked.Part.TheVariants as A
+use Rattle.language_model.specs.declared.checked.CheckedClauses.{CheckedClauses}
+use Rattle.language_model.specs.declared.checked.CheckedClauses.TheVariants as A
 use Rattle.language_model.specs.CheckedGraph.{CheckedGraph}
 use Rattle.language_model.specs.Keeping.{Keeps}
 use Rattle.stream_model.specs.Arrivals.{entries_in, has_several}
@@ -80,7 +80,7 @@ here_of c order g rows later n o state k e at st = record { keeps = k; graph = e
 
 -- ---- a source
 
-clauses_are : (part : Part) → is_source part ≡ true → (file : List ℕ) × (strict : Bool) × (part ≡ A.FileSource file strict)
+clauses_are : (part : CheckedClauses) → is_source part ≡ true → (file : List ℕ) × (strict : Bool) × (part ≡ A.FileSource file strict)
 clauses_are (A.FileSource file strict) e = (file, strict, refl)
 clauses_are (A.FileSink file) e = absurd cc
 clauses_are (A.Filter condition) e = absurd cc

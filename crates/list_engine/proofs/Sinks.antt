@@ -7,12 +7,12 @@ use Rattle.std.proofs.lemmas.List.Folds.{list_all-append}
 use Rattle.std.proofs.lemmas.List.Sums.{sum_by-cons}
 use Rattle.spl_value.specs.declared.item.Item.{Item}
 use Rattle.spl_value.specs.declared.item.Item.TheVariants as I
-use Rattle.language_model.specs.declared.checked.Part.TheVariants as A
+use Rattle.language_model.specs.declared.checked.CheckedClauses.TheVariants as A
 use Rattle.language_model.specs.declared.outs.Output.{Output}
 use Rattle.stream_model.specs.Bodies.{on_each, sink_body}
 use Rattle.stream_model.specs.Operators.{Operator, port_at, ports}
 use Rattle.stream_model.specs.PortEvents.{is_last, is_waiting, port_events}
-use Rattle.stream_model.specs.React.{Answer, Gives, Faults, answer, answered, body, ended, makes_by, own_fault, react}
+use Rattle.stream_model.specs.React.{Reaction, Gives, Faults, answer, answered, body, ended, makes_by, own_fault, react}
 use Rattle.stream_model.specs.Stages.{gives_all, next, on_port, out, start}
 use Rattle.stream_model.specs.Stream.{Event, is_fault, is_tuple}
 use Rattle.list_engine.specs.RunLaws.{SinkLaw}
@@ -42,7 +42,7 @@ counted (I.Window ∷ items) h = absurd (let clash : false ≡ true = h in cc)
 counted (I.Final ∷ items) h = absurd (let clash : false ≡ true = h in cc)
 counted (I.Bad f ∷ items) h = absurd (let clash : false ≡ true = h in cc)
 
-abbrev AnswersTuples : Answer → Type 0
+abbrev AnswersTuples : Reaction → Type 0
 AnswersTuples (Gives outs) = all_tuples outs ≡ true
 AnswersTuples (Faults kind) = Unit {0}
 
@@ -62,7 +62,7 @@ module _ (op : Operator) (file : List ℕ) (kind : op.clauses ≡ A.FileSink fil
   no_port : (x : Item) → on_each (length op.outs) x ≡ []
   no_port x = ap (λ outs. on_each (length outs) x) none
 
-  given_tuples : (last : Bool) (a : Answer) → AnswersTuples a → all_tuples (answered op last a) ≡ true
+  given_tuples : (last : Bool) (a : Reaction) → AnswersTuples a → all_tuples (answered op last a) ≡ true
   given_tuples last (Faults k) h = ap all_tuples (no_port (own_fault op k))
   given_tuples true (Gives outs) h = both_tuples outs (on_each (length op.outs) I.Final) h (ap all_tuples (no_port I.Final))
   given_tuples false (Gives outs) h = h

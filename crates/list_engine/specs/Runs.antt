@@ -2,8 +2,8 @@
 use Rattle.std.specs.Prelude.{◌≡◌, ℕ, Bool, true, false, List, [], length, Option, Some, None, slice_get}
 use Rattle.std.specs.Option.{unwrap_or}
 use Rattle.spl_value.specs.declared.item.Item.{Item}
-use Rattle.language_model.specs.declared.checked.Part.{Part}
-use Rattle.language_model.specs.declared.checked.Part.TheVariants as A
+use Rattle.language_model.specs.declared.checked.CheckedClauses.{CheckedClauses}
+use Rattle.language_model.specs.declared.checked.CheckedClauses.TheVariants as A
 use Rattle.stream_model.specs.Arrivals.{entries_in, has_several}
 use Rattle.stream_model.specs.Meaning.{Graph, Lists, Entries, Meaning, lists_at, meaning}
 use Rattle.stream_model.specs.Operators.{Operator, connections, output_attributes}
@@ -12,7 +12,7 @@ use Rattle.stream_model.specs.Stages.{out}
 use Rattle.stream_model.specs.Stream.{Event, is_closed, TuplesFit}
 use Rattle.list_engine.specs.declared.run.Run.{Run}
 
-abbrev pub is_source : Part → Bool
+abbrev pub is_source : CheckedClauses → Bool
 is_source (A.FileSource file strict) = true
 is_source _ = false
 

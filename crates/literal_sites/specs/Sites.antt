@@ -11,12 +11,12 @@ use Rattle.literal_sites.specs.declared.follow.Follow.{Follow}
 abbrev pub followed_in : Follow → Expr → Option Expr
 followed_in f = followed f.sites.now.unit.now f.sites.now.expansions.now f.number
 
-abbrev pub behind_at : ExpressionSite → Expr → Option Expr
-behind_at site = followed_in site.follow
+abbrev pub followed_at : ExpressionSite → Expr → Option Expr
+followed_at site = followed_in site.follow
 
 abbrev pub site_seen : ExpressionSite → Site
-site_seen site = record { scope = site.scope.now; follow = behind_at site }
+site_seen site = record { scope = site.scope.now; follow = followed_at site }
 
 -- the number literals that are the values of expressions there
 abbrev pub numbers_at : ExpressionSite → Numbers
-numbers_at site = number_literal site.scope.now (behind_at site)
+numbers_at site = number_literal site.scope.now (followed_at site)

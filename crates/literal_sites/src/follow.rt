@@ -1,9 +1,9 @@
 //! The expressions that are the values of `$` parameters.
 ghost use Rattle.std.specs.Prelude.{◌≡◌, length};
 ghost use Rattle.std.specs.Option.{option_copied};
-ghost use Rattle.language_model.specs.Literals.{behind, behind_in, followed, parameter_behind};
+ghost use Rattle.language_model.specs.Literals.{target, target_in, followed, parameter_target};
 ghost use Rattle.language_model.specs.SinkFiles.{arguments_of, heads_of};
-ghost use Rattle.literal_sites.specs.Following.{behind_seen};
+ghost use Rattle.literal_sites.specs.Following.{target_seen};
 ghost use Rattle.literal_sites.specs.Sites.{followed_in};
 
 use program_tables::{SiteTable, default_named, value_named};
@@ -26,7 +26,7 @@ impl<'u> Follow<'u> {
 
     /// The value of a `$` parameter, or an expression itself that is none. An argument is meant
     /// where the composite is invoked, so this goes out through the expansions.
-    pub fn behind<'e>(&self, expr: &'e Expr) -> Option<&'e Expr>
+    pub fn target<'e>(&self, expr: &'e Expr) -> Option<&'e Expr>
     where
         'u: 'e,
         ensures { option_copied result ≡ followed self.now.sites.now.unit.now self.now.sites.now.expansions.now self.now.number expr.now }
@@ -37,10 +37,10 @@ impl<'u> Follow<'u> {
         'expansions: while left > 0 {
             left -= 1;
             let expansion = self.sites.expansion(number)?;
-            let argument = match self.behind_in(expansion, expr) {
-                Behind::Here(found) => return Some(found),
-                Behind::Outside(argument) => argument,
-                Behind::Nowhere => return None,
+            let argument = match self.target_in(expansion, expr) {
+                Target::Here(found) => return Some(found),
+                Target::Outside(argument) => argument,
+                Target::Nowhere => return None,
             };
             let site = expansion.site?;
             number = site.expansion;
@@ -50,27 +50,27 @@ impl<'u> Follow<'u> {
     }
 
     /// The value of a `$` parameter in an expansion, or an expression itself that is none.
-    fn behind_in<'e>(&self, expansion: &Expansion, expr: &'e Expr) -> Behind<'e>
+    fn target_in<'e>(&self, expansion: &Expansion, expr: &'e Expr) -> Target<'e>
     where
         'u: 'e,
-        ensures { behind_seen result ≡ behind_in self.now.sites.now.unit.now self.now.sites.now.expansions.now expansion.now expr.now }
+        ensures { target_seen result ≡ target_in self.now.sites.now.unit.now self.now.sites.now.expansions.now expansion.now expr.now }
     {
         match expr.what.get() {
             ExprKind::Dollar(name) => {
-                parameter_behind(
+                parameter_target(
                     self.sites.heads(expansion),
                     self.sites.arguments(expansion),
                     name.as_slice(),
                 )
             }
-            _ => Behind::Here(expr),
+            _ => Target::Here(expr),
         }
     }
 }
 
 /// An expression that is no `$` parameter, or an argument, which is meant where the composite is
 /// invoked.
-enum Behind<'e> {
+enum Target<'e> {
     Here(&'e Expr),
     Outside(&'e Expr),
     Nowhere,
@@ -78,27 +78,27 @@ enum Behind<'e> {
 
 /// The value of a `$` parameter: its argument, or else its default, which may be a further one.
 /// There are no more of them than parameters, unless they lead back to themselves.
-fn parameter_behind<'e>(
+fn parameter_target<'e>(
     heads: &'e [CompositeParameter],
     arguments: &'e [Parameter],
     name: &'e [u8],
-) -> Behind<'e>
-    ensures { behind_seen result ≡ parameter_behind (length heads.now) heads.now arguments.now name.now }
+) -> Target<'e>
+    ensures { target_seen result ≡ parameter_target (length heads.now) heads.now arguments.now name.now }
 {
     let mut name = name;
     let mut left = heads.len();
     'defaults: while left > 0 {
         left -= 1;
         if let Some(argument) = value_named(arguments, name) {
-            return Behind::Outside(argument);
+            return Target::Outside(argument);
         }
         let Some(default) = default_named(heads, name) else {
-            return Behind::Nowhere;
+            return Target::Nowhere;
         };
         name = match default.what.get() {
             ExprKind::Dollar(other) => other.as_slice(),
-            _ => return Behind::Here(default),
+            _ => return Target::Here(default),
         };
     }
-    Behind::Nowhere
+    Target::Nowhere
 }

@@ -11,7 +11,7 @@ use Rattle.spl_tree.specs.declared.code.Code.TheVariants as V
 use Rattle.spl_tree.specs.declared.code.Code.TheOpen as C
 use Rattle.spl_tree.specs.declared.code.Code.TheFolds.{map-Code}
 use Rattle.spl_tree.specs.declared.code.Slot.{Slot}
-use Rattle.spl_tree.specs.declared.code.Taking.{Taking}
+use Rattle.spl_tree.specs.declared.code.Selector.{Selector}
 use Rattle.spl_tree.specs.declared.code.UnaryCode.{UnaryCode}
 use Rattle.language_model.specs.LogicTyping.{is_minus, is_plain, level_plain}
 use Rattle.language_model.proofs.PlainCodes.{plain_at}
@@ -43,7 +43,7 @@ of_tuple fs = plain_at (V.Tuple fs) (C.Tuple fs) (V.outs-Tuple fs) ∙ along fs
     along [] = refl
     along (f ∷ fs) = ap (λ b. is_plain f.1 && b) (along fs)
 
-pub of_select : (base : Code Slot) (ts : List (Taking (Code Slot))) → is_plain (V.Select base ts) ≡ false
+pub of_select : (base : Code Slot) (ts : List (Selector (Code Slot))) → is_plain (V.Select base ts) ≡ false
 of_select base ts = plain_at (V.Select base ts) (C.Select base ts) (V.outs-Select base ts)
 
 pub of_unary : (ops : List UnaryCode) (x : Code Slot) → is_plain (V.Unary ops x) ≡ (list_all is_minus ops && is_plain x)

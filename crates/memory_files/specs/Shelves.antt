@@ -1,6 +1,6 @@
 -- What a shelf in memory keeps: the files, the counts, and the numbers of the calls that are to fail.
 use Rattle.std.specs.Prelude.{◌≡◌, ◌+◌, ℕ, List, [], Option, Some, None, Bool, true, false, ◌||◌}
-use Rattle.feed_pour.specs.Counts.{Counts, OthersStay, no_counts}
+use Rattle.feed_pour.specs.Counts.{FaultCounts, OthersStay, no_counts}
 use Rattle.memory_files.specs.Failing.{is_to_fail}
 use Rattle.feed_pour.specs.Files.{counts_in}
 use Rattle.memory_files.specs.Plain.{or_empty}
@@ -32,7 +32,7 @@ abbrev pub lent_now : MemoryShelf → ℕ
 lent_now shelf = shelf.lent
 
 -- the four counts of each name
-abbrev pub counts_kept : MemoryShelf → List ℕ → Counts
+abbrev pub counts_kept : MemoryShelf → List ℕ → FaultCounts
 counts_kept shelf = counts_in shelf.tallies.items
 
 -- one value per name stays for each name

@@ -6,8 +6,8 @@ use Rattle.spl_value.specs.declared.types.SplType.TheOpen.{SplType-F}
 use Rattle.spl_value.specs.declared.types.SplType.TheViews.{out-SplType}
 use Rattle.spl_tree.specs.declared.code.Code.{Code}
 use Rattle.spl_tree.specs.declared.code.Slot.{Slot}
-use Rattle.spl_tree.specs.declared.code.Taking.{Taking}
-use Rattle.spl_tree.specs.declared.code.Taking.TheVariants as K
+use Rattle.spl_tree.specs.declared.code.Selector.{Selector}
+use Rattle.spl_tree.specs.declared.code.Selector.TheVariants as K
 use Rattle.language_model.specs.declared.scope.Typed.{Typed}
 use Rattle.language_model.specs.Scopes.{attribute_of}
 use Rattle.language_model.specs.Typing.{Found, after, level_index, member_typed, mismatch}
@@ -16,7 +16,7 @@ use Rattle.language_model.specs.declared.answer.TypeAnswer.TheVariants.{Refused,
 
 -- what is taken, with its type
 abbrev pub Taken : Type 0
-Taken = Taking (Code Slot) × SplType
+Taken = Selector (Code Slot) × SplType
 
 abbrev pub member_taken : ℕ → SplType-F SplType → ℕ → List ℕ → Found Taken
 member_taken base (T.Tuple schema) at name = member_typed at name (attribute_of schema name)
@@ -29,10 +29,10 @@ index_taken base at x (T.Map k t) = Ok (K.AtKey x.code, t)
 index_taken base at x _ = mismatch base
 
 -- it comes after what was taken before, and its type is answered
-abbrev pub behind : List (Taking (Code Slot)) → Found Taken → Found (List (Taking (Code Slot)) × SplType)
+abbrev pub behind : List (Selector (Code Slot)) → Found Taken → Found (List (Selector (Code Slot)) × SplType)
 behind old found = after found (λ x. Ok (old ++ x.0 ∷ [], x.1))
 
-abbrev pub Takes : Found Taken → List (Taking (Code Slot)) → List (Taking (Code Slot)) → Result SplType TypeAnswer → Type 0
+abbrev pub Takes : Found Taken → List (Selector (Code Slot)) → List (Selector (Code Slot)) → Result SplType TypeAnswer → Type 0
 Takes found old new (Ok t) = behind old found ≡ Ok (new, t)
 Takes found old new (Err (Refused refusal)) = found ≡ Err refusal
 Takes found old new (Err Memory) = Unit {0}

@@ -1,7 +1,7 @@
 //! The types and codes of expressions whose parts have theirs.
 ghost use Rattle.std.specs.Prelude.{◌≡◌, Ok};
 ghost use Rattle.spl_tree.specs.declared.code.Code.TheVariants as C;
-ghost use Rattle.spl_tree.specs.declared.code.Taking.TheVariants as K;
+ghost use Rattle.spl_tree.specs.declared.code.Selector.TheVariants as K;
 ghost use Rattle.spl_value.specs.declared.types.SplType.TheVariants as S;
 ghost use Rattle.spl_value.specs.declared.types.SplType.TheViews.{out-SplType};
 ghost use Rattle.spl_value.specs.declared.value.Value.TheVariants as V;
@@ -15,7 +15,7 @@ use language_model::{
     Takings, TypeAnswer, Typed, attribute_named, boxed_copy, mismatch, narrow, push_element,
     push_key, unknown,
 };
-use spl_tree::{Code, Number, Placed, Slot, Taking};
+use spl_tree::{Code, Number, Placed, Selector, Slot};
 use spl_value::{Attribute, Boxed, Bytes, Items, Name, SplType, Value, is_of_kind};
 use std::alloc::Global;
 
@@ -76,7 +76,7 @@ fn take_attribute(
     ensures { Takes (Ok (K.Member place, found.now.kind)) takings.old takings.new result }
 {
     let given = boxed_copy(alloc, &found.kind)?;
-    takings.push(Taking::Member(narrow(place)?))?;
+    takings.push(Selector::Member(narrow(place)?))?;
     Ok(given)
 }
 

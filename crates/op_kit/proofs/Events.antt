@@ -8,8 +8,8 @@ use Rattle.spl_value.specs.declared.item.Item.TheVariants as I
 use Rattle.spl_tree.specs.declared.code.Code.{Code}
 use Rattle.spl_tree.specs.declared.code.Slot.{Slot}
 use Rattle.language_model.specs.declared.checked.Handlers.{Handlers}
-use Rattle.language_model.specs.declared.checked.Part.{Part}
-use Rattle.language_model.specs.declared.checked.Part.TheVariants as A
+use Rattle.language_model.specs.declared.checked.CheckedClauses.{CheckedClauses}
+use Rattle.language_model.specs.declared.checked.CheckedClauses.TheVariants as A
 use Rattle.language_model.specs.declared.checked.Policy.{Policy}
 use Rattle.language_model.specs.declared.checked.Position.{Position}
 use Rattle.op_kit.specs.Kinds.{is_held}
@@ -32,7 +32,7 @@ use Rattle.stream_model.specs.Operators.{Operator, port_at, ports}
 use Rattle.stream_model.specs.PortEvents.{all_ended, is_last, is_over, is_waiting, port_ended, port_events}
 use Rattle.stream_model.specs.PortLaws.{PortEndLaw, WaitingLaw, has_connections, name_inputs}
 use Rattle.stream_model.specs.Bodies.{on_each}
-use Rattle.stream_model.specs.React.{Answer, Gives, Faults, answered, body, ended, ended_by, port_body, react}
+use Rattle.stream_model.specs.React.{Reaction, Gives, Faults, answered, body, ended, ended_by, port_body, react}
 use Rattle.stream_model.specs.Replies.{AllFit, IsTaken, MayTake, OutsFit, Replies, end_by, is_live}
 use Rattle.stream_model.specs.Fitting.{EventsFit, HistoryFits, IsFitting, ReactsFit, CheckedFits}
 use Rattle.port_reacts.specs.Bodies.{GoesOn}
@@ -63,10 +63,10 @@ by_ports_goes op (e ∷ h) live =
     let parts = and_parts (is_live op h) (is_none (ended op h e)) live in
     go (is_waiting op h e) refl parts.1 (by_ports_goes op h parts.0)
   where
-    a : Answer
+    a : Reaction
     a = port_body op (port_events op h) (port_at (ports op) e.input) e.item
 
-    ends : (f last : Bool) (a : Answer) → is_none (if f then Some e.item else ended_by op last a) ≡ true → is_none (if f then Some e.item else ended_by op false a) ≡ true
+    ends : (f last : Bool) (a : Reaction) → is_none (if f then Some e.item else ended_by op last a) ≡ true → is_none (if f then Some e.item else ended_by op false a) ≡ true
     ends true last a none = none
     ends false last (Gives outs) none = refl
     ends false last (Faults kind) none = none
@@ -148,7 +148,7 @@ pub not_last : (op : Operator) (h : List Event) (i : ℕ) (x : Item) → is_fina
 not_last op h i x none = ap (λ b. b && all_ended op (came i x ∷ h)) none
 
 -- the last one causes final markers after that
-react_last : (op : Operator) (h : List Event) (i : ℕ) (a : Answer) → is_waiting op h (came i I.Final) ≡ false → is_last op h (came i I.Final) ≡ true → body op h (came i I.Final) ≡ a
+react_last : (op : Operator) (h : List Event) (i : ℕ) (a : Reaction) → is_waiting op h (came i I.Final) ≡ false → is_last op h (came i I.Final) ≡ true → body op h (came i I.Final) ≡ a
     → (react op h (came i I.Final) ≡ answered op true a) × (ended op h (came i I.Final) ≡ ended_by op true a)
 react_last op h i a moves last is = (
   (λ j. if moves j then [] else answered op (last j) (is j)),
@@ -160,7 +160,7 @@ pub replies_last : (op : Operator) (h : List Event) (i : ℕ) (r result : Reply)
 replies_last op h i (R.Out outs) (R.Out given) moves last k ends = absurd ends
 replies_last op h i (R.Out outs) (R.Ended given fault) moves last k ends = by (body op h (came i I.Final)) refl k.0 k.1
   where
-    by : (a : Answer) → body op h (came i I.Final) ≡ a → outs ≡ answered op false a → ended_by op false a ≡ None → Replies op h (came i I.Final) (R.Ended given fault)
+    by : (a : Reaction) → body op h (came i I.Final) ≡ a → outs ≡ answered op false a → ended_by op false a ≡ None → Replies op h (came i I.Final) (R.Ended given fault)
     by (Gives own) is same none =
         let r = react_last op h i (Gives own) moves last is in
         (ends.0 ∙ ap (λ o. o ++ on_each (length op.outs) I.Final) same ∙ sym r.0, r.1 ∙ ap (λ f. Some (end_by f)) (sym ends.1))
@@ -168,7 +168,7 @@ replies_last op h i (R.Out outs) (R.Ended given fault) moves last k ends = by (b
 replies_last op h i (R.Out outs) R.Memory moves last k ends = tt
 replies_last op h i (R.Ended outs fault) result moves last k ends = subst (Replies op h (came i I.Final)) (sym ends) (by (body op h (came i I.Final)) refl k.0 k.1)
   where
-    by : (a : Answer) → body op h (came i I.Final) ≡ a → outs ≡ answered op false a → ended_by op false a ≡ Some (end_by fault) → Replies op h (came i I.Final) (R.Ended outs fault)
+    by : (a : Reaction) → body op h (came i I.Final) ≡ a → outs ≡ answered op false a → ended_by op false a ≡ Some (end_by fault) → Replies op h (came i I.Final) (R.Ended outs fault)
     by (Gives own) is same some = absurd cc
     by (Faults kind) is same some = let r = react_last op h i (Faults kind) moves last is in (same ∙ sym r.0, r.1 ∙ some)
 replies_last op h i R.Memory result moves last k ends = subst (Replies op h (came i I.Final)) (sym ends) tt
@@ -222,7 +222,7 @@ counts_stay op h e own open_of left none counts = record {
 -- ---- kinds
 
 -- a source isn't held
-pub not_held : (part : Part) (file : List ℕ) (strict : Bool) → part ≡ A.FileSource file strict → IsTrue (is_held part) → ⊥
+pub not_held : (part : CheckedClauses) (file : List ℕ) (strict : Bool) → part ≡ A.FileSource file strict → IsTrue (is_held part) → ⊥
 not_held part file strict is held = let bad : false ≡ true = sym (ap is_held is) ∙ held in cc
 
 -- ---- as they are asked
@@ -346,7 +346,7 @@ connected_ports schemas _ _ (K.one_port streams ports schema rest has more) = go
     go (t ∷ streams) later some = later
 
 -- each port of an operator of a checked graph has a connection
-pub connected : (c : CheckedGraph) (n : ℕ) (op : Op) (part : Part) → Keeps c → slice_get c.graph.ops n ≡ Some op → slice_get c.parts n ≡ Some part
+pub connected : (c : CheckedGraph) (n : ℕ) (op : Op) (part : CheckedClauses) → Keeps c → slice_get c.graph.ops n ≡ Some op → slice_get c.parts n ≡ Some part
     → has_connections (operator_with c n op part) ≡ true
 connected c n op part keeps there has = let fit = keeps.operators n op part there has in connected_ports c.schemas op.ins fit.ins fit.takes
 

@@ -3,8 +3,8 @@ use Prim.Native.Nat.{zero, suc}
 use Rattle.std.proofs.Common.{◌≡◌, ◌∙◌, ◌<◌, ◌≤◌, ◌+◌, ◌||◌, ◌++◌, ℕ, Bool, true, false, List, [], ◌∷◌, length, refl, sym, ap, subst, arith, inl, inr, slice_get, Option, Some, None, IsTrue}
 use Rattle.std.proofs.lemmas.List.{length_push}
 use Rattle.spl_value.proofs.Lists.{append_cases, get_below, get_within}
-use Rattle.language_model.specs.declared.checked.Part.{Part}
-use Rattle.language_model.specs.declared.checked.Part.TheVariants as A
+use Rattle.language_model.specs.declared.checked.CheckedClauses.{CheckedClauses}
+use Rattle.language_model.specs.declared.checked.CheckedClauses.TheVariants as A
 use Rattle.language_model.specs.CheckedGraph.{CheckedGraph}
 use Rattle.language_model.specs.Keeping.{Keeps}
 use Rattle.stream_model.specs.CheckedMeaning.{graph_of}
@@ -18,16 +18,16 @@ use Rattle.stream_model.proofs.GraphParts.{same_length, operator_at}
 
 -- ---- one operator
 
-same_part : (x y : Part) → Some x ≡ Some y → x ≡ y
+same_part : (x y : CheckedClauses) → Some x ≡ Some y → x ≡ y
 same_part x y e = cc
 
-pub fresh_source : {S : Type 0} (spec : S → Operator) (stands : S → List Event → Type 0) (c : CheckedGraph) (n : ℕ) (own : Part) (file : List ℕ) (strict : Bool) → slice_get c.parts n ≡ Some own
+pub fresh_source : {S : Type 0} (spec : S → Operator) (stands : S → List Event → Type 0) (c : CheckedGraph) (n : ℕ) (own : CheckedClauses) (file : List ℕ) (strict : Bool) → slice_get c.parts n ≡ Some own
     → own ≡ A.FileSource file strict → IsFresh spec stands c n None
 fresh_source spec stands c n own file strict has is part there =
     let same : part ≡ A.FileSource file strict = same_part part own (sym there ∙ has) ∙ is in
     subst (λ (b : Bool). FreshAs spec stands c n b None) (sym (ap is_source same)) tt
 
-not_source : (part : Part) → ((file : List ℕ) (strict : Bool) → part ≡ A.FileSource file strict → ⊥) → is_source part ≡ false
+not_source : (part : CheckedClauses) → ((file : List ℕ) (strict : Bool) → part ≡ A.FileSource file strict → ⊥) → is_source part ≡ false
 not_source (A.FileSource file strict) other = absurd (other file strict refl)
 not_source (A.FileSink file) other = refl
 not_source (A.Filter condition) other = refl
@@ -39,13 +39,13 @@ not_source (A.Custom handlers) other = refl
 not_source (A.Aggregate window partition group output) other = refl
 not_source (A.Join left right condition output) other = refl
 
-pub fresh_other : {S : Type 0} (spec : S → Operator) (stands : S → List Event → Type 0) (c : CheckedGraph) (n : ℕ) (own : Part) (s : S) → slice_get c.parts n ≡ Some own
+pub fresh_other : {S : Type 0} (spec : S → Operator) (stands : S → List Event → Type 0) (c : CheckedGraph) (n : ℕ) (own : CheckedClauses) (s : S) → slice_get c.parts n ≡ Some own
     → ((file : List ℕ) (strict : Bool) → own ≡ A.FileSource file strict → ⊥) → slice_get (graph_of c).ops n ≡ Some (spec s) → stands s [] → IsFresh spec stands c n (Some s)
 fresh_other spec stands c n own s has other is begins part there =
     let none : is_source part ≡ false = ap is_source (same_part part own (sym there ∙ has)) ∙ not_source own other in
     subst (λ (b : Bool). FreshAs spec stands c n b (Some s)) (sym none) (is, begins)
 
-held : (part : Part) → is_source part ≡ false → IsTrue (is_held part)
+held : (part : CheckedClauses) → is_source part ≡ false → IsTrue (is_held part)
 held (A.FileSource file strict) e = cc
 held (A.FileSink file) e = refl
 held (A.Filter condition) e = refl
@@ -58,8 +58,8 @@ held (A.Aggregate window partition group output) e = refl
 held (A.Join left right condition output) e = refl
 
 -- what is no source is held
-pub is_there : (c : CheckedGraph) (n : ℕ) (own : Part) → slice_get c.parts n ≡ Some own → ((file : List ℕ) (strict : Bool) → own ≡ A.FileSource file strict → ⊥)
-    → (part : Part) → slice_get c.parts n ≡ Some part → IsTrue (is_held part)
+pub is_there : (c : CheckedGraph) (n : ℕ) (own : CheckedClauses) → slice_get c.parts n ≡ Some own → ((file : List ℕ) (strict : Bool) → own ≡ A.FileSource file strict → ⊥)
+    → (part : CheckedClauses) → slice_get c.parts n ≡ Some part → IsTrue (is_held part)
 is_there c n own has other part there = held part (ap is_source (same_part part own (sym there ∙ has)) ∙ not_source own other)
 
 -- ---- one after the other
@@ -117,4 +117,4 @@ all_made {S = S} spec stands c operators keeps made g e = record {
         let size = made.size in
         let o = get_below operators n (omega (arith, within, size)) in
         let clauses : op.clauses ≡ is.part = ap (λ (x : Operator). x.clauses) is.same in
-        (o.0, o.1, by_kind spec stands c n (is_source op.clauses) o.0 (subst (λ (p : Part). FreshAs spec stands c n (is_source p) o.0) (sym clauses) (made.each n o.0 o.1 is.part is.has)))
+        (o.0, o.1, by_kind spec stands c n (is_source op.clauses) o.0 (subst (λ (p : CheckedClauses). FreshAs spec stands c n (is_source p) o.0) (sym clauses) (made.each n o.0 o.1 is.part is.has)))

@@ -6,7 +6,7 @@ ghost use Rattle.list_engine.specs.Runs.{AreOperators};
 ghost use Rattle.op_kit.specs.steps.Fresh.{IsFresh};
 
 use crate::operator::Operator;
-use language_model::{Checked, Part};
+use language_model::{Checked, CheckedClauses};
 use spl_value::{Items, NoMemory};
 use std::alloc::Global;
 use stream_model::React;
@@ -23,7 +23,7 @@ fn operator_at<'c>(
     let Some(part) = checked.parts.get(number as usize) else {
         unreachable!()
     };
-    if let Part::FileSource { .. } = part {
+    if let CheckedClauses::FileSource { .. } = part {
         return Ok(None);
     }
     let operator = Operator::new(alloc, checked, number)?;

@@ -7,7 +7,7 @@ use Rattle.spl_value.specs.declared.types.SplType.{SplType}
 use Rattle.spl_tree.specs.Grammar.{Expr}
 use Rattle.spl_tree.specs.declared.expression.Field.{Field}
 use Rattle.spl_tree.specs.declared.unit.OutputAssignments.{OutputAssignments}
-use Rattle.language_model.specs.declared.checked.Gathers.{Gathers}
+use Rattle.language_model.specs.declared.checked.CollectorCall.{CollectorCall}
 use Rattle.language_model.specs.OutputTyping.{Assigned, Assigns, Fills, assignment_typing, assignments_typing, collected, filled_from, is_assigned, places, rows_typing}
 use Rattle.language_model.specs.Typing.{Found, after, unknown}
 use Rattle.language_model.specs.declared.answer.TypeAnswer.{TypeAnswer}
@@ -105,7 +105,7 @@ module _ {A : Type 0} (fills : Fills A) (front : Assigned A) (schema : List (Nam
 
 -- ---- groups
 
-pub collected_on : (xs : Assigned Gathers) (x : ℕ × Gathers)
+pub collected_on : (xs : Assigned CollectorCall) (x : ℕ × CollectorCall)
     → collected (xs ++ x ∷ []) ≡ collected xs ++ record { attribute = x.0; collector = x.1.collector; argument = x.1.argument } ∷ []
 collected_on [] x = refl
 collected_on (y ∷ xs) x = ap (λ l. record { attribute = y.0; collector = y.1.collector; argument = y.1.argument } ∷ l) (collected_on xs x)

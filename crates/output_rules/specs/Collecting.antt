@@ -6,7 +6,7 @@ use Rattle.spl_value.specs.declared.types.SplType.TheOpen.{SplType-F}
 use Rattle.spl_tree.specs.Grammar.{Expr}
 use Rattle.language_model.specs.declared.checked.Collector.{Collector}
 use Rattle.language_model.specs.declared.checked.Collector.TheVariants as K
-use Rattle.language_model.specs.declared.checked.Gathers.{Gathers}
+use Rattle.language_model.specs.declared.checked.CollectorCall.{CollectorCall}
 use Rattle.language_model.specs.OutputTyping.{Collecting, Summing, Extreme, Choosing, Counting}
 use Rattle.language_model.specs.Typing.{Found, int32, wrong_call}
 use Rattle.output_rules.specs.declared.outputs.groups.Collecting.{Collecting as Function}
@@ -27,6 +27,6 @@ collector_on (Choosing collector) _ = Some collector
 collector_on _ _ = None
 
 -- the number of tuples, of no arguments
-abbrev pub counted : ℕ → List Expr → Found Gathers
+abbrev pub counted : ℕ → List Expr → Found CollectorCall
 counted at [] = Ok (record { collector = K.Count; argument = None; kind = int32 })
 counted at es = wrong_call at

@@ -5,7 +5,7 @@ ghost use Rattle.std.specs.Str.{is_utf8};
 ghost use Rattle.spl_tree.specs.declared.expression.ExprKind.TheViews.{out-ExprKind};
 ghost use Rattle.language_model.specs.Literals.{file_or_mismatch, file_typing, is_file_name, text_at};
 ghost use Rattle.language_model.specs.Finds.{Finds};
-ghost use Rattle.literal_sites.specs.Sites.{behind_at};
+ghost use Rattle.literal_sites.specs.Sites.{followed_at};
 
 use language_model::{TypeAnswer, mismatch};
 use literal_sites::ExpressionSite;
@@ -21,13 +21,13 @@ pub(crate) fn file_name(
     site: &ExpressionSite,
     expr: &Expr,
 ) -> Result<Bytes, TypeAnswer>
-    ensures { Finds (file_typing site.now.scope.now (behind_at site.now) expr.now) result }
+    ensures { Finds (file_typing site.now.scope.now (followed_at site.now) expr.now) result }
 {
     match expr.what.get() {
         ExprKind::Text(bytes) => file_or_mismatch(alloc, expr.at, bytes.as_slice()),
         ExprKind::Dollar(_) => {
             type_of(alloc, site.scope, expr, Some(&SplType::Text))?;
-            text_at(alloc, expr.at, site.follow.behind(expr))
+            text_at(alloc, expr.at, site.follow.target(expr))
         }
         _ => Err(mismatch(expr.at)),
     }

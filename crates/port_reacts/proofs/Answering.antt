@@ -11,7 +11,7 @@ use Rattle.stream_model.specs.Stream.{Event, came}
 use Rattle.stream_model.specs.Operators.{Operator}
 use Rattle.stream_model.specs.Bodies.{Makes}
 use Rattle.stream_model.specs.PathLaws.{fault_by}
-use Rattle.stream_model.specs.React.{Answer, Gives, Faults, answer}
+use Rattle.stream_model.specs.React.{Reaction, Gives, Faults, answer}
 use Rattle.stream_model.specs.Replies.{IsTaken}
 use Rattle.port_reacts.specs.Bodies.{EndsBy, RepliesTo}
 use Rattle.port_reacts.specs.PortReplies.{RepliesAt, WhereOut, goes_on}
@@ -41,7 +41,7 @@ both_out (R.Ended outs fault) P Q S p q f = tt
 both_out R.Memory P Q S p q f = tt
 
 -- for lack of memory nothing is said
-pub memory_replies : (number ports : ℕ) (a : Answer) → RepliesTo number ports a R.Memory
+pub memory_replies : (number ports : ℕ) (a : Reaction) → RepliesTo number ports a R.Memory
 memory_replies number ports (Gives outs) = tt
 memory_replies number ports (Faults kind) = tt
 

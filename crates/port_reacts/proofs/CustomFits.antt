@@ -12,8 +12,8 @@ use Rattle.spl_tree.specs.declared.code.Marker.{Marker}
 use Rattle.spl_tree.specs.declared.code.Marker.TheVariants as M
 use Rattle.spl_tree.specs.declared.graph.OpKind.{OpKind}
 use Rattle.language_model.specs.declared.checked.Handlers.{Handlers}
-use Rattle.language_model.specs.declared.checked.Part.{Part}
-use Rattle.language_model.specs.declared.checked.Part.TheVariants as A
+use Rattle.language_model.specs.declared.checked.CheckedClauses.{CheckedClauses}
+use Rattle.language_model.specs.declared.checked.CheckedClauses.TheVariants as A
 use Rattle.language_model.specs.declared.checked.StateVariable.{StateVariable}
 use Rattle.language_model.specs.declared.outs.Output.{Output}
 use Rattle.language_model.specs.declared.scope.Port.{Port}
@@ -43,7 +43,7 @@ use Rattle.stream_model.proofs.SimpleFits.{as_makes}
 -- ---- the handlers
 
 -- where the clauses are handlers, these fit
-pub handlers_fit : (scope : Scope) (kind : OpKind) (ins outs : List Attributes) (part : Part) (handlers : Handlers) → PartFits scope kind ins outs part
+pub handlers_fit : (scope : Scope) (kind : OpKind) (ins outs : List Attributes) (part : CheckedClauses) (handlers : Handlers) → PartFits scope kind ins outs part
     → part ≡ A.Custom handlers → HandlersFit scope outs handlers
 handlers_fit scope kind ins outs part handlers (custom own _ _ fit) is = let same : own ≡ handlers = cc in subst (HandlersFit scope outs) same fit
 handlers_fit scope kind ins outs part handlers _ is = absurd cc
@@ -194,7 +194,7 @@ item_has schema I.Window h = tt
 item_has schema I.Final h = tt
 item_has schema (I.Bad f) h = tt
 
-given_by : (op : Operator) (part : Part) → is_custom part ≡ true → (p : ℕ) → given_attributes part op p ≡ unwrap_or (slice_get op.types.outs p) []
+given_by : (op : Operator) (part : CheckedClauses) → is_custom part ≡ true → (p : ℕ) → given_attributes part op p ≡ unwrap_or (slice_get op.types.outs p) []
 given_by op (A.Custom handlers) is p = refl
 given_by op _ is p = absurd cc
 
@@ -215,6 +215,6 @@ custom_makes op handlers h port x kind fit history has =
 -- a Custom whose clauses fit makes what fits, or gives a fault
 pub custom_fits : FitsAt is_custom
 custom_fits op h port x kind fit history calm has = by_case op.clauses refl kind where
-  by_case : (part : Part) → op.clauses ≡ part → is_custom part ≡ true → MakesFit op (makes_by part op h port x)
+  by_case : (part : CheckedClauses) → op.clauses ≡ part → is_custom part ≡ true → MakesFit op (makes_by part op h port x)
   by_case (A.Custom handlers) is holds = custom_makes op handlers h port x kind (fitted op handlers fit is) history has
   by_case _ is holds = absurd cc

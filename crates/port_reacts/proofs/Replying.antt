@@ -9,7 +9,7 @@ use Rattle.stream_model.specs.declared.reply.Reply.TheVariants as R
 use Rattle.stream_model.specs.Stream.{Event, is_fault}
 use Rattle.stream_model.specs.Operators.{Operator}
 use Rattle.stream_model.specs.Bodies.{Makes, on_each, output}
-use Rattle.stream_model.specs.React.{Answer, Gives, Faults, answer, answered, ended_by, makes_by, port_body}
+use Rattle.stream_model.specs.React.{Reaction, Gives, Faults, answer, answered, ended_by, makes_by, port_body}
 use Rattle.stream_model.specs.Replies.{AllFit, OutsFit, end_by}
 use Rattle.stream_model.specs.Fitting.{FitsAt, MakesFit, NoneFaulted, is_given}
 use Rattle.stream_model.proofs.SimpleFits.{both_fit, none_fit, one_fits}
@@ -29,7 +29,7 @@ replies_at op h port x r k = by_item x r k
     by_fault f (R.Ended outs fault) k = (k.0, ap (λ g. Some (end_by g)) (sym k.1))
     by_fault f R.Memory k = tt
 
-    by_answer : (x : Item) → is_fault x ≡ false → (a : Answer) (r : Reply) → port_body op h port x ≡ a → RepliesTo op.number (length op.outs) a r → RepliesAt op h port x r
+    by_answer : (x : Item) → is_fault x ≡ false → (a : Reaction) (r : Reply) → port_body op h port x ≡ a → RepliesTo op.number (length op.outs) a r → RepliesAt op h port x r
     by_answer x calm (Gives outs) (R.Out given) is k = (
       k ∙ sym (λ i. if calm i then on_each (length op.outs) x else answered op false (is i)),
       (λ i. if calm i then Some x else ended_by op false (is i)),
@@ -50,7 +50,7 @@ replies_at op h port x r k = by_item x r k
     by_item (I.Bad f) r k = by_fault f r k
 
 -- where the clauses are these, the body makes of an item what these make of it
-pub replies_by : (op : Operator) (h : List Event) (port : ℕ) (x : Item) (r : Reply) (a : Answer) → port_body op h port x ≡ a → RepliesToItem op.number (length op.outs) a x r
+pub replies_by : (op : Operator) (h : List Event) (port : ℕ) (x : Item) (r : Reply) (a : Reaction) → port_body op h port x ≡ a → RepliesToItem op.number (length op.outs) a x r
     → RepliesAt op h port x r
 replies_by op h port x r a is k = replies_at op h port x r (subst (λ b. RepliesToItem op.number (length op.outs) b x r) (sym is) k)
 
@@ -63,7 +63,7 @@ none_faulted op (e ∷ h) goes =
     let parts = and_parts (goes_on op h) (is_none (ends_at op h e.input e.item)) goes in
     (by (is_fault e.item) (port_body op h e.input e.item) parts.1, none_faulted op h parts.0)
   where
-    by : (f : Bool) (a : Answer) → is_none (if f then Some e.item else ended_by op false a) ≡ true → is_given a ≡ true
+    by : (f : Bool) (a : Reaction) → is_none (if f then Some e.item else ended_by op false a) ≡ true → is_given a ≡ true
     by true a none = absurd (let no : false ≡ true = none in cc)
     by false (Gives outs) none = refl
     by false (Faults kind) none = absurd (let no : false ≡ true = none in cc)

@@ -9,7 +9,7 @@ use Rattle.std.proofs.lemmas.List.Folds.{concat-append}
 use Rattle.std.proofs.lemmas.Option.{slice_get-get_or}
 use Rattle.spl_value.proofs.Lists.{set_elsewhere, set_here, take_at, item_there}
 use Rattle.spl_tree.specs.declared.graph.Op.{Op}
-use Rattle.language_model.specs.declared.checked.Part.{Part}
+use Rattle.language_model.specs.declared.checked.CheckedClauses.{CheckedClauses}
 use Rattle.language_model.specs.CheckedGraph.{CheckedGraph}
 use Rattle.language_model.specs.Keeping.{Keeps}
 use Rattle.stream_model.specs.CheckedMeaning.{graph_of, operators_from}
@@ -80,7 +80,7 @@ ports_more ports i port lt e =
 
 -- ---- the operators of a graph
 
-connections_from : (c : CheckedGraph) (from : ℕ) (ops : List Op) (parts : List Part) → length parts ≡ length ops
+connections_from : (c : CheckedGraph) (from : ℕ) (ops : List Op) (parts : List CheckedClauses) → length parts ≡ length ops
     → map connections (operators_from c from ops parts) ≡ map (λ (op : Op). concat op.ins) ops
 connections_from c from [] parts same = refl
 connections_from c from (op ∷ ops) [] same = absurd (omega arith)

@@ -9,9 +9,9 @@ use Rattle.std.proofs.lemmas.List.{map-append}
 use Rattle.std.proofs.lemmas.List.Folds.{list_all-append}
 use Rattle.spl_value.proofs.Lists.{append_cases, get_below, get_within}
 use Rattle.spl_tree.specs.declared.graph.Op.{Op}
-use Rattle.language_model.specs.declared.checked.Collected.{Collected}
-use Rattle.language_model.specs.declared.checked.Part.{Part}
-use Rattle.language_model.specs.declared.checked.Part.TheVariants as A
+use Rattle.language_model.specs.declared.checked.CollectedAttribute.{CollectedAttribute}
+use Rattle.language_model.specs.declared.checked.CheckedClauses.{CheckedClauses}
+use Rattle.language_model.specs.declared.checked.CheckedClauses.TheVariants as A
 use Rattle.language_model.specs.CheckedGraph.{CheckedGraph}
 use Rattle.attribute_flow.specs.Chains.{AreNumbers, traced}
 use Rattle.stream_model.specs.declared.plan.Merge.TheVariants as M
@@ -83,7 +83,7 @@ traced_last g ns n o a at =
     ∙ trace_last (clauses (ops_of g ns)) o.clauses a
 
 -- a Keyed operator passes its keys alone
-kept_key : (partition : List ℕ) (x : Collected) (b : ℕ) → kept_source partition x ≡ Some b → list_any (λ p. p == b) partition ≡ true
+kept_key : (partition : List ℕ) (x : CollectedAttribute) (b : ℕ) → kept_source partition x ≡ Some b → list_any (λ p. p == b) partition ≡ true
 kept_key partition x b h = by_case (picks x.collector) h where
   by_place : (q : Bool) (d : ℕ) → list_any (λ p. p == d) partition ≡ q → (if q then Some d else None) ≡ Some b → list_any (λ p. p == b) partition ≡ true
   by_place true d e h = let same : d ≡ b = cc in subst (λ d. list_any (λ p. p == d) partition ≡ true) same e
@@ -99,7 +99,7 @@ kept_key partition x b h = by_case (picks x.collector) h where
   by_case true h = by_source (option_and_then attribute_alone x.argument) h
   by_case false h = absurd cc
 
-collected_key : (partition : List ℕ) (xs : List Collected) (a b : ℕ) → aggregate_source partition xs a ≡ Some b → list_any (λ p. p == b) partition ≡ true
+collected_key : (partition : List ℕ) (xs : List CollectedAttribute) (a b : ℕ) → aggregate_source partition xs a ≡ Some b → list_any (λ p. p == b) partition ≡ true
 collected_key partition [] a b h = absurd cc
 collected_key partition (x ∷ xs) a b h = by_case (λ k. collected_key partition xs a b k) (x.attribute == a) h where
   by_case : (aggregate_source partition xs a ≡ Some b → list_any (λ p. p == b) partition ≡ true) → (q : Bool)
@@ -107,7 +107,7 @@ collected_key partition (x ∷ xs) a b h = by_case (λ k. collected_key partitio
   by_case rest true h = kept_key partition x b h
   by_case rest false h = rest h
 
-keyed_source : (part : Part) (places : List ℕ) (a b : ℕ) → state_of part ≡ K.Keyed places → source_of part a ≡ Some b → list_any (λ p. p == b) places ≡ true
+keyed_source : (part : CheckedClauses) (places : List ℕ) (a b : ℕ) → state_of part ≡ K.Keyed places → source_of part a ≡ Some b → list_any (λ p. p == b) places ≡ true
 keyed_source (A.FileSource file strict) places a b is h = absurd cc
 keyed_source (A.FileSink file) places a b is h = absurd cc
 keyed_source (A.Filter condition) places a b is h = absurd cc

@@ -8,7 +8,7 @@ use Rattle.std.proofs.lemmas.Bool.{cases_eq, eq-eqb}
 use Rattle.std.proofs.lemmas.List.Elements.{filter-append}
 use Rattle.std.proofs.lemmas.List.Folds.{list_any-append}
 use Rattle.spl_value.proofs.Lists.{any_map}
-use Rattle.language_model.specs.declared.checked.Part.{Part}
+use Rattle.language_model.specs.declared.checked.CheckedClauses.{CheckedClauses}
 use Rattle.stream_model.specs.declared.plan.StateKind.{StateKind}
 use Rattle.stream_model.specs.declared.plan.StateKind.TheVariants as K
 use Rattle.stream_model.specs.Copies.{source_of, trace}
@@ -46,7 +46,7 @@ filter_twice f h (x ∷ xs) = by_case (filter_twice f h xs) (h x) where
 
 -- ---- copies along a chain
 
-abbrev pub clauses : List Operator → List Part
+abbrev pub clauses : List Operator → List CheckedClauses
 clauses ops = map (λ (op : Operator). op.clauses) ops
 
 have_more : (source : ℕ → Option ℕ) (ops : List Operator) (o : Operator) (a : ℕ)

@@ -7,7 +7,7 @@ use Rattle.std.proofs.Common.{refl, sym, ap, ◌∙◌, subst, arith, append_ass
 use Rattle.spl_value.proofs.Lists.{contains_here, get_below, get_within}
 use Rattle.spl_tree.specs.declared.graph.OpKind.{OpKind}
 use Rattle.spl_tree.specs.declared.graph.Stream.{Stream}
-use Rattle.language_model.specs.declared.checked.Part.{Part}
+use Rattle.language_model.specs.declared.checked.CheckedClauses.{CheckedClauses}
 use Rattle.language_model.specs.declared.scope.Scope.{Scope}
 use Rattle.language_model.specs.CheckedGraph.{CheckedGraph}
 use Rattle.language_model.specs.Keeping.{Keeps, PartFits}
@@ -94,7 +94,7 @@ aggregate_keyed true false partition places h = absurd cc
 aggregate_keyed false q partition places h = absurd cc
 
 -- a Keyed operator has a key among its attributes
-first_key : (scope : Scope) (kind : OpKind) (ins outs : List Attributes) (part : Part) (places : List ℕ) → PartFits scope kind ins outs part → state_of part ≡ S.Keyed places
+first_key : (scope : Scope) (kind : OpKind) (ins outs : List Attributes) (part : CheckedClauses) (places : List ℕ) → PartFits scope kind ins outs part → state_of part ≡ S.Keyed places
     → (p : ℕ) × (slice_get places 0 ≡ Some p) × (p < length (unwrap_or (slice_get ins 0) []))
 first_key scope _ _ _ _ places (K.file_source file strict schema a b) is = absurd cc
 first_key scope _ _ _ _ places (K.file_sink file schema a b) is = absurd cc

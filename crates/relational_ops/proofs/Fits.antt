@@ -13,8 +13,8 @@ use Rattle.spl_tree.specs.declared.code.Code.TheVariants as C
 use Rattle.spl_tree.specs.declared.code.Slot.{Slot}
 use Rattle.spl_tree.specs.declared.graph.OpKind.{OpKind}
 use Rattle.spl_tree.specs.declared.graph.OpKind.TheVariants as O
-use Rattle.language_model.specs.declared.checked.Part.{Part}
-use Rattle.language_model.specs.declared.checked.Part.TheVariants as A
+use Rattle.language_model.specs.declared.checked.CheckedClauses.{CheckedClauses}
+use Rattle.language_model.specs.declared.checked.CheckedClauses.TheVariants as A
 use Rattle.language_model.specs.declared.checked.Position.{Position}
 use Rattle.language_model.specs.declared.scope.Scope.{Scope}
 use Rattle.language_model.specs.Checking.{fit_ports}
@@ -68,7 +68,7 @@ of_tuple op port (I.Bad f) P has each = tt
 
 -- ---- the clauses of each kind
 
-filter_clauses : (scope : Scope) (kind : OpKind) (ins outs : List Attributes) (part : Part) (condition : Option (Code Slot)) → PartFits scope kind ins outs part
+filter_clauses : (scope : Scope) (kind : OpKind) (ins outs : List Attributes) (part : CheckedClauses) (condition : Option (Code Slot)) → PartFits scope kind ins outs part
     → part ≡ A.Filter condition → (input : Attributes) × (ins ≡ input ∷ []) × ConditionFits scope condition
 filter_clauses scope kind ins outs part condition (K.filter own schema typed) is = let same : own ≡ condition = cc in (schema, refl, subst (ConditionFits scope) same typed)
 filter_clauses scope kind ins outs part condition _ is = absurd cc
@@ -79,7 +79,7 @@ filter_fit op port x condition fit is has =
     let typed = filter_clauses fit.scope fit.kind op.types.ins op.types.outs op.clauses condition fit.clauses is in
     of_tuple op port x (λ vs. PassesFit op.functions condition (at_tuple vs)) has (λ vs has. passes_fit op fit typed.0 port vs condition typed.1 has typed.2)
 
-punctor_clauses : (scope : Scope) (kind : OpKind) (ins outs : List Attributes) (part : Part) (condition : Code Slot) (position : Position) → PartFits scope kind ins outs part
+punctor_clauses : (scope : Scope) (kind : OpKind) (ins outs : List Attributes) (part : CheckedClauses) (condition : Code Slot) (position : Position) → PartFits scope kind ins outs part
     → part ≡ A.Punctor condition position → (input : Attributes) × (ins ≡ input ∷ []) × CodeFits scope condition S.Bool
 punctor_clauses scope kind ins outs part condition position (K.punctor own place schema typed) is =
     let same : own ≡ condition = cc in (schema, refl, subst (λ c. CodeFits scope c S.Bool) same typed)
@@ -98,7 +98,7 @@ record SplitTyped (scope : Scope) (kind : OpKind) (ins : List Attributes) (index
   typed : CodeFits scope index (S.Int int)
   splits : kind ≡ O.Split
 
-split_clauses : (scope : Scope) (kind : OpKind) (ins outs : List Attributes) (part : Part) (index : Code Slot) → PartFits scope kind ins outs part
+split_clauses : (scope : Scope) (kind : OpKind) (ins outs : List Attributes) (part : CheckedClauses) (index : Code Slot) → PartFits scope kind ins outs part
     → part ≡ A.Split index → SplitTyped scope kind ins index
 split_clauses scope kind ins outs part index (K.split own int schema _ typed alike) is =
     let same : own ≡ index = cc in record { input = schema; one = refl; int = int; typed = subst (λ c. CodeFits scope c (S.Int int)) same typed; splits = refl }
@@ -127,7 +127,7 @@ record FunctorTyped (scope : Scope) (ins : List Attributes) (condition : Option 
   schema : Attributes
   typed : CodeFits scope output (S.Tuple schema)
 
-functor_clauses : (scope : Scope) (kind : OpKind) (ins outs : List Attributes) (part : Part) (condition : Option (Code Slot)) (output : Code Slot) → PartFits scope kind ins outs part
+functor_clauses : (scope : Scope) (kind : OpKind) (ins outs : List Attributes) (part : CheckedClauses) (condition : Option (Code Slot)) (output : Code Slot) → PartFits scope kind ins outs part
     → part ≡ A.Functor condition output → FunctorTyped scope ins condition output
 functor_clauses scope kind ins outs part condition output (K.functor own fields input schema typed each once) is =
     let same : own ≡ condition = cc in

@@ -5,7 +5,7 @@ use Rattle.std.proofs.Common.{◌≡◌, ◌∙◌, ◌++◌, ◌∷◌, [], ℕ
 use Rattle.std.specs.Str.{bytes_eq}
 use Rattle.std.proofs.lemmas.Bool.{cases_Bool}
 use Rattle.std.proofs.lemmas.Int.{fits_signed_from_abs, to_z-of_z}
-use Rattle.spl_value.specs.Decimal.{in_kind, integer_of, number}
+use Rattle.spl_value.specs.Decimal.{in_kind, integer_of, integer}
 use Rattle.spl_value.specs.Values.{fits, kind_holds, tuple_fits}
 use Rattle.spl_value.proofs.FitsLaws.{fits_bool, fits_int, fits_text}
 use Rattle.spl_value.specs.declared.types.IntKind.{IntKind}
@@ -63,7 +63,7 @@ in_kind_holds k (Some m) n e = elim (cases_Bool (kind_holds k m)) [
 ]
 
 pub kept : (k : IntKind) (field : List ℕ) (n : ℤ) → Some n ≡ integer_of k field → to_z w128 (of_z w128 n) ≡ n
-kept k field n e = let s = within k n (in_kind_holds k (number field) n e) in to_z-of_z w128 n (fits_signed_from_abs w128 n (omega arith))
+kept k field n e = let s = within k n (in_kind_holds k (integer field) n e) in to_z-of_z w128 n (fits_signed_from_abs w128 n (omega arith))
 
 -- ---- a row's values fit its columns
 
@@ -74,7 +74,7 @@ column_fits (C.Int k) field v e = by_number (integer_of k field) refl (sym e ∙
   by_number (Some n) h g =
       let is : Some v ≡ Some (V.Int n) = g ∙ ap (option_map V.Int) h in
       let same : v ≡ V.Int n = cc is in
-      subst (λ z. IsTrue (fits (T.Int k) z)) (sym same) (fits_int k n ∙ in_kind_holds k (number field) n (sym h))
+      subst (λ z. IsTrue (fits (T.Int k) z)) (sym same) (fits_int k n ∙ in_kind_holds k (integer field) n (sym h))
 column_fits C.Bool field v e = elim (cases_Bool (bytes_eq field (codes "true"))) [
   | inl word ↦
       let is : Some v ≡ Some (V.Bool true) = sym e ∙ field_bool field true word in

@@ -12,10 +12,10 @@ use Rattle.spl_tree.specs.declared.code.Code.{Code}
 use Rattle.spl_tree.specs.declared.code.Marker.TheVariants as M
 use Rattle.spl_tree.specs.declared.code.Slot.{Slot}
 use Rattle.spl_tree.specs.declared.graph.OpKind.{OpKind}
-use Rattle.language_model.specs.declared.checked.Collected.{Collected}
+use Rattle.language_model.specs.declared.checked.CollectedAttribute.{CollectedAttribute}
 use Rattle.language_model.specs.declared.checked.Handlers.{Handlers}
-use Rattle.language_model.specs.declared.checked.Part.{Part}
-use Rattle.language_model.specs.declared.checked.Part.TheVariants as A
+use Rattle.language_model.specs.declared.checked.CheckedClauses.{CheckedClauses}
+use Rattle.language_model.specs.declared.checked.CheckedClauses.TheVariants as A
 use Rattle.language_model.specs.declared.checked.Policy.{Policy}
 use Rattle.language_model.specs.declared.checked.PortTypes.{PortTypes}
 use Rattle.language_model.specs.declared.checked.WindowRule.{WindowRule}
@@ -69,7 +69,7 @@ one_counts G.Many = tt
 
 -- ---- an operator with one connection and one output port
 
-module _ (n : ℕ) (part : Part) (functions : List Function) (types : PortTypes) (s t : ℕ) (class : Gives) where
+module _ (n : ℕ) (part : CheckedClauses) (functions : List Function) (types : PortTypes) (s t : ℕ) (class : Gives) where
   abbrev op : Operator
   op = one_in n part functions types s (t ∷ [])
 
@@ -246,7 +246,7 @@ needed P (Some outs) turns h = h
 abbrev Slides : WindowRule → Type 0
 Slides rule = (flushes_at_markers rule ≡ false) × (slides rule ≡ true)
 
-module _ (functions : List Function) (window : Policy) (partition : List ℕ) (output : List Collected) (schema : Attributes) (fit : AggregateWindow schema window.rule)
+module _ (functions : List Function) (window : Policy) (partition : List ℕ) (output : List CollectedAttribute) (schema : Attributes) (fit : AggregateWindow schema window.rule)
     (sliding : Slides window.rule) (earlier : List Item) where
   fires_nothing : fired_at window.rule (partition_key window partition) I.Window earlier ≡ []
   fires_nothing =
@@ -269,7 +269,7 @@ module _ (functions : List Function) (window : Policy) (partition : List ℕ) (o
     final = refl;
   }
 
-module _ (n : ℕ) (partitioned : Bool) (partition : List ℕ) (output : List Collected) (functions : List Function) (types : PortTypes) (s t : ℕ) (schema : Attributes) where
+module _ (n : ℕ) (partitioned : Bool) (partition : List ℕ) (output : List CollectedAttribute) (functions : List Function) (types : PortTypes) (s t : ℕ) (schema : Attributes) where
   -- by the rule of the window and the groups
   abbrev RuleHolds : WindowRule → List ℕ → Type 0
   RuleHolds rule group =
@@ -298,11 +298,11 @@ module _ (n : ℕ) (partitioned : Bool) (partition : List ℕ) (output : List Co
 
 -- ---- all kinds
 
-window_fits : (scope : Scope) (kind : OpKind) (ins outs : List Attributes) (window : Policy) (partition group : List ℕ) (output : List Collected)
+window_fits : (scope : Scope) (kind : OpKind) (ins outs : List Attributes) (window : Policy) (partition group : List ℕ) (output : List CollectedAttribute)
     → PartFits scope kind ins outs (A.Aggregate window partition group output) → (schema : Attributes) × AggregateWindow schema window.rule
 window_fits scope _ _ _ window partition group output (F.aggregate _ _ _ _ input schema fits keys same groups gathered) = (input, fits)
 
-part_causes : (part : Part) (scope : Scope) (kind : OpKind) (ins outs : List Attributes) → PartFits scope kind ins outs part
+part_causes : (part : CheckedClauses) (scope : Scope) (kind : OpKind) (ins outs : List Attributes) → PartFits scope kind ins outs part
     → (n : ℕ) (functions : List Function) (types : PortTypes) (s t : ℕ) → Causes (gives part) (one_in n part functions types s (t ∷ []))
 part_causes (A.FileSource file strict) scope kind ins outs fit n functions types s t = λ h x live. tt
 part_causes (A.FileSink file) scope kind ins outs fit n functions types s t = λ h x live. tt

@@ -9,7 +9,7 @@ use Rattle.spl_value.specs.Key.{key_of}
 use Rattle.spl_value.specs.declared.item.Item.TheVariants as I
 use Rattle.spl_value.specs.declared.value.Value.{Value}
 use Rattle.spl_tree.specs.declared.body.Function.{Function}
-use Rattle.language_model.specs.declared.checked.Collected.{Collected}
+use Rattle.language_model.specs.declared.checked.CollectedAttribute.{CollectedAttribute}
 use Rattle.language_model.specs.declared.checked.WindowRule.{WindowRule}
 use Rattle.language_model.specs.declared.checked.WindowRule.TheVariants as W
 use Rattle.language_model.specs.declared.outs.Output.{Output}
@@ -46,7 +46,7 @@ any_many : (o : Option (List Output)) → HasCount (λ n. ⊤) o
 any_many None = tt
 any_many (Some outs) = tt
 
-module _ (functions : List Function) (output : List Collected) (rule : WindowRule) (sliding : slides rule ≡ true) where
+module _ (functions : List Function) (output : List CollectedAttribute) (rule : WindowRule) (sliding : slides rule ≡ true) where
   after_none : marker_after rule ≡ []
   after_none = ap (λ (b : Bool). if b then [] else on_first I.Window) sliding
 
@@ -105,7 +105,7 @@ delta_some a limit t ts = near_some (exceeds a limit) (in_order ts) t
 -- ---- windows
 
 -- what a window without groups gives for a tuple, by its class
-module _ (functions : List Function) (output : List Collected) (t : List Value) (ts : List (List Value)) where
+module _ (functions : List Function) (output : List CollectedAttribute) (t : List Value) (ts : List (List Value)) where
   abbrev Gives_of : WindowRule → Option (List Output)
   Gives_of rule = contents_give functions [] output rule (contents_of (fires_behind rule t ts))
 

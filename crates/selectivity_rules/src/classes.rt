@@ -9,7 +9,7 @@ ghost use Rattle.selectivity_rules.specs.steps.Counts.{body_submits, handlers_gi
 
 use crate::counts::{Submits, class_of};
 use crate::interval::{none, of_row};
-use language_model::{Checked, Handlers, Part, WindowRule};
+use language_model::{Checked, CheckedClauses, Handlers, WindowRule};
 use spl_tree::{Body, Code, Marker, Slot};
 use spl_value::Places;
 use stream_model::Gives;
@@ -26,19 +26,19 @@ pub fn gives(checked: &Checked, op: u32) -> Gives
 }
 
 /// The same by these clauses.
-fn gives_by(part: &Part) -> Gives
+fn gives_by(part: &CheckedClauses) -> Gives
     ensures { result ≡ gives part.now }
 {
     match part {
-        Part::Filter { condition } => one_unless(condition),
-        Part::Functor { condition, .. } => one_unless(condition),
-        Part::Split { .. } | Part::Union { .. } => Gives::AtMostOne,
-        Part::Custom { handlers } => handlers_give(handlers),
-        Part::Aggregate { window, group, .. } => window_gives(window.rule, group),
-        Part::Punctor { .. }
-        | Part::FileSource { .. }
-        | Part::FileSink { .. }
-        | Part::Join { .. } => Gives::Many,
+        CheckedClauses::Filter { condition } => one_unless(condition),
+        CheckedClauses::Functor { condition, .. } => one_unless(condition),
+        CheckedClauses::Split { .. } | CheckedClauses::Union { .. } => Gives::AtMostOne,
+        CheckedClauses::Custom { handlers } => handlers_give(handlers),
+        CheckedClauses::Aggregate { window, group, .. } => window_gives(window.rule, group),
+        CheckedClauses::Punctor { .. }
+        | CheckedClauses::FileSource { .. }
+        | CheckedClauses::FileSink { .. }
+        | CheckedClauses::Join { .. } => Gives::Many,
     }
 }
 

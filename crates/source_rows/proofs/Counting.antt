@@ -7,9 +7,9 @@ use Rattle.std.proofs.lemmas.List.{drop_more, take-append-drop, take_all, take_m
 use Rattle.std.proofs.lemmas.List.Elements.{filter_map-append}
 use Rattle.std.proofs.lemmas.List.Folds.{list_any-append}
 use Rattle.std.proofs.lemmas.Slice.Eq.{bytes_eq-Decides}
-use Rattle.feed_pour.specs.Counts.{Counts, PerName, ReadingCounted, Rose}
+use Rattle.feed_pour.specs.Counts.{FaultCounts, PerName, ReadingCounted, Rose}
 use Rattle.feed_pour.specs.Contents.{Told, WhereTold, TellsSame}
-use Rattle.language_model.specs.declared.checked.Part.{Part}
+use Rattle.language_model.specs.declared.checked.CheckedClauses.{CheckedClauses}
 use Rattle.check_laws.specs.Files.{source_file, source_files, is_named}
 use Rattle.source_rows.specs.Counting.{OnlyOf, OnlyRead, OnlyReads, OpeningFailed}
 use Rattle.source_rows.specs.Sources.{ReadsFail, is_failed}
@@ -18,13 +18,13 @@ use Rattle.spl_value.proofs.Lists.{same_or_not}
 
 -- ---- counts of reading alone
 
-pub read_itself : (c : Counts) → OnlyRead c c
+pub read_itself : (c : FaultCounts) → OnlyRead c c
 read_itself c = record { opening = refl; creating = refl; writing = refl }
 
-pub read_twice : (a b c : Counts) → OnlyRead a b → OnlyRead b c → OnlyRead a c
+pub read_twice : (a b c : FaultCounts) → OnlyRead a b → OnlyRead b c → OnlyRead a c
 read_twice a b c f g = record { opening = g.opening ∙ f.opening; creating = g.creating ∙ f.creating; writing = g.writing ∙ f.writing }
 
-pub read_same : (old mid new : Counts) → OnlyRead old mid → new ≡ mid → OnlyRead old new
+pub read_same : (old mid new : FaultCounts) → OnlyRead old mid → new ≡ mid → OnlyRead old new
 read_same old mid new h e = subst (OnlyRead old) (sym e) h
 
 pub other_name : (name n : List ℕ) → is_named (name ∷ []) n ≡ false → n ≢ name
@@ -48,20 +48,20 @@ quiet_only files old new quiet = record { others = λ n out. quiet n; reads = λ
 
 -- ---- the sources before a place, and the one there
 
-step_to : (parts : List Part) (i : ℕ) (part : Part) → i < length parts → part ≡ get_or parts i part → take (i + 1) parts ≡ take i parts ++ part ∷ []
-step_to parts i part within at = take_more parts i part within ∙ ap (λ (p : Part). take i parts ++ p ∷ []) (sym at)
+step_to : (parts : List CheckedClauses) (i : ℕ) (part : CheckedClauses) → i < length parts → part ≡ get_or parts i part → take (i + 1) parts ≡ take i parts ++ part ∷ []
+step_to parts i part within at = take_more parts i part within ∙ ap (λ (p : CheckedClauses). take i parts ++ p ∷ []) (sym at)
 
-files_cut : (parts : List Part) (i : ℕ) (part : Part) → i < length parts → part ≡ get_or parts i part
+files_cut : (parts : List CheckedClauses) (i : ℕ) (part : CheckedClauses) → i < length parts → part ≡ get_or parts i part
     → source_files parts ≡ source_files (take i parts) ++ (source_files (part ∷ []) ++ source_files (drop (i + 1) parts))
 files_cut parts i part within at =
-    ap source_files (sym (take-append-drop i parts) ∙ ap (λ (rest : List Part). take i parts ++ rest) (drop_more parts i part within ∙ ap (λ (p : Part). p ∷ drop (i + 1) parts) (sym at)))
+    ap source_files (sym (take-append-drop i parts) ∙ ap (λ (rest : List CheckedClauses). take i parts ++ rest) (drop_more parts i part within ∙ ap (λ (p : CheckedClauses). p ∷ drop (i + 1) parts) (sym at)))
     ∙ filter_map-append source_file (take i parts) (part ∷ drop (i + 1) parts)
     ∙ ap (λ (rest : List (List ℕ)). source_files (take i parts) ++ rest) (filter_map-append source_file (part ∷ []) (drop (i + 1) parts))
 
 pub parts_free : (a b : List (List ℕ)) (n : List ℕ) → is_named (a ++ b) n ≡ false → (is_named a n ≡ false) × (is_named b n ≡ false)
 parts_free a b n free = or_parts (is_named a n) (is_named b n) (sym (list_any-append (λ (m : List ℕ). bytes_eq m n) a b) ∙ free)
 
-pub only_on : (parts : List Part) (i : ℕ) (part : Part) (old mid new : PerName) → i < length parts → part ≡ get_or parts i part
+pub only_on : (parts : List CheckedClauses) (i : ℕ) (part : CheckedClauses) (old mid new : PerName) → i < length parts → part ≡ get_or parts i part
     → OnlyReads (source_files (take i parts)) old mid → OnlyReads (source_files (part ∷ [])) mid new → OnlyReads (source_files (take (i + 1) parts)) old new
 only_on parts i part old mid new within at before now = record {
   others = λ n free.
@@ -72,7 +72,7 @@ only_on parts i part old mid new within at before now = record {
 }
 
 -- a source that couldn't be opened
-pub not_opened : (parts : List Part) (i : ℕ) (part : Part) (name : List ℕ) (old mid new : PerName) → i < length parts → part ≡ get_or parts i part
+pub not_opened : (parts : List CheckedClauses) (i : ℕ) (part : CheckedClauses) (name : List ℕ) (old mid new : PerName) → i < length parts → part ≡ get_or parts i part
     → OnlyReads (source_files (take i parts)) old mid → (source_files (part ∷ []) ≡ name ∷ []) × FirstOpening name mid new → OpeningFailed (source_files parts) name old new
 not_opened parts i part name old mid new within at before (is, now) = record {
   before = source_files (take i parts);
@@ -84,7 +84,7 @@ not_opened parts i part name old mid new within at before (is, now) = record {
 }
 
 -- lack of memory at one
-pub wanting_on : (parts : List Part) (i : ℕ) (part : Part) (old mid new : PerName) → i < length parts → part ≡ get_or parts i part
+pub wanting_on : (parts : List CheckedClauses) (i : ℕ) (part : CheckedClauses) (old mid new : PerName) → i < length parts → part ≡ get_or parts i part
     → OnlyReads (source_files (take i parts)) old mid → OnlyOf (source_files (part ∷ [])) mid new → OnlyOf (source_files parts) old new
 wanting_on parts i part old mid new within at before now n free =
     let p = parts_free (source_files (take i parts)) (source_files (part ∷ []) ++ source_files (drop (i + 1) parts)) n (ap (λ (ns : List (List ℕ)). is_named ns n) (sym (files_cut parts i part within at)) ∙ free) in
@@ -92,15 +92,15 @@ wanting_on parts i part old mid new within at before now n free =
     now n q.0 ∙ before.others n p.0
 
 -- before the files after a place
-pub wanting_before : (parts : List Part) (i : ℕ) (old mid : PerName) → OnlyReads (source_files (take i parts)) old mid → OnlyOf (source_files parts) old mid
+pub wanting_before : (parts : List CheckedClauses) (i : ℕ) (old mid : PerName) → OnlyReads (source_files (take i parts)) old mid → OnlyOf (source_files parts) old mid
 wanting_before parts i old mid before n free =
     let cut = ap source_files (sym (take-append-drop i parts)) ∙ filter_map-append source_file (take i parts) (drop i parts) in
     let p = parts_free (source_files (take i parts)) (source_files (drop i parts)) n (ap (λ (ns : List (List ℕ)). is_named ns n) (sym cut) ∙ free) in
     before.others n p.0
 
 -- all were passed
-pub only_all : (parts : List Part) (i : ℕ) (old new : PerName) → length parts ≤ i → OnlyReads (source_files (take i parts)) old new → OnlyReads (source_files parts) old new
-only_all parts i old new all h = subst (λ (ps : List Part). OnlyReads (source_files ps) old new) (take_all i parts all) h
+pub only_all : (parts : List CheckedClauses) (i : ℕ) (old new : PerName) → length parts ≤ i → OnlyReads (source_files (take i parts)) old new → OnlyReads (source_files parts) old new
+only_all parts i old new all h = subst (λ (ps : List CheckedClauses). OnlyReads (source_files ps) old new) (take_all i parts all) h
 
 -- ---- what a shelf tells, step by step
 

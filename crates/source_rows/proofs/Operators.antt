@@ -12,10 +12,10 @@ use Rattle.list_engine.specs.Runs.{rows_at}
 use Rattle.spl_value.specs.declared.item.Item.{Item}
 use Rattle.spl_tree.specs.declared.graph.Op.{Op}
 use Rattle.spl_tree.specs.declared.graph.OpKind.{OpKind}
-use Rattle.feed_pour.specs.Counts.{Counts, PerName, ReadingCounted, Counted, Rose}
+use Rattle.feed_pour.specs.Counts.{FaultCounts, PerName, ReadingCounted, Counted, Rose}
 use Rattle.feed_pour.specs.Contents.{Told, WhereTold, TellsSame}
-use Rattle.language_model.specs.declared.checked.Part.{Part}
-use Rattle.language_model.specs.declared.checked.Part.TheVariants as A
+use Rattle.language_model.specs.declared.checked.CheckedClauses.{CheckedClauses}
+use Rattle.language_model.specs.declared.checked.CheckedClauses.TheVariants as A
 use Rattle.language_model.specs.declared.scope.Scope.{Scope}
 use Rattle.language_model.specs.CheckedGraph.{CheckedGraph}
 use Rattle.language_model.specs.Checking.{has_text_form}
@@ -58,7 +58,7 @@ one_stream_in c op _ _ schema outs e form (K.stream s streams first rest at h) =
       form = form;
     }
 
-source_fits : (c : CheckedGraph) (op : Op) (scope : Scope) (kind : OpKind) (ins outs : List Attributes) (part : Part) (file : List ℕ) (strict : Bool) → part ≡ A.FileSource file strict
+source_fits : (c : CheckedGraph) (op : Op) (scope : Scope) (kind : OpKind) (ins outs : List Attributes) (part : CheckedClauses) (file : List ℕ) (strict : Bool) → part ≡ A.FileSource file strict
     → StreamsHave c.schemas op.outs outs → PartFits scope kind ins outs part → SourceHas c op
 source_fits c op scope _ _ _ _ file strict is gives (K.file_source f s schema a b) = one_stream_in c op op.outs (schema ∷ []) schema refl refl b gives
 source_fits c op scope _ _ _ _ file strict is gives (K.file_sink f schema a b) = absurd cc
@@ -71,7 +71,7 @@ source_fits c op scope _ _ _ _ file strict is gives (K.custom handlers ins outs 
 source_fits c op scope _ _ _ _ file strict is gives (K.aggregate window partition group output input schema a b d e f) = absurd cc
 source_fits c op scope _ _ _ _ file strict is gives (K.join left right condition fields first second schema a b d e f h i) = absurd cc
 
-pub source_has : (c : CheckedGraph) (n : ℕ) (op : Op) (part : Part) (file : List ℕ) (strict : Bool) → Keeps c → slice_get c.graph.ops n ≡ Some op → slice_get c.parts n ≡ Some part → part ≡ A.FileSource file strict → SourceHas c op
+pub source_has : (c : CheckedGraph) (n : ℕ) (op : Op) (part : CheckedClauses) (file : List ℕ) (strict : Bool) → Keeps c → slice_get c.graph.ops n ≡ Some op → slice_get c.parts n ≡ Some part → part ≡ A.FileSource file strict → SourceHas c op
 source_has c n op part file strict k there has is =
     let f = k.operators n op part there has in
     source_fits c op f.scope op.kind f.ins f.outs part file strict is f.gives f.clauses
@@ -83,7 +83,7 @@ schema_has c op schema h is =
     let e : schema ≡ h.schema = cc in
     ap has_text_form e ∙ h.form
 
-pub attributes_are : (c : CheckedGraph) (n : ℕ) (op : Op) (part : Part) (schema : Attributes) → SourceHas c op → ((s : ℕ) (streams : List ℕ) → op.outs ≡ s ∷ streams → slice_get c.schemas s ≡ Some schema)
+pub attributes_are : (c : CheckedGraph) (n : ℕ) (op : Op) (part : CheckedClauses) (schema : Attributes) → SourceHas c op → ((s : ℕ) (streams : List ℕ) → op.outs ≡ s ∷ streams → slice_get c.schemas s ≡ Some schema)
     → schema ≡ output_attributes (operator_with c n op part) 0
 attributes_are c n op part schema h is =
     let at : slice_get c.schemas h.stream ≡ Some schema = is h.stream [] h.outs in
@@ -96,13 +96,13 @@ told_rows : (told : Option Told) (n : ℕ) (schema : Attributes) (strict : Bool)
 told_rows None n schema strict file op items e m h = tt
 told_rows (Some t) n schema strict file op items e m h = h ∙ (λ i. rows (setting (m i) (e i) strict (2 ^ 40)) (t.script file).bytes (t.script file).ending)
 
-pub source_rows : (told : Option Told) (c : CheckedGraph) (n : ℕ) (op : Op) (part : Part) (file : List ℕ) (strict : Bool) (schema : Attributes) (items : List Item) (counts now : PerName) → part ≡ A.FileSource file strict
+pub source_rows : (told : Option Told) (c : CheckedGraph) (n : ℕ) (op : Op) (part : CheckedClauses) (file : List ℕ) (strict : Bool) (schema : Attributes) (items : List Item) (counts now : PerName) → part ≡ A.FileSource file strict
     → SourceHas c op → ((s : ℕ) (streams : List ℕ) → op.outs ≡ s ∷ streams → slice_get c.schemas s ≡ Some schema) → AreClosed n schema items
     → IfSome told (λ t. items ≡ rows (setting n schema strict (2 ^ 40)) (t.script file).bytes (t.script file).ending) → ReadingCounted (list_any is_read_fault items) counts now file
     → RowsOf part (operator_with c n op part) items told counts now
 source_rows told c n op part file strict schema items counts now is has at are rows_are counted =
     let e = attributes_are c n op part schema has at in
-    subst (λ (p : Part). RowsOf p (operator_with c n op part) items told counts now) (sym is) (record {
+    subst (λ (p : CheckedClauses). RowsOf p (operator_with c n op part) items told counts now) (sym is) (record {
       are = subst (λ (s : Attributes). AreClosed n s items) e are;
       told_rows = told_rows told n schema strict file (operator_with c n op part) items e refl rows_are;
       read = λ some. (subst (λ (b : Bool). Counted b (counts file).reading (now file).reading) some counted.count).1;
@@ -120,7 +120,7 @@ reads_of : (t : Told) (n : ℕ) (schema : Attributes) (strict : Bool) (file : Li
 reads_of t n schema strict file items counts now is counted m differs = elim (same_or_not m file) as (λ _. is_failed (t.script m).ending ≡ true) [
   | inl e ↦ ap (λ (x : List ℕ). is_failed (t.script x).ending) e
       ∙ reads_here t n schema strict file items counts now (list_any is_read_fault items) is refl counted.count (subst (λ (x : List ℕ). (now x).reading ≢ (counts x).reading) e differs)
-  | inr other ↦ absurd (differs (ap (λ (k : Counts). k.reading) (counted.others m other)))
+  | inr other ↦ absurd (differs (ap (λ (k : FaultCounts). k.reading) (counted.others m other)))
 ]
 
 pub source_reads : (told : Option Told) (n : ℕ) (schema : Attributes) (strict : Bool) (file : List ℕ) (items : List Item) (counts now : PerName)
@@ -133,7 +133,7 @@ source_reads (Some t) n schema strict file items counts now is counted = reads_o
 
 -- the rows of the operators before a place
 abbrev pub RowsBefore : CheckedGraph → ℕ → List (List Item) → Option Told → PerName → PerName → Type 0
-RowsBefore c i rows told counts now = (k : ℕ) (op : Op) (part : Part) → k < i → slice_get c.graph.ops k ≡ Some op → slice_get c.parts k ≡ Some part
+RowsBefore c i rows told counts now = (k : ℕ) (op : Op) (part : CheckedClauses) → k < i → slice_get c.graph.ops k ≡ Some op → slice_get c.parts k ≡ Some part
     → RowsOf part (operator_with c k op part) (get_or rows k []) told counts now
 
 rose_on : (before mid now : ℕ) → Rose before mid → mid ≤ now → Rose before now
@@ -143,7 +143,7 @@ rose_from : (before mid now : ℕ) → before ≤ mid → Rose mid now → Rose 
 rose_from before mid now grows rose = omega (arith, grows, rose)
 
 -- what is known of the rows of an operator stays, while counts of reading don't fall
-rows_on : (part : Part) (op : Operator) (items : List Item) (told : Option Told) (counts mid now : PerName) → ((n : List ℕ) → (mid n).reading ≤ (now n).reading) → RowsOf part op items told counts mid → RowsOf part op items told counts now
+rows_on : (part : CheckedClauses) (op : Operator) (items : List Item) (told : Option Told) (counts mid now : PerName) → ((n : List ℕ) → (mid n).reading ≤ (now n).reading) → RowsOf part op items told counts mid → RowsOf part op items told counts now
 rows_on (A.FileSource file strict) op items told counts mid now grows h =
     record { are = h.are; told_rows = h.told_rows; read = λ some. rose_on (counts file).reading (mid file).reading (now file).reading (h.read some) (grows file) }
 rows_on (A.FileSink file) op items told counts mid now grows h = h
@@ -162,7 +162,7 @@ told_before (Some t) None file strict op items same h = absurd same
 told_before (Some t) (Some u) file strict op items same h = h ∙ ap (rows_of op strict) (same.script file)
 
 -- and those that were read after others
-rows_behind : (part : Part) (op : Operator) (items : List Item) (told between : Option Told) (counts mid now : PerName) → WhereTold told between TellsSame → ((n : List ℕ) → (counts n).reading ≤ (mid n).reading)
+rows_behind : (part : CheckedClauses) (op : Operator) (items : List Item) (told between : Option Told) (counts mid now : PerName) → WhereTold told between TellsSame → ((n : List ℕ) → (counts n).reading ≤ (mid n).reading)
     → RowsOf part op items between mid now → RowsOf part op items told counts now
 rows_behind (A.FileSource file strict) op items told between counts mid now same grows h = record {
   are = h.are;
@@ -180,7 +180,7 @@ rows_behind (A.Aggregate window partition group output) op items told between co
 rows_behind (A.Join left right condition output) op items told between counts mid now same grows h = h
 
 -- one operator more
-pub rows_more : (c : CheckedGraph) (i : ℕ) (op : Op) (part : Part) (items : List Item) (rows now_rows : List (List Item)) (told between : Option Told) (counts mid now : PerName) → length rows ≡ i
+pub rows_more : (c : CheckedGraph) (i : ℕ) (op : Op) (part : CheckedClauses) (items : List Item) (rows now_rows : List (List Item)) (told between : Option Told) (counts mid now : PerName) → length rows ≡ i
     → slice_get c.graph.ops i ≡ Some op → slice_get c.parts i ≡ Some part → ((n : List ℕ) → (counts n).reading ≤ (mid n).reading) → ((n : List ℕ) → (mid n).reading ≤ (now n).reading) → WhereTold told between TellsSame
     → now_rows ≡ rows ++ items ∷ [] → RowsBefore c i rows told counts mid → RowsOf part (operator_with c i op part) items between mid now → RowsBefore c (i + 1) now_rows told counts now
 rows_more c i op part items rows now_rows told between counts mid now size there has grown grows same more before here k o p less at at_part = elim (cases_lt k i) [
@@ -204,7 +204,7 @@ at_place (items ∷ rows) zero = refl
 at_place (items ∷ rows) (suc n) = at_place rows n
 
 -- they are what the shelf tells
-told_by : (part : Part) (op : Operator) (items : List Item) (t : Told) (counts now : PerName) → RowsOf part op items (Some t) counts now → items ≡ rows_by t part op
+told_by : (part : CheckedClauses) (op : Operator) (items : List Item) (t : Told) (counts now : PerName) → RowsOf part op items (Some t) counts now → items ≡ rows_by t part op
 told_by (A.FileSource file strict) op items t counts now h = h.told_rows
 told_by (A.FileSink file) op items t counts now h = h
 told_by (A.Filter condition) op items t counts now h = h
@@ -244,9 +244,9 @@ all_told c rows (Some t) counts now size each = λ n. elim (cases_lt n (length (
       ∙ ap (λ (x : Option Operator). option_map_or (λ (op : Operator). rows_by t op.clauses op) x []) (sym (none_there (graph_of c).ops n more))
 ]
 
-source_at : (part : Part) (op : Operator) (items : List Item) (told : Option Told) (counts now : PerName) (file : List ℕ) (strict : Bool) → part ≡ A.FileSource file strict → RowsOf part op items told counts now
+source_at : (part : CheckedClauses) (op : Operator) (items : List Item) (told : Option Told) (counts now : PerName) (file : List ℕ) (strict : Bool) → part ≡ A.FileSource file strict → RowsOf part op items told counts now
     → SourceRows file strict op items told counts now
-source_at part op items told counts now file strict is h = subst (λ (p : Part). RowsOf p op items told counts now) is h
+source_at part op items told counts now file strict is h = subst (λ (p : CheckedClauses). RowsOf p op items told counts now) is h
 
 pub all_rows : (c : CheckedGraph) (rows : List (List Item)) (told : Option Told) (counts now : PerName) (i : ℕ) → length c.parts ≡ length c.graph.ops → length c.parts ≤ i → length rows ≡ i → i ≤ length c.parts
     → RowsBefore c i rows told counts now → (g : Graph) → graph_of c ≡ g → AreRows g rows told counts now

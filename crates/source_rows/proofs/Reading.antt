@@ -5,7 +5,7 @@ use Rattle.std.specs.List.{list_any}
 use Rattle.spl_value.specs.Script.{Script, Ending, End, Failed}
 use Rattle.spl_value.specs.declared.item.Item.{Item}
 use Rattle.spl_value.specs.declared.item.FaultKind.TheVariants as K
-use Rattle.feed_pour.specs.Counts.{Counts, Counted, PerName, OpeningCounted, ReadingCounted}
+use Rattle.feed_pour.specs.Counts.{FaultCounts, Counted, PerName, OpeningCounted, ReadingCounted}
 use Rattle.feed_pour.specs.Contents.{Told}
 use Rattle.stream_model.specs.Rows.{Setting, Given, Row, Nothing, Bad, checked_items, closing, items_from, line_gives, line_items, rows, too_long, pieces}
 use Rattle.row_reader.specs.Reading.{is_read_fault}
@@ -49,7 +49,7 @@ read_fails o s items is some = go s.ending (ap (list_any is_read_fault) (sym is)
 
 -- ---- counts
 
-pub counts_same : (a b : Counts) → a.opening ≡ b.opening → a.creating ≡ b.creating → a.reading ≡ b.reading → a.writing ≡ b.writing → a ≡ b
+pub counts_same : (a b : FaultCounts) → a.opening ≡ b.opening → a.creating ≡ b.creating → a.reading ≡ b.reading → a.writing ≡ b.writing → a ≡ b
 counts_same a b o c r w = λ i. record { opening = o i; creating = c i; reading = r i; writing = w i }
 
 -- no count changed where a file was opened, or where it was given back without a fault
@@ -94,12 +94,12 @@ rows_told_by o (Some t) script name items is h = subst (λ (x : Option Script). 
 -- ---- counts of reading don't fall
 
 pub grows_same : (old new : PerName) → ((n : List ℕ) → new n ≡ old n) → Grows old new
-grows_same old new same n = let e = ap (λ (c : Counts). c.reading) (same n) in omega (arith, e)
+grows_same old new same n = let e = ap (λ (c : FaultCounts). c.reading) (same n) in omega (arith, e)
 
 pub opened_grows : (failed : Bool) (old new : PerName) (name : List ℕ) → OpeningCounted failed old new name → Grows old new
 opened_grows failed old new name h n = elim (same_or_not n name) as (λ _. (old n).reading ≤ (new n).reading) [
   | inl e ↦ subst (λ (m : List ℕ). (old m).reading ≤ (new m).reading) (sym e) (let is = h.reading in omega (arith, is))
-  | inr differs ↦ let is = ap (λ (c : Counts). c.reading) (h.others n differs) in omega (arith, is)
+  | inr differs ↦ let is = ap (λ (c : FaultCounts). c.reading) (h.others n differs) in omega (arith, is)
 ]
 
 pub counted_grows : (failed : Bool) (before now : ℕ) → Counted failed before now → before ≤ now
@@ -109,7 +109,7 @@ counted_grows false before now h = omega (arith, h)
 pub closed_grows : (failed : Bool) (old new : PerName) (name : List ℕ) → ReadingCounted failed old new name → Grows old new
 closed_grows failed old new name h n = elim (same_or_not n name) as (λ _. (old n).reading ≤ (new n).reading) [
   | inl e ↦ subst (λ (m : List ℕ). (old m).reading ≤ (new m).reading) (sym e) (counted_grows failed (old name).reading (new name).reading h.count)
-  | inr differs ↦ let is = ap (λ (c : Counts). c.reading) (h.others n differs) in omega (arith, is)
+  | inr differs ↦ let is = ap (λ (c : FaultCounts). c.reading) (h.others n differs) in omega (arith, is)
 ]
 
 pub grows_twice : (old mid new : PerName) → Grows old mid → Grows mid new → Grows old new

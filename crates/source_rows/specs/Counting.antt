@@ -1,10 +1,10 @@
 -- How the counts of faults change where files are opened in order, and read to their ends.
 use Rattle.std.specs.Prelude.{◌≡◌, ◌≢◌, ◌≤◌, ◌++◌, ◌∷◌, ℕ, List, false}
-use Rattle.feed_pour.specs.Counts.{Counts, PerName, Rose}
+use Rattle.feed_pour.specs.Counts.{FaultCounts, PerName, Rose}
 use Rattle.check_laws.specs.Files.{is_named}
 
 -- of a name no count changed but that of reading
-pub record OnlyRead (old new : Counts) : Type 0 where
+pub record OnlyRead (old new : FaultCounts) : Type 0 where
   pub opening : new.opening ≡ old.opening
   pub creating : new.creating ≡ old.creating
   pub writing : new.writing ≡ old.writing

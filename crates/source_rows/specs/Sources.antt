@@ -7,8 +7,8 @@ use Rattle.spl_value.specs.Script as S
 use Rattle.spl_value.specs.declared.item.Item.{Item}
 use Rattle.feed_pour.specs.Counts.{PerName, Rose}
 use Rattle.feed_pour.specs.Contents.{Told}
-use Rattle.language_model.specs.declared.checked.Part.{Part}
-use Rattle.language_model.specs.declared.checked.Part.TheVariants as A
+use Rattle.language_model.specs.declared.checked.CheckedClauses.{CheckedClauses}
+use Rattle.language_model.specs.declared.checked.CheckedClauses.TheVariants as A
 use Rattle.language_model.specs.CheckedGraph.{CheckedGraph}
 use Rattle.stream_model.specs.CheckedMeaning.{graph_of}
 use Rattle.stream_model.specs.Meaning.{Graph, rows_of}
@@ -20,7 +20,7 @@ use Rattle.source_rows.specs.declared.sources.Sources.{Sources}
 use Rattle.source_rows.specs.declared.sources.Sources.TheVariants as R
 
 -- the rows of an operator's file, where it is a source, from what the shelf tells
-abbrev pub rows_by : Told → Part → Operator → List Item
+abbrev pub rows_by : Told → CheckedClauses → Operator → List Item
 rows_by told (A.FileSource file strict) op = rows_of op strict (told.script file)
 rows_by told _ op = []
 

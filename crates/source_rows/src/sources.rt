@@ -11,7 +11,7 @@ ghost use Rattle.source_rows.specs.steps.Steps.{IsNotOpened, SourceCounted, Sour
 
 use crate::file::{FileRows, read_file};
 use feed_pour::Shelf;
-use language_model::{Checked, Part};
+use language_model::{Checked, CheckedClauses};
 use spl_tree::Op;
 use spl_value::{Item, Items, Name, Schema};
 use std::alloc::Global;
@@ -68,7 +68,7 @@ fn read_source<H: Shelf>(
     checked: &Checked,
     number: u32,
     op: &Op,
-    part: &Part,
+    part: &CheckedClauses,
 ) -> OneSource
     requires kept { Keeps checked.now }
     requires there { slice_get checked.now.graph.ops number ≡ Some op.now }
@@ -81,7 +81,7 @@ fn read_source<H: Shelf>(
     ensures cause { SourceCounted result part.now (H.counts shelf.old) (H.counts shelf.new) }
     ensures lent { H.lent shelf.old < 2 ^ 64 - 1 → H.lent shelf.new ≡ H.lent shelf.old }
 {
-    let Part::FileSource { file, strict } = part else {
+    let CheckedClauses::FileSource { file, strict } = part else {
         return OneSource::Rows(Items::new(alloc));
     };
     let schema = first_schema(checked, op);

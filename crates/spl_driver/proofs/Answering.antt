@@ -5,8 +5,8 @@ use Rattle.std.proofs.Math.Seq.{take-length}
 use Rattle.spl_value.specs.declared.item.Fault.{Fault}
 use Rattle.feed_pour.specs.Counts.{PerName}
 use Rattle.feed_pour.specs.Contents.{Told, WhereTold}
-use Rattle.language_model.specs.declared.checked.Part.{Part}
-use Rattle.language_model.specs.declared.checked.Part.TheVariants as A
+use Rattle.language_model.specs.declared.checked.CheckedClauses.{CheckedClauses}
+use Rattle.language_model.specs.declared.checked.CheckedClauses.TheVariants as A
 use Rattle.language_model.specs.CheckedGraph.{CheckedGraph}
 use Rattle.arrival_format.specs.ArrivalTexts.{arrivals_text}
 use Rattle.stream_model.specs.Ends.{run_fault}
@@ -63,7 +63,7 @@ IsOne Is = (r s : RequestOutcome) → Is r → Is s → r ≡ s
 
 -- ---- weaker facts
 
-front_at : (m : Meaning) (old new : Told) (clauses : Part) (op : Operator) → AtSink (HoldsText m new) clauses op → AtSink (HoldsPrefix m old new) clauses op
+front_at : (m : Meaning) (old new : Told) (clauses : CheckedClauses) (op : Operator) → AtSink (HoldsText m new) clauses op → AtSink (HoldsPrefix m old new) clauses op
 front_at m old new (A.FileSource file strict) op h = tt
 front_at m old new (A.FileSink file) op h = inr (length (sink_text m op), h ∙ ap (λ (x : List ℕ). Some x) (sym (take-length (sink_text m op))))
 front_at m old new (A.Filter condition) op h = tt
@@ -155,7 +155,7 @@ whole_run None n (inr e) = cc
 whole_run (Some fault) n (inl e) = cc
 whole_run (Some fault) n (inr e) = cc
 
-stopped_said : (c r : Cause) (parts : List Part) (counts later : PerName) (Text : Type 0) → ToldAs c r Text → StoppedBy c parts counts later → StoppedBy r parts counts later
+stopped_said : (c r : Cause) (parts : List CheckedClauses) (counts later : PerName) (Text : Type 0) → ToldAs c r Text → StoppedBy c parts counts later → StoppedBy r parts counts later
 stopped_said c r parts counts later Text (inl e) h = subst (λ (k : Cause). StoppedBy k parts counts later) (sym e) h
 stopped_said c r parts counts later Text (inr (inl e)) h = subst (λ (k : Cause). StoppedBy k parts counts later) (sym e) tt
 stopped_said c r parts counts later Text (inr (inr (e, run, text))) h = subst (λ (k : Cause). StoppedBy k parts counts later) (sym e) tt
@@ -253,7 +253,7 @@ followed_said (Some (R.Simulate p width schedule steps)) Is ended r status t Tex
 followed_said (Some (R.Make name rows start)) Is ended r status t Text e h = tt
 
 -- the file of the record that a run writes
-record_text : (k : Cause) (parts : List Part) (file text : List ℕ) (counts now : PerName) (Text Sinks : Type 0) (t u : Told) → RecordHolds k parts file text counts now ⊥ Sinks t u → RecordHolds k parts file text counts now Text Sinks t u
+record_text : (k : Cause) (parts : List CheckedClauses) (file text : List ℕ) (counts now : PerName) (Text Sinks : Type 0) (t u : Told) → RecordHolds k parts file text counts now ⊥ Sinks t u → RecordHolds k parts file text counts now Text Sinks t u
 record_text C.Done parts file text counts now Text Sinks t u h = h
 record_text (C.Stopped fault) parts file text counts now Text Sinks t u h = h
 record_text (C.WriteFailed name) parts file text counts now Text Sinks t u (of_sink named rose empty) = of_sink named rose empty
@@ -270,7 +270,7 @@ record_text (C.BadArrivals op) parts file text counts now Text Sinks t u h = h
 whole_front : (file text : List ℕ) (u : Told) → u.holds file ≡ Some text → (n : ℕ) × (u.holds file ≡ Some (take n text))
 whole_front file text u h = (length text, h ∙ ap (λ (x : List ℕ). Some x) (sym (take-length text)))
 
-record_weaker : (k : Cause) (parts : List Part) (file text : List ℕ) (counts now : PerName) (Sinks : Type 0) (t u : Told) → RecordHolds k parts file text counts now ⊥ Sinks t u → RecordHolds C.NoMemory parts file text counts now ⊥ Sinks t u
+record_weaker : (k : Cause) (parts : List CheckedClauses) (file text : List ℕ) (counts now : PerName) (Sinks : Type 0) (t u : Told) → RecordHolds k parts file text counts now ⊥ Sinks t u → RecordHolds C.NoMemory parts file text counts now ⊥ Sinks t u
 record_weaker C.Done parts file text counts now Sinks t u h = inr (inr (h.0, whole_front file text u h.1))
 record_weaker (C.Stopped fault) parts file text counts now Sinks t u h = inr (inr (h.0, whole_front file text u h.1))
 record_weaker (C.WriteFailed name) parts file text counts now Sinks t u (of_sink named rose empty) = inr (inl empty)
@@ -284,11 +284,11 @@ record_weaker (C.OpenFailed name) parts file text counts now Sinks t u h = inl h
 record_weaker (C.ReadFailed name) parts file text counts now Sinks t u h = inl h
 record_weaker (C.BadArrivals op) parts file text counts now Sinks t u h = inl h
 
-record_run : (fault : Option Fault) (parts : List Part) (file text : List ℕ) (counts now : PerName) (Sinks : Type 0) (t u : Told) → RecordHolds (cause_of fault) parts file text counts now ⊥ Sinks t u → Sinks × (u.holds file ≡ Some text)
+record_run : (fault : Option Fault) (parts : List CheckedClauses) (file text : List ℕ) (counts now : PerName) (Sinks : Type 0) (t u : Told) → RecordHolds (cause_of fault) parts file text counts now ⊥ Sinks t u → Sinks × (u.holds file ≡ Some text)
 record_run None parts file text counts now Sinks t u h = h
 record_run (Some fault) parts file text counts now Sinks t u h = h
 
-record_said : (k r : Cause) (parts : List Part) (file text : List ℕ) (counts now : PerName) (Text Sinks : Type 0) (t u : Told) → ToldAs k r Text → ((fault : Option Fault) → k ≡ cause_of fault → (n : List ℕ) → (now n).writing ≡ (counts n).writing)
+record_said : (k r : Cause) (parts : List CheckedClauses) (file text : List ℕ) (counts now : PerName) (Text Sinks : Type 0) (t u : Told) → ToldAs k r Text → ((fault : Option Fault) → k ≡ cause_of fault → (n : List ℕ) → (now n).writing ≡ (counts n).writing)
     → RecordHolds k parts file text counts now ⊥ Sinks t u → RecordHolds r parts file text counts now Text Sinks t u
 record_said k r parts file text counts now Text Sinks t u (inl e) quiet h = subst (λ (x : Cause). RecordHolds x parts file text counts now Text Sinks t u) (sym e) (record_text k parts file text counts now Text Sinks t u h)
 record_said k r parts file text counts now Text Sinks t u (inr (inl e)) quiet h =
@@ -300,7 +300,7 @@ record_said k r parts file text counts now Text Sinks t u (inr (inr (e, (fault, 
 -- a run that was carried out counts no fault of writing
 abbrev DevicesKnown : Option Request → PerName → PerName → Ended → Told → Told → Type 0
 DevicesKnown request counts now ended t u =
-    (parts : List Part) → ArePartsIn t request parts → DevicesMean ended.cause (files_of request parts) counts now ⊥ (IsOutcome t ended.arrivals request) ended t u
+    (parts : List CheckedClauses) → ArePartsIn t request parts → DevicesMean ended.cause (files_of request parts) counts now ⊥ (IsOutcome t ended.arrivals request) ended t u
 
 quiet_writing : (t u : Told) (p : List ℕ) (options : RunOptions) (ended : Ended) (counts now : PerName) (c : CheckedGraph) → IsFound t p (file_names (R.Run p options)) (Ok c) → DevicesKnown (Some (R.Run p options)) counts now ended t u
     → (fault : Option Fault) → ended.cause ≡ cause_of fault → (n : List ℕ) → (now n).writing ≡ (counts n).writing
@@ -501,7 +501,7 @@ not_refused C.NoMemory named e = named
 
 -- an answer that names no file is none to it
 unread_told : (k : Cause) (request : Option Request) (file : List ℕ) (counts later : PerName) (ended : Ended) (t u : Told) → ended.cause ≡ k → NamesFile k → IsUnrunOf (IsOutcome t ended.arrivals request) → IsUnreadable t request file
-    → ((parts : List Part) → ArePartsIn t request parts → DevicesMean k (files_of request parts) counts later ⊥ (IsOutcome t ended.arrivals request) ended t u)
+    → ((parts : List CheckedClauses) → ArePartsIn t request parts → DevicesMean k (files_of request parts) counts later ⊥ (IsOutcome t ended.arrivals request) ended t u)
     → NeedsRecord request ended t → IsUnread (whole_files request) k
 unread_told k request file counts later ended t u e named unrun (inl bad) device needed =
     subst (λ (o : Option Request). IsUnread (whole_files o) k) (sym bad.is)

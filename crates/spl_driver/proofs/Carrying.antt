@@ -4,7 +4,7 @@ use Rattle.std.specs.Prelude.{IfSome, IfOk, ◌||◌, if◌then◌else◌}
 use Rattle.spl_value.specs.declared.memory.NoMemory.{NoMemory}
 use Rattle.feed_pour.specs.Counts.{PerName}
 use Rattle.feed_pour.specs.Contents.{Told, WhereTold}
-use Rattle.language_model.specs.declared.checked.Part.{Part}
+use Rattle.language_model.specs.declared.checked.CheckedClauses.{CheckedClauses}
 use Rattle.stream_model.specs.declared.record.Arrivals.{Arrivals}
 use Rattle.stream_model.specs.declared.plan.Region.{Region}
 use Rattle.stream_model.specs.CheckedMeaning.{graph_of}
@@ -37,7 +37,7 @@ use Rattle.std.proofs.lemmas.Bool.{or_parts}
 use Rattle.spl_value.proofs.Bools.{or_true}
 use Rattle.spl_value.proofs.Lists.{same_name}
 
-quiet_counts : (cause k : Cause) (files : FilesOf) (counts : PerName) → cause ≡ k → IsQuiet k → (k ≡ C.BadWords → ⊥) → IsUnrun k → (parts : List Part) → CountsShow cause parts files counts counts
+quiet_counts : (cause k : Cause) (files : FilesOf) (counts : PerName) → cause ≡ k → IsQuiet k → (k ≡ C.BadWords → ⊥) → IsUnrun k → (parts : List CheckedClauses) → CountsShow cause parts files counts counts
 quiet_counts cause k files counts is quiet words unrun parts = record {
   words = λ e. words (sym is ∙ e);
   others = λ n named. refl;
@@ -180,7 +180,7 @@ module _ (p : List ℕ) (whole : List (List ℕ)) (most : List ℕ → ℕ) (fil
     reads = h.reads;
   }
 
-  pub counts_wider : (cause : Cause) (parts : List Part) (old new : PerName) → CountsShow cause parts files old new → CountsShow cause parts (with_file p whole most files) old new
+  pub counts_wider : (cause : Cause) (parts : List CheckedClauses) (old new : PerName) → CountsShow cause parts files old new → CountsShow cause parts (with_file p whole most files) old new
   counts_wider cause parts old new h = record {
     words = h.words;
     others = λ n free. h.others n (or_rest (bytes_eq p n) (is_named files.opened n) (is_named files.created n) free);

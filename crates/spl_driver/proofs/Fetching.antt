@@ -4,7 +4,7 @@ use Rattle.std.specs.Prelude.{IfSome, ◌||◌, ◌&&◌}
 use Rattle.std.specs.Str.{bytes_eq}
 use Rattle.std.proofs.lemmas.Slice.Eq.{bytes_eq-Decides}
 use Rattle.spl_value.specs.Script.{Script}
-use Rattle.feed_pour.specs.Counts.{Counts, PerName, Counted, OthersStay}
+use Rattle.feed_pour.specs.Counts.{FaultCounts, PerName, Counted, OthersStay}
 use Rattle.feed_pour.specs.Contents.{Told, WhereTold, TellsSame}
 use Rattle.feed_pour.specs.Named.{FetchedOf, FetchCounted, open_failed, read_failed}
 use Rattle.feed_pour.specs.declared.named.Fetched.{Fetched}
@@ -65,7 +65,7 @@ first_reading F.Memory old new name is h = cc
 
 -- ---- counts of reading alone
 
-pub read_itself : (c : Counts) → OnlyRead c c
+pub read_itself : (c : FaultCounts) → OnlyRead c c
 read_itself c = record { opening = refl; creating = refl; writing = refl }
 
 pub quiet_only : (files : List (List ℕ)) (old new : PerName) → NoCountChanged old new → OnlyReads files old new
@@ -104,7 +104,7 @@ fails_more a b s le h =
 
 -- ---- counts of reading that rise
 
-reads_by : (most : ℕ) (r : Fetched) (old new : Counts) (s : Script) → Counted (read_failed r) old.reading new.reading → FetchedOf s r most
+reads_by : (most : ℕ) (r : Fetched) (old new : FaultCounts) (s : Script) → Counted (read_failed r) old.reading new.reading → FetchedOf s r most
     → new.reading ≢ old.reading → fails_within most s ≡ true
 reads_by most (F.Whole bytes) old new s counted h differs = absurd (differs counted)
 reads_by most F.TooLong old new s counted h differs = absurd (differs counted)
@@ -124,7 +124,7 @@ reads_at most r name old new t counted h n differs = elim (same_or_not n name) a
     ap (λ (m : List ℕ). fails_within most (t.script m)) e
         ∙ reads_by most r (old name) (new name) (t.script name) counted.reading h (subst (λ (m : List ℕ). (new m).reading ≢ (old m).reading) e differs),
   )
-  | inr other ↦ absurd (differs (ap (λ (c : Counts). c.reading) (counted.others n other)))
+  | inr other ↦ absurd (differs (ap (λ (c : FaultCounts). c.reading) (counted.others n other)))
 ]
 
 pub fetch_reads : (told : Option Told) (r : Fetched) (name : List ℕ) (old new : PerName) → FetchCounted r old new name
@@ -147,7 +147,7 @@ reads_whole (Some t) old new h = λ n differs. failed_within 1048576 (t.script n
 
 pub quiet_reads : (told : Option Told) (old new : PerName) → NoCountChanged old new → IfSome told (ReadsFail old new)
 quiet_reads None old new quiet = tt
-quiet_reads (Some t) old new quiet = λ n differs. absurd (differs (ap (λ (c : Counts). c.reading) (quiet n)))
+quiet_reads (Some t) old new quiet = λ n differs. absurd (differs (ap (λ (c : FaultCounts). c.reading) (quiet n)))
 
 -- ---- a shelf that tells the same
 

@@ -8,7 +8,7 @@ use Rattle.spl_tree.specs.Tokens.{tokens}
 use Rattle.spl_tree.specs.Tokens as lexical
 use Rattle.expr_parser.specs.declared.answer.SyntaxAnswer.{SyntaxAnswer}
 use Rattle.expr_parser.specs.declared.answer.SyntaxAnswer.TheVariants as S
-use Rattle.unit_parser.specs.Parses.{Parses, OneAnswerLaw}
+use Rattle.unit_parser.specs.Parses.{ParsesUnit, OneAnswerLaw}
 use Rattle.language_model.specs.declared.scope.CheckRefusal.{CheckRefusal}
 use Rattle.language_model.specs.Accepted.{ProgramRefusal, Lexical, Unexpected, TooDeep, Expansion, IsAccepted, no_tokens, too_deep, unexpected, no_graph, checks, refused_check}
 use Rattle.language_model.specs.CheckedGraph.{CheckedGraph}
@@ -39,7 +39,7 @@ BehindAnswer names (Err S.Memory) x = ⊥
 
 -- the result of bytes whose tokens or refusal this is
 abbrev BehindTokens : List (List ℕ) → Result Tokens lexical.Refusal → Come → Type 0
-BehindTokens names (Ok ts) x = (answer : Result (List Definition) SyntaxAnswer) × Parses ts answer × BehindAnswer names answer x
+BehindTokens names (Ok ts) x = (answer : Result (List Definition) SyntaxAnswer) × ParsesUnit ts answer × BehindAnswer names answer x
 BehindTokens names (Err refusal) x = x ≡ Err (Lexical refusal.0 refusal.1)
 
 by_stages : (bytes : List ℕ) (names : List (List ℕ)) (x : Come) → IsAccepted bytes names x → BehindTokens names (tokens bytes) x

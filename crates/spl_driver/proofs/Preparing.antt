@@ -8,8 +8,8 @@ use Rattle.spl_value.specs.declared.item.Item.{Item}
 use Rattle.spl_value.specs.declared.item.Item.TheVariants as I
 use Rattle.feed_pour.specs.Counts.{PerName}
 use Rattle.feed_pour.specs.Contents.{Told}
-use Rattle.language_model.specs.declared.checked.Part.{Part}
-use Rattle.language_model.specs.declared.checked.Part.TheVariants as A
+use Rattle.language_model.specs.declared.checked.CheckedClauses.{CheckedClauses}
+use Rattle.language_model.specs.declared.checked.CheckedClauses.TheVariants as A
 use Rattle.language_model.specs.Keeping.{Keeps}
 use Rattle.stream_model.specs.declared.record.Arrivals.{Arrivals}
 use Rattle.language_model.specs.CheckedGraph.{CheckedGraph}
@@ -60,7 +60,7 @@ names_of n m (I.Bad f ∷ items) e h = (h 0 (I.Bad f) (omega arith) ∙ e, names
 pub part_there : (c : CheckedGraph) (n : ℕ) (op : Operator) (file : List ℕ) (strict : Bool) → slice_get (graph_of c).ops n ≡ Some op → op.clauses ≡ A.FileSource file strict → slice_get c.parts n ≡ Some (A.FileSource file strict)
 part_there c n op file strict at is =
     let found = operator_from c 0 c.graph.ops c.parts n op at in
-    found.has ∙ ap (λ (p : Part). Some p) (sym (ap (λ (o : Operator). o.clauses) found.same) ∙ is)
+    found.has ∙ ap (λ (p : CheckedClauses). Some p) (sym (ap (λ (o : Operator). o.clauses) found.same) ∙ is)
 
 module _ (numbered : OrderedLaw) (law : ReadFaultLaw) (c : CheckedGraph) (keeps : Keeps c) (rows : List (List Item)) (told : Option Told) (counts now : PerName) (are : AreRows (graph_of c) rows told counts now) where
   named : SourcesName (graph_of c) (rows_at rows)

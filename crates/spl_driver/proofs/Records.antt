@@ -3,7 +3,7 @@ use Prim.Native.Nat.{suc}
 use Rattle.std.proofs.Common.{◌≡◌, ◌≤◌, ◌∙◌, arith, cond, ℕ, Bool, true, false, List, [], ◌∷◌, map, refl, sym, ap, subst, inl, inr, ◌⊎◌, slice_get, Option, Some, None}
 use Rattle.std.specs.List.{cons_option, filter_map}
 use Rattle.std.proofs.lemmas.Bool.{eq-eqb, ne_eqb}
-use Rattle.language_model.specs.declared.checked.Part.{Part}
+use Rattle.language_model.specs.declared.checked.CheckedClauses.{CheckedClauses}
 use Rattle.spl_tree.specs.declared.graph.Op.{Op}
 use Rattle.language_model.specs.CheckedGraph.{CheckedGraph}
 use Rattle.stream_model.specs.declared.record.ArrivalList.{ArrivalList}
@@ -28,7 +28,7 @@ some_several op e = ap (λ (b : Bool). cond b (Some op.number) None) e
 not_several : (op : Operator) → has_several (connections op) ≡ false → if_several op ≡ None
 not_several op e = ap (λ (b : Bool). cond b (Some op.number) None) e
 
-ascends : (c : CheckedGraph) (k : ℕ) (ops : List Op) (parts : List Part) → Ascends k (filter_map if_several (operators_from c k ops parts))
+ascends : (c : CheckedGraph) (k : ℕ) (ops : List Op) (parts : List CheckedClauses) → Ascends k (filter_map if_several (operators_from c k ops parts))
 ascends c k [] parts = tt
 ascends c k (op ∷ ops) [] = tt
 ascends c k (op ∷ ops) (part ∷ parts) = by (has_several (connections o)) refl (ascends c (suc k) ops parts)

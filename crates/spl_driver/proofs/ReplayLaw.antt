@@ -9,8 +9,8 @@ use Rattle.spl_value.specs.Script.{Script}
 use Rattle.list_engine.specs.Runs.{AreWhole}
 use Rattle.feed_pour.specs.Counts.{PerName, Rose}
 use Rattle.feed_pour.specs.Contents.{Told}
-use Rattle.language_model.specs.declared.checked.Part.{Part}
-use Rattle.language_model.specs.declared.checked.Part.TheVariants as A
+use Rattle.language_model.specs.declared.checked.CheckedClauses.{CheckedClauses}
+use Rattle.language_model.specs.declared.checked.CheckedClauses.TheVariants as A
 use Rattle.language_model.specs.Keeping.{Keeps}
 use Rattle.stream_model.specs.declared.record.Arrivals.{Arrivals}
 use Rattle.language_model.specs.Accepted.{IsAccepted}
@@ -70,12 +70,12 @@ run_at t arrivals request r program options c g m (replays p f x _ found is) q e
 -- ---- its sources
 
 -- the file of a source among the clauses is one of the sources'
-source_named : (parts : List Part) (n : ℕ) (file : List ℕ) (strict : Bool) → slice_get parts n ≡ Some (A.FileSource file strict) → is_named (source_files parts) file ≡ true
+source_named : (parts : List CheckedClauses) (n : ℕ) (file : List ℕ) (strict : Bool) → slice_get parts n ≡ Some (A.FileSource file strict) → is_named (source_files parts) file ≡ true
 source_named [] n file strict at = cc
 source_named (part ∷ parts) zero file strict at =
     let is : Some part ≡ Some (A.FileSource file strict) = at in
     let same : part ≡ A.FileSource file strict = cc in
-    ap (λ (p : Part). is_named (cons_option (source_file p) (source_files parts)) file) same ∙ ap (λ (b : Bool). b || is_named (source_files parts) file) (same_name file)
+    ap (λ (p : CheckedClauses). is_named (cons_option (source_file p) (source_files parts)) file) same ∙ ap (λ (b : Bool). b || is_named (source_files parts) file) (same_name file)
 source_named (part ∷ parts) (suc n) file strict at = behind (source_file part) (source_named parts n file strict at)
   where
     behind : (o : Option (List ℕ)) → is_named (source_files parts) file ≡ true → is_named (cons_option o (source_files parts)) file ≡ true
@@ -83,7 +83,7 @@ source_named (part ∷ parts) (suc n) file strict at = behind (source_file part)
     behind (Some f) h = ap (λ (b : Bool). bytes_eq f file || b) h ∙ or_true (bytes_eq f file)
 
 -- an operator's rows are the same where its file is read alike
-rows_same : (t u : Told) (clauses : Part) (op : Operator) → ((file : List ℕ) (strict : Bool) → clauses ≡ A.FileSource file strict → u.script file ≡ t.script file) → rows_by u clauses op ≡ rows_by t clauses op
+rows_same : (t u : Told) (clauses : CheckedClauses) (op : Operator) → ((file : List ℕ) (strict : Bool) → clauses ≡ A.FileSource file strict → u.script file ≡ t.script file) → rows_by u clauses op ≡ rows_by t clauses op
 rows_same t u (A.FileSource file strict) op h = λ i. rows_by (record { holds = u.holds; script = λ n. h file strict refl i }) (A.FileSource file strict) op
 rows_same t u (A.FileSink file) op h = refl
 rows_same t u (A.Filter condition) op h = refl
@@ -166,7 +166,7 @@ replay_law kept law t u program file options c g m arrivals other comes given is
 
 -- ---- both carried out
 
-alike_at : (P Q R : Operator → List ℕ → Type 0) (clauses : Part) (op : Operator) → ((file : List ℕ) → P op file → Q op file → R op file) → AtSink P clauses op → AtSink Q clauses op → AtSink R clauses op
+alike_at : (P Q R : Operator → List ℕ → Type 0) (clauses : CheckedClauses) (op : Operator) → ((file : List ℕ) → P op file → Q op file → R op file) → AtSink P clauses op → AtSink Q clauses op → AtSink R clauses op
 alike_at P Q R (A.FileSource file strict) op both p q = tt
 alike_at P Q R (A.FileSink file) op both p q = both file p q
 alike_at P Q R (A.Filter condition) op both p q = tt
@@ -203,7 +203,7 @@ run_reports t arrivals request r program options report x (runs p o y plain foun
 run_reports t arrivals request r program options report x (replays p f y _ found is) q e = absurd (let bad : Some (R.Replay p f) ≡ Some (R.Run program options) = q in cc)
 
 -- its record's file holds the record's text
-text_held : (fault : Option Fault) (parts : List Part) (file text : List ℕ) (counts now : PerName) (TextFailed Sinks : Type 0) (t u : Told) → RecordHolds (cause_of fault) parts file text counts now TextFailed Sinks t u → u.holds file ≡ Some text
+text_held : (fault : Option Fault) (parts : List CheckedClauses) (file text : List ℕ) (counts now : PerName) (TextFailed Sinks : Type 0) (t u : Told) → RecordHolds (cause_of fault) parts file text counts now TextFailed Sinks t u → u.holds file ≡ Some text
 text_held None parts file text counts now TextFailed Sinks t u h = h.1
 text_held (Some f) parts file text counts now TextFailed Sinks t u h = h.1
 

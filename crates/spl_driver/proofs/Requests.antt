@@ -1,7 +1,7 @@
 -- The outcome of a request is one, and so are the operators of its program.
 use Rattle.std.proofs.Common.{◌≡◌, ◌∙◌, ℕ, Bool, true, false, List, [], refl, sym, ap, subst, inl, inr, ◌⊎◌, Option, Some, None, Result, Ok, Err}
 use Rattle.feed_pour.specs.Contents.{Told}
-use Rattle.language_model.specs.declared.checked.Part.{Part}
+use Rattle.language_model.specs.declared.checked.CheckedClauses.{CheckedClauses}
 use Rattle.language_model.specs.Accepted.{ProgramRefusal, IsAccepted}
 use Rattle.language_model.specs.CheckedGraph.{CheckedGraph}
 use Rattle.stream_model.specs.declared.record.Arrivals.{Arrivals}
@@ -264,19 +264,19 @@ unread_by t arrivals request file is = unread_at t arrivals request (Unreadable 
 
 -- ---- the operators of its program
 
-abbrev PartsByFault : Bool → Request → List ℕ → List Part → Type 0
+abbrev PartsByFault : Bool → Request → List ℕ → List CheckedClauses → Type 0
 PartsByFault true request bytes parts = parts ≡ []
 PartsByFault false request bytes parts = (found : Result CheckedGraph ProgramRefusal) × IsAccepted bytes (file_names request) found × (parts ≡ parts_of found)
 
-abbrev PartsByFile : Option (List ℕ) → Request → Told → List Part → Type 0
+abbrev PartsByFile : Option (List ℕ) → Request → Told → List CheckedClauses → Type 0
 PartsByFile None request t parts = parts ≡ []
 PartsByFile (Some p) request t parts = PartsByFault (has_fault (t.script p)) request (t.script p).bytes parts
 
-abbrev PartsBy : Option Request → Told → List Part → Type 0
+abbrev PartsBy : Option Request → Told → List CheckedClauses → Type 0
 PartsBy None t parts = parts ≡ []
 PartsBy (Some request) t parts = PartsByFile (program_of request) request t parts
 
-parts_by : (t : Told) (request : Option Request) (parts : List Part) → ArePartsIn t request parts → PartsBy request t parts
+parts_by : (t : Told) (request : Option Request) (parts : List CheckedClauses) → ArePartsIn t request parts → PartsBy request t parts
 parts_by t request parts of_no_request = refl
 parts_by t request parts (of_no_program asked none) = subst (λ (p : Option (List ℕ)). PartsByFile p asked t []) (sym none) refl
 parts_by t request parts (of_unreadable asked program of fault) =
@@ -285,7 +285,7 @@ parts_by t request parts (of_program asked program found of is) =
     subst (λ (p : Option (List ℕ)). PartsByFile p asked t (parts_of found)) (sym of)
     (subst (λ (b : Bool). PartsByFault b asked (t.script program).bytes (parts_of found)) (sym is.read) (found, is.accepted, refl))
 
-pub parts_from : (t : Told) (request : Option Request) (parts : List Part) → PartsBy request t parts → ArePartsIn t request parts
+pub parts_from : (t : Told) (request : Option Request) (parts : List CheckedClauses) → PartsBy request t parts → ArePartsIn t request parts
 parts_from t None parts e = subst (ArePartsIn t None) (sym e) of_no_request
 parts_from t (Some request) parts h = by_file (program_of request) refl h
   where
@@ -299,15 +299,15 @@ parts_from t (Some request) parts h = by_file (program_of request) refl h
     by_file None none e = subst (ArePartsIn t (Some request)) (sym e) (of_no_program request none)
     by_file (Some program) of h = by_fault program of (has_fault (t.script program)) refl h
 
-one_parts_by_fault : OneAcceptedLaw → (fault : Bool) (request : Request) (bytes : List ℕ) (x y : List Part) → PartsByFault fault request bytes x → PartsByFault fault request bytes y → x ≡ y
+one_parts_by_fault : OneAcceptedLaw → (fault : Bool) (request : Request) (bytes : List ℕ) (x y : List CheckedClauses) → PartsByFault fault request bytes x → PartsByFault fault request bytes y → x ≡ y
 one_parts_by_fault law true request bytes x y e d = e ∙ sym d
 one_parts_by_fault law false request bytes x y (a, is, e) (b, has, d) = e ∙ ap parts_of (law bytes (file_names request) a b is has) ∙ sym d
 
-one_parts_by_file : OneAcceptedLaw → (program : Option (List ℕ)) (request : Request) (t : Told) (x y : List Part) → PartsByFile program request t x → PartsByFile program request t y → x ≡ y
+one_parts_by_file : OneAcceptedLaw → (program : Option (List ℕ)) (request : Request) (t : Told) (x y : List CheckedClauses) → PartsByFile program request t x → PartsByFile program request t y → x ≡ y
 one_parts_by_file law None request t x y e d = e ∙ sym d
 one_parts_by_file law (Some p) request t x y e d = one_parts_by_fault law (has_fault (t.script p)) request (t.script p).bytes x y e d
 
-one_parts_by : OneAcceptedLaw → (request : Option Request) (t : Told) (x y : List Part) → PartsBy request t x → PartsBy request t y → x ≡ y
+one_parts_by : OneAcceptedLaw → (request : Option Request) (t : Told) (x y : List CheckedClauses) → PartsBy request t x → PartsBy request t y → x ≡ y
 one_parts_by law None t x y e d = e ∙ sym d
 one_parts_by law (Some request) t x y e d = one_parts_by_file law (program_of request) request t x y e d
 
@@ -315,15 +315,15 @@ pub one_parts : OneAcceptedLaw → OnePartsLaw
 one_parts law request t x y e d = one_parts_by law request t x y (parts_by t request x e) (parts_by t request y d)
 
 module _ (some : SomeAcceptedLaw) where
-  some_parts_by_fault : (fault : Bool) (request : Request) (bytes : List ℕ) → (x : List Part) × PartsByFault fault request bytes x
+  some_parts_by_fault : (fault : Bool) (request : Request) (bytes : List ℕ) → (x : List CheckedClauses) × PartsByFault fault request bytes x
   some_parts_by_fault true request bytes = ([], refl)
   some_parts_by_fault false request bytes = let h = some bytes (file_names request) in (parts_of h.0, (h.0, h.1, refl))
 
-  some_parts_by_file : (program : Option (List ℕ)) (request : Request) (t : Told) → (x : List Part) × PartsByFile program request t x
+  some_parts_by_file : (program : Option (List ℕ)) (request : Request) (t : Told) → (x : List CheckedClauses) × PartsByFile program request t x
   some_parts_by_file None request t = ([], refl)
   some_parts_by_file (Some p) request t = some_parts_by_fault (has_fault (t.script p)) request (t.script p).bytes
 
-  some_parts_by : (request : Option Request) (t : Told) → (x : List Part) × PartsBy request t x
+  some_parts_by : (request : Option Request) (t : Told) → (x : List CheckedClauses) × PartsBy request t x
   some_parts_by None t = ([], refl)
   some_parts_by (Some request) t = some_parts_by_file (program_of request) request t
 

@@ -9,9 +9,9 @@ use Rattle.std.proofs.lemmas.Option.{get_or_from_slice_get, slice_get_within}
 use Rattle.spl_value.specs.declared.item.Fault.{Fault}
 use Rattle.spl_value.specs.declared.item.Item.{Item}
 use Rattle.spl_value.specs.declared.memory.NoMemory.{NoMemory}
-use Rattle.language_model.specs.declared.checked.Part.{Part}
-use Rattle.language_model.specs.declared.checked.Part.TheVariants as A
-use Rattle.feed_pour.specs.Counts.{Counts, PerName, Rose}
+use Rattle.language_model.specs.declared.checked.CheckedClauses.{CheckedClauses}
+use Rattle.language_model.specs.declared.checked.CheckedClauses.TheVariants as A
+use Rattle.feed_pour.specs.Counts.{FaultCounts, PerName, Rose}
 use Rattle.feed_pour.specs.Contents.{Told, WhereTold, TellsSame}
 use Rattle.stream_model.specs.declared.record.Arrivals.{Arrivals}
 use Rattle.stream_model.specs.declared.record.Counts.{Counts as RunCounts}
@@ -126,7 +126,7 @@ partial_files told now c Is op files ended counts later is same reads only comes
     same_files told now Is files (C.BadArrivals op) ended counts later is same reads (only_rows told (C.BadArrivals op) files counts later (λ n free. ap (λ k. k.reading) (only.others n free)))
     (λ t u e held. ((c, subst (λ (o : Option Told). IfSome o (λ x. Is x (BadArrivals c op))) e comes), held)) (λ t u held. only)
 
-pub partial_counts : (cause : Cause) (op : Option ℕ) (files : FilesOf) (old new : PerName) → cause ≡ C.BadArrivals op → OnlyReads files.rows old new → files.opened ≡ files.rows → (parts : List Part) → CountsShow cause parts files old new
+pub partial_counts : (cause : Cause) (op : Option ℕ) (files : FilesOf) (old new : PerName) → cause ≡ C.BadArrivals op → OnlyReads files.rows old new → files.opened ≡ files.rows → (parts : List CheckedClauses) → CountsShow cause parts files old new
 partial_counts cause op files old new is only opened parts = record {
   words = λ e. absurd (let h : C.BadArrivals op ≡ C.BadWords = sym is ∙ e in cc);
   others = λ n named. only.others n (ap (λ (ns : List (List ℕ)). is_named ns n) (sym opened) ∙ or_first (is_named files.opened n) (is_named files.created n) named);
@@ -135,7 +135,7 @@ partial_counts cause op files old new is only opened parts = record {
   stopped = subst (λ (k : Cause). StoppedBy k parts old new) (sym is) tt;
 }
 
-pub wanting_counts : (cause : Cause) (files : FilesOf) (old new : PerName) → cause ≡ C.NoMemory → OnlyOf files.rows old new → files.opened ≡ files.rows → (parts : List Part) → CountsShow cause parts files old new
+pub wanting_counts : (cause : Cause) (files : FilesOf) (old new : PerName) → cause ≡ C.NoMemory → OnlyOf files.rows old new → files.opened ≡ files.rows → (parts : List CheckedClauses) → CountsShow cause parts files old new
 wanting_counts cause files old new is counted opened parts = record {
   words = λ e. absurd (let h : C.NoMemory ≡ C.BadWords = sym is ∙ e in cc);
   others = λ n named. counted n (ap (λ (ns : List (List ℕ)). is_named ns n) (sym opened) ∙ or_first (is_named files.opened n) (is_named files.created n) named);
@@ -144,7 +144,7 @@ wanting_counts cause files old new is counted opened parts = record {
   stopped = subst (λ (k : Cause). StoppedBy k parts old new) (sym is) tt;
 }
 
-pub unopened_counts : (cause : Cause) (files : FilesOf) (name : List ℕ) (old new : PerName) → cause ≡ C.OpenFailed name → OpeningFailed files.opened name old new → files.opened ≡ files.rows → (parts : List Part) → CountsShow cause parts files old new
+pub unopened_counts : (cause : Cause) (files : FilesOf) (name : List ℕ) (old new : PerName) → cause ≡ C.OpenFailed name → OpeningFailed files.opened name old new → files.opened ≡ files.rows → (parts : List CheckedClauses) → CountsShow cause parts files old new
 unopened_counts cause files name old new is counted opened parts = record {
   words = λ e. absurd (let h : C.OpenFailed name ≡ C.BadWords = sym is ∙ e in cc);
   others = λ n named. unopened_others files name old new counted n (or_first (is_named files.opened n) (is_named files.created n) named);
@@ -366,15 +366,15 @@ sinks_words (S.NotCreated place) written c fault ended old new counted ends e = 
 sinks_words (S.NotWritten place) written c fault ended old new counted ends e = or_words (C.WriteFailed counted.cause.0) ended.cause (λ bad. cc) (ends counted.cause.0 counted.cause.1.at) e
 
 -- a run that stops at a read that failed, after the sinks
-unread_on : (parts : List Part) (op : ℕ) (old mid new : PerName) → ((n : List ℕ) → (new n).reading ≡ (mid n).reading) → SourceUnread parts op old mid → SourceUnread parts op old new
+unread_on : (parts : List CheckedClauses) (op : ℕ) (old mid new : PerName) → ((n : List ℕ) → (new n).reading ≡ (mid n).reading) → SourceUnread parts op old mid → SourceUnread parts op old new
 unread_on parts op old mid new same h =
     record { file = h.file; strict = h.strict; source = h.source; rose = subst (λ (k : ℕ). Rose (old h.file).reading k) (sym (same h.file)) h.rose }
 
-fault_on : (fault : Option Fault) (parts : List Part) (old mid new : PerName) → ((n : List ℕ) → (new n).reading ≡ (mid n).reading) → StoppedBy (cause_of fault) parts old mid → StoppedBy (cause_of fault) parts old new
+fault_on : (fault : Option Fault) (parts : List CheckedClauses) (old mid new : PerName) → ((n : List ℕ) → (new n).reading ≡ (mid n).reading) → StoppedBy (cause_of fault) parts old mid → StoppedBy (cause_of fault) parts old new
 fault_on None parts old mid new same h = tt
 fault_on (Some f) parts old mid new same h = λ kind. unread_on parts f.op old mid new same (h kind)
 
-or_stopped : (expected cause : Cause) (parts : List Part) (old new : PerName) → IsOr expected cause → StoppedBy expected parts old new → StoppedBy cause parts old new
+or_stopped : (expected cause : Cause) (parts : List CheckedClauses) (old new : PerName) → IsOr expected cause → StoppedBy expected parts old new → StoppedBy cause parts old new
 or_stopped expected cause parts old new (inl is) h = subst (λ (k : Cause). StoppedBy k parts old new) (sym is) h
 or_stopped expected cause parts old new (inr is) h = subst (λ (k : Cause). StoppedBy k parts old new) (sym is) tt
 
@@ -455,7 +455,7 @@ held_from (S.Done ns) written c streams counts between later t u names own reads
 held_from (S.NotCreated place) written c streams counts between later t u names own reads h = h
 held_from (S.NotWritten place) written c streams counts between later t u names own reads h = λ k d small.
     let s = slice_index_or (sinks_of c) k d in
-    subst (λ (x : Counts). Y.HoldsUnlessFailed (Y.sink_text streams s) x (later s.file) (u.holds s.file)) (reads.others s.file (sink_free c names own k d small)) (h k d small)
+    subst (λ (x : FaultCounts). Y.HoldsUnlessFailed (Y.sink_text streams s) x (later s.file) (u.holds s.file)) (reads.others s.file (sink_free c names own k d small)) (h k d small)
 held_from S.Memory written c streams counts between later t u names own reads h = h
 
 pub sunken_of : (law : SinkLaw) (r : Sunk) (written : Option (List ℕ)) (c : CheckedGraph) (run : Run) (ended : Ended) (counts between later : PerName) (t u : Told) (names : List (List ℕ)) → Keeps c → OwnFiles names c.parts → RanFor c run (Some t) counts between
@@ -545,7 +545,7 @@ own_for sinks last written c arrivals are names own named =
     subst (λ (ss : List Sink). HasOwnFile ss last) (sym are.sinks_are) (subst (λ (l : Option TextFile). HasOwnFile (sinks_of c) l) (sym are.last_is) (own_file written (arrivals_text c arrivals) c names own named))
 
 -- there are no more sinks than operators
-few_from : (n : ℕ) (parts : List Part) → length (sinks_from n parts) ≤ length parts
+few_from : (n : ℕ) (parts : List CheckedClauses) → length (sinks_from n parts) ≤ length parts
 few_from n [] = omega arith
 few_from n (A.FileSource file strict ∷ parts) = let le = few_from (suc n) parts in omega (arith, le)
 few_from n (A.FileSink file ∷ parts) = let le = few_from (suc n) parts in omega (arith, le)
@@ -788,7 +788,7 @@ ends_done sunk ns counted c names fault arrivals answer e ends text recorded =
 -- ---- its record
 
 -- a fact of the sinks' files in what the record's holds
-record_map : (k : Cause) (parts : List Part) (file text : List ℕ) (counts now : PerName) (TextFailed Sinks Others : Type 0) (t u : Told) → (Sinks → Others) → RecordHolds k parts file text counts now TextFailed Sinks t u
+record_map : (k : Cause) (parts : List CheckedClauses) (file text : List ℕ) (counts now : PerName) (TextFailed Sinks Others : Type 0) (t u : Told) → (Sinks → Others) → RecordHolds k parts file text counts now TextFailed Sinks t u
     → RecordHolds k parts file text counts now TextFailed Others t u
 record_map C.Done parts file text counts now TextFailed Sinks Others t u to h = (to h.0, h.1)
 record_map (C.Stopped fault) parts file text counts now TextFailed Sinks Others t u to h = (to h.0, h.1)

@@ -1,8 +1,8 @@
 -- What an answer shows at every shelf: of the counts, of the program and of its run.
 use Rattle.std.proofs.Common.{◌≡◌, ◌≢◌, ◌∙◌, ℕ, true, false, List, [], refl, sym, ap, subst, inl, inr, ◌⊎◌, Option, Some, None}
 use Rattle.spl_value.specs.declared.item.Fault.{Fault}
-use Rattle.feed_pour.specs.Counts.{Counts, PerName}
-use Rattle.language_model.specs.declared.checked.Part.{Part}
+use Rattle.feed_pour.specs.Counts.{FaultCounts, PerName}
+use Rattle.language_model.specs.declared.checked.CheckedClauses.{CheckedClauses}
 use Rattle.language_model.specs.CheckedGraph.{CheckedGraph}
 use Rattle.run_report.specs.declared.cause.Cause.{Cause}
 use Rattle.run_report.specs.declared.cause.Cause.TheVariants as C
@@ -44,7 +44,7 @@ quiet_shown cause request old new is unrun quiet = record {
   device = quiet_shows cause (files_of request []) old new is quiet;
   stopped = quiet_stopped cause [] old new unrun;
   others = λ n named. quiet n;
-  reading = λ n free differs. absurd (differs (ap (λ (c : Counts). c.reading) (quiet n)));
+  reading = λ n free differs. absurd (differs (ap (λ (c : FaultCounts). c.reading) (quiet n)));
 }
 
 -- ---- a program that couldn't be opened or read
@@ -61,7 +61,7 @@ program_shown cause request program old new of others at device unrun = record {
   others = λ n named. others n (outside request program [] n of named);
   reading = λ n free differs. elim (same_or_not n program) as (λ _. (cause ≡ C.ReadFailed n) ⊎ (cause ≡ C.NoMemory)) [
     | inl e ↦ here n e differs at
-    | inr other ↦ absurd (differs (ap (λ (c : Counts). c.reading) (others n other)))
+    | inr other ↦ absurd (differs (ap (λ (c : FaultCounts). c.reading) (others n other)))
   ];
 }
   where
@@ -117,7 +117,7 @@ shown_after cause request c old mid new Text program quiet h =
 
 -- a request was carried out
 pub only_stop : (c : Cause) (request : Option Request) (counts later : PerName) (Text : Type 0) → IsRun c → Shown c request counts later Text
-    → (parts : List Part) × ArePartsOf request parts × OnlyReads (row_files request parts) counts later
+    → (parts : List CheckedClauses) × ArePartsOf request parts × OnlyReads (row_files request parts) counts later
 only_stop c request counts later Text (None, is) h = let s : ShownBy C.Done request counts later = subst (λ (x : Cause). Shown x request counts later Text) is h in (s.parts, s.are, s.device)
 only_stop c request counts later Text (Some fault, is) h = let s : ShownBy (C.Stopped fault) request counts later = subst (λ (x : Cause). Shown x request counts later Text) is h in (s.parts, s.are, s.device)
 

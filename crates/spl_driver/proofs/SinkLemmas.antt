@@ -9,8 +9,8 @@ use Rattle.spl_value.specs.declared.item.Item.{Item}
 use Rattle.feed_pour.specs.Counts.{PerName}
 use Rattle.feed_pour.specs.Contents.{Told}
 use Rattle.spl_tree.specs.declared.graph.Op.{Op}
-use Rattle.language_model.specs.declared.checked.Part.{Part}
-use Rattle.language_model.specs.declared.checked.Part.TheVariants as A
+use Rattle.language_model.specs.declared.checked.CheckedClauses.{CheckedClauses}
+use Rattle.language_model.specs.declared.checked.CheckedClauses.TheVariants as A
 use Rattle.stream_model.specs.declared.record.SinkCount.{SinkCount}
 use Rattle.language_model.specs.CheckedGraph.{CheckedGraph}
 use Rattle.stream_model.specs.CheckedMeaning.{graph_of, operator_with, operators_from}
@@ -34,7 +34,7 @@ use Rattle.spl_driver.proofs.Operators.{operator_at, ops_made}
 
 -- ---- files that stay
 
-prefix_at : (m : Meaning) (t u : Told) (clauses : Part) (op : Operator) → SameFiles t u → AtSink (HoldsPrefix m t u) clauses op
+prefix_at : (m : Meaning) (t u : Told) (clauses : CheckedClauses) (op : Operator) → SameFiles t u → AtSink (HoldsPrefix m t u) clauses op
 prefix_at m t u (A.FileSource file strict) op same = tt
 prefix_at m t u (A.FileSink file) op same = inl (same file)
 prefix_at m t u (A.Filter condition) op same = tt
@@ -52,7 +52,7 @@ same_prefixes m t u (op ∷ ops) same = (prefix_at m t u op.clauses op same, sam
 
 -- ---- the files of sinks
 
-pub files_from : (n : ℕ) (parts : List Part) → map (λ (s : Sink). s.file) (sinks_from n parts) ≡ sink_files parts
+pub files_from : (n : ℕ) (parts : List CheckedClauses) → map (λ (s : Sink). s.file) (sinks_from n parts) ≡ sink_files parts
 files_from n [] = refl
 files_from n (A.FileSource file strict ∷ parts) = files_from (suc n) parts
 files_from n (A.FileSink file ∷ parts) = ap (λ (files : List (List ℕ)). file ∷ files) (files_from (suc n) parts)
@@ -65,7 +65,7 @@ files_from n (A.Custom handlers ∷ parts) = files_from (suc n) parts
 files_from n (A.Aggregate window partition group output ∷ parts) = files_from (suc n) parts
 files_from n (A.Join left right condition output ∷ parts) = files_from (suc n) parts
 
-sink_is : (part : Part) (file : List ℕ) → sink_file part ≡ Some file → part ≡ A.FileSink file
+sink_is : (part : CheckedClauses) (file : List ℕ) → sink_file part ≡ Some file → part ≡ A.FileSink file
 sink_is (A.FileSource f strict) file e = absurd cc
 sink_is (A.FileSink f) file e = let same : f ≡ file = cc in ap (λ x. A.FileSink x) same
 sink_is (A.Filter condition) file e = absurd cc
@@ -78,16 +78,16 @@ sink_is (A.Aggregate window partition group output) file e = absurd cc
 sink_is (A.Join left right condition output) file e = absurd cc
 
 -- a sink with this file stands in front of those with these
-record Behind (parts : List Part) (file : List ℕ) (after : List (List ℕ)) : Type 0 where
-  pub front : List Part
-  pub back : List Part
+record Behind (parts : List CheckedClauses) (file : List ℕ) (after : List (List ℕ)) : Type 0 where
+  pub front : List CheckedClauses
+  pub back : List CheckedClauses
   pub whole : parts ≡ front ++ A.FileSink file ∷ back
   pub rest : sink_files back ≡ after
 
-one_more : (part : Part) (parts : List Part) (file : List ℕ) (after : List (List ℕ)) → Behind parts file after → Behind (part ∷ parts) file after
+one_more : (part : CheckedClauses) (parts : List CheckedClauses) (file : List ℕ) (after : List (List ℕ)) → Behind parts file after → Behind (part ∷ parts) file after
 one_more part parts file after b = record { front = part ∷ b.front; back = b.back; whole = ap (λ ps. part ∷ ps) b.whole; rest = b.rest }
 
-behind_from : (part : Part) (parts : List Part) (file : List ℕ) (after : List (List ℕ)) (o : Option (List ℕ)) → sink_file part ≡ o
+behind_from : (part : CheckedClauses) (parts : List CheckedClauses) (file : List ℕ) (after : List (List ℕ)) (o : Option (List ℕ)) → sink_file part ≡ o
     → ((before : List (List ℕ)) → sink_files parts ≡ before ++ file ∷ after → Behind parts file after)
     → (before : List (List ℕ)) → cons_option o (sink_files parts) ≡ before ++ file ∷ after → Behind (part ∷ parts) file after
 behind_from part parts file after None is more before e = one_more part parts file after (more before e)
@@ -101,7 +101,7 @@ behind_from part parts file after (Some f) is more (b ∷ before) e =
     let rest : sink_files parts ≡ before ++ file ∷ after = cc in
     one_more part parts file after (more before rest)
 
-behind : (parts : List Part) (file : List ℕ) (after before : List (List ℕ)) → sink_files parts ≡ before ++ file ∷ after → Behind parts file after
+behind : (parts : List CheckedClauses) (file : List ℕ) (after before : List (List ℕ)) → sink_files parts ≡ before ++ file ∷ after → Behind parts file after
 behind [] file after [] e = absurd cc
 behind [] file after (b ∷ before) e = absurd cc
 behind (part ∷ parts) file after before e = behind_from part parts file after (sink_file part) refl (λ b h. behind parts file after b h) before e
@@ -132,15 +132,15 @@ abbrev sink_with : ℕ → List ℕ → Sink
 sink_with n file = record { file = file; stream = n }
 
 -- a fact of a sink's operator from one of the sink, at each place
-abbrev AtPlaces : (Operator → List ℕ → Type 0) → (Sink → Type 0) → CheckedGraph → ℕ → List Op → List Part → Type 0
+abbrev AtPlaces : (Operator → List ℕ → Type 0) → (Sink → Type 0) → CheckedGraph → ℕ → List Op → List CheckedClauses → Type 0
 AtPlaces Q P c from ops parts = (n number : ℕ) (op : Op) (file : List ℕ) → number ≡ from + n → slice_get ops n ≡ Some op → slice_get parts n ≡ Some (A.FileSink file)
     → P (sink_with number file) → Q (operator_with c number op (A.FileSink file)) file
 
-at_rest : (Q : Operator → List ℕ → Type 0) (P : Sink → Type 0) (c : CheckedGraph) (from : ℕ) (op : Op) (part : Part) (ops : List Op) (parts : List Part)
+at_rest : (Q : Operator → List ℕ → Type 0) (P : Sink → Type 0) (c : CheckedGraph) (from : ℕ) (op : Op) (part : CheckedClauses) (ops : List Op) (parts : List CheckedClauses)
     → AtPlaces Q P c from (op ∷ ops) (part ∷ parts) → AtPlaces Q P c (suc from) ops parts
 at_rest Q P c from op part ops parts h n number o file is there has = h (suc n) number o file (omega (arith, is)) there has
 
-at_part : (Q : Operator → List ℕ → Type 0) (P : Sink → Type 0) (c : CheckedGraph) (from : ℕ) (op : Op) (part : Part) (parts : List Part)
+at_part : (Q : Operator → List ℕ → Type 0) (P : Sink → Type 0) (c : CheckedGraph) (from : ℕ) (op : Op) (part : CheckedClauses) (parts : List CheckedClauses)
     → ((file : List ℕ) → part ≡ A.FileSink file → P (sink_with from file) → Q (operator_with c from op (A.FileSink file)) file)
     → All P (sinks_from from (part ∷ parts)) → AtSink Q part (operator_with c from op part) × All P (sinks_from (suc from) parts)
 at_part Q P c from op (A.FileSource file strict) parts h all = (tt, all)
@@ -154,7 +154,7 @@ at_part Q P c from op (A.Custom handlers) parts h all = (tt, all)
 at_part Q P c from op (A.Aggregate window partition group output) parts h all = (tt, all)
 at_part Q P c from op (A.Join left right condition output) parts h all = (tt, all)
 
-each_sink : (Q : Operator → List ℕ → Type 0) (P : Sink → Type 0) (c : CheckedGraph) (from : ℕ) (ops : List Op) (parts : List Part)
+each_sink : (Q : Operator → List ℕ → Type 0) (P : Sink → Type 0) (c : CheckedGraph) (from : ℕ) (ops : List Op) (parts : List CheckedClauses)
     → AtPlaces Q P c from ops parts → All P (sinks_from from parts) → EachSink Q (operators_from c from ops parts)
 each_sink Q P c from [] parts h ps = tt
 each_sink Q P c from (op ∷ ops) [] h ps = tt
@@ -299,17 +299,17 @@ rows_are c g m lists n op file k e law are there has small =
     ap (λ (j : ℕ). min j (2 ^ 64 - 1)) made ∙ least (sink_rows lists (sink_with n file)) small
 
 -- the number of tuples of the sink at each place
-abbrev CountsAt : Meaning → List (List Item) → CheckedGraph → ℕ → List Op → List Part → Type 0
+abbrev CountsAt : Meaning → List (List Item) → CheckedGraph → ℕ → List Op → List CheckedClauses → Type 0
 CountsAt m lists c from ops parts = (n number : ℕ) (op : Op) (file : List ℕ) → number ≡ from + n → slice_get ops n ≡ Some op → slice_get parts n ≡ Some (A.FileSink file)
     → sink_rows lists (sink_with number file) < 2 ^ 64 → tuples_of m (operator_with c number op (A.FileSink file)) ≡ sink_rows lists (sink_with number file)
 
 abbrev Small : List ℕ → Type 0
 Small ns = All (λ n. n < 2 ^ 64) ns
 
-abbrev rows_from : List (List Item) → ℕ → List Part → List ℕ
+abbrev rows_from : List (List Item) → ℕ → List CheckedClauses → List ℕ
 rows_from lists n parts = map (sink_rows lists) (sinks_from n parts)
 
-count_part : (m : Meaning) (lists : List (List Item)) (c : CheckedGraph) (from : ℕ) (op : Op) (part : Part) (parts : List Part) (more : List SinkCount)
+count_part : (m : Meaning) (lists : List (List Item)) (c : CheckedGraph) (from : ℕ) (op : Op) (part : CheckedClauses) (parts : List CheckedClauses) (more : List SinkCount)
     → ((file : List ℕ) → part ≡ A.FileSink file → sink_rows lists (sink_with from file) < 2 ^ 64
     → tuples_of m (operator_with c from op (A.FileSink file)) ≡ sink_rows lists (sink_with from file))
     → (Small (rows_from lists (suc from) parts) → counts_from (suc from) parts (rows_from lists (suc from) parts) ≡ more)
@@ -332,7 +332,7 @@ count_part m lists c from op (A.Join left right condition output) parts more h l
 abbrev counts_in : Meaning → List Operator → List SinkCount
 counts_in m ops = filter_map (λ (op : Operator). sink_count m op.clauses op) ops
 
-counts_made : (m : Meaning) (lists : List (List Item)) (c : CheckedGraph) (from : ℕ) (ops : List Op) (parts : List Part) → length parts ≡ length ops
+counts_made : (m : Meaning) (lists : List (List Item)) (c : CheckedGraph) (from : ℕ) (ops : List Op) (parts : List CheckedClauses) → length parts ≡ length ops
     → CountsAt m lists c from ops parts → Small (rows_from lists from parts) → counts_from from parts (rows_from lists from parts) ≡ counts_in m (operators_from c from ops parts)
 counts_made m lists c from [] [] l h small = refl
 counts_made m lists c from [] (part ∷ parts) l h small = absurd (omega (arith, l))

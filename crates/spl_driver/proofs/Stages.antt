@@ -12,7 +12,7 @@ use Rattle.spl_lexer.specs.declared.answer.LexAnswer.TheVariants as L
 use Rattle.spl_lexer.specs.Answer.{Refuses}
 use Rattle.expr_parser.specs.declared.answer.SyntaxAnswer.{SyntaxAnswer}
 use Rattle.expr_parser.specs.declared.answer.SyntaxAnswer.TheVariants as S
-use Rattle.unit_parser.specs.Parses.{Parses}
+use Rattle.unit_parser.specs.Parses.{ParsesUnit}
 use Rattle.composite_expand.specs.declared.answer.ExpandAnswer.{ExpandAnswer}
 use Rattle.composite_expand.specs.declared.answer.ExpandAnswer.TheVariants as X
 use Rattle.composite_expand.specs.Expands.{Expands}
@@ -49,12 +49,12 @@ module _ (bytes : List ℕ) (names : List (List ℕ)) where
   lexed r answer refuses is = same_answer bytes names r (lexing_answer answer) is (by_lexer answer refuses)
 
   module _ (ts : Tokens) (has : tokens bytes ≡ Ok ts) where
-    by_parser : (answer : SyntaxAnswer) → Parses ts (Err answer) → IsCompiled bytes names (Err (parsing_answer answer))
+    by_parser : (answer : SyntaxAnswer) → ParsesUnit ts (Err answer) → IsCompiled bytes names (Err (parsing_answer answer))
     by_parser (S.Unexpected at) is = (Unexpected at, unexpected ts at has is, refl)
     by_parser (S.TooDeep at) is = (TooDeep at, too_deep ts at has is, refl)
     by_parser S.Memory is = tt
 
-    pub parsed : (r : Answered) (answer : SyntaxAnswer) → Parses ts (Err answer) → Is r (parsing_answer answer) → IsCompiled bytes names r
+    pub parsed : (r : Answered) (answer : SyntaxAnswer) → ParsesUnit ts (Err answer) → Is r (parsing_answer answer) → IsCompiled bytes names r
     parsed r answer parses is = same_answer bytes names r (parsing_answer answer) is (by_parser answer parses)
 
     module _ (unit : List Definition) (spells : IsUnit ts unit) where

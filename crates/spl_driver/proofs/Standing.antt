@@ -5,7 +5,7 @@ use Rattle.std.specs.Str.{bytes_eq}
 use Rattle.feed_pour.specs.Counts.{PerName}
 use Rattle.feed_pour.specs.Contents.{Told, WhereTold, TellsSame}
 use Rattle.spl_value.specs.declared.memory.NoMemory.{NoMemory}
-use Rattle.language_model.specs.declared.checked.Part.{Part}
+use Rattle.language_model.specs.declared.checked.CheckedClauses.{CheckedClauses}
 use Rattle.stream_model.specs.declared.record.Arrivals.{Arrivals}
 use Rattle.stream_model.specs.CheckedMeaning.{graph_of}
 use Rattle.stream_model.specs.Meaning.{Graph, Meaning}
@@ -172,7 +172,7 @@ IsUnrun (C.ReadFailed name) = Unit {0}
 IsUnrun (C.BadArrivals op) = Unit {0}
 IsUnrun (C.WriteFailed name) = Unit {0}
 
-pub quiet_stopped : (cause : Cause) (parts : List Part) (counts now : PerName) → IsUnrun cause → StoppedBy cause parts counts now
+pub quiet_stopped : (cause : Cause) (parts : List CheckedClauses) (counts now : PerName) → IsUnrun cause → StoppedBy cause parts counts now
 quiet_stopped (C.Stopped fault) parts counts now is = absurd is
 quiet_stopped C.Done parts counts now is = tt
 quiet_stopped C.NotBuilt parts counts now is = tt
@@ -207,7 +207,7 @@ follows_none (Some (R.Simulate p width schedule steps)) Is ended t e = tt
 follows_none (Some (R.Make name rows start)) Is ended t e = tt
 
 -- where no run ended, the file that a record is written into holds what it held
-pub record_kept : (k : Cause) (parts : List Part) (file text : List ℕ) (counts now : PerName) (TextFailed Sinks : Type 0) (t u : Told) → is_ended_run k ≡ false → u.holds file ≡ t.holds file → RecordHolds k parts file text counts now TextFailed Sinks t u
+pub record_kept : (k : Cause) (parts : List CheckedClauses) (file text : List ℕ) (counts now : PerName) (TextFailed Sinks : Type 0) (t u : Told) → is_ended_run k ≡ false → u.holds file ≡ t.holds file → RecordHolds k parts file text counts now TextFailed Sinks t u
 record_kept C.Done parts file text counts now TextFailed Sinks t u none same = cc
 record_kept (C.Stopped fault) parts file text counts now TextFailed Sinks t u none same = cc
 record_kept (C.WriteFailed name) parts file text counts now TextFailed Sinks t u none same = cc
@@ -292,10 +292,10 @@ parts_in : (t : Told) (request : Request) (program : List ℕ) (found : Result C
 parts_in t request program found of quiet accepted = of_program request program found of (record { read = quiet; accepted = accepted })
 
 -- the program is the first of the files that are opened
-abbrev OpensFirst : Request → List ℕ → List Part → Type 0
+abbrev OpensFirst : Request → List ℕ → List CheckedClauses → Type 0
 OpensFirst request program parts = (rest : List (List ℕ)) × (opens (Some request) parts ≡ program ∷ rest)
 
-opens_program : (request : Request) (program : List ℕ) (parts : List Part) → program_of request ≡ Some program → OpensFirst request program parts
+opens_program : (request : Request) (program : List ℕ) (parts : List CheckedClauses) → program_of request ≡ Some program → OpensFirst request program parts
 opens_program (R.Check p) program parts e = let same : p ≡ program = cc in ([], ap (λ (q : List ℕ). q ∷ []) same)
 opens_program (R.Plan p) program parts e = let same : p ≡ program = cc in ([], ap (λ (q : List ℕ). q ∷ []) same)
 opens_program (R.Run p options) program parts e = let same : p ≡ program = cc in (_, ap (λ (q : List ℕ). q ∷ Rattle.check_laws.specs.Files.source_files parts) same)
@@ -342,14 +342,14 @@ least_bound (Some (R.Simulate p width schedule steps)) n = omega arith
 least_bound (Some (R.Make name rows start)) n = omega arith
 
 -- a name that isn't opened isn't the program
-pub outside : (request : Request) (program : List ℕ) (parts : List Part) (n : List ℕ) → program_of request ≡ Some program
+pub outside : (request : Request) (program : List ℕ) (parts : List CheckedClauses) (n : List ℕ) → program_of request ≡ Some program
     → (is_named (opens (Some request) parts) n || is_named (creates (Some request) parts) n) ≡ false → n ≢ program
 outside request program parts n of named same =
     let first = opens_program request program parts of in
     let e = ap (λ (ns : List (List ℕ)). is_named ns n || is_named (creates (Some request) parts) n) (sym first.1) ∙ named in
     other_name program n (or_none _ ∙ or_first _ (is_named first.0 n) (is_named (creates (Some request) parts) n) e) same
 
-pub opening_of : (request : Request) (program : List ℕ) (parts : List Part) (old new : PerName) → program_of request ≡ Some program → FirstOpening program old new → OpeningFailed (opens (Some request) parts) program old new
+pub opening_of : (request : Request) (program : List ℕ) (parts : List CheckedClauses) (old new : PerName) → program_of request ≡ Some program → FirstOpening program old new → OpeningFailed (opens (Some request) parts) program old new
 opening_of request program parts old new of h =
     let first = opens_program request program parts of in
     record {
@@ -361,7 +361,7 @@ opening_of request program parts old new of h =
       others = λ n other. read_same (old n) (old n) (new n) (read_itself (old n)) (h.others n other);
     }
 
-pub reading_of : (request : Request) (program : List ℕ) (parts : List Part) (old new : PerName) → is_built request ≡ true → program_of request ≡ Some program → FirstReading program old new
+pub reading_of : (request : Request) (program : List ℕ) (parts : List CheckedClauses) (old new : PerName) → is_built request ≡ true → program_of request ≡ Some program → FirstReading program old new
     → ReadingFailed (files_of (Some request) parts) program old new
 reading_of request program parts old new built of h = record {
   whole = whole_program request program built of;
@@ -371,7 +371,7 @@ reading_of request program parts old new built of h = record {
 }
 
 -- a file other than the program wasn't read
-whole_only : (cause : Cause) (request : Request) (parts : List Part) (program : List ℕ) (old new : PerName) (t : Told) → ((n : List ℕ) → n ≢ program → new n ≡ old n) → WholeFails old new t
+whole_only : (cause : Cause) (request : Request) (parts : List CheckedClauses) (program : List ℕ) (old new : PerName) (t : Told) → ((n : List ℕ) → n ≢ program → new n ≡ old n) → WholeFails old new t
     → (cause ≡ C.NoMemory) ⊎ ((cause ≡ C.ReadFailed program) ⊎ ((new program).reading ≡ (old program).reading)) → WholeReads cause (files_of (Some request) parts) old new t
 whole_only cause request parts program old new t others fails at n named differs = elim (same_or_not n program) as (λ _. ReadingAnswered cause (most_bytes (Some request) n) t n) [
   | inl e ↦ here e at
@@ -391,7 +391,7 @@ program_answer : (told now : Option Told) (request : Request) (program : List �
     → is_ended_run cause ≡ false → (cause ≡ C.NoMemory) ⊎ ((cause ≡ C.OpenFailed program) ⊎ (cause ≡ C.ReadFailed program)) → WhereTold told now TellsSame → IfSome told (WholeFails counts later) → ((n : List ℕ) → n ≢ program → later n ≡ counts n)
     → (cause ≡ C.NoMemory) ⊎ ((cause ≡ C.ReadFailed program) ⊎ ((later program).reading ≡ (counts program).reading))
     → ((t u : Told) → SameFiles t u → CauseMeans cause (IsOutcome t ended.arrivals (Some request)) ended t u)
-    → ((t u : Told) (parts : List Part) → SameFiles t u → DevicesMean cause (files_of (Some request) parts) counts later ⊥ (IsOutcome t ended.arrivals (Some request)) ended t u)
+    → ((t u : Told) (parts : List CheckedClauses) → SameFiles t u → DevicesMean cause (files_of (Some request) parts) counts later ⊥ (IsOutcome t ended.arrivals (Some request)) ended t u)
     → WhereTold told now (Answered (Some request) ended counts later ⊥)
 program_answer None now request program cause ended counts later of is unread none names same reads others at stands shows = tt
 program_answer (Some t) None request program cause ended counts later of is unread none names same reads others at stands shows = same
@@ -496,7 +496,7 @@ accepted_answer one parts_one (Some t) (Some s) (Some u) request program c ended
     (subst (λ (x : Told). FilesShow (IsAcceptedOutcome request c ended.arrivals x) (files_of (Some request) c.parts) ended between later x u) (same_told t s same) files))
     (subst (λ (k : PerName). CountsShow ended.cause c.parts (files_of (Some request) c.parts) k later) (same_counts counts between quiet) shown)
   where
-    parts_are : (parts : List Part) → ArePartsIn t (Some request) parts → c.parts ≡ parts
+    parts_are : (parts : List CheckedClauses) → ArePartsIn t (Some request) parts → c.parts ≡ parts
     parts_are parts are = parts_one (Some request) t c.parts parts (parts_in t request program (Ok c) of made.0 made.1) are
 
     to : (r : RequestOutcome) → IsAcceptedOutcome request c ended.arrivals t r → IsOutcome t ended.arrivals (Some request) r
@@ -510,15 +510,15 @@ accepted_answer one parts_one (Some t) (Some s) (Some u) request program c ended
         → Answered (Some request) ended counts later ⊥ t u
     go f k = record {
       means = means_map ended.cause (IsAcceptedOutcome request c ended.arrivals t) (IsOutcome t ended.arrivals (Some request)) ended t u to from f.means;
-      others = λ parts are n named. f.others n (ap (λ (ps : List Part). is_named (creates (Some request) ps) n) (parts_are parts are) ∙ named);
-      scripts = λ parts are n named. f.scripts n (ap (λ (ps : List Part). is_named (creates (Some request) ps) n) (parts_are parts are) ∙ named);
+      others = λ parts are n named. f.others n (ap (λ (ps : List CheckedClauses). is_named (creates (Some request) ps) n) (parts_are parts are) ∙ named);
+      scripts = λ parts are n named. f.scripts n (ap (λ (ps : List CheckedClauses). is_named (creates (Some request) ps) n) (parts_are parts are) ∙ named);
       counted = λ parts are n named.
-          k.others n (ap (λ (ps : List Part). is_named (opens (Some request) ps) n || is_named (creates (Some request) ps) n) (parts_are parts are) ∙ named);
+          k.others n (ap (λ (ps : List CheckedClauses). is_named (opens (Some request) ps) n || is_named (creates (Some request) ps) n) (parts_are parts are) ∙ named);
       device = λ parts are.
-          subst (λ (ps : List Part). DevicesMean ended.cause (files_of (Some request) ps) counts later ⊥ (IsOutcome t ended.arrivals (Some request)) ended t u) (parts_are parts are)
+          subst (λ (ps : List CheckedClauses). DevicesMean ended.cause (files_of (Some request) ps) counts later ⊥ (IsOutcome t ended.arrivals (Some request)) ended t u) (parts_are parts are)
           (devices_map ended.cause (files_of (Some request) c.parts) counts later ⊥ (IsAcceptedOutcome request c ended.arrivals t) (IsOutcome t ended.arrivals (Some request)) ended t u to f.device);
-      stopped = λ parts are. subst (λ (ps : List Part). StoppedBy ended.cause ps counts later) (parts_are parts are) k.stopped;
-      whole = λ parts are. subst (λ (ps : List Part). WholeReads ended.cause (files_of (Some request) ps) counts later t) (parts_are parts are) f.whole;
+      stopped = λ parts are. subst (λ (ps : List CheckedClauses). StoppedBy ended.cause ps counts later) (parts_are parts are) k.stopped;
+      whole = λ parts are. subst (λ (ps : List CheckedClauses). WholeReads ended.cause (files_of (Some request) ps) counts later t) (parts_are parts are) f.whole;
       reads = f.reads;
       needed = subst (NeedsRecord (Some request) ended) (same_told t s same) needed;
       followed = follows_told request c ended t program one of made.0 made.1 (subst (FollowsFile request c ended) (same_told t s same) followed);

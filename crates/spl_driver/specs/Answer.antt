@@ -6,8 +6,8 @@ use Rattle.feed_pour.specs.Counts.{PerName, Rose}
 use Rattle.feed_pour.specs.Contents.{Told}
 use Rattle.spl_value.specs.declared.item.Fault.{Fault}
 use Rattle.spl_value.specs.declared.item.FaultKind.TheVariants as K
-use Rattle.language_model.specs.declared.checked.Part.{Part}
-use Rattle.language_model.specs.declared.checked.Part.TheVariants as A
+use Rattle.language_model.specs.declared.checked.CheckedClauses.{CheckedClauses}
+use Rattle.language_model.specs.declared.checked.CheckedClauses.TheVariants as A
 use Rattle.stream_model.specs.declared.record.Arrivals.{Arrivals}
 use Rattle.stream_model.specs.declared.record.Counts.{Counts}
 use Rattle.stream_model.specs.declared.record.SinkCount.{SinkCount}
@@ -33,7 +33,7 @@ use Rattle.spl_driver.specs.declared.ended.Ended.{Ended}
 -- ---- a run that was carried out
 
 -- a fact of each sink and its file
-abbrev pub AtSink : (Operator → List ℕ → Type 0) → Part → Operator → Type 0
+abbrev pub AtSink : (Operator → List ℕ → Type 0) → CheckedClauses → Operator → Type 0
 AtSink P (A.FileSink file) op = P op file
 AtSink P _ op = ⊤
 
@@ -55,7 +55,7 @@ HoldsPrefix m old new op file = (new.holds file ≡ old.holds file) ⊎ ((n : �
 abbrev pub tuples_of : Meaning → Operator → ℕ
 tuples_of m op = min (length (out op 0 (m.events op.number))) (2 ^ 64 - 1)
 
-abbrev pub sink_count : Meaning → Part → Operator → Option SinkCount
+abbrev pub sink_count : Meaning → CheckedClauses → Operator → Option SinkCount
 sink_count m (A.FileSink file) op = Some (record { op = op.number; tuples = tuples_of m op })
 sink_count m _ op = None
 
@@ -162,14 +162,14 @@ DevicesShow C.NoMemory files old new = ⊤
 -- ---- a run that stops at a read that failed
 
 -- the operator with this number is a source, and the count of reading of its file rose
-pub record SourceUnread (parts : List Part) (op : ℕ) (old new : PerName) : Type 0 where
+pub record SourceUnread (parts : List CheckedClauses) (op : ℕ) (old new : PerName) : Type 0 where
   pub file : List ℕ
   pub strict : Bool
   pub source : slice_get parts op ≡ Some (A.FileSource file strict)
   pub rose : Rose (old file).reading (new file).reading
 
 -- that is so of the operator that a fault names, where the fault is a read that failed
-abbrev pub StoppedBy : Cause → List Part → PerName → PerName → Type 0
+abbrev pub StoppedBy : Cause → List CheckedClauses → PerName → PerName → Type 0
 StoppedBy (C.Stopped fault) parts old new = fault.kind ≡ K.ReadFailed → SourceUnread parts fault.op old new
 StoppedBy C.Done parts old new = ⊤
 StoppedBy C.NotBuilt parts old new = ⊤
@@ -277,7 +277,7 @@ FollowsRecord _ Is ended old = ⊤
 
 -- Some file couldn't be written, the first of which has this name. That of the record is empty where it is a sink's; it holds a prefix of its
 -- text, and the sinks' files hold theirs, where it is this one; and its text, where the name is that of standard output.
-pub data RecordUnwritten (name : List ℕ) (parts : List Part) (file text : List ℕ) (counts now : PerName) (TextFailed Sinks : Type 0) (new : Told) : Type 0 where
+pub data RecordUnwritten (name : List ℕ) (parts : List CheckedClauses) (file text : List ℕ) (counts now : PerName) (TextFailed Sinks : Type 0) (new : Told) : Type 0 where
   of_sink : is_named (sink_files parts) name ≡ true → Rose (counts name).writing (now name).writing → new.holds file ≡ Some []
       → RecordUnwritten name parts file text counts now TextFailed Sinks new
   of_record : name ≡ file → Rose (counts file).writing (now file).writing → Sinks → (n : ℕ) → new.holds file ≡ Some (take n text)
@@ -288,7 +288,7 @@ pub data RecordUnwritten (name : List ℕ) (parts : List Part) (file text : List
 -- What this file holds, into which a run writes its record, by how the run ends: the record's text, where the run was carried out, beside the texts
 -- of the sinks; where a file couldn't be written, as above; where memory ran out, what it held, or nothing, or a prefix of the text beside
 -- those of the sinks; and else what it held.
-abbrev pub RecordHolds : Cause → List Part → List ℕ → List ℕ → PerName → PerName → Type 0 → Type 0 → Told → Told → Type 0
+abbrev pub RecordHolds : Cause → List CheckedClauses → List ℕ → List ℕ → PerName → PerName → Type 0 → Type 0 → Told → Told → Type 0
 RecordHolds C.Done parts file text counts now TextFailed Sinks old new = Sinks × (new.holds file ≡ Some text)
 RecordHolds (C.Stopped fault) parts file text counts now TextFailed Sinks old new = Sinks × (new.holds file ≡ Some text)
 RecordHolds (C.WriteFailed name) parts file text counts now TextFailed Sinks old new = RecordUnwritten name parts file text counts now TextFailed Sinks new
@@ -311,14 +311,14 @@ WritesRecord _ Is ended counts now TextFailed old new = ⊤
 -- the answer to a request at a shelf that tells its files, where the count of the text's pour rose or not
 pub record Answered (request : Option Request) (ended : Ended) (counts now : PerName) (TextFailed : Type 0) (old new : Told) : Type 0 where
   pub means : CauseMeans ended.cause (IsOutcome old ended.arrivals request) ended old new
-  pub others : (parts : List Part) → ArePartsIn old request parts → (n : List ℕ) → is_named (creates request parts) n ≡ false → new.holds n ≡ old.holds n
-  pub scripts : (parts : List Part) → ArePartsIn old request parts → (n : List ℕ) → is_named (creates request parts) n ≡ false → new.script n ≡ old.script n
-  pub counted : (parts : List Part) → ArePartsIn old request parts → (n : List ℕ)
+  pub others : (parts : List CheckedClauses) → ArePartsIn old request parts → (n : List ℕ) → is_named (creates request parts) n ≡ false → new.holds n ≡ old.holds n
+  pub scripts : (parts : List CheckedClauses) → ArePartsIn old request parts → (n : List ℕ) → is_named (creates request parts) n ≡ false → new.script n ≡ old.script n
+  pub counted : (parts : List CheckedClauses) → ArePartsIn old request parts → (n : List ℕ)
       → (is_named (opens request parts) n || is_named (creates request parts) n) ≡ false → now n ≡ counts n
-  pub device : (parts : List Part) → ArePartsIn old request parts
+  pub device : (parts : List CheckedClauses) → ArePartsIn old request parts
       → DevicesMean ended.cause (files_of request parts) counts now TextFailed (IsOutcome old ended.arrivals request) ended old new
-  pub stopped : (parts : List Part) → ArePartsIn old request parts → StoppedBy ended.cause parts counts now
-  pub whole : (parts : List Part) → ArePartsIn old request parts → WholeReads ended.cause (files_of request parts) counts now old
+  pub stopped : (parts : List CheckedClauses) → ArePartsIn old request parts → StoppedBy ended.cause parts counts now
+  pub whole : (parts : List CheckedClauses) → ArePartsIn old request parts → WholeReads ended.cause (files_of request parts) counts now old
   pub reads : ReadsFail counts now old
   pub needed : NeedsRecord request ended old
   pub followed : FollowsRecord request (IsOutcome old ended.arrivals request) ended old
@@ -402,7 +402,7 @@ IsAnswer (Runs c g m) whole Failed TextFailed cause = (Failed → ⊥) → (Text
 -- whatever the outcome of the request
 abbrev pub IsComplete : Option Request → Ended → PerName → PerName → Type 0 → Told → Type 0
 IsComplete request ended counts now TextFailed told =
-    (result : RequestOutcome) → IsOutcome told ended.arrivals request result → (parts : List Part) → ArePartsIn told request parts
+    (result : RequestOutcome) → IsOutcome told ended.arrivals request result → (parts : List CheckedClauses) → ArePartsIn told request parts
     → IsAnswer result (whole_files request) (DeviceFailed (files_of request parts) counts now) TextFailed ended.cause
 
 -- the cause is this one, or memory ran out, and nothing was touched

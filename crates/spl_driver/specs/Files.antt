@@ -1,7 +1,7 @@
 -- The files that a request opens and creates, by the clauses of the operators of its program.
 use Rattle.std.specs.Prelude.{◌^◌, ℕ, List, [], ◌∷◌, ◌++◌, if◌then◌else◌, Option, Some, None, Result, Ok, Err}
 use Rattle.std.specs.Str.{bytes_eq}
-use Rattle.language_model.specs.declared.checked.Part.{Part}
+use Rattle.language_model.specs.declared.checked.CheckedClauses.{CheckedClauses}
 use Rattle.language_model.specs.Accepted.{ProgramRefusal}
 use Rattle.language_model.specs.CheckedGraph.{CheckedGraph}
 use Rattle.command_line.specs.declared.request.Request.{Request}
@@ -18,7 +18,7 @@ program_of (R.Simulate program width schedule steps) = Some program
 program_of (R.Make name rows start) = None
 
 -- the operators of an accepted program; those of another one are none
-abbrev pub parts_of : Result CheckedGraph ProgramRefusal → List Part
+abbrev pub parts_of : Result CheckedGraph ProgramRefusal → List CheckedClauses
 parts_of (Ok c) = c.parts
 parts_of (Err refusal) = []
 
@@ -27,7 +27,7 @@ if_given None = []
 if_given (Some name) = name ∷ []
 
 -- the program, the files of the sources where they are run, and a record that is followed
-abbrev pub opens : Option Request → List Part → List (List ℕ)
+abbrev pub opens : Option Request → List CheckedClauses → List (List ℕ)
 opens None parts = []
 opens (Some (R.Check program)) parts = program ∷ []
 opens (Some (R.Plan program)) parts = program ∷ []
@@ -37,7 +37,7 @@ opens (Some (R.Simulate program width schedule steps)) parts = program ∷ sourc
 opens (Some (R.Make name rows start)) parts = []
 
 -- The files that are opened are read to their ends, row by row those of the sources where they are run, and the others as a whole.
-abbrev pub row_files : Option Request → List Part → List (List ℕ)
+abbrev pub row_files : Option Request → List CheckedClauses → List (List ℕ)
 row_files (Some (R.Run program options)) parts = source_files parts
 row_files (Some (R.Replay program arrivals)) parts = source_files parts
 row_files (Some (R.Simulate program width schedule steps)) parts = source_files parts
@@ -49,7 +49,7 @@ whole_files (Some (R.Replay program arrivals)) = program ∷ arrivals ∷ []
 whole_files (Some request) = if_given (program_of request)
 
 -- the files of the sinks where they are run, a record that is written, and a file that is made
-abbrev pub creates : Option Request → List Part → List (List ℕ)
+abbrev pub creates : Option Request → List CheckedClauses → List (List ℕ)
 creates None parts = []
 creates (Some (R.Check program)) parts = []
 creates (Some (R.Plan program)) parts = []
@@ -72,6 +72,6 @@ pub record FilesOf : Type 0 where
   pub rows : List (List ℕ)
   pub created : List (List ℕ)
 
-abbrev pub files_of : Option Request → List Part → FilesOf
+abbrev pub files_of : Option Request → List CheckedClauses → FilesOf
 files_of request parts =
     record { opened = opens request parts; whole = whole_files request; most = most_bytes request; rows = row_files request parts; created = creates request parts }

@@ -2,7 +2,7 @@
 use Rattle.std.specs.Prelude.{◌≡◌, ◌^◌, ℕ, ◌&&◌, nat_le, List, [], length, Bool, true, false, Option, Some, None, Result, Ok, Err}
 use Rattle.spl_value.specs.Script.{Script}
 use Rattle.feed_pour.specs.Contents.{Told}
-use Rattle.language_model.specs.declared.checked.Part.{Part}
+use Rattle.language_model.specs.declared.checked.CheckedClauses.{CheckedClauses}
 use Rattle.stream_model.specs.declared.record.ArrivalList.{ArrivalList}
 use Rattle.stream_model.specs.declared.record.Arrivals.{Arrivals}
 use Rattle.language_model.specs.Accepted.{ProgramRefusal, IsAccepted}
@@ -112,7 +112,7 @@ pub data IsOutcome (told : Told) (arrivals : Arrivals) : Option Request → Requ
 -- ---- the operators of its program
 
 -- The clauses of the operators of the request's program: none where there is no program, where it can't be read, or where it isn't accepted.
-pub data ArePartsIn (told : Told) : Option Request → List Part → Type 0 where
+pub data ArePartsIn (told : Told) : Option Request → List CheckedClauses → Type 0 where
   of_no_request : ArePartsIn told None []
   of_no_program : (request : Request) → program_of request ≡ None → ArePartsIn told (Some request) []
   of_unreadable : (request : Request) (program : List ℕ) → program_of request ≡ Some program → has_fault (told.script program) ≡ true → ArePartsIn told (Some request) []

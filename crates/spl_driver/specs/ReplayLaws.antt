@@ -2,7 +2,7 @@
 use Rattle.std.specs.Prelude.{◌≡◌, ◌≤◌, ◌^◌, ℕ, false, true, List, length, Option, Some}
 use Rattle.feed_pour.specs.Counts.{PerName, Rose}
 use Rattle.feed_pour.specs.Contents.{Told}
-use Rattle.language_model.specs.declared.checked.Part.{Part}
+use Rattle.language_model.specs.declared.checked.CheckedClauses.{CheckedClauses}
 use Rattle.stream_model.specs.declared.record.Arrivals.{Arrivals}
 use Rattle.language_model.specs.CheckedGraph.{CheckedGraph}
 use Rattle.stream_model.specs.Meaning.{Graph, Meaning}
@@ -18,7 +18,7 @@ use Rattle.spl_driver.specs.declared.ended.Ended.{Ended}
 
 -- the files that a request opens are read as they were
 abbrev pub AreReadAlike : Option Request → Told → Told → Type 0
-AreReadAlike request t u = (parts : List Part) → ArePartsIn t request parts → (n : List ℕ) → is_named (opens request parts) n ≡ true → u.script n ≡ t.script n
+AreReadAlike request t u = (parts : List CheckedClauses) → ArePartsIn t request parts → (n : List ℕ) → is_named (opens request parts) n ≡ true → u.script n ≡ t.script n
 
 -- Where the result of a run is a meaning under a record that is whole in it, a replay has the same, if its program and sources are read alike, and
 -- it reads the record's text, which isn't too long, without a fault.

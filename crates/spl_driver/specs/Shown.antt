@@ -3,7 +3,7 @@ use Rattle.std.specs.Prelude.{◌≡◌, ◌≢◌, ◌⊎◌, ◌||◌, ℕ, Li
 use Rattle.spl_value.specs.declared.item.Fault.{Fault}
 use Rattle.spl_value.specs.declared.item.Item.{Item}
 use Rattle.feed_pour.specs.Counts.{PerName}
-use Rattle.language_model.specs.declared.checked.Part.{Part}
+use Rattle.language_model.specs.declared.checked.CheckedClauses.{CheckedClauses}
 use Rattle.language_model.specs.CheckedGraph.{CheckedGraph}
 use Rattle.stream_model.specs.declared.record.Arrivals.{Arrivals}
 use Rattle.stream_model.specs.Arrivals.{entries_in}
@@ -32,7 +32,7 @@ IsProgramOf None c = ⊥
 IsProgramOf (Some request) c = IsSomeProgram request c
 
 -- the operators of such a program, or none
-abbrev pub ArePartsOf : Option Request → List Part → Type 0
+abbrev pub ArePartsOf : Option Request → List CheckedClauses → Type 0
 ArePartsOf request parts = (parts ≡ []) ⊎ ((c : CheckedGraph) × IsProgramOf request c × (parts ≡ c.parts))
 
 -- a record isn't whole for this operator in the meaning of the graph for some closed rows of its sources; of one that isn't spelled nothing is said
@@ -63,7 +63,7 @@ IsReason C.NoMemory request = ⊤
 -- For the operators of the program: which device failed, and which source couldn't be read. Nothing was counted of other names, and of a name
 -- that isn't a source's, reading was counted only where the answer names it, or where memory ran out.
 pub record ShownBy (cause : Cause) (request : Option Request) (old new : PerName) : Type 0 where
-  pub parts : List Part
+  pub parts : List CheckedClauses
   pub are : ArePartsOf request parts
   pub device : DevicesShow cause (files_of request parts) old new
   pub stopped : StoppedBy cause parts old new
@@ -74,7 +74,7 @@ pub record ShownBy (cause : Cause) (request : Option Request) (old new : PerName
 pub record TextShown (name : List ℕ) (request : Option Request) (old new : PerName) (TextFailed : Type 0) : Type 0 where
   pub named : name ≡ OUT
   pub failed : TextFailed
-  pub parts : List Part
+  pub parts : List CheckedClauses
   pub are : ArePartsOf request parts
   pub counted : OnlyReads (row_files request parts) old new
 

@@ -7,8 +7,8 @@ use Rattle.spl_value.specs.declared.item.Item.{Item}
 use Rattle.spl_value.specs.Script.{Script}
 use Rattle.feed_pour.specs.Counts.{PerName, Rose}
 use Rattle.feed_pour.specs.Contents.{Told, WhereTold}
-use Rattle.language_model.specs.declared.checked.Part.{Part}
-use Rattle.language_model.specs.declared.checked.Part.TheVariants as A
+use Rattle.language_model.specs.declared.checked.CheckedClauses.{CheckedClauses}
+use Rattle.language_model.specs.declared.checked.CheckedClauses.TheVariants as A
 use Rattle.stream_model.specs.declared.record.Arrivals.{Arrivals}
 use Rattle.stream_model.specs.declared.record.SinkCount.{SinkCount}
 use Rattle.language_model.specs.Accepted.{ProgramRefusal, IsAccepted}
@@ -213,7 +213,7 @@ PreparedCounted Q.Memory files old new = OnlyOf files.rows old new
 -- ---- its sinks
 
 -- the sinks of operators with these clauses, numbered from n on: each writes what its operator gives
-abbrev pub sinks_from : ℕ → List Part → List Sink
+abbrev pub sinks_from : ℕ → List CheckedClauses → List Sink
 sinks_from n [] = []
 sinks_from n (A.FileSink file ∷ parts) = record { file = file; stream = n } ∷ sinks_from (suc n) parts
 sinks_from n (_ ∷ parts) = sinks_from (suc n) parts
@@ -222,7 +222,7 @@ abbrev pub sinks_of : CheckedGraph → List Sink
 sinks_of c = sinks_from 0 c.parts
 
 -- the number of rows of each sink
-abbrev pub counts_from : ℕ → List Part → List ℕ → List SinkCount
+abbrev pub counts_from : ℕ → List CheckedClauses → List ℕ → List SinkCount
 counts_from n [] rows = []
 counts_from n (A.FileSink file ∷ parts) [] = []
 counts_from n (A.FileSink file ∷ parts) (k ∷ rows) = record { op = n; tuples = k } ∷ counts_from (suc n) parts rows
@@ -323,7 +323,7 @@ RecordFor _ c ended counts now old new = ⊤
 -- ---- an answer
 
 -- what the counts of faults show of an answer to what ran these operators, and opened and created these files
-pub record CountsShow (cause : Cause) (parts : List Part) (files : FilesOf) (old new : PerName) : Type 0 where
+pub record CountsShow (cause : Cause) (parts : List CheckedClauses) (files : FilesOf) (old new : PerName) : Type 0 where
   pub words : cause ≡ C.BadWords → ⊥
   pub others : (n : List ℕ) → (is_named files.opened n || is_named files.created n) ≡ false → new n ≡ old n
   pub reading : (n : List ℕ) → is_named files.rows n ≡ false → (new n).reading ≢ (old n).reading → (cause ≡ C.ReadFailed n) ⊎ (cause ≡ C.NoMemory)

@@ -7,9 +7,9 @@ ghost use Rattle.spl_driver.specs.Steps.{IsOrderOf, PreparedCounted, PreparedOf,
 
 use fault_laws::run_faults_law;
 use feed_pour::Shelf;
-use op_kit::run_graph;
 use language_model::Checked;
 use list_engine::{Order, Run, RunAnswer, engine_law};
+use op_kit::run_graph;
 use source_rows::{Sources, read_sources};
 use spl_value::Name;
 use std::alloc::Global;

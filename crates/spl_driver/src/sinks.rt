@@ -7,7 +7,7 @@ ghost use Rattle.spl_driver.specs.Steps.{counts_from, last_of, sinks_of};
 
 use arrival_format::arrivals_text;
 use file_adapters::{Sink, TextFile};
-use language_model::{Checked, Part};
+use language_model::{Checked, CheckedClauses};
 use spl_value::{Items, Name, NoMemory};
 use std::alloc::Global;
 use stream_model::{Arrivals, SinkCount};
@@ -30,7 +30,7 @@ fn sinks_of(alloc: Global, checked: &Checked) -> Result<Items<Sink>, NoMemory>
     let mut parts = checked.parts.as_slice();
     let mut op = 0u32;
     'operators: while let [part, behind @ ..] = parts {
-        if let Part::FileSink { file } = part {
+        if let CheckedClauses::FileSink { file } = part {
             let file = Items::from_slice(alloc, file.as_slice())?;
             sinks.push(Sink { file, stream: op })?;
         }
@@ -104,7 +104,7 @@ pub fn sink_counts(
     let mut rest = checked.parts.as_slice();
     let mut op = 0u32;
     'operators: while let [part, behind @ ..] = rest {
-        if let Part::FileSink { .. } = part {
+        if let CheckedClauses::FileSink { .. } = part {
             let [tuples, more @ ..] = left else {
                 return Ok(counts);
             };

@@ -1,4 +1,4 @@
-use crate::code::{Code, Slot, Taking};
+use crate::code::{Code, Selector, Slot};
 use spl_value::{Items, SplType};
 
 /// What is changed: a variable, or what is taken of it in turn.
@@ -6,7 +6,7 @@ use spl_value::{Items, SplType};
 pub struct Place {
     /// The variable's place in the scope, from 0.
     pub variable: u32,
-    pub takings: Items<Taking<Code<Slot>>>,
+    pub takings: Items<Selector<Code<Slot>>>,
 }
 
 /// How a place is changed.

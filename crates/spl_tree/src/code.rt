@@ -16,7 +16,7 @@ pub enum Code<N> {
     /// from 0, and its value.
     Tuple(Items<(u32, Code<N>)>),
     /// Members, elements and values at keys that are taken in turn of what comes first.
-    Select(Boxed<Code<N>>, Items<Taking<Code<N>>>),
+    Select(Boxed<Code<N>>, Items<Selector<Code<N>>>),
     /// Operators and casts in front of an operand, the outermost first.
     Unary(Items<UnaryCode>, Boxed<Code<N>>),
     Binary(BinaryCode, Boxed<Code<N>>, Boxed<Code<N>>),
@@ -44,7 +44,7 @@ pub enum Slot {
 
 /// What is taken of a value.
 #[derive(Drop)]
-pub enum Taking<C> {
+pub enum Selector<C> {
     /// The attribute of a tuple at that place, from 0.
     Member(u32),
     /// The element of a list at an index.

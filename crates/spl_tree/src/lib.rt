@@ -15,7 +15,7 @@ mod unit;
 
 pub use body::{Body, Change, Function, Functions, Place, Statement};
 pub use code::{
-    BinaryCode, BuiltIn, CallName, Code, IntegerOperator, Marker, OrderOperator, Slot, Taking,
+    BinaryCode, BuiltIn, CallName, Code, IntegerOperator, Marker, OrderOperator, Selector, Slot,
     UnaryCode,
 };
 pub use expression::{

@@ -6,7 +6,7 @@ ghost use Rattle.stream_model.specs.Operators.{Operator};
 ghost use Rattle.stream_model.specs.StateKinds.{has_mutable, state_of};
 ghost use Rattle.stream_model.specs.Windows.{flushes_at_markers};
 
-use language_model::{Checked, Handlers, Part, WindowRule};
+use language_model::{Checked, CheckedClauses, Handlers, WindowRule};
 use spl_value::{Items, NoMemory, Places};
 use std::alloc::Global;
 use stream_model::StateKind;
@@ -25,24 +25,26 @@ pub fn state_of(alloc: Global, checked: &Checked, op: u32) -> Result<StateKind, 
 }
 
 /// The same by these clauses.
-fn state_by(alloc: Global, part: &Part) -> Result<StateKind, NoMemory>
+fn state_by(alloc: Global, part: &CheckedClauses) -> Result<StateKind, NoMemory>
     ensures { IfOk result (λ kind. kind ≡ state_of part.now) }
 {
     match part {
-        Part::FileSource { .. } | Part::FileSink { .. } | Part::Join { .. } => Ok(StateKind::Whole),
-        Part::Filter { .. }
-        | Part::Functor { .. }
-        | Part::Punctor { .. }
-        | Part::Split { .. }
-        | Part::Union { .. } => Ok(StateKind::Stateless),
-        Part::Custom { handlers } => {
+        CheckedClauses::FileSource { .. }
+        | CheckedClauses::FileSink { .. }
+        | CheckedClauses::Join { .. } => Ok(StateKind::Whole),
+        CheckedClauses::Filter { .. }
+        | CheckedClauses::Functor { .. }
+        | CheckedClauses::Punctor { .. }
+        | CheckedClauses::Split { .. }
+        | CheckedClauses::Union { .. } => Ok(StateKind::Stateless),
+        CheckedClauses::Custom { handlers } => {
             if has_mutable(handlers) {
                 Ok(StateKind::Whole)
             } else {
                 Ok(StateKind::Stateless)
             }
         }
-        Part::Aggregate {
+        CheckedClauses::Aggregate {
             window,
             partition,
             ..

@@ -10,9 +10,9 @@ use Rattle.spl_value.specs.declared.value.Value.{Value}
 use Rattle.spl_value.specs.declared.value.Value.TheVariants as V
 use Rattle.spl_value.specs.Values.{fits}
 use Rattle.spl_tree.specs.declared.graph.OpKind.{OpKind}
-use Rattle.language_model.specs.declared.checked.Collected.{Collected}
-use Rattle.language_model.specs.declared.checked.Part.{Part}
-use Rattle.language_model.specs.declared.checked.Part.TheVariants as A
+use Rattle.language_model.specs.declared.checked.CollectedAttribute.{CollectedAttribute}
+use Rattle.language_model.specs.declared.checked.CheckedClauses.{CheckedClauses}
+use Rattle.language_model.specs.declared.checked.CheckedClauses.TheVariants as A
 use Rattle.language_model.specs.declared.checked.Policy.{Policy}
 use Rattle.language_model.specs.declared.outs.Output.{Output}
 use Rattle.language_model.specs.declared.scope.Scope.{Scope}
@@ -41,14 +41,14 @@ use Rattle.spl_value.proofs.Lists.{all_at}
 -- ---- clauses
 
 -- an Aggregate has one input and one output, and its assignments fit
-record Shape (scope : Scope) (ins outs : List Attributes) (output : List Collected) : Type 0 where
+record Shape (scope : Scope) (ins outs : List Attributes) (output : List CollectedAttribute) : Type 0 where
   input : Attributes
   schema : Attributes
   takes : ins ≡ input ∷ []
   gives : outs ≡ schema ∷ []
   groups : GroupsFit scope schema output
 
-shape_of : (scope : Scope) (kind : OpKind) (ins outs : List Attributes) (part : Part) (window : Policy) (partition group : List ℕ) (output : List Collected)
+shape_of : (scope : Scope) (kind : OpKind) (ins outs : List Attributes) (part : CheckedClauses) (window : Policy) (partition group : List ℕ) (output : List CollectedAttribute)
     → part ≡ A.Aggregate window partition group output → PartFits scope kind ins outs part → Shape scope ins outs output
 shape_of scope _ _ _ _ window partition group output is (K.aggregate w p g own input schema a b d e f) =
     let same : own ≡ output = cc in record { input = input; schema = schema; takes = refl; gives = refl; groups = subst (GroupsFit scope schema) same f }
@@ -69,7 +69,7 @@ one_tuple input t f (suc i) schema at = absurd cc
 
 -- ---- the body
 
-module _ (op : Operator) (fit : IsFitting op) (window : Policy) (partition group : List ℕ) (output : List Collected) (is : op.clauses ≡ A.Aggregate window partition group output) where
+module _ (op : Operator) (fit : IsFitting op) (window : Policy) (partition group : List ℕ) (output : List CollectedAttribute) (is : op.clauses ≡ A.Aggregate window partition group output) where
   abbrev shape : Shape fit.scope op.types.ins op.types.outs output
   shape = shape_of fit.scope fit.kind op.types.ins op.types.outs op.clauses window partition group output is fit.clauses
 
@@ -164,7 +164,7 @@ module _ (op : Operator) (fit : IsFitting op) (window : Policy) (partition group
       (yields_weaker (AllByRecursion Given) (AllFit op) (aggregate_body op.functions window partition group output (items_of 0 h) x) given_fits
       (body_gives (items_of 0 h) x (history_good h history calm) (has_input port x has))))
 
-by_part : (op : Operator) (h : List Event) (port : ℕ) (x : Item) (part : Part) → op.clauses ≡ part → is_aggregate part ≡ true → IsFitting op → HistoryFits op h → NoneFaulted op h
+by_part : (op : Operator) (h : List Event) (port : ℕ) (x : Item) (part : CheckedClauses) → op.clauses ≡ part → is_aggregate part ≡ true → IsFitting op → HistoryFits op h → NoneFaulted op h
     → HasPort op port x → MakesFit op (makes_by op.clauses op h port x)
 by_part op h port x (A.Aggregate window partition group output) is kind fit history calm has =
     aggregate_makes op fit window partition group output is h port x history calm has

@@ -4,13 +4,13 @@ use Rattle.std.specs.List.{list_all}
 use Rattle.std.proofs.lemmas.Bool.{cond-true, cond-false, cases_eq, eq-eqb, eqb-true, ne_eqb, and_parts, ltb-true}
 use Rattle.spl_value.specs.declared.item.Item.{Item}
 use Rattle.spl_value.specs.declared.item.Item.TheVariants as I
-use Rattle.language_model.specs.declared.checked.Part.{Part}
-use Rattle.language_model.specs.declared.checked.Part.TheVariants as A
+use Rattle.language_model.specs.declared.checked.CheckedClauses.{CheckedClauses}
+use Rattle.language_model.specs.declared.checked.CheckedClauses.TheVariants as A
 use Rattle.stream_model.specs.Stream.{Event, came, is_final, is_fault, is_empty}
 use Rattle.stream_model.specs.Operators.{Operator, ports, ports_from, port_at}
 use Rattle.stream_model.specs.PortEvents.{by_ports, is_over, all_over, port_ended, all_ended, is_waiting, is_last, port_events}
 use Rattle.stream_model.specs.Bodies.{on_each}
-use Rattle.stream_model.specs.React.{Answer, Gives, Faults, answer, makes_by, port_body, body, ended, ended_by, answered}
+use Rattle.stream_model.specs.React.{Reaction, Gives, Faults, answer, makes_by, port_body, body, ended, ended_by, answered}
 use Rattle.stream_model.specs.PortLaws.{has_connections, name_inputs, at_port, ByPortsLaw, WaitingLaw, PortEndLaw, SinglePortsLaw}
 use Rattle.stream_model.proofs.Waiting.{all_over-not, port_at-is, slice_get-past}
 
@@ -280,11 +280,11 @@ single_ports_law op h some named = same_events op h named
 
 -- ---- what events cause
 
-same_makes : (clauses : Part) (op : Operator) (es : List Event) (p : ℕ) (x : Item) → makes_by clauses (by_ports op) es p x ≡ makes_by clauses op es p x
+same_makes : (clauses : CheckedClauses) (op : Operator) (es : List Event) (p : ℕ) (x : Item) → makes_by clauses (by_ports op) es p x ≡ makes_by clauses op es p x
 same_makes (A.FileSource file strict) op es p x = refl
 same_makes _ op es p x = refl
 
-same_answered : (op : Operator) (last : Bool) (a : Answer) → (answered op last a ≡ answered (by_ports op) last a) × (ended_by op last a ≡ ended_by (by_ports op) last a)
+same_answered : (op : Operator) (last : Bool) (a : Reaction) → (answered op last a ≡ answered (by_ports op) last a) × (ended_by op last a ≡ ended_by (by_ports op) last a)
 same_answered op last (Gives outs) = (refl, refl)
 same_answered op last (Faults kind) = (refl, refl)
 

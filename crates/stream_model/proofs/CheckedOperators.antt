@@ -3,7 +3,7 @@ use Rattle.std.proofs.Common.{◌≡◌, ℕ, zero, suc, ◌+◌, List, [], ◌�
 use Rattle.std.specs.Option.{unwrap_or}
 use Rattle.std.proofs.lemmas.List.{length-map}
 use Rattle.spl_tree.specs.declared.graph.Op.{Op}
-use Rattle.language_model.specs.declared.checked.Part.{Part}
+use Rattle.language_model.specs.declared.checked.CheckedClauses.{CheckedClauses}
 use Rattle.language_model.specs.CheckedGraph.{CheckedGraph}
 use Rattle.language_model.specs.Checking.{fit_ports}
 use Rattle.language_model.specs.Keeping.{Keeps, NamesPorts, PartFits, PortHas, PortsHave, StreamsHave}
@@ -14,14 +14,14 @@ use Rattle.stream_model.specs.Operators.{Operator}
 use Rattle.stream_model.specs.Fitting.{CheckedFits, IsFitting}
 
 -- an operator of the list is one of the graph with its clauses
-pub record OperatorAt (c : CheckedGraph) (from : ℕ) (ops : List Op) (parts : List Part) (n : ℕ) (o : Operator) : Type 0 where
+pub record OperatorAt (c : CheckedGraph) (from : ℕ) (ops : List Op) (parts : List CheckedClauses) (n : ℕ) (o : Operator) : Type 0 where
   pub op : Op
-  pub part : Part
+  pub part : CheckedClauses
   pub there : slice_get ops n ≡ Some op
   pub has : slice_get parts n ≡ Some part
   pub same : o ≡ operator_with c (from + n) op part
 
-pub operator_from : (c : CheckedGraph) (from : ℕ) (ops : List Op) (parts : List Part) (n : ℕ) (o : Operator) → slice_get (operators_from c from ops parts) n ≡ Some o
+pub operator_from : (c : CheckedGraph) (from : ℕ) (ops : List Op) (parts : List CheckedClauses) (n : ℕ) (o : Operator) → slice_get (operators_from c from ops parts) n ≡ Some o
     → OperatorAt c from ops parts n o
 operator_from c from [] parts n o at = absurd cc
 operator_from c from (op ∷ ops) [] n o at = absurd cc
@@ -34,7 +34,7 @@ operator_from c from (op ∷ ops) (part ∷ parts) (suc n) o at =
     let number : suc from + n ≡ from + suc n = omega arith in
     record { op = rest.op; part = rest.part; there = rest.there; has = rest.has; same = rest.same ∙ ap (λ k. operator_with c k rest.op rest.part) number }
 
-pub operators_length : (c : CheckedGraph) (from : ℕ) (ops : List Op) (parts : List Part) → length parts ≡ length ops → length (operators_from c from ops parts) ≡ length ops
+pub operators_length : (c : CheckedGraph) (from : ℕ) (ops : List Op) (parts : List CheckedClauses) → length parts ≡ length ops → length (operators_from c from ops parts) ≡ length ops
 operators_length c from [] parts l = refl
 operators_length c from (op ∷ ops) [] l = absurd (omega (arith, l))
 operators_length c from (op ∷ ops) (part ∷ parts) l =
@@ -56,7 +56,7 @@ outs_are : (c : CheckedGraph) (streams : List ℕ) (outs : List Attributes) → 
 outs_are c _ _ K.no_streams = refl
 outs_are c _ _ (K.stream s streams schema rest there hs) = λ i. unwrap_or (there i) [] ∷ outs_are c streams rest hs i
 
-with_fits : (c : CheckedGraph) (n : ℕ) (op : Op) (part : Part) (keeps : Keeps c) → K.OperatorFits c.schemas keeps.signatures op part → IsFitting (operator_with c n op part)
+with_fits : (c : CheckedGraph) (n : ℕ) (op : Op) (part : CheckedClauses) (keeps : Keeps c) → K.OperatorFits c.schemas keeps.signatures op part → IsFitting (operator_with c n op part)
 with_fits c n op part keeps fit =
     let ins = ins_are c op.ins fit.ins fit.takes in
     let outs = outs_are c op.outs fit.outs fit.gives in

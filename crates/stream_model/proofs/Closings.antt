@@ -4,7 +4,7 @@ use Rattle.std.proofs.lemmas.Bool.{cond-true, cond-false, cases_eq, or_parts, ne
 use Rattle.spl_value.specs.declared.item.Item.{Item}
 use Rattle.spl_value.specs.declared.item.Item.TheVariants as I
 use Rattle.spl_value.specs.declared.item.FaultKind.{FaultKind}
-use Rattle.language_model.specs.declared.checked.Part.{Part}
+use Rattle.language_model.specs.declared.checked.CheckedClauses.{CheckedClauses}
 use Rattle.language_model.specs.declared.checked.PortTypes.{PortTypes}
 use Rattle.language_model.specs.declared.outs.Output.{Output}
 use Rattle.spl_tree.specs.declared.body.Function.{Function}
@@ -12,9 +12,9 @@ use Rattle.stream_model.specs.Stream.{Event, came, is_fault, closes, any_closes,
 use Rattle.stream_model.specs.Operators.{Operator}
 use Rattle.stream_model.specs.PortEvents.{is_waiting, is_last}
 use Rattle.stream_model.specs.Bodies.{output, on_each}
-use Rattle.stream_model.specs.React.{Answer, Gives, Faults, body, react, ended, ended_by, answered, own_fault}
+use Rattle.stream_model.specs.React.{Reaction, Gives, Faults, body, react, ended, ended_by, answered, own_fault}
 use Rattle.stream_model.proofs.KindBodies.{given, some_closes, given_open}
-use Rattle.stream_model.specs.Stages.{Stage, gives_all, after, on_port}
+use Rattle.stream_model.specs.Stages.{Stage, gives_all, stage_after, on_port}
 use Rattle.stream_model.proofs.StageLaws.{stage_at, one_in, one_in-parts, on_port-append, gives_all-over, after-over}
 use Rattle.stream_model.specs.Laws.{has_ended, EndItemLaw, EndGivesLaw, OutCloses, ClosedEnds, ClosedGivesClosed}
 
@@ -66,13 +66,13 @@ is_closed-each : (p n : ℕ) (x : Item) → p < n → closes x ≡ true → is_c
 is_closed-each p n x lt h = ap is_closed (on_port-each p n x lt) ∙ cond-true (closes x) true false h
 
 -- The item that arrived, whether it is a fault, whether its port waits, whether it is the last, and the body's answer.
-abbrev caused : Operator → Item → Bool → Bool → Bool → Answer → List Output
+abbrev caused : Operator → Item → Bool → Bool → Bool → Reaction → List Output
 caused op x fault waits last a = cond fault (on_each (length op.outs) x) (cond waits [] (answered op last a))
 
-abbrev ends : Operator → Item → Bool → Bool → Bool → Answer → Bool
+abbrev ends : Operator → Item → Bool → Bool → Bool → Reaction → Bool
 ends op x fault waits last a = is_some (cond fault (Some x) (cond waits None (ended_by op last a)))
 
-caused_open : (op : Operator) (p : ℕ) (x : Item) (fault waits last : Bool) (a : Answer) → some_closes (given a) ≡ false
+caused_open : (op : Operator) (p : ℕ) (x : Item) (fault waits last : Bool) (a : Reaction) → some_closes (given a) ≡ false
     → ends op x fault waits last a ≡ false → any_closes (on_port p (caused op x fault waits last a)) ≡ false
 caused_open op p x true waits last a opens q = cc
 caused_open op p x false true last a opens q = refl
@@ -80,7 +80,7 @@ caused_open op p x false false true (Gives outs) opens q = cc
 caused_open op p x false false false (Gives outs) opens q = on_port_open p outs opens
 caused_open op p x false false last (Faults kind) opens q = cc
 
-caused_closed : (op : Operator) (p : ℕ) (x : Item) (fault waits last : Bool) (a : Answer) → some_closes (given a) ≡ false → p < length op.outs
+caused_closed : (op : Operator) (p : ℕ) (x : Item) (fault waits last : Bool) (a : Reaction) → some_closes (given a) ≡ false → p < length op.outs
     → (fault ≡ true → closes x ≡ true) → ends op x fault waits last a ≡ true → is_closed (on_port p (caused op x fault waits last a)) ≡ true
 caused_closed op p x true waits last a opens lt closing q = is_closed-each p (length op.outs) x lt (closing refl)
 caused_closed op p x false true last a opens lt closing q = cc
@@ -106,7 +106,7 @@ react_closed op p earlier e lt =
 pub end_item_law : EndItemLaw
 end_item_law op earlier e x q = go (is_fault e.item) (is_waiting op earlier e) (is_last op earlier e) (body op earlier e) refl refl q
   where
-    go : (fault waits last : Bool) (a : Answer) → is_fault e.item ≡ fault → body op earlier e ≡ a
+    go : (fault waits last : Bool) (a : Reaction) → is_fault e.item ≡ fault → body op earlier e ≡ a
         → cond fault (Some e.item) (cond waits None (ended_by op last a)) ≡ Some x
         → (x ≡ I.Final) ⊎ (((x ≡ e.item) × (is_fault x ≡ true)) ⊎ ((kind : FaultKind) × (body op earlier e ≡ Faults kind) × (x ≡ own_fault op kind)))
     go true waits last a f b q = let same : x ≡ e.item = cc in inr (inl (same, ap is_fault same ∙ f))
@@ -119,7 +119,7 @@ end_item_law op earlier e x q = go (is_fault e.item) (is_waiting op earlier e) (
 abbrev EndsIn : List Item → Item → Type 0
 EndsIn items x = (front : List Item) × (items ≡ front ++ x ∷ []) × (any_closes front ≡ false)
 
-caused_ends : (op : Operator) (p : ℕ) (e x : Item) (fault waits last : Bool) (a : Answer) → some_closes (given a) ≡ false → p < length op.outs
+caused_ends : (op : Operator) (p : ℕ) (e x : Item) (fault waits last : Bool) (a : Reaction) → some_closes (given a) ≡ false → p < length op.outs
     → cond fault (Some e) (cond waits None (ended_by op last a)) ≡ Some x → EndsIn (on_port p (caused op e fault waits last a)) x
 caused_ends op p e x true waits last a opens lt q = let same : e ≡ x = cc in ([], on_port-each p (length op.outs) e lt ∙ ap (λ y. y ∷ []) same, refl)
 caused_ends op p e x false true last a opens lt q = absurd (cc)
@@ -141,8 +141,8 @@ end_gives_law op p earlier e lt = (
 )
 
 closed_step : (op : Operator) (p : ℕ) (seen : List Event) (e : Event) (events : List Event) (b : Bool) → p < length op.outs → is_some (ended op seen e) ≡ b
-    → is_closed (on_port p (gives_all (stage_at op (e ∷ seen) false) events)) ≡ (after (stage_at op (e ∷ seen) false) events).over
-    → is_closed (on_port p (react op seen e ++ gives_all (stage_at op (e ∷ seen) b) events)) ≡ (after (stage_at op (e ∷ seen) b) events).over
+    → is_closed (on_port p (gives_all (stage_at op (e ∷ seen) false) events)) ≡ (stage_after (stage_at op (e ∷ seen) false) events).over
+    → is_closed (on_port p (react op seen e ++ gives_all (stage_at op (e ∷ seen) b) events)) ≡ (stage_after (stage_at op (e ∷ seen) b) events).over
 closed_step op p seen e events true lt q rest =
     ap (λ outs. is_closed (on_port p (react op seen e ++ outs))) (gives_all-over (stage_at op (e ∷ seen) true) events refl)
     ∙ ap (λ outs. is_closed (on_port p outs)) (append-nil (react op seen e))
@@ -154,34 +154,34 @@ closed_step op p seen e events false lt q rest =
     ∙ rest
 
 closed_from : (op : Operator) (p : ℕ) (seen events : List Event) → p < length op.outs
-    → is_closed (on_port p (gives_all (stage_at op seen false) events)) ≡ (after (stage_at op seen false) events).over
+    → is_closed (on_port p (gives_all (stage_at op seen false) events)) ≡ (stage_after (stage_at op seen false) events).over
 closed_from op p seen [] lt = refl
 closed_from op p seen (e ∷ events) lt = closed_step op p seen e events (is_some (ended op seen e)) lt refl (closed_from op p (e ∷ seen) events lt)
 
 pub out_closes : OutCloses
 out_closes op p events lt = closed_from op p [] events lt
 
-pub ended_by-last : (op : Operator) (a : Answer) → is_some (ended_by op true a) ≡ true
+pub ended_by-last : (op : Operator) (a : Reaction) → is_some (ended_by op true a) ≡ true
 ended_by-last op (Gives outs) = refl
 ended_by-last op (Faults kind) = refl
 
 -- an item that closes ends an operator with one connection
-ended-closing : (n s : ℕ) (clauses : Part) (functions : List Function) (types : PortTypes) (outs : List ℕ) (seen : List Event) (x : Item) → closes x ≡ true → is_some (ended (one_in n clauses functions types s outs) seen (came 0 x)) ≡ true
+ended-closing : (n s : ℕ) (clauses : CheckedClauses) (functions : List Function) (types : PortTypes) (outs : List ℕ) (seen : List Event) (x : Item) → closes x ≡ true → is_some (ended (one_in n clauses functions types s outs) seen (came 0 x)) ≡ true
 ended-closing n s clauses functions types outs seen (I.Tuple vs) h = cc
 ended-closing n s clauses functions types outs seen I.Window h = cc
 ended-closing n s clauses functions types outs seen I.Final h = ended_by-last (one_in n clauses functions types s outs) (body (one_in n clauses functions types s outs) seen (came 0 I.Final))
 ended-closing n s clauses functions types outs seen (I.Bad f) h = refl
 
-over-closed : (n s : ℕ) (clauses : Part) (functions : List Function) (types : PortTypes) (outs : List ℕ) (seen : List Event) (items : List Item) → is_closed items ≡ true
-    → (after (stage_at (one_in n clauses functions types s outs) seen false) (map (came 0) items)).over ≡ true
+over-closed : (n s : ℕ) (clauses : CheckedClauses) (functions : List Function) (types : PortTypes) (outs : List ℕ) (seen : List Event) (items : List Item) → is_closed items ≡ true
+    → (stage_after (stage_at (one_in n clauses functions types s outs) seen false) (map (came 0) items)).over ≡ true
 over-closed n s clauses functions types outs seen [] h = cc
 over-closed n s clauses functions types outs seen (x ∷ items) h =
     go (is_some (ended (one_in n clauses functions types s outs) seen (came 0 x))) (closes x) (ended-closing n s clauses functions types outs seen x) h
     (over-closed n s clauses functions types outs (came 0 x ∷ seen) items)
   where
     go : (b c : Bool) → (c ≡ true → b ≡ true) → cond c (is_empty items) (is_closed items) ≡ true
-        → (is_closed items ≡ true → (after (stage_at (one_in n clauses functions types s outs) (came 0 x ∷ seen) false) (map (came 0) items)).over ≡ true)
-        → (after (stage_at (one_in n clauses functions types s outs) (came 0 x ∷ seen) b) (map (came 0) items)).over ≡ true
+        → (is_closed items ≡ true → (stage_after (stage_at (one_in n clauses functions types s outs) (came 0 x ∷ seen) false) (map (came 0) items)).over ≡ true)
+        → (stage_after (stage_at (one_in n clauses functions types s outs) (came 0 x ∷ seen) b) (map (came 0) items)).over ≡ true
     go true c f q rest = ap (λ (s : Stage). s.over) (after-over (stage_at (one_in n clauses functions types s outs) (came 0 x ∷ seen) true) (map (came 0) items) refl)
     go false true f q rest = let clash : false ≡ true = f refl in cc
     go false false f q rest = rest q

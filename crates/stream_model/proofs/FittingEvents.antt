@@ -3,14 +3,14 @@ use Rattle.std.proofs.Common.{◌≡◌, ℕ, zero, suc, ◌<◌, Bool, true, fa
 use Rattle.std.proofs.lemmas.Bool.{lt-ltb}
 use Rattle.spl_value.specs.declared.item.Item.{Item}
 use Rattle.spl_value.specs.declared.item.Item.TheVariants as I
-use Rattle.language_model.specs.declared.checked.Part.{Part}
-use Rattle.language_model.specs.declared.checked.Part.TheVariants as A
+use Rattle.language_model.specs.declared.checked.CheckedClauses.{CheckedClauses}
+use Rattle.language_model.specs.declared.checked.CheckedClauses.TheVariants as A
 use Rattle.language_model.specs.Outcomes.{Done, Faulted, Stuck}
 use Rattle.stream_model.specs.Stream.{Event, came, is_fault, is_tuple}
 use Rattle.stream_model.specs.Operators.{Operator, port_at, ports}
 use Rattle.stream_model.specs.PortEvents.{is_last, is_waiting, port_events}
 use Rattle.stream_model.specs.Bodies.{Makes, on_each, output}
-use Rattle.stream_model.specs.React.{Answer, Gives, Faults, answer, answered, body, ended, ended_by, makes_by, own_fault}
+use Rattle.stream_model.specs.React.{Reaction, Gives, Faults, answer, answered, body, ended, ended_by, makes_by, own_fault}
 use Rattle.stream_model.specs.Replies.{AllFit, is_live}
 use Rattle.stream_model.specs.Fitting.{EventFits, EventsFit, FitsAt, HasPort, HistoryFits, IsFitting, MakesFit, NoneFaulted, ReactsFit, is_given}
 use Rattle.stream_model.specs.Laws.{is_custom}
@@ -39,7 +39,7 @@ not_faulted : (op : Operator) (h : List Event) (e : Event) → is_waiting op h e
 not_faulted op h e moves stays = go (is_fault e.item) (body op h e) refl
     (ap (λ w. is_none (if is_fault e.item then Some e.item else if w then None else ended_by op (is_last op h e) (body op h e))) (sym moves) ∙ stays)
   where
-    go : (f : Bool) (a : Answer) → is_fault e.item ≡ f → is_none (if f then Some e.item else ended_by op (is_last op h e) a) ≡ true → is_given a ≡ true
+    go : (f : Bool) (a : Reaction) → is_fault e.item ≡ f → is_none (if f then Some e.item else ended_by op (is_last op h e) a) ≡ true → is_given a ≡ true
     go true a q none = absurd (let no : false ≡ true = none in cc)
     go false (Gives outs) q none = refl
     go false (Faults kind) q none = absurd (let no : false ≡ true = none in cc)
@@ -93,7 +93,7 @@ reacts_fit fits op h e fit events live has = (makes, causes (is_fault e.item) (i
 pub of_kinds : FitsAt is_simple → FitsAt is_custom → FitsAt is_aggregate → FitsAt is_join → FitsAt (λ part. true)
 of_kinds simple custom aggregate join op h port x any fit history calm has = go op.clauses refl
   where
-    go : (part : Part) → op.clauses ≡ part → MakesFit op (makes_by op.clauses op h port x)
+    go : (part : CheckedClauses) → op.clauses ≡ part → MakesFit op (makes_by op.clauses op h port x)
     go (A.Custom handlers) q = custom op h port x (ap is_custom q) fit history calm has
     go (A.Aggregate window partition group collects) q = aggregate op h port x (ap is_aggregate q) fit history calm has
     go (A.Join left right condition made) q = join op h port x (ap is_join q) fit history calm has

@@ -1,7 +1,7 @@
 -- The parts of a checked graph are the operators of its meaning, one for one.
 use Rattle.std.specs.Prelude.{◌≡◌, ℕ, Some, slice_get}
 use Rattle.std.proofs.Common.{ap, ◌∙◌, zero, suc, ◌+◌, List, [], ◌∷◌, arith, sym, length}
-use Rattle.language_model.specs.declared.checked.Part.{Part}
+use Rattle.language_model.specs.declared.checked.CheckedClauses.{CheckedClauses}
 use Rattle.language_model.specs.CheckedGraph.{CheckedGraph}
 use Rattle.stream_model.specs.CheckedMeaning.{graph_of, operators_from, operator_with}
 use Rattle.stream_model.specs.Meaning.{Graph}
@@ -11,7 +11,7 @@ use Rattle.spl_tree.specs.declared.graph.Op.{Op}
 use Rattle.language_model.specs.Keeping.{Keeps}
 
 -- the clauses of an operator are the part at its number
-pub clauses_are : (c : CheckedGraph) (g : Graph) (n : ℕ) (o : Operator) (part : Part) → graph_of c ≡ g → slice_get g.ops n ≡ Some o → slice_get c.parts n ≡ Some part
+pub clauses_are : (c : CheckedGraph) (g : Graph) (n : ℕ) (o : Operator) (part : CheckedClauses) → graph_of c ≡ g → slice_get g.ops n ≡ Some o → slice_get c.parts n ≡ Some part
     → o.clauses ≡ part
 clauses_are c g n o part is at has =
     let there = operator_from c 0 c.graph.ops c.parts n o (ap (λ (h : Graph). slice_get h.ops n) is ∙ at) in
@@ -20,7 +20,7 @@ clauses_are c g n o part is at has =
     ap (λ (o : Operator). o.clauses) there.same ∙ same
 
 -- a part and its operation make the operator with their number
-pub operator_in : (c : CheckedGraph) (from : ℕ) (ops : List Op) (parts : List Part) (n : ℕ) (op : Op) (part : Part) → slice_get ops n ≡ Some op → slice_get parts n ≡ Some part
+pub operator_in : (c : CheckedGraph) (from : ℕ) (ops : List Op) (parts : List CheckedClauses) (n : ℕ) (op : Op) (part : CheckedClauses) → slice_get ops n ≡ Some op → slice_get parts n ≡ Some part
     → slice_get (operators_from c from ops parts) n ≡ Some (operator_with c (from + n) op part)
 operator_in c from [] parts n op part there has = absurd cc
 operator_in c from (o ∷ ops) [] n op part there has = absurd cc

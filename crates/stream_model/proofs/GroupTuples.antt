@@ -18,7 +18,7 @@ use Rattle.spl_value.proofs.WrapLaws.{wrapped_belongs}
 use Rattle.spl_tree.specs.declared.body.Function.{Function}
 use Rattle.spl_tree.specs.declared.code.Code.{Code}
 use Rattle.spl_tree.specs.declared.code.Slot.{Slot}
-use Rattle.language_model.specs.declared.checked.Collected.{Collected}
+use Rattle.language_model.specs.declared.checked.CollectedAttribute.{CollectedAttribute}
 use Rattle.language_model.specs.declared.checked.Collector.{Collector}
 use Rattle.language_model.specs.declared.checked.WindowRule.{WindowRule}
 use Rattle.language_model.specs.declared.env.Env.{Env}
@@ -52,8 +52,8 @@ HasArgument t None o = ⊤
 HasArgument t (Some code) o = IsThere (OfType t) o
 
 -- each assignment has one of the type of its attribute
-abbrev pub ArgumentsThere : Attributes → List Collected → List (Option Value) → Type 0
-ArgumentsThere schema output values = (k : ℕ) (x : Collected) (a : Named SplType) → slice_get output k ≡ Some x → slice_get schema x.attribute ≡ Some a
+abbrev pub ArgumentsThere : Attributes → List CollectedAttribute → List (Option Value) → Type 0
+ArgumentsThere schema output values = (k : ℕ) (x : CollectedAttribute) (a : Named SplType) → slice_get output k ≡ Some x → slice_get schema x.attribute ≡ Some a
     → HasArgument a.kind x.argument (option_and_then (λ v. v) (slice_get values k))
 
 abbrev ArgumentFits : Scope → Option (Code Slot) → SplType → Type 0
@@ -71,12 +71,12 @@ argument_fits scope _ _ _ (G.first code t f) = f
 argument_fits scope _ _ _ (G.last code t f) = f
 argument_fits scope _ _ _ G.count = tt
 
-joined : (schema : Attributes) (x : Collected) (xs : List Collected) (v : Option Value) (more : List (Option Value)) (b : Named SplType) → slice_get schema x.attribute ≡ Some b
+joined : (schema : Attributes) (x : CollectedAttribute) (xs : List CollectedAttribute) (v : Option Value) (more : List (Option Value)) (b : Named SplType) → slice_get schema x.attribute ≡ Some b
     → HasArgument b.kind x.argument v → ArgumentsThere schema xs more → ArgumentsThere schema (x ∷ xs) (v ∷ more)
 joined schema x xs v more b e own others zero y a at there =
     let same : x ≡ y = (let i : Some x ≡ Some y = at in cc) in
-    let alike : b ≡ a = (let i : Some b ≡ Some a = sym e ∙ ap (λ (z : Collected). slice_get schema z.attribute) same ∙ there in cc) in
-    subst (λ (z : Collected). HasArgument a.kind z.argument v) same (subst (λ (c : Named SplType). HasArgument c.kind x.argument v) alike own)
+    let alike : b ≡ a = (let i : Some b ≡ Some a = sym e ∙ ap (λ (z : CollectedAttribute). slice_get schema z.attribute) same ∙ there in cc) in
+    subst (λ (z : CollectedAttribute). HasArgument a.kind z.argument v) same (subst (λ (c : Named SplType). HasArgument c.kind x.argument v) alike own)
 joined schema x xs v more b e own others (suc k) y a at there = others k y a at there
 
 module _ (signatures : List Signature) (functions : List Function) (scope : Scope) (same : scope.functions ≡ signatures) (there : FunctionsFit signatures functions) (env : Env) (env_fit : EnvFits scope env) (schema : Attributes) where
@@ -87,8 +87,8 @@ module _ (signatures : List Signature) (functions : List Function) (scope : Scop
       (value_fits signatures functions scope code t env turns same there f env_fit) (λ v turns is. (v, refl, is))
 
   -- the arguments give values, or a fault
-  pub arguments_there : (output : List Collected)
-      → ((k : ℕ) (x : Collected) → slice_get output k ≡ Some x → (a : Named SplType) × (slice_get schema x.attribute ≡ Some a) × CollectorFits scope x.collector x.argument a.kind)
+  pub arguments_there : (output : List CollectedAttribute)
+      → ((k : ℕ) (x : CollectedAttribute) → slice_get output k ≡ Some x → (a : Named SplType) × (slice_get schema x.attribute ≡ Some a) × CollectorFits scope x.collector x.argument a.kind)
       → (turns : ℕ) → Yields (ArgumentsThere schema output) (arguments functions output env turns)
   arguments_there [] fit turns = λ k x a at there. absurd cc
   arguments_there (x ∷ xs) fit turns =
@@ -163,7 +163,7 @@ collected_there scope _ _ _ n vs G.count h = (V.Int (wrapped N.I32 (pos n)), ref
 
 -- ---- the tuples of groups
 
-module _ (functions : List Function) (scope : Scope) (schema : Attributes) (output : List Collected) (fit : GroupsFit scope schema output) where
+module _ (functions : List Function) (scope : Scope) (schema : Attributes) (output : List CollectedAttribute) (fit : GroupsFit scope schema output) where
   -- a tuple whose arguments were values
   abbrev pub IsGood : List Value → Type 0
   IsGood t = ArgumentsThere schema output (arguments_of functions output t)
@@ -172,8 +172,8 @@ module _ (functions : List Function) (scope : Scope) (schema : Attributes) (outp
   abbrev pub OutputFits : Output → Type 0
   OutputFits o = (o.port ≡ 0) × ItemHas schema o.item
 
-  attributes_there : (ts : List (List Value)) → IsGroup IsGood ts → (k : ℕ) (xs : List Collected)
-      → ((j m : ℕ) (x : Collected) → m ≡ k + j → slice_get xs j ≡ Some x → slice_get output m ≡ Some x)
+  attributes_there : (ts : List (List Value)) → IsGroup IsGood ts → (k : ℕ) (xs : List CollectedAttribute)
+      → ((j m : ℕ) (x : CollectedAttribute) → m ≡ k + j → slice_get xs j ≡ Some x → slice_get output m ≡ Some x)
       → IsThere (λ fs. AllByRecursion (FieldHolds schema) fs × (places fs ≡ map (λ x. x.attribute) xs)) (attributes_from functions output ts k xs)
   attributes_there ts group k [] at = ([], refl, (tt, refl))
   attributes_there ts group k (x ∷ xs) at =
@@ -188,13 +188,13 @@ module _ (functions : List Function) (scope : Scope) (schema : Attributes) (outp
         (((is.0, is.1, value.2), rest.2.0), λ i. x.attribute ∷ rest.2.1 i),
       )
     where
-      arguments_at : (k : ℕ) (x : Collected) (a : Named SplType) → slice_get output k ≡ Some x → slice_get schema x.attribute ≡ Some a → (ts : List (List Value)) → AllTuples IsGood ts
+      arguments_at : (k : ℕ) (x : CollectedAttribute) (a : Named SplType) → slice_get output k ≡ Some x → slice_get schema x.attribute ≡ Some a → (ts : List (List Value)) → AllTuples IsGood ts
           → AllByRecursion (λ t. HasArgument a.kind x.argument (option_and_then (λ a. a) (slice_get (arguments_of functions output t) k))) ts
       arguments_at k x a here there [] all = tt
       arguments_at k x a here there (t ∷ ts) all = (all.0 k x a here there, arguments_at k x a here there ts all.1)
 
-  counts : (i : ℕ) (xs : List Collected) → how_often i (map (λ x. x.attribute) xs) ≡ count_by (λ x. x.attribute == i) xs
-  counts i xs = is_count_by (λ (xs : List Collected). how_often i (map (λ x. x.attribute) xs)) (λ (x : Collected). x.attribute == i) refl (λ x xs. refl) xs
+  counts : (i : ℕ) (xs : List CollectedAttribute) → how_often i (map (λ x. x.attribute) xs) ≡ count_by (λ x. x.attribute == i) xs
+  counts i xs = is_count_by (λ (xs : List CollectedAttribute). how_often i (map (λ x. x.attribute) xs)) (λ (x : CollectedAttribute). x.attribute == i) refl (λ x xs. refl) xs
 
   group_there : (ts : List (List Value)) → IsGroup IsGood ts → IsThere (λ vs. OfType (S.Tuple schema) (V.Tuple vs)) (group_tuple functions output ts)
   group_there ts group =

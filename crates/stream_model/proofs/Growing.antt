@@ -2,14 +2,14 @@
 use Rattle.std.proofs.Common.{[], ◌∷◌, sym, ap, ◌∙◌, map}
 use Rattle.std.proofs.lemmas.List.{map-append}
 use Rattle.stream_model.specs.Stream.{came}
-use Rattle.stream_model.specs.Stages.{start, gives_all, after, on_port, out}
+use Rattle.stream_model.specs.Stages.{start, gives_all, stage_after, on_port, out}
 use Rattle.stream_model.proofs.StageLaws.{gives_all-append, on_port-append}
 use Rattle.stream_model.specs.Laws.{OutGrows, ChainGrows}
 
 pub out_grows : OutGrows
 out_grows op p some all prefix = (
-  on_port p (gives_all (after (start op) some) prefix.0),
-  sym (on_port-append p (gives_all (start op) some) (gives_all (after (start op) some) prefix.0))
+  on_port p (gives_all (stage_after (start op) some) prefix.0),
+  sym (on_port-append p (gives_all (start op) some) (gives_all (stage_after (start op) some) prefix.0))
       ∙ ap (on_port p) (sym (gives_all-append (start op) some prefix.0))
       ∙ ap (out op p) prefix.1,
 )

@@ -13,8 +13,8 @@ use Rattle.spl_tree.specs.declared.code.Code.{Code}
 use Rattle.spl_tree.specs.declared.code.Code.TheVariants as C
 use Rattle.spl_tree.specs.declared.code.Slot.{Slot}
 use Rattle.spl_tree.specs.declared.graph.OpKind.{OpKind}
-use Rattle.language_model.specs.declared.checked.Part.{Part}
-use Rattle.language_model.specs.declared.checked.Part.TheVariants as A
+use Rattle.language_model.specs.declared.checked.CheckedClauses.{CheckedClauses}
+use Rattle.language_model.specs.declared.checked.CheckedClauses.TheVariants as A
 use Rattle.language_model.specs.declared.checked.Policy.{Policy}
 use Rattle.language_model.specs.declared.env.Env.{Env}
 use Rattle.language_model.specs.declared.scope.Scope.{Scope}
@@ -121,7 +121,7 @@ join_of op signatures scope left right condition code first second schema ins na
 join_of op signatures scope left right condition code first second schema ins names there holds fit given h history port (I.Bad f) has = none_fit op
 
 join_part : (number : ℕ) (functions : List Function) (streams_in : List (List ℕ)) (streams_out : List ℕ) (signatures : List Signature) (scope : Scope) (kind : OpKind)
-    (ins outs : List Attributes) (part : Part) → PartFits scope kind ins outs part → NamesPorts signatures ins scope → FunctionsFit signatures functions → is_join part ≡ true
+    (ins outs : List Attributes) (part : CheckedClauses) → PartFits scope kind ins outs part → NamesPorts signatures ins scope → FunctionsFit signatures functions → is_join part ≡ true
     → (h : List Event) → HistoryFits (with_clauses number part functions ins outs streams_in streams_out) h → (port : ℕ) (x : Item)
     → HasPort (with_clauses number part functions ins outs streams_in streams_out) port x
     → MakesFit (with_clauses number part functions ins outs streams_in streams_out) (makes_by part (with_clauses number part functions ins outs streams_in streams_out) h port x)

@@ -5,9 +5,9 @@ use Rattle.spl_value.specs.declared.item.Item.{Item}
 use Rattle.spl_value.specs.declared.item.Item.TheVariants as I
 use Rattle.spl_value.specs.declared.value.Value.{Value}
 use Rattle.spl_tree.specs.declared.body.Function.{Function}
-use Rattle.language_model.specs.declared.checked.Collected.{Collected}
-use Rattle.language_model.specs.declared.checked.Part.{Part}
-use Rattle.language_model.specs.declared.checked.Part.TheVariants as A
+use Rattle.language_model.specs.declared.checked.CollectedAttribute.{CollectedAttribute}
+use Rattle.language_model.specs.declared.checked.CheckedClauses.{CheckedClauses}
+use Rattle.language_model.specs.declared.checked.CheckedClauses.TheVariants as A
 use Rattle.language_model.specs.declared.checked.Policy.{Policy}
 use Rattle.language_model.specs.declared.checked.PortTypes.{PortTypes}
 use Rattle.language_model.specs.Outcomes.{Done, followed, need}
@@ -46,7 +46,7 @@ first_port zero = refl
 first_port (suc i) = refl
 
 -- those that came into the window of the one port are those among the events
-tuples_come : (n : ℕ) (part : Part) (functions : List Function) (types : PortTypes) (s : ℕ) (outs : List ℕ) (key : List Value → List Value) (places : List ℕ)
+tuples_come : (n : ℕ) (part : CheckedClauses) (functions : List Function) (types : PortTypes) (s : ℕ) (outs : List ℕ) (key : List Value → List Value) (places : List ℕ)
     → ((t : List Value) → key t ≡ key_of t places) → (k : List Value) (h : List Event)
     → tuples_with k (window_events key (items_of 0 (port_events (one_in n part functions types s outs) h))) ≡ tuples_in (tuples_of_key places k h)
 tuples_come n part functions types s outs key places keys k [] = refl
@@ -85,7 +85,7 @@ tuples_come n part functions types s outs key places keys k (e ∷ h) = go e.inp
 
 -- ---- an Aggregate
 
-same_fires : (n : ℕ) (part : Part) (functions : List Function) (types : PortTypes) (s : ℕ) (outs : List ℕ) (window : Policy) (partition : List ℕ)
+same_fires : (n : ℕ) (part : CheckedClauses) (functions : List Function) (types : PortTypes) (s : ℕ) (outs : List ℕ) (window : Policy) (partition : List ℕ)
     → window.partitioned ≡ true → (h k : List Event) (vs : List Value)
     → tuples_of_key partition (key_of vs partition) h ≡ tuples_of_key partition (key_of vs partition) k
     → fired_at window.rule (partition_key window partition) (I.Tuple vs) (items_of 0 (port_events (one_in n part functions types s outs) h))
@@ -111,7 +111,7 @@ fires_nothing window partition items passing =
     let flushed = passing_law window.rule [] (window_events (partition_key window partition) items) passing in
     fired.1 ∙ ap (map (λ e. e.1)) flushed.1
 
-aggregate_is_local : (n : ℕ) (functions : List Function) (types : PortTypes) (s : ℕ) (outs : List ℕ) (window : Policy) (partition group : List ℕ) (collects : List Collected)
+aggregate_is_local : (n : ℕ) (functions : List Function) (types : PortTypes) (s : ℕ) (outs : List ℕ) (window : Policy) (partition group : List ℕ) (collects : List CollectedAttribute)
     → window.partitioned ≡ true → flushes_at_markers window.rule ≡ false
     → IsLocal (one_in n (A.Aggregate window partition group collects) functions types s outs) partition
 aggregate_is_local n functions types s outs window partition group collects partitioned passing = record { tuples = tuples; others = others }
@@ -152,7 +152,7 @@ no_keys : (b : Bool) (places : List ℕ) → (if b then K.Whole else K.Stateless
 no_keys true places q = let no : K.Whole ≡ K.Keyed places = q in absurd cc
 no_keys false places q = let no : K.Stateless ≡ K.Keyed places = q in absurd cc
 
-local_in : (n : ℕ) (part : Part) (functions : List Function) (types : PortTypes) (s : ℕ) (outs : List ℕ) (places : List ℕ) → state_of part ≡ K.Keyed places
+local_in : (n : ℕ) (part : CheckedClauses) (functions : List Function) (types : PortTypes) (s : ℕ) (outs : List ℕ) (places : List ℕ) → state_of part ≡ K.Keyed places
     → IsLocal (one_in n part functions types s outs) places
 local_in n (A.Aggregate window partition group collects) functions types s outs places q =
     let keys = keeps_keys (window.partitioned && not (flushes_at_markers window.rule)) partition places q in

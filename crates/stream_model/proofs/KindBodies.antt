@@ -12,10 +12,10 @@ use Rattle.spl_tree.specs.declared.body.Statement.{Statement}
 use Rattle.spl_tree.specs.declared.code.Code.{Code}
 use Rattle.spl_tree.specs.declared.code.Marker.TheVariants as M
 use Rattle.spl_tree.specs.declared.code.Slot.{Slot}
-use Rattle.language_model.specs.declared.checked.Collected.{Collected}
+use Rattle.language_model.specs.declared.checked.CollectedAttribute.{CollectedAttribute}
 use Rattle.language_model.specs.declared.checked.Handlers.{Handlers}
-use Rattle.language_model.specs.declared.checked.Part.{Part}
-use Rattle.language_model.specs.declared.checked.Part.TheVariants as A
+use Rattle.language_model.specs.declared.checked.CheckedClauses.{CheckedClauses}
+use Rattle.language_model.specs.declared.checked.CheckedClauses.TheVariants as A
 use Rattle.language_model.specs.declared.checked.Policy.{Policy}
 use Rattle.language_model.specs.declared.checked.Position.{Position}
 use Rattle.language_model.specs.declared.checked.Position.TheVariants as P
@@ -36,12 +36,12 @@ use Rattle.stream_model.specs.Bodies.{Makes, most_turns, output, on_first, on_ea
 use Rattle.stream_model.specs.Customs.{handler, tuple_env, marker_env, left_by, item_leaves, state, custom_body}
 use Rattle.stream_model.specs.Aggregates.{arguments, group_tuple, tuples_of, slides, marker_after, marker_passed, contents_give, fired_give, aggregate_body}
 use Rattle.stream_model.specs.Joins.{pairs_at, pairs_give}
-use Rattle.stream_model.specs.React.{Answer, Gives, Faults, answer, makes_by, body}
+use Rattle.stream_model.specs.React.{Reaction, Gives, Faults, answer, makes_by, body}
 use Rattle.stream_model.specs.Laws.{BodyLaw, BodyPorts, SinkPorts, is_custom}
 use Rattle.stream_model.proofs.Submits.{submits_open}
 
 -- the items of an answer
-abbrev pub given : Answer → List Output
+abbrev pub given : Reaction → List Output
 given (Gives outs) = outs
 given (Faults kind) = []
 
@@ -125,7 +125,7 @@ module _ (test : Output → Bool) (n : ℕ) (pass : Passes test n) where
   abbrev AllOf : Option (List Output) → Type 0
   AllOf o = (outs : List Output) → o ≡ Some outs → All outs
 
-  tuples_pass : (functions : List Function) (collects : List Collected) (gs : List (List Value × List (List Value))) → AllOf (tuples_of functions collects gs)
+  tuples_pass : (functions : List Function) (collects : List CollectedAttribute) (gs : List (List Value × List (List Value))) → AllOf (tuples_of functions collects gs)
   tuples_pass functions collects [] outs e = let same : [] ≡ outs = cc in ap (list_all test) (sym same)
   tuples_pass functions collects (g ∷ gs) outs e = go (group_tuple functions collects g.1) (tuples_of functions collects gs) (tuples_pass functions collects gs) e
     where
@@ -140,7 +140,7 @@ module _ (test : Output → Bool) (n : ℕ) (pass : Passes test n) where
   marker_after_passes : (rule : WindowRule) → All (marker_after rule)
   marker_after_passes rule = all_if (slides rule) [] (on_first I.Window) refl first_window
 
-  contents_pass : (functions : List Function) (group : List ℕ) (collects : List Collected) (rule : WindowRule) (contents : List (List (List Value)))
+  contents_pass : (functions : List Function) (group : List ℕ) (collects : List CollectedAttribute) (rule : WindowRule) (contents : List (List (List Value)))
       → AllOf (contents_give functions group collects rule contents)
   contents_pass functions group collects rule [] outs e = let same : [] ≡ outs = cc in ap (list_all test) (sym same)
   contents_pass functions group collects rule (ts ∷ contents) outs e =
@@ -164,7 +164,7 @@ module _ (test : Output → Bool) (n : ℕ) (pass : Passes test n) where
   passing_only None turns h = refl
   passing_only (Some outs) turns h = h outs refl
 
-  aggregate_passing : (functions : List Function) (window : Policy) (partition group : List ℕ) (collects : List Collected) (earlier : List Item) (x : Item)
+  aggregate_passing : (functions : List Function) (window : Policy) (partition group : List ℕ) (collects : List CollectedAttribute) (earlier : List Item) (x : Item)
       → Makes_passing (aggregate_body functions window partition group collects earlier x)
   aggregate_passing functions window partition group collects earlier (I.Tuple t) =
       passing_followed (arguments functions collects (at_tuple t) most_turns) _ (λ values turns.
@@ -195,7 +195,7 @@ module _ (test : Output → Bool) (n : ℕ) (pass : Passes test n) where
       go (Faulted kind) rest h k = refl
       go Stuck rest h k = refl
 
-  pub makes_passing : (clauses : Part) (op : Operator) (earlier : List Event) (port : ℕ) (x : Item) → is_custom clauses ≡ false → length op.outs ≡ n
+  pub makes_passing : (clauses : CheckedClauses) (op : Operator) (earlier : List Event) (port : ℕ) (x : Item) → is_custom clauses ≡ false → length op.outs ≡ n
       → Makes_passing (makes_by clauses op earlier port x)
   makes_passing (A.FileSource file strict) op earlier port x c e = refl
   makes_passing (A.FileSink file) op earlier port x c e = passing_item _ [] x first_tuple refl
@@ -253,13 +253,13 @@ custom_open functions handlers earlier port x = at_item x
     at_item I.Final = by (handler handlers.on_punct port) (marker_env (state functions handlers earlier) M.Final)
     at_item (I.Bad f) = refl
 
-others_open : (clauses : Part) (op : Operator) (earlier : List Event) (port : ℕ) (x : Item) → is_custom clauses ≡ false
+others_open : (clauses : CheckedClauses) (op : Operator) (earlier : List Event) (port : ℕ) (x : Item) → is_custom clauses ≡ false
     → some_closes (given (answer (makes_by clauses op earlier port x))) ≡ false
 others_open clauses op earlier port x other =
     none_closes (given (answer (makes_by clauses op earlier port x)))
     (makes_passing is_open (length op.outs) (record { tuple = λ vs. refl; window = refl; each = λ p lt. refl; picked = λ i vs. refl }) clauses op earlier port x other refl)
 
-makes_open : (clauses : Part) (op : Operator) (earlier : List Event) (port : ℕ) (x : Item) → some_closes (given (answer (makes_by clauses op earlier port x))) ≡ false
+makes_open : (clauses : CheckedClauses) (op : Operator) (earlier : List Event) (port : ℕ) (x : Item) → some_closes (given (answer (makes_by clauses op earlier port x))) ≡ false
 makes_open (A.Custom handlers) op earlier port x = custom_open op.functions handlers earlier port x
 makes_open clauses op earlier port x = others_open clauses op earlier port x refl
 

@@ -1,4 +1,4 @@
--- The record that takes input after input until the operator ends.
+-- The record that takes input stage_after input until the operator ends.
 use Rattle.std.proofs.Common.{ℕ, zero, suc, ◌+◌, ◌<◌, ◌≤◌, ◌==◌, nat_lt, Bool, true, false, cond, not, ◌&&◌, List, [], ◌∷◌, ◌++◌, ◌≡◌, map, length, None, is_some, inl, inr, refl, sym, ap, ◌∙◌, append_assoc, arith}
 use Rattle.std.specs.List.{list_all}
 use Rattle.std.proofs.Math.Path.{fun_ext}
@@ -11,7 +11,7 @@ use Rattle.stream_model.specs.Inputs.{inputs_of}
 use Rattle.stream_model.specs.Operators.{Operator, ports, port_at}
 use Rattle.stream_model.specs.PortEvents.{is_over, all_over, is_waiting, is_last}
 use Rattle.stream_model.specs.React.{body, ended, ended_by}
-use Rattle.stream_model.specs.Stages.{Stage, start, next, after}
+use Rattle.stream_model.specs.Stages.{Stage, start, next, stage_after}
 use Rattle.stream_model.proofs.ByPorts.{over_stays}
 use Rattle.stream_model.proofs.StageLaws.{stage_at, after-over}
 use Rattle.stream_model.specs.Meaning.{Lists, with_list, taking, arrive}
@@ -22,7 +22,7 @@ use Rattle.stream_model.proofs.Closings.{ended_by-last}
 
 -- ---- the events
 
--- of n inputs one after the other, from input i on
+-- of n inputs one stage_after the other, from input i on
 abbrev pub events_from : Lists → ℕ → ℕ → List Event
 events_from lists i zero = []
 events_from lists i (suc n) = map (came i) (lists i) ++ events_from lists (suc i) n
@@ -116,48 +116,48 @@ ends_now op i seen I.Final at c over =
 
 -- ---- all events end the operator
 
-over_before : (op : Operator) (seen events : List Event) → (after (stage_at op seen true) events).over ≡ true
+over_before : (op : Operator) (seen events : List Event) → (stage_after (stage_at op seen true) events).over ≡ true
 over_before op seen events = ap (λ (s : Stage). s.over) (after-over (stage_at op seen true) events refl)
 
 -- where the inputs before i are closed, an item that closes input i and then these events end it
 module _ (op : Operator) (i : ℕ) (more : List Event)
-    (last : (x : Item) (seen : List Event) → closes x ≡ true → Over i seen → (after (stage_at op seen false) (came i x ∷ more)).over ≡ true) where
+    (last : (x : Item) (seen : List Event) → closes x ≡ true → Over i seen → (stage_after (stage_at op seen false) (came i x ∷ more)).over ≡ true) where
   closes_input : (xs : List Item) (seen : List Event) → is_closed xs ≡ true → Over i seen
-      → (after (stage_at op seen false) (map (came i) xs ++ more)).over ≡ true
+      → (stage_after (stage_at op seen false) (map (came i) xs ++ more)).over ≡ true
   closes_input [] seen closed over = absurd (cc)
   closes_input (x ∷ xs) seen closed over = go (closes x) refl xs closed (closes_input xs (came i x ∷ seen))
     where
-      behind : (ys : List Item) (b : Bool) → (after (stage_at op (came i x ∷ seen) false) (map (came i) ys ++ more)).over ≡ true
-          → (after (stage_at op (came i x ∷ seen) b) (map (came i) ys ++ more)).over ≡ true
+      behind : (ys : List Item) (b : Bool) → (stage_after (stage_at op (came i x ∷ seen) false) (map (came i) ys ++ more)).over ≡ true
+          → (stage_after (stage_at op (came i x ∷ seen) b) (map (came i) ys ++ more)).over ≡ true
       behind ys true rest = over_before op (came i x ∷ seen) (map (came i) ys ++ more)
       behind ys false rest = rest
 
       go : (b : Bool) → closes x ≡ b → (ys : List Item) → cond b (is_empty ys) (is_closed ys) ≡ true
-          → (is_closed ys ≡ true → Over i (came i x ∷ seen) → (after (stage_at op (came i x ∷ seen) false) (map (came i) ys ++ more)).over ≡ true)
-          → (after (stage_at op seen false) (came i x ∷ map (came i) ys ++ more)).over ≡ true
+          → (is_closed ys ≡ true → Over i (came i x ∷ seen) → (stage_after (stage_at op (came i x ∷ seen) false) (map (came i) ys ++ more)).over ≡ true)
+          → (stage_after (stage_at op seen false) (came i x ∷ map (came i) ys ++ more)).over ≡ true
       go true c [] closed rest = last x seen c over
       go true c (y ∷ ys) closed rest = absurd (cc)
       go false c ys closed rest = behind ys (is_some (ended op seen (came i x))) (rest closed (over_more i (came i x) seen over))
 
 last_closes : (op : Operator) (i : ℕ) (more : List Event) → suc i ≡ length (ports op) → (x : Item) (seen : List Event) → closes x ≡ true → Over i seen
-    → (after (stage_at op seen false) (came i x ∷ more)).over ≡ true
+    → (stage_after (stage_at op seen false) (came i x ∷ more)).over ≡ true
 last_closes op i more at x seen c over =
-    ap (λ b. (after (stage_at op (came i x ∷ seen) b) more).over) (ends_now op i seen x at c over) ∙ over_before op (came i x ∷ seen) more
+    ap (λ b. (stage_after (stage_at op (came i x ∷ seen) b) more).over) (ends_now op i seen x at c over) ∙ over_before op (came i x ∷ seen) more
 
 earlier_closes : (op : Operator) (i : ℕ) (more : List Event)
-    → ((seen : List Event) → Over (suc i) seen → (after (stage_at op seen false) more).over ≡ true) → (x : Item) (seen : List Event)
-    → closes x ≡ true → Over i seen → (after (stage_at op seen false) (came i x ∷ more)).over ≡ true
+    → ((seen : List Event) → Over (suc i) seen → (stage_after (stage_at op seen false) more).over ≡ true) → (x : Item) (seen : List Event)
+    → closes x ≡ true → Over i seen → (stage_after (stage_at op seen false) (came i x ∷ more)).over ≡ true
 earlier_closes op i more rest (I.Tuple vs) seen c over = absurd (cc)
 earlier_closes op i more rest I.Window seen c over = absurd (cc)
 earlier_closes op i more rest (I.Bad f) seen c over = over_before op (came i (I.Bad f) ∷ seen) more
 earlier_closes op i more rest I.Final seen c over = behind (is_some (ended op seen (came i I.Final))) (rest (came i I.Final ∷ seen) (over_final i seen over))
   where
-    behind : (b : Bool) → (after (stage_at op (came i I.Final ∷ seen) false) more).over ≡ true → (after (stage_at op (came i I.Final ∷ seen) b) more).over ≡ true
+    behind : (b : Bool) → (stage_after (stage_at op (came i I.Final ∷ seen) false) more).over ≡ true → (stage_after (stage_at op (came i I.Final ∷ seen) b) more).over ≡ true
     behind true rest = over_before op (came i I.Final ∷ seen) more
     behind false rest = rest
 
 pub all_end : (op : Operator) (lists : Lists) → ((j : ℕ) → j < length (ports op) → is_closed (lists j) ≡ true) → (n i : ℕ) (seen : List Event) → i + suc n ≡ length (ports op)
-    → Over i seen → (after (stage_at op seen false) (events_from lists i (suc n))).over ≡ true
+    → Over i seen → (stage_after (stage_at op seen false) (events_from lists i (suc n))).over ≡ true
 all_end op lists closed zero i seen at over =
     closes_input op i [] (last_closes op i [] (omega (arith, at))) (lists i) seen (closed i (omega (arith, at))) over
 all_end op lists closed (suc n) i seen at over =
@@ -190,7 +190,7 @@ arrive_to_end (i ∷ entries) lists s = go (lists i) refl (λ items t. arrive_to
         ∙ ap (λ zs. came i x ∷ zs) (end_if (with_list lists i xs) events t.over (rest xs t))
 
 -- the last of them ends the operator, where all events do
-ends_to_end : (s : Stage) (events : List Event) → s.over ≡ false → (after s events).over ≡ true → ends_at_last s (up_to_end s events) ≡ true
+ends_to_end : (s : Stage) (events : List Event) → s.over ≡ false → (stage_after s events).over ≡ true → ends_at_last s (up_to_end s events) ≡ true
 ends_to_end s [] o h = absurd (cc)
 ends_to_end s (e ∷ events) o h = go (next s e).over refl (λ q. ends_to_end (next s e) events q h)
   where
@@ -238,7 +238,7 @@ pub one_after_another_law : OneAfterAnotherLaw
 one_after_another_law op lists = (is_front op lists, λ some closed. go (length (ports op)) refl some closed)
   where
     ends : (m : ℕ) → length (ports op) ≡ m → 0 < m → ((i : ℕ) → i < length (ports op) → is_closed (lists i) ≡ true)
-        → (after (start op) (events_from lists 0 m)).over ≡ true
+        → (stage_after (start op) (events_from lists 0 m)).over ≡ true
     ends zero e lt closed = absurd (omega arith)
     ends (suc n) e lt closed = all_end op lists closed n 0 [] (omega (arith, e)) (λ j l. absurd (omega (arith, l)))
 
@@ -248,9 +248,9 @@ one_after_another_law op lists = (is_front op lists, λ some closed. go (length 
         let entries : List ℕ = input_after_input op lists in
         let events : List Event = up_to_end (start op) (arrive lists (all_items op lists)) in
         let taken : arrive lists entries ≡ events = arrive_to_end (all_items op lists) lists (start op) in
-        let over : (after (start op) (arrive lists (all_items op lists))).over ≡ true =
-        ap (λ evs. (after (start op) evs).over) (arrive_from (length (ports op)) 0 lists)
-        ∙ ap (λ n. (after (start op) (events_from lists 0 n)).over) e
+        let over : (stage_after (start op) (arrive lists (all_items op lists))).over ≡ true =
+        ap (λ evs. (stage_after (start op) evs).over) (arrive_from (length (ports op)) 0 lists)
+        ∙ ap (λ n. (stage_after (start op) (events_from lists 0 n)).over) e
         ∙ ends m e lt closed in
         and_from (names_inputs op entries && finds_items lists entries) (ends_at_last (start op) (arrive lists entries))
         (and_from (names_inputs op entries) (finds_items lists entries)

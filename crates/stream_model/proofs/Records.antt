@@ -5,7 +5,7 @@ use Rattle.std.proofs.lemmas.List.{nil_from_length}
 use Rattle.spl_value.specs.declared.item.Item.{Item}
 use Rattle.stream_model.specs.Stream.{Event, came, is_empty, IsPrefix}
 use Rattle.stream_model.specs.Inputs.{inputs_of, came_on}
-use Rattle.stream_model.specs.Stages.{Stage, start, next, after}
+use Rattle.stream_model.specs.Stages.{Stage, start, next, stage_after}
 use Rattle.stream_model.proofs.StageLaws.{after-over}
 use Rattle.stream_model.specs.Meaning.{Lists, with_list, taking, arrive}
 use Rattle.stream_model.specs.Records.{names_inputs, finds_items, ends_at_last}
@@ -74,7 +74,7 @@ items_law lists entries i = takes_items entries lists i
 
 -- ---- one entry more
 
--- what is left of a list after an item of some list
+-- what is left of a list stage_after an item of some list
 left_behind : (lists : Lists) (j i : ℕ) (y : Item) (ys : List Item) (came_later left : List Item) → lists j ≡ y ∷ ys
     → lists i ≡ cond (j == i) (y ∷ came_later) came_later ++ left → with_list lists j ys i ≡ came_later ++ left
 left_behind lists j i y ys came_later left e h = elim (cases_eq j i) [
@@ -141,8 +141,8 @@ record Last (s : Stage) (events : List Event) : Type 0 where
   front : List Event
   last : Event
   are : events ≡ front ++ last ∷ []
-  before : (after s front).over ≡ false
-  ended : (after s (front ++ last ∷ [])).over ≡ true
+  before : (stage_after s front).over ≡ false
+  ended : (stage_after s (front ++ last ∷ [])).over ≡ true
 
 alone : (events : List Event) → is_empty events ≡ true → events ≡ []
 alone [] h = refl
@@ -159,7 +159,7 @@ last_of_all s (e ∷ events) o h = go (next s e).over refl h (last_of_all (next 
         let l = rest q h in
         record { front = e ∷ l.front; last = l.last; are = ap (λ zs. e ∷ zs) l.are; before = l.before; ended = l.ended }
 
-ends_with : (s : Stage) (front : List Event) (last : Event) → (after s front).over ≡ false → (after s (front ++ last ∷ [])).over ≡ true
+ends_with : (s : Stage) (front : List Event) (last : Event) → (stage_after s front).over ≡ false → (stage_after s (front ++ last ∷ [])).over ≡ true
     → ends_at_last s (front ++ last ∷ []) ≡ true
 ends_with s [] last before ended = cond-true (next s last).over true (ends_at_last (next s last) []) ended
 ends_with s (e ∷ front) last before ended = go (next s e).over refl (ends_with (next s e) front last before ended)
@@ -167,7 +167,7 @@ ends_with s (e ∷ front) last before ended = go (next s e).over refl (ends_with
     go : (b : Bool) → (next s e).over ≡ b → ends_at_last (next s e) (front ++ last ∷ []) ≡ true
         → cond b (is_empty (front ++ last ∷ [])) (ends_at_last (next s e) (front ++ last ∷ [])) ≡ true
     go true q rest =
-        let stays : (after (next s e) front).over ≡ true = ap (λ (t : Stage). t.over) (after-over (next s e) front q) ∙ q in
+        let stays : (stage_after (next s e) front).over ≡ true = ap (λ (t : Stage). t.over) (after-over (next s e) front q) ∙ q in
         let clash : false ≡ true = sym before ∙ stays in
         absurd (cc)
     go false q rest = rest

@@ -20,8 +20,8 @@ use Rattle.spl_tree.specs.declared.code.Code.TheVariants as C
 use Rattle.spl_tree.specs.declared.code.Slot.{Slot}
 use Rattle.spl_tree.specs.declared.graph.OpKind.{OpKind}
 use Rattle.spl_tree.specs.declared.graph.OpKind.TheVariants as O
-use Rattle.language_model.specs.declared.checked.Part.{Part}
-use Rattle.language_model.specs.declared.checked.Part.TheVariants as A
+use Rattle.language_model.specs.declared.checked.CheckedClauses.{CheckedClauses}
+use Rattle.language_model.specs.declared.checked.CheckedClauses.TheVariants as A
 use Rattle.language_model.specs.declared.checked.Position.{Position}
 use Rattle.language_model.specs.declared.checked.Position.TheVariants as P
 use Rattle.language_model.specs.declared.env.Env.{Env}
@@ -78,7 +78,7 @@ windows_fit op (suc n) = both_fit op (on_each n I.Window) (output n I.Window ∷
 -- ---- one port
 
 -- an operator with one input port, and one that has these output attributes
-abbrev pub one_port : ℕ → Part → List Function → Attributes → List Attributes → List (List ℕ) → List ℕ → Operator
+abbrev pub one_port : ℕ → CheckedClauses → List Function → Attributes → List Attributes → List (List ℕ) → List ℕ → Operator
 one_port number part functions input outs streams_in streams_out =
     record { number = number; clauses = part; functions = functions; types = record { ins = input ∷ []; outs = outs }; ins = streams_in; outs = streams_out }
 
@@ -242,12 +242,12 @@ some_outs [] streams count ports = absurd (let no : false ≡ true = ports in cc
 some_outs (a ∷ outs) [] count ports = absurd (omega (arith, count))
 some_outs (a ∷ outs) (s ∷ streams) count ports = zero-lt-suc (length streams)
 
-abbrev pub with_clauses : ℕ → Part → List Function → List Attributes → List Attributes → List (List ℕ) → List ℕ → Operator
+abbrev pub with_clauses : ℕ → CheckedClauses → List Function → List Attributes → List Attributes → List (List ℕ) → List ℕ → Operator
 with_clauses number part functions ins outs streams_in streams_out =
     record { number = number; clauses = part; functions = functions; types = record { ins = ins; outs = outs }; ins = streams_in; outs = streams_out }
 
 simple_part : (number : ℕ) (functions : List Function) (streams_in : List (List ℕ)) (streams_out : List ℕ) (signatures : List Signature) (scope : Scope) (kind : OpKind)
-    (ins outs : List Attributes) (part : Part) → PartFits scope kind ins outs part → NamesPorts signatures ins scope → FunctionsFit signatures functions
+    (ins outs : List Attributes) (part : CheckedClauses) → PartFits scope kind ins outs part → NamesPorts signatures ins scope → FunctionsFit signatures functions
     → IsTrue (fit_ports kind (length ins) (length outs)) → length streams_out ≡ length outs → is_simple part ≡ true
     → (h : List Event) (port : ℕ) (x : Item) → port < length ins → ItemHas (unwrap_or (slice_get ins port) []) x
     → MakesFit (with_clauses number part functions ins outs streams_in streams_out) (makes_by part (with_clauses number part functions ins outs streams_in streams_out) h port x)

@@ -6,33 +6,33 @@ use Rattle.spl_value.specs.declared.item.Item.{Item}
 use Rattle.spl_tree.specs.declared.body.Function.{Function}
 use Rattle.language_model.specs.declared.outs.Output.{Output}
 use Rattle.stream_model.specs.Stream.{Event}
-use Rattle.language_model.specs.declared.checked.Part.{Part}
+use Rattle.language_model.specs.declared.checked.CheckedClauses.{CheckedClauses}
 use Rattle.language_model.specs.declared.checked.PortTypes.{PortTypes}
 use Rattle.stream_model.specs.Operators.{Operator}
-use Rattle.stream_model.specs.Stages.{Stage, gives, next, gives_all, after, on_port}
+use Rattle.stream_model.specs.Stages.{Stage, gives, next, gives_all, stage_after, on_port}
 
--- an operator after these events, the newest first, over or not
+-- an operator stage_after these events, the newest first, over or not
 abbrev pub stage_at : Operator → List Event → Bool → Stage
 stage_at op seen over = record { op = op; seen = seen; over = over }
 
 -- an operator with these clauses and one connection
-abbrev pub one_in : ℕ → Part → List Function → PortTypes → ℕ → List ℕ → Operator
+abbrev pub one_in : ℕ → CheckedClauses → List Function → PortTypes → ℕ → List ℕ → Operator
 one_in number clauses functions types s outs = record { number = number; clauses = clauses; functions = functions; types = types; ins = (s ∷ []) ∷ []; outs = outs }
 
 -- its parts are all of it
-pub one_in-parts : (op : Operator) (clauses : Part) (s : ℕ) (outs : List ℕ) → op.clauses ≡ clauses → op.ins ≡ (s ∷ []) ∷ [] → op.outs ≡ outs
+pub one_in-parts : (op : Operator) (clauses : CheckedClauses) (s : ℕ) (outs : List ℕ) → op.clauses ≡ clauses → op.ins ≡ (s ∷ []) ∷ [] → op.outs ≡ outs
     → op ≡ one_in op.number clauses op.functions op.types s outs
 one_in-parts op clauses s outs k i o = rw (← k, ← i, ← o)
 
--- events in two lists: what the first gives, and what the second gives after it
-pub gives_all-append : (s : Stage) (first second : List Event) → gives_all s (first ++ second) ≡ gives_all s first ++ gives_all (after s first) second
+-- events in two lists: what the first gives, and what the second gives stage_after it
+pub gives_all-append : (s : Stage) (first second : List Event) → gives_all s (first ++ second) ≡ gives_all s first ++ gives_all (stage_after s first) second
 gives_all-append s [] second = refl
 gives_all-append s (e ∷ first) second =
     ap (λ outs. gives s e ++ outs) (gives_all-append (next s e) first second)
-    ∙ sym (append_assoc (gives s e) (gives_all (next s e) first) (gives_all (after (next s e) first) second))
+    ∙ sym (append_assoc (gives s e) (gives_all (next s e) first) (gives_all (stage_after (next s e) first) second))
 
--- the stage after two lists of events
-pub after-append : (s : Stage) (first second : List Event) → after s (first ++ second) ≡ after (after s first) second
+-- the stage stage_after two lists of events
+pub after-append : (s : Stage) (first second : List Event) → stage_after s (first ++ second) ≡ stage_after (stage_after s first) second
 after-append s [] second = refl
 after-append s (e ∷ first) second = after-append (next s e) first second
 
@@ -57,6 +57,6 @@ gives_all-over s (e ∷ events) q =
     ∙ gives_all-over s events q
 
 -- and stands where it stood
-pub after-over : (s : Stage) (events : List Event) → s.over ≡ true → after s events ≡ s
+pub after-over : (s : Stage) (events : List Event) → s.over ≡ true → stage_after s events ≡ s
 after-over s [] q = refl
-after-over s (e ∷ events) q = ap (λ (t : Stage). after t events) (next-over s e q) ∙ after-over s events q
+after-over s (e ∷ events) q = ap (λ (t : Stage). stage_after t events) (next-over s e q) ∙ after-over s events q

@@ -6,8 +6,8 @@ use Rattle.spl_value.specs.declared.item.Item.TheVariants as I
 use Rattle.spl_value.specs.declared.value.Value.{Value}
 use Rattle.spl_tree.specs.declared.body.Function.{Function}
 use Rattle.language_model.specs.declared.checked.Handlers.{Handlers}
-use Rattle.language_model.specs.declared.checked.Part.{Part}
-use Rattle.language_model.specs.declared.checked.Part.TheVariants as A
+use Rattle.language_model.specs.declared.checked.CheckedClauses.{CheckedClauses}
+use Rattle.language_model.specs.declared.checked.CheckedClauses.TheVariants as A
 use Rattle.language_model.specs.declared.checked.PortTypes.{PortTypes}
 use Rattle.language_model.specs.declared.checked.StateVariable.{StateVariable}
 use Rattle.language_model.specs.Outcomes.{Outcome, Done, Faulted, Stuck, followed}
@@ -56,7 +56,7 @@ keeps_some false places q = let no : K.Whole ≡ K.Stateless = q in absurd cc
 
 -- ---- bodies
 
-same_makes : (part : Part) → state_of part ≡ K.Stateless → (op : Operator) (h k : List Event) (port : ℕ) (x : Item) → makes_by part op h port x ≡ makes_by part op k port x
+same_makes : (part : CheckedClauses) → state_of part ≡ K.Stateless → (op : Operator) (h k : List Event) (port : ℕ) (x : Item) → makes_by part op h port x ≡ makes_by part op k port x
 same_makes (A.Custom handlers) q op h k port x =
     let none = none_mutable (has_mutable handlers) q in
     ap (λ (vars : List Value). followed (item_leaves op.functions handlers vars port x) (λ left turns. Done left.submits turns))
@@ -65,7 +65,7 @@ same_makes (A.Aggregate window partition group collects) q op h k port x = absur
 same_makes (A.Join left right condition made) q op h k port x = absurd (let no : K.Whole ≡ K.Stateless = q in cc)
 same_makes _ q op h k port x = refl
 
-same_reacts : (n : ℕ) (part : Part) (functions : List Function) (types : PortTypes) (s : ℕ) (outs : List ℕ) → state_of part ≡ K.Stateless
+same_reacts : (n : ℕ) (part : CheckedClauses) (functions : List Function) (types : PortTypes) (s : ℕ) (outs : List ℕ) → state_of part ≡ K.Stateless
     → (h k : List Event) (x : Item) → react (one_in n part functions types s outs) h (came 0 x) ≡ react (one_in n part functions types s outs) k (came 0 x)
 same_reacts n part functions types s outs q h k (I.Tuple vs) =
     let op = one_in n part functions types s outs in

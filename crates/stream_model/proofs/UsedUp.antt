@@ -8,7 +8,7 @@ use Rattle.stream_model.specs.Stream.{Event, is_final, is_fault, closes, any_clo
 use Rattle.stream_model.specs.Inputs.{came_on}
 use Rattle.stream_model.specs.Operators.{Operator, ports}
 use Rattle.stream_model.specs.PortEvents.{is_over, all_over, all_ended, is_waiting, is_last}
-use Rattle.stream_model.specs.React.{Answer, Gives, Faults, body, ended, ended_by}
+use Rattle.stream_model.specs.React.{Reaction, Gives, Faults, body, ended, ended_by}
 use Rattle.stream_model.proofs.StageLaws.{stage_at}
 use Rattle.stream_model.specs.Meaning.{arrive}
 use Rattle.stream_model.specs.Ends.{end_from}
@@ -16,7 +16,7 @@ use Rattle.stream_model.specs.RecordLaws.{UsedUpLaw}
 use Rattle.stream_model.proofs.Records.{items_law}
 
 -- the operator ends by a final marker only where all its ports have ended
-final_is_last : (op : Operator) (x : Item) (fault waits last : Bool) (a : Answer) → is_fault x ≡ fault
+final_is_last : (op : Operator) (x : Item) (fault waits last : Bool) (a : Reaction) → is_fault x ≡ fault
     → cond fault (Some x) (cond waits None (ended_by op last a)) ≡ Some I.Final → last ≡ true
 final_is_last op (I.Tuple vs) true waits last a f h = absurd (cc)
 final_is_last op I.Window true waits last a f h = absurd (cc)

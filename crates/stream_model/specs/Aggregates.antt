@@ -15,7 +15,7 @@ use Rattle.spl_value.specs.declared.value.Value.TheViews.{out-Value}
 use Rattle.spl_tree.specs.declared.body.Function.{Function}
 use Rattle.spl_tree.specs.declared.code.Code.{Code}
 use Rattle.spl_tree.specs.declared.code.Slot.{Slot}
-use Rattle.language_model.specs.declared.checked.Collected.{Collected}
+use Rattle.language_model.specs.declared.checked.CollectedAttribute.{CollectedAttribute}
 use Rattle.language_model.specs.declared.checked.Collector.{Collector}
 use Rattle.language_model.specs.declared.checked.Collector.TheVariants as K
 use Rattle.language_model.specs.declared.checked.Policy.{Policy}
@@ -38,7 +38,7 @@ argument functions None env turns = Done None turns
 argument functions (Some code) env turns = followed (value functions code (world_of env) turns) (λ v turns. Done (Some v) turns)
 
 -- those of all assignments, in their order
-abbrev pub arguments : List Function → List Collected → Env → ℕ → Outcome (List (Option Value))
+abbrev pub arguments : List Function → List CollectedAttribute → Env → ℕ → Outcome (List (Option Value))
 arguments functions [] env turns = Done [] turns
 arguments functions (x ∷ xs) env turns =
     followed (argument functions x.argument env turns) (λ a turns. followed (arguments functions xs env turns) (λ more turns. Done (a ∷ more) turns))
@@ -49,11 +49,11 @@ done_or_none (Faulted kind) = []
 done_or_none Stuck = []
 
 -- those of a tuple, as they were evaluated when it came: none where that faulted
-abbrev pub arguments_of : List Function → List Collected → List Value → List (Option Value)
+abbrev pub arguments_of : List Function → List CollectedAttribute → List Value → List (Option Value)
 arguments_of functions output t = done_or_none (arguments functions output (at_tuple t) most_turns)
 
 -- the values of the argument of the assignment with this number, tuple by tuple
-abbrev pub values_of : List Function → List Collected → ℕ → List (List Value) → List Value
+abbrev pub values_of : List Function → List CollectedAttribute → ℕ → List (List Value) → List Value
 values_of functions output k ts = filter_map (λ t. option_and_then (λ a. a) (slice_get (arguments_of functions output t) k)) ts
 
 -- ---- what is made of values
@@ -101,18 +101,18 @@ collected K.Count n vs = Some (V.Int (wrapped N.I32 (pos n)))
 -- ---- the tuple of a group
 
 -- the attributes that the assignments from number k on get of the tuples of a group, with their places
-abbrev pub attributes_from : List Function → List Collected → List (List Value) → ℕ → List Collected → Option (List (ℕ × Value))
+abbrev pub attributes_from : List Function → List CollectedAttribute → List (List Value) → ℕ → List CollectedAttribute → Option (List (ℕ × Value))
 attributes_from functions output ts k [] = Some []
 attributes_from functions output ts k (x ∷ xs) =
     option_and_then (λ v. option_map (λ fs. (x.attribute, v) ∷ fs) (attributes_from functions output ts (k + 1) xs))
     (collected x.collector (length ts) (values_of functions output k ts))
 
-abbrev pub group_tuple : List Function → List Collected → List (List Value) → Option (List Value)
+abbrev pub group_tuple : List Function → List CollectedAttribute → List (List Value) → Option (List Value)
 group_tuple functions output ts = option_and_then tuple_of (attributes_from functions output ts 0 output)
 
 -- ---- contents
 
-abbrev pub tuples_of : List Function → List Collected → List (List Value × List (List Value)) → Option (List Output)
+abbrev pub tuples_of : List Function → List CollectedAttribute → List (List Value × List (List Value)) → Option (List Output)
 tuples_of functions output [] = Some []
 tuples_of functions output (g ∷ gs) =
     option_and_then (λ t. option_map (λ outs. on_first (I.Tuple t) ++ outs) (tuples_of functions output gs)) (group_tuple functions output g.1)
@@ -132,21 +132,21 @@ abbrev pub marker_passed : WindowRule → List Output
 marker_passed rule = if slides rule then on_first I.Window else []
 
 -- for each content a tuple of each group, by ascending key, and what follows it
-abbrev pub contents_give : List Function → List ℕ → List Collected → WindowRule → List (List (List Value)) → Option (List Output)
+abbrev pub contents_give : List Function → List ℕ → List CollectedAttribute → WindowRule → List (List (List Value)) → Option (List Output)
 contents_give functions group output rule [] = Some []
 contents_give functions group output rule (ts ∷ contents) =
     option_and_then (λ outs. option_map (λ more. outs ++ marker_after rule ++ more) (contents_give functions group output rule contents))
     (tuples_of functions output (groups group ts))
 
 -- what the contents give with which an item fires
-abbrev pub fired_give : List Function → Policy → List ℕ → List ℕ → List Collected → List Item → Item → Option (List Output)
+abbrev pub fired_give : List Function → Policy → List ℕ → List ℕ → List CollectedAttribute → List Item → Item → Option (List Output)
 fired_give functions window partition group output earlier x =
     contents_give functions group output window.rule (fired_at window.rule (partition_key window partition) x earlier)
 
 -- ---- the body
 
 -- The arguments are evaluated at each tuple, also where it doesn't fire.
-abbrev pub aggregate_body : List Function → Policy → List ℕ → List ℕ → List Collected → List Item → Item → Makes
+abbrev pub aggregate_body : List Function → Policy → List ℕ → List ℕ → List CollectedAttribute → List Item → Item → Makes
 aggregate_body functions window partition group output earlier (I.Tuple t) =
     followed (arguments functions output (at_tuple t) most_turns) (λ values turns.
     need (fired_give functions window partition group output earlier (I.Tuple t)) (λ outs. Done outs turns))

@@ -3,7 +3,7 @@ use Prim.Native.Nat.{suc}
 use Rattle.std.specs.Prelude.{ℕ, List, [], ◌∷◌, map, slice_get}
 use Rattle.std.specs.Option.{unwrap_or}
 use Rattle.spl_tree.specs.declared.graph.Op.{Op}
-use Rattle.language_model.specs.declared.checked.Part.{Part}
+use Rattle.language_model.specs.declared.checked.CheckedClauses.{CheckedClauses}
 use Rattle.language_model.specs.CheckedGraph.{CheckedGraph}
 use Rattle.language_model.specs.StreamTypes.{Attributes}
 use Rattle.stream_model.specs.Meaning.{Graph}
@@ -19,17 +19,18 @@ first_schema c [] = []
 first_schema c (s ∷ streams) = schema_at c s
 
 -- the operator with this number and these clauses
-abbrev pub operator_with : CheckedGraph → ℕ → Op → Part → Operator
+abbrev pub operator_with : CheckedGraph → ℕ → Op → CheckedClauses → Operator
 operator_with c n op part = record {
   number = n;
   clauses = part;
   functions = c.functions;
   types = record { ins = map (first_schema c) op.ins; outs = map (schema_at c) op.outs };
   ins = op.ins;
-  outs = op.outs }
+  outs = op.outs;
+}
 
 -- operators with their clauses, numbered from n on
-abbrev pub operators_from : CheckedGraph → ℕ → List Op → List Part → List Operator
+abbrev pub operators_from : CheckedGraph → ℕ → List Op → List CheckedClauses → List Operator
 operators_from c n (op ∷ ops) (part ∷ parts) = operator_with c n op part ∷ operators_from c (suc n) ops parts
 operators_from c n _ _ = []
 

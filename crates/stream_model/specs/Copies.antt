@@ -12,12 +12,12 @@ use Rattle.spl_tree.specs.declared.code.Code.TheOpen.{Code-F}
 use Rattle.spl_tree.specs.declared.code.Code.TheViews.{out-Code}
 use Rattle.spl_tree.specs.declared.code.Slot.{Slot}
 use Rattle.spl_tree.specs.declared.code.Slot.TheVariants as L
-use Rattle.language_model.specs.declared.checked.Collected.{Collected}
+use Rattle.language_model.specs.declared.checked.CollectedAttribute.{CollectedAttribute}
 use Rattle.language_model.specs.declared.checked.Collector.{Collector}
 use Rattle.language_model.specs.declared.checked.Collector.TheVariants as K
 use Rattle.language_model.specs.declared.checked.Handlers.{Handlers}
-use Rattle.language_model.specs.declared.checked.Part.{Part}
-use Rattle.language_model.specs.declared.checked.Part.TheVariants as A
+use Rattle.language_model.specs.declared.checked.CheckedClauses.{CheckedClauses}
+use Rattle.language_model.specs.declared.checked.CheckedClauses.TheVariants as A
 use Rattle.language_model.specs.Slots.{joined}
 use Rattle.stream_model.specs.Stream.{is_empty}
 
@@ -87,18 +87,18 @@ picks _ = false
 
 -- what an assignment of an Aggregate gives, where it is an attribute of `partitionBy` alone. An attribute that isn't assigned has the last
 -- tuple's attribute of its name
-abbrev pub kept_source : List ℕ → Collected → Option ℕ
+abbrev pub kept_source : List ℕ → CollectedAttribute → Option ℕ
 kept_source partition x =
     if picks x.collector
     then option_and_then (λ b. if list_any (λ p. p == b) partition then Some b else None) (option_and_then attribute_alone x.argument)
     else None
 
-abbrev pub aggregate_source : List ℕ → List Collected → ℕ → Option ℕ
+abbrev pub aggregate_source : List ℕ → List CollectedAttribute → ℕ → Option ℕ
 aggregate_source partition [] a = None
 aggregate_source partition (x ∷ xs) a = if x.attribute == a then kept_source partition x else aggregate_source partition xs a
 
 -- The input attribute of which an output attribute is a copy. Of a Union with several ports it is that of the first port.
-abbrev pub source_of : Part → ℕ → Option ℕ
+abbrev pub source_of : CheckedClauses → ℕ → Option ℕ
 source_of (A.Filter condition) a = Some a
 source_of (A.Punctor condition position) a = Some a
 source_of (A.Split index) a = Some a
@@ -111,6 +111,6 @@ source_of (A.FileSource file strict) a = None
 source_of (A.FileSink file) a = None
 
 -- the attribute of the stream that a chain reads of which an attribute of its last stream is a copy: copies compose
-abbrev pub trace : List Part → ℕ → Option ℕ
+abbrev pub trace : List CheckedClauses → ℕ → Option ℕ
 trace [] a = Some a
 trace (part ∷ parts) a = option_and_then (source_of part) (trace parts a)

@@ -3,7 +3,7 @@
 use Rattle.std.specs.Prelude.{◌≡◌, ◌<◌, ⊤, ℕ, Bool, true, false, IsTrue, List, [], ◌∷◌, length, slice_get, Some}
 use Rattle.spl_value.specs.declared.item.Item.{Item}
 use Rattle.spl_tree.specs.declared.graph.OpKind.{OpKind}
-use Rattle.language_model.specs.declared.checked.Part.{Part}
+use Rattle.language_model.specs.declared.checked.CheckedClauses.{CheckedClauses}
 use Rattle.language_model.specs.declared.scope.Scope.{Scope}
 use Rattle.language_model.specs.declared.scope.Signature.{Signature}
 use Rattle.language_model.specs.CheckedGraph.{CheckedGraph}
@@ -15,7 +15,7 @@ use Rattle.stream_model.specs.Stream.{Event}
 use Rattle.stream_model.specs.Operators.{Operator, input_attributes, port_at, ports}
 use Rattle.stream_model.specs.PortEvents.{port_events}
 use Rattle.stream_model.specs.Bodies.{Makes}
-use Rattle.stream_model.specs.React.{Answer, Gives, Faults, makes_by, port_body, react}
+use Rattle.stream_model.specs.React.{Reaction, Gives, Faults, makes_by, port_body, react}
 use Rattle.stream_model.specs.CheckedMeaning.{graph_of}
 use Rattle.stream_model.specs.Replies.{AllFit, ItemHas, is_live}
 
@@ -40,7 +40,7 @@ HistoryFits op [] = ⊤
 HistoryFits op (e ∷ h) = HasPort op e.input e.item × HistoryFits op h
 
 -- no event of a history gave a fault
-abbrev pub is_given : Answer → Bool
+abbrev pub is_given : Reaction → Bool
 is_given (Gives outs) = true
 is_given (Faults kind) = false
 
@@ -55,7 +55,7 @@ MakesFit op (Faulted kind) = ⊤
 MakesFit op Stuck = ⊥
 
 -- the clauses of an operator of some kinds, after what fits and gave no fault, make what fits of what fits
-abbrev pub FitsAt : (Part → Bool) → Type 0
+abbrev pub FitsAt : (CheckedClauses → Bool) → Type 0
 FitsAt is_kind = (op : Operator) (h : List Event) (port : ℕ) (x : Item) → is_kind op.clauses ≡ true → IsFitting op → HistoryFits op h → NoneFaulted op h → HasPort op port x
     → MakesFit op (makes_by op.clauses op h port x)
 

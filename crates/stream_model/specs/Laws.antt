@@ -6,38 +6,38 @@ use Rattle.spl_value.specs.declared.item.Item.TheVariants as I
 use Rattle.spl_value.specs.declared.item.FaultKind.{FaultKind}
 use Rattle.spl_value.specs.declared.item.FaultKind.TheVariants as K
 use Rattle.spl_value.specs.declared.value.Value.{Value}
-use Rattle.language_model.specs.declared.checked.Part.{Part}
-use Rattle.language_model.specs.declared.checked.Part.TheVariants as A
+use Rattle.language_model.specs.declared.checked.CheckedClauses.{CheckedClauses}
+use Rattle.language_model.specs.declared.checked.CheckedClauses.TheVariants as A
 use Rattle.language_model.specs.declared.outs.Output.{Output}
 use Rattle.stream_model.specs.Stream.{Event, came, is_final, is_fault, closes, any_closes, is_closed, IsPrefix}
 use Rattle.stream_model.specs.Operators.{Operator, ports, connections}
 use Rattle.stream_model.specs.React.{react, body, ended, Gives, Faults}
 use Rattle.stream_model.specs.Replies.{is_live}
-use Rattle.stream_model.specs.Stages.{start, after, out, on_port, chain}
+use Rattle.stream_model.specs.Stages.{start, stage_after, out, on_port, chain}
 use Rattle.spl_value.specs.Script.{Ending, End, Failed}
 use Rattle.stream_model.specs.Rows.{Setting, Given, Row, Nothing, Bad, pieces, line_gives, rows}
 use Rattle.stream_model.specs.Meaning.{Graph, Lists, Entries, meaning, makes, events_of, in_topo}
 
 abbrev pub has_ended : Operator → List Event → Bool
-has_ended op events = (after (start op) events).over
+has_ended op events = (stage_after (start op) events).over
 
 -- with no event, nothing is given and the operator hasn't ended
 abbrev pub StartLaw : Type 0
 StartLaw = (op : Operator) → ((p : ℕ) → out op p [] ≡ []) × (has_ended op [] ≡ false)
 
--- while the operator hasn't ended, one event more adds at the end what it causes after all before it; afterwards it
+-- while the operator hasn't ended, one event more adds at the end what it causes stage_after all before it; afterwards it
 -- adds nothing
 abbrev pub HistoryLaw : Type 0
 HistoryLaw = (op : Operator) (p : ℕ) (events : List Event) (e : Event) →
     (has_ended op events ≡ false → out op p (events ++ e ∷ []) ≡ out op p events ++ on_port p (react op (reverse events) e))
     × (has_ended op events ≡ true → out op p (events ++ e ∷ []) ≡ out op p events)
 
--- an operator that hasn't ended ends with an event that ends it after all before it, and stays ended
+-- an operator that hasn't ended ends with an event that ends it stage_after all before it, and stays ended
 abbrev pub EndLaw : Type 0
 EndLaw = (op : Operator) (events : List Event) (e : Event) →
     has_ended op (events ++ e ∷ []) ≡ (if has_ended op events then true else is_some (ended op (reverse events) e))
 
--- an operator hasn't ended after a history exactly where it hasn't after its events in their order
+-- an operator hasn't ended stage_after a history exactly where it hasn't stage_after its events in their order
 abbrev pub LiveLaw : Type 0
 LiveLaw = (op : Operator) (h : List Event) → is_live op h ≡ not (has_ended op (reverse h))
 
@@ -63,7 +63,7 @@ WaitLaw = (op : Operator) (i j p : ℕ) (earlier : List Event) → slice_get (po
 
 -- the inputs are numbered by port and then by place within the port: the port of an input is the number of the ports before it
 abbrev pub PortsLaw : Type 0
-PortsLaw = (op : Operator) (before after : List (List ℕ)) (streams : List ℕ) (k : ℕ) → op.ins ≡ before ++ streams ∷ after → k < length streams
+PortsLaw = (op : Operator) (before stage_after : List (List ℕ)) (streams : List ℕ) (k : ℕ) → op.ins ≡ before ++ streams ∷ stage_after → k < length streams
     → slice_get (ports op) (length (concat before) + k) ≡ Some (length before)
 
 -- more events give more
@@ -92,7 +92,7 @@ BodyLaw = (op : Operator) (earlier : List Event) (e : Event) (outs : List Output
     → list_any (λ o. closes o.item) outs ≡ false
 
 -- a Custom picks the ports of its submits by itself
-abbrev pub is_custom : Part → Bool
+abbrev pub is_custom : CheckedClauses → Bool
 is_custom (A.Custom handlers) = true
 is_custom _ = false
 
@@ -118,13 +118,13 @@ is_made ops s = list_any (λ op. makes_stream op s) ops
 
 -- no stream is made by two operators, and none is read by its maker or by an operator before it
 pub record IsOrdered (ops : List Operator) : Type 0 where
-  pub once : (before after : List Operator) (op : Operator) (s : ℕ) → ops ≡ before ++ op ∷ after → makes_stream op s ≡ true → is_made after s ≡ false
-  pub forward : (before after : List Operator) (op : Operator) (s : ℕ) → ops ≡ before ++ op ∷ after → reads_stream op s ≡ true → is_made (op ∷ after) s ≡ false
+  pub once : (before stage_after : List Operator) (op : Operator) (s : ℕ) → ops ≡ before ++ op ∷ stage_after → makes_stream op s ≡ true → is_made stage_after s ≡ false
+  pub forward : (before stage_after : List Operator) (op : Operator) (s : ℕ) → ops ≡ before ++ op ∷ stage_after → reads_stream op s ≡ true → is_made (op ∷ stage_after) s ≡ false
 
 -- in an ordered graph the stream at each port of an operator is what the operator makes of the streams of the graph
 abbrev pub GraphLaw : Type 0
-GraphLaw = (g : Graph) (rows : Lists) (entries : Entries) (before after : List Operator) (op : Operator) (p s : ℕ) →
-    IsOrdered (in_topo g) → in_topo g ≡ before ++ op ∷ after → position (λ o. o == s) op.outs ≡ Some p
+GraphLaw = (g : Graph) (rows : Lists) (entries : Entries) (before stage_after : List Operator) (op : Operator) (p s : ℕ) →
+    IsOrdered (in_topo g) → in_topo g ≡ before ++ op ∷ stage_after → position (λ o. o == s) op.outs ≡ Some p
     → (meaning g rows entries).streams s ≡ makes op p (meaning g rows entries).streams rows entries
 
 -- the number of each operator is its place in the order of declaration
@@ -138,8 +138,8 @@ EventsLaw = (g : Graph) (rows : Lists) (entries : Entries) (op : Operator) (n : 
 
 -- so they are of one that stands in the topological order
 abbrev pub TopoEventsLaw : Type 0
-TopoEventsLaw = (g : Graph) (rows : Lists) (entries : Entries) (before after : List Operator) (op : Operator) →
-    IsNumbered g → in_topo g ≡ before ++ op ∷ after
+TopoEventsLaw = (g : Graph) (rows : Lists) (entries : Entries) (before stage_after : List Operator) (op : Operator) →
+    IsNumbered g → in_topo g ≡ before ++ op ∷ stage_after
     → (meaning g rows entries).events op.number ≡ events_of op (meaning g rows entries).streams (entries op.number)
 
 -- the rows of a file end with a final marker or a fault, and nothing follows it
@@ -193,7 +193,7 @@ pub record IsWithin (o : Setting) (bytes : List ℕ) : Type 0 where
   pub each : All (λ piece. length piece ≤ 65536) (pieces bytes)
   pub file : length bytes ≤ o.limit
 
--- lines with a line feed after each, and a last piece with none, are the pieces of the whole
+-- lines with a line feed stage_after each, and a last piece with none, are the pieces of the whole
 abbrev pub PiecesLaw : Type 0
 PiecesLaw = (ended : List (List ℕ)) (last : List ℕ) → All (λ line. list_any (λ b. b == 10) line ≡ false) (ended ++ last ∷ [])
     → pieces (flat_map (λ line. line ++ 10 ∷ []) ended ++ last) ≡ ended ++ last ∷ []
@@ -203,7 +203,7 @@ abbrev pub RowsLaw : Type 0
 RowsLaw = (o : Setting) (bytes : List ℕ) → IsWithin o bytes → any_bad o (lines bytes) ≡ false
     → rows o bytes End ≡ tuples o (lines bytes) ++ I.Window ∷ I.Final ∷ []
 
--- where a read failed after such bytes, the rows of the lines that a line feed ends, and then the fault, at the next line
+-- where a read failed stage_after such bytes, the rows of the lines that a line feed ends, and then the fault, at the next line
 abbrev pub FailedRowsLaw : Type 0
 FailedRowsLaw = (o : Setting) (bytes : List ℕ) → IsWithin o bytes → any_bad o (ended_lines bytes) ≡ false
     → rows o bytes Failed ≡ tuples o (ended_lines bytes) ++ I.Bad (record { op = o.op; kind = K.ReadFailed; line = 1 + count_by (λ b. b == 10) bytes }) ∷ []

@@ -6,8 +6,8 @@ use Rattle.std.specs.Option.{option_map_or}
 use Rattle.spl_value.specs.declared.item.Item.{Item}
 use Rattle.stream_model.specs.Stream.{Event, came}
 use Rattle.spl_value.specs.Script.{Script}
-use Rattle.language_model.specs.declared.checked.Part.{Part}
-use Rattle.language_model.specs.declared.checked.Part.TheVariants as A
+use Rattle.language_model.specs.declared.checked.CheckedClauses.{CheckedClauses}
+use Rattle.language_model.specs.declared.checked.CheckedClauses.TheVariants as A
 use Rattle.stream_model.specs.Operators.{Operator, connections, output_attributes}
 use Rattle.stream_model.specs.Stages.{out}
 use Rattle.stream_model.specs.Rows.{Setting, rows, text_of}
@@ -55,7 +55,7 @@ abbrev pub events_of : Operator → Lists → List ℕ → List Event
 events_of op streams entries = events_at streams (connections op) entries
 
 -- what an operator makes on a port: a source its rows, another what it gives for its events
-abbrev pub made_by : Part → Operator → ℕ → List Event → List Item → List Item
+abbrev pub made_by : CheckedClauses → Operator → ℕ → List Event → List Item → List Item
 made_by (A.FileSource file strict) op p events rows = rows
 made_by _ op p events rows = out op p events
 
@@ -84,7 +84,8 @@ events_of_number g streams entries n = option_map_or (λ op. events_of op stream
 abbrev pub meaning : Graph → Lists → Entries → Meaning
 meaning g rows entries = record {
   streams = streams_of (reverse (in_topo g)) rows entries;
-  events = events_of_number g (streams_of (reverse (in_topo g)) rows entries) entries }
+  events = events_of_number g (streams_of (reverse (in_topo g)) rows entries) entries;
+}
 
 -- how a source reads its file, which has at most 2^40 bytes: whether a bad row is a fault
 abbrev pub setting_of : Operator → Bool → Setting

@@ -4,7 +4,7 @@ use Rattle.std.specs.Prelude.{ℕ, List, [], ◌∷◌, ◌++◌, map, slice_get
 use Rattle.std.specs.List.{concat}
 use Rattle.std.specs.Option.{unwrap_or}
 use Rattle.spl_tree.specs.declared.body.Function.{Function}
-use Rattle.language_model.specs.declared.checked.Part.{Part}
+use Rattle.language_model.specs.declared.checked.CheckedClauses.{CheckedClauses}
 use Rattle.language_model.specs.declared.checked.PortTypes.{PortTypes}
 use Rattle.language_model.specs.StreamTypes.{Attributes}
 
@@ -12,7 +12,7 @@ use Rattle.language_model.specs.StreamTypes.{Attributes}
 -- that each input port takes, and the stream of each output port
 pub record Operator : Type 0 where
   pub number : ℕ
-  pub clauses : Part
+  pub clauses : CheckedClauses
   pub functions : List Function
   pub types : PortTypes
   pub ins : List (List ℕ)

@@ -8,7 +8,7 @@ use Rattle.spl_value.specs.declared.item.FaultKind.{FaultKind}
 use Rattle.spl_value.specs.declared.item.FaultKind.TheVariants as K
 use Rattle.spl_value.specs.declared.value.Value.{Value}
 use Rattle.spl_tree.specs.declared.body.Function.{Function}
-use Rattle.language_model.specs.declared.checked.Part.TheVariants as A
+use Rattle.language_model.specs.declared.checked.CheckedClauses.TheVariants as A
 use Rattle.language_model.specs.StreamTypes.{Attributes}
 use Rattle.spl_tree.specs.declared.code.Code.{Code}
 use Rattle.spl_tree.specs.declared.code.Slot.{Slot}
@@ -55,7 +55,8 @@ path_source schema file strict = record {
   functions = [];
   types = record { ins = []; outs = schema ∷ [] };
   ins = [];
-  outs = 0 ∷ [] }
+  outs = 0 ∷ [];
+}
 
 abbrev pub path_filter : Attributes → Option (Code Slot) → Operator
 path_filter schema condition = record {
@@ -64,7 +65,8 @@ path_filter schema condition = record {
   functions = [];
   types = record { ins = schema ∷ []; outs = schema ∷ [] };
   ins = (0 ∷ []) ∷ [];
-  outs = 1 ∷ [] }
+  outs = 1 ∷ [];
+}
 
 abbrev pub path_sink : Attributes → List ℕ → Operator
 path_sink schema file = record {
@@ -73,13 +75,15 @@ path_sink schema file = record {
   functions = [];
   types = record { ins = schema ∷ []; outs = [] };
   ins = (1 ∷ []) ∷ [];
-  outs = [] }
+  outs = [];
+}
 
 -- whose source has a file, and whose sink another
 abbrev pub path_graph : Attributes → List ℕ → Bool → Option (Code Slot) → List ℕ → Graph
 path_graph schema source strict condition sink = record {
   ops = path_source schema source strict ∷ path_filter schema condition ∷ path_sink schema sink ∷ [];
-  topo = 0 ∷ 1 ∷ 2 ∷ [] }
+  topo = 0 ∷ 1 ∷ 2 ∷ [];
+}
 
 -- ---- the laws
 

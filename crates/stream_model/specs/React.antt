@@ -4,8 +4,8 @@ use Rattle.spl_value.specs.declared.item.FaultKind.{FaultKind}
 use Rattle.spl_value.specs.declared.item.FaultKind.TheVariants as K
 use Rattle.spl_value.specs.declared.item.Item.{Item}
 use Rattle.spl_value.specs.declared.item.Item.TheVariants as I
-use Rattle.language_model.specs.declared.checked.Part.{Part}
-use Rattle.language_model.specs.declared.checked.Part.TheVariants as A
+use Rattle.language_model.specs.declared.checked.CheckedClauses.{CheckedClauses}
+use Rattle.language_model.specs.declared.checked.CheckedClauses.TheVariants as A
 use Rattle.language_model.specs.declared.outs.Output.{Output}
 use Rattle.language_model.specs.Outcomes.{Done, Faulted, Stuck}
 use Rattle.stream_model.specs.Stream.{Event, is_fault}
@@ -20,7 +20,7 @@ use Rattle.stream_model.specs.Joins.{join_body}
 
 -- What the operator with these clauses makes of an item of a port, by what came on its ports before: of a tuple, of a window marker, or of
 -- the end of the port by its final marker.
-abbrev pub makes_by : Part → Operator → List Event → ℕ → Item → Makes
+abbrev pub makes_by : CheckedClauses → Operator → List Event → ℕ → Item → Makes
 makes_by (A.FileSource file strict) op earlier port x = Done [] most_turns
 makes_by (A.FileSink file) op earlier port x = sink_body x
 makes_by (A.Filter condition) op earlier port x = filter_body op.functions condition x
@@ -35,22 +35,22 @@ makes_by (A.Join left right condition made) op earlier port x =
     join_body op.functions left right condition made (items_of 0 earlier) (items_of 1 earlier) port x
 
 -- what an operator's body makes of an event: items on its output ports, or a fault
-pub data Answer : Type 0 where
-  Gives : (outs : List Output) → Answer
-  Faults : (kind : FaultKind) → Answer
+pub data Reaction : Type 0 where
+  Gives : (outs : List Output) → Reaction
+  Faults : (kind : FaultKind) → Reaction
 
 -- a tuple that doesn't fit is a fault, as a row that doesn't
-abbrev pub answer : Makes → Answer
+abbrev pub answer : Makes → Reaction
 answer (Done outs turns) = Gives outs
 answer (Faulted kind) = Faults kind
 answer Stuck = Faults K.BadRow
 
 -- the answer at an item of a port, by what came on the ports before
-abbrev pub port_body : Operator → List Event → ℕ → Item → Answer
+abbrev pub port_body : Operator → List Event → ℕ → Item → Reaction
 port_body op earlier port x = answer (makes_by op.clauses op earlier port x)
 
 -- the answer at an event
-abbrev pub body : Operator → List Event → Event → Answer
+abbrev pub body : Operator → List Event → Event → Reaction
 body op earlier event = port_body op (port_events op earlier) (port_at (ports op) event.input) event.item
 
 -- ---- events
@@ -60,7 +60,7 @@ abbrev pub own_fault : Operator → FaultKind → Item
 own_fault op kind = I.Bad (record { op = op.number; kind = kind; line = 0 })
 
 -- the body's fault on every output port and nothing else, or its items and at the end Final on every output port
-abbrev pub answered : Operator → Bool → Answer → List Output
+abbrev pub answered : Operator → Bool → Reaction → List Output
 answered op last (Faults kind) = on_each (length op.outs) (own_fault op kind)
 answered op last (Gives outs) = if last then outs ++ on_each (length op.outs) I.Final else outs
 
@@ -73,7 +73,7 @@ react op earlier event =
     else answered op (is_last op earlier event) (body op earlier event)
 
 -- the fault or the final marker with which the body's answer ends the operator
-abbrev pub ended_by : Operator → Bool → Answer → Option Item
+abbrev pub ended_by : Operator → Bool → Reaction → Option Item
 ended_by op last (Faults kind) = Some (own_fault op kind)
 ended_by op last (Gives outs) = if last then Some I.Final else None
 

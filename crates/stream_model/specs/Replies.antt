@@ -7,8 +7,8 @@ use Rattle.spl_value.specs.declared.item.Item.{Item}
 use Rattle.spl_value.specs.declared.item.Item.TheVariants as I
 use Rattle.spl_value.specs.declared.types.SplType.TheVariants as T
 use Rattle.spl_value.specs.declared.value.Value.TheVariants as V
-use Rattle.language_model.specs.declared.checked.Part.{Part}
-use Rattle.language_model.specs.declared.checked.Part.TheVariants as A
+use Rattle.language_model.specs.declared.checked.CheckedClauses.{CheckedClauses}
+use Rattle.language_model.specs.declared.checked.CheckedClauses.TheVariants as A
 use Rattle.language_model.specs.declared.outs.Output.{Output}
 use Rattle.language_model.specs.StreamTypes.{Attributes}
 use Rattle.stream_model.specs.declared.reply.Reply.{Reply}
@@ -59,7 +59,7 @@ abbrev pub ReplyLaw : Type 0
 ReplyLaw = (op : Operator) (h : List Event) (e : Event) (r s : Reply) → Replies op h e r → Replies op h e s → IsTaken r → IsTaken s → r ≡ s
 
 -- the attributes of what is given on a port: those of the port's stream, and of a sink those of its input
-abbrev pub given_attributes : Part → Operator → ℕ → Attributes
+abbrev pub given_attributes : CheckedClauses → Operator → ℕ → Attributes
 given_attributes (A.FileSink file) op p = input_attributes op 0
 given_attributes _ op p = output_attributes op p
 

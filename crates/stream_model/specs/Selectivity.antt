@@ -13,8 +13,8 @@ use Rattle.spl_tree.specs.declared.code.Code.TheViews.{out-Code}
 use Rattle.spl_tree.specs.declared.code.Marker.{Marker}
 use Rattle.spl_tree.specs.declared.code.Marker.TheVariants as M
 use Rattle.spl_tree.specs.declared.code.Slot.{Slot}
-use Rattle.language_model.specs.declared.checked.Part.{Part}
-use Rattle.language_model.specs.declared.checked.Part.TheVariants as A
+use Rattle.language_model.specs.declared.checked.CheckedClauses.{CheckedClauses}
+use Rattle.language_model.specs.declared.checked.CheckedClauses.TheVariants as A
 use Rattle.language_model.specs.declared.checked.WindowRule.{WindowRule}
 use Rattle.language_model.specs.declared.checked.WindowRule.TheVariants as W
 use Rattle.language_model.specs.Evaluation.{same_marker}
@@ -162,7 +162,7 @@ window_gives (W.SlidingDelta a limit every) [] = G.AtMostOne
 window_gives rule group = G.Many
 
 -- A Custom with several ports isn't looked at further.
-abbrev pub gives : Part → Gives
+abbrev pub gives : CheckedClauses → Gives
 gives (A.Filter condition) = one_unless condition
 gives (A.Functor condition made) = one_unless condition
 gives (A.Split index) = G.AtMostOne

@@ -25,9 +25,9 @@ abbrev pub gives_all : Stage → List Event → List Output
 gives_all s [] = []
 gives_all s (e ∷ es) = gives s e ++ gives_all (next s e) es
 
-abbrev pub after : Stage → List Event → Stage
-after s [] = s
-after s (e ∷ es) = after (next s e) es
+abbrev pub stage_after : Stage → List Event → Stage
+stage_after s [] = s
+stage_after s (e ∷ es) = stage_after (next s e) es
 
 -- the items on a port
 abbrev pub on_port : ℕ → List Output → List Item

@@ -2,8 +2,8 @@
 use Rattle.std.specs.Prelude.{Bool, true, false, not, ◌&&◌, if◌then◌else◌}
 use Rattle.std.specs.List.{list_any}
 use Rattle.language_model.specs.declared.checked.Handlers.{Handlers}
-use Rattle.language_model.specs.declared.checked.Part.{Part}
-use Rattle.language_model.specs.declared.checked.Part.TheVariants as A
+use Rattle.language_model.specs.declared.checked.CheckedClauses.{CheckedClauses}
+use Rattle.language_model.specs.declared.checked.CheckedClauses.TheVariants as A
 use Rattle.language_model.specs.declared.checked.StateVariable.{StateVariable}
 use Rattle.stream_model.specs.declared.plan.StateKind.{StateKind}
 use Rattle.stream_model.specs.declared.plan.StateKind.TheVariants as K
@@ -14,7 +14,7 @@ abbrev pub has_mutable : Handlers → Bool
 has_mutable handlers = list_any (λ (x : StateVariable). x.variable.mutable) handlers.state
 
 -- a Custom without mutable variables keeps nothing, and an Aggregate keeps its partitions, where markers don't concern all of them
-abbrev pub state_of : Part → StateKind
+abbrev pub state_of : CheckedClauses → StateKind
 state_of (A.FileSource file strict) = K.Whole
 state_of (A.FileSink file) = K.Whole
 state_of (A.Join left right condition made) = K.Whole

@@ -13,7 +13,7 @@ ghost use Rattle.spl_tree.specs.declared.code.Slot.{Slot};
 ghost use Rattle.stream_model.specs.PathLaws.{path_graph, FilterLaw, SinkLaw, SinkFaultLaw};
 ghost use Rattle.stream_model.specs.examples.TwoSinks.{two_sinks, unread_source, bad_row, fault_of_run};
 ghost use Rattle.stream_model.specs.Rows.{Setting, rows, too_long, text_of};
-ghost use Rattle.language_model.specs.declared.checked.Part.TheVariants as A;
+ghost use Rattle.language_model.specs.declared.checked.CheckedClauses.TheVariants as A;
 ghost use Rattle.language_model.specs.StreamTypes.{Attributes};
 ghost use Rattle.spl_tree.specs.declared.graph.OpKind.TheVariants as O;
 ghost use Rattle.stream_model.specs.CheckedMeaning.{graph_of};

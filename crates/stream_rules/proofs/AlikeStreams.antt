@@ -6,7 +6,7 @@ use Rattle.spl_tree.specs.declared.graph.Graph.{Graph}
 use Rattle.spl_tree.specs.declared.unit.Definition.{Definition}
 use Rattle.spl_tree.specs.declared.unit.InputPort.{InputPort}
 use Rattle.spl_value.specs.declared.types.SplType.TheVariants as S
-use Rattle.language_model.specs.StreamTypes.{Attributes, Body, Passes, are_alike, behind, each_name, input_heads, name_places, passed, port_attributes, same_attributes, so_often, stream_attributes}
+use Rattle.language_model.specs.StreamTypes.{Attributes, Body, Passes, are_alike, tail, each_name, input_heads, name_places, passed, port_attributes, same_attributes, so_often, stream_attributes}
 use Rattle.language_model.specs.Typing.{Found, after, mismatch}
 use Rattle.language_model.proofs.TypingLaws.{same_types_law}
 use Rattle.language_model.specs.declared.answer.TypeAnswer.{TypeAnswer}
@@ -67,7 +67,7 @@ module _ (unit : List Definition) (g : Graph) (schema : Attributes) where
         names_on ∙ ap (λ p. after p (λ u. alike (flat_map f (drop (i + 1) names)) (drop m row))) h ∙ ap (alike (flat_map f (drop (i + 1) names))) (sym rest_is)
 
   -- the first stream is like itself
-  first_alike : (s : ℕ) (places row : List ℕ) → stream_attributes unit g s ≡ Ok schema → alike places (s ∷ row) ≡ alike (behind places) row
+  first_alike : (s : ℕ) (places row : List ℕ) → stream_attributes unit g s ≡ Ok schema → alike places (s ∷ row) ≡ alike (tail places) row
   first_alike s [] row e = sym (empty row)
     where
       empty : (row : List ℕ) → alike [] row ≡ passed
@@ -77,7 +77,7 @@ module _ (unit : List Definition) (g : Graph) (schema : Attributes) where
       ap (λ own. after own (λ own. if same_attributes own schema then alike places row else mismatch at)) e
       ∙ ap (λ b. if b then alike places row else mismatch at) ((same_types_law (S.Tuple schema) (S.Tuple schema)).1 refl)
 
-  begins : (row : List ℕ) (s : ℕ) → slice_get row 0 ≡ Some s → row ≡ s ∷ behind row
+  begins : (row : List ℕ) (s : ℕ) → slice_get row 0 ≡ Some s → row ≡ s ∷ tail row
   begins [] s e = absurd cc
   begins (x ∷ row) s e = let same : x ≡ s = cc in ap (λ y. y ∷ row) same
 
@@ -86,7 +86,7 @@ module _ (unit : List Definition) (g : Graph) (schema : Attributes) where
         ≡ after (alike (name_places b q) row) (λ u. after (each_name (input_heads (length g.expansions) unit g schema b) q.streams) (λ v. Ok schema))
     port_is =
         ap (port_attributes unit g b q) (begins row s there)
-        ∙ ap (λ found. after found (λ schema. after (are_alike unit g schema (behind (name_places b q)) (behind row)) (λ u.
+        ∙ ap (λ found. after found (λ schema. after (are_alike unit g schema (tail (name_places b q)) (tail row)) (λ u.
         after (each_name (input_heads (length g.expansions) unit g schema b) q.streams) (λ v. Ok schema)))) own
         ∙ ap (λ p. after p (λ u. after (each_name (input_heads (length g.expansions) unit g schema b) q.streams) (λ v. Ok schema)))
-        (sym (ap (alike (name_places b q)) (begins row s there) ∙ first_alike s (name_places b q) (behind row) own))
+        (sym (ap (alike (name_places b q)) (begins row s there) ∙ first_alike s (name_places b q) (tail row) own))

@@ -8,7 +8,7 @@ use Rattle.spl_tree.specs.declared.unit.Definition.{Definition}
 use Rattle.spl_tree.specs.declared.unit.OutputStream.{OutputStream}
 use Rattle.language_model.specs.Expansion.{place_of}
 use Rattle.language_model.specs.Invoking.{input_names, stream_names}
-use Rattle.language_model.specs.StreamTypes.{Attributes, Body, head_input, input_heads, invoked_input, outer_output, output_heads, own_or_head, passed, port_stands_for, stands_for}
+use Rattle.language_model.specs.StreamTypes.{Attributes, Body, head_input, input_heads, invoked_input, outer_output, output_heads, own_or_head, passed, port_matches, shape_matches}
 use Rattle.language_model.specs.Typing.{after}
 use Rattle.language_model.specs.declared.answer.TypeAnswer.{TypeAnswer}
 use Rattle.language_model.specs.declared.answer.TypeAnswer.TheVariants.{Refused, Memory}
@@ -27,7 +27,7 @@ module _ (unit : List Definition) (g : Graph) (schema : Attributes) where
 
   -- the heads around an output of an invocation, whose own type passes
   pub outwards_on : (b : Body) (o : OutputStream) (left fewer : ℕ) (name : List ℕ) (next : Origin) (r : Option Origin) → left ≡ suc fewer → name ≡ o.name.what
-      → stands_for unit g b schema o.shape ≡ Ok tt → r ≡ Some next → StandsOutside unit g schema b name (Ok r)
+      → shape_matches unit g b schema o.shape ≡ Ok tt → r ≡ Some next → StandsOutside unit g schema b name (Ok r)
       → outer_output (output_heads left unit g schema) unit g schema b o ≡ outer_output (output_heads fewer unit g schema) unit g schema (body_seen next.body) next.output.now
   outwards_on b o left fewer name next r less named own is outside =
       let there : StandsOutside unit g schema b name (Ok (Some next)) = subst (λ r. StandsOutside unit g schema b name (Ok r)) is outside in
@@ -63,12 +63,12 @@ module _ (unit : List Definition) (g : Graph) (schema : Attributes) where
 
   module _ (b : Body) (name : List ℕ) (left fewer place : ℕ) (less : left ≡ suc fewer) (none : place_of name (stream_names b.composite) ≡ None)
       (there : Some place ≡ place_of name (input_names b.composite)) where
-    pub head_stops : (e : TypeAnswer) → Finds (port_stands_for unit g b schema (slice_get b.composite.inputs place)) (Err e) → Finds (input_heads left unit g schema b name) (Err e)
+    pub head_stops : (e : TypeAnswer) → Finds (port_matches unit g b schema (slice_get b.composite.inputs place)) (Err e) → Finds (input_heads left unit g schema b name) (Err e)
     head_stops e h =
         finds_by _ _ (Err e) (head_here b name left fewer place less none there)
-        (stops (port_stands_for unit g b schema (slice_get b.composite.inputs place)) (λ u. option_map_or (invoked_input (input_heads fewer unit g schema) unit g place) b.expansion.site passed) e h)
+        (stops (port_matches unit g b schema (slice_get b.composite.inputs place)) (λ u. option_map_or (invoked_input (input_heads fewer unit g schema) unit g place) b.expansion.site passed) e h)
 
-    pub head_on : (s : Site) (r : Result (Unit {0}) TypeAnswer) → port_stands_for unit g b schema (slice_get b.composite.inputs place) ≡ Ok tt → b.expansion.site ≡ Some s
+    pub head_on : (s : Site) (r : Result (Unit {0}) TypeAnswer) → port_matches unit g b schema (slice_get b.composite.inputs place) ≡ Ok tt → b.expansion.site ≡ Some s
         → Finds (invoked_input (input_heads fewer unit g schema) unit g place s) r → Finds (input_heads left unit g schema b name) r
     head_on s r own site h =
         finds_by _ _ r

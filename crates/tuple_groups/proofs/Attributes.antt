@@ -5,7 +5,7 @@ use Rattle.std.proofs.lemmas.Bool.{eq-eqb}
 use Rattle.std.proofs.lemmas.List.{drop_all}
 use Rattle.spl_value.specs.declared.value.Value.{Value}
 use Rattle.spl_value.proofs.Lists.{drop_at}
-use Rattle.language_model.specs.declared.checked.Collected.{Collected}
+use Rattle.language_model.specs.declared.checked.CollectedAttribute.{CollectedAttribute}
 use Rattle.language_model.specs.Evaluation.{field_at, tuple_from, tuple_of}
 use Rattle.stream_model.specs.Aggregates.{collected}
 use Rattle.tuple_groups.specs.Columns.{column, fields_at, tuple_at}
@@ -15,7 +15,7 @@ Fields = List (ℕ × Value)
 
 module _ (us : List (List Value)) where
   -- the attribute of the first assignment stands before those of the others
-  fields_next : (p : ℕ) (x : Collected) (xs : List Collected) (fs : Fields) → fields_at p (x ∷ xs) us ≡ Some fs
+  fields_next : (p : ℕ) (x : CollectedAttribute) (xs : List CollectedAttribute) (fs : Fields) → fields_at p (x ∷ xs) us ≡ Some fs
       → (v : Value) × (gs : Fields) × (collected x.collector (length us) (column p us) ≡ Some v) × (fields_at (p + 1) xs us ≡ Some gs) × ((x.attribute, v) ∷ gs ≡ fs)
   fields_next p x xs fs e = by (collected x.collector (length us) (column p us)) (fields_at (p + 1) xs us) e
     where
@@ -26,13 +26,13 @@ module _ (us : List (List Value)) where
       by (Some v) (Some gs) e = (v, gs, refl, refl, let same : (x.attribute, v) ∷ gs ≡ fs = cc in same)
 
   -- there is one for each assignment
-  pub as_many : (p : ℕ) (output : List Collected) (fs : Fields) → fields_at p output us ≡ Some fs → length fs ≡ length output
+  pub as_many : (p : ℕ) (output : List CollectedAttribute) (fs : Fields) → fields_at p output us ≡ Some fs → length fs ≡ length output
   as_many p [] fs e = let none : [] ≡ fs = cc in sym (ap length none)
   as_many p (x ∷ xs) fs e =
       let next = fields_next p x xs fs e in
       sym (ap length next.4) ∙ ap suc (as_many (p + 1) xs next.1 next.3)
 
-  module _ (p a : ℕ) (output : List Collected) (k : ℕ) (gs : Fields) (are : fields_at (p + k) (drop k output) us ≡ Some gs) where
+  module _ (p a : ℕ) (output : List CollectedAttribute) (k : ℕ) (gs : Fields) (are : fields_at (p + k) (drop k output) us ≡ Some gs) where
     -- no assignment is left
     pub none_gets : length output ≤ k → field_at a gs ≡ None
     none_gets past =
@@ -40,7 +40,7 @@ module _ (us : List (List Value)) where
         let same : [] ≡ gs = cc in
         sym (ap (field_at a) same)
 
-    module _ (x : Collected) (within : k < length output) (is : x ≡ get_or output k x) where
+    module _ (x : CollectedAttribute) (within : k < length output) (is : x ≡ get_or output k x) where
       next_at : (v : Value) × (hs : Fields) × (collected x.collector (length us) (column (p + k) us) ≡ Some v) × (fields_at (p + k + 1) (drop (k + 1) output) us ≡ Some hs)
           × ((x.attribute, v) ∷ hs ≡ gs)
       next_at = fields_next (p + k) x (drop (k + 1) output) gs (sym (ap (λ xs. fields_at (p + k) xs us) (drop_at output k x within is)) ∙ are)
@@ -60,7 +60,7 @@ module _ (us : List (List Value)) where
           )
 
   -- the tuple is that of the attributes
-  pub fields_of_tuple : (p : ℕ) (output : List Collected) (vs : List Value) → tuple_at p output us ≡ Some vs
+  pub fields_of_tuple : (p : ℕ) (output : List CollectedAttribute) (vs : List Value) → tuple_at p output us ≡ Some vs
       → (fs : Fields) × (fields_at p output us ≡ Some fs) × (tuple_from 0 (length output) fs ≡ Some vs)
   fields_of_tuple p output vs e = by (fields_at p output us) refl e
     where

@@ -6,14 +6,14 @@ ghost use Rattle.tuple_groups.specs.Columns.{fields_at, tuple_at};
 ghost use Rattle.tuple_groups.specs.Seen.{seen};
 
 use crate::collectors::collected;
-use language_model::Collected;
+use language_model::CollectedAttribute;
 use spl_value::{Items, NoMemory, Value, Values};
 use std::alloc::Global;
 
 /// What the assignment of an attribute gets of the tuples of a group.
 fn attribute_of(
     alloc: Global,
-    output: &[Collected],
+    output: &[CollectedAttribute],
     width: usize,
     tuples: &[&Values],
     attribute: usize,
@@ -37,7 +37,7 @@ fn attribute_of(
 /// and those of the others after it.
 pub fn group_tuple(
     alloc: Global,
-    output: &Items<Collected>,
+    output: &Items<CollectedAttribute>,
     width: usize,
     tuples: &[&Values],
 ) -> Result<Values, NoMemory>

@@ -12,7 +12,7 @@ use Rattle.spl_tree.specs.declared.expression.Step.{Step}
 use Rattle.spl_tree.specs.declared.expression.Step.TheVariants as N
 use Rattle.spl_tree.specs.declared.code.Code.{Code}
 use Rattle.spl_tree.specs.declared.code.Slot.{Slot}
-use Rattle.spl_tree.specs.declared.code.Taking.{Taking}
+use Rattle.spl_tree.specs.declared.code.Selector.{Selector}
 use Rattle.language_model.specs.declared.scope.Scope.{Scope}
 use Rattle.language_model.specs.declared.scope.Typed.{Typed}
 use Rattle.language_model.specs.Typing.{Found, after, typing, typed, level_step, steps_typed, selected, arguments_typed}
@@ -30,21 +30,21 @@ found_or (Err r) y = y
 
 module _ (scope : Scope) where
   -- steps from a type on, with what was taken before them
-  abbrev taken_from : ℕ → Code Slot → SplType → List (Step Expr) → List (Taking (Code Slot)) → Found Typed
+  abbrev taken_from : ℕ → Code Slot → SplType → List (Step Expr) → List (Selector (Code Slot)) → Found Typed
   taken_from base code kind ss takings = after (steps_typed base scope kind (step_parts ss)) (λ xs. Ok (typed xs.1 (selected code (takings ++ xs.0))))
 
-  module _ (base : ℕ) (code : Code Slot) (kind : SplType) (ss : List (Step Expr)) (i : ℕ) (takings : List (Taking (Code Slot))) where
+  module _ (base : ℕ) (code : Code Slot) (kind : SplType) (ss : List (Step Expr)) (i : ℕ) (takings : List (Selector (Code Slot))) where
     pub taken_past : length ss ≤ i → taken_from base code kind (drop i ss) takings ≡ Ok (typed kind (selected code takings))
     taken_past h = ap (λ r. taken_from base code kind r takings) (drop_all i ss h) ∙ ap (λ l. Ok (typed kind (selected code l))) (append-nil takings)
 
     module _ (s : Step Expr) (h : i < length ss) (e : s ≡ get_or ss i s) where
-      abbrev taken_rest : Taking (Code Slot) × SplType → Found (List (Taking (Code Slot)) × SplType)
+      abbrev taken_rest : Selector (Code Slot) × SplType → Found (List (Selector (Code Slot)) × SplType)
       taken_rest x = after (steps_typed base scope x.1 (step_parts (drop (i + 1) ss))) (λ xs. Ok (x.0 ∷ xs.0, xs.1))
 
       taken_is : steps_typed base scope kind (step_parts (drop i ss)) ≡ after (level_step base scope (out-SplType kind) (step_part s)) taken_rest
       taken_is = ap (λ r. steps_typed base scope kind (step_parts r)) (drop_at ss i s h e)
 
-      pub taken_on : (t : Taking (Code Slot)) (given : SplType) (zs : List (Taking (Code Slot))) → level_step base scope (out-SplType kind) (step_part s) ≡ Ok (t, given)
+      pub taken_on : (t : Selector (Code Slot)) (given : SplType) (zs : List (Selector (Code Slot))) → level_step base scope (out-SplType kind) (step_part s) ≡ Ok (t, given)
           → zs ≡ takings ++ t ∷ [] → taken_from base code kind (drop i ss) takings ≡ taken_from base code given (drop (i + 1) ss) zs
       taken_on t given zs l z =
           ap (λ o. after o (λ xs. Ok (typed xs.1 (selected code (takings ++ xs.0))))) (taken_is ∙ ap (λ o. after o taken_rest) l)
@@ -52,12 +52,12 @@ module _ (scope : Scope) where
           ∙ (λ j. after (steps_typed base scope given (step_parts (drop (i + 1) ss))) (λ xs. Ok (typed xs.1 (selected code (sym (append_assoc takings (t ∷ []) xs.0) j)))))
           ∙ ap (taken_from base code given (drop (i + 1) ss)) (sym z)
 
-      with_taken : (found : Found Taken) (given : SplType) (zs : List (Taking (Code Slot))) → level_step base scope (out-SplType kind) (step_part s) ≡ found → behind takings found ≡ Ok (zs, given)
+      with_taken : (found : Found Taken) (given : SplType) (zs : List (Selector (Code Slot))) → level_step base scope (out-SplType kind) (step_part s) ≡ found → behind takings found ≡ Ok (zs, given)
           → taken_from base code kind (drop i ss) takings ≡ taken_from base code given (drop (i + 1) ss) zs
       with_taken (Ok x) given zs l z = let both = ap (λ o. found_or o (zs, given)) z in taken_on x.0 given zs (l ∙ ap (λ p. Ok (x.0, p.1)) both) (sym (ap (λ p. p.0) both))
       with_taken (Err r) given zs l z = absurd cc
 
-      pub taken_by : (given : SplType) (zs : List (Taking (Code Slot))) → behind takings (level_step base scope (out-SplType kind) (step_part s)) ≡ Ok (zs, given)
+      pub taken_by : (given : SplType) (zs : List (Selector (Code Slot))) → behind takings (level_step base scope (out-SplType kind) (step_part s)) ≡ Ok (zs, given)
           → taken_from base code kind (drop i ss) takings ≡ taken_from base code given (drop (i + 1) ss) zs
       taken_by given zs z = with_taken (level_step base scope (out-SplType kind) (step_part s)) given zs refl z
 
@@ -112,7 +112,7 @@ index_step base scope T.Bool e = refl
 index_step base scope T.Text e = refl
 
 -- a member that is taken after others
-pub member_by : (base : ℕ) (scope : Scope) (k t : SplType) (s : Step Expr) (m : Placed (List ℕ)) (old new zs : List (Taking (Code Slot))) (u given : SplType) → s ≡ N.Member m → k ≡ t
+pub member_by : (base : ℕ) (scope : Scope) (k t : SplType) (s : Step Expr) (m : Placed (List ℕ)) (old new zs : List (Selector (Code Slot))) (u given : SplType) → s ≡ N.Member m → k ≡ t
     → behind old (member_taken base (out-SplType k) m.at m.what) ≡ Ok (new, u) → zs ≡ new → given ≡ u → behind old (level_step base scope (out-SplType t) (step_part s)) ≡ Ok (zs, given)
 member_by base scope k t s m old new zs u given is same taken n g =
     ap (λ s. behind old (level_step base scope (out-SplType t) (step_part s))) is
@@ -121,7 +121,7 @@ member_by base scope k t s m old new zs u given is same taken n g =
     ∙ taken ∙ (λ i. Ok (sym n i, sym g i))
 
 -- what is taken by an index after others
-pub index_by : (base : ℕ) (scope : Scope) (k j t : SplType) (s : Step Expr) (e : Expr) (w : Option SplType) (x : Typed) (old new zs : List (Taking (Code Slot))) (u given : SplType) → s ≡ N.Index e → k ≡ t → j ≡ t
+pub index_by : (base : ℕ) (scope : Scope) (k j t : SplType) (s : Step Expr) (e : Expr) (w : Option SplType) (x : Typed) (old new zs : List (Selector (Code Slot))) (u given : SplType) → s ≡ N.Index e → k ≡ t → j ≡ t
     → index_for base (out-SplType k) ≡ Ok w → typing scope e w ≡ Ok x
     → behind old (index_taken base e.at x (out-SplType j)) ≡ Ok (new, u) → zs ≡ new → given ≡ u → behind old (level_step base scope (out-SplType t) (step_part s)) ≡ Ok (zs, given)
 index_by base scope k j t s e w x old new zs u given is first second wanted found taken n g =

@@ -2,7 +2,7 @@
 ghost use Rattle.std.specs.Prelude.{◌≡◌, ◌-◌, ◌≤◌, length};
 ghost use Rattle.spl_tree.specs.Units.{place_of};
 ghost use Rattle.expr_parser.specs.declared.answer.SyntaxAnswer.TheVariants.{Unexpected};
-ghost use Rattle.unit_parser.specs.Parses.{Parses};
+ghost use Rattle.unit_parser.specs.Parses.{ParsesUnit};
 
 use crate::units::unit;
 use expr_parser::{Stop, SyntaxAnswer, too_deep};
@@ -36,7 +36,7 @@ fn unexpected(tokens: &Tokens, rest: &[Token]) -> SyntaxAnswer
 /// first that does. `Memory` is also the answer for what nests too deep for the stack.
 pub fn parse_unit(alloc: Global, tokens: &Tokens) -> Result<Unit, SyntaxAnswer>
     requires few { length tokens.now.list ≤ 1048576 }
-    ensures { Parses tokens.now result }
+    ensures { ParsesUnit tokens.now result }
 {
     let list = tokens.list.as_slice();
     if let Some(at) = too_deep(alloc, list, 0)? {

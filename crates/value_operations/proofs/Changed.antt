@@ -11,8 +11,8 @@ use Rattle.spl_value.specs.declared.value.Value.TheOpen as O
 use Rattle.spl_value.specs.declared.value.Value.TheViews.{out-Value}
 use Rattle.spl_value.specs.Calls.{CallOutcome, Gives, Faults}
 use Rattle.spl_value.specs.Pairs.{pairs_get, pairs_put}
-use Rattle.spl_tree.specs.declared.code.Taking.{Taking}
-use Rattle.spl_tree.specs.declared.code.Taking.TheVariants as K
+use Rattle.spl_tree.specs.declared.code.Selector.{Selector}
+use Rattle.spl_tree.specs.declared.code.Selector.TheVariants as K
 use Rattle.language_model.specs.Changes.{passed_on, changed, level_changed, level_index}
 use Rattle.language_model.specs.Operators.{found, given, level_element}
 use Rattle.value_operations.specs.declared.stop.Stop.{Stop}
@@ -31,8 +31,8 @@ passes_on (Err S.Memory) whole part put new e h = tt
 pub not_changed : (o : CallOutcome) (r : Result (Unit {0}) Stop) (new : Value) (kind : FaultKind) → r ≡ Err (S.Fault kind) → o ≡ Faults kind → Changes o r new
 not_changed o r new kind e h = subst (λ r. Changes o r new) (sym e) h
 
-module _ (change : Option Value → CallOutcome) (steps rest : List (Taking Value)) where
-  level : (step : Taking Value) → steps ≡ step ∷ rest → (v : Value) → changed steps change (Some v) ≡ level_changed step (changed rest change) (out-Value v)
+module _ (change : Option Value → CallOutcome) (steps rest : List (Selector Value)) where
+  level : (step : Selector Value) → steps ≡ step ∷ rest → (v : Value) → changed steps change (Some v) ≡ level_changed step (changed rest change) (out-Value v)
   level step is v = ap (λ l. changed l change (Some v)) is
 
   -- ---- tuples
@@ -65,7 +65,7 @@ module _ (change : Option Value → CallOutcome) (steps rest : List (Taking Valu
 
 -- ---- maps
 
-module _ (change : Option Value → CallOutcome) (rest : List (Taking Value)) (q : Value) (ps : List (Value × Value)) where
+module _ (change : Option Value → CallOutcome) (rest : List (Selector Value)) (q : Value) (ps : List (Value × Value)) where
   value_changed : (old : Option Value) → pairs_get ps q ≡ old
       → changed (K.AtKey q ∷ rest) change (Some (V.Map ps)) ≡ passed_on (changed rest change old) (λ new. Gives (V.Map (pairs_put ps q new)))
   value_changed old there =
@@ -78,7 +78,7 @@ module _ (change : Option Value → CallOutcome) (rest : List (Taking Value)) (q
       passes_on r (changed (K.AtKey q ∷ rest) change (Some (V.Map ps))) (changed rest change (Some old)) (λ new. V.Map (pairs_put ps q new)) new
       (value_changed (Some old) there)
 
-  missing_none : (l : List (Taking Value)) → (length l == 0) ≡ false → changed l change None ≡ Faults F.NoKey
+  missing_none : (l : List (Selector Value)) → (length l == 0) ≡ false → changed l change None ≡ Faults F.NoKey
   missing_none [] is = absurd cc
   missing_none (step ∷ l) is = refl
 

@@ -16,18 +16,18 @@ use Rattle.spl_value.specs.Values.{fits, tuple_fits}
 use Rattle.std.specs.Cmp.{second_so}
 use Rattle.spl_tree.specs.declared.body.Change.{Change}
 use Rattle.spl_tree.specs.declared.body.Change.TheVariants as H
-use Rattle.spl_tree.specs.declared.code.Taking.{Taking}
-use Rattle.spl_tree.specs.declared.code.Taking.TheVariants as K
+use Rattle.spl_tree.specs.declared.code.Selector.{Selector}
+use Rattle.spl_tree.specs.declared.code.Selector.TheVariants as K
 use Rattle.value_operations.specs.Changing as C
 use Rattle.value_operations.specs.Changing.{StepsLeadTo, ArgumentFits, CanChange, IsIndex}
 use Rattle.value_operations.specs.Taking.{HasMember, HasElements, HasKeys}
 use Rattle.value_operations.proofs.Parts.{pairs_of}
 
 -- the steps after the first
-abbrev pub rest_of : List (Taking Value) → List (Taking Value)
+abbrev pub rest_of : List (Selector Value) → List (Selector Value)
 rest_of steps = take (length steps - 1) (drop 1 steps)
 
-pub first_and_rest : (steps : List (Taking Value)) (first step : Taking Value) → 1 ≤ length steps → first ≡ get_or steps 0 first → first ≡ step
+pub first_and_rest : (steps : List (Selector Value)) (first step : Selector Value) → 1 ≤ length steps → first ≡ get_or steps 0 first → first ≡ step
     → steps ≡ step ∷ rest_of steps
 first_and_rest [] first step le e is = absurd (omega arith)
 first_and_rest (s ∷ steps) first step le e is =
@@ -35,13 +35,13 @@ first_and_rest (s ∷ steps) first step le e is =
     (λ i. (sym e ∙ is) i ∷ steps) ∙ ap (λ l. step ∷ l) (sym (ap (λ k. take k steps) n ∙ take-length steps))
 
 -- what the first step asks for, and where the others lead from there
-abbrev Steps : List (Taking Value) → SplType → SplType → Type 0
+abbrev Steps : List (Selector Value) → SplType → SplType → Type 0
 Steps [] t u = t ≡ u
 Steps (K.Member i ∷ rest) t u = (schema : List (Named SplType)) × (a : Named SplType) × (t ≡ S.Tuple schema) × (slice_get schema i ≡ Some a) × StepsLeadTo rest a.kind u
 Steps (K.Element n ∷ rest) t u = (k : IntKind) × (v : SplType) × (t ≡ S.List v) × IsTrue (fits (S.Int k) n) × StepsLeadTo rest v u
 Steps (K.AtKey q ∷ rest) t u = (k : SplType) × (v : SplType) × (t ≡ S.Map k v) × IsTrue (fits k q) × StepsLeadTo rest v u
 
-steps_ask : (steps : List (Taking Value)) (t u : SplType) → StepsLeadTo steps t u → Steps steps t u
+steps_ask : (steps : List (Selector Value)) (t u : SplType) → StepsLeadTo steps t u → Steps steps t u
 steps_ask _ _ _ (C.here t) = refl
 steps_ask _ _ _ (C.member i rest schema a u at h) = (schema, a, refl, at, h)
 steps_ask _ _ _ (C.index n rest k t u f h) = (k, t, refl, f, h)
@@ -49,8 +49,8 @@ steps_ask _ _ _ (C.at_key q rest k t u f h) = (k, t, refl, f, h)
 
 -- ---- one step
 
-module _ (steps : List (Taking Value)) (change : Change Value) (v : Value) (h : CanChange steps change v) (rest : List (Taking Value)) where
-  step_at : (step : Taking Value) → steps ≡ step ∷ rest → Steps (step ∷ rest) h.0 h.1
+module _ (steps : List (Selector Value)) (change : Change Value) (v : Value) (h : CanChange steps change v) (rest : List (Selector Value)) where
+  step_at : (step : Selector Value) → steps ≡ step ∷ rest → Steps (step ∷ rest) h.0 h.1
   step_at step is = subst (λ steps. Steps steps h.0 h.1) is (steps_ask steps h.0 h.1 h.3)
 
   of_kind : (t : SplType) → h.0 ≡ t → IsTrue (fits t v)

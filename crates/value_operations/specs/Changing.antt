@@ -12,8 +12,8 @@ use Rattle.spl_value.specs.Calls.{CallOutcome, Gives, Faults, IsCollection}
 use Rattle.spl_value.specs.Values.{fits}
 use Rattle.spl_tree.specs.declared.body.Change.{Change}
 use Rattle.spl_tree.specs.declared.body.Change.TheVariants as H
-use Rattle.spl_tree.specs.declared.code.Taking.{Taking}
-use Rattle.spl_tree.specs.declared.code.Taking.TheVariants as K
+use Rattle.spl_tree.specs.declared.code.Selector.{Selector}
+use Rattle.spl_tree.specs.declared.code.Selector.TheVariants as K
 use Rattle.language_model.specs.declared.env.Env.{Env}
 use Rattle.language_model.specs.Changes.{level_index}
 use Rattle.language_model.specs.Operators.{level_element, found}
@@ -21,13 +21,13 @@ use Rattle.value_operations.specs.declared.stop.Stop.{Stop}
 use Rattle.value_operations.specs.declared.stop.Stop.TheVariants as S
 
 -- steps with indexes and keys of their types lead from a value of one type to one of another
-pub data StepsLeadTo : List (Taking Value) → SplType → SplType → Type 0 where
+pub data StepsLeadTo : List (Selector Value) → SplType → SplType → Type 0 where
   here : (t : SplType) → StepsLeadTo [] t t
-  member : (i : ℕ) (steps : List (Taking Value)) (schema : List (Named SplType)) (a : Named SplType) (u : SplType) → slice_get schema i ≡ Some a
+  member : (i : ℕ) (steps : List (Selector Value)) (schema : List (Named SplType)) (a : Named SplType) (u : SplType) → slice_get schema i ≡ Some a
       → StepsLeadTo steps a.kind u → StepsLeadTo (K.Member i ∷ steps) (T.Tuple schema) u
-  index : (n : Value) (steps : List (Taking Value)) (k : IntKind) (t u : SplType) → IsTrue (fits (T.Int k) n) → StepsLeadTo steps t u
+  index : (n : Value) (steps : List (Selector Value)) (k : IntKind) (t u : SplType) → IsTrue (fits (T.Int k) n) → StepsLeadTo steps t u
       → StepsLeadTo (K.Element n ∷ steps) (T.List t) u
-  at_key : (v : Value) (steps : List (Taking Value)) (k t u : SplType) → IsTrue (fits k v) → StepsLeadTo steps t u
+  at_key : (v : Value) (steps : List (Selector Value)) (k t u : SplType) → IsTrue (fits k v) → StepsLeadTo steps t u
       → StepsLeadTo (K.AtKey v ∷ steps) (T.Map k t) u
 
 -- a change of a value of the type
@@ -38,11 +38,11 @@ ArgumentFits (H.Remove v) u = (k : SplType) × (t : SplType) × (u ≡ T.Map k t
 ArgumentFits H.Clear u = IsCollection u
 
 -- the steps can be taken of the value, and the change made of what they give
-abbrev pub CanChange : List (Taking Value) → Change Value → Value → Type 0
+abbrev pub CanChange : List (Selector Value) → Change Value → Value → Type 0
 CanChange steps change v = (t : SplType) × (u : SplType) × IsTrue (fits t v) × StepsLeadTo steps t u × ArgumentFits change u
 
 -- the variable can be changed so
-abbrev pub CanChangeAt : ℕ → List (Taking Value) → Change Value → Env → Type 0
+abbrev pub CanChangeAt : ℕ → List (Selector Value) → Change Value → Env → Type 0
 CanChangeAt i steps change env = (v : Value) × (slice_get env.vars i ≡ Some v) × CanChange steps change v
 
 abbrev pub IsIndex : Value → Type 0

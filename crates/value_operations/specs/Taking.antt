@@ -6,8 +6,8 @@ use Rattle.spl_value.specs.declared.types.SplType.{SplType}
 use Rattle.spl_value.specs.declared.types.SplType.TheVariants as T
 use Rattle.spl_value.specs.declared.value.Value.{Value}
 use Rattle.spl_value.specs.Values.{fits}
-use Rattle.spl_tree.specs.declared.code.Taking.{Taking}
-use Rattle.spl_tree.specs.declared.code.Taking.TheVariants as K
+use Rattle.spl_tree.specs.declared.code.Selector.{Selector}
+use Rattle.spl_tree.specs.declared.code.Selector.TheVariants as K
 
 -- it is a tuple with an attribute at the place
 abbrev pub HasMember : ℕ → Value → Type 0
@@ -22,7 +22,7 @@ abbrev pub HasKeys : Value → Value → Type 0
 HasKeys v key = (k : SplType) × (t : SplType) × IsTrue (fits (T.Map k t) v) × IsTrue (fits k key)
 
 -- the step can be taken of it
-abbrev pub StepFits : Taking Value → Value → Type 0
+abbrev pub StepFits : Selector Value → Value → Type 0
 StepFits (K.Member i) v = HasMember i v
 StepFits (K.Element index) v = HasElements v index
 StepFits (K.AtKey key) v = HasKeys v key

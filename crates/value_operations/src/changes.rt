@@ -5,11 +5,11 @@ ghost use Rattle.spl_value.specs.Calls.{FitsCollection, Gives, clear_of};
 ghost use Rattle.spl_value.specs.Pairs.{are_pairs, pairs_put};
 ghost use Rattle.language_model.specs.Changes.{changed, change_of, passed_on};
 ghost use Rattle.spl_tree.specs.declared.body.Change.TheVariants as H;
-ghost use Rattle.spl_tree.specs.declared.code.Taking.TheVariants as K;
+ghost use Rattle.spl_tree.specs.declared.code.Selector.TheVariants as K;
 ghost use Rattle.value_operations.specs.Changing.{CanChange, Changes, IsIndex, IsPlaceIn};
 
 use crate::stop::Stop;
-use spl_tree::{Change, Taking};
+use spl_tree::{Change, Selector};
 use spl_value::{FaultKind, Pairs, Value, copy_value};
 use std::alloc::Global;
 
@@ -19,7 +19,7 @@ pub fn change_at(
     alloc: Global,
     room: u32,
     value: &mut Value,
-    steps: &[Taking<Value>],
+    steps: &[Selector<Value>],
     change: Change<Value>,
 ) -> Result<(), Stop>
     requires { CanChange steps.now change value.old }
@@ -31,9 +31,9 @@ pub fn change_at(
     match steps {
         [] => make(value, change),
         [step, rest @ ..] => match step {
-            Taking::Member(place) => change_member(alloc, room, value, *place, rest, change),
-            Taking::Element(index) => change_element(alloc, room, value, index, rest, change),
-            Taking::AtKey(key) => {
+            Selector::Member(place) => change_member(alloc, room, value, *place, rest, change),
+            Selector::Element(index) => change_element(alloc, room, value, index, rest, change),
+            Selector::AtKey(key) => {
                 let Value::Map(pairs) = value else {
                     unreachable!()
                 };
@@ -50,7 +50,7 @@ fn change_member(
     room: u32,
     tuple: &mut Value,
     place: u32,
-    steps: &[Taking<Value>],
+    steps: &[Selector<Value>],
     change: Change<Value>,
 ) -> Result<(), Stop>
     requires { CanChange (K.Member place ∷ steps.now) change tuple.old }
@@ -69,7 +69,7 @@ fn change_element(
     room: u32,
     list: &mut Value,
     index: &Value,
-    steps: &[Taking<Value>],
+    steps: &[Selector<Value>],
     change: Change<Value>,
 ) -> Result<(), Stop>
     requires { CanChange (K.Element index.now ∷ steps.now) change list.old }
@@ -91,7 +91,7 @@ fn change_at_key(
     room: u32,
     pairs: &mut Pairs,
     key: &Value,
-    steps: &[Taking<Value>],
+    steps: &[Selector<Value>],
     change: Change<Value>,
 ) -> Result<(), Stop>
     requires { CanChange (K.AtKey key.now ∷ steps.now) change (V.Map pairs.old) }

@@ -12,7 +12,7 @@ ghost use Rattle.value_operations.specs.Taking.{HasMember, HasElements, HasKeys,
 
 use crate::held::Held;
 use crate::stop::Stop;
-use spl_tree::Taking;
+use spl_tree::Selector;
 use spl_value::{FaultKind, Items, Value, Values};
 
 /// The attribute of a tuple at a place, from 0.
@@ -132,22 +132,22 @@ fn at_key<'e>(map: Held<'e>, key: &Value) -> Result<Held<'e>, Stop>
 }
 
 /// What a step gives of a value.
-fn step_of<'e>(value: Held<'e>, step: &Taking<Value>) -> Result<Held<'e>, Stop>
+fn step_of<'e>(value: Held<'e>, step: &Selector<Value>) -> Result<Held<'e>, Stop>
     requires { StepFits step.now (held value) }
     ensures { SettlesHeld (step_of step.now (held value.entry)) result }
 {
     match step {
-        Taking::Member(place) => Ok(member(value, *place)),
-        Taking::Element(index) => element(value, index),
-        Taking::AtKey(key) => at_key(value, key),
+        Selector::Member(place) => Ok(member(value, *place)),
+        Selector::Element(index) => element(value, index),
+        Selector::AtKey(key) => at_key(value, key),
     }
 }
 
 /// Takes a step of a value, and adds it after those that were taken.
 pub fn take_step<'e>(
     value: Held<'e>,
-    step: Taking<Value>,
-    steps: &mut Items<Taking<Value>>,
+    step: Selector<Value>,
+    steps: &mut Items<Selector<Value>>,
 ) -> Result<Held<'e>, Stop>
     requires { StepFits step (held value) }
     ensures { MatchResult result

@@ -36,7 +36,7 @@ pub(crate) fn number_literal(
         }
         ExprKind::Dollar(_) => {
             has_type(alloc, site.scope, expr)?;
-            match site.follow.behind(expr) {
+            match site.follow.target(expr) {
                 Some(literal) => Ok(number_of(literal)),
                 None => Ok(None),
             }

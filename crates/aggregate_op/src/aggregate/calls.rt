@@ -1,7 +1,7 @@
 //! The calls of an Aggregate.
 ghost use Rattle.std.specs.Prelude.{◌≡◌, ◌<◌, ◌^◌, ℕ, [], List, Some, IfOk, length, slice_get};
-ghost use Rattle.language_model.specs.declared.checked.Collected.{Collected};
-ghost use Rattle.language_model.specs.declared.checked.Part.TheVariants as A;
+ghost use Rattle.language_model.specs.declared.checked.CollectedAttribute.{CollectedAttribute};
+ghost use Rattle.language_model.specs.declared.checked.CheckedClauses.TheVariants as A;
 ghost use Rattle.language_model.specs.declared.checked.Policy.{Policy as AnyPolicy};
 ghost use Rattle.stream_model.specs.CheckedMeaning.{first_schema, graph_of, operator_with, schema_at};
 ghost use Rattle.stream_model.specs.Operators.{input_attributes};
@@ -13,7 +13,7 @@ ghost use Rattle.aggregate_op.specs.Standing.{AggregateStands, operator_of};
 use crate::aggregate::Aggregate;
 use crate::aggregate::events::on_item;
 use crate::clauses::Clauses;
-use language_model::{Checked, Env, Part};
+use language_model::{Checked, CheckedClauses, Env};
 use port_reacts::{CheckedOperator, OnPort, fits_law};
 use spl_value::{Inputs, Item, Items, NoMemory};
 use std::alloc::Global;
@@ -95,13 +95,13 @@ impl<'c> Aggregate<'c> {
     /// The Aggregate with this number. There is one.
     pub fn new(alloc: Global, checked: &'c Checked, op: u32) -> Result<Aggregate<'c>, NoMemory>
         requires there { op < length checked.now.graph.ops }
-        requires kind { (window : AnyPolicy) × (partition group : List ℕ) × (output : List Collected)
+        requires kind { (window : AnyPolicy) × (partition group : List ℕ) × (output : List CollectedAttribute)
             × (slice_get checked.now.parts op ≡ Some (A.Aggregate window partition group output)) }
         ensures is { IfOk result (λ aggregate. slice_get (graph_of checked.now).ops op ≡ Some (⟦<Aggregate<'c> as OnPort>⟧.spec aggregate)) }
         ensures begins { IfOk result (λ aggregate. ⟦<Aggregate<'c> as OnPort>⟧.stands aggregate []) }
     {
         let at = CheckedOperator::new(checked, op);
-        let Part::Aggregate {
+        let CheckedClauses::Aggregate {
             window,
             partition,
             group,

@@ -5,7 +5,7 @@ use Rattle.spl_tree.specs.declared.graph.OpKind.{OpKind}
 use Rattle.spl_tree.specs.declared.graph.OpKind.TheVariants as O
 use Rattle.spl_value.specs.declared.types.IntKind.TheVariants as N
 use Rattle.spl_value.specs.declared.types.SplType.TheVariants as T
-use Rattle.language_model.specs.declared.checked.Part.TheVariants as P
+use Rattle.language_model.specs.declared.checked.CheckedClauses.TheVariants as P
 use Rattle.language_model.specs.CheckedGraph.{CheckedGraph}
 use Rattle.language_model.specs.StreamTypes.{Attributes}
 use Rattle.stream_model.specs.declared.record.Arrivals.{Arrivals}

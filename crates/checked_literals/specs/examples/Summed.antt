@@ -22,9 +22,9 @@ use Rattle.spl_tree.specs.declared.unit.OutputAssignments.{OutputAssignments}
 use Rattle.spl_tree.specs.declared.unit.Parameter.{Parameter}
 use Rattle.spl_tree.specs.declared.unit.PortWindow.{PortWindow}
 use Rattle.spl_tree.specs.Grammar.{placed}
-use Rattle.language_model.specs.declared.checked.Collected.{Collected}
+use Rattle.language_model.specs.declared.checked.CollectedAttribute.{CollectedAttribute}
 use Rattle.language_model.specs.declared.checked.Collector.TheVariants as G
-use Rattle.language_model.specs.declared.checked.Part.TheVariants as A
+use Rattle.language_model.specs.declared.checked.CheckedClauses.TheVariants as A
 use Rattle.language_model.specs.declared.checked.Policy.{Policy}
 use Rattle.language_model.specs.declared.checked.WindowRule.TheVariants as W
 use Rattle.language_model.specs.examples.FlatGraphs.{composite_of_graph, name_at, op_at}
@@ -130,7 +130,7 @@ last_two = record { partitioned = true; rule = W.SlidingCount 2 (Some 1) }
 
 -- the attributes that are assigned in the order of the text, and then those of the last tuple in the order of the output. Places of
 -- output attributes are those in `sums`, and those of arguments in `trades`
-abbrev pub collected : List Collected
+abbrev pub collected : List CollectedAttribute
 collected =
     record { attribute = 2; collector = G.Count; argument = None }
     ∷ record { attribute = 1; collector = G.Sum N.I32; argument = Some (attribute 2) }

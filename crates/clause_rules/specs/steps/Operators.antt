@@ -5,7 +5,7 @@ use Rattle.std.specs.List.{list_all}
 use Rattle.spl_tree.specs.declared.code.Code.{Code}
 use Rattle.spl_tree.specs.declared.code.Slot.{Slot}
 use Rattle.spl_tree.specs.declared.unit.OutputAssignments.{OutputAssignments}
-use Rattle.language_model.specs.declared.checked.Collected.{Collected}
+use Rattle.language_model.specs.declared.checked.CollectedAttribute.{CollectedAttribute}
 use Rattle.language_model.specs.declared.scope.CheckError.TheVariants as E
 use Rattle.language_model.specs.declared.scope.Port.{Port}
 use Rattle.language_model.specs.declared.scope.Scope.{Scope}
@@ -42,7 +42,7 @@ abbrev pub tuple_at : Around → Scope → ℕ → List OutputAssignments → Fo
 tuple_at around scope at rows =
     tuple_typing scope at (first_of (map (λ p. p.schema) around.outputs.now)) (first_of (map (λ p. p.name) around.outputs.now)) rows
 
-abbrev pub groups_at : Around → Scope → ℕ → List OutputAssignments → Found (List Collected)
+abbrev pub groups_at : Around → Scope → ℕ → List OutputAssignments → Found (List CollectedAttribute)
 groups_at around scope at rows =
     groups_typing scope at (first_of (map (λ p. p.schema) around.outputs.now)) (first_of (map (λ p. p.name) around.outputs.now)) rows
 

@@ -4,7 +4,7 @@ use Rattle.spl_tree.specs.declared.graph.Graph.{Graph}
 use Rattle.spl_tree.specs.declared.graph.Op.{Op}
 use Rattle.spl_tree.specs.declared.unit.Definition.{Definition}
 use Rattle.spl_tree.specs.declared.unit.Invocation.{Invocation}
-use Rattle.language_model.specs.declared.checked.Part.{Part}
+use Rattle.language_model.specs.declared.checked.CheckedClauses.{CheckedClauses}
 use Rattle.language_model.specs.declared.scope.Scope.{Scope}
 use Rattle.language_model.specs.Checking.{clauses_checked, each_stream, operators_checked, port_types, ports_checked, ports_of, surroundings}
 use Rattle.language_model.specs.FlatLaws.{IsInvoked}
@@ -28,7 +28,7 @@ abbrev pub IsBody : List Definition → Graph → Body → Type 0
 IsBody unit g b = body_at unit g b.number ≡ Some b
 
 -- an operator whose `$` parameters and functions are those of the scope
-abbrev pub invocation_in : List Definition → Graph → Scope → Op → Body → Invocation → Finding Part
+abbrev pub invocation_in : List Definition → Graph → Scope → Op → Body → Invocation → Finding CheckedClauses
 invocation_in unit g scope op b i =
     after (ports_checked op i) (λ u. after (port_types unit g b op i) (λ types.
     let own = record scope { ports = ports_of i.inputs types.ins } in

@@ -2,7 +2,7 @@
 ghost use Rattle.std.specs.Prelude.{◌≡◌, ◌<◌, [], Some, IfOk, length, slice_get};
 ghost use Rattle.spl_value.specs.declared.item.Item.TheVariants as I;
 ghost use Rattle.language_model.specs.declared.checked.Handlers.{Handlers};
-ghost use Rattle.language_model.specs.declared.checked.Part.TheVariants as A;
+ghost use Rattle.language_model.specs.declared.checked.CheckedClauses.TheVariants as A;
 ghost use Rattle.language_model.specs.Outcomes.{Done, followed};
 ghost use Rattle.stream_model.specs.CheckedMeaning.{graph_of, operator_with};
 ghost use Rattle.stream_model.specs.Customs.{handler, item_leaves, left_by, marker_env, tuple_env};
@@ -16,7 +16,7 @@ use crate::custom::Custom;
 use crate::custom::first::first_values;
 use crate::custom::running::{Handled, handler, run_handler};
 use evaluation_laws::slots_law;
-use language_model::{Checked, Env, Handlers, Part, evaluation_law};
+use language_model::{Checked, CheckedClauses, Env, Handlers, evaluation_law};
 use port_reacts::{CheckedOperator, OnPort, fits_law};
 use spl_tree::{Functions, Marker};
 use spl_value::{Item, Items, NoMemory, Values};
@@ -133,7 +133,7 @@ impl<'c> Custom<'c> {
         ensures begins { IfOk result (λ custom. ⟦<Custom<'c> as OnPort>⟧.stands custom []) }
     {
         let at = CheckedOperator::new(checked, op);
-        let Part::Custom { handlers } = at.part else {
+        let CheckedClauses::Custom { handlers } = at.part else {
             unreachable!()
         };
         let env = Env {

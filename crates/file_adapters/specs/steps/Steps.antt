@@ -4,7 +4,7 @@ use Rattle.std.specs.List.{All, Any, list_any, slice_index_or}
 use Rattle.std.specs.Str.{bytes_eq}
 use Rattle.spl_value.specs.declared.item.Item.{Item}
 use Rattle.spl_value.specs.declared.memory.NoMemory.{NoMemory}
-use Rattle.feed_pour.specs.Counts.{Counts, OthersStay, PerName, Rose}
+use Rattle.feed_pour.specs.Counts.{FaultCounts, OthersStay, PerName, Rose}
 use Rattle.feed_pour.specs.Contents.{Told, TellsOthers, AllPoured, HeldAfter}
 use Rattle.feed_pour.specs.declared.outside.PourAnswer.{PourAnswer}
 use Rattle.feed_pour.specs.declared.outside.PourAnswer.TheVariants as P
@@ -101,7 +101,7 @@ IsFrom (Some place) at = place ≤ at
 
 -- A file was finished: it holds what was poured, the pour counts no fault, and nothing was counted; or the finishing failed, its count of writing rose,
 -- and it holds a front of what was poured.
-abbrev pub FileFinished : Option ℕ → ℕ → ℕ → Counts → Counts → Option (List ℕ) → Option (List ℕ) → Type 0
+abbrev pub FileFinished : Option ℕ → ℕ → ℕ → FaultCounts → FaultCounts → Option (List ℕ) → Option (List ℕ) → Type 0
 FileFinished first at faults counts now poured holds =
     ((faults ≡ 0) × (now ≡ counts) × HeldAfter false poured holds) ⊎ (IsFrom first at × Rose counts.writing now.writing × HeldAfter true poured holds)
 

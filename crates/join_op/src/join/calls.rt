@@ -2,7 +2,7 @@
 ghost use Rattle.std.specs.Prelude.{◌≡◌, ◌<◌, [], Option, Some, IfOk, length, slice_get};
 ghost use Rattle.spl_tree.specs.declared.code.Code.{Code};
 ghost use Rattle.spl_tree.specs.declared.code.Slot.{Slot};
-ghost use Rattle.language_model.specs.declared.checked.Part.TheVariants as A;
+ghost use Rattle.language_model.specs.declared.checked.CheckedClauses.TheVariants as A;
 ghost use Rattle.language_model.specs.declared.checked.Policy.{Policy as AnyPolicy};
 ghost use Rattle.stream_model.specs.CheckedMeaning.{graph_of};
 ghost use Rattle.window_policy.specs.Answers.{IsAllowed};
@@ -15,7 +15,7 @@ use crate::clauses::Clauses;
 use crate::join::Join;
 use crate::join::events::on_item;
 use crate::side::Side;
-use language_model::{Checked, Env, Part, Policy};
+use language_model::{Checked, CheckedClauses, Env, Policy};
 use port_reacts::{CheckedOperator, OnPort, fits_law};
 use spl_value::{Item, Items, NoMemory};
 use std::alloc::Global;
@@ -104,7 +104,7 @@ impl<'c> Join<'c> {
         ensures begins { IfOk result (λ join. ⟦<Join<'c> as OnPort>⟧.stands join []) }
     {
         let at = CheckedOperator::new(checked, op);
-        let Part::Join {
+        let CheckedClauses::Join {
             left,
             right,
             condition,

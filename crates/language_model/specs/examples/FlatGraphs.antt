@@ -39,7 +39,8 @@ invocation_of at outputs alias operator inputs = record {
   alias = alias;
   operator = operator;
   inputs = inputs;
-  clauses = record { logic = None; window = None; parameters = []; output = None; config = [] } }
+  clauses = record { logic = None; window = None; parameters = []; output = None; config = [] };
+}
 
 abbrev pub composite_of_graph : Placed (List ℕ) → List Invocation → Composite
 composite_of_graph name graph = record { name = name; outputs = []; inputs = []; parameters = []; types = []; graph = graph; config = [] }
@@ -65,7 +66,8 @@ twice_filtered = record {
   graph =
       invocation_of 39 (output_at 53 (codes "M") ∷ []) None (name_at 57 (codes "Filter")) (port_of_names (name_at 64 (codes "I") ∷ []) ∷ [])
       ∷ invocation_of 68 (output_at 82 (codes "O") ∷ []) None (name_at 86 (codes "Filter")) (port_of_names (name_at 93 (codes "M") ∷ []) ∷ []) ∷ [];
-  config = [] }
+  config = [];
+}
 
 -- composite Main { graph
 --   () as Out = FileSink(Y);
@@ -94,7 +96,8 @@ op_at name kind ins outs expansion invocation at = record {
   ins = ins;
   outs = outs;
   site = record { expansion = expansion; invocation = invocation };
-  at = at }
+  at = at;
+}
 
 -- Out, Y.M, Y.O, X.M, X.O and S, with a stream of each but the first
 abbrev pub reversed_graph : Graph
@@ -113,7 +116,8 @@ reversed_graph = record {
       record { composite = 1; site = None; streams = 1 ∷ 3 ∷ 4 ∷ []; inputs = [] }
       ∷ record { composite = 0; site = Some (record { expansion = 0; invocation = 1 }); streams = 0 ∷ 1 ∷ []; inputs = record { count = 2; first = 3 } ∷ [] }
       ∷ record { composite = 0; site = Some (record { expansion = 0; invocation = 2 }); streams = 2 ∷ 3 ∷ []; inputs = record { count = 1; first = 4 } ∷ [] } ∷ [];
-  topo = 5 ∷ 3 ∷ 4 ∷ 1 ∷ 2 ∷ 0 ∷ [] }
+  topo = 5 ∷ 3 ∷ 4 ∷ 1 ∷ 2 ∷ 0 ∷ [];
+}
 
 -- ---- loops
 

@@ -24,7 +24,8 @@ two_ports vars second = record {
   functions = [];
   unresolved = [];
   dollars = [];
-  punct = false }
+  punct = false;
+}
 
 abbrev pub variable : List ℕ → Variable
 variable name = record { name = name; kind = S.Int I32; mutable = false }

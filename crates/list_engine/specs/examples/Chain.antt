@@ -14,7 +14,7 @@ use Rattle.spl_tree.specs.declared.code.OrderOperator.TheVariants.{Less}
 use Rattle.spl_tree.specs.declared.code.Slot.{Slot}
 use Rattle.spl_tree.specs.declared.code.Slot.TheVariants as L
 use Rattle.spl_tree.specs.declared.graph.OpKind.TheVariants as O
-use Rattle.language_model.specs.declared.checked.Part.TheVariants as A
+use Rattle.language_model.specs.declared.checked.CheckedClauses.TheVariants as A
 use Rattle.language_model.specs.CheckedGraph.{CheckedGraph}
 use Rattle.stream_model.specs.examples.CheckedGraphs.{op_of}
 use Rattle.stream_model.specs.Meaning.{Graph}
@@ -38,7 +38,8 @@ chain = record {
   };
   schemas = numbers ∷ numbers ∷ numbers ∷ [];
   functions = [];
-  parts = A.FileSource (codes "in") true ∷ A.Filter (Some divides) ∷ A.Filter None ∷ A.FileSink (codes "some") ∷ A.FileSink (codes "all") ∷ [] }
+  parts = A.FileSource (codes "in") true ∷ A.Filter (Some divides) ∷ A.Filter None ∷ A.FileSink (codes "some") ∷ A.FileSink (codes "all") ∷ [];
+}
 
 -- its operators
 abbrev pub chain_graph : Graph
@@ -48,7 +49,8 @@ chain_graph = record {
       ∷ record { number = 2; clauses = A.Filter None; functions = []; types = record { ins = numbers ∷ []; outs = numbers ∷ [] }; ins = (1 ∷ []) ∷ []; outs = 2 ∷ [] }
       ∷ record { number = 3; clauses = A.FileSink (codes "some"); functions = []; types = record { ins = numbers ∷ []; outs = [] }; ins = (2 ∷ []) ∷ []; outs = [] }
       ∷ record { number = 4; clauses = A.FileSink (codes "all"); functions = []; types = record { ins = numbers ∷ []; outs = [] }; ins = (0 ∷ []) ∷ []; outs = [] } ∷ [];
-  topo = 0 ∷ 1 ∷ 2 ∷ 3 ∷ 4 ∷ [] }
+  topo = 0 ∷ 1 ∷ 2 ∷ 3 ∷ 4 ∷ [];
+}
 
 -- rows of four numbers
 abbrev pub row : ℕ → Item

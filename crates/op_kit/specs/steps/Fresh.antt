@@ -1,6 +1,6 @@
 -- The operators of a checked graph before anything came.
 use Rattle.std.specs.Prelude.{◌≡◌, ⊤, ℕ, Bool, true, false, List, [], Option, Some, None, slice_get}
-use Rattle.language_model.specs.declared.checked.Part.{Part}
+use Rattle.language_model.specs.declared.checked.CheckedClauses.{CheckedClauses}
 use Rattle.language_model.specs.CheckedGraph.{CheckedGraph}
 use Rattle.stream_model.specs.CheckedMeaning.{graph_of}
 use Rattle.stream_model.specs.Operators.{Operator}
@@ -16,4 +16,4 @@ FreshAs spec stands c n false (Some s) = (slice_get (graph_of c).ops n ≡ Some 
 
 -- by the clauses that the operator with this number has
 abbrev pub IsFresh : {S : Type 0} → (S → Operator) → (S → List Event → Type 0) → CheckedGraph → ℕ → Option S → Type 0
-IsFresh spec stands c n operator = (part : Part) → slice_get c.parts n ≡ Some part → FreshAs spec stands c n (is_source part) operator
+IsFresh spec stands c n operator = (part : CheckedClauses) → slice_get c.parts n ≡ Some part → FreshAs spec stands c n (is_source part) operator

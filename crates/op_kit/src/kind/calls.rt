@@ -2,9 +2,9 @@
 ghost use Rattle.std.specs.Prelude.{◌≡◌, ◌<◌, ℕ, List, [], IfOk, IsTrue, Option, Some, length, slice_get};
 ghost use Rattle.spl_tree.specs.declared.code.Code.{Code};
 ghost use Rattle.spl_tree.specs.declared.code.Slot.{Slot};
-ghost use Rattle.language_model.specs.declared.checked.Part.{Part};
-ghost use Rattle.language_model.specs.declared.checked.Part.TheVariants as A;
-ghost use Rattle.language_model.specs.declared.checked.Collected.{Collected};
+ghost use Rattle.language_model.specs.declared.checked.CheckedClauses.{CheckedClauses};
+ghost use Rattle.language_model.specs.declared.checked.CheckedClauses.TheVariants as A;
+ghost use Rattle.language_model.specs.declared.checked.CollectedAttribute.{CollectedAttribute};
 ghost use Rattle.language_model.specs.declared.checked.Policy.{Policy};
 ghost use Rattle.stream_model.specs.CheckedMeaning.{graph_of};
 ghost use Rattle.stream_model.specs.Operators.{Operator};
@@ -17,7 +17,7 @@ use crate::sink::Sink;
 use aggregate_op::Aggregate;
 use custom_logic::Custom;
 use join_op::Join;
-use language_model::{Checked, Part};
+use language_model::{Checked, CheckedClauses};
 use port_reacts::OnPort;
 use relational_ops::{Filter, Functor, Punctor, Split};
 use spl_value::{Item, NoMemory};
@@ -84,7 +84,7 @@ fn aggregate_of<'c>(
     op: u32,
 ) -> Result<Box<Aggregate<'c>>, NoMemory>
     requires there { op < length checked.now.graph.ops }
-    requires kind { (window : Policy) × (partition group : List ℕ) × (output : List Collected)
+    requires kind { (window : Policy) × (partition group : List ℕ) × (output : List CollectedAttribute)
         × (slice_get checked.now.parts op ≡ Some (A.Aggregate window partition group output)) }
     ensures is { IfOk result (λ aggregate. slice_get (graph_of checked.now).ops op ≡ Some (⟦<Aggregate<'c> as OnPort>⟧.spec aggregate.value)) }
     ensures begins { IfOk result (λ aggregate. ⟦<Aggregate<'c> as OnPort>⟧.stands aggregate.value []) }
@@ -97,7 +97,7 @@ impl<'c> Kind<'c> {
     /// The operator with this number. There is one, of one of the kinds.
     pub(crate) fn new(alloc: Global, checked: &'c Checked, op: u32) -> Result<Kind<'c>, NoMemory>
         requires there { op < length checked.now.graph.ops }
-        requires kind { (part : Part) → slice_get checked.now.parts op ≡ Some part → IsTrue (is_held part) }
+        requires kind { (part : CheckedClauses) → slice_get checked.now.parts op ≡ Some part → IsTrue (is_held part) }
         ensures is { IfOk result (λ kind. slice_get (graph_of checked.now).ops op ≡ Some (⟦<Kind<'c> as OnPort>⟧.spec kind)) }
         ensures begins { IfOk result (λ kind. ⟦<Kind<'c> as OnPort>⟧.stands kind []) }
     {
@@ -105,16 +105,18 @@ impl<'c> Kind<'c> {
             unreachable!()
         };
         match part {
-            Part::FileSink { .. } => Ok(Kind::Sink(Sink::new(alloc, checked, op))),
-            Part::Filter { .. } => Ok(Kind::Filter(Filter::new(alloc, checked, op)?)),
-            Part::Functor { .. } => Ok(Kind::Functor(Functor::new(alloc, checked, op)?)),
-            Part::Punctor { .. } => Ok(Kind::Punctor(Punctor::new(alloc, checked, op)?)),
-            Part::Split { .. } => Ok(Kind::Split(Split::new(alloc, checked, op)?)),
-            Part::Union { .. } => Ok(Kind::Union(Union::new(alloc, checked, op)?)),
-            Part::Custom { .. } => Ok(Kind::Custom(Custom::new(alloc, checked, op)?)),
-            Part::Aggregate { .. } => Ok(Kind::Aggregate(aggregate_of(alloc, checked, op)?)),
-            Part::Join { .. } => Ok(Kind::Join(join_of(alloc, checked, op)?)),
-            Part::FileSource { .. } => unreachable!(),
+            CheckedClauses::FileSink { .. } => Ok(Kind::Sink(Sink::new(alloc, checked, op))),
+            CheckedClauses::Filter { .. } => Ok(Kind::Filter(Filter::new(alloc, checked, op)?)),
+            CheckedClauses::Functor { .. } => Ok(Kind::Functor(Functor::new(alloc, checked, op)?)),
+            CheckedClauses::Punctor { .. } => Ok(Kind::Punctor(Punctor::new(alloc, checked, op)?)),
+            CheckedClauses::Split { .. } => Ok(Kind::Split(Split::new(alloc, checked, op)?)),
+            CheckedClauses::Union { .. } => Ok(Kind::Union(Union::new(alloc, checked, op)?)),
+            CheckedClauses::Custom { .. } => Ok(Kind::Custom(Custom::new(alloc, checked, op)?)),
+            CheckedClauses::Aggregate { .. } => Ok(Kind::Aggregate(aggregate_of(
+                alloc, checked, op,
+            )?)),
+            CheckedClauses::Join { .. } => Ok(Kind::Join(join_of(alloc, checked, op)?)),
+            CheckedClauses::FileSource { .. } => unreachable!(),
         }
     }
 }

@@ -1,7 +1,7 @@
 //! The calls of an operator.
 ghost use Rattle.std.specs.Prelude.{◌≡◌, ◌<◌, ◌≤◌, ◌∷◌, ◌++◌, [], IfOk, IsTrue, List, Some, length, slice_get};
 ghost use Rattle.spl_value.specs.declared.item.Item.TheVariants as I;
-ghost use Rattle.language_model.specs.declared.checked.Part.{Part};
+ghost use Rattle.language_model.specs.declared.checked.CheckedClauses.{CheckedClauses};
 ghost use Rattle.stream_model.specs.Bodies.{on_each};
 ghost use Rattle.stream_model.specs.CheckedMeaning.{graph_of};
 ghost use Rattle.stream_model.specs.Operators.{port_at};
@@ -14,7 +14,7 @@ ghost use Rattle.op_kit.specs.steps.Ending.{EndsAs};
 use crate::kind::Kind;
 use crate::operator::Operator;
 use connection_counts::{Closing, Connections};
-use language_model::{Checked, Output, Outs, Part};
+use language_model::{Checked, CheckedClauses, Output, Outs};
 use port_reacts::{OnPort, fits_law, given_none};
 use spl_value::{Item, NoMemory};
 use std::alloc::Global;
@@ -92,7 +92,7 @@ impl<'c> Operator<'c> {
     /// here.
     pub fn new(alloc: Global, checked: &'c Checked, op: u32) -> Result<Operator<'c>, NoMemory>
         requires there { op < length checked.now.graph.ops }
-        requires kind { (part : Part) → slice_get checked.now.parts op ≡ Some part → IsTrue (is_held part) }
+        requires kind { (part : CheckedClauses) → slice_get checked.now.parts op ≡ Some part → IsTrue (is_held part) }
         ensures is { IfOk result (λ o. slice_get (graph_of checked.now).ops op ≡ Some (⟦<Operator<'c> as React>⟧.spec o)) }
         ensures begins { IfOk result (λ o. ⟦<Operator<'c> as React>⟧.stands o []) }
     {

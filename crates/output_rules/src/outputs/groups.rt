@@ -10,7 +10,8 @@ ghost use Rattle.output_rules.specs.Collecting.{collecting_meant, collector_on, 
 use super::assigned::{Assigned, Gives, all_given};
 use super::attributes::{Inputs, is_same};
 use language_model::{
-    Collected, Collector, Gathers, Port, Scope, TypeAnswer, Typed, mismatch, wrong_call,
+    CollectedAttribute, Collector, CollectorCall, Port, Scope, TypeAnswer, Typed, mismatch,
+    wrong_call,
 };
 use spl_tree::{Expr, ExprKind, OutputAssignments};
 use spl_value::{Attribute, IntKind, Items, NoMemory, SplType, copy_type};
@@ -70,14 +71,14 @@ fn collector_on(collecting: Collecting, kind: &SplType) -> Option<Collector>
 }
 
 /// What is collected of an argument at that place.
-fn gathers(at: u32, collecting: Collecting, argument: Typed) -> Result<Gathers, TypeAnswer>
+fn gathers(at: u32, collecting: Collecting, argument: Typed) -> Result<CollectorCall, TypeAnswer>
     ensures { Finds (level_gathers at (collecting_meant collecting) argument.code argument.kind (out-SplType argument.kind)) result }
 {
     let Some(collector) = collector_on(collecting, argument.kind.get()) else {
         return Err(mismatch(at));
     };
     let Typed { kind, code } = argument;
-    Ok(Gathers {
+    Ok(CollectorCall {
         collector,
         argument: Some(code.into_inner()),
         kind: kind.into_inner(),
@@ -85,13 +86,13 @@ fn gathers(at: u32, collecting: Collecting, argument: Typed) -> Result<Gathers, 
 }
 
 /// The number of the tuples in a group.
-fn counted(at: u32, arguments: &[Expr]) -> Result<Gathers, TypeAnswer>
+fn counted(at: u32, arguments: &[Expr]) -> Result<CollectorCall, TypeAnswer>
     ensures { Finds (counted at arguments.now) result }
 {
     if !arguments.is_empty() {
         return Err(wrong_call(at));
     }
-    Ok(Gathers {
+    Ok(CollectorCall {
         collector: Collector::Count,
         argument: None,
         kind: SplType::Int(IntKind::I32),
@@ -105,7 +106,7 @@ fn called(
     at: u32,
     collecting: Collecting,
     arguments: &[Expr],
-) -> Result<Gathers, TypeAnswer>
+) -> Result<CollectorCall, TypeAnswer>
     ensures { Finds (called_typing scope.now at (collecting_meant collecting) arguments.now) result }
 {
     if let Collecting::Counting = collecting {
@@ -119,7 +120,7 @@ fn called(
 }
 
 /// What a value collects, which has to be a call of such a function.
-fn gathered(alloc: Global, scope: &Scope, value: &Expr) -> Result<Gathers, TypeAnswer>
+fn gathered(alloc: Global, scope: &Scope, value: &Expr) -> Result<CollectorCall, TypeAnswer>
     ensures { Finds (level_gathered scope.now value.now.at (out-ExprKind value.now.what)) result }
 {
     let ExprKind::Call(name, arguments) = value.what.get() else {
@@ -132,7 +133,7 @@ fn gathered(alloc: Global, scope: &Scope, value: &Expr) -> Result<Gathers, TypeA
 }
 
 /// What is collected, where it is of the type that is wanted.
-fn of_type(at: u32, kind: &SplType, found: Gathers) -> Result<Gathers, TypeAnswer>
+fn of_type(at: u32, kind: &SplType, found: CollectorCall) -> Result<CollectorCall, TypeAnswer>
     ensures { Finds (of_wanted at (Some kind.now) found) result }
 {
     if is_same(&found.kind, kind) {
@@ -150,7 +151,7 @@ struct Collections<'s> {
 }
 
 impl<'s> Gives for Collections<'s> {
-    type Given = Gathers;
+    type Given = CollectorCall;
 
     ghost assigns = { λ s. assigned_group s.inputs.scope.now };
 
@@ -161,7 +162,7 @@ impl<'s> Gives for Collections<'s> {
         alloc: Global,
         wanted: Option<&SplType>,
         value: &Expr,
-    ) -> Result<Gathers, TypeAnswer> {
+    ) -> Result<CollectorCall, TypeAnswer> {
         let found = gathered(alloc, self.inputs.scope, value)?;
         match wanted {
             None => Ok(found),
@@ -169,10 +170,10 @@ impl<'s> Gives for Collections<'s> {
         }
     }
 
-    fn filled(&self, alloc: Global, attribute: &Attribute) -> Result<Gathers, TypeAnswer> {
+    fn filled(&self, alloc: Global, attribute: &Attribute) -> Result<CollectorCall, TypeAnswer> {
         let kind = copy_type(alloc, &attribute.kind)?;
         let code = self.inputs.taken_over(self.at, attribute)?;
-        Ok(Gathers {
+        Ok(CollectorCall {
             collector: Collector::Last,
             argument: Some(code),
             kind,
@@ -181,15 +182,15 @@ impl<'s> Gives for Collections<'s> {
 }
 
 /// What an attribute gets, without its type.
-fn collects(attribute: u32, gathers: Gathers) -> Collected
+fn collects(attribute: u32, gathers: CollectorCall) -> CollectedAttribute
     ensures { result ≡ record { attribute = attribute; collector = gathers.collector; argument = gathers.argument } }
 {
-    let Gathers {
+    let CollectorCall {
         collector,
         argument,
         kind: _,
     } = gathers;
-    Collected {
+    CollectedAttribute {
         attribute,
         collector,
         argument,
@@ -197,7 +198,10 @@ fn collects(attribute: u32, gathers: Gathers) -> Collected
 }
 
 /// What is collected, without the types.
-fn collected(alloc: Global, given: Assigned<Gathers>) -> Result<Items<Collected>, NoMemory>
+fn collected(
+    alloc: Global,
+    given: Assigned<CollectorCall>,
+) -> Result<Items<CollectedAttribute>, NoMemory>
     ensures { IfOk result (λ made. made ≡ collected given) }
 {
     let mut made = Items::new(alloc);
@@ -222,7 +226,7 @@ pub fn groups_of(
     at: u32,
     output: &Port,
     rows: &[OutputAssignments],
-) -> Result<Items<Collected>, TypeAnswer>
+) -> Result<Items<CollectedAttribute>, TypeAnswer>
     ensures { Finds (groups_typing scope.now at output.now.schema output.now.name rows.now) result }
 {
     let inputs = Inputs::new(alloc, scope)?;

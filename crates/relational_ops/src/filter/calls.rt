@@ -3,7 +3,7 @@ ghost use Rattle.std.specs.Prelude.{◌≡◌, ◌<◌, [], Option, Some, IfOk, 
 ghost use Rattle.spl_value.specs.declared.item.Item.TheVariants as I;
 ghost use Rattle.spl_tree.specs.declared.code.Code.{Code};
 ghost use Rattle.spl_tree.specs.declared.code.Slot.{Slot};
-ghost use Rattle.language_model.specs.declared.checked.Part.TheVariants as A;
+ghost use Rattle.language_model.specs.declared.checked.CheckedClauses.TheVariants as A;
 ghost use Rattle.stream_model.specs.Bodies.{at_tuple, filter_body};
 ghost use Rattle.stream_model.specs.CheckedMeaning.{graph_of, operator_with};
 ghost use Rattle.stream_model.specs.React.{answer};
@@ -13,7 +13,7 @@ ghost use Rattle.relational_ops.specs.Fitting.{PassesFit, WhereTuple};
 
 use crate::filter::Filter;
 use crate::judging::{Judged, idle_env, judge};
-use language_model::{Checked, Env, Part};
+use language_model::{Checked, CheckedClauses, Env};
 use port_reacts::{CheckedOperator, OnPort, fits_law, given_first, given_none};
 use spl_tree::{Code, Functions, Slot};
 use spl_value::{Item, NoMemory, Values};
@@ -97,7 +97,7 @@ impl<'c> Filter<'c> {
         ensures begins { IfOk result (λ filter. ⟦<Filter<'c> as OnPort>⟧.stands filter []) }
     {
         let at = CheckedOperator::new(checked, op);
-        let Part::Filter { condition } = at.part else {
+        let CheckedClauses::Filter { condition } = at.part else {
             unreachable!()
         };
         Ok(Filter {

@@ -3,7 +3,7 @@ ghost use Rattle.std.specs.Prelude.{◌≡◌, ◌<◌, [], Option, Some, IfOk, 
 ghost use Rattle.spl_value.specs.declared.item.Item.TheVariants as I;
 ghost use Rattle.spl_tree.specs.declared.code.Code.{Code};
 ghost use Rattle.spl_tree.specs.declared.code.Slot.{Slot};
-ghost use Rattle.language_model.specs.declared.checked.Part.TheVariants as A;
+ghost use Rattle.language_model.specs.declared.checked.CheckedClauses.TheVariants as A;
 ghost use Rattle.stream_model.specs.Bodies.{at_tuple, functor_body};
 ghost use Rattle.stream_model.specs.CheckedMeaning.{graph_of, operator_with};
 ghost use Rattle.stream_model.specs.React.{answer};
@@ -16,7 +16,7 @@ use crate::functor::Functor;
 use crate::functor::making::{Mapped, map_tuple};
 use crate::functor::moves::moves_of;
 use crate::judging::idle_env;
-use language_model::{Checked, Env, Part};
+use language_model::{Checked, CheckedClauses, Env};
 use port_reacts::{CheckedOperator, OnPort, fits_law, given_first, given_none};
 use spl_tree::{Code, Functions, Slot};
 use spl_value::{Item, NoMemory, Values};
@@ -112,7 +112,7 @@ impl<'c> Functor<'c> {
         ensures begins { IfOk result (λ functor. ⟦<Functor<'c> as OnPort>⟧.stands functor []) }
     {
         let at = CheckedOperator::new(checked, op);
-        let Part::Functor { condition, output } = at.part else {
+        let CheckedClauses::Functor { condition, output } = at.part else {
             unreachable!()
         };
         Ok(Functor {

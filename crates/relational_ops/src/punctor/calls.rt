@@ -4,7 +4,7 @@ ghost use Rattle.spl_value.specs.declared.item.Item.TheVariants as I;
 ghost use Rattle.spl_value.specs.declared.types.SplType.TheVariants as T;
 ghost use Rattle.spl_tree.specs.declared.code.Code.{Code};
 ghost use Rattle.spl_tree.specs.declared.code.Slot.{Slot};
-ghost use Rattle.language_model.specs.declared.checked.Part.TheVariants as A;
+ghost use Rattle.language_model.specs.declared.checked.CheckedClauses.TheVariants as A;
 ghost use Rattle.language_model.specs.declared.checked.Position.{Position};
 ghost use Rattle.language_model.specs.WorldFits.{Fits};
 ghost use Rattle.stream_model.specs.Bodies.{at_tuple, on_first, punctor_body, with_marker};
@@ -16,7 +16,7 @@ ghost use Rattle.relational_ops.specs.Fitting.{WhereTuple};
 
 use crate::judging::{Judged, idle_env, judge};
 use crate::punctor::Punctor;
-use language_model::{Checked, Env, Output, Outs, Part, Position};
+use language_model::{Checked, CheckedClauses, Env, Output, Outs, Position};
 use port_reacts::{CheckedOperator, OnPort, fits_law, given_first, given_none};
 use spl_tree::{Code, Functions, Slot};
 use spl_value::{Item, NoMemory, Values};
@@ -130,7 +130,7 @@ impl<'c> Punctor<'c> {
         ensures begins { IfOk result (λ punctor. ⟦<Punctor<'c> as OnPort>⟧.stands punctor []) }
     {
         let at = CheckedOperator::new(checked, op);
-        let Part::Punctor {
+        let CheckedClauses::Punctor {
             condition,
             position,
         } = at.part

@@ -3,7 +3,7 @@ ghost use Rattle.std.specs.Prelude.{◌≡◌, ◌<◌, [], Some, IfOk, length, 
 ghost use Rattle.spl_value.specs.declared.item.Item.TheVariants as I;
 ghost use Rattle.spl_tree.specs.declared.code.Code.{Code};
 ghost use Rattle.spl_tree.specs.declared.code.Slot.{Slot};
-ghost use Rattle.language_model.specs.declared.checked.Part.TheVariants as A;
+ghost use Rattle.language_model.specs.declared.checked.CheckedClauses.TheVariants as A;
 ghost use Rattle.stream_model.specs.Bodies.{at_tuple, on_each, split_body};
 ghost use Rattle.stream_model.specs.CheckedMeaning.{graph_of, operator_with};
 ghost use Rattle.stream_model.specs.React.{answer};
@@ -15,7 +15,7 @@ ghost use Rattle.relational_ops.specs.Fitting.{WhereTuple};
 use crate::judging::idle_env;
 use crate::split::Split;
 use crate::split::picking::{Picked, given_picked, integer_of, pick};
-use language_model::{Checked, Env, Part};
+use language_model::{Checked, CheckedClauses, Env};
 use port_reacts::{CheckedOperator, OnPort, fits_law, given_none, on_each_port};
 use spl_tree::{Code, Functions, Slot};
 use spl_value::{Item, NoMemory, Values};
@@ -110,7 +110,7 @@ impl<'c> Split<'c> {
         ensures begins { IfOk result (λ split. ⟦<Split<'c> as OnPort>⟧.stands split []) }
     {
         let at = CheckedOperator::new(checked, op);
-        let Part::Split { index } = at.part else {
+        let CheckedClauses::Split { index } = at.part else {
             unreachable!()
         };
         Ok(Split {

@@ -7,8 +7,8 @@ use Rattle.spl_value.specs.declared.types.Named.{Named}
 use Rattle.spl_value.specs.declared.types.SplType.{SplType}
 use Rattle.feed_pour.specs.Counts.{PerName, OpeningCounted, ReadingCounted, Rose}
 use Rattle.feed_pour.specs.Contents.{Told}
-use Rattle.language_model.specs.declared.checked.Part.{Part}
-use Rattle.language_model.specs.declared.checked.Part.TheVariants as A
+use Rattle.language_model.specs.declared.checked.CheckedClauses.{CheckedClauses}
+use Rattle.language_model.specs.declared.checked.CheckedClauses.TheVariants as A
 use Rattle.stream_model.specs.Meaning.{rows_of}
 use Rattle.stream_model.specs.Operators.{Operator, output_attributes}
 use Rattle.stream_model.specs.Rows.{rows}
@@ -54,11 +54,11 @@ pub record SourceRows (file : List ℕ) (strict : Bool) (op : Operator) (items :
   pub told_rows : IfSome told (λ t. items ≡ rows_of op strict (t.script file))
   pub read : list_any is_read_fault items ≡ true → Rose (counts file).reading (now file).reading
 
-abbrev pub RowsOf : Part → Operator → List Item → Option Told → PerName → PerName → Type 0
+abbrev pub RowsOf : CheckedClauses → Operator → List Item → Option Told → PerName → PerName → Type 0
 RowsOf (A.FileSource file strict) op items told counts now = SourceRows file strict op items told counts now
 RowsOf _ op items told counts now = items ≡ []
 
-abbrev pub SourceOf : OneSource → Part → Operator → Option Told → PerName → PerName → Type 0
+abbrev pub SourceOf : OneSource → CheckedClauses → Operator → Option Told → PerName → PerName → Type 0
 SourceOf (O.Rows items) part op told counts now = RowsOf part op items told counts now
 SourceOf (O.OpenFailed name) part op told counts now = ⊤
 SourceOf O.Memory part op told counts now = ⊤
@@ -69,7 +69,7 @@ pub record FirstOpening (name : List ℕ) (old new : PerName) : Type 0 where
   pub reading : (new name).reading ≡ (old name).reading
   pub others : (n : List ℕ) → (n ≡ name → ⊥) → new n ≡ old n
 
-abbrev pub SourceCounted : OneSource → Part → PerName → PerName → Type 0
+abbrev pub SourceCounted : OneSource → CheckedClauses → PerName → PerName → Type 0
 SourceCounted (O.Rows items) part old new = OnlyReads (source_files (part ∷ [])) old new
 SourceCounted (O.OpenFailed name) part old new = (source_files (part ∷ []) ≡ name ∷ []) × FirstOpening name old new
 SourceCounted O.Memory part old new = OnlyOf (source_files (part ∷ [])) old new

@@ -19,7 +19,8 @@ type_of_two = D.Type (record {
   name = placed 5 (codes "T");
   shape = placed 7 (H.Attributes (
       record { kind = placed 7 (Y.Int N.I8); name = placed 12 (codes "a") }
-      ∷ record { kind = placed 14 (Y.Name (codes "U")); name = placed 16 (codes "b") } ∷ [])) }) ∷ []
+      ∷ record { kind = placed 14 (Y.Name (codes "U")); name = placed 16 (codes "b") } ∷ []));
+}) ∷ []
 
 -- if(b)return;else return;
 abbrev pub inner_if : Stmt
@@ -31,7 +32,8 @@ nearest_else = D.Function (record {
   result = None;
   name = placed 5 (codes "f");
   parameters = [];
-  body = placed 9 (Z.If ((expr_named 12 (codes "a"), inner_if) ∷ []) None) ∷ [] }) ∷ []
+  body = placed 9 (Z.If ((expr_named 12 (codes "a"), inner_if) ∷ []) None) ∷ [];
+}) ∷ []
 
 -- composite M{graph()as S=F(A){config x:y;}}
 abbrev pub alias_alone : List Definition
@@ -55,4 +57,5 @@ alias_alone = D.Composite (record {
       config = record { name = placed 36 (codes "x"); values = expr_named 38 (codes "y") ∷ [] } ∷ [];
     };
   } ∷ [];
-  config = [] }) ∷ []
+  config = [];
+}) ∷ []

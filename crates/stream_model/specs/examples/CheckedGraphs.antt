@@ -5,8 +5,8 @@ use Rattle.spl_tree.specs.declared.graph.OpKind.{OpKind}
 use Rattle.spl_tree.specs.declared.graph.OpKind.TheVariants as O
 use Rattle.spl_value.specs.declared.types.IntKind.TheVariants as N
 use Rattle.spl_value.specs.declared.types.SplType.TheVariants as T
-use Rattle.language_model.specs.declared.checked.Part.{Part}
-use Rattle.language_model.specs.declared.checked.Part.TheVariants as A
+use Rattle.language_model.specs.declared.checked.CheckedClauses.{CheckedClauses}
+use Rattle.language_model.specs.declared.checked.CheckedClauses.TheVariants as A
 use Rattle.language_model.specs.CheckedGraph.{CheckedGraph}
 use Rattle.language_model.specs.StreamTypes.{Attributes}
 
@@ -21,7 +21,7 @@ abbrev pub ids : Attributes
 ids = record { name = codes "id"; kind = T.Int N.U32 } ∷ []
 
 -- a source of texts, and an operator with these clauses that reads it, and makes streams of numbers and of texts
-abbrev pub after_source : OpKind → List ℕ → Part → CheckedGraph
+abbrev pub after_source : OpKind → List ℕ → CheckedClauses → CheckedGraph
 after_source kind outs part = record {
   graph = record {
     ops = op_of O.FileSource [] (0 ∷ []) ∷ op_of kind ((0 ∷ []) ∷ []) outs ∷ [];
@@ -31,4 +31,5 @@ after_source kind outs part = record {
   };
   schemas = texts ∷ ids ∷ texts ∷ [];
   functions = [];
-  parts = A.FileSource (codes "in") true ∷ part ∷ [] }
+  parts = A.FileSource (codes "in") true ∷ part ∷ [];
+}

@@ -17,10 +17,10 @@ use Rattle.spl_tree.specs.declared.code.Marker.TheVariants as M
 use Rattle.spl_tree.specs.declared.code.OrderOperator.TheVariants as R
 use Rattle.spl_tree.specs.declared.code.Slot.{Slot}
 use Rattle.spl_tree.specs.declared.code.Slot.TheVariants as L
-use Rattle.language_model.specs.declared.checked.Collected.{Collected}
+use Rattle.language_model.specs.declared.checked.CollectedAttribute.{CollectedAttribute}
 use Rattle.language_model.specs.declared.checked.Collector.{Collector}
 use Rattle.language_model.specs.declared.checked.Collector.TheVariants as K
-use Rattle.language_model.specs.declared.checked.Part.TheVariants as A
+use Rattle.language_model.specs.declared.checked.CheckedClauses.TheVariants as A
 use Rattle.language_model.specs.declared.checked.Position.{Position}
 use Rattle.language_model.specs.declared.checked.StateVariable.{StateVariable}
 use Rattle.language_model.specs.declared.checked.WindowRule.{WindowRule}
@@ -141,7 +141,7 @@ union = operator_of 1 (A.Union ((0 ∷ []) ∷ (1 ∷ []) ∷ [])) ((0 ∷ []) �
 
 -- ---- Aggregates
 
-abbrev pub gets : ℕ → Collector → Code Slot → Collected
+abbrev pub gets : ℕ → Collector → Code Slot → CollectedAttribute
 gets i collector code = record { attribute = i; collector = collector; argument = Some code }
 
 -- by the text of a tuple of a text and a number: `k = Any(k), s = Sum(v)`
@@ -199,4 +199,5 @@ adding_one = record {
   functions = [];
   types = record { ins = (record { name = codes "a"; kind = T.Int N.I64 } ∷ []) ∷ []; outs = (record { name = codes "a"; kind = T.Int N.I64 } ∷ []) ∷ [] };
   ins = (0 ∷ []) ∷ [];
-  outs = 1 ∷ [] }
+  outs = 1 ∷ [];
+}

@@ -6,9 +6,9 @@ use Rattle.spl_value.specs.declared.item.Item.TheVariants as I
 use Rattle.spl_value.specs.declared.value.Value.TheVariants as V
 use Rattle.spl_tree.specs.declared.code.Code.{Code}
 use Rattle.spl_tree.specs.declared.code.Code.TheVariants as C
-use Rattle.spl_tree.specs.declared.code.Taking.TheVariants as A
+use Rattle.spl_tree.specs.declared.code.Selector.TheVariants as A
 use Rattle.spl_tree.specs.declared.code.Slot.{Slot}
-use Rattle.language_model.specs.declared.checked.Part.TheVariants as P
+use Rattle.language_model.specs.declared.checked.CheckedClauses.TheVariants as P
 use Rattle.stream_model.specs.Operators.{Operator}
 use Rattle.stream_model.specs.examples.SomeOperators.{operator_of}
 use Rattle.stream_model.specs.Meaning.{Lists}

@@ -11,10 +11,10 @@ use Rattle.spl_tree.specs.declared.code.IntegerOperator.TheVariants as O
 use Rattle.spl_tree.specs.declared.code.Marker.TheVariants as M
 use Rattle.spl_tree.specs.declared.code.OrderOperator.TheVariants as R
 use Rattle.spl_tree.specs.declared.code.Slot.{Slot}
-use Rattle.language_model.specs.declared.checked.Collected.{Collected}
+use Rattle.language_model.specs.declared.checked.CollectedAttribute.{CollectedAttribute}
 use Rattle.language_model.specs.declared.checked.Collector.TheVariants as K
-use Rattle.language_model.specs.declared.checked.Part.{Part}
-use Rattle.language_model.specs.declared.checked.Part.TheVariants as A
+use Rattle.language_model.specs.declared.checked.CheckedClauses.{CheckedClauses}
+use Rattle.language_model.specs.declared.checked.CheckedClauses.TheVariants as A
 use Rattle.language_model.specs.declared.checked.WindowRule.{WindowRule}
 use Rattle.language_model.specs.declared.checked.WindowRule.TheVariants as W
 use Rattle.language_model.specs.StreamTypes.{Attributes}
@@ -35,25 +35,26 @@ abv = numbers (codes "a" ∷ codes "b" ∷ codes "v" ∷ [])
 
 -- a source of stream 0, an operator that makes stream 1 of it, one that makes stream 2 of that, and a sink of that, where streams have these
 -- attributes
-abbrev pub row_of : Attributes → Part → Attributes → Part → Attributes → Graph
+abbrev pub row_of : Attributes → CheckedClauses → Attributes → CheckedClauses → Attributes → Graph
 row_of zeroth first between second last = record {
   ops = record { number = 0; clauses = A.FileSource (codes "t") true; functions = []; types = record { ins = []; outs = zeroth ∷ [] }; ins = []; outs = 0 ∷ [] }
       ∷ record { number = 1; clauses = first; functions = []; types = record { ins = zeroth ∷ []; outs = between ∷ [] }; ins = (0 ∷ []) ∷ []; outs = 1 ∷ [] }
       ∷ record { number = 2; clauses = second; functions = []; types = record { ins = between ∷ []; outs = last ∷ [] }; ins = (1 ∷ []) ∷ []; outs = 2 ∷ [] }
       ∷ record { number = 3; clauses = A.FileSink (codes "o"); functions = []; types = record { ins = last ∷ []; outs = [] }; ins = (2 ∷ []) ∷ []; outs = [] } ∷ [];
-  topo = 0 ∷ 1 ∷ 2 ∷ 3 ∷ [] }
+  topo = 0 ∷ 1 ∷ 2 ∷ 3 ∷ [];
+}
 
 -- ---- clauses
 
 -- an Aggregate of partitions by these places
-abbrev pub partitioned : WindowRule → List ℕ → List Collected → Part
+abbrev pub partitioned : WindowRule → List ℕ → List CollectedAttribute → CheckedClauses
 partitioned rule places collects = A.Aggregate (record { partitioned = true; rule = rule }) places [] collects
 
 -- `a = Any(a), b = Any(b), s = Sum(v)`, and `b = Any(b), s = Sum(s)` of these
-abbrev pub three : List Collected
+abbrev pub three : List CollectedAttribute
 three = gets 0 K.First (of_first 0) ∷ gets 1 K.First (of_first 1) ∷ gets 2 (K.Sum N.I64) (of_first 2) ∷ []
 
-abbrev pub two : List Collected
+abbrev pub two : List CollectedAttribute
 two = gets 0 K.First (of_first 1) ∷ gets 1 (K.Sum N.I64) (of_first 2) ∷ []
 
 -- two Aggregates in a row, the second by `b`
@@ -86,7 +87,7 @@ either_way = S.If ((is_positive, submits ∷ []) ∷ []) (submits ∷ []) ∷ []
 abbrev pub same_marker : List Statement
 same_marker = S.If ((C.IsMarker M.Window, S.SubmitWindow 0 ∷ []) ∷ []) [] ∷ []
 
-abbrev pub custom : List Statement → List (Option (List Statement)) → Part
+abbrev pub custom : List Statement → List (Option (List Statement)) → CheckedClauses
 custom on_tuple on_punct = A.Custom (record { state = []; on_tuple = Some on_tuple ∷ []; on_punct = on_punct })
 
 -- ---- plans

@@ -3,7 +3,7 @@ use Rattle.std.specs.Prelude.{ℕ, ◌==◌, true, List, [], ◌∷◌, if◌the
 use Rattle.spl_value.specs.declared.item.Fault.{Fault}
 use Rattle.spl_value.specs.declared.item.FaultKind.TheVariants as K
 use Rattle.spl_value.specs.declared.item.Item.{Item}
-use Rattle.language_model.specs.declared.checked.Part.TheVariants as P
+use Rattle.language_model.specs.declared.checked.CheckedClauses.TheVariants as P
 use Rattle.stream_model.specs.Operators.{Operator}
 use Rattle.stream_model.specs.examples.SomeOperators.{operator_of}
 use Rattle.stream_model.specs.Meaning.{Graph, Lists, meaning}

@@ -3,7 +3,7 @@ use Rattle.std.specs.Prelude.{ℕ, ℤ, List, [], ◌∷◌, map, codes}
 use Rattle.spl_value.specs.declared.value.Value.{Value}
 use Rattle.spl_value.specs.declared.value.Value.TheVariants as V
 use Rattle.spl_value.specs.Key.{key_of}
-use Rattle.language_model.specs.declared.checked.Part.TheVariants as P
+use Rattle.language_model.specs.declared.checked.CheckedClauses.TheVariants as P
 use Rattle.stream_model.specs.Operators.{Operator}
 use Rattle.stream_model.specs.examples.SomeOperators.{operator_of}
 use Rattle.stream_model.specs.Windows.{WindowEvent, Insert, in_order}

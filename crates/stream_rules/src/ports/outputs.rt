@@ -6,7 +6,7 @@ ghost use Rattle.body_sites.specs.Bodies.{body_seen};
 ghost use Rattle.stream_rules.specs.steps.Outside.{StandsOutside, output_found};
 ghost use Rattle.stream_rules.specs.steps.Among.{Hold, graph_of, unit_of};
 
-use super::standing::{Streams, attributes, port_stands_for, stands_for};
+use super::standing::{Streams, attributes, port_matches, shape_matches};
 use crate::origins::{Origin, output_at};
 use body_sites::Body;
 use language_model::TypeAnswer;
@@ -30,7 +30,7 @@ fn outside<'s>(
         return Ok(None);
     };
     let port = body.composite.outputs.get(place as usize);
-    port_stands_for(alloc, streams, body, schema, port)?;
+    port_matches(alloc, streams, body, schema, port)?;
     let Some(site) = body.expansion.site else {
         return Ok(None);
     };
@@ -58,7 +58,7 @@ fn heads_around<'s>(
     let mut left = count;
     'outwards: loop {
         let shape = &at.output.shape;
-        stands_for(alloc, streams, &at.body, schema, shape)?;
+        shape_matches(alloc, streams, &at.body, schema, shape)?;
         let Some(fewer) = left.checked_sub(1) else {
             return Ok(());
         };

@@ -1,7 +1,7 @@
 //! What shapes in bodies mean, among the streams of a graph.
 ghost use Rattle.std.specs.Prelude.{◌≡◌};
 ghost use Rattle.std.specs.Option.{option_copied};
-ghost use Rattle.language_model.specs.StreamTypes.{port_stands_for, shape_attributes, stands_for, stream_attributes};
+ghost use Rattle.language_model.specs.StreamTypes.{port_matches, shape_attributes, shape_matches, stream_attributes};
 ghost use Rattle.language_model.specs.Finds.{Finds};
 ghost use Rattle.stream_rules.specs.steps.Among.{Hold, graph_of, unit_of};
 ghost use Rattle.body_sites.specs.Bodies.{body_seen};
@@ -50,7 +50,7 @@ fn given(alloc: Global, streams: &Streams, body: &Body, shape: &Shape) -> Result
 }
 
 /// A shape has to have these attributes.
-pub(super) fn stands_for(
+pub(super) fn shape_matches(
     alloc: Global,
     streams: &Streams,
     body: &Body,
@@ -58,7 +58,7 @@ pub(super) fn stands_for(
     shape: &Shape,
 ) -> Result<(), TypeAnswer>
     requires { Hold streams.now }
-    ensures { Finds (stands_for (unit_of streams.now) (graph_of streams.now) (body_seen body.now) schema.now shape.now) result }
+    ensures { Finds (shape_matches (unit_of streams.now) (graph_of streams.now) (body_seen body.now) schema.now shape.now) result }
 {
     let given = given(alloc, streams, body, shape)?;
     if same_attributes(given.as_slice(), schema) {
@@ -69,7 +69,7 @@ pub(super) fn stands_for(
 }
 
 /// The shape of the port of a head, where it has one, has to have these attributes.
-pub(super) fn port_stands_for(
+pub(super) fn port_matches(
     alloc: Global,
     streams: &Streams,
     body: &Body,
@@ -77,13 +77,13 @@ pub(super) fn port_stands_for(
     port: Option<&HeadPort>,
 ) -> Result<(), TypeAnswer>
     requires { Hold streams.now }
-    ensures { Finds (port_stands_for (unit_of streams.now) (graph_of streams.now) (body_seen body.now) schema.now (option_copied port.entry)) result }
+    ensures { Finds (port_matches (unit_of streams.now) (graph_of streams.now) (body_seen body.now) schema.now (option_copied port.entry)) result }
 {
     let Some(port) = port else {
         return Ok(());
     };
     match &port.shape {
-        Some(shape) => stands_for(alloc, streams, body, schema, shape),
+        Some(shape) => shape_matches(alloc, streams, body, schema, shape),
         None => Ok(()),
     }
 }

@@ -2,7 +2,7 @@
 ghost use Rattle.std.specs.Prelude.{◌≡◌, ◌<◌, ℕ, [], List, Some, IfOk, length, slice_get};
 ghost use Rattle.spl_value.specs.declared.item.Item.TheVariants as I;
 ghost use Rattle.spl_value.specs.declared.value.Value.{Value};
-ghost use Rattle.language_model.specs.declared.checked.Part.TheVariants as A;
+ghost use Rattle.language_model.specs.declared.checked.CheckedClauses.TheVariants as A;
 ghost use Rattle.stream_model.specs.Bodies.{on_first, union_body, values_at};
 ghost use Rattle.stream_model.specs.CheckedMeaning.{graph_of, operator_with};
 ghost use Rattle.stream_model.specs.React.{answer};
@@ -11,7 +11,7 @@ ghost use Rattle.union_op.specs.Places.{PlacesThere};
 
 use crate::operator::Union;
 use crate::picking::{are_all, picked};
-use language_model::{Checked, Part};
+use language_model::{Checked, CheckedClauses};
 use port_reacts::{CheckedOperator, OnPort, fits_law, given_first, given_none};
 use spl_value::{Item, Items, NoMemory, Places, Values};
 use std::alloc::Global;
@@ -72,7 +72,7 @@ impl<'c> Union<'c> {
         ensures begins { IfOk result (λ union. ⟦<Union<'c> as OnPort>⟧.stands union []) }
     {
         let at = CheckedOperator::new(checked, op);
-        let Part::Union { places } = at.part else {
+        let CheckedClauses::Union { places } = at.part else {
             unreachable!()
         };
         Ok(Union { alloc, at, places })

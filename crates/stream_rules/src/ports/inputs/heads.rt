@@ -6,7 +6,7 @@ ghost use Rattle.body_sites.specs.Bodies.{body_seen};
 ghost use Rattle.stream_rules.specs.steps.Looked.{HavePassed, PassesAlso, has_looked, nothing_looked};
 ghost use Rattle.stream_rules.specs.steps.Among.{Hold, graph_of, unit_of};
 
-use crate::ports::standing::{Streams, port_stands_for};
+use crate::ports::standing::{Streams, port_matches};
 use body_sites::Body;
 use language_model::TypeAnswer;
 use spl_tree::{Placed, Site};
@@ -110,7 +110,7 @@ fn name_passes(
         return Ok(());
     };
     let port = body.composite.inputs.get(place as usize);
-    port_stands_for(alloc, streams, body, schema, port)?;
+    port_matches(alloc, streams, body, schema, port)?;
     let Some(site) = body.expansion.site else {
         return Ok(());
     };

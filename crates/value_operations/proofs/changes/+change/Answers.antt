@@ -3,7 +3,7 @@ use Rattle.std.specs.Prelude.{List, Some, None, slice_set}
 use Rattle.spl_value.specs.declared.item.FaultKind.TheVariants as F
 use Rattle.spl_value.specs.declared.value.Value.{Value}
 use Rattle.spl_value.specs.declared.value.Value.TheVariants as V
-use Rattle.spl_tree.specs.declared.code.Taking.TheVariants as K
+use Rattle.spl_tree.specs.declared.code.Selector.TheVariants as K
 use Rattle.language_model.specs.Changes.{changed, change_of, level_changed}
 use Rattle.value_operations.specs.Changing.{CanChange, Changes, IsPlaceIn}
 use Rattle.value_operations.proofs.Parts.{not_tuple, member_within, not_list, not_map, keys_rise}

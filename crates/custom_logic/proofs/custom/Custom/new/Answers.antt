@@ -1,5 +1,5 @@
 use Rattle.std.proofs.Common.{◌≡◌, sym, subst, rules}
-use Rattle.language_model.specs.declared.checked.Part.TheVariants as A
+use Rattle.language_model.specs.declared.checked.CheckedClauses.TheVariants as A
 use Rattle.stream_model.specs.CheckedMeaning.{operator_with}
 use Rattle.stream_model.specs.Fitting.{IsFitting}
 use Rattle.custom_logic.proofs.Standing.{first_env, stands_first}

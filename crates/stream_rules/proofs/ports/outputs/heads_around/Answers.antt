@@ -9,4 +9,4 @@ outwards-preserved c =
     let less : c.outwards.left ≡ suc c.in-Some.fewer = omega (arith, c.in-Some.ensures) in
     c.outwards.invariant
     ∙ outwards_on (unit_of c.args.streams.now) (graph_of c.args.streams.now) c.args.schema.now (body_seen c.outwards.at.body) c.outwards.at.output.now c.outwards.left c.in-Some.fewer
-    c.as_slice-name.result.now c.in-Some-2.next c.in_ok-next.field-0 less c.as_slice-name.ensures c.in_ok-stands_for.ensures c.in-Some-2.is c.in_ok-next.ensures
+    c.as_slice-name.result.now c.in-Some-2.next c.in_ok-next.field-0 less c.as_slice-name.ensures c.in_ok-shape_matches.ensures c.in-Some-2.is c.in_ok-next.ensures

@@ -1,6 +1,6 @@
 use Rattle.std.proofs.Common.{◌≡◌, length}
 use Rattle.language_model.specs.Literals.{followed_within}
-use Rattle.literal_sites.proofs.follow.Follow.behind.Given as goal
+use Rattle.literal_sites.proofs.follow.Follow.target.Given as goal
 
 abbrev pub invariant-expansions : goal.invariant-expansions
 invariant-expansions l =

@@ -2,7 +2,7 @@ use Rattle.std.specs.Prelude.{◌-◌}
 use Rattle.std.proofs.Common.{ap, ◌∙◌}
 use Rattle.language_model.specs.Literals.{Outside}
 use Rattle.literal_sites.proofs.Following.{follow_step, outside}
-use Rattle.literal_sites.proofs.follow.Follow.behind.Goals as goal
+use Rattle.literal_sites.proofs.follow.Follow.target.Goals as goal
 
 pub expansions-preserved : goal.expansions-preserved
 expansions-preserved c =
