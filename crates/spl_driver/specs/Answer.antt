@@ -150,14 +150,12 @@ pub record WritingFailed (files : FilesOf) (name : List ℕ) (old new : PerName)
 abbrev pub DevicesShow : Cause → FilesOf → PerName → PerName → Type 0
 DevicesShow C.Done files old new = OnlyReads files.rows old new
 DevicesShow (C.Stopped fault) files old new = OnlyReads files.rows old new
-DevicesShow C.NotBuilt files old new = NoCountChanged old new
-DevicesShow C.BadWords files old new = NoCountChanged old new
-DevicesShow (C.Refused refusal) files old new = NoCountChanged old new
 DevicesShow (C.BadArrivals op) files old new = OnlyReads files.rows old new
 DevicesShow (C.OpenFailed name) files old new = OpeningFailed files.opened name old new ⊎ CreatingFailed files name old new
 DevicesShow (C.ReadFailed name) files old new = ReadingFailed files name old new
 DevicesShow (C.WriteFailed name) files old new = WritingFailed files name old new
 DevicesShow C.NoMemory files old new = ⊤
+DevicesShow _ files old new = NoCountChanged old new
 
 -- ---- a run that stops at a read that failed
 
@@ -171,15 +169,7 @@ pub record SourceUnread (parts : List CheckedClauses) (op : ℕ) (old new : PerN
 -- that is so of the operator that a fault names, where the fault is a read that failed
 abbrev pub StoppedBy : Cause → List CheckedClauses → PerName → PerName → Type 0
 StoppedBy (C.Stopped fault) parts old new = fault.kind ≡ K.ReadFailed → SourceUnread parts fault.op old new
-StoppedBy C.Done parts old new = ⊤
-StoppedBy C.NotBuilt parts old new = ⊤
-StoppedBy C.BadWords parts old new = ⊤
-StoppedBy (C.Refused refusal) parts old new = ⊤
-StoppedBy (C.BadArrivals op) parts old new = ⊤
-StoppedBy (C.OpenFailed name) parts old new = ⊤
-StoppedBy (C.ReadFailed name) parts old new = ⊤
-StoppedBy (C.WriteFailed name) parts old new = ⊤
-StoppedBy C.NoMemory parts old new = ⊤
+StoppedBy _ parts old new = ⊤
 
 -- ---- and what the files hold then
 
@@ -219,20 +209,14 @@ pub record TellingFailed (files : FilesOf) (name : List ℕ) (counts now : PerNa
   pub counted : OnlyReads files.rows counts now
   pub ran : ReportsTo Is ended old new ⊎ ((fault : Option Fault) × RunsTo fault Is ended new)
 
--- what the counts and the files show of each cause
+-- What the counts and the files show of each cause: what was created, where a file couldn't be; what was written, where one couldn't be; and
+-- else what the counts show.
 abbrev pub DevicesMean : Cause → FilesOf → PerName → PerName → Type 0 → (RequestOutcome → Type 0) → Ended → Told → Told → Type 0
 DevicesMean (C.OpenFailed name) files counts now TextFailed Is ended old new =
     (OpeningFailed files.opened name counts now × SameFiles old new) ⊎ StoppedCreating Is files name counts now old new
 DevicesMean (C.WriteFailed name) files counts now TextFailed Is ended old new =
     (WritingFailed files name counts now × WroteOthers Is counts now ended new) ⊎ TellingFailed files name counts now TextFailed Is ended old new
-DevicesMean C.Done files counts now TextFailed Is ended old new = OnlyReads files.rows counts now
-DevicesMean (C.Stopped fault) files counts now TextFailed Is ended old new = OnlyReads files.rows counts now
-DevicesMean C.NotBuilt files counts now TextFailed Is ended old new = NoCountChanged counts now
-DevicesMean C.BadWords files counts now TextFailed Is ended old new = NoCountChanged counts now
-DevicesMean (C.Refused refusal) files counts now TextFailed Is ended old new = NoCountChanged counts now
-DevicesMean (C.BadArrivals op) files counts now TextFailed Is ended old new = OnlyReads files.rows counts now
-DevicesMean (C.ReadFailed name) files counts now TextFailed Is ended old new = ReadingFailed files name counts now
-DevicesMean C.NoMemory files counts now TextFailed Is ended old new = ⊤
+DevicesMean cause files counts now TextFailed Is ended old new = DevicesShow cause files counts now
 
 -- the reader of a file that is read as a whole fails where its count of reading changes
 abbrev pub WholeFails : PerName → PerName → Told → Type 0
@@ -294,12 +278,7 @@ RecordHolds (C.Stopped fault) parts file text counts now TextFailed Sinks old ne
 RecordHolds (C.WriteFailed name) parts file text counts now TextFailed Sinks old new = RecordUnwritten name parts file text counts now TextFailed Sinks new
 RecordHolds C.NoMemory parts file text counts now TextFailed Sinks old new =
     (new.holds file ≡ old.holds file) ⊎ ((new.holds file ≡ Some []) ⊎ (Sinks × ((n : ℕ) × (new.holds file ≡ Some (take n text)))))
-RecordHolds C.BadWords parts file text counts now TextFailed Sinks old new = new.holds file ≡ old.holds file
-RecordHolds (C.Refused refusal) parts file text counts now TextFailed Sinks old new = new.holds file ≡ old.holds file
-RecordHolds C.NotBuilt parts file text counts now TextFailed Sinks old new = new.holds file ≡ old.holds file
-RecordHolds (C.OpenFailed name) parts file text counts now TextFailed Sinks old new = new.holds file ≡ old.holds file
-RecordHolds (C.ReadFailed name) parts file text counts now TextFailed Sinks old new = new.holds file ≡ old.holds file
-RecordHolds (C.BadArrivals op) parts file text counts now TextFailed Sinks old new = new.holds file ≡ old.holds file
+RecordHolds _ parts file text counts now TextFailed Sinks old new = new.holds file ≡ old.holds file
 
 -- a run that is asked for its record writes the one that it returns
 abbrev pub WritesRecord : Option Request → (RequestOutcome → Type 0) → Ended → PerName → PerName → Type 0 → Told → Told → Type 0
@@ -346,13 +325,7 @@ abbrev pub MayBe : Option Request → Cause → Type 0
 MayBe request (C.BadArrivals op) = is_replay request ≡ true
 MayBe request (C.Stopped fault) = is_report request ≡ false
 MayBe request C.NotBuilt = is_report request ≡ false
-MayBe request C.Done = ⊤
-MayBe request C.BadWords = ⊤
-MayBe request (C.Refused refusal) = ⊤
-MayBe request C.NoMemory = ⊤
-MayBe request (C.OpenFailed name) = ⊤
-MayBe request (C.ReadFailed name) = ⊤
-MayBe request (C.WriteFailed name) = ⊤
+MayBe request _ = ⊤
 
 -- ---- statuses
 

@@ -26,37 +26,30 @@ abbrev pub if_given : Option (List ℕ) → List (List ℕ)
 if_given None = []
 if_given (Some name) = name ∷ []
 
--- the program, the files of the sources where they are run, and a record that is followed
-abbrev pub opens : Option Request → List CheckedClauses → List (List ℕ)
-opens None parts = []
-opens (Some (R.Check program)) parts = program ∷ []
-opens (Some (R.Plan program)) parts = program ∷ []
-opens (Some (R.Run program options)) parts = program ∷ source_files parts
-opens (Some (R.Replay program arrivals)) parts = program ∷ arrivals ∷ source_files parts
-opens (Some (R.Simulate program width schedule steps)) parts = program ∷ source_files parts
-opens (Some (R.Make name rows start)) parts = []
-
--- The files that are opened are read to their ends, row by row those of the sources where they are run, and the others as a whole.
+-- the files of the sources, where they are run, which are read row by row
 abbrev pub row_files : Option Request → List CheckedClauses → List (List ℕ)
 row_files (Some (R.Run program options)) parts = source_files parts
 row_files (Some (R.Replay program arrivals)) parts = source_files parts
 row_files (Some (R.Simulate program width schedule steps)) parts = source_files parts
 row_files _ parts = []
 
+-- the program, and a record that is followed, which are read as a whole
 abbrev pub whole_files : Option Request → List (List ℕ)
 whole_files None = []
 whole_files (Some (R.Replay program arrivals)) = program ∷ arrivals ∷ []
 whole_files (Some request) = if_given (program_of request)
 
+-- the files that are opened, each of which is read to its end
+abbrev pub opens : Option Request → List CheckedClauses → List (List ℕ)
+opens request parts = whole_files request ++ row_files request parts
+
 -- the files of the sinks where they are run, a record that is written, and a file that is made
 abbrev pub creates : Option Request → List CheckedClauses → List (List ℕ)
-creates None parts = []
-creates (Some (R.Check program)) parts = []
-creates (Some (R.Plan program)) parts = []
 creates (Some (R.Run program options)) parts = sink_files parts ++ if_given options.arrivals
 creates (Some (R.Replay program arrivals)) parts = sink_files parts
 creates (Some (R.Simulate program width schedule steps)) parts = sink_files parts
 creates (Some (R.Make name rows start)) parts = name ∷ []
+creates _ parts = []
 
 -- how many bytes a file may have that is read as a whole: the file of a program, or that of an arrival record
 abbrev pub most_bytes : Option Request → List ℕ → ℕ

@@ -50,13 +50,7 @@ IsReason C.NotBuilt None = ⊥
 IsReason C.NotBuilt (Some request) = is_built request ≡ false
 IsReason (C.BadArrivals op) None = ⊥
 IsReason (C.BadArrivals op) (Some request) = (c : CheckedGraph) × IsSomeProgram request c × IsBadFor c op
-IsReason C.Done request = ⊤
-IsReason (C.Stopped fault) request = ⊤
-IsReason C.BadWords request = ⊤
-IsReason (C.OpenFailed name) request = ⊤
-IsReason (C.ReadFailed name) request = ⊤
-IsReason (C.WriteFailed name) request = ⊤
-IsReason C.NoMemory request = ⊤
+IsReason _ request = ⊤
 
 -- ---- the counts of faults
 
@@ -81,14 +75,7 @@ pub record TextShown (name : List ℕ) (request : Option Request) (old new : Per
 abbrev pub Shown : Cause → Option Request → PerName → PerName → Type 0 → Type 0
 Shown C.BadWords request old new TextFailed = (request ≡ None) × NoCountChanged old new
 Shown (C.WriteFailed name) request old new TextFailed = ShownBy (C.WriteFailed name) request old new ⊎ TextShown name request old new TextFailed
-Shown C.Done request old new TextFailed = ShownBy C.Done request old new
-Shown (C.Stopped fault) request old new TextFailed = ShownBy (C.Stopped fault) request old new
-Shown (C.Refused refusal) request old new TextFailed = ShownBy (C.Refused refusal) request old new
-Shown C.NotBuilt request old new TextFailed = ShownBy C.NotBuilt request old new
-Shown (C.OpenFailed name) request old new TextFailed = ShownBy (C.OpenFailed name) request old new
-Shown (C.ReadFailed name) request old new TextFailed = ShownBy (C.ReadFailed name) request old new
-Shown (C.BadArrivals op) request old new TextFailed = ShownBy (C.BadArrivals op) request old new
-Shown C.NoMemory request old new TextFailed = ShownBy C.NoMemory request old new
+Shown cause request old new TextFailed = ShownBy cause request old new
 
 -- ---- the run
 
@@ -122,13 +109,8 @@ abbrev pub RunShown : Cause → (CheckedGraph → Type 0) → Type 0 → Ended �
 RunShown C.Done Program Alone ended counts now = (Alone × NothingRan ended) ⊎ RanAs None Program ended counts now
 RunShown (C.Stopped fault) Program Alone ended counts now = RanAs (Some fault) Program ended counts now
 RunShown (C.WriteFailed name) Program Alone ended counts now = (Alone × NothingRan ended) ⊎ Ran Program ended counts now
-RunShown (C.OpenFailed name) Program Alone ended counts now = NothingRan ended
 RunShown C.NoMemory Program Alone ended counts now = (ended.arrivals.lists ≡ []) ⊎ Ran Program ended counts now
-RunShown C.BadWords Program Alone ended counts now = NothingRan ended
-RunShown (C.Refused refusal) Program Alone ended counts now = NothingRan ended
-RunShown C.NotBuilt Program Alone ended counts now = NothingRan ended
-RunShown (C.ReadFailed name) Program Alone ended counts now = NothingRan ended
-RunShown (C.BadArrivals op) Program Alone ended counts now = NothingRan ended
+RunShown _ Program Alone ended counts now = NothingRan ended
 
 -- the request runs a program with this graph; it asks for what is told of one
 abbrev pub IsRunProgram : Option Request → CheckedGraph → Type 0

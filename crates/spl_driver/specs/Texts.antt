@@ -72,13 +72,8 @@ abbrev pub IsText : Bool → Cause → (RequestOutcome → Type 0) → List ℕ 
 IsText counted C.NoMemory Is text = ⊤
 IsText counted C.Done Is text = IsTextOf counted Is C.Done text
 IsText counted (C.Stopped fault) Is text = IsTextOf counted Is (C.Stopped fault) text
-IsText counted C.BadWords Is text = text ≡ status_text None C.BadWords
-IsText counted (C.Refused refusal) Is text = text ≡ status_text None (C.Refused refusal)
-IsText counted C.NotBuilt Is text = text ≡ status_text None C.NotBuilt
-IsText counted (C.OpenFailed name) Is text = text ≡ status_text None (C.OpenFailed name)
 IsText counted (C.BadArrivals op) Is text = IsTextOf counted Is (C.BadArrivals op) text
-IsText counted (C.ReadFailed name) Is text = text ≡ status_text None (C.ReadFailed name)
-IsText counted (C.WriteFailed name) Is text = text ≡ status_text None (C.WriteFailed name)
+IsText counted cause Is text = text ≡ status_text None cause
 
 -- these bytes were poured, or a front of them where the pour's count rose
 abbrev pub PouredText : List ℕ → List ℕ → Option (List ℕ) → Type 0 → Type 0
@@ -100,15 +95,11 @@ Said cause request Is counts later None now Failed = ⊤
 Said C.NoMemory request Is counts later (Some old) now Failed = ⊤
 Said C.Done request Is counts later (Some old) now Failed = PouredWhole (wants_counts request) Is C.Done old now
 Said (C.Stopped fault) request Is counts later (Some old) now Failed = PouredWhole (wants_counts request) Is (C.Stopped fault) old now
-Said C.BadWords request Is counts later (Some old) now Failed = PouredText (status_text None C.BadWords) old now Failed
-Said (C.Refused refusal) request Is counts later (Some old) now Failed = PouredText (status_text None (C.Refused refusal)) old now Failed
-Said C.NotBuilt request Is counts later (Some old) now Failed = PouredText (status_text None C.NotBuilt) old now Failed
 Said (C.BadArrivals op) request Is counts later (Some old) now Failed = (text : List ℕ) × IsTextOf (wants_counts request) Is (C.BadArrivals op) text × PouredText text old now Failed
-Said (C.OpenFailed name) request Is counts later (Some old) now Failed = PouredText (status_text None (C.OpenFailed name)) old now Failed
-Said (C.ReadFailed name) request Is counts later (Some old) now Failed = PouredText (status_text None (C.ReadFailed name)) old now Failed
 Said (C.WriteFailed name) request Is counts later (Some old) now Failed =
     (ShownBy (C.WriteFailed name) request counts later × PouredText (status_text None (C.WriteFailed name)) old now Failed)
     ⊎ (TextShown name request counts later Failed × PouredFront (wants_counts request) Is old now Failed)
+Said cause request Is counts later (Some old) now Failed = PouredText (status_text None cause) old now Failed
 
 -- ---- how a text is told
 
