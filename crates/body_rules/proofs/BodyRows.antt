@@ -61,7 +61,7 @@ module _ (setting : Setting) (inside : Bool) (scope : Scope) where
           after_after (condition_typing scope a.0) (λ code. after (alone setting inside scope (stated a.1)) (λ row. Ok (code, row))) (λ y. after (branch_row arms) (λ ys. Ok (y ∷ ys)))
           ∙ (λ i. after (condition_typing scope a.0) (λ code. after_after (alone setting inside scope (stated a.1)) (λ row. Ok (code, row)) (λ y. after (branch_row arms) (λ ys. Ok (y ∷ ys))) i))
 
--- ---- statements, each in the scope behind those before it
+-- ---- statements, each in the scope after those before it
 
 module _ (setting : Setting) (inside : Bool) (ss : List Stmt) (i : ℕ) (front : List Statement) (scope : Scope) where
   abbrev pub statements_from : ℕ → List Statement → Scope → Found (List Statement)

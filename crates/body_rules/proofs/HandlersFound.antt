@@ -54,7 +54,7 @@ module _ (setting : Setting) (scope : Scope) (before : List Handled) (h : Placed
 
 -- ---- all handlers
 
--- all handlers come to what those that are left come to behind those that were found, and the scope and the ports are as they were
+-- the handlers of all are those that were found and then those of what is left, and the scope and the ports are as they were
 pub record Comes (setting : Setting) (scope : Scope) (ports : List Port) (all : List (Placed Handler)) (now : Scope) (ports_now : List Port) (found : List Handled) (left : List (Placed Handler)) : Type 0 where
   pub same : handlers_in setting scope ports [] all ≡ handlers_in setting now ports_now found left
   pub same_scope : now ≡ scope

@@ -1,4 +1,4 @@
--- Refusals behind what has code.
+-- Refusals after what has code.
 use Rattle.std.specs.Prelude.{◌≡◌, Bool, true, false, List, Option, Ok, Err}
 use Rattle.spl_value.specs.declared.types.SplType.{SplType}
 use Rattle.spl_tree.specs.declared.body.Statement.{Statement}

@@ -1,4 +1,4 @@
--- What a submit comes to, by the port that has the stream's name.
+-- The code of a submit, by the port that has the stream's name.
 use Rattle.std.specs.Prelude.{◌≡◌, ◌+◌, ℕ, suc, Bool, true, false, List, [], ◌∷◌, map, if◌then◌else◌, slice_get, Option, Some, None, Ok, Err}
 use Rattle.std.specs.Option.{option_map}
 use Rattle.std.specs.Str.{bytes_eq}

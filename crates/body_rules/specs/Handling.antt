@@ -27,7 +27,7 @@ handled_in setting scope before h (Some port) =
     else after (body_typing setting (seen_scope scope h.what.event port.what) h.what.body)
     (λ row. Ok (record { event = h.what.event; port = port.place; body = row }))
 
--- handlers there, on these ports, behind others
+-- handlers there, on these ports, after others
 abbrev pub handlers_in : Setting → Scope → List Port → List Handled → List (Placed Handler) → Found (List Handled)
 handlers_in setting scope ports before [] = Ok before
 handlers_in setting scope ports before (h ∷ hs) =

@@ -6,7 +6,7 @@ use Rattle.language_model.specs.Typing.{Found, wrong_call}
 use Rattle.language_model.specs.declared.answer.TypeAnswer.{TypeAnswer}
 use Rattle.language_model.specs.declared.answer.TypeAnswer.TheVariants.{Refused, Memory}
 
--- the code that is found is answered with the scope behind it, and so is its refusal. Of want of memory nothing is said
+-- the code that is found is answered with the scope after it, and so is its refusal. Of lack of memory nothing is said
 abbrev pub Leads : Found (Statement × Scope) → Result Statement TypeAnswer → Scope → Type 0
 Leads found (Ok x) scope = found ≡ Ok (x, scope)
 Leads found (Err (Refused refusal)) scope = found ≡ Err refusal

@@ -23,7 +23,7 @@ use Rattle.body_rules.specs.declared.functions.FunctionTypes.{FunctionTypes}
 abbrev pub as_types : Found Typing → Found FunctionTypes
 as_types found = after found (λ t. Ok (record { result = t.result; parameters = t.parameters }))
 
--- where names stand for these types, the functions of a unit can be called, and nothing else can be named
+-- where names of types mean these, the functions of a unit can be called, and nothing else can be named
 abbrev pub scope_in : Types → List Definition → Scope
 scope_in types unit = record {
   vars = [];
@@ -43,11 +43,11 @@ abbrev pub with_definition : Types → Scope → Definition → Scope
 with_definition types scope (D.Function f) = with_function scope f.name.what (function_types types f)
 with_definition types scope _ = scope
 
--- parameters, which don't change, behind the variables that there are
+-- parameters, which don't change, after the variables that there are
 abbrev pub with_parameters : Scope → List (Named SplType) → Scope
 with_parameters scope parameters = record scope { vars = scope.vars ++ map (λ a. variable false a.name a.kind) parameters }
 
--- a function where names stand for these types, in a scope
+-- a function where names of types mean these, in a scope
 abbrev pub function_in : Types → Scope → FunctionDefinition → Found Function
 function_in types scope f =
     after (function_types types f) (λ t.

@@ -146,7 +146,7 @@ fn push_branch(
     branches.push((code.into_inner(), body))
 }
 
-/// What stands behind the last `else`.
+/// The statement of the last `else`, where there is one.
 #[cycle(bodies)]
 fn otherwise(
     alloc: Global,
@@ -203,7 +203,7 @@ fn block(
     Ok(Statement::Block(row))
 }
 
-/// An `if`, with what stands behind its last `else`.
+/// An `if`, with the statement of its last `else`.
 #[cycle(bodies)]
 fn choice(
     alloc: Global,

@@ -97,7 +97,7 @@ fn tuple_body(
     found
 }
 
-/// The body of a handler of markers, which sees no port, and may ask for the marker.
+/// The body of a handler of markers, which sees no port, and may call `currentPunct`.
 fn marker_body(
     alloc: Global,
     setting: &BodySetting,
@@ -137,7 +137,7 @@ fn body_on(
     }
 }
 
-/// A handler, behind those that there are.
+/// A handler, after those that there are.
 fn handled_next(
     alloc: Global,
     setting: &BodySetting,

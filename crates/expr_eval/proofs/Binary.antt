@@ -1,4 +1,4 @@
--- What an operator between two operands comes to, by what they came to.
+-- The outcome of an operator between two operands, by their outcomes.
 use Rattle.std.specs.Prelude.{◌≡◌, ℕ, List}
 use Rattle.std.proofs.Common.{refl, ap, ◌∙◌, subst}
 use Rattle.spl_value.specs.declared.types.SplType.{SplType}

@@ -1,4 +1,4 @@
--- What a built-in call comes to, by what its arguments came to.
+-- The outcome of a built-in call, by the outcomes of its arguments.
 use Rattle.std.specs.Prelude.{◌≡◌, ◌≤◌, ◌<◌, ℕ, suc, List, [], ◌∷◌, length, Result, Err, IsErrAnd}
 use Rattle.std.proofs.Common.{refl, sym, ap, ◌∙◌, arith, get_or, subst}
 use Rattle.spl_value.specs.declared.types.SplType.{SplType}
@@ -150,7 +150,7 @@ module _ (calls : Calls) (w : World Slot) where
     with_values : (ys : List (Code Slot)) → xs ≡ ys → called ≡ followed (values_of calls ys w turns) (λ vs left. settled (built_in_of call vs) left)
     with_values ys e = ap (λ xs. followed (values_of calls xs w turns) (λ vs left. settled (built_in_of call vs) left)) e
 
-    -- by what its last argument comes to
+    -- by the outcome of its last argument
     pub with_one : (x : Code Slot) → xs ≡ x ∷ [] → called ≡ followed (code_value calls x w turns) (λ v left. settled (built_in_of call (v ∷ [])) left)
     with_one x e = with_values (x ∷ []) e ∙ follows_last (λ vs left. settled (built_in_of call vs) left) x turns
 

@@ -1,4 +1,4 @@
--- What a code of each form comes to, by what its parts came to.
+-- The outcome of a code of each form, by the outcomes of its parts.
 use Rattle.std.specs.Prelude.{◌≡◌, ℕ, Bool, true, false, not, if◌then◌else◌, List, Option, None, Some, Result, IsErrAnd}
 use Rattle.std.proofs.Common.{refl, sym, ap, ◌∙◌}
 use Rattle.spl_value.specs.declared.value.Value.{Value}

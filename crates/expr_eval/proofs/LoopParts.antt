@@ -71,7 +71,7 @@ arms_past bodies arms other i s turns h = ap (λ arms. arms_act bodies arms othe
 
 -- ---- a loop with a condition
 
--- what follows the last of so many turns and one
+-- what follows the last of n turns and one
 abbrev after_rounds : ℕ → Bodies → Code Slot → Acts → Acts
 after_rounds zero bodies code body = λ s turns. Faulted K.Turns
 after_rounds (suc n) bodies code body = turns_while n bodies code body
@@ -121,7 +121,7 @@ module _ (n : ℕ) (bodies : Bodies) (code : Code Slot) (body : Acts) (s : State
         pub while_on : EndsLoop flow None → (m : ℕ) → n ≡ suc m → turns_while n bodies code body s turns ≡ turns_while m bodies code body w rest
         while_on on m one = led_comes ∙ on w rest (after_rounds n bodies code body) ∙ ap (λ n. after_rounds n bodies code body w rest) one
 
--- one that makes so many turns and one at most
+-- one that makes n turns and one at most
 abbrev pub while_from : ℕ → List Function → ℕ → Code Slot → List Statement → Acts
 while_from n functions depth code row = turns_while n (bodies_of functions depth) code (scoped (row_acts (bodies_of functions depth) row))
 

@@ -180,7 +180,7 @@ module _ (functions : List Function) (env : Env) (depth : ℕ) (fs : List (ℕ �
   there_is None t comes = absurd comes
   there_is (Some v) t comes = (v, refl)
 
-  -- the code of a field to which an attribute is moved comes to that attribute, and takes no turn
+  -- the code of a field to which an attribute is moved evaluates to that attribute, and takes no turn
   moved_value : (i a : ℕ) (f : ℕ × Code Slot) → slice_get ms i ≡ Some (Some a) → slice_get fs i ≡ Some f
       → (v : Value) × (slice_get came a ≡ Some v) × ((turns : ℕ) → code_value (calls_of functions depth) f.1 (world_of env) turns ≡ Done v turns)
   moved_value i a f m at =

@@ -72,7 +72,7 @@ module _ (functions : List Function) where
       subst (LeadsTo scope) (block_is (bodies_of functions depth) row s turns)
       (law functions purpose l scope scope (S.Block row) (B.block l scope row h) fit s v depth turns)
 
-  -- ---- a statement of a row, and those behind it
+  -- ---- a statement of a row, and those after it
   module _ (row : List Statement) (i : ℕ) (x : Statement) (within : i < length row) (is : x ≡ get_or row i x) (env : Env) (fit : RowIsFit functions (drop i row) env) where
     from_here : RowIsFit functions (x ∷ drop (i + 1) row) env
     from_here = subst (λ row. RowIsFit functions row env) (drop_at row i x within is) fit
@@ -95,7 +95,7 @@ module _ (functions : List Function) where
           (subst (LeadsTo p.0) e (law functions h.0 h.1 h.2 p.0 x p.1 h.4.1 (state env submits) h.4.0 depth turns), subst (λ signatures. FunctionsFit signatures functions) (sym same) h.4.1),
         )
 
-  -- ---- an arm of an `if`, and those behind it
+  -- ---- an arm of an `if`, and those after it
   module _ (arms : List (Code Slot × List Statement)) (other : List Statement) (i : ℕ) (arm : Code Slot × List Statement) (within : i < length arms) (is : arm ≡ get_or arms i arm)
       (env : Env) (fit : ArmsAreFit functions (drop i arms) other env) where
     from_arm : ArmsAreFit functions (arm ∷ drop (i + 1) arms) other env

@@ -1,4 +1,4 @@
--- What takings ask for, step by step.
+-- What selectors need, step by step.
 use Rattle.std.specs.Prelude.{◌≡◌, ◌+◌, ◌<◌, ℕ, IsTrue, List, [], ◌∷◌, length, drop, Some, slice_get}
 use Rattle.std.proofs.Common.{refl, sym, subst, get_or}
 use Rattle.spl_value.specs.declared.types.IntKind.{IntKind}
@@ -27,7 +27,7 @@ use Rattle.value_operations.specs.Taking.{HasMember, HasElements, HasKeys}
 use Rattle.expr_eval.proofs.ValueTypes.{of_type, taken_of_type}
 use Rattle.spl_value.proofs.Lists.{drop_at}
 
--- what the first step asks for, and where the others lead from there
+-- the type that the first selector needs, and where the others lead from there
 abbrev pub Steps : Scope → List (Selector (Code Slot)) → SplType → SplType → Type 0
 Steps scope [] t u = Unit {0}
 Steps scope (K.Member i ∷ rest) t u = (schema : List (Named SplType)) × (a : Named SplType) × (t ≡ S.Tuple schema) × (slice_get schema i ≡ Some a) × StepsLead scope rest a.kind u
@@ -41,7 +41,7 @@ module _ (scope : Scope) where
   steps _ _ _ (F.index x rest k t u f h) = (k, t, refl, f, h)
   steps _ _ _ (F.at_key x rest k t u f h) = (k, t, refl, f, h)
 
-  -- a step, and those behind it
+  -- a step, and those after it
   pub one_step : (step : Selector (Code Slot)) (rest : List (Selector (Code Slot))) (t u : SplType) → Steps scope (step ∷ rest) t u
       → (v : SplType) × StepsLead scope (step ∷ []) t v × StepsLead scope rest v u
   one_step (K.Member i) rest t u h = (h.1.kind, subst (λ t. StepsLead scope (K.Member i ∷ []) t h.1.kind) (sym h.2) (F.member i [] h.0 h.1 h.1.kind h.3 (F.here h.1.kind)), h.4)

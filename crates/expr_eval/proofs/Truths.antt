@@ -1,4 +1,4 @@
--- What a condition of each form comes to, by what its parts came to.
+-- The outcome of a condition of each form, by the outcomes of its parts.
 use Rattle.std.specs.Prelude.{◌≡◌, ℕ, zero, suc, ◌+◌, Bool, true, false, not, if◌then◌else◌, List, length, None, Some}
 use Rattle.std.proofs.Common.{refl, sym, ap, ◌∙◌, subst, arith}
 use Rattle.spl_value.specs.declared.types.SplType.{SplType}
@@ -67,7 +67,7 @@ stop_of o H.Memory h = tt
 
 -- ---- operators that invert
 
--- so many times
+-- inverted n times
 abbrev pub flipped : ℕ → Bool → Bool
 flipped zero b = b
 flipped (suc n) b = not (flipped n b)

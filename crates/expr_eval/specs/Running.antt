@@ -103,7 +103,7 @@ EndsLoop flow (Some end) = (s : State) (turns : ℕ) (again : Acts) → then_aga
 abbrev pub BodyIsFit : List Function → List Statement → Env → Type 0
 BodyIsFit functions row env = (purpose : Purpose) × (scope : Scope) × BodyFits functions row env purpose scope
 
--- the body leaves these variables, with nothing else of the environment changed, and its submits behind those that there were
+-- the body leaves these variables, with nothing else of the environment changed, and its submits after those that there were
 abbrev pub LeavesBehind : Outcome Left → Env → Env → List Output → List Output → ℕ → Type 0
 LeavesBehind outcome old new before after turns =
     (left : Left) × (outcome ≡ Done left turns) × (new ≡ record { inputs = old.inputs; vars = left.vars; punct = old.punct }) × (after ≡ before ++ left.submits)

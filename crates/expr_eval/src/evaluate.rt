@@ -30,8 +30,8 @@ pub const DEEPEST: u32 = 1500;
 
 /// The value of a code in an environment, or its fault, with the turns that are left.
 ///
-/// Each call of a function takes a turn, and the fault `Turns` comes where none is left. `Memory` also
-/// stands for codes and statements that nest deeper than `DEEPEST`.
+/// Each call of a function takes a turn, and the fault `Turns` comes where none is left. `Memory` is
+/// also the answer to codes and statements that nest deeper than `DEEPEST`.
 pub fn eval(
     alloc: Global,
     functions: &Functions,

@@ -29,7 +29,7 @@ use value_operations::{Made, Stop, blanks, made};
 
 /// The tuple that a code evaluates to in an environment, or its fault, as `tuple_into` answers it.
 ///
-/// The attributes that `moves` has for the fields are moved there from the tuple at the first port, behind the
+/// The attributes that `moves` has for the fields are moved there from the tuple at the first port, after the
 /// evaluation of all other fields, and aren't copied. So that tuple isn't used any more.
 pub fn tuple_moving(
     alloc: Global,

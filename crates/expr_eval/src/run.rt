@@ -38,7 +38,7 @@ pub enum Ran {
 /// has. `turns` are those that there are, and then those that are left.
 ///
 /// Each turn of a loop and each call of a function takes a turn, and the fault `Turns` comes where none
-/// is left. `Memory` also stands for codes and statements that nest deeper than `DEEPEST`.
+/// is left. `Memory` is also the answer to codes and statements that nest deeper than `DEEPEST`.
 ///
 /// After a fault, and after `Memory`, submits and turns are as before. There are as many variables as
 /// before, with the values that the part of the body that was done left in them. The inputs and the
@@ -251,7 +251,7 @@ fn run_scoped<'p>(
     answer
 }
 
-/// The statements behind the first condition that is true, or else the others.
+/// The statements of the first condition that is true, or else those of the last `else`.
 #[cycle(eval)]
 fn run_if<'p>(
     program: &Program<'p>,

@@ -104,7 +104,7 @@ fn truth_of_two<'e>(
     }
 }
 
-/// Whether a condition behind operators that invert it holds.
+/// Whether a condition holds, with the operators in front of it that invert it.
 #[cycle(truth)]
 fn truth_inverted<'e>(
     context: &Context<'e>,
@@ -178,7 +178,7 @@ fn evaluated_relation<'e>(
     related_with(operator, left, right)
 }
 
-/// The value that a literal, a variable or an attribute stands for, where it stands.
+/// The value of a literal, a variable or an attribute, by a reference to where it is kept.
 fn standing<'e>(context: &Context<'e>, code: &'e Code<Slot>) -> Option<&'e Value>
     requires { IsFit context.now.functions.now code.now context.now.env.now }
     ensures { IfSome result (λ v. (turns : ℕ) → code_value (calls_of context.now.functions.now context.now.depth) code.now (world_of context.now.env.now) turns ≡ Done v.now turns) }

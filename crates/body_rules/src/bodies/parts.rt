@@ -93,7 +93,7 @@ pub(super) fn condition(
     code_typed(alloc, scope, test, &SplType::Bool)
 }
 
-/// What a `for` goes over, whose elements or keys have to be of a type.
+/// The list or the map of a `for`, whose elements or keys have to be of a type.
 pub(super) fn over(
     alloc: Global,
     scope: &Scope,
