@@ -10,7 +10,7 @@ ghost use Rattle.run_report.specs.Texts.{status_text};
 
 use crate::answer::{Answer, bad_arrivals, plain};
 use crate::ended::{Ended, open_failed, status, uncounted_after, write_failed};
-use crate::prepare::{Prepared, prepare};
+use crate::prepare::{Prepared, kept, prepare};
 use crate::sinks::{RunFiles, files_of_run, name_at, sink_counts};
 use feed_pour::Shelf;
 use file_adapters::{Sunk, write_sinks};
@@ -150,6 +150,7 @@ pub fn run<H: Shelf>(
     ensures lent { H.lent shelf.old < 2 ^ 64 - 257 → H.lent shelf.new ≡ H.lent shelf.old }
 {
     engine_law();
+    kept(checked);
     match prepare(alloc, shelf, checked, order) {
         Prepared::OpenFailed(name) => plain(alloc, Cause::OpenFailed(name)),
         Prepared::NotWhole(op) => bad_arrivals(alloc, checked, Some(op)),

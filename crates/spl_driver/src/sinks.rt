@@ -2,7 +2,6 @@
 ghost use Rattle.std.specs.Prelude.{◌≡◌, ℕ, List, IfOk, Some, slice_get};
 ghost use Rattle.arrival_format.specs.ArrivalTexts.{arrivals_text};
 ghost use Rattle.file_adapters.specs.Sinks.{names_of};
-ghost use Rattle.language_model.specs.Keeping.{Keeps};
 ghost use Rattle.spl_driver.specs.Steps.{counts_from, last_of, sinks_of};
 
 use arrival_format::arrivals_text;
@@ -24,7 +23,6 @@ pub struct RunFiles {
 // gives. It also says what a checked graph keeps.
 fn sinks_of(alloc: Global, checked: &Checked) -> Result<Items<Sink>, NoMemory>
     ensures sinks { IfOk result (λ sinks. sinks ≡ sinks_of checked.now) }
-    ensures kept { Keeps checked.now }
 {
     let mut sinks = Items::new(alloc);
     let mut parts = checked.parts.as_slice();
@@ -68,7 +66,6 @@ pub fn files_of_run(
     ensures sinks { IfOk result (λ files. files.sinks ≡ sinks_of checked.now) }
     ensures last { IfOk result
         (λ files. files.last ≡ last_of written.now (arrivals_text checked.now arrivals.now)) }
-    ensures kept { Keeps checked.now }
 {
     match (
         sinks_of(alloc, checked),

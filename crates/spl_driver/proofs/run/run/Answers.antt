@@ -121,13 +121,13 @@ pub returns-in-Ok-clause-files : goal.returns-in-Ok-clause-files
 returns-in-Ok-clause-files g c =
     let end = c.ended_run.ensures in
     sunk_in_order c.args.order.now c.engine_law.ensures.sinks _ _ _ c.write_sinks-sunk.result c.in-Ok.files.sinks c.in-Ok.files.last c.args.written.now c.args.checked.now c.in-Ran.run' c.ended_run.result.ended _ _ _ c.requires.own.0
-    c.in-Ok.ensures.kept c.requires.own.1 (record { sinks_are = c.in-Ok.ensures.sinks; last_is = c.in-Ok.ensures.last }) c.in-Ran.ensures.made.0 c.in-Ran.ensures.made.1 c.in-Ran.ensures.told c.in-Ran.ensures.reads c.in-Ran.ensures.cause
+    c.kept.ensures c.requires.own.1 (record { sinks_are = c.in-Ok.ensures.sinks; last_is = c.in-Ok.ensures.last }) c.in-Ran.ensures.made.0 c.in-Ran.ensures.made.1 c.in-Ran.ensures.told c.in-Ran.ensures.reads c.in-Ran.ensures.cause
     c.write_sinks-sunk.ensures.told c.write_sinks-sunk.ensures.count c.write_sinks-sunk.ensures.cause end.ends end.recorded
 
 pub returns-in-Ok-clause-recorded : goal.returns-in-Ok-clause-recorded
 returns-in-Ok-clause-recorded g c =
     let end = c.ended_run.ensures in
-    sunk_record c.engine_law.ensures.sinks _ _ _ c.write_sinks-sunk.result c.in-Ok.files.sinks c.in-Ok.files.last c.args.written.now c.args.checked.now c.in-Ran.run' c.ended_run.result.ended _ _ _ c.in-Ok.ensures.kept c.in-Ran.ensures.made.0
+    sunk_record c.engine_law.ensures.sinks _ _ _ c.write_sinks-sunk.result c.in-Ok.files.sinks c.in-Ok.files.last c.args.written.now c.args.checked.now c.in-Ran.run' c.ended_run.result.ended _ _ _ c.kept.ensures c.in-Ran.ensures.made.0
     (record { sinks_are = c.in-Ok.ensures.sinks; last_is = c.in-Ok.ensures.last }) c.in-Ran.ensures.told c.in-Ran.ensures.cause c.write_sinks-sunk.ensures.told c.write_sinks-sunk.ensures.cause end.ends end.recorded
 
 pub returns-in-Ok-clause-counts : goal.returns-in-Ok-clause-counts
@@ -142,7 +142,7 @@ returns-in-Ok-clause-text g c =
     let names = names_of c.in-Ok.files.sinks c.in-Ok.files.last in
     text_in_order c.args.order.now c.args.counted _ c.write_sinks-sunk.result c.args.checked.now names c.in-Ran.run' c.ended_run.result.ended c.ended_run.result.text _ _ _ c.write_sinks-sunk.ensures.cause
     c.in-Ran.ensures.made.1 end.ends end.recorded
-    (sunk_text c.engine_law.ensures.sinks c.args.counted _ c.write_sinks-sunk.result c.args.checked.now c.in-Ok.files.sinks names c.in-Ran.run' c.ended_run.result.ended c.ended_run.result.text _ _ _ c.in-Ok.ensures.kept c.in-Ok.ensures.sinks
+    (sunk_text c.engine_law.ensures.sinks c.args.counted _ c.write_sinks-sunk.result c.args.checked.now c.in-Ok.files.sinks names c.in-Ran.run' c.ended_run.result.ended c.ended_run.result.text _ _ _ c.kept.ensures c.in-Ok.ensures.sinks
     c.in-Ran.ensures.made.0 c.write_sinks-sunk.ensures.count c.write_sinks-sunk.ensures.cause end.ends end.recorded end.text)
 
 pub returns-in-Ok-clause-kinds : goal.returns-in-Ok-clause-kinds
@@ -161,8 +161,8 @@ returns-in-Ok-clause-reason g c =
 pub returns-in-Ok-clause-ran : goal.returns-in-Ok-clause-ran
 returns-in-Ok-clause-ran g c =
     let end = c.ended_run.ensures in
-    sunk_ran c.engine_law.ensures.sinks _ c.write_sinks-sunk.result c.args.checked.now c.in-Ok.files.sinks (names_of c.in-Ok.files.sinks c.in-Ok.files.last) c.in-Ran.run' c.ended_run.result.ended _ _ _ c.in-Ok.ensures.kept c.in-Ok.ensures.sinks c.in-Ran.ensures.made.0
+    sunk_ran c.engine_law.ensures.sinks _ c.write_sinks-sunk.result c.args.checked.now c.in-Ok.files.sinks (names_of c.in-Ok.files.sinks c.in-Ok.files.last) c.in-Ran.run' c.ended_run.result.ended _ _ _ c.kept.ensures c.in-Ok.ensures.sinks c.in-Ran.ensures.made.0
     c.write_sinks-sunk.ensures.count c.write_sinks-sunk.ensures.cause end.ends end.recorded
 
 pub returns-in-Ok-clause-lent : goal.returns-in-Ok-clause-lent
-returns-in-Ok-clause-lent g c = lent_behind c.args.checked.now c.in-Ok.files.sinks _ _ _ c.in-Ok.ensures.kept c.in-Ok.ensures.sinks c.in-Ran.ensures.lent c.write_sinks-sunk.ensures.lent
+returns-in-Ok-clause-lent g c = lent_behind c.args.checked.now c.in-Ok.files.sinks _ _ _ c.kept.ensures c.in-Ok.ensures.sinks c.in-Ran.ensures.lent c.write_sinks-sunk.ensures.lent
