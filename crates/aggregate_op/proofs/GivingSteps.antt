@@ -9,7 +9,7 @@ use Rattle.window_policy.specs.declared.fired.FlushedContent.{FlushedContent}
 use Rattle.window_policy.specs.Answers.{entry_of}
 use Rattle.aggregate_op.specs.declared.clauses.Clauses.{Clauses}
 use Rattle.aggregate_op.specs.steps.Giving.{content_given, contents_given, groups_given, tuple_given}
-use Rattle.language_model.proofs.Flattening.{mapped}
+use Rattle.language_model.proofs.Options.{mapped}
 
 -- the first of several is there, where all are
 first_there : {X : Type 0} (f : X → List Output) (o : Option X) (rest : Option (List Output)) (outs all : List Output)

@@ -24,9 +24,9 @@ use Rattle.language_model.specs.StreamTypes.{Body, body_at, name_places}
 use Rattle.check_laws.proofs.GrownBodies.{Holds, Takes, main_holds}
 use Rattle.check_laws.proofs.SourceCounts.{body_of, port_counted, streams_within}
 use Rattle.check_laws.proofs.UnitGraphs.{IsMade}
-use Rattle.language_model.proofs.ExpansionAnswers.{expansion_at, op_at, ops_length}
+use Rattle.graph_laws.proofs.ExpansionAnswers.{expansion_at, op_at, ops_length}
 use Rattle.spl_value.proofs.Lists.{at_most_sum, before_more as in_front}
-use Rattle.language_model.proofs.Flattening.{mapped}
+use Rattle.language_model.proofs.Options.{mapped}
 
 -- ---- operators and expansions
 

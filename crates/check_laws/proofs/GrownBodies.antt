@@ -17,9 +17,9 @@ use Rattle.language_model.specs.Declarations.{first_of}
 use Rattle.language_model.specs.Expansion.{Expands, Found, Inlined, Made, Opened, after, expanded, expanded_graph, expanded_invocation, expanded_main, expanded_target, if_declared, if_grown, if_within, inlined, is_within, main_body, opened_in, operation, ports_of, with_expansion, with_operation}
 use Rattle.language_model.specs.Invoking.{Body, Nothing, Operator, Target, fits_head, target_of, undeclared}
 use Rattle.language_model.specs.Scopes.{At}
-use Rattle.language_model.proofs.ExpansionAnswers.{after_gives, same_Ok}
+use Rattle.graph_laws.proofs.ExpansionAnswers.{after_gives, same_Ok}
 use Rattle.spl_value.proofs.Lists.{append_front as grown, append_last as last_at}
-use Rattle.language_model.proofs.Inlining.{found}
+use Rattle.graph_laws.proofs.Inlining.{found}
 use Rattle.std.proofs.lemmas.List.{append-nil}
 
 -- ---- lists

@@ -17,7 +17,7 @@ use Rattle.language_model.specs.Invoking.{input_names, stream_names}
 use Rattle.language_model.specs.Numbering.{expansion_of, input_streams, numbers_from, stream_of, streams_of}
 use Rattle.language_model.specs.StreamTypes.{Body, name_places, so_often, taken_by}
 use Rattle.spl_value.proofs.Lists.{at_most_sum}
-use Rattle.language_model.proofs.Flattening.{numbers_within, place_within}
+use Rattle.graph_laws.proofs.Flattening.{numbers_within, place_within}
 
 -- ---- lists
 

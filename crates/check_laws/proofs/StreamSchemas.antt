@@ -19,7 +19,7 @@ use Rattle.language_model.specs.Typing.{Found, after, mismatch}
 use Rattle.language_model.proofs.TypingLaws.{same_types_law}
 use Rattle.language_model.proofs.FoundAnswers.{after_gives, same_Ok}
 use Rattle.check_laws.proofs.SourceCounts.{number_at}
-use Rattle.language_model.proofs.Flattening.{numbers_length}
+use Rattle.graph_laws.proofs.Flattening.{numbers_length}
 use Rattle.spl_value.proofs.TypesLaws.{rows_equal}
 
 -- ---- streams

@@ -11,8 +11,8 @@ use Rattle.language_model.specs.Flat.{IsFlat, expands, files_had, flat_from, gra
 use Rattle.language_model.specs.Numbering.{expansions_from, ops_from, streams_from}
 use Rattle.language_model.specs.Scopes.{At}
 use Rattle.language_model.specs.Taking.{first_untaken, taken}
-use Rattle.language_model.proofs.ExpansionAnswers.{after_gives, same_Ok}
-use Rattle.language_model.proofs.Flattening.{none_had}
+use Rattle.graph_laws.proofs.ExpansionAnswers.{after_gives, same_Ok}
+use Rattle.graph_laws.proofs.Flattening.{none_had}
 
 -- ---- the main composite
 

@@ -2,7 +2,8 @@
 ghost use Rattle.check_laws.specs.KeepsLaw.{KeepsLaw};
 ghost use Rattle.check_laws.specs.PartsLaw.{PartsLaw};
 
-use language_model::{bodies_law, dollars_law, flat_law, typing_law};
+use graph_laws::flat_law;
+use language_model::{bodies_law, dollars_law, typing_law};
 
 /// The clauses of an operator that are accepted fit its ports: codes fit its scope, attributes are those
 /// of its ports, and numbers are in their ranges.

@@ -24,8 +24,8 @@ use Rattle.composite_expand.specs.declared.walk.Opened.{Opened}
 use Rattle.composite_expand.specs.declared.walk.Walk.{Walk}
 use Rattle.composite_tables.specs.Inputs.{Shows, AreNested, AreInputs, InputsStand, IsBody}
 use Rattle.composite_tables.proofs.Extending.{nested_more, nested_less, stand_more, stand_less, shows_more, shows_less}
-use Rattle.language_model.proofs.Inlining.{found}
-use Rattle.language_model.proofs.Nesting.{invoked_is_call}
+use Rattle.graph_laws.proofs.Inlining.{found}
+use Rattle.graph_laws.proofs.Nesting.{invoked_is_call}
 use Rattle.std.proofs.lemmas.Option.{slice_get_within, slice_get_read}
 use Rattle.std.proofs.lemmas.Bool.{eqb-true, lt-leb, le-leb, le-ltb, lt-ltb}
 use Rattle.composite_expand.specs.steps.Walking.{Keeps, IsIdle}

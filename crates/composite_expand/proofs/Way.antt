@@ -5,8 +5,8 @@ use Rattle.std.specs.List.{AllByRecursion}
 use Rattle.std.proofs.lemmas.Bool.{eq-eqb}
 use Rattle.std.proofs.lemmas.List.{length-map}
 use Rattle.std.proofs.lemmas.Option.{slice_get_within}
-use Rattle.language_model.proofs.Inlining.{found}
-use Rattle.language_model.proofs.Nesting.{invoked_is_call, composites_within}
+use Rattle.graph_laws.proofs.Inlining.{found}
+use Rattle.graph_laws.proofs.Nesting.{invoked_is_call, composites_within}
 use Rattle.std.proofs.lemmas.Bool.Decides.{eqb_tells}
 use Rattle.spl_tree.specs.declared.unit.Composite.{Composite}
 use Rattle.spl_tree.specs.declared.unit.Definition.{Definition}

@@ -11,7 +11,7 @@ use Rattle.language_model.specs.Numbering.{is_site}
 use Rattle.composite_tables.specs.declared.made.Body.{Body}
 use Rattle.composite_tables.specs.SiteTable.{Parts, first_at, body_at, composite_of}
 use Rattle.composite_tables.proofs.Numbers.{rest_at}
-use Rattle.language_model.proofs.Flattening.{same_site}
+use Rattle.graph_laws.proofs.Flattening.{same_site}
 
 module _ (f g : Site → Option ℕ) (s : Site) (n : ℕ) where
   pub added : ((q : Site) → g q ≡ cond (is_site s q) (Some n) (f q)) → is_some (f s) ≡ false

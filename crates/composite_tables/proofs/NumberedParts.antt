@@ -23,7 +23,7 @@ use Rattle.composite_tables.specs.steps.StreamTable.{Table, stream_in, ops_in, r
 use Rattle.composite_tables.proofs.Filling.{at_place, table_has}
 use Rattle.composite_tables.proofs.Outputs.{stream_law}
 use Rattle.composite_tables.proofs.SiteTables.{outputs_of, first_stream-append, outputs_more, none_past}
-use Rattle.language_model.proofs.Flattening.{numbers_length}
+use Rattle.graph_laws.proofs.Flattening.{numbers_length}
 
 -- ---- rows by their places
 

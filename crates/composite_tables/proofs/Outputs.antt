@@ -9,7 +9,7 @@ use Rattle.language_model.specs.declared.expansion.Source.{Source}
 use Rattle.language_model.specs.Expansion.{Inlined, Made, source}
 use Rattle.language_model.specs.Numbering.{is_site, site_at, graph_outputs, operator_at, expansion_at, output_place, operator_or_expansion, stream_of}
 use Rattle.composite_tables.specs.Inputs.{IsBefore, AreNested}
-use Rattle.language_model.proofs.Flattening.{same_site}
+use Rattle.graph_laws.proofs.Flattening.{same_site}
 
 pub and_then_same : {A B : Type 0} (f g : A → Option B) (o : Option A) → ((a : A) → o ≡ Some a → f a ≡ g a) → option_and_then f o ≡ option_and_then g o
 and_then_same f g None h = refl

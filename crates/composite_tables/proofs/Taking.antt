@@ -11,7 +11,7 @@ use Rattle.composite_tables.specs.declared.made.Input.{Input}
 use Rattle.composite_tables.specs.declared.made.Taken.TheVariants as T
 use Rattle.composite_tables.specs.Inputs.{AreNested, StandsFor, IsBody}
 use Rattle.composite_tables.proofs.Extending.{taken_same}
-use Rattle.language_model.proofs.Flattening.{place_within}
+use Rattle.graph_laws.proofs.Flattening.{place_within}
 
 -- inputs need not be followed more often than there are bodies
 pub sources_at : (xs : List Inlined) → AreNested xs → (number : ℕ) (x : Inlined) → slice_get xs number ≡ Some x → (name : List ℕ)

@@ -6,7 +6,7 @@ use Rattle.spl_tree.specs.declared.expression.Placed.{Placed}
 use Rattle.language_model.specs.Recursion.{Calls, IsCall}
 use Rattle.cycle_rules.specs.steps.Callers.{Lists, AreEmpty, AreCallers, NotesAll, Calling}
 use Rattle.spl_value.proofs.Lists.{append_cases, get_within}
-use Rattle.language_model.proofs.OneFlat.{there}
+use Rattle.graph_laws.proofs.OneFlat.{there}
 
 pub call_at : (calls : Calls) (from to : ℕ) (list : List (Placed ℕ)) → slice_get calls from ≡ Some list → Calling list to → IsCall calls from to
 call_at calls from to list e h = record { list = list; call = h.call; of_caller = e; among = there list h.at h.call h.is; callee = h.callee }

@@ -17,9 +17,10 @@ use Rattle.language_model.specs.Expansion.{Made, Inlined, Opened, Expands, after
 use Rattle.language_model.specs.Invoking.{Target, Operator, Body, Nothing, target_of, undeclared, fits_head, is_among, stream_names}
 use Rattle.language_model.specs.Recursion.{HasNoRecursion, calls_among, composite_callers}
 use Rattle.language_model.specs.Scopes.{At}
-use Rattle.language_model.proofs.ExpansionAnswers.{after_gives, same_Ok}
-use Rattle.language_model.proofs.Inlining.{IsIn, within_is, found, declared_gives}
-use Rattle.language_model.proofs.Nesting.{IsPath, composites_within, invoked_is_call}
+use Rattle.graph_laws.proofs.ExpansionAnswers.{after_gives, same_Ok}
+use Rattle.graph_laws.proofs.Inlining.{IsIn, within_is, found, declared_gives}
+use Rattle.graph_laws.specs.Paths.{IsPath}
+use Rattle.graph_laws.proofs.Nesting.{composites_within, invoked_is_call}
 use Rattle.expansion_laws.proofs.Growing.{LiesIn, main_lies, IsReadable, IsWired, wired_main, IsInOrder}
 use Rattle.expansion_laws.proofs.Heads.{declared_none, all_readable, outputs_fit, output_made}
 use Rattle.expansion_laws.proofs.Stepping.{IsReady, IsOpen, open_on, Comes, makes_no_stream, comes_on, IsDone, Adds, adds_none, adds_on, ready_on, adds_operator, operator_comes, operator_grows, new_body, opened, way_in, opened_in_order, opened_open, opened_ready, adds_body, body_comes}

@@ -13,8 +13,8 @@ use Rattle.language_model.specs.Expansion.{Found, Made}
 use Rattle.language_model.specs.Flat.{IsFlat, IsMain, flat_from, graph_of, twice, no_main, recursive, expands}
 use Rattle.language_model.specs.Recursion.{HasNoRecursion, composite_callers}
 use Rattle.language_model.specs.Scopes.{At, first_from}
-use Rattle.language_model.proofs.Flattening.{topo_of, made_of}
-use Rattle.language_model.proofs.Inlining.{Holds, main_holds}
+use Rattle.graph_laws.proofs.Flattening.{topo_of, made_of}
+use Rattle.graph_laws.proofs.Inlining.{Holds, main_holds}
 use Rattle.language_model.proofs.Standing.{Stands, first_stands}
 use Rattle.expansion_laws.proofs.Expanding.{IsComplete, complete}
 use Rattle.spl_value.proofs.Bools.{and_parts}

@@ -14,7 +14,7 @@ use Rattle.language_model.specs.declared.expansion.Source.{Source}
 use Rattle.language_model.specs.Composites.{has_no_ports}
 use Rattle.language_model.specs.Expansion.{Made, Inlined, invocation_name, place_of, names_of_port, port_names, input_sources, own_or_input, taken_in, ports_of}
 use Rattle.language_model.specs.Invoking.{Operator, Body, target_of, fits_head, is_readable, stream_names, input_names}
-use Rattle.language_model.proofs.Inlining.{Grows}
+use Rattle.graph_laws.proofs.Inlining.{Grows}
 use Rattle.expansion_laws.specs.Bodies.{IsBefore}
 
 -- ---- bodies

@@ -24,8 +24,8 @@ use Rattle.language_model.specs.Invoking.{Operator, Body, target_of, is_readable
 use Rattle.language_model.specs.Numbering.{op_of, expansion_of, stream_of, streams_of}
 use Rattle.language_model.specs.Scopes.{At}
 use Rattle.language_model.specs.SinkFiles.{composite_of, invocation_at}
-use Rattle.language_model.proofs.Flattening.{topo_of}
-use Rattle.language_model.proofs.Inlining.{Holds}
+use Rattle.graph_laws.proofs.Flattening.{topo_of}
+use Rattle.graph_laws.proofs.Inlining.{Holds}
 use Rattle.expansion_laws.specs.Laws.{InputLaw, OneStandingLaw}
 use Rattle.expansion_laws.specs.Standing.{site, IsBody, MakesAs, IsOutput, of_operator, of_composite, StandsFor, made as made_here, given, StandForAll, none as of_none, more}
 use Rattle.expansion_laws.proofs.Declaring.{each_once, made_once, input_once, not_both}

@@ -8,8 +8,8 @@ use Rattle.std.proofs.lemmas.Option.{same_Some, slice_get_within}
 use Rattle.spl_tree.specs.declared.graph.Graph.{Graph}
 use Rattle.spl_tree.specs.declared.graph.Op.{Op}
 use Rattle.language_model.specs.Taking.{is_taken, is_ready, next_from, taken_on, taken}
-use Rattle.language_model.proofs.Flattening.{topo_of}
-use Rattle.language_model.proofs.Ordering.{taken_there, topo_law, passes, made_there, there_taken, not_there}
+use Rattle.graph_laws.proofs.Flattening.{topo_of}
+use Rattle.graph_laws.proofs.Ordering.{taken_there, topo_law, passes, made_there, there_taken, not_there}
 use Rattle.spl_value.proofs.Lists.{contains_here, contains_later}
 use Rattle.expansion_laws.specs.Laws.{OrderLaw}
 use Rattle.expansion_laws.specs.Order.{IsFed, IsNext, IsTheOrder}

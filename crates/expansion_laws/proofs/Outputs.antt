@@ -20,8 +20,8 @@ use Rattle.language_model.specs.Flat.{graph_of}
 use Rattle.language_model.specs.Invoking.{stream_names, is_among}
 use Rattle.language_model.specs.Numbering.{numbers_from, first_stream, Output, outputs_from, graph_outputs, is_site, site_at, operator_at, expansion_at, output_place, operator_or_expansion, stream_of, op_of, expansion_of}
 use Rattle.language_model.specs.Scopes.{At, at_place, first_from}
-use Rattle.language_model.proofs.Flattening.{behind, op_there, numbers_length, numbers_within, same_site}
-use Rattle.language_model.proofs.Inlining.{Holds}
+use Rattle.graph_laws.proofs.Flattening.{behind, op_there, numbers_length, numbers_within, same_site}
+use Rattle.graph_laws.proofs.Inlining.{Holds}
 use Rattle.language_model.proofs.Standing.{Stands, first_stands}
 use Rattle.spl_value.proofs.Lists.{append_front, get_below}
 use Rattle.expansion_laws.specs.Standing.{site, IsBody, MakesAs, IsOutput, of_operator, of_composite}

@@ -13,11 +13,11 @@ use Rattle.language_model.specs.declared.expansion.Operation.{Operation}
 use Rattle.language_model.specs.Expansion.{Made, Inlined, Opened, site_in, operation, with_operation, inlined, opened_in, with_expansion}
 use Rattle.language_model.specs.Invoking.{Operator, Body, target_of, fits_head}
 use Rattle.language_model.specs.Scopes.{At}
-use Rattle.language_model.proofs.Inlining.{Grows}
+use Rattle.graph_laws.proofs.Inlining.{Grows}
 use Rattle.spl_value.proofs.Lists.{append_cases, get_below, append_front, append_last}
 use Rattle.expansion_laws.specs.Bodies.{IsBefore}
 use Rattle.expansion_laws.proofs.Growing.{LiesIn, body_lies, lies_on, IsReadable, IsInner, IsWired, wired_inner, wired_on, AreWired, IsSet, set_on, IsParted, parted_on, AreApart, apart_on, IsLying, IsInOrder}
-use Rattle.language_model.proofs.KeptInvocations.{past_end}
+use Rattle.graph_laws.proofs.KeptInvocations.{past_end}
 
 -- ---- ways
 

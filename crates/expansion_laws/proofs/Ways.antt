@@ -18,15 +18,16 @@ use Rattle.language_model.specs.Expansion.{Made, Inlined, invocation_name, first
 use Rattle.language_model.specs.Flat.{graph_of}
 use Rattle.language_model.specs.Numbering.{op_of, expansion_of}
 use Rattle.language_model.specs.SinkFiles.{composite_of, invocation_at}
-use Rattle.language_model.proofs.ExpansionAnswers.{expansion_at, op_at}
-use Rattle.language_model.proofs.Flattening.{topo_of, mapped}
-use Rattle.language_model.proofs.Inlining.{Holds}
+use Rattle.graph_laws.proofs.ExpansionAnswers.{expansion_at, op_at}
+use Rattle.graph_laws.proofs.Flattening.{topo_of}
+use Rattle.language_model.proofs.Options.{mapped}
+use Rattle.graph_laws.proofs.Inlining.{Holds}
 use Rattle.expansion_laws.specs.Bodies.{IsName, by_alias, by_stream, without, Lies, in_main, in_body, IsBefore, OpLies, IsNamed}
 use Rattle.expansion_laws.specs.Laws.{SiteLaw, NameLaw, TextLaw}
 use Rattle.expansion_laws.proofs.Graphs.{of_all}
 use Rattle.expansion_laws.proofs.Growing.{LiesIn, main_lies, body_lies, IsInOrder}
 use Rattle.expansion_laws.proofs.Stepping.{same_next}
-use Rattle.language_model.proofs.KeptInvocations.{then_gives}
+use Rattle.graph_laws.proofs.KeptInvocations.{then_gives}
 
 -- ---- names
 

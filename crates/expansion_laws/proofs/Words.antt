@@ -39,7 +39,7 @@ use Rattle.language_model.specs.SinkFiles.{composite_of, invocation_at}
 use Rattle.expansion_laws.specs.Bodies.{IsName, by_alias, by_stream, without, Lies, in_main, in_body}
 use Rattle.expansion_laws.specs.Names.{IsDotted, word, dotted, DottedLaw}
 use Rattle.expansion_laws.proofs.Ways.{name_law}
-use Rattle.language_model.proofs.KeptInvocations.{then_gives}
+use Rattle.graph_laws.proofs.KeptInvocations.{then_gives}
 
 -- ---- tokens
 

@@ -1,6 +1,5 @@
 mod Placing
 pub mod KindLaws
-pub mod ExpansionAnswers
 pub mod FoundAnswers
 pub mod DefinedTypes
 pub mod Standing
@@ -48,12 +47,6 @@ pub mod TwoPorts
 pub mod SomeParameters
 pub mod TwoStatements
 pub mod KeptInputs
-pub mod Flattening
-pub mod OneFlat
-pub mod Inlining
-pub mod Ordering
-pub mod Nesting
-pub mod KeptInvocations
 mod StmtInduction
 mod BodyFitting
 mod BodyReturning
@@ -61,3 +54,4 @@ mod LastNamed
 pub mod CodeWeights
 pub mod PlainCodes
 pub mod Keeping
+pub mod Options

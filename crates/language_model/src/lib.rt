@@ -40,9 +40,8 @@ pub use kinds::{
     kind_named, rules_of,
 };
 pub use laws::{
-    changes_law, dollars_law, dollars_on_literals, evaluation_law, flat_law, graphs_on_literals,
-    names_on_literals, places_law, renaming_law, slots_on_literals, statements_law, typing_law,
-    value_law,
+    changes_law, dollars_law, dollars_on_literals, evaluation_law, names_on_literals, places_law,
+    renaming_law, slots_on_literals, statements_law, typing_law, value_law,
 };
 pub use named::{
     attribute_named, dollar_named, function_named, port_named, unresolved_named, variable_named,

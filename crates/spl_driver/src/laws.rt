@@ -6,7 +6,7 @@ ghost use Rattle.spl_driver.specs.RequestLaws.{OneOutcomeLaw, SomeOutcomeLaw, On
 use arrival_format::format_law;
 use check_laws::keeps_law;
 use expansion_laws::found_law;
-use language_model::flat_law;
+use graph_laws::flat_law;
 use unit_parser::units_law;
 
 /// The result of a program is a checked graph or a refusal, and that alone. One that is too long is

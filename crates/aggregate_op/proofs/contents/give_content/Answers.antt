@@ -4,7 +4,7 @@ use Rattle.stream_model.specs.Groups.{groups}
 use Rattle.tuple_groups.specs.Seen.{entry_of, seen}
 use Rattle.aggregate_op.specs.steps.Giving.{groups_given}
 use Rattle.aggregate_op.proofs.contents.give_content.Goals as goal
-use Rattle.language_model.proofs.Flattening.{mapped}
+use Rattle.language_model.proofs.Options.{mapped}
 
 pub give_groups-requires : goal.give_groups-requires
 give_groups-requires c =

@@ -20,7 +20,8 @@ use Rattle.language_model.specs.FlatLaws.{IsMadeAs, MakerLaw}
 use Rattle.language_model.specs.Numbering.{numbers_from, first_stream, op_of, ops_from, streams_from, is_site}
 use Rattle.language_model.specs.Scopes.{At, at_place, first_from}
 use Rattle.language_model.specs.Taking.{taken, first_untaken}
-use Rattle.language_model.proofs.ExpansionAnswers.{after_gives, op_at}
+use Rattle.language_model.proofs.Options.{mapped}
+use Rattle.graph_laws.proofs.ExpansionAnswers.{after_gives, op_at}
 use Rattle.spl_value.proofs.Lists.{before_more as in_front}
 use Rattle.std.specs.Str.{bytes_eq}
 use Rattle.spl_tree.specs.declared.graph.Site.{Site}
@@ -55,10 +56,6 @@ made_of unit names main g e =
     record { made = x.0; expanded = x.1; all = z.0; is = sym (z.1 ∙ own) }
 
 -- ---- elements of lists
-
-pub mapped : {A B : Type 0} (f : A → B) (o : Option A) (b : B) → option_map f o ≡ Some b → (a : A) × (o ≡ Some a) × (f a ≡ b)
-mapped f None b e = absurd cc
-mapped f (Some a) b e = (a, refl, cc)
 
 pub behind : {A : Type 0} (xs ys : List A) (i j : ℕ) → i ≡ length xs + j → slice_get (xs ++ ys) i ≡ slice_get ys j
 behind [] ys i j e = let same : i ≡ j = omega arith in ap (slice_get ys) same

@@ -22,10 +22,11 @@ use Rattle.language_model.specs.Kinds.{kind_named}
 use Rattle.language_model.specs.Invoking.{Target, Operator, Body, Nothing, target_of, body_or_operator, operator_or_nothing, undeclared, fits_head}
 use Rattle.language_model.specs.Numbering.{op_of, ops_from, expansion_of, expansions_from}
 use Rattle.language_model.specs.Scopes.{At}
-use Rattle.language_model.proofs.Flattening.{topo_of, made_of, mapped, numbers_length}
+use Rattle.graph_laws.proofs.Flattening.{topo_of, made_of, numbers_length}
+use Rattle.language_model.proofs.Options.{mapped}
 use Rattle.language_model.proofs.Standing as F
 use Rattle.language_model.proofs.Standing.{first_stands}
-use Rattle.language_model.proofs.ExpansionAnswers.{after_gives, op_at, same_Ok}
+use Rattle.graph_laws.proofs.ExpansionAnswers.{after_gives, op_at, same_Ok}
 use Rattle.spl_value.proofs.Lists.{before_more as in_front, append_front, append_last}
 
 -- ---- what stands in what was made

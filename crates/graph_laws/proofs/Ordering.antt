@@ -14,8 +14,8 @@ use Rattle.language_model.specs.Flat.{graph_of}
 use Rattle.language_model.specs.FlatLaws.{IsTopological, TopoLaw, ConnectedLaw}
 use Rattle.language_model.specs.Numbering.{ops_from, streams_from}
 use Rattle.language_model.specs.Taking.{is_taken, is_ready, next_from, taken_on, taken, first_untaken}
-use Rattle.language_model.proofs.Flattening.{topo_of, made_of}
-use Rattle.language_model.proofs.ExpansionAnswers.{ops_length}
+use Rattle.graph_laws.proofs.Flattening.{topo_of, made_of}
+use Rattle.graph_laws.proofs.ExpansionAnswers.{ops_length}
 use Rattle.spl_value.proofs.Lists.{contains_here, contains_later}
 
 -- ---- what is among some numbers

@@ -15,8 +15,9 @@ use Rattle.language_model.specs.Composites.{composites, composite_named}
 use Rattle.language_model.specs.Invoking.{Body, target_of}
 use Rattle.language_model.specs.Recursion.{Caller, Calls, IsCall, Leads, directly, through, IsAcyclic, HasNoRecursion, call_among, calls_among, composite_caller, composite_callers}
 use Rattle.language_model.specs.Scopes.{At, at_place, first_from}
-use Rattle.language_model.proofs.Inlining.{named}
-use Rattle.language_model.proofs.OneFlat.{there}
+use Rattle.graph_laws.specs.Paths.{IsPath}
+use Rattle.graph_laws.proofs.Inlining.{named}
+use Rattle.graph_laws.proofs.OneFlat.{there}
 
 -- ---- paths
 
@@ -24,11 +25,6 @@ use Rattle.language_model.proofs.OneFlat.{there}
 pub leads_on : (calls : Calls) (a b c : ℕ) → Leads calls a b → IsCall calls b c → Leads calls a c
 leads_on calls a b c (directly a' b' call) on = through a b c call (directly b c on)
 leads_on calls a b c (through a' mid b' call rest) on = through a mid c call (leads_on calls mid b c rest on)
-
--- the last of these outer ones is the outermost: each calls the one in front of it, and the first calls the one at the place
-abbrev pub IsPath : Calls → ℕ → List ℕ → Type 0
-IsPath calls place [] = Unit {0}
-IsPath calls place (p ∷ outer) = IsCall calls p place × IsPath calls p outer
 
 all_lead_on : (calls : Calls) (p place : ℕ) (outer : List ℕ) → IsCall calls p place → AllByRecursion (λ q. Leads calls q p) outer → AllByRecursion (λ q. Leads calls q place) outer
 all_lead_on calls p place [] call all = tt

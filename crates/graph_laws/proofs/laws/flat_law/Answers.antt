@@ -1,9 +1,9 @@
-use Rattle.language_model.proofs.Flattening.{maker_law}
-use Rattle.language_model.proofs.Inlining.{operator_law}
-use Rattle.language_model.proofs.KeptInvocations.{whole_law}
-use Rattle.language_model.proofs.OneFlat.{one_flat_law}
-use Rattle.language_model.proofs.Ordering.{topo_law, connected_law}
-use Rattle.language_model.proofs.laws.flat_law.Goals as goal
+use Rattle.graph_laws.proofs.Flattening.{maker_law}
+use Rattle.graph_laws.proofs.Inlining.{operator_law}
+use Rattle.graph_laws.proofs.KeptInvocations.{whole_law}
+use Rattle.graph_laws.proofs.OneFlat.{one_flat_law}
+use Rattle.graph_laws.proofs.Ordering.{topo_law, connected_law}
+use Rattle.graph_laws.proofs.laws.flat_law.Goals as goal
 
 pub returns-clause-one : goal.returns-clause-one
 returns-clause-one c = one_flat_law

@@ -7,7 +7,7 @@ use Rattle.spl_tree.specs.declared.expression.Placed.{Placed}
 use Rattle.spl_tree.specs.Grammar.{placed}
 use Rattle.language_model.specs.examples.FlatGraphs.{reversed}
 use Rattle.language_model.specs.Recursion.{IsCall, Leads, directly, through, calls_among, composite_callers}
-use Rattle.language_model.proofs.laws.graphs_on_literals.Goals as goal
+use Rattle.graph_laws.proofs.laws.graphs_on_literals.Goals as goal
 
 none_there : (c : Placed ℕ) → Contains [] c → ⊥
 none_there c h = let within : h.0 < 0 = h.1 in omega arith

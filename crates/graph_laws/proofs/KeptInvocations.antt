@@ -24,10 +24,12 @@ use Rattle.language_model.specs.Numbering.{op_of, expansion_of, expansions_from}
 use Rattle.language_model.specs.Recursion.{HasNoRecursion, calls_among, composite_callers}
 use Rattle.language_model.specs.Scopes.{At}
 use Rattle.language_model.specs.SinkFiles.{composite_of, invocation_at}
-use Rattle.language_model.proofs.Flattening.{topo_of, made_of, mapped, op_there}
-use Rattle.language_model.proofs.Inlining.{IsIn, Holds, Grows, within_is, found, declared_gives, main_holds}
-use Rattle.language_model.proofs.Nesting.{IsPath, composites_within, invoked_is_call}
-use Rattle.language_model.proofs.ExpansionAnswers.{after_gives, expansion_at, same_Ok}
+use Rattle.graph_laws.proofs.Flattening.{topo_of, made_of, op_there}
+use Rattle.language_model.proofs.Options.{mapped}
+use Rattle.graph_laws.proofs.Inlining.{IsIn, Holds, Grows, within_is, found, declared_gives, main_holds}
+use Rattle.graph_laws.specs.Paths.{IsPath}
+use Rattle.graph_laws.proofs.Nesting.{composites_within, invoked_is_call}
+use Rattle.graph_laws.proofs.ExpansionAnswers.{after_gives, expansion_at, same_Ok}
 use Rattle.spl_value.proofs.Lists.{append_front, append_last}
 
 -- ---- what stands in what was made
