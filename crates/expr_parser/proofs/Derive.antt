@@ -1,5 +1,5 @@
 -- How the answers of calls go together, as the rules of their lines do.
-use Rattle.std.proofs.Common.{◌≡◌, ◌∙◌, Bool, false, List, Result, Ok, Err, refl, sym, ap, subst}
+use Rattle.std.proofs.Common.{◌≡◌, ◌∙◌, Bool, false, List, Result, Ok, Err, sym, ap, subst}
 use Rattle.std.specs.Prelude.{IsErrAnd}
 use Rattle.std.proofs.lemmas.Result.{err_from_is_err_and}
 use Rattle.std.specs.Borrow.{Bor}
@@ -8,22 +8,15 @@ use Rattle.spl_tree.specs.declared.token.Token.{Token}
 use Rattle.spl_tree.specs.Grammar.{Expr}
 use Rattle.expr_parser.specs.declared.stop.Stop.{Stop}
 use Rattle.expr_parser.specs.declared.stop.Stop.TheVariants as S
-use Rattle.expr_parser.specs.Rules.{done, stop, look, call, Answer, Took, Refused, Spent, RunsTo, Reads, read}
-use Rattle.expr_parser.specs.RuleLaws.{begins_with, line, runs_done, runs_stop, runs_take, runs_skip, runs_call, runs_fail}
+use Rattle.expr_parser.specs.Rules.{done, stop, look, call, Answer, Took, Refused, RunsTo, Reads}
+use Rattle.expr_parser.specs.RuleLaws.{begins_with, line, runs_done, runs_stop, runs_take, runs_skip, runs_call, runs_fail, runs_last}
 use Rattle.expr_parser.specs.Lines.{Line, Value, rule, R, is, expect}
 use Rattle.expr_parser.specs.Taken.{Taken}
 use Rattle.expr_parser.specs.Gives.{Answered, Says, Comes, Gives, Passes, Makes}
 
 -- what is said of an error that `?` hands on
-pub exit : {B : Type 0} (P : Result B Stop → Type 0) (r : Result B Stop) (e : Stop) → IsErrAnd r (λ y. y ≡ e) → P (Err e) → P r
+pub exit : {A E : Type 0} (P : Result A E → Type 0) (r : Result A E) (e : E) → IsErrAnd r (λ y. y ≡ e) → P (Err e) → P r
 exit P r e h q = let p = err_from_is_err_and r h in subst P (sym (p.1 ∙ ap Err p.2)) q
-
--- a rule that only reads a line gives what that line gives
-pub runs_tail : {x : Line} {ts : List Token} {o : Answer (Value x)} → Reads rule x ts o → RunsTo rule (call x done) ts o
-unfolding read
-runs_tail {o = Took v rest} r = runs_call r runs_done
-runs_tail {o = Refused rest} r = runs_fail r
-runs_tail {o = Spent} r = record { depth = 0; is = refl }
 
 -- what is said of an answer, where one thing follows from another
 pub says_on : {A : Type 0} {P Q : Answer A → Type 0} → ((o : Answer A) → P o → Q o) → (res : Answered A) → Says P res → Says Q res
@@ -60,7 +53,7 @@ module _ {A : Type 0} (ts : List Token) where
   comes_pass s r rest res p c = comes_take (is s) (λ _. r) stop p.0 rest.now res p.1 c
 
 pub comes_tail : (x : Line) (ts : List Token) (res : Answered (Value x)) → Gives x ts res → Comes (call x done) ts res
-comes_tail x ts res g = says_on {P = Reads rule x ts} {Q = RunsTo rule (call x done) ts} (λ o r. runs_tail r) res g
+comes_tail x ts res g = says_on {P = Reads rule x ts} {Q = RunsTo rule (call x done) ts} (λ o r. runs_last r) res g
 
 pub comes_made : (e : Expr) (ts : List Token) (res : Answered Expr) → Makes e ts res → Comes (done e) ts res
 comes_made e ts (Ok found) m = subst (λ v. RunsTo rule (done e) ts (Took v found.2.now)) (sym m.0) (subst (λ r. RunsTo rule (done e) ts (Took e r)) (sym m.1) runs_done)

@@ -4,20 +4,19 @@ use Rattle.spl_tree.specs.declared.symbol.Symbol.TheVariants as K
 use Rattle.spl_tree.specs.declared.token.Token.{Token}
 use Rattle.spl_tree.specs.Grammar.{Expr, Prefix}
 use Rattle.expr_parser.specs.Rules.{call, Answer, Refused, RunsTo, Reads}
-use Rattle.expr_parser.specs.RuleLaws.{begins_with, line, runs_stop, runs_take, runs_skip}
+use Rattle.expr_parser.specs.RuleLaws.{begins_with, line, runs_stop, runs_take, runs_skip, runs_last}
 use Rattle.expr_parser.specs.Lines.{Prefixed, Primary, Group, rule, is, is_prefix, prefix_token, is_target, cast_token, operand_rule}
 use Rattle.expr_parser.specs.Taken.{Taken, TakenAs}
 use Rattle.expr_parser.specs.declared.stop.Stop.{Stop}
 use Rattle.expr_parser.specs.declared.stop.Stop.TheVariants as S
 use Rattle.expr_parser.specs.Gives.{Passes, Fronts}
-use Rattle.expr_parser.proofs.Derive.{runs_tail}
 
 module _ {ps : List Prefix} {ts : List Token} where
   pub prefix_on : {p : Prefix} {rest : List Token} → TakenAs is_prefix prefix_token ts p rest → (o : Answer Expr) → Reads rule (Prefixed (ps ++ p ∷ [])) rest o
       → Reads rule (Prefixed ps) ts o
   unfolding rule
   prefix_on {p} {rest} h o r =
-      line (runs_take ts h.token rest h.taken.here h.taken.passes (runs_tail (subst (λ q. Reads rule (Prefixed (ps ++ q ∷ [])) rest o) h.is r)))
+      line (runs_take ts h.token rest h.taken.here h.taken.passes (runs_last (subst (λ q. Reads rule (Prefixed (ps ++ q ∷ [])) rest o) h.is r)))
 
   pub primary_on : begins_with is_prefix ts ≡ false → begins_with (is K.LeftParen) ts ≡ false → (o : Answer Expr) → RunsTo rule (call Primary (operand_rule ps)) ts o
       → Reads rule (Prefixed ps) ts o
@@ -34,7 +33,7 @@ module _ {ps : List Prefix} {ts : List Token} where
     unfolding rule
     cast_on {p} {mid} h c behind close o r =
         line (runs_skip ts plain (runs_take ts t rest begins.here begins.passes (runs_take rest h.token mid h.taken.here h.taken.passes
-        (runs_take mid c behind close.here close.passes (runs_tail (subst (λ q. Reads rule (Prefixed (ps ++ q ∷ [])) behind o) h.is r))))))
+        (runs_take mid c behind close.here close.passes (runs_last (subst (λ q. Reads rule (Prefixed (ps ++ q ∷ [])) behind o) h.is r))))))
 
     pub cast_stops : {p : Prefix} {mid : List Token} → TakenAs is_target (cast_token t.start) rest p mid → begins_with (is K.RightParen) mid ≡ false
         → Reads rule (Prefixed ps) ts (Refused mid)

@@ -1,5 +1,5 @@
 -- What a line gives, from what its parts give.
-use Rattle.std.proofs.Common.{◌≡◌, ℕ, zero, suc, ◌+◌, ◌-◌, ◌<◌, ◌≤◌, Bool, true, false, List, [], ◌∷◌, ◌++◌, length, Some, None, Ok, Err, refl, sym, ap, subst, arith, add-one}
+use Rattle.std.proofs.Common.{◌≡◌, ℕ, zero, suc, ◌+◌, ◌-◌, ◌<◌, true, false, List, [], ◌∷◌, ◌++◌, Some, None, Ok, Err, refl, sym, subst, arith, add-one}
 use Rattle.std.specs.Borrow.{Bor}
 use Rattle.spl_tree.specs.declared.symbol.Symbol.{Symbol}
 use Rattle.spl_tree.specs.declared.symbol.Symbol.TheVariants as K
@@ -15,25 +15,12 @@ use Rattle.spl_tree.specs.Grammar.{Expr, Prefix, placed}
 use Rattle.expr_parser.specs.declared.stop.Stop.{Stop}
 use Rattle.expr_parser.specs.declared.stop.Stop.TheVariants as S
 use Rattle.expr_parser.specs.Rules.{done, stop, look, call, Answer, Took, Refused, RunsTo, Reads}
-use Rattle.expr_parser.specs.RuleLaws.{begins_with, line, runs_done, runs_stop, runs_take, runs_skip, runs_call, runs_fail}
-use Rattle.expr_parser.proofs.Locality.{rest_of, shrinks}
-use Rattle.expr_parser.specs.Lines.{Line, Value, Whole, Rest, Climb, Chain, Prefixed, Primary, Group, Named, Elements, Items, Brace, Entries, Fields, Steps, rule, is, is_name, name_of, is_literal, literal_of, is_operator, operator_of, binary, conditional, prefixed, selected, field, expect, choice_rule, operand_rule, list_rule, field_rule}
+use Rattle.expr_parser.specs.RuleLaws.{begins_with, line, runs_done, runs_stop, runs_take, runs_skip, runs_call, runs_fail, runs_last}
+use Rattle.expr_parser.proofs.Locality.{reads_shrinks, taken_shrinks, taken_as_shrinks}
+use Rattle.expr_parser.specs.Lines.{Line, Whole, Rest, Climb, Chain, Prefixed, Primary, Group, Named, Elements, Items, Brace, Entries, Fields, Steps, rule, is, is_name, name_of, is_literal, literal_of, is_operator, operator_of, binary, conditional, prefixed, selected, field, expect, choice_rule, operand_rule, list_rule, field_rule}
 use Rattle.expr_parser.specs.Taken.{Taken, TakenAs}
 use Rattle.expr_parser.specs.Gives.{Answered, Comes, Gives, Passes, PassesName, Makes, Fronts, StepFound, StepsOn}
-use Rattle.expr_parser.proofs.Derive.{runs_tail, gives_line, comes_fail, comes_call, comes_take, comes_skip, comes_stop, comes_pass_fail, comes_pass, comes_tail, comes_made}
-
--- Lengths
-
--- what is left isn't longer
-pub reads_shrinks : {x : Line} {ts rest : List Token} {v : Value x} → Reads rule x ts (Took v rest) → length rest ≤ length ts
-reads_shrinks {x} {ts} r = subst (λ o. length (rest_of o) ≤ length ts) r.is (shrinks rule r.depth x ts)
-
--- a token is taken
-pub taken_shrinks : {p : Token → Bool} {ts rest : List Token} {t : Token} → Taken p ts t rest → length rest < length ts
-taken_shrinks h = let e = ap length h.here in omega arith
-
-pub taken_as_shrinks : {A : Type 0} {p : Token → Bool} {made : Token → A} {ts rest : List Token} {x : A} → TakenAs p made ts x rest → length rest < length ts
-taken_as_shrinks h = taken_shrinks h.taken
+use Rattle.expr_parser.proofs.Derive.{gives_line, comes_fail, comes_call, comes_take, comes_skip, comes_stop, comes_pass_fail, comes_pass, comes_tail, comes_made}
 
 -- Nodes
 
@@ -138,7 +125,7 @@ module _ (k : ℕ) (left : Expr) (ts : List Token) where
       unfolding rule
       chain_goes right rest second o r =
           line (runs_take ts h.token behind h.taken.here passes (runs_call first (runs_call second
-          (runs_tail (subst (λ q. Reads rule (Chain k (binary q left right)) rest o) h.is r)))))
+          (runs_last (subst (λ q. Reads rule (Chain k (binary q left right)) rest o) h.is r)))))
 
 -- Operands
 
@@ -235,7 +222,7 @@ module _ (close : Symbol) (ts : List Token) where
 
   pub elements_start : begins_with (is close) ts ≡ false → (o : Answer (List Expr)) → Reads rule (Items close []) ts o → Reads rule (Elements close) ts o
   unfolding rule
-  elements_start none o r = line (runs_skip ts none (runs_tail r))
+  elements_start none o r = line (runs_skip ts none (runs_last r))
 
   module _ (es : List Expr) where
     pub item_fails : (e : Stop) → Gives Whole ts (Err e) → Gives (Items close es) ts (Err e)
@@ -255,7 +242,7 @@ module _ (close : Symbol) (ts : List Token) where
       pub items_go : (t : Token) (behind : List Token) → Taken (is K.Comma) mid t behind → (o : Answer (List Expr)) → Reads rule (Items close (es ++ v ∷ [])) behind o
           → Reads rule (Items close es) ts o
       unfolding rule
-      items_go t behind h o r = line (runs_call first (runs_take mid t behind h.here h.passes (runs_tail r)))
+      items_go t behind h o r = line (runs_call first (runs_take mid t behind h.here h.passes (runs_last r)))
 
 -- Braces
 
@@ -335,7 +322,7 @@ module _ (at : ℕ) (ts : List Token) where
               → Reads rule (Entries at es key) ts o
           unfolding rule
           entries_go rest p o r =
-              line (runs_call first (runs_take mid t behind h.here h.passes (runs_call second (runs_take left p.0 rest.now p.1.here p.1.passes (runs_tail r)))))
+              line (runs_call first (runs_take mid t behind h.here h.passes (runs_call second (runs_take left p.0 rest.now p.1.here p.1.passes (runs_last r)))))
 
   module _ (fs : List (Field Expr)) (name : Placed (List ℕ)) where
     pub field_fails : (e : Stop) → Gives Whole ts (Err e) → Gives (Fields at fs name) ts (Err e)
@@ -375,7 +362,7 @@ module _ (at : ℕ) (ts : List Token) where
           unfolding rule
           fields_go rest p o r =
               line (runs_call first (runs_take mid t behind h.here h.passes (runs_take behind named.token left named.taken.here named.taken.passes
-              (runs_take left p.0 rest.now p.1.here p.1.passes (runs_tail (subst (λ q. Reads rule (Fields at (fs ++ field name v ∷ []) q) rest.now o) named.is r))))))
+              (runs_take left p.0 rest.now p.1.here p.1.passes (runs_last (subst (λ q. Reads rule (Fields at (fs ++ field name v ∷ []) q) rest.now o) named.is r))))))
 
 -- Steps
 
@@ -403,7 +390,7 @@ module _ (ts : List Token) (t : Token) (behind : List Token) where
   member_found h name rest named = (
     (let one = taken_shrinks h in let two = taken_as_shrinks named in omega arith),
     λ e ss o r. line (runs_take ts t behind h.here h.passes (runs_take behind named.token rest named.taken.here named.taken.passes
-        (runs_tail (subst (λ n. Reads rule (Steps e (ss ++ N.Member n ∷ [])) rest o) named.is r)))),
+        (runs_last (subst (λ n. Reads rule (Steps e (ss ++ N.Member n ∷ [])) rest o) named.is r)))),
   )
 
   module _ (none : begins_with (is K.Dot) ts ≡ false) (h : Taken (is K.LeftBracket) ts t behind) where
@@ -424,5 +411,5 @@ module _ (ts : List Token) (t : Token) (behind : List Token) where
       unfolding rule
       index_found rest p = (
         (let one = taken_shrinks h in let two = reads_shrinks first in let three = taken_shrinks p.1 in omega arith),
-        λ e ss o r. line (runs_skip ts none (runs_take ts t behind h.here h.passes (runs_call first (runs_take mid p.0 rest.now p.1.here p.1.passes (runs_tail r))))),
+        λ e ss o r. line (runs_skip ts none (runs_take ts t behind h.here h.passes (runs_call first (runs_take mid p.0 rest.now p.1.here p.1.passes (runs_last r))))),
       )

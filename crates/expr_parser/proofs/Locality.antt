@@ -2,8 +2,9 @@
 -- what comes after the first token of that.
 use Rattle.std.proofs.Common.{◌≡◌, ◌∙◌, ℕ, zero, suc, ◌<◌, ◌≤◌, Bool, true, false, if◌then◌else◌, List, [], ◌∷◌, ◌++◌, length, refl, sym, ap, subst, arith, append_assoc, append-nil, length-append, ◌⊎◌, inl, inr}
 use Rattle.spl_tree.specs.declared.token.Token.{Token}
-use Rattle.expr_parser.specs.Rules.{Rule, done, stop, look, call, Answer, Took, Refused, Spent, Reader, and_then, run, read}
+use Rattle.expr_parser.specs.Rules.{Rule, done, stop, look, call, Answer, Took, Refused, Spent, Reader, and_then, run, read, RunsTo, Reads}
 use Rattle.expr_parser.specs.RuleLaws.{if_both}
+use Rattle.expr_parser.specs.Taken.{Taken, TakenAs}
 
 -- what is left
 abbrev pub rest_of : {A : Type 0} → Answer A → List Token
@@ -164,3 +165,24 @@ module _ {Line : Type 0} {Value : Line → Type 0} (rule : (x : Line) → Rule L
   -- no more is left than was given
   pub shrinks : (n : ℕ) (x : Line) (ts : List Token) → length (rest_of (read rule n x ts)) ≤ length ts
   shrinks n x ts = shorter (leaves_read n x ts)
+
+  -- nor after a rule
+  pub run_shrinks : {A : Type 0} (n : ℕ) (r : Rule Line Value A) (ts : List Token) → length (rest_of (run (read rule n) r ts)) ≤ length ts
+  run_shrinks n r ts = shorter (leaves_run (read rule n) (leaves_read n) r ts)
+
+module _ {Line : Type 0} {Value : Line → Type 0} {rule : (x : Line) → Rule Line Value (Value x)} {ts rest : List Token} where
+  -- what a line leaves isn't longer than what was given
+  pub reads_shrinks : {x : Line} {v : Value x} → Reads rule x ts (Took v rest) → length rest ≤ length ts
+  reads_shrinks {x} r = subst (λ o. length (rest_of o) ≤ length ts) r.is (shrinks rule r.depth x ts)
+
+  -- nor what a rule leaves
+  pub runs_shrinks : {A : Type 0} {r : Rule Line Value A} {v : A} → RunsTo rule r ts (Took v rest) → length rest ≤ length ts
+  runs_shrinks {r = r} h = subst (λ o. length (rest_of o) ≤ length ts) h.is (run_shrinks rule h.depth r ts)
+
+module _ {p : Token → Bool} {ts rest : List Token} where
+  -- what is left after a token is shorter
+  pub taken_shrinks : {t : Token} → Taken p ts t rest → length rest < length ts
+  taken_shrinks h = let e = ap length h.here in omega arith
+
+  pub taken_as_shrinks : {A : Type 0} {made : Token → A} {x : A} → TakenAs p made ts x rest → length rest < length ts
+  taken_as_shrinks h = taken_shrinks h.taken

@@ -1,6 +1,5 @@
 -- What is read of parts that hold expressions is spelled so.
-use Rattle.std.proofs.Common.{◌≡◌, ℕ, ◌<◌, Bool, true, false, List, [], ◌∷◌, Result, Ok, Err, refl, subst, arith, append-nil}
-use Rattle.std.specs.Borrow.{Bor}
+use Rattle.std.proofs.Common.{◌≡◌, ℕ, false, List, [], ◌∷◌, Err, refl, subst, arith, append-nil}
 use Rattle.spl_tree.specs.declared.symbol.Symbol.{Symbol}
 use Rattle.spl_tree.specs.declared.symbol.Symbol.TheVariants as S
 use Rattle.spl_tree.specs.declared.token.Token.{Token}
@@ -12,7 +11,7 @@ use Rattle.expr_parser.specs.Rules.{Answer, Took, Refused, Spent, read, Reads}
 use Rattle.expr_parser.specs.RuleLaws.{runs_done}
 use Rattle.expr_parser.specs.Lines as lines
 use Rattle.expr_parser.specs.Lines.{Line, Value, rule}
-use Rattle.expr_parser.specs.Parts.{Takes, Begins, Closed, closed, SpellsSteps, alone, selects, goes_on}
+use Rattle.expr_parser.specs.Parts.{Takes, Closed, closed, SpellsSteps, alone, selects, goes_on}
 use Rattle.expr_parser.specs.Gives.{Gives, Begun, Spelled}
 use Rattle.spl_tree.specs.Fronts.{IsPhrase}
 use Rattle.expr_parser.proofs.Soundness.{Sound}

@@ -99,6 +99,13 @@ module _ {Line : Type 0} {Value : Line → Type 0} {rule : (x : Line) → Rule L
     pub runs_fail : {rest : List Token} → Reads rule y ts (Refused rest) → RunsTo rule (call y k) ts (Refused rest)
     runs_fail first = record { depth = first.depth; is = rw first.is refl }
 
+  -- a rule that only reads a line gives what that line gives
+  pub runs_last : {x : Line} {ts : List Token} {o : Answer (Value x)} → Reads rule x ts o → RunsTo rule (call x done) ts o
+  unfolding read
+  runs_last {o = Took v rest} r = runs_call r runs_done
+  runs_last {o = Refused rest} r = runs_fail r
+  runs_last {o = Spent} r = record { depth = 0; is = refl }
+
   -- a line gives one answer
   pub reads_one : {x : Line} {ts : List Token} {o o' : Answer (Value x)} → Reads rule x ts o → Reads rule x ts o' → Settled o → Settled o' → o ≡ o'
   reads_one {x} {ts} {o} {o'} r q s s' =

@@ -15,7 +15,7 @@ mod weight;
 pub use answer::{ParsedExpr, SyntaxAnswer};
 pub use first::{after, name_first, pass, pass_name};
 pub use laws::expressions_law;
-pub use parse::parse_expr;
+pub use parse::{parse_expr, place_of};
 pub use parts::{Taken, read_elements, read_expression, read_items, read_steps};
 pub use stop::Stop;
 pub use weight::too_deep;

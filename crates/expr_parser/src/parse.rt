@@ -15,7 +15,7 @@ use std::alloc::Global;
 pub(crate) const MOST_NESTED: u32 = 256;
 
 /// The byte at which that token of the list begins, or the program's end where there is none.
-fn place(tokens: &Tokens, at: usize) -> u32
+pub fn place_of(tokens: &Tokens, at: usize) -> u32
     ensures { result ≡ place_of tokens.now at }
 {
     match tokens.list.get(at) {
@@ -38,7 +38,7 @@ pub fn parse_expr(alloc: Global, tokens: &Tokens, from: u32) -> Result<ParsedExp
 {
     let list = tokens.list.as_slice();
     if let Some(at) = too_deep(alloc, list, from as usize)? {
-        return Err(SyntaxAnswer::TooDeep(place(tokens, at)));
+        return Err(SyntaxAnswer::TooDeep(place_of(tokens, at)));
     }
     match expr(alloc, MOST_NESTED, &list[from as usize..]) {
         Ok((expr, _, rest)) => {
@@ -46,7 +46,7 @@ pub fn parse_expr(alloc: Global, tokens: &Tokens, from: u32) -> Result<ParsedExp
             Ok(ParsedExpr { expr, next })
         }
         Err(Stop::At(rest)) => {
-            let at = place(tokens, list.len() - rest.len());
+            let at = place_of(tokens, list.len() - rest.len());
             Err(SyntaxAnswer::Unexpected(at))
         }
         Err(Stop::Memory) => Err(SyntaxAnswer::Memory),

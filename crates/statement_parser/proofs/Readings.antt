@@ -1,18 +1,18 @@
 -- How the answers of calls are composed, as the rules of their lines are. Where a call succeeds, a rule is followed one
 -- step further (`taken` to `read_expression`); where one returns an error, it is where the rule stops (`fails`).
-use Rattle.std.proofs.Common.{◌≡◌, ◌∙◌, Bool, false, List, Result, Ok, Err, refl, sym, ap, subst}
+use Rattle.std.proofs.Common.{◌≡◌, Bool, false, List, Ok, Err, sym, subst}
 use Rattle.std.specs.Prelude.{IsErrAnd}
-use Rattle.std.proofs.lemmas.Result.{err_from_is_err_and}
 use Rattle.std.specs.Borrow.{Bor}
 use Rattle.spl_tree.specs.declared.keyword.Keyword.{Keyword}
 use Rattle.spl_tree.specs.declared.symbol.Symbol.{Symbol}
 use Rattle.spl_tree.specs.declared.token.Token.{Token}
 use Rattle.expr_parser.specs.declared.stop.Stop.{Stop}
 use Rattle.expr_parser.specs.declared.stop.Stop.TheVariants as S
+use Rattle.expr_parser.proofs.Derive.{exit}
 use Rattle.expr_parser.specs.Gives.{Answers, Passes, PassesName}
 use Rattle.expr_parser.specs.Lines as expressions
 use Rattle.expr_parser.specs.Lines.{is, is_name}
-use Rattle.expr_parser.specs.Rules.{done, stop, look, call, Answer, Took, Refused, Spent, RunsTo, Reads, read}
+use Rattle.expr_parser.specs.Rules.{done, stop, look, call, Answer, Took, Refused, RunsTo, Reads}
 use Rattle.expr_parser.specs.RuleLaws.{begins_with, line, runs_done, runs_stop, runs_take, runs_skip, runs_call, runs_fail}
 use Rattle.expr_parser.specs.Taken.{Taken, TakenAs}
 use Rattle.statement_parser.proofs.CompleteParts.{embedded}
@@ -70,13 +70,6 @@ module _ {A : Type 0} {ts : List Token} {o : Answer A} where
       → Reads expressions.rule x ts (Took v mid) → RunsTo rule (k v) mid o → RunsTo rule (call (Expression x) k) ts o
   expression_read first behind = runs_call (embedded first) behind
 
--- a rule that is a line alone has the result of the line
-pub last : {x : Line} {ts : List Token} {o : Answer (Value x)} → Reads rule x ts o → RunsTo rule (call x done) ts o
-unfolding read
-last {o = Took v rest} r = runs_call r runs_done
-last {o = Refused rest} r = runs_fail r
-last {o = Spent} r = record { depth = 0; is = refl }
-
 -- ---- what is answered
 
 -- what is said of an answer, where one thing follows from another
@@ -84,10 +77,6 @@ pub says_on : {A : Type 0} {P Q : Answer A → Type 0} → ((o : Answer A) → P
 says_on on (Ok found) said = on (Took found.0 found.1.now) said
 says_on on (Err (S.At rest)) said = on (Refused rest.now) said
 says_on on (Err S.Memory) said = tt
-
--- what is said of an error that `?` returns
-exit : {B : Type 0} (P : Result B Stop → Type 0) (res : Result B Stop) (e : Stop) → IsErrAnd res (λ y. y ≡ e) → P (Err e) → P res
-exit P res e h q = let p = err_from_is_err_and res h in subst P (sym (p.1 ∙ ap Err p.2)) q
 
 -- a line whose rule goes on with the rule r at mid, which stops
 pub fails : (x : Line) (ts mid : List Token) (r : R (Value x)) (res : Answered (Value x)) (e : Stop) → IsErrAnd res (λ y. y ≡ e)

@@ -9,7 +9,7 @@ use Rattle.expr_parser.specs.declared.stop.Stop.{Stop}
 use Rattle.expr_parser.specs.declared.stop.Stop.TheVariants as S
 use Rattle.expr_parser.specs.Rules.{done, stop, look, call, Answer, Took, Refused, Spent, and_then, run, read, RunsTo, Reads}
 use Rattle.expr_parser.specs.RuleLaws.{run_more, begins_with, runs_take, runs_skip}
-use Rattle.expr_parser.proofs.Locality.{rest_of, shrinks}
+use Rattle.expr_parser.proofs.Locality.{rest_of, run_shrinks}
 use Rattle.expr_parser.specs.Taken.{Taken}
 use Rattle.statement_parser.specs.Gives.{Comes}
 use Rattle.statement_parser.specs.Lines as lines
@@ -80,32 +80,6 @@ part_fails r k ts S.Memory c = tt
 
 -- ---- lengths
 
--- what a rule leaves isn't longer
-pub run_shrinks : {A : Type 0} (n : ℕ) (r : R A) (ts : List Token) → length (rest_of (run (read rule n) r ts)) ≤ length ts
-run_shrinks n (done x) ts = omega arith
-run_shrinks n stop ts = omega arith
-run_shrinks n (look p f d) [] = run_shrinks n d []
-run_shrinks n (look p f d) (t ∷ ts) = by (p t) (run_shrinks n (f t) ts) (run_shrinks n d (t ∷ ts))
-  where
-    by : (b : Bool) → length (rest_of (run (read rule n) (f t) ts)) ≤ length ts → length (rest_of (run (read rule n) d (t ∷ ts))) ≤ length (t ∷ ts)
-        → length (rest_of (if b then run (read rule n) (f t) ts else run (read rule n) d (t ∷ ts))) ≤ length (t ∷ ts)
-    by true one two = omega arith
-    by false one two = two
-run_shrinks n (call y g) ts = by (read rule n y ts) (shrinks rule n y ts) (λ v rest. run_shrinks n (g v) rest)
-  where
-    by : (q : Answer (Value y)) → length (rest_of q) ≤ length ts
-        → ((v : Value y) (rest : List Token) → length (rest_of (run (read rule n) (g v) rest)) ≤ length rest)
-        → length (rest_of (and_then q (λ v rest. run (read rule n) (g v) rest))) ≤ length ts
-    by (Took v rest) le more = let one = more v rest in omega arith
-    by (Refused rest) le more = le
-    by Spent le more = omega arith
-
-pub runs_shrinks : {A : Type 0} {r : R A} {ts rest : List Token} {v : A} → RunsTo rule r ts (Took v rest) → length rest ≤ length ts
-runs_shrinks {r = r} {ts = ts} h = subst (λ o. length (rest_of o) ≤ length ts) h.is (run_shrinks h.depth r ts)
-
-pub reads_shrinks : {x : Line} {ts rest : List Token} {v : Value x} → Reads rule x ts (Took v rest) → length rest ≤ length ts
-reads_shrinks {x} {ts} h = subst (λ o. length (rest_of o) ≤ length ts) h.is (shrinks rule h.depth x ts)
-
 -- fewer tokens are left where something is taken
 abbrev Less : {A : Type 0} → Answer A → ℕ → Type 0
 Less (Took x rest) n = length rest < n
@@ -136,14 +110,14 @@ module _ {A : Type 0} {n : ℕ} where
 
       by : (ts : List Token) → Less (run (read rule n) (look p f d) ts) (length ts)
       by [] = h.less []
-      by (t ∷ ts) = by_test t ts (p t) (run_shrinks n (f t) ts) (h.less (t ∷ ts))
+      by (t ∷ ts) = by_test t ts (p t) (run_shrinks rule n (f t) ts) (h.less (t ∷ ts))
 
   -- and after a line that takes one
   eager_call : {y : Line} {k : Value y → R A} → ((ts : List Token) → Less (read rule n y ts) (length ts)) → Eager n (call y k)
   eager_call {y} {k} h = record { less = λ ts. by ts (read rule n y ts) (h ts) }
     where
       by : (ts : List Token) (q : Answer (Value y)) → Less q (length ts) → Less (and_then q (λ v rest. run (read rule n) (k v) rest)) (length ts)
-      by ts (Took v mid) lt = less_from (run (read rule n) (k v) mid) (run_shrinks n (k v) mid) lt
+      by ts (Took v mid) lt = less_from (run (read rule n) (k v) mid) (run_shrinks rule n (k v) mid) lt
       by ts (Refused rest) lt = tt
       by ts Spent lt = tt
 

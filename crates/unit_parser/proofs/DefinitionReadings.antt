@@ -1,9 +1,8 @@
 -- What calls that read definitions answer.
-use Rattle.std.proofs.Common.{◌≡◌, ◌∙◌, ◌<◌, ◌≤◌, arith, Bool, true, false, if◌then◌else◌, List, [], ◌∷◌, ◌++◌, length, Option, Some, None, Result, Ok, Err, refl, sym, ap, subst}
+use Rattle.std.proofs.Common.{◌≡◌, ◌∙◌, ◌<◌, ◌≤◌, arith, Bool, true, false, if◌then◌else◌, List, [], ◌∷◌, ◌++◌, length, Option, Some, None, Result, Ok, Err, refl}
 use Rattle.std.specs.Prelude.{IsErrAnd}
 use Rattle.std.specs.Option.{is_some}
 use Rattle.std.specs.Borrow.{Bor}
-use Rattle.std.proofs.lemmas.Result.{err_from_is_err_and}
 use Rattle.spl_tree.specs.declared.keyword.Keyword.{Keyword}
 use Rattle.spl_tree.specs.declared.keyword.Keyword.TheVariants as K
 use Rattle.spl_tree.specs.declared.symbol.Symbol.TheVariants as Y
@@ -20,16 +19,14 @@ use Rattle.expr_parser.specs.declared.stop.Stop.TheVariants as S
 use Rattle.expr_parser.specs.Gives.{Passes}
 use Rattle.expr_parser.specs.Lines.{is}
 use Rattle.expr_parser.specs.RuleLaws.{line, begins_with}
-use Rattle.expr_parser.specs.Rules.{done, stop, look, call, Answer, Took, Refused, Spent, RunsTo, Reads}
-use Rattle.unit_parser.proofs.CompositeReadings.{bound, runs_bound, by_rule, composite_named, spent, name_takes}
+use Rattle.expr_parser.specs.Rules.{done, stop, look, call, Answer, Took, Refused, RunsTo, Reads}
+use Rattle.unit_parser.proofs.CompositeReadings.{by_rule, composite_named, name_takes}
 use Rattle.statement_parser.proofs.Readings.{finished, skipped, passed, says_on, pass_fails}
 use Rattle.statement_parser.specs.Gives.{Answered, Comes, Gives}
+use Rattle.expr_parser.proofs.Derive.{exit}
 use Rattle.unit_parser.specs.GivesComposites.{Defines, DefinesOn, PassesNames, begins_type, function_behind, is_type_front, word_begins_type}
 use Rattle.statement_parser.specs.Lines.{Name, rule, R, expect, a_type, is_word, word_kind, is_type, type_kind, TypeExpression, TypeOf, CompositeOf, FunctionOf, FunctionParameters, Block, Definitions, Namespace}
-
--- what is said of an error that `?` hands on
-pub exit : {B : Type 0} (P : Result B Stop → Type 0) (res : Result B Stop) (e : Stop) → IsErrAnd res (λ y. y ≡ e) → P (Err e) → P res
-exit P res e h q = let p = err_from_is_err_and res h in subst P (sym (p.1 ∙ ap Err p.2)) q
+use Rattle.statement_parser.proofs.StatementReadings.{behind, part_read}
 
 -- ---- names of a namespace
 
@@ -190,13 +187,11 @@ module _ {ts : List Token} (w : NoWord ts) (xs : List Definition) where
 
   -- with one there is a function
   pub typed : begins_with is_type_front ts ≡ true → (o : Answer (List Definition))
-      → RunsTo rule (bound (rule TypeExpression) (λ k. function_behind (Some k) xs)) ts o → Reads rule (Definitions xs) ts o
+      → RunsTo rule (behind (rule TypeExpression) (λ k. function_behind (Some k) xs)) ts o → Reads rule (Definitions xs) ts o
   unfolding rule
   typed begins o q = behind_words (type_begins {r = λ k. function_behind (Some k) xs} {other = done xs} begins q)
 
   -- its type is read, and what comes after it
   pub typed_read : {kind : TypeExpr} {mid : List Token} → begins_with is_type_front ts ≡ true → Reads rule TypeExpression ts (Took kind mid)
       → (o : Answer (List Definition)) → RunsTo rule (function_behind (Some kind) xs) mid o → Reads rule (Definitions xs) ts o
-  typed_read begins first (Took v rest) behind = typed begins (Took v rest) (runs_bound (λ k. function_behind (Some k) xs) (rule TypeExpression) (by_rule tt first) behind tt)
-  typed_read begins first (Refused rest) behind = typed begins (Refused rest) (runs_bound (λ k. function_behind (Some k) xs) (rule TypeExpression) (by_rule tt first) behind tt)
-  typed_read begins first Spent behind = spent
+  typed_read begins first o q = typed begins o (part_read (rule TypeExpression) (λ k. function_behind (Some k) xs) (by_rule tt first) q)

@@ -5,19 +5,9 @@ ghost use Rattle.expr_parser.specs.declared.answer.SyntaxAnswer.TheVariants.{Une
 ghost use Rattle.unit_parser.specs.Parses.{ParsesUnit};
 
 use crate::units::unit;
-use expr_parser::{Stop, SyntaxAnswer, too_deep};
+use expr_parser::{Stop, SyntaxAnswer, place_of, too_deep};
 use spl_tree::{Token, Tokens, Unit};
 use std::alloc::Global;
-
-/// The byte at which that token of the list begins, or the program's end where there is none.
-fn place(tokens: &Tokens, at: usize) -> u32
-    ensures { result ≡ place_of tokens.now at }
-{
-    match tokens.list.get(at) {
-        Some(token) => token.start,
-        None => tokens.length,
-    }
-}
 
 /// The answer where these tokens, the last of the list, are left: the first of them is refused, or the
 /// program's end.
@@ -26,7 +16,7 @@ fn unexpected(tokens: &Tokens, rest: &[Token]) -> SyntaxAnswer
     ensures { result ≡ Unexpected (place_of tokens.now (length tokens.now.list - length rest.now)) }
 {
     let list = tokens.list.as_slice();
-    SyntaxAnswer::Unexpected(place(tokens, list.len() - rest.len()))
+    SyntaxAnswer::Unexpected(place_of(tokens, list.len() - rest.len()))
 }
 
 /// The unit that the tokens spell, all of them.
@@ -40,7 +30,7 @@ pub fn parse_unit(alloc: Global, tokens: &Tokens) -> Result<Unit, SyntaxAnswer>
 {
     let list = tokens.list.as_slice();
     if let Some(at) = too_deep(alloc, list, 0)? {
-        return Err(SyntaxAnswer::TooDeep(place(tokens, at)));
+        return Err(SyntaxAnswer::TooDeep(place_of(tokens, at)));
     }
     match unit(alloc, list) {
         Ok((unit, rest)) if rest.is_empty() => Ok(unit),

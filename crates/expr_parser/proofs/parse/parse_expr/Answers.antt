@@ -17,5 +17,5 @@ returns-in-Ok c =
 pub returns-in-Err-At : goal.returns-in-Err-At
 returns-in-Err-At c =
     let shallow : too_deep_from c.args.from c.args.tokens.now.list ≡ None = ap (too_deep_from c.args.from) (sym c.as_slice-list.ensures) ∙ sym c.in_ok-at.ensures ∙ c.in_default.is in
-    refused c.args.tokens.now c.args.from c.as_slice-list.result.now c.in-Err-At.rest.now c.as_slice-list.ensures c.requires.within (rw c.in-Err-At.field-0-is at c.in-Err-At.ensures) c.place-at.result shallow
-    c.place-at.ensures
+    refused c.args.tokens.now c.args.from c.as_slice-list.result.now c.in-Err-At.rest.now c.as_slice-list.ensures c.requires.within (rw c.in-Err-At.field-0-is at c.in-Err-At.ensures) c.place_of-at.result shallow
+    c.place_of-at.ensures

@@ -1,7 +1,7 @@
 use Rattle.std.proofs.Common.{◌+◌, ◌*◌, List, [], length}
 use Rattle.spl_tree.specs.Grammar.{Expr}
 use Rattle.expr_parser.specs.Rules.{Answer, Reads}
-use Rattle.expr_parser.specs.Lines.{Chain, Elements, Items, Entries, Fields, Steps, rule}
+use Rattle.expr_parser.specs.Lines.{Chain, Items, Entries, Fields, Steps, rule}
 use Rattle.expr_parser.proofs.reading.+reader.Given as goal
 
 abbrev pub decreases-nested : goal.decreases-nested

@@ -9,10 +9,11 @@ use Rattle.spl_tree.specs.TypeGrammar.{TypeExpr}
 use Rattle.statement_parser.specs.GivesStatements as parts
 use Rattle.statement_parser.specs.Lines as lines
 use Rattle.statement_parser.specs.Lines.{R, Statement, Statements, Other, Begun, Arms, rule}
-use Rattle.statement_parser.proofs.Readings.{finished, reads, taken, skipped, line_read, last, says_on, rule_on, fails, rule_fails, line_fails}
-use Rattle.statement_parser.proofs.StatementReadings.{part_read, part_fails, statement_shrinks, reads_shrinks, runs_shrinks, arms_none, arms_else}
+use Rattle.statement_parser.proofs.Readings.{finished, reads, taken, skipped, line_read, says_on, rule_on, fails, rule_fails, line_fails}
+use Rattle.statement_parser.proofs.StatementReadings.{part_read, part_fails, statement_shrinks, arms_none, arms_else}
 use Rattle.statement_parser.proofs.statements.+statements.Goals as goal
-use Rattle.expr_parser.proofs.LineSteps.{taken_shrinks}
+use Rattle.expr_parser.proofs.Locality.{reads_shrinks, runs_shrinks, taken_shrinks}
+use Rattle.expr_parser.specs.RuleLaws.{runs_last}
 
 -- ---- statements in a row
 
@@ -33,7 +34,7 @@ pub statements-statements-preserved : goal.statements-statements-preserved
 unfolding lines.rule
 statements-statements-preserved t c = λ o r.
     c.statements.invariant o (reads (skipped c.in_default.ensures (line_read c.in_ok-one.ensures
-    (last (subst (λ ss. Reads rule (Statements ss) c.in_ok-one.behind.now o) c.in_ok-push.ensures.ok r)))))
+    (runs_last (subst (λ ss. Reads rule (Statements ss) c.in_ok-one.behind.now o) c.in_ok-push.ensures.ok r)))))
 
 pub statements-statements-smaller : goal.statements-statements-smaller
 statements-statements-smaller t c = statement_shrinks c.in_ok-one.ensures
@@ -43,13 +44,13 @@ statements-statements-smaller t c = statement_shrinks c.in_ok-one.ensures
 pub statement-returns-in-Some : goal.statement-returns-in-Some
 unfolding lines.rule
 statement-returns-in-Some t c =
-    says_on {P = Reads rule (Arms c.in-Some.word.now.start []) c.in-Some.behind.now} {Q = Reads rule Statement c.args.ts.now} (λ o q. reads (taken c.in-Some.ensures (last q)))
+    says_on {P = Reads rule (Arms c.in-Some.word.now.start []) c.in-Some.behind.now} {Q = Reads rule Statement c.args.ts.now} (λ o q. reads (taken c.in-Some.ensures (runs_last q)))
     c.arms.result c.arms.ensures
 
 pub statement-returns-in-None : goal.statement-returns-in-None
 unfolding lines.rule
 statement-returns-in-None t c =
-    says_on {P = Reads rule Other c.args.ts.now} {Q = Reads rule Statement c.args.ts.now} (λ o q. reads (skipped c.in-None.ensures (last q))) c.other.result c.other.ensures
+    says_on {P = Reads rule Other c.args.ts.now} {Q = Reads rule Statement c.args.ts.now} (λ o q. reads (skipped c.in-None.ensures (runs_last q))) c.other.result c.other.ensures
 
 -- ---- statements after their first token
 
@@ -166,7 +167,7 @@ arms-arms-preserved t c = λ o r.
     let all = c.arms.all ++ (c.in_ok-condition.condition, c.in_ok-body.body) ∷ [] in
     c.arms.invariant o (arms_read (part_read parts.condition (armed c.args.at c.arms.all) c.in_ok-condition.ensures (line_read c.in_ok-body.ensures
     (arms_else c.args.at all c.in_ok-body.closed c.in-Some.ensures (taken c.in-Some-word_first.ensures
-    (last (subst (λ xs. Reads rule (Arms c.args.at xs) c.in-Some-word_first.behind.now o) c.in_ok-push.ensures.ok r)))))))
+    (runs_last (subst (λ xs. Reads rule (Arms c.args.at xs) c.in-Some-word_first.behind.now o) c.in_ok-push.ensures.ok r)))))))
 
 pub arms-arms-smaller : goal.arms-arms-smaller
 arms-arms-smaller t c =

@@ -3,11 +3,11 @@ use Rattle.spl_tree.specs.declared.symbol.Symbol.TheVariants as S
 use Rattle.expr_parser.specs.Rules.{done, call, Took, Reads}
 use Rattle.expr_parser.specs.RuleLaws.{runs_stop}
 use Rattle.statement_parser.proofs.Readings.{finished, reads, taken, taken_as, skipped, passed, line_read, says_on, fails, pass_fails, name_fails, line_fails}
-use Rattle.statement_parser.proofs.TypeReadings.{reads_shrinks, taken_as_shrinks, goes, tail, attribute, named_rule, more_read, attribute_read}
+use Rattle.statement_parser.proofs.TypeReadings.{goes, tail, attribute, named_rule, more_read, attribute_read}
 use Rattle.statement_parser.specs.Gives.{TypeFirst}
 use Rattle.statement_parser.specs.Lines.{TypeExpression, ListType, MapType, TupleType, Attributes, MoreAttributes, is_type, type_of, rule}
 use Rattle.statement_parser.proofs.types.+types.Goals as goal
-use Rattle.expr_parser.proofs.LineSteps.{taken_shrinks}
+use Rattle.expr_parser.proofs.Locality.{reads_shrinks, taken_as_shrinks, taken_shrinks}
 
 pub attributes-returns-in_err-kind : goal.attributes-returns-in_err-kind
 unfolding rule

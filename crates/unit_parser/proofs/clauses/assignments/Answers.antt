@@ -6,10 +6,11 @@ use Rattle.expr_parser.specs.Lines as expressions
 use Rattle.expr_parser.specs.Rules.{done, look, call, Took, Reads}
 use Rattle.statement_parser.specs.Lines.{Name, R, expect, expression}
 use Rattle.statement_parser.specs.Lines as lines
-use Rattle.statement_parser.proofs.Readings.{reads, taken, skipped, passed, name_passed, expression_read, last, fails, pass_fails, name_fails, expression_fails}
-use Rattle.unit_parser.proofs.Rows.{reads_shrinks, taken_as_shrinks, made}
+use Rattle.statement_parser.proofs.Readings.{reads, taken, skipped, passed, name_passed, expression_read, fails, pass_fails, name_fails, expression_fails}
+use Rattle.unit_parser.proofs.Rows.{made}
 use Rattle.unit_parser.proofs.clauses.assignments.Goals as goal
-use Rattle.expr_parser.proofs.LineSteps.{taken_shrinks}
+use Rattle.expr_parser.proofs.Locality.{reads_shrinks, taken_as_shrinks, taken_shrinks}
+use Rattle.expr_parser.specs.RuleLaws.{runs_last}
 
 -- after the name of one more attribute
 abbrev assignment_behind : List (Field Expr) → Name → R (List (Field Expr))
@@ -60,7 +61,7 @@ assignments-preserved c =
     λ o r. c.assignments.invariant o
     (reads (name_passed (assignment_behind c.assignments.all) c.in_ok-name.ensures (passed S.Assign c.in_ok-behind.ensures (expression_read c.in_ok-value.ensures.rule
     (taken c.in-Some.ensures
-    (last (subst (λ fs. Reads lines.rule (lines.Assignments fs) c.in-Some.behind.now o) c.in_ok-push.ensures.ok r)))))))
+    (runs_last (subst (λ fs. Reads lines.rule (lines.Assignments fs) c.in-Some.behind.now o) c.in_ok-push.ensures.ok r)))))))
 
 pub assignments-smaller : goal.assignments-smaller
 assignments-smaller c =

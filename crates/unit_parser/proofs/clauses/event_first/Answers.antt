@@ -3,7 +3,7 @@ use Rattle.unit_parser.specs.GivesClauses.{EventFirst}
 use Rattle.statement_parser.specs.Lines as lines
 use Rattle.statement_parser.proofs.Readings.{finished, reads, taken, skipped}
 use Rattle.unit_parser.proofs.clauses.event_first.Goals as goal
-use Rattle.expr_parser.proofs.LineSteps.{taken_shrinks}
+use Rattle.expr_parser.proofs.Locality.{taken_shrinks}
 
 pub returns-in-Some : goal.returns-in-Some
 unfolding lines.rule

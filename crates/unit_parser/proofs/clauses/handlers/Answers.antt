@@ -1,9 +1,10 @@
 use Rattle.std.proofs.Common.{subst, arith, []}
 use Rattle.expr_parser.specs.Rules.{Reads}
 use Rattle.statement_parser.specs.Lines as lines
-use Rattle.statement_parser.proofs.Readings.{line_read, last, fails, line_fails}
-use Rattle.unit_parser.proofs.Rows.{reads_shrinks}
+use Rattle.statement_parser.proofs.Readings.{line_read, fails, line_fails}
 use Rattle.unit_parser.proofs.clauses.handlers.Goals as goal
+use Rattle.expr_parser.proofs.Locality.{reads_shrinks}
+use Rattle.expr_parser.specs.RuleLaws.{runs_last}
 
 pub returns-in_err-one : goal.returns-in_err-one
 unfolding lines.rule
@@ -21,4 +22,4 @@ handlers-smaller c =
 pub handlers-preserved : goal.handlers-preserved
 handlers-preserved c =
     λ o r. c.handlers.invariant o (c.in-Some.ensures.1 c.handlers.all o (line_read c.in_ok-one.ensures
-    (last (subst (λ hs. Reads lines.rule (lines.Handlers hs) c.in_ok-one.behind.now o) c.in_ok-push.ensures.ok r))))
+    (runs_last (subst (λ hs. Reads lines.rule (lines.Handlers hs) c.in_ok-one.behind.now o) c.in_ok-push.ensures.ok r))))

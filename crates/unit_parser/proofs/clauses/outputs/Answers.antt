@@ -5,10 +5,11 @@ use Rattle.expr_parser.specs.Lines.{is_name}
 use Rattle.expr_parser.specs.Rules.{done, call, Took, Reads}
 use Rattle.statement_parser.specs.Lines.{Name, R, expect, name_at}
 use Rattle.statement_parser.specs.Lines as lines
-use Rattle.statement_parser.proofs.Readings.{finished, reads, skipped, passed, taken_as, line_read, last, fails, pass_fails, line_fails}
-use Rattle.unit_parser.proofs.Rows.{reads_shrinks, taken_as_shrinks, none_says}
+use Rattle.statement_parser.proofs.Readings.{finished, reads, skipped, passed, taken_as, line_read, fails, pass_fails, line_fails}
+use Rattle.unit_parser.proofs.Rows.{none_says}
 use Rattle.unit_parser.proofs.clauses.outputs.Goals as goal
-use Rattle.expr_parser.proofs.LineSteps.{taken_shrinks}
+use Rattle.expr_parser.proofs.Locality.{reads_shrinks, taken_as_shrinks, taken_shrinks}
+use Rattle.expr_parser.specs.RuleLaws.{runs_last}
 
 -- after the name of one more stream
 abbrev output_behind : List OutputAssignments → Name → R (List OutputAssignments)
@@ -39,7 +40,7 @@ unfolding lines.rule
 outputs-preserved c =
     λ o r. c.outputs.invariant o
     (reads (taken_as is_name name_at (output_behind c.outputs.all) c.in_ok-stream.ensures (passed S.Colon c.in_ok-behind.ensures (line_read c.in_ok-assignments.ensures
-    (last (subst (λ xs. Reads lines.rule (lines.Outputs xs) c.in_ok-assignments.behind.now o) c.in_ok-push.ensures.ok r))))))
+    (runs_last (subst (λ xs. Reads lines.rule (lines.Outputs xs) c.in_ok-assignments.behind.now o) c.in_ok-push.ensures.ok r))))))
 
 pub outputs-smaller : goal.outputs-smaller
 outputs-smaller c =

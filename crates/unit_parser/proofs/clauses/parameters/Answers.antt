@@ -6,10 +6,11 @@ use Rattle.expr_parser.specs.Lines as expressions
 use Rattle.expr_parser.specs.Rules.{done, call, Took, Reads}
 use Rattle.statement_parser.specs.Lines.{Name, R, expect, name_at}
 use Rattle.statement_parser.specs.Lines as lines
-use Rattle.statement_parser.proofs.Readings.{finished, reads, skipped, passed, taken_as, expression_read, last, fails, pass_fails, expression_fails}
-use Rattle.unit_parser.proofs.Rows.{reads_shrinks, taken_as_shrinks, none_says}
+use Rattle.statement_parser.proofs.Readings.{finished, reads, skipped, passed, taken_as, expression_read, fails, pass_fails, expression_fails}
+use Rattle.unit_parser.proofs.Rows.{none_says}
 use Rattle.unit_parser.proofs.clauses.parameters.Goals as goal
-use Rattle.expr_parser.proofs.LineSteps.{taken_shrinks}
+use Rattle.expr_parser.proofs.Locality.{reads_shrinks, taken_as_shrinks, taken_shrinks}
+use Rattle.expr_parser.specs.RuleLaws.{runs_last}
 
 -- after the name of one more parameter
 abbrev parameter_behind : List Parameter → Name → R (List Parameter)
@@ -40,7 +41,7 @@ unfolding lines.rule
 parameters-preserved c =
     λ o r. c.parameters.invariant o
     (reads (taken_as is_name name_at (parameter_behind c.parameters.all) c.in_ok-name.ensures (passed S.Colon c.in_ok-behind.ensures (expression_read c.in_ok-values.ensures.rule
-    (last (subst (λ xs. Reads lines.rule (lines.Parameters xs) c.in_ok-values.behind.now o) c.in_ok-push.ensures.ok r))))))
+    (runs_last (subst (λ xs. Reads lines.rule (lines.Parameters xs) c.in_ok-values.behind.now o) c.in_ok-push.ensures.ok r))))))
 
 pub parameters-smaller : goal.parameters-smaller
 parameters-smaller c =

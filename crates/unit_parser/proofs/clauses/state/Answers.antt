@@ -2,8 +2,9 @@ use Rattle.std.proofs.Common.{ap, [], ◌∷◌, ◌++◌, ◌∙◌}
 use Rattle.spl_tree.specs.declared.symbol.Symbol.TheVariants as S
 use Rattle.statement_parser.specs.Lines as lines
 use Rattle.statement_parser.proofs.Readings.{reads, taken, skipped, passed, line_read, fails, pass_fails, line_fails}
-use Rattle.unit_parser.proofs.Rows.{made, goes_as, comes_last}
+use Rattle.unit_parser.proofs.Rows.{made}
 use Rattle.unit_parser.proofs.clauses.state.Goals as goal
+use Rattle.statement_parser.proofs.TypeReadings.{goes, tail}
 
 pub returns-in_default : goal.returns-in_default
 unfolding lines.rule
@@ -19,9 +20,9 @@ returns-in_err-behind c =
 pub returns-in-Some-after : goal.returns-in-Some-after
 unfolding lines.rule
 returns-in-Some-after c =
-    goes_as lines.State c.args.ts.now c.in-Some-after.behind.now _ c.declarations.result (λ o q. reads (taken c.in-Some.ensures (passed S.Colon c.in_ok-behind.ensures
+    goes lines.State c.args.ts.now c.in-Some-after.behind.now _ c.declarations.result (λ o q. reads (taken c.in-Some.ensures (passed S.Colon c.in_ok-behind.ensures
     (taken c.in-Some-after.ensures q))))
-    (comes_last (lines.Declarations []) _ c.declarations.result c.declarations.ensures)
+    (tail (lines.Declarations []) _ c.declarations.result c.declarations.ensures)
 
 pub returns-in_err-one : goal.returns-in_err-one
 unfolding lines.rule

@@ -5,10 +5,11 @@ use Rattle.expr_parser.specs.Lines as expressions
 use Rattle.expr_parser.specs.Rules.{done, look, call, Took, Reads}
 use Rattle.statement_parser.specs.Lines.{Name, R, expect}
 use Rattle.statement_parser.specs.Lines as lines
-use Rattle.statement_parser.proofs.Readings.{reads, taken, skipped, passed, name_passed, line_read, last, fails, pass_fails, name_fails, line_fails}
-use Rattle.unit_parser.proofs.Rows.{reads_shrinks, taken_as_shrinks, made}
+use Rattle.statement_parser.proofs.Readings.{reads, taken, skipped, passed, name_passed, line_read, fails, pass_fails, name_fails, line_fails}
+use Rattle.unit_parser.proofs.Rows.{made}
 use Rattle.unit_parser.proofs.clauses.window_parts.Goals as goal
-use Rattle.expr_parser.proofs.LineSteps.{taken_shrinks}
+use Rattle.expr_parser.proofs.Locality.{reads_shrinks, taken_as_shrinks, taken_shrinks}
+use Rattle.expr_parser.specs.RuleLaws.{runs_last}
 
 -- after the name of one more part
 abbrev part_behind : List WindowPart → Name → R (List WindowPart)
@@ -49,7 +50,7 @@ unfolding lines.rule
 parts-preserved c =
     λ o r. c.parts.invariant o
     (reads (name_passed (part_behind c.parts.all) c.in_ok-name.ensures (line_read c.in_ok-arguments.ensures (taken c.in-Some.ensures
-    (last (subst (λ ps. Reads lines.rule (lines.WindowParts ps) c.in-Some.behind.now o) c.in_ok-push.ensures.ok r))))))
+    (runs_last (subst (λ ps. Reads lines.rule (lines.WindowParts ps) c.in-Some.behind.now o) c.in_ok-push.ensures.ok r))))))
 
 pub parts-smaller : goal.parts-smaller
 parts-smaller c =

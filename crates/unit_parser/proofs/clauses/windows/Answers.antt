@@ -5,10 +5,11 @@ use Rattle.expr_parser.specs.Lines.{is_name}
 use Rattle.expr_parser.specs.Rules.{done, call, Took, Reads}
 use Rattle.statement_parser.specs.Lines.{Name, R, expect, name_at}
 use Rattle.statement_parser.specs.Lines as lines
-use Rattle.statement_parser.proofs.Readings.{finished, reads, skipped, passed, taken_as, line_read, last, fails, pass_fails, line_fails}
-use Rattle.unit_parser.proofs.Rows.{reads_shrinks, taken_as_shrinks, none_says}
+use Rattle.statement_parser.proofs.Readings.{finished, reads, skipped, passed, taken_as, line_read, fails, pass_fails, line_fails}
+use Rattle.unit_parser.proofs.Rows.{none_says}
 use Rattle.unit_parser.proofs.clauses.windows.Goals as goal
-use Rattle.expr_parser.proofs.LineSteps.{taken_shrinks}
+use Rattle.expr_parser.proofs.Locality.{reads_shrinks, taken_as_shrinks, taken_shrinks}
+use Rattle.expr_parser.specs.RuleLaws.{runs_last}
 
 -- after the name of one more port
 abbrev window_behind : List PortWindow → Name → R (List PortWindow)
@@ -39,7 +40,7 @@ unfolding lines.rule
 windows-preserved c =
     λ o r. c.windows.invariant o
     (reads (taken_as is_name name_at (window_behind c.windows.all) c.in_ok-port.ensures (passed S.Colon c.in_ok-behind.ensures (line_read c.in_ok-parts.ensures
-    (last (subst (λ xs. Reads lines.rule (lines.Windows xs) c.in_ok-parts.behind.now o) c.in_ok-push.ensures.ok r))))))
+    (runs_last (subst (λ xs. Reads lines.rule (lines.Windows xs) c.in_ok-parts.behind.now o) c.in_ok-push.ensures.ok r))))))
 
 pub windows-smaller : goal.windows-smaller
 windows-smaller c =

@@ -2,10 +2,11 @@ use Rattle.spl_tree.specs.declared.symbol.Symbol.TheVariants as S
 use Rattle.spl_tree.specs.declared.unit.CompositeParameter.{CompositeParameter}
 use Rattle.spl_tree.specs.TypeGrammar.{TypeExpr}
 use Rattle.expr_parser.specs.Rules.{done, stop, look, call, RunsTo, Reads}
-use Rattle.statement_parser.proofs.Readings.{passed, dollar_passed, line_read, last, says_on, rule_fails, pass_fails, dollar_fails, line_fails}
+use Rattle.statement_parser.proofs.Readings.{passed, dollar_passed, line_read, says_on, rule_fails, pass_fails, dollar_fails, line_fails}
 use Rattle.unit_parser.specs.GivesParts.{composite_parameter}
 use Rattle.statement_parser.specs.Lines.{Name, R, TypeExpression, Default, expect, is_dollar, dollar_at, rule}
 use Rattle.unit_parser.proofs.composites.composite_parameter.Goals as goal
+use Rattle.expr_parser.specs.RuleLaws.{runs_last}
 
 -- the rule after the name, and after the type
 abbrev named : TypeExpr → Name → R CompositeParameter
@@ -44,5 +45,5 @@ pub returns : goal.returns
 returns c =
     says_on {P = Reads rule (Default c.in_ok-kind.kind c.in_ok-name.name) c.in_ok-name.behind.now} {Q = RunsTo rule composite_parameter c.args.ts.now}
     (λ o q. passed S.Less c.in_ok-behind.ensures (line_read c.in_ok-kind.ensures (passed S.Greater c.in_ok-behind-2.ensures
-    (dollar_passed (named c.in_ok-kind.kind) c.in_ok-name.ensures (last q)))))
+    (dollar_passed (named c.in_ok-kind.kind) c.in_ok-name.ensures (runs_last q)))))
     c.defaulted.result c.defaulted.ensures

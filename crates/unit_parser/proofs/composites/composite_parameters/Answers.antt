@@ -1,13 +1,14 @@
 use Rattle.std.proofs.Common.{List, [], ◌∷◌, ◌++◌, subst, arith}
 use Rattle.spl_tree.specs.declared.unit.CompositeParameter.{CompositeParameter}
 use Rattle.expr_parser.specs.Rules.{done, call, Took, Reads}
-use Rattle.statement_parser.proofs.Readings.{finished, reads, taken, skipped, last, fails}
-use Rattle.statement_parser.proofs.StatementReadings.{runs_shrinks, part_read, part_fails}
+use Rattle.statement_parser.proofs.Readings.{finished, reads, taken, skipped, fails}
+use Rattle.statement_parser.proofs.StatementReadings.{part_read, part_fails}
 use Rattle.unit_parser.specs.GivesParts.{composite_parameter}
 use Rattle.statement_parser.specs.Lines as lines
 use Rattle.statement_parser.specs.Lines.{R}
 use Rattle.unit_parser.proofs.composites.composite_parameters.Goals as goal
-use Rattle.expr_parser.proofs.LineSteps.{taken_shrinks}
+use Rattle.expr_parser.proofs.Locality.{runs_shrinks, taken_shrinks}
+use Rattle.expr_parser.specs.RuleLaws.{runs_last}
 
 -- the rule after one more parameter
 abbrev more : List CompositeParameter → CompositeParameter → R (List CompositeParameter)
@@ -34,4 +35,4 @@ pub parameters-preserved : goal.parameters-preserved
 unfolding lines.rule
 parameters-preserved c =
     λ o r. c.parameters.invariant o (reads (taken c.in-Some.ensures (part_read composite_parameter (more c.parameters.all) c.in_ok-one.ensures
-    (last (subst (λ ps. Reads lines.rule (lines.CompositeParameters ps) c.in_ok-one.behind.now o) c.in_ok-push.ensures.ok r)))))
+    (runs_last (subst (λ ps. Reads lines.rule (lines.CompositeParameters ps) c.in_ok-one.behind.now o) c.in_ok-push.ensures.ok r)))))

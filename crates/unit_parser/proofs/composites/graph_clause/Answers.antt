@@ -1,13 +1,14 @@
 use Rattle.std.proofs.Common.{[], sym, subst}
 use Rattle.expr_parser.specs.Rules.{Took, Reads}
-use Rattle.statement_parser.proofs.Readings.{finished, reads, taken, skipped, last, says_on}
+use Rattle.statement_parser.proofs.Readings.{finished, reads, taken, skipped, says_on}
 use Rattle.statement_parser.specs.Lines as lines
 use Rattle.unit_parser.proofs.composites.graph_clause.Goals as goal
+use Rattle.expr_parser.specs.RuleLaws.{runs_last}
 
 pub returns-in-Some : goal.returns-in-Some
 unfolding lines.rule
 returns-in-Some c =
-    says_on {P = Reads lines.rule (lines.Graph []) c.in-Some.behind.now} {Q = Reads lines.rule lines.GraphClause c.args.ts.now} (λ o r. reads (taken c.in-Some.ensures (last r))) c.graph.result c.graph.ensures
+    says_on {P = Reads lines.rule (lines.Graph []) c.in-Some.behind.now} {Q = Reads lines.rule lines.GraphClause c.args.ts.now} (λ o r. reads (taken c.in-Some.ensures (runs_last r))) c.graph.result c.graph.ensures
 
 pub returns-in-None : goal.returns-in-None
 unfolding lines.rule

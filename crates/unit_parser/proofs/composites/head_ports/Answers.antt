@@ -2,11 +2,11 @@ use Rattle.std.proofs.Common.{[], sym, subst}
 use Rattle.spl_tree.specs.declared.keyword.Keyword.TheVariants as K
 use Rattle.expr_parser.specs.Rules.{Took, Reads}
 use Rattle.statement_parser.proofs.Readings.{finished, reads, taken, skipped, word_passed, line_read, fails, word_fails, line_fails}
-use Rattle.unit_parser.proofs.CompositeReadings.{bound, runs_bound, bound_fails}
 use Rattle.unit_parser.specs.GivesComposites.{other_ports_rule}
 use Rattle.statement_parser.specs.Lines as lines
 use Rattle.unit_parser.proofs.CompositeReadings.{outputs_first, inputs_first}
 use Rattle.unit_parser.proofs.composites.head_ports.Goals as goal
+use Rattle.statement_parser.proofs.StatementReadings.{behind, part_read, part_fails}
 
 pub returns-in_default : goal.returns-in_default
 unfolding lines.rule
@@ -26,9 +26,9 @@ returns-in_err-outputs-in-Some-word_first c =
 pub returns-in_err-inputs-in-Some-word_first : goal.returns-in_err-inputs-in-Some-word_first
 unfolding lines.rule
 returns-in_err-inputs-in-Some-word_first c =
-    fails lines.HeadPorts c.args.ts.now c.in_ok-outputs-in-Some-word_first.behind.now (bound (other_ports_rule K.Input) (outputs_first c.in_ok-outputs-in-Some-word_first.outputs)) c.from_residual-in_err-inputs-in-Some-word_first.result c.in_err-inputs-in-Some-word_first.field-0.0 c.from_residual-in_err-inputs-in-Some-word_first.ensures.1
+    fails lines.HeadPorts c.args.ts.now c.in_ok-outputs-in-Some-word_first.behind.now (behind (other_ports_rule K.Input) (outputs_first c.in_ok-outputs-in-Some-word_first.outputs)) c.from_residual-in_err-inputs-in-Some-word_first.result c.in_err-inputs-in-Some-word_first.field-0.0 c.from_residual-in_err-inputs-in-Some-word_first.ensures.1
     (λ o q. reads (taken c.in-Some.ensures (taken c.in-Some-word_first.ensures (line_read c.in_ok-outputs-in-Some-word_first.ensures q))))
-    (bound_fails (outputs_first c.in_ok-outputs-in-Some-word_first.outputs) (other_ports_rule K.Input) _ _ c.in_err-inputs-in-Some-word_first.ensures)
+    (part_fails (other_ports_rule K.Input) (outputs_first c.in_ok-outputs-in-Some-word_first.outputs) _ _ c.in_err-inputs-in-Some-word_first.ensures)
 
 pub returns-in_err-behind-in-None : goal.returns-in_err-behind-in-None
 unfolding lines.rule
@@ -47,18 +47,18 @@ returns-in_err-inputs-in-None c =
 pub returns-in_err-outputs-in-None : goal.returns-in_err-outputs-in-None
 unfolding lines.rule
 returns-in_err-outputs-in-None c =
-    fails lines.HeadPorts c.args.ts.now c.in_ok-inputs-in-None.behind.now (bound (other_ports_rule K.Output) (inputs_first c.in_ok-inputs-in-None.inputs)) c.from_residual-in_err-outputs-in-None.result c.in_err-outputs-in-None.field-0.0 c.from_residual-in_err-outputs-in-None.ensures.1
+    fails lines.HeadPorts c.args.ts.now c.in_ok-inputs-in-None.behind.now (behind (other_ports_rule K.Output) (inputs_first c.in_ok-inputs-in-None.inputs)) c.from_residual-in_err-outputs-in-None.result c.in_err-outputs-in-None.field-0.0 c.from_residual-in_err-outputs-in-None.ensures.1
     (λ o q. reads (taken c.in-Some.ensures (skipped c.in-None.ensures (word_passed K.Input c.in_ok-behind-in-None.ensures (line_read c.in_ok-inputs-in-None.ensures q)))))
-    (bound_fails (inputs_first c.in_ok-inputs-in-None.inputs) (other_ports_rule K.Output) _ _ c.in_err-outputs-in-None.ensures)
+    (part_fails (other_ports_rule K.Output) (inputs_first c.in_ok-inputs-in-None.inputs) _ _ c.in_err-outputs-in-None.ensures)
 
 pub returns-in_ok-inputs-in-Some-word_first : goal.returns-in_ok-inputs-in-Some-word_first
 unfolding lines.rule
 returns-in_ok-inputs-in-Some-word_first c =
     reads (taken c.in-Some.ensures (taken c.in-Some-word_first.ensures (line_read c.in_ok-outputs-in-Some-word_first.ensures
-    (runs_bound (outputs_first c.in_ok-outputs-in-Some-word_first.outputs) (other_ports_rule K.Input) c.in_ok-inputs-in-Some-word_first.ensures finished tt))))
+    (part_read (other_ports_rule K.Input) (outputs_first c.in_ok-outputs-in-Some-word_first.outputs) c.in_ok-inputs-in-Some-word_first.ensures finished))))
 
 pub returns-in_ok-outputs-in-None : goal.returns-in_ok-outputs-in-None
 unfolding lines.rule
 returns-in_ok-outputs-in-None c =
     reads (taken c.in-Some.ensures (skipped c.in-None.ensures (word_passed K.Input c.in_ok-behind-in-None.ensures (line_read c.in_ok-inputs-in-None.ensures
-    (runs_bound (inputs_first c.in_ok-inputs-in-None.inputs) (other_ports_rule K.Output) c.in_ok-outputs-in-None.ensures finished tt)))))
+    (part_read (other_ports_rule K.Output) (inputs_first c.in_ok-inputs-in-None.inputs) c.in_ok-outputs-in-None.ensures finished)))))

@@ -1,10 +1,10 @@
 use Rattle.std.proofs.Common.{[], ◌∷◌, ◌++◌, sym, subst, arith}
 use Rattle.expr_parser.specs.Rules.{done, Took, RunsTo, Reads}
-use Rattle.statement_parser.proofs.Readings.{finished, reads, taken, skipped, line_read, last, fails, line_fails}
-use Rattle.unit_parser.proofs.CompositeReadings.{reads_shrinks}
+use Rattle.statement_parser.proofs.Readings.{finished, reads, taken, skipped, line_read, fails, line_fails}
 use Rattle.statement_parser.specs.Lines as lines
 use Rattle.unit_parser.proofs.composites.ports.Goals as goal
-use Rattle.expr_parser.proofs.LineSteps.{taken_shrinks}
+use Rattle.expr_parser.proofs.Locality.{reads_shrinks, taken_shrinks}
+use Rattle.expr_parser.specs.RuleLaws.{runs_last}
 
 pub returns-in_err-one : goal.returns-in_err-one
 unfolding lines.rule
@@ -29,4 +29,4 @@ pub ports-preserved : goal.ports-preserved
 unfolding lines.rule
 ports-preserved c =
     λ o r. c.ports.invariant o (reads (line_read c.in_ok-one.ensures (taken c.in-Some.ensures
-    (last (subst (λ ps. Reads lines.rule (lines.Ports ps) c.in-Some.after_comma.now o) c.in_ok-push.ensures.ok r)))))
+    (runs_last (subst (λ ps. Reads lines.rule (lines.Ports ps) c.in-Some.after_comma.now o) c.in_ok-push.ensures.ok r)))))

@@ -1,10 +1,11 @@
 use Rattle.std.proofs.Common.{[], subst}
 use Rattle.expr_parser.specs.Rules.{Took, Reads}
 use Rattle.statement_parser.proofs.Readings.{finished, reads, skipped, fails}
-use Rattle.unit_parser.proofs.CompositeReadings.{bound, bound_fails, rule_comes, one_more}
+use Rattle.unit_parser.proofs.CompositeReadings.{rule_comes, one_more}
 use Rattle.statement_parser.specs.Lines as lines
 use Rattle.unit_parser.proofs.CompositeReadings.{more_types, taken_begins, type_shrinks, type_read}
 use Rattle.unit_parser.proofs.composites.types.Goals as goal
+use Rattle.statement_parser.proofs.StatementReadings.{behind, part_fails}
 
 pub returns-in_default : goal.returns-in_default
 unfolding lines.rule
@@ -13,9 +14,9 @@ returns-in_default c = c.types.invariant (Took c.types.all c.types.at.now) (read
 pub returns-in_err-one : goal.returns-in_err-one
 unfolding lines.rule
 returns-in_err-one c =
-    fails (lines.Types []) c.args.ts.now c.types.at.now (bound (lines.rule lines.TypeOf) (one_more c.types.all)) c.from_residual.result c.in_err-one.field-0.0 c.from_residual.ensures.1
+    fails (lines.Types []) c.args.ts.now c.types.at.now (behind (lines.rule lines.TypeOf) (one_more c.types.all)) c.from_residual.result c.in_err-one.field-0.0 c.from_residual.ensures.1
     (λ o q. c.types.invariant o (more_types (taken_begins c.in-Some.ensures.0) q))
-    (bound_fails (one_more c.types.all) (lines.rule lines.TypeOf) _ _ (rule_comes lines.TypeOf _ _ c.in_err-one.ensures))
+    (part_fails (lines.rule lines.TypeOf) (one_more c.types.all) _ _ (rule_comes lines.TypeOf _ _ c.in_err-one.ensures))
 
 pub types-smaller : goal.types-smaller
 types-smaller c = type_shrinks c.in_ok-one.ensures

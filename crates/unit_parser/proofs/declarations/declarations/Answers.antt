@@ -1,9 +1,10 @@
 use Rattle.std.proofs.Common.{[], ◌∷◌, ◌++◌, subst, arith}
 use Rattle.expr_parser.specs.Rules.{call, done, Took, Reads}
-use Rattle.statement_parser.proofs.Readings.{finished, reads, taken, skipped, line_read, last, fails, line_fails}
+use Rattle.statement_parser.proofs.Readings.{finished, reads, taken, skipped, line_read, fails, line_fails}
 use Rattle.unit_parser.proofs.DeclarationReadings.{declaration_shrinks}
 use Rattle.statement_parser.specs.Lines.{Declare, Declarations, rule}
 use Rattle.unit_parser.proofs.declarations.declarations.Goals as goal
+use Rattle.expr_parser.specs.RuleLaws.{runs_last}
 
 pub returns-in-Some : goal.returns-in-Some
 unfolding rule
@@ -26,4 +27,4 @@ pub declarations-preserved : goal.declarations-preserved
 unfolding rule
 declarations-preserved c =
     λ o r. c.declarations.invariant o (reads (skipped c.in_default.ensures (line_read c.in_ok-one.ensures
-    (last {x = Declarations (c.declarations.all ++ c.in_ok-one.one ∷ [])} (subst (λ ds. Reads rule (Declarations ds) c.in_ok-one.behind.now o) c.in_ok-push.ensures.ok r)))))
+    (runs_last {x = Declarations (c.declarations.all ++ c.in_ok-one.one ∷ [])} (subst (λ ds. Reads rule (Declarations ds) c.in_ok-one.behind.now o) c.in_ok-push.ensures.ok r)))))

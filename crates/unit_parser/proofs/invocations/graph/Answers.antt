@@ -8,8 +8,8 @@ use Rattle.statement_parser.specs.Gives.{Gives}
 use Rattle.unit_parser.specs.GivesClauses.{InvocationFound, InvocationsOn}
 use Rattle.statement_parser.specs.Lines as lines
 use Rattle.statement_parser.proofs.Readings.{says_on}
-use Rattle.unit_parser.proofs.Rows.{handed_on}
 use Rattle.unit_parser.proofs.invocations.graph.Goals as goal
+use Rattle.expr_parser.proofs.Derive.{exit}
 
 -- an invocation is begun and doesn't go on, after others
 stops : (ts : List Token) (xs : List Invocation) (e : Stop) → InvocationsOn ts (Err e) → Gives (lines.Graph xs) ts (Err e)
@@ -18,7 +18,7 @@ stops ts xs S.Memory g = tt
 
 pub returns-in_err-found : goal.returns-in_err-found
 returns-in_err-found c =
-    handed_on (Gives (lines.Graph []) c.args.ts.now) c.from_residual.result c.in_err-found.field-0.0 c.from_residual.ensures.1
+    exit (Gives (lines.Graph []) c.args.ts.now) c.from_residual.result c.in_err-found.field-0.0 c.from_residual.ensures.1
     (says_on {P = Reads lines.rule (lines.Graph c.invocations.all) c.invocations.at.now} {Q = Reads lines.rule (lines.Graph []) c.args.ts.now}
     c.invocations.invariant (Err c.in_err-found.field-0.0)
     (stops c.invocations.at.now c.invocations.all c.in_err-found.field-0.0 c.in_err-found.ensures))

@@ -4,10 +4,11 @@ use Rattle.expr_parser.specs.Lines as expressions
 use Rattle.expr_parser.specs.Rules.{done, look, call, Took, Reads}
 use Rattle.statement_parser.specs.Lines.{Name, R}
 use Rattle.statement_parser.specs.Lines as lines
-use Rattle.statement_parser.proofs.Readings.{reads, taken, skipped, name_passed, last, fails, name_fails}
-use Rattle.unit_parser.proofs.Rows.{taken_as_shrinks, made}
+use Rattle.statement_parser.proofs.Readings.{reads, taken, skipped, name_passed, fails, name_fails}
+use Rattle.unit_parser.proofs.Rows.{made}
 use Rattle.unit_parser.proofs.invocations.input_streams.Goals as goal
-use Rattle.expr_parser.proofs.LineSteps.{taken_shrinks}
+use Rattle.expr_parser.proofs.Locality.{taken_as_shrinks, taken_shrinks}
+use Rattle.expr_parser.specs.RuleLaws.{runs_last}
 
 -- after the name of one more stream
 abbrev stream_behind : List Name → Name → R (List Name)
@@ -31,7 +32,7 @@ unfolding lines.rule
 streams-preserved c =
     λ o r. c.streams.invariant o
     (reads (name_passed (stream_behind c.streams.all) c.in_ok-name.ensures (taken c.in-Some.ensures
-    (last (subst (λ ns. Reads lines.rule (lines.InputStreams ns) c.in-Some.after_comma.now o) c.in_ok-push.ensures.ok r)))))
+    (runs_last (subst (λ ns. Reads lines.rule (lines.InputStreams ns) c.in-Some.after_comma.now o) c.in_ok-push.ensures.ok r)))))
 
 pub streams-smaller : goal.streams-smaller
 streams-smaller c =

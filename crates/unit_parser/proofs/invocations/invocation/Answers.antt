@@ -10,10 +10,11 @@ use Rattle.statement_parser.specs.Gives.{Comes}
 use Rattle.unit_parser.specs.GivesClauses.{InvocationsOn}
 use Rattle.statement_parser.specs.Lines.{Name, R}
 use Rattle.statement_parser.specs.Lines as lines
-use Rattle.statement_parser.proofs.Readings.{finished, reads, taken, skipped, line_read, last, line_fails}
-use Rattle.unit_parser.proofs.Rows.{reads_shrinks, handed_on}
+use Rattle.statement_parser.proofs.Readings.{finished, reads, taken, skipped, line_read, line_fails}
 use Rattle.unit_parser.proofs.invocations.invocation.Goals as goal
-use Rattle.expr_parser.proofs.LineSteps.{taken_shrinks}
+use Rattle.expr_parser.proofs.Locality.{reads_shrinks, taken_shrinks}
+use Rattle.expr_parser.proofs.Derive.{exit}
+use Rattle.expr_parser.specs.RuleLaws.{runs_last}
 
 -- after the head of one more invocation at a place, after others
 abbrev head_behind : ℕ → List Invocation → List OutputStream × Option Name → R (List Invocation)
@@ -29,7 +30,7 @@ stops ts mid r S.Memory on c = tt
 pub returns-in_err-head : goal.returns-in_err-head
 unfolding lines.rule
 returns-in_err-head c =
-    handed_on (InvocationsOn c.args.ts.now) c.from_residual.result c.in_err-head.field-0.0 c.from_residual.ensures.1
+    exit (InvocationsOn c.args.ts.now) c.from_residual.result c.in_err-head.field-0.0 c.from_residual.ensures.1
     (stops c.args.ts.now c.in-Some.behind.now
     (λ xs. call lines.StreamHead (head_behind c.in-Some.word.now.start xs)) c.in_err-head.field-0.0
     (λ xs o q. reads (taken c.in-Some.ensures q))
@@ -38,7 +39,7 @@ returns-in_err-head c =
 pub returns-in_err-one : goal.returns-in_err-one
 unfolding lines.rule
 returns-in_err-one c =
-    handed_on (InvocationsOn c.args.ts.now) c.from_residual-in_err-one.result c.in_err-one.field-0.0 c.from_residual-in_err-one.ensures.1
+    exit (InvocationsOn c.args.ts.now) c.from_residual-in_err-one.result c.in_err-one.field-0.0 c.from_residual-in_err-one.ensures.1
     (stops c.args.ts.now c.in_ok-head.behind.now
     (λ xs. head_behind c.in-Some.word.now.start xs c.in_ok-head.head) c.in_err-one.field-0.0
     (λ xs o q. reads (taken c.in-Some.ensures (line_read c.in_ok-head.ensures q)))
@@ -50,12 +51,12 @@ returns-in-Some c =
     let taken_first = taken_shrinks c.in-Some.ensures in
     let head_read = reads_shrinks c.in_ok-head.ensures in
     let one_read = reads_shrinks c.in_ok-one.ensures in
-    (omega arith, λ xs o r. reads (taken c.in-Some.ensures (line_read c.in_ok-head.ensures (line_read c.in_ok-one.ensures (last r)))))
+    (omega arith, λ xs o r. reads (taken c.in-Some.ensures (line_read c.in_ok-head.ensures (line_read c.in_ok-one.ensures (runs_last r)))))
 
 pub returns-in_err-head-2 : goal.returns-in_err-head-2
 unfolding lines.rule
 returns-in_err-head-2 c =
-    handed_on (InvocationsOn c.args.ts.now) c.from_residual-in_err-head-2.result c.in_err-head-2.field-0.0 c.from_residual-in_err-head-2.ensures.1
+    exit (InvocationsOn c.args.ts.now) c.from_residual-in_err-head-2.result c.in_err-head-2.field-0.0 c.from_residual-in_err-head-2.ensures.1
     (stops c.args.ts.now c.in-Some-after.behind.now
     (λ xs. call lines.ListHead (head_behind c.in-Some-after.open.now.start xs)) c.in_err-head-2.field-0.0
     (λ xs o q. reads (skipped c.in_default.ensures (taken c.in-Some-after.ensures q)))
@@ -64,7 +65,7 @@ returns-in_err-head-2 c =
 pub returns-in_err-one-2 : goal.returns-in_err-one-2
 unfolding lines.rule
 returns-in_err-one-2 c =
-    handed_on (InvocationsOn c.args.ts.now) c.from_residual-in_err-one-2.result c.in_err-one-2.field-0.0 c.from_residual-in_err-one-2.ensures.1
+    exit (InvocationsOn c.args.ts.now) c.from_residual-in_err-one-2.result c.in_err-one-2.field-0.0 c.from_residual-in_err-one-2.ensures.1
     (stops c.args.ts.now c.in_ok-head-2.behind.now
     (λ xs. head_behind c.in-Some-after.open.now.start xs c.in_ok-head-2.head) c.in_err-one-2.field-0.0
     (λ xs o q. reads (skipped c.in_default.ensures (taken c.in-Some-after.ensures (line_read c.in_ok-head-2.ensures q))))
@@ -76,7 +77,7 @@ returns c =
     let taken_first = taken_shrinks c.in-Some-after.ensures in
     let head_read = reads_shrinks c.in_ok-head-2.ensures in
     let one_read = reads_shrinks c.in_ok-one-2.ensures in
-    (omega arith, λ xs o r. reads (skipped c.in_default.ensures (taken c.in-Some-after.ensures (line_read c.in_ok-head-2.ensures (line_read c.in_ok-one-2.ensures (last r))))))
+    (omega arith, λ xs o r. reads (skipped c.in_default.ensures (taken c.in-Some-after.ensures (line_read c.in_ok-head-2.ensures (line_read c.in_ok-one-2.ensures (runs_last r))))))
 
 pub returns-in_default-after : goal.returns-in_default-after
 unfolding lines.rule

@@ -2,10 +2,11 @@ use Rattle.std.proofs.Common.{subst, arith, []}
 use Rattle.spl_tree.specs.declared.symbol.Symbol.TheVariants as S
 use Rattle.expr_parser.specs.Rules.{Took, Reads}
 use Rattle.statement_parser.specs.Lines as lines
-use Rattle.statement_parser.proofs.Readings.{reads, taken, skipped, passed, line_read, last, fails, pass_fails, line_fails}
-use Rattle.unit_parser.proofs.Rows.{reads_shrinks, made}
+use Rattle.statement_parser.proofs.Readings.{reads, taken, skipped, passed, line_read, fails, pass_fails, line_fails}
+use Rattle.unit_parser.proofs.Rows.{made}
 use Rattle.unit_parser.proofs.invocations.more_inputs.Goals as goal
-use Rattle.expr_parser.proofs.LineSteps.{taken_shrinks}
+use Rattle.expr_parser.proofs.Locality.{reads_shrinks, taken_shrinks}
+use Rattle.expr_parser.specs.RuleLaws.{runs_last}
 
 pub returns-in_err-streams : goal.returns-in_err-streams
 unfolding lines.rule
@@ -40,7 +41,7 @@ unfolding lines.rule
 inputs-preserved c =
     λ o r. c.inputs.invariant o
     (reads (line_read c.in_ok-streams.ensures (line_read c.in_ok-alias.ensures (taken c.in-Some.ensures
-    (last (subst (λ ps. Reads lines.rule (lines.MoreInputs ps) c.in-Some.behind.now o) c.in_ok-push.ensures.ok r))))))
+    (runs_last (subst (λ ps. Reads lines.rule (lines.MoreInputs ps) c.in-Some.behind.now o) c.in_ok-push.ensures.ok r))))))
 
 pub inputs-smaller : goal.inputs-smaller
 inputs-smaller c =

@@ -3,10 +3,11 @@ use Rattle.spl_tree.specs.declared.keyword.Keyword.TheVariants as K
 use Rattle.spl_tree.specs.declared.symbol.Symbol.TheVariants as S
 use Rattle.expr_parser.specs.Rules.{Took, Reads}
 use Rattle.statement_parser.specs.Lines as lines
-use Rattle.statement_parser.proofs.Readings.{reads, taken, skipped, passed, word_passed, line_read, last, fails, pass_fails, word_fails, line_fails}
-use Rattle.unit_parser.proofs.Rows.{reads_shrinks, made}
+use Rattle.statement_parser.proofs.Readings.{reads, taken, skipped, passed, word_passed, line_read, fails, pass_fails, word_fails, line_fails}
+use Rattle.unit_parser.proofs.Rows.{made}
 use Rattle.unit_parser.proofs.invocations.streams.Goals as goal
-use Rattle.expr_parser.proofs.LineSteps.{taken_shrinks}
+use Rattle.expr_parser.proofs.Locality.{reads_shrinks, taken_shrinks}
+use Rattle.expr_parser.specs.RuleLaws.{runs_last}
 
 pub returns-in_err-behind : goal.returns-in_err-behind
 unfolding lines.rule
@@ -41,7 +42,7 @@ unfolding lines.rule
 streams-preserved c =
     λ o r. c.streams.invariant o
     (reads (word_passed K.Stream c.in_ok-behind.ensures (line_read c.in_ok-one.ensures (taken c.in-Some.ensures
-    (last (subst (λ xs. Reads lines.rule (lines.Streams xs) c.in-Some.behind.now o) c.in_ok-push.ensures.ok r))))))
+    (runs_last (subst (λ xs. Reads lines.rule (lines.Streams xs) c.in-Some.behind.now o) c.in_ok-push.ensures.ok r))))))
 
 pub streams-smaller : goal.streams-smaller
 streams-smaller c =

@@ -1,12 +1,14 @@
 use Rattle.std.proofs.Common.{◌∙◌, Some, None, sym, arith}
 use Rattle.spl_tree.specs.declared.keyword.Keyword.TheVariants as K
-use Rattle.statement_parser.proofs.Readings.{reads, taken, skipped, word_passed, line_read, last, word_fails, line_fails}
-use Rattle.unit_parser.proofs.CompositeReadings.{reads_shrinks, bound, bound_fails, rule_comes}
+use Rattle.statement_parser.proofs.Readings.{reads, taken, skipped, word_passed, line_read, word_fails, line_fails}
+use Rattle.unit_parser.proofs.CompositeReadings.{rule_comes}
 use Rattle.unit_parser.proofs.DefinitionReadings.{type_behind, define_fails, defines, NoWord, no_more, typed, typed_read}
 use Rattle.unit_parser.specs.GivesComposites.{composite_behind, function_behind}
 use Rattle.statement_parser.specs.Lines as lines
 use Rattle.unit_parser.proofs.units.definition.Goals as goal
-use Rattle.expr_parser.proofs.LineSteps.{taken_shrinks}
+use Rattle.expr_parser.proofs.Locality.{reads_shrinks, taken_shrinks}
+use Rattle.statement_parser.proofs.StatementReadings.{behind, part_fails}
+use Rattle.expr_parser.specs.RuleLaws.{runs_last}
 
 pub returns-in_err-one : goal.returns-in_err-one
 unfolding lines.rule
@@ -19,7 +21,7 @@ pub returns-in-Some : goal.returns-in-Some
 unfolding lines.rule
 returns-in-Some c = (
   (let one = taken_shrinks c.in-Some.ensures in let two = reads_shrinks c.in_ok-one.ensures in omega arith),
-  λ xs o r. reads (taken c.in-Some.ensures (line_read c.in_ok-one.ensures (last r))),
+  λ xs o r. reads (taken c.in-Some.ensures (line_read c.in_ok-one.ensures (runs_last r))),
 )
 
 pub returns-in_err-behind : goal.returns-in_err-behind
@@ -71,9 +73,9 @@ returns-in_err-kind c =
       no_composite = c.in_default-word_first-2.ensures;
       no_void = c.in_default-word_first-3.ensures;
     } in
-    define_fails c.args.ts.now c.args.ts.now (λ xs. bound (lines.rule lines.TypeExpression) (λ k. function_behind (Some k) xs)) c.from_residual-in_err-kind.result c.in_err-kind.field-0.0 c.from_residual-in_err-kind.ensures.1
+    define_fails c.args.ts.now c.args.ts.now (λ xs. behind (lines.rule lines.TypeExpression) (λ k. function_behind (Some k) xs)) c.from_residual-in_err-kind.result c.in_err-kind.field-0.0 c.from_residual-in_err-kind.ensures.1
     (λ xs. typed none xs (sym c.type_begins.ensures ∙ c.if-not-type_begins.false))
-    (λ xs. bound_fails (λ k. function_behind (Some k) xs) (lines.rule lines.TypeExpression) _ _ (rule_comes lines.TypeExpression _ _ c.in_err-kind.ensures))
+    (λ xs. part_fails (lines.rule lines.TypeExpression) (λ k. function_behind (Some k) xs) _ _ (rule_comes lines.TypeExpression _ _ c.in_err-kind.ensures))
 
 pub returns : goal.returns
 returns c =

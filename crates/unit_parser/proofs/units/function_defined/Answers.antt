@@ -1,8 +1,9 @@
-use Rattle.statement_parser.proofs.Readings.{last, line_fails, line_read}
+use Rattle.statement_parser.proofs.Readings.{line_fails, line_read}
 use Rattle.statement_parser.specs.Lines as lines
 use Rattle.unit_parser.specs.GivesComposites.{function_behind}
 use Rattle.unit_parser.proofs.DefinitionReadings.{function_shrinks, defines_none}
 use Rattle.unit_parser.proofs.units.function_defined.Goals as goal
+use Rattle.expr_parser.specs.RuleLaws.{runs_last}
 
 pub returns-in_err-one : goal.returns-in_err-one
 returns-in_err-one c =
@@ -10,4 +11,4 @@ returns-in_err-one c =
     (λ xs. line_fails _ (lines.FunctionOf c.args.kind) _ _ c.in_err-one.ensures)
 
 pub returns : goal.returns
-returns c = (function_shrinks c.in_ok-one.ensures, λ xs o r. line_read c.in_ok-one.ensures (last r))
+returns c = (function_shrinks c.in_ok-one.ensures, λ xs o r. line_read c.in_ok-one.ensures (runs_last r))

@@ -1,7 +1,8 @@
-use Rattle.statement_parser.proofs.Readings.{reads, taken, skipped, name_passed, last, name_fails}
+use Rattle.statement_parser.proofs.Readings.{reads, taken, skipped, name_passed, name_fails}
 use Rattle.unit_parser.proofs.DefinitionReadings.{namespace_named, names_fail, names_end}
 use Rattle.statement_parser.specs.Lines as lines
 use Rattle.unit_parser.proofs.units.namespace.Goals as goal
+use Rattle.expr_parser.specs.RuleLaws.{runs_last}
 
 pub returns-in_err-behind : goal.returns-in_err-behind
 unfolding lines.rule
@@ -18,4 +19,4 @@ returns-in_default c =
 
 pub names-preserved : goal.names-preserved
 unfolding lines.rule
-names-preserved c = λ o r. c.names.invariant o (reads (name_passed namespace_named c.in_ok-behind.ensures (taken c.in-Some.ensures (last r))))
+names-preserved c = λ o r. c.names.invariant o (reads (name_passed namespace_named c.in_ok-behind.ensures (taken c.in-Some.ensures (runs_last r))))
