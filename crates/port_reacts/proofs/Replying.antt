@@ -3,6 +3,7 @@ use Rattle.std.proofs.Common.{◌≡◌, ℕ, zero, suc, Bool, true, false, if�
 use Rattle.spl_value.specs.declared.item.Fault.{Fault}
 use Rattle.spl_value.specs.declared.item.Item.{Item}
 use Rattle.spl_value.specs.declared.item.Item.TheVariants as I
+use Rattle.spl_value.specs.declared.value.Value.{Value}
 use Rattle.language_model.specs.Outcomes.{Done, Faulted, Stuck}
 use Rattle.stream_model.specs.declared.reply.Reply.{Reply}
 use Rattle.stream_model.specs.declared.reply.Reply.TheVariants as R
@@ -53,6 +54,11 @@ replies_at op h port x r k = by_item x r k
 pub replies_by : (op : Operator) (h : List Event) (port : ℕ) (x : Item) (r : Reply) (a : Reaction) → port_body op h port x ≡ a → RepliesToItem op.number (length op.outs) a x r
     → RepliesAt op h port x r
 replies_by op h port x r a is k = replies_at op h port x r (subst (λ b. RepliesToItem op.number (length op.outs) b x r) (sym is) k)
+
+-- a tuple causes what the body makes of it
+pub tuple_replies : (op : Operator) (h : List Event) (port : ℕ) (x : Item) (vs : List Value) (r : Reply) (a : Reaction) → x ≡ I.Tuple vs → port_body op h port (I.Tuple vs) ≡ a
+    → RepliesTo op.number (length op.outs) a r → RepliesAt op h port x r
+tuple_replies op h port x vs r a is makes k = subst (λ x. RepliesAt op h port x r) (sym is) (replies_by op h port (I.Tuple vs) r a makes k)
 
 -- ---- what fits
 

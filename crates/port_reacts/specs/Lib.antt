@@ -1,2 +1,3 @@
 pub mod PortReplies
 pub mod Bodies
+pub mod Evaluation

@@ -1,5 +1,5 @@
 //! Items that operators of several kinds give.
-ghost use Rattle.std.specs.Prelude.{◌≡◌, ◌≤◌, [], IfOk};
+ghost use Rattle.std.specs.Prelude.{◌≡◌, ◌≤◌, ◌++◌, [], IfOk};
 ghost use Rattle.stream_model.specs.Bodies.{on_each, on_first};
 ghost use Rattle.port_reacts.specs.Bodies.{GoesOn};
 
@@ -24,12 +24,20 @@ pub fn on_each_port(alloc: Global, ports: usize, item: &Item) -> Result<Outs, No
     Ok(outs)
 }
 
+/// Gives an item on the first output port, after those that are given before.
+pub fn give_first(outs: &mut Outs, item: Item) -> Result<(), NoMemory>
+    ensures { IfOk result (λ _. outs.new ≡ outs.old ++ on_first item) }
+{
+    outs.push(Output { port: 0, item })?;
+    Ok(())
+}
+
 /// The item on the first output port, after which the operator goes on.
 pub fn given_first(alloc: Global, item: Item) -> Reply
     ensures { GoesOn (on_first item) result }
 {
     let mut outs = Outs::new(alloc);
-    match outs.push(Output { port: 0, item }) {
+    match give_first(&mut outs, item) {
         Ok(()) => Reply::Out(outs),
         Err(_) => Reply::Memory,
     }

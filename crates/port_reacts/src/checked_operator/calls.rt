@@ -1,17 +1,23 @@
 //! What checked operators reply.
 ghost use Rattle.std.specs.Prelude.{◌≡◌, ◌<◌, Some, length, slice_get};
+ghost use Rattle.value_operations.specs.Answers.{StopsAs};
+ghost use Rattle.stream_model.specs.Bodies.{Makes};
 ghost use Rattle.stream_model.specs.CheckedMeaning.{graph_of, operator_with};
 ghost use Rattle.stream_model.specs.Fitting.{IsFitting};
 ghost use Rattle.stream_model.specs.PathLaws.{fault_by};
-ghost use Rattle.port_reacts.specs.Bodies.{EndsBy};
+ghost use Rattle.stream_model.specs.React.{answer};
+ghost use Rattle.port_reacts.specs.Bodies.{EndsBy, RepliesTo};
+ghost use Rattle.port_reacts.specs.PortReplies.{WhereOut};
 
 use crate::checked_operator::CheckedOperator;
 use crate::fit_laws::fits_law;
 use crate::replies::on_each_port;
 use language_model::Checked;
+use spl_tree::Functions;
 use spl_value::{Fault, FaultKind, Item};
 use std::alloc::Global;
 use stream_model::Reply;
+use value_operations::Stop;
 
 impl<'c> CheckedOperator<'c> {
     /// The operator of the graph with this number. There is one.
@@ -41,6 +47,14 @@ impl<'c> CheckedOperator<'c> {
         }
     }
 
+    /// The functions that its clauses may call.
+    pub fn functions(&self) -> &'c Functions
+        ensures { result.now ≡ self.now.checked.now.functions }
+    {
+        let checked = self.checked;
+        &checked.functions
+    }
+
     /// The end of the operator by a fault, which goes to each of its output ports.
     pub fn ended_by(&self, alloc: Global, fault: Fault) -> Reply
         ensures { EndsBy (length self.now.op.now.outs) fault result }
@@ -61,5 +75,17 @@ impl<'c> CheckedOperator<'c> {
             line: 0,
         };
         self.ended_by(alloc, fault)
+    }
+
+    /// The reply where an evaluation ends early, whatever its outcome.
+    pub fn stopped(&self, alloc: Global, stop: Stop) -> Reply
+        ensures replies { (outcome : Makes) → StopsAs outcome stop
+            → RepliesTo self.now.number (length self.now.op.now.outs) (answer outcome) result }
+        ensures ends { WhereOut result ⊥ }
+    {
+        match stop {
+            Stop::Fault(kind) => self.faulted(alloc, kind),
+            Stop::Memory => Reply::Memory,
+        }
     }
 }
