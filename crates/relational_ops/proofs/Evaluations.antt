@@ -18,7 +18,7 @@ use Rattle.stream_model.specs.Bodies.{Makes, at_tuple, filter_body, holds, made_
 use Rattle.stream_model.specs.PathLaws.{fault_by}
 use Rattle.stream_model.specs.React.{Gives, Faults, answer}
 use Rattle.port_reacts.specs.Bodies.{EndsBy, GoesOn, RepliesTo}
-use Rattle.relational_ops.specs.Idle.{idle}
+use Rattle.port_reacts.specs.Evaluation.{idle}
 
 -- ---- the tuple in the environment
 

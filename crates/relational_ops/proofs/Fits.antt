@@ -31,7 +31,8 @@ use Rattle.stream_model.specs.Fitting.{HasPort, IsFitting}
 use Rattle.stream_model.proofs.FittingCodes.{tuples_env}
 use Rattle.stream_model.proofs.SimpleFits.{tuple_came, at_first}
 use Rattle.expr_eval.specs.Fitting.{IsFit}
-use Rattle.relational_ops.specs.Fitting.{MakingFits, PassesFit, WhereTuple}
+use Rattle.port_reacts.specs.Evaluation.{PassesFit}
+use Rattle.relational_ops.specs.Fitting.{MakingFits, WhereTuple}
 
 -- ---- one port
 

@@ -1,5 +1,5 @@
 -- What an operator with one input port asks of a tuple that comes on it: that its clauses fit the tuple.
-use Rattle.std.specs.Prelude.{⊤, List, Option, None, Some}
+use Rattle.std.specs.Prelude.{⊤, List, Option}
 use Rattle.spl_value.specs.declared.item.Item.{Item}
 use Rattle.spl_value.specs.declared.item.Item.TheVariants as I
 use Rattle.spl_value.specs.declared.types.SplType.TheVariants as S
@@ -10,11 +10,7 @@ use Rattle.spl_tree.specs.declared.code.Slot.{Slot}
 use Rattle.language_model.specs.declared.env.Env.{Env}
 use Rattle.language_model.specs.StreamTypes.{Attributes}
 use Rattle.language_model.specs.WorldFits.{Fits}
-
--- a condition, where there is one, fits
-abbrev pub PassesFit : List Function → Option (Code Slot) → Env → Type 0
-PassesFit functions None env = ⊤
-PassesFit functions (Some condition) env = Fits functions condition env S.Bool
+use Rattle.port_reacts.specs.Evaluation.{PassesFit}
 
 -- this holds of a tuple
 abbrev pub WhereTuple : (List Value → Type 0) → Item → Type 0

@@ -1,28 +1,17 @@
 //! Conditions on the tuples that come on an operator's one input port.
-ghost use Rattle.std.specs.Prelude.{◌≡◌, IfOk};
+ghost use Rattle.std.specs.Prelude.{◌≡◌};
 ghost use Rattle.spl_value.specs.declared.types.SplType.TheVariants as T;
 ghost use Rattle.language_model.specs.WorldFits.{Fits};
 ghost use Rattle.stream_model.specs.Bodies.{at_tuple, holds, most_turns};
-ghost use Rattle.relational_ops.specs.Idle.{idle};
+ghost use Rattle.port_reacts.specs.Evaluation.{idle};
 ghost use Rattle.relational_ops.specs.steps.Judging.{JudgedAs};
 
 use expr_eval::{Truth, holds};
 use language_model::Env;
-use port_reacts::MOST_TURNS;
-use spl_tree::{Code, Functions, Slot};
-use spl_value::{FaultKind, Items, NoMemory, Values};
+use port_reacts::{CheckedOperator, MOST_TURNS};
+use spl_tree::{Code, Slot};
+use spl_value::{FaultKind, Values};
 use std::alloc::Global;
-
-/// An environment without a tuple, and with room for one.
-pub(crate) fn idle_env(alloc: Global) -> Result<Env, NoMemory>
-    ensures { IfOk result (λ env. env ≡ idle) }
-{
-    Ok(Env {
-        inputs: Items::with_capacity(alloc, 1)?,
-        vars: Items::new(alloc),
-        punct: None,
-    })
-}
 
 /// The result of a condition for a tuple.
 #[derive(Drop)]
@@ -37,21 +26,21 @@ pub(crate) enum Judged {
 /// Whether a condition holds for a tuple, which comes back. The environment is idle before and after.
 pub(crate) fn judge(
     alloc: Global,
-    functions: &Functions,
+    at: &CheckedOperator<'_>,
     condition: &Code<Slot>,
     env: &mut Env,
     values: Values,
 ) -> Judged
-    requires fit { Fits functions.now condition.now (at_tuple values) T.Bool }
+    requires fit { Fits at.now.checked.now.functions condition.now (at_tuple values) T.Bool }
     requires idle { env.old ≡ idle }
-    ensures judged { JudgedAs (holds functions.now condition.now (at_tuple values) most_turns) values result }
+    ensures judged { JudgedAs (holds at.now.checked.now.functions condition.now (at_tuple values) most_turns) values result }
     ensures idle { env.new ≡ env.old }
 {
     if env.inputs.push(values).is_err() {
         return Judged::Memory;
     }
     let mut turns = MOST_TURNS;
-    let truth = holds(alloc, functions, condition, env, &mut turns);
+    let truth = holds(alloc, at.functions(), condition, env, &mut turns);
     let Some(values) = env.inputs.pop() else {
         unreachable!()
     };

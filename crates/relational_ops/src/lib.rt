@@ -4,6 +4,7 @@
 mod filter;
 mod functor;
 mod judging;
+mod passing;
 mod punctor;
 mod split;
 

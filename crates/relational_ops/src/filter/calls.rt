@@ -7,15 +7,15 @@ ghost use Rattle.language_model.specs.declared.checked.CheckedClauses.TheVariant
 ghost use Rattle.stream_model.specs.Bodies.{at_tuple, filter_body};
 ghost use Rattle.stream_model.specs.CheckedMeaning.{graph_of, operator_with};
 ghost use Rattle.stream_model.specs.React.{answer};
-ghost use Rattle.port_reacts.specs.Bodies.{RepliesTo, RepliesToItem};
-ghost use Rattle.relational_ops.specs.Idle.{idle};
-ghost use Rattle.relational_ops.specs.Fitting.{PassesFit, WhereTuple};
+ghost use Rattle.port_reacts.specs.Bodies.{RepliesTo};
+ghost use Rattle.port_reacts.specs.Evaluation.{PassesFit, idle};
 
 use crate::filter::Filter;
-use crate::judging::{Judged, idle_env, judge};
+use crate::judging::{Judged, judge};
+use crate::passing::passed;
 use language_model::{Checked, CheckedClauses, Env};
-use port_reacts::{CheckedOperator, OnPort, fits_law, given_first, given_none};
-use spl_tree::{Code, Functions, Slot};
+use port_reacts::{CheckedOperator, OnPort, fits_law, given_first, given_none, idle_env};
+use spl_tree::{Code, Slot};
 use spl_value::{Item, NoMemory, Values};
 use std::alloc::Global;
 use stream_model::Reply;
@@ -24,48 +24,24 @@ use stream_model::Reply;
 fn on_tuple(
     alloc: Global,
     at: &CheckedOperator<'_>,
-    functions: &Functions,
     condition: &Option<Code<Slot>>,
     env: &mut Env,
     values: Values,
 ) -> Reply
-    requires fit { PassesFit functions.now condition.now (at_tuple values) }
+    requires fit { PassesFit at.now.checked.now.functions condition.now (at_tuple values) }
     requires idle { env.old ≡ idle }
     ensures replies { RepliesTo at.now.number (length at.now.op.now.outs)
-        (answer (filter_body functions.now condition.now (I.Tuple values))) result }
+        (answer (filter_body at.now.checked.now.functions condition.now (I.Tuple values))) result }
     ensures idle { env.new ≡ env.old }
 {
     let Some(condition) = condition else {
         return given_first(alloc, Item::Tuple(values));
     };
-    match judge(alloc, functions, condition, env, values) {
+    match judge(alloc, at, condition, env, values) {
         Judged::Held(true, values) => given_first(alloc, Item::Tuple(values)),
         Judged::Held(false, _) => given_none(alloc),
         Judged::Faulted(kind) => at.faulted(alloc, kind),
         Judged::Memory => Reply::Memory,
-    }
-}
-
-/// What an item causes.
-fn on_item(
-    alloc: Global,
-    at: &CheckedOperator<'_>,
-    functions: &Functions,
-    condition: &Option<Code<Slot>>,
-    env: &mut Env,
-    item: Item,
-) -> Reply
-    requires fit { WhereTuple (λ vs. PassesFit functions.now condition.now (at_tuple vs)) item }
-    requires idle { env.old ≡ idle }
-    ensures replies { RepliesToItem at.now.number (length at.now.op.now.outs)
-        (answer (filter_body functions.now condition.now item)) item result }
-    ensures idle { env.new ≡ env.old }
-{
-    match item {
-        Item::Tuple(values) => on_tuple(alloc, at, functions, condition, env, values),
-        Item::Window => given_first(alloc, Item::Window),
-        Item::Final => given_none(alloc),
-        Item::Bad(fault) => at.ended_by(alloc, fault),
     }
 }
 
@@ -76,15 +52,11 @@ impl<'c> OnPort for Filter<'c> {
 
     fn on_port(&mut self, port: u32, item: Item) -> Reply {
         fits_law();
-        let checked = self.at.checked;
-        on_item(
-            self.alloc,
-            &self.at,
-            &checked.functions,
-            self.condition,
-            &mut self.env,
-            item,
-        )
+        let (alloc, at, env) = (self.alloc, &self.at, &mut self.env);
+        match item {
+            Item::Tuple(values) => on_tuple(alloc, at, self.condition, env, values),
+            item => passed(alloc, at, item),
+        }
     }
 }
 

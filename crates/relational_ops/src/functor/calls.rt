@@ -8,17 +8,16 @@ ghost use Rattle.stream_model.specs.Bodies.{at_tuple, functor_body};
 ghost use Rattle.stream_model.specs.CheckedMeaning.{graph_of, operator_with};
 ghost use Rattle.stream_model.specs.React.{answer};
 ghost use Rattle.expr_eval.specs.Moving.{MovesFit};
-ghost use Rattle.port_reacts.specs.Bodies.{RepliesTo, RepliesToItem};
-ghost use Rattle.relational_ops.specs.Idle.{idle};
-ghost use Rattle.relational_ops.specs.Fitting.{MakingFits, WhereTuple};
+ghost use Rattle.port_reacts.specs.Bodies.{RepliesTo};
+ghost use Rattle.port_reacts.specs.Evaluation.{idle};
+ghost use Rattle.relational_ops.specs.Fitting.{MakingFits};
 
-use crate::functor::Functor;
 use crate::functor::making::{Mapped, map_tuple};
 use crate::functor::moves::moves_of;
-use crate::judging::idle_env;
+use crate::functor::{Clauses, Functor};
+use crate::passing::passed;
 use language_model::{Checked, CheckedClauses, Env};
-use port_reacts::{CheckedOperator, OnPort, fits_law, given_first, given_none};
-use spl_tree::{Code, Functions, Slot};
+use port_reacts::{CheckedOperator, OnPort, fits_law, given_first, given_none, idle_env};
 use spl_value::{Item, NoMemory, Values};
 use std::alloc::Global;
 use stream_model::Reply;
@@ -27,24 +26,21 @@ use stream_model::Reply;
 fn on_tuple(
     alloc: Global,
     at: &CheckedOperator<'_>,
-    functions: &Functions,
-    condition: &Option<Code<Slot>>,
-    output: &Code<Slot>,
-    moves: &[Option<u32>],
+    clauses: &Clauses<'_>,
     env: &mut Env,
     values: Values,
 ) -> Reply
-    requires fit { MakingFits functions.now condition.now output.now (at_tuple values) }
-    requires moves { MovesFit output.now moves.now }
+    requires fit { MakingFits at.now.checked.now.functions clauses.now.condition.now clauses.now.output.now (at_tuple values) }
+    requires moves { MovesFit clauses.now.output.now clauses.now.moves }
     requires idle { env.old ≡ idle }
     ensures replies { RepliesTo at.now.number (length at.now.op.now.outs)
-        (answer (functor_body functions.now condition.now output.now (I.Tuple values))) result }
+        (answer (functor_body at.now.checked.now.functions clauses.now.condition.now clauses.now.output.now (I.Tuple values))) result }
     ensures idle { env.new ≡ env.old }
 {
     if env.inputs.push(values).is_err() {
         return Reply::Memory;
     }
-    let mapped = map_tuple(alloc, functions, condition, output, moves, env);
+    let mapped = map_tuple(alloc, at, clauses, env);
     env.inputs.clear();
     match mapped {
         Mapped::To(values) => given_first(alloc, Item::Tuple(values)),
@@ -54,52 +50,18 @@ fn on_tuple(
     }
 }
 
-/// What an item causes.
-fn on_item(
-    alloc: Global,
-    at: &CheckedOperator<'_>,
-    functions: &Functions,
-    condition: &Option<Code<Slot>>,
-    output: &Code<Slot>,
-    moves: &[Option<u32>],
-    env: &mut Env,
-    item: Item,
-) -> Reply
-    requires fit { WhereTuple (λ vs. MakingFits functions.now condition.now output.now (at_tuple vs)) item }
-    requires moves { MovesFit output.now moves.now }
-    requires idle { env.old ≡ idle }
-    ensures replies { RepliesToItem at.now.number (length at.now.op.now.outs)
-        (answer (functor_body functions.now condition.now output.now item)) item result }
-    ensures idle { env.new ≡ env.old }
-{
-    match item {
-        Item::Tuple(values) => {
-            on_tuple(alloc, at, functions, condition, output, moves, env, values)
-        }
-        Item::Window => given_first(alloc, Item::Window),
-        Item::Final => given_none(alloc),
-        Item::Bad(fault) => at.ended_by(alloc, fault),
-    }
-}
-
 impl<'c> OnPort for Functor<'c> {
     ghost spec = { λ s. operator_with s.at.checked.now s.at.number s.at.op.now s.at.part.now };
 
-    ghost stands = { λ s h. (s.at.part.now ≡ A.Functor s.condition.now s.output.now) × (s.env ≡ idle) × MovesFit s.output.now s.moves };
+    ghost stands = { λ s h. (s.at.part.now ≡ A.Functor s.clauses.condition.now s.clauses.output.now) × (s.env ≡ idle) × MovesFit s.clauses.output.now s.clauses.moves };
 
     fn on_port(&mut self, port: u32, item: Item) -> Reply {
         fits_law();
-        let checked = self.at.checked;
-        on_item(
-            self.alloc,
-            &self.at,
-            &checked.functions,
-            self.condition,
-            self.output,
-            self.moves.as_slice(),
-            &mut self.env,
-            item,
-        )
+        let (alloc, at, env) = (self.alloc, &self.at, &mut self.env);
+        match item {
+            Item::Tuple(values) => on_tuple(alloc, at, &self.clauses, env, values),
+            item => passed(alloc, at, item),
+        }
     }
 }
 
@@ -118,9 +80,11 @@ impl<'c> Functor<'c> {
         Ok(Functor {
             alloc,
             at,
-            condition,
-            output,
-            moves: moves_of(alloc, output)?,
+            clauses: Clauses {
+                condition,
+                output,
+                moves: moves_of(alloc, output)?,
+            },
             env: idle_env(alloc)?,
         })
     }

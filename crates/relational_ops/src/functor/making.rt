@@ -4,14 +4,15 @@ ghost use Rattle.spl_value.specs.declared.types.SplType.TheVariants as T;
 ghost use Rattle.language_model.specs.StreamTypes.{Attributes};
 ghost use Rattle.language_model.specs.WorldFits.{Fits};
 ghost use Rattle.stream_model.specs.Bodies.{made_where, most_turns, passes, tuple_by};
-ghost use Rattle.relational_ops.specs.Fitting.{PassesFit};
+ghost use Rattle.port_reacts.specs.Evaluation.{PassesFit};
 ghost use Rattle.expr_eval.specs.Moving.{MovesFit};
 ghost use Rattle.value_operations.specs.Answers.{IsMadeAs, IsSo};
 ghost use Rattle.relational_ops.specs.steps.Making.{MakesAs};
 
+use crate::functor::Clauses;
 use expr_eval::{Made, Truth, holds, tuple_moving};
 use language_model::Env;
-use port_reacts::MOST_TURNS;
+use port_reacts::{CheckedOperator, MOST_TURNS};
 use spl_tree::{Code, Functions, Slot};
 use spl_value::{FaultKind, Items, Values};
 use std::alloc::Global;
@@ -78,23 +79,23 @@ fn made(
 /// isn't used any more.
 pub(crate) fn map_tuple(
     alloc: Global,
-    functions: &Functions,
-    condition: &Option<Code<Slot>>,
-    output: &Code<Slot>,
-    moves: &[Option<u32>],
+    at: &CheckedOperator<'_>,
+    clauses: &Clauses<'_>,
     env: &mut Env,
 ) -> Mapped
-    requires condition { PassesFit functions.now condition.now env.old }
-    requires output { (schema : Attributes) × Fits functions.now output.now env.old (T.Tuple schema) }
-    requires moves { MovesFit output.now moves.now }
+    requires condition { PassesFit at.now.checked.now.functions clauses.now.condition.now env.old }
+    requires output { (schema : Attributes) × Fits at.now.checked.now.functions clauses.now.output.now env.old (T.Tuple schema) }
+    requires moves { MovesFit clauses.now.output.now clauses.now.moves }
     requires came { 0 < length env.old.inputs }
-    ensures made { MakesAs (made_where functions.now condition.now output.now env.old most_turns) result }
+    ensures made { MakesAs (made_where at.now.checked.now.functions clauses.now.condition.now clauses.now.output.now env.old most_turns) result }
     ensures vars { env.new.vars ≡ env.old.vars }
     ensures punct { env.new.punct ≡ env.old.punct }
 {
+    let functions = at.functions();
+    let moves = clauses.moves.as_slice();
     let mut turns = MOST_TURNS;
-    match passes(alloc, functions, condition, env, &mut turns) {
-        Truth::Is(true) => match made(alloc, functions, output, moves, env, &mut turns) {
+    match passes(alloc, functions, clauses.condition, env, &mut turns) {
+        Truth::Is(true) => match made(alloc, functions, clauses.output, moves, env, &mut turns) {
             Made::Tuple(values) => Mapped::To(values),
             Made::Bad(kind) => Mapped::Faulted(kind),
             Made::Memory => Mapped::Memory,

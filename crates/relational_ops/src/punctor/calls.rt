@@ -10,15 +10,15 @@ ghost use Rattle.language_model.specs.WorldFits.{Fits};
 ghost use Rattle.stream_model.specs.Bodies.{at_tuple, on_first, punctor_body, with_marker};
 ghost use Rattle.stream_model.specs.CheckedMeaning.{graph_of, operator_with};
 ghost use Rattle.stream_model.specs.React.{answer};
-ghost use Rattle.port_reacts.specs.Bodies.{GoesOn, RepliesTo, RepliesToItem};
-ghost use Rattle.relational_ops.specs.Idle.{idle};
-ghost use Rattle.relational_ops.specs.Fitting.{WhereTuple};
+ghost use Rattle.port_reacts.specs.Bodies.{GoesOn, RepliesTo};
+ghost use Rattle.port_reacts.specs.Evaluation.{idle};
 
-use crate::judging::{Judged, idle_env, judge};
+use crate::judging::{Judged, judge};
+use crate::passing::passed;
 use crate::punctor::Punctor;
-use language_model::{Checked, CheckedClauses, Env, Output, Outs, Position};
-use port_reacts::{CheckedOperator, OnPort, fits_law, given_first, given_none};
-use spl_tree::{Code, Functions, Slot};
+use language_model::{Checked, CheckedClauses, Env, Outs, Position};
+use port_reacts::{CheckedOperator, OnPort, fits_law, give_first, given_first, idle_env};
+use spl_tree::{Code, Slot};
 use spl_value::{Item, NoMemory, Values};
 use std::alloc::Global;
 use stream_model::Reply;
@@ -28,14 +28,8 @@ fn given_both(alloc: Global, first: Item, second: Item) -> Result<Outs, NoMemory
     ensures { IfOk result (λ outs. outs ≡ on_first first ++ on_first second) }
 {
     let mut outs = Outs::new(alloc);
-    outs.push(Output {
-        port: 0,
-        item: first,
-    })?;
-    outs.push(Output {
-        port: 0,
-        item: second,
-    })?;
+    give_first(&mut outs, first)?;
+    give_first(&mut outs, second)?;
     Ok(outs)
 }
 
@@ -57,47 +51,22 @@ fn given_marked(alloc: Global, position: Position, values: Values) -> Reply
 fn on_tuple(
     alloc: Global,
     at: &CheckedOperator<'_>,
-    functions: &Functions,
     condition: &Code<Slot>,
     position: Position,
     env: &mut Env,
     values: Values,
 ) -> Reply
-    requires fit { Fits functions.now condition.now (at_tuple values) T.Bool }
+    requires fit { Fits at.now.checked.now.functions condition.now (at_tuple values) T.Bool }
     requires idle { env.old ≡ idle }
     ensures replies { RepliesTo at.now.number (length at.now.op.now.outs)
-        (answer (punctor_body functions.now condition.now position (I.Tuple values))) result }
+        (answer (punctor_body at.now.checked.now.functions condition.now position (I.Tuple values))) result }
     ensures idle { env.new ≡ env.old }
 {
-    match judge(alloc, functions, condition, env, values) {
+    match judge(alloc, at, condition, env, values) {
         Judged::Held(true, values) => given_marked(alloc, position, values),
         Judged::Held(false, values) => given_first(alloc, Item::Tuple(values)),
         Judged::Faulted(kind) => at.faulted(alloc, kind),
         Judged::Memory => Reply::Memory,
-    }
-}
-
-/// What an item causes.
-fn on_item(
-    alloc: Global,
-    at: &CheckedOperator<'_>,
-    functions: &Functions,
-    condition: &Code<Slot>,
-    position: Position,
-    env: &mut Env,
-    item: Item,
-) -> Reply
-    requires fit { WhereTuple (λ vs. Fits functions.now condition.now (at_tuple vs) T.Bool) item }
-    requires idle { env.old ≡ idle }
-    ensures replies { RepliesToItem at.now.number (length at.now.op.now.outs)
-        (answer (punctor_body functions.now condition.now position item)) item result }
-    ensures idle { env.new ≡ env.old }
-{
-    match item {
-        Item::Tuple(values) => on_tuple(alloc, at, functions, condition, position, env, values),
-        Item::Window => given_first(alloc, Item::Window),
-        Item::Final => given_none(alloc),
-        Item::Bad(fault) => at.ended_by(alloc, fault),
     }
 }
 
@@ -108,16 +77,11 @@ impl<'c> OnPort for Punctor<'c> {
 
     fn on_port(&mut self, port: u32, item: Item) -> Reply {
         fits_law();
-        let checked = self.at.checked;
-        on_item(
-            self.alloc,
-            &self.at,
-            &checked.functions,
-            self.condition,
-            self.position,
-            &mut self.env,
-            item,
-        )
+        let (alloc, at, env) = (self.alloc, &self.at, &mut self.env);
+        match item {
+            Item::Tuple(values) => on_tuple(alloc, at, self.condition, self.position, env, values),
+            item => passed(alloc, at, item),
+        }
     }
 }
 

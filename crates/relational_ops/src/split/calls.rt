@@ -9,15 +9,14 @@ ghost use Rattle.stream_model.specs.CheckedMeaning.{graph_of, operator_with};
 ghost use Rattle.stream_model.specs.React.{answer};
 ghost use Rattle.expr_eval.specs.Fitting.{IsFit};
 ghost use Rattle.port_reacts.specs.Bodies.{GoesOn, RepliesTo, RepliesToItem};
-ghost use Rattle.relational_ops.specs.Idle.{idle};
+ghost use Rattle.port_reacts.specs.Evaluation.{idle};
 ghost use Rattle.relational_ops.specs.Fitting.{WhereTuple};
 
-use crate::judging::idle_env;
 use crate::split::Split;
 use crate::split::picking::{Picked, given_picked, integer_of, pick};
 use language_model::{Checked, CheckedClauses, Env};
-use port_reacts::{CheckedOperator, OnPort, fits_law, given_none, on_each_port};
-use spl_tree::{Code, Functions, Slot};
+use port_reacts::{CheckedOperator, OnPort, fits_law, given_none, idle_env, on_each_port};
+use spl_tree::{Code, Slot};
 use spl_value::{Item, NoMemory, Values};
 use std::alloc::Global;
 use stream_model::Reply;
@@ -26,19 +25,18 @@ use stream_model::Reply;
 fn on_tuple(
     alloc: Global,
     at: &CheckedOperator<'_>,
-    functions: &Functions,
     index: &Code<Slot>,
     env: &mut Env,
     values: Values,
 ) -> Reply
-    requires fit { IsFit functions.now index.now (at_tuple values) }
+    requires fit { IsFit at.now.checked.now.functions index.now (at_tuple values) }
     requires some { 0 < length at.now.op.now.outs }
     requires idle { env.old ≡ idle }
     ensures replies { RepliesTo at.now.number (length at.now.op.now.outs)
-        (answer (split_body functions.now index.now (length at.now.op.now.outs) (I.Tuple values))) result }
+        (answer (split_body at.now.checked.now.functions index.now (length at.now.op.now.outs) (I.Tuple values))) result }
     ensures idle { env.new ≡ env.old }
 {
-    match pick(alloc, functions, index, env, values) {
+    match pick(alloc, at, index, env, values) {
         Picked::Index(index, values) => {
             let index = integer_of(&index);
             given_picked(alloc, at.op.outs.len(), index, Item::Tuple(values))
@@ -62,20 +60,19 @@ fn given_markers(alloc: Global, at: &CheckedOperator<'_>) -> Reply
 fn on_item(
     alloc: Global,
     at: &CheckedOperator<'_>,
-    functions: &Functions,
     index: &Code<Slot>,
     env: &mut Env,
     item: Item,
 ) -> Reply
-    requires fit { WhereTuple (λ vs. IsFit functions.now index.now (at_tuple vs)) item }
+    requires fit { WhereTuple (λ vs. IsFit at.now.checked.now.functions index.now (at_tuple vs)) item }
     requires some { 0 < length at.now.op.now.outs }
     requires idle { env.old ≡ idle }
     ensures replies { RepliesToItem at.now.number (length at.now.op.now.outs)
-        (answer (split_body functions.now index.now (length at.now.op.now.outs) item)) item result }
+        (answer (split_body at.now.checked.now.functions index.now (length at.now.op.now.outs) item)) item result }
     ensures idle { env.new ≡ env.old }
 {
     match item {
-        Item::Tuple(values) => on_tuple(alloc, at, functions, index, env, values),
+        Item::Tuple(values) => on_tuple(alloc, at, index, env, values),
         Item::Window => given_markers(alloc, at),
         Item::Final => given_none(alloc),
         Item::Bad(fault) => at.ended_by(alloc, fault),
@@ -89,15 +86,7 @@ impl<'c> OnPort for Split<'c> {
 
     fn on_port(&mut self, port: u32, item: Item) -> Reply {
         fits_law();
-        let checked = self.at.checked;
-        on_item(
-            self.alloc,
-            &self.at,
-            &checked.functions,
-            self.index,
-            &mut self.env,
-            item,
-        )
+        on_item(self.alloc, &self.at, self.index, &mut self.env, item)
     }
 }
 

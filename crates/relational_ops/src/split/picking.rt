@@ -7,13 +7,13 @@ ghost use Rattle.stream_model.specs.Bodies.{at_tuple, most_turns, on_picked};
 ghost use Rattle.stream_model.specs.Windows.{integer_of};
 ghost use Rattle.expr_eval.specs.Fitting.{IsFit};
 ghost use Rattle.port_reacts.specs.Bodies.{GoesOn};
-ghost use Rattle.relational_ops.specs.Idle.{idle};
+ghost use Rattle.port_reacts.specs.Evaluation.{idle};
 ghost use Rattle.relational_ops.specs.steps.Judging.{PickedAs};
 
 use expr_eval::eval;
 use language_model::{Env, Output, Outs};
-use port_reacts::{MOST_TURNS, given_none};
-use spl_tree::{Code, Functions, Slot};
+use port_reacts::{CheckedOperator, MOST_TURNS, given_none};
+use spl_tree::{Code, Slot};
 use spl_value::{Evaluated, FaultKind, Item, Value, Values};
 use std::alloc::Global;
 use stream_model::Reply;
@@ -41,21 +41,21 @@ pub(crate) fn integer_of(value: &Value) -> i128
 /// The index of a tuple, which comes back. The environment is idle before and after.
 pub(crate) fn pick(
     alloc: Global,
-    functions: &Functions,
+    at: &CheckedOperator<'_>,
     index: &Code<Slot>,
     env: &mut Env,
     values: Values,
 ) -> Picked
-    requires fit { IsFit functions.now index.now (at_tuple values) }
+    requires fit { IsFit at.now.checked.now.functions index.now (at_tuple values) }
     requires idle { env.old ≡ idle }
-    ensures picked { PickedAs (value functions.now index.now (world_of (at_tuple values)) most_turns) values result }
+    ensures picked { PickedAs (value at.now.checked.now.functions index.now (world_of (at_tuple values)) most_turns) values result }
     ensures idle { env.new ≡ env.old }
 {
     if env.inputs.push(values).is_err() {
         return Picked::Memory;
     }
     let mut turns = MOST_TURNS;
-    let found = eval(alloc, functions, index, env, &mut turns);
+    let found = eval(alloc, at.functions(), index, env, &mut turns);
     let Some(values) = env.inputs.pop() else {
         unreachable!()
     };

@@ -1,30 +1,48 @@
-use Rattle.std.proofs.Common.{◌∙◌, ap, sym, subst}
-use Rattle.language_model.specs.CheckedGraph.{CheckedGraph}
-use Rattle.stream_model.specs.Bodies.{at_tuple, filter_body}
+use Rattle.std.proofs.Common.{ap, subst}
+use Rattle.spl_value.specs.declared.item.Item.TheVariants as I
+use Rattle.stream_model.specs.Bodies.{filter_body}
 use Rattle.stream_model.specs.CheckedMeaning.{operator_with}
+use Rattle.stream_model.specs.Fitting.{HasPort}
 use Rattle.stream_model.specs.React.{answer, makes_by}
-use Rattle.port_reacts.proofs.Replying.{outs_fit, replies_by}
-use Rattle.relational_ops.specs.Fitting.{PassesFit, WhereTuple}
+use Rattle.port_reacts.proofs.Replying.{outs_fit, replies_by, tuple_replies}
 use Rattle.relational_ops.proofs.Fits.{filter_fit}
 use Rattle.relational_ops.proofs.filter.calls.FilterOnPort.on_port.Goals as goal
 
-pub on_item-requires-clause-fit : goal.on_item-requires-clause-fit
-on_item-requires-clause-fit c =
-    let s = c.args.self.now in
-    let may = c.requires.2 in
-    subst (λ fs. WhereTuple (λ vs. PassesFit fs s.condition.now (at_tuple vs)) c.args.item) (ap (λ (g : CheckedGraph). g.functions) (sym c.checked.view_is))
-    (filter_fit (operator_with s.at.checked.now s.at.number s.at.op.now s.at.part.now) c.args.port c.args.item s.condition.now may.fitting c.requires.1.0 may.has)
-
-pub returns-clause-replies : goal.returns-clause-replies
-returns-clause-replies c h stands may =
+pub on_tuple-requires-clause-fit : goal.on_tuple-requires-clause-fit
+on_tuple-requires-clause-fit c =
     let s = c.args.self.now in
     let op = operator_with s.at.checked.now s.at.number s.at.op.now s.at.part.now in
-    replies_by op h c.args.port c.args.item c.on_item.result _
-    (ap (λ part. answer (makes_by part op h c.args.port c.args.item)) stands.0
-    ∙ ap (λ (g : CheckedGraph). let fs = g.functions in answer (filter_body fs s.condition.now c.args.item)) (sym c.checked.view_is)) c.on_item.ensures.replies
+    let may = c.requires.2 in
+    let vs = c.in-Tuple.values in
+    filter_fit op c.args.port (I.Tuple vs) s.condition.now may.fitting c.requires.1.0 (subst (HasPort op c.args.port) c.in-Tuple.is may.has)
 
-pub returns-clause-fits : goal.returns-clause-fits
-returns-clause-fits c =
+pub returns-in-Tuple-clause-replies : goal.returns-in-Tuple-clause-replies
+returns-in-Tuple-clause-replies c h stands may =
     let s = c.args.self.now in
-    outs_fit (operator_with s.at.checked.now s.at.number s.at.op.now s.at.part.now) c.requires.0 c.args.port c.args.item c.on_item.result c.fits_law.ensures.makes c.requires.2
-    (returns-clause-replies c c.requires.0 c.requires.1 c.requires.2)
+    let op = operator_with s.at.checked.now s.at.number s.at.op.now s.at.part.now in
+    let x = I.Tuple c.in-Tuple.values in
+    tuple_replies op h c.args.port c.args.item c.in-Tuple.values c.on_tuple.result _ c.in-Tuple.is
+    (ap (λ part. answer (makes_by part op h c.args.port x)) stands.0) c.on_tuple.ensures.replies
+
+pub returns-in-Tuple-clause-fits : goal.returns-in-Tuple-clause-fits
+returns-in-Tuple-clause-fits c =
+    let s = c.args.self.now in
+    outs_fit (operator_with s.at.checked.now s.at.number s.at.op.now s.at.part.now) c.requires.0 c.args.port c.args.item c.on_tuple.result c.fits_law.ensures.makes c.requires.2
+    (returns-in-Tuple-clause-replies c c.requires.0 c.requires.1 c.requires.2)
+
+pub passed-requires : goal.passed-requires
+passed-requires c = c.in_default.not-Tuple
+
+pub returns-in_default-clause-replies : goal.returns-in_default-clause-replies
+returns-in_default-clause-replies c h stands may =
+    let s = c.args.self.now in
+    let op = operator_with s.at.checked.now s.at.number s.at.op.now s.at.part.now in
+    let fs = op.functions in
+    replies_by op h c.args.port c.args.item c.passed.result _ (ap (λ part. answer (makes_by part op h c.args.port c.args.item)) stands.0)
+    (c.passed.ensures (λ vs. filter_body fs s.condition.now (I.Tuple vs)))
+
+pub returns-in_default-clause-fits : goal.returns-in_default-clause-fits
+returns-in_default-clause-fits c =
+    let s = c.args.self.now in
+    outs_fit (operator_with s.at.checked.now s.at.number s.at.op.now s.at.part.now) c.requires.0 c.args.port c.args.item c.passed.result c.fits_law.ensures.makes c.requires.2
+    (returns-in_default-clause-replies c c.requires.0 c.requires.1 c.requires.2)

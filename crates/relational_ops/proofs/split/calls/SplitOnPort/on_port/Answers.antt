@@ -1,11 +1,7 @@
-use Rattle.std.proofs.Common.{◌∙◌, ap, sym, subst, length}
-use Rattle.language_model.specs.CheckedGraph.{CheckedGraph}
-use Rattle.stream_model.specs.Bodies.{at_tuple, split_body}
+use Rattle.std.proofs.Common.{ap}
 use Rattle.stream_model.specs.CheckedMeaning.{operator_with}
 use Rattle.stream_model.specs.React.{answer, makes_by}
 use Rattle.port_reacts.proofs.Replying.{outs_fit, replies_by}
-use Rattle.expr_eval.specs.Fitting.{IsFit}
-use Rattle.relational_ops.specs.Fitting.{WhereTuple}
 use Rattle.relational_ops.proofs.Fits.{split_fit, split_outs}
 use Rattle.relational_ops.proofs.split.calls.SplitOnPort.on_port.Goals as goal
 
@@ -13,8 +9,7 @@ pub on_item-requires-clause-fit : goal.on_item-requires-clause-fit
 on_item-requires-clause-fit c =
     let s = c.args.self.now in
     let may = c.requires.2 in
-    subst (λ fs. WhereTuple (λ vs. IsFit fs s.index.now (at_tuple vs)) c.args.item) (ap (λ (g : CheckedGraph). g.functions) (sym c.checked.view_is))
-    (split_fit (operator_with s.at.checked.now s.at.number s.at.op.now s.at.part.now) c.args.port c.args.item s.index.now may.fitting c.requires.1.0 may.has)
+    split_fit (operator_with s.at.checked.now s.at.number s.at.op.now s.at.part.now) c.args.port c.args.item s.index.now may.fitting c.requires.1.0 may.has
 
 pub on_item-requires-clause-some : goal.on_item-requires-clause-some
 on_item-requires-clause-some c =
@@ -26,8 +21,7 @@ returns-clause-replies c h stands may =
     let s = c.args.self.now in
     let op = operator_with s.at.checked.now s.at.number s.at.op.now s.at.part.now in
     replies_by op h c.args.port c.args.item c.on_item.result _
-    (ap (λ part. answer (makes_by part op h c.args.port c.args.item)) stands.0
-    ∙ ap (λ (g : CheckedGraph). let fs = g.functions in answer (split_body fs s.index.now (length s.at.op.now.outs) c.args.item)) (sym c.checked.view_is)) c.on_item.ensures.replies
+    (ap (λ part. answer (makes_by part op h c.args.port c.args.item)) stands.0) c.on_item.ensures.replies
 
 pub returns-clause-fits : goal.returns-clause-fits
 returns-clause-fits c =
