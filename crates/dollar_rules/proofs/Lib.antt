@@ -8,3 +8,5 @@ pub mod Settles
 pub mod SettlesMore
 pub mod ExpansionDollars
 pub mod TablesGrown
+pub mod WeightLaws
+pub mod CountedParts

@@ -1,23 +1,35 @@
 //! How large the codes of values of `$` parameters are. Each use of a parameter copies its code, so a
 //! row of them may grow to twice as much at each step.
+ghost use Rattle.std.specs.Prelude.{◌≡◌, ◌+◌, ◌<◌, ◌≤◌, ◌&&◌, nat_le};
+ghost use Rattle.std.specs.Bool.{OnFalse, OnTrue};
+ghost use Rattle.dollar_rules.specs.Weights.{depth, depth_in, entry_codes, field_codes, parts, parts_in, selector_codes};
+
 use spl_tree::{Code, Selector, Slot};
 
-/// The depth that the code of a parameter's value may have at most.
+/// How deep the code of a parameter's value may be at most.
 const DEEPEST: u32 = 1_000;
 
-/// The most parts that it may have.
+/// How many parts it may have at most.
 const MOST_PARTS: u32 = 65_536;
 
 /// Whether a code is so small that it can be copied at each use.
-pub(crate) fn is_small(code: &Code<Slot>) -> bool {
+pub(crate) fn is_small(code: &Code<Slot>) -> bool
+    ensures { result ≡ (nat_le (depth code.now) DEEPEST && nat_le (parts code.now) MOST_PARTS) }
+{
     let mut left = MOST_PARTS;
     fits(code, DEEPEST, &mut left)
 }
 
-/// Whether a code is no deeper than that, and has no more parts than are left.
+/// Whether a code is no deeper than that many levels and has no more parts than are left, from which
+/// its own are then taken. After `false` what is left means nothing.
 #[cycle(fits)]
-fn fits(code: &Code<Slot>, depth: u32, left: &mut u32) -> bool {
-    let (Some(inner), Some(fewer)) = (depth.checked_sub(1), left.checked_sub(1)) else {
+#[tactic(auto, using(crate::proofs::WeightLaws::weight_laws))]
+fn fits(code: &Code<Slot>, levels: u32, left: &mut u32) -> bool
+    ensures shallow { OnTrue result (depth code.now ≤ levels) }
+    ensures counted { OnTrue result (left.old ≡ left.new + parts code.now) }
+    ensures large { OnFalse result (depth code.now ≤ levels → left.old < parts code.now) }
+{
+    let (Some(inner), Some(fewer)) = (levels.checked_sub(1), left.checked_sub(1)) else {
         return false;
     };
     *left = fewer;
@@ -44,9 +56,13 @@ fn fits(code: &Code<Slot>, depth: u32, left: &mut u32) -> bool {
 }
 
 #[cycle(fits)]
-fn all_fit(codes: &[Code<Slot>], depth: u32, left: &mut u32) -> bool {
+fn all_fit(codes: &[Code<Slot>], levels: u32, left: &mut u32) -> bool
+    ensures shallow { OnTrue result (depth_in codes.now ≤ levels) }
+    ensures counted { OnTrue result (left.old ≡ left.new + parts_in codes.now) }
+    ensures large { OnFalse result (depth_in codes.now ≤ levels → left.old < parts_in codes.now) }
+{
     for code in codes {
-        if !fits(code, depth, left) {
+        if !fits(code, levels, left) {
             return false;
         }
     }
@@ -54,9 +70,13 @@ fn all_fit(codes: &[Code<Slot>], depth: u32, left: &mut u32) -> bool {
 }
 
 #[cycle(fits)]
-fn entries_fit(entries: &[(Code<Slot>, Code<Slot>)], depth: u32, left: &mut u32) -> bool {
+fn entries_fit(entries: &[(Code<Slot>, Code<Slot>)], levels: u32, left: &mut u32) -> bool
+    ensures shallow { OnTrue result (depth_in (entry_codes entries.now) ≤ levels) }
+    ensures counted { OnTrue result (left.old ≡ left.new + parts_in (entry_codes entries.now)) }
+    ensures large { OnFalse result (depth_in (entry_codes entries.now) ≤ levels → left.old < parts_in (entry_codes entries.now)) }
+{
     for entry in entries {
-        if !fits(&entry.0, depth, left) || !fits(&entry.1, depth, left) {
+        if !fits(&entry.0, levels, left) || !fits(&entry.1, levels, left) {
             return false;
         }
     }
@@ -64,9 +84,13 @@ fn entries_fit(entries: &[(Code<Slot>, Code<Slot>)], depth: u32, left: &mut u32)
 }
 
 #[cycle(fits)]
-fn fields_fit(fields: &[(u32, Code<Slot>)], depth: u32, left: &mut u32) -> bool {
+fn fields_fit(fields: &[(u32, Code<Slot>)], levels: u32, left: &mut u32) -> bool
+    ensures shallow { OnTrue result (depth_in (field_codes fields.now) ≤ levels) }
+    ensures counted { OnTrue result (left.old ≡ left.new + parts_in (field_codes fields.now)) }
+    ensures large { OnFalse result (depth_in (field_codes fields.now) ≤ levels → left.old < parts_in (field_codes fields.now)) }
+{
     for field in fields {
-        if !fits(&field.1, depth, left) {
+        if !fits(&field.1, levels, left) {
             return false;
         }
     }
@@ -74,10 +98,14 @@ fn fields_fit(fields: &[(u32, Code<Slot>)], depth: u32, left: &mut u32) -> bool 
 }
 
 #[cycle(fits)]
-fn takings_fit(takings: &[Selector<Code<Slot>>], depth: u32, left: &mut u32) -> bool {
+fn takings_fit(takings: &[Selector<Code<Slot>>], levels: u32, left: &mut u32) -> bool
+    ensures shallow { OnTrue result (depth_in (selector_codes takings.now) ≤ levels) }
+    ensures counted { OnTrue result (left.old ≡ left.new + parts_in (selector_codes takings.now)) }
+    ensures large { OnFalse result (depth_in (selector_codes takings.now) ≤ levels → left.old < parts_in (selector_codes takings.now)) }
+{
     for taking in takings {
         if let Selector::Element(code) | Selector::AtKey(code) = taking
-            && !fits(code, depth, left)
+            && !fits(code, levels, left)
         {
             return false;
         }
