@@ -23,7 +23,7 @@ use Rattle.language_model.proofs.FoundAnswers.{after_gives, same_Ok}
 -- ---- within an expansion
 
 -- an expression that is no `$` parameter, as a text
-abbrev no_parameter : List ℕ → Text
+abbrev pub no_parameter : List ℕ → Text
 no_parameter name = NoText
 
 abbrev as_text : Target → Text
@@ -65,11 +65,11 @@ own_same unit expansions x e =
 
 -- ---- through expansions
 
-abbrev no_argument : Expr → Option (List ℕ)
+abbrev pub no_argument : Expr → Option (List ℕ)
 no_argument e = None
 
 -- the text that an expression is
-abbrev literal_text : Expr → Option (List ℕ)
+abbrev pub literal_text : Expr → Option (List ℕ)
 literal_text e = literal_or no_argument (text_of no_parameter e)
 
 literal_same : (outside : Expr → Option (List ℕ)) (x : ExprKind-F ExprKind)
@@ -109,7 +109,7 @@ module _ (unit : List Definition) (expansions : List Expansion) (texts : ℕ →
       ap (literal_or text) (own_same unit expansions x e) ∙ here_same text next (outwards x.site) (target_in unit expansions x e)
 
 -- the text is that of the expression that is found by following `$` parameters
-text_same : (count : ℕ) (unit : List Definition) (expansions : List Expansion) (number : ℕ) (e : Expr)
+pub text_same : (count : ℕ) (unit : List Definition) (expansions : List Expansion) (number : ℕ) (e : Expr)
     → text_in count unit expansions number e ≡ option_and_then literal_text (followed_within count unit expansions number e)
 text_same zero unit expansions number e = refl
 text_same (suc count) unit expansions number e =

@@ -15,7 +15,7 @@ mod AssignedOnce
 mod OutputsFit
 mod LogicFits
 mod PartsFit
-mod FollowedTexts
+pub mod FollowedTexts
 pub mod FileParameters
 mod FileParts
 mod FreeFiles

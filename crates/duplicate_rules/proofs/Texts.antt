@@ -1,21 +1,17 @@
--- Texts of parameters, as they are followed from expansion to expansion.
-use Rattle.std.specs.Prelude.{◌≡◌, ℕ, suc, ◌-◌, ◌<◌, List, Option, Some, slice_get}
+-- The text of an expression in an expansion, by the expression that is found for it there.
+use Rattle.std.specs.Prelude.{◌≡◌, ℕ, List, length, Option}
 use Rattle.std.specs.Option.{option_and_then}
-use Rattle.std.proofs.Common.{ap, sym, ◌∙◌, arith}
+use Rattle.std.proofs.Common.{ap, sym, ◌∙◌}
 use Rattle.spl_tree.specs.declared.graph.Expansion.{Expansion}
-use Rattle.spl_tree.specs.declared.graph.Site.{Site}
 use Rattle.spl_tree.specs.declared.unit.Definition.{Definition}
 use Rattle.spl_tree.specs.Grammar.{Expr}
-use Rattle.language_model.specs.SinkFiles.{Text, literal_or, own_text, text_in}
+use Rattle.language_model.specs.Literals.{followed}
+use Rattle.language_model.specs.SinkFiles.{text_in}
+use Rattle.check_laws.proofs.FollowedTexts.{text_same}
+use Rattle.duplicate_rules.specs.steps.Seen.{literal_text}
 
-module _ (unit : List Definition) (expansions : List Expansion) where
-  -- an argument, where an expansion is invoked
-  abbrev pub outside : ℕ → Option Site → Expr → Option (List ℕ)
-  outside count site argument = option_and_then (λ s. text_in count unit expansions s.expansion argument) site
-
-  pub text_step : (left number : ℕ) (e : Expr) (x : Expansion) (t : Text) → 0 < left → Some x ≡ slice_get expansions number → t ≡ own_text unit expansions x e
-      → text_in left unit expansions number e ≡ literal_or (outside (left - 1) x.site) t
-  text_step left number e x t h s o =
-      (let positive : left ≡ suc (left - 1) = omega arith in ap (λ n. text_in n unit expansions number e) positive)
-      ∙ ap (option_and_then (λ x. literal_or (outside (left - 1) x.site) (own_text unit expansions x e))) (sym s)
-      ∙ ap (literal_or (outside (left - 1) x.site)) (sym o)
+pub text_is : (unit : List Definition) (expansions : List Expansion) (number : ℕ) (e : Expr) (follow : Expr → Option Expr) (found : Option Expr) (text : Option (List ℕ))
+    → follow ≡ followed unit expansions number → found ≡ follow e → text ≡ option_and_then literal_text found
+    → text ≡ text_in (length expansions) unit expansions number e
+text_is unit expansions number e follow found text same is own =
+    own ∙ ap (option_and_then literal_text) (is ∙ ap (λ f. f e) same) ∙ sym (text_same (length expansions) unit expansions number e)

@@ -4,12 +4,13 @@ ghost use Rattle.std.specs.List.{list_any};
 ghost use Rattle.std.specs.Option.{option_copied, option_map, option_to_list};
 ghost use Rattle.std.specs.Str.{bytes_eq};
 ghost use Rattle.language_model.specs.Declarations.{first_of, repeated};
-ghost use Rattle.language_model.specs.SinkFiles.{text_of, dollar_text, own_text, text_in, file_of, op_file, is_had, Text};
-ghost use Rattle.duplicate_rules.specs.steps.Seen.{form_text, text_seen, file_seen};
+ghost use Rattle.language_model.specs.SinkFiles.{text_in, file_of, op_file, is_had};
+ghost use Rattle.duplicate_rules.specs.steps.Seen.{file_seen, literal_text};
 
 use language_model::rules_of;
-use program_tables::{SiteTable, default_named, value_named};
-use spl_tree::{CompositeParameter, Expansion, Expr, ExprKind, Op, Parameter, Placed, Unit};
+use literal_sites::Follow;
+use program_tables::{SiteTable, value_named};
+use spl_tree::{Expansion, Expr, ExprKind, Op, Placed, Unit};
 use spl_value::{Items, Name, NoMemory};
 use std::alloc::Global;
 
@@ -36,7 +37,7 @@ pub fn same_file(
 
 /// The first such file. The files that come before it are added to those, of which there is none.
 fn first_had<'a>(
-    sites: &SiteTable<'a>,
+    sites: &'a SiteTable<'_>,
     names: &[Name],
     ops: &[Op],
     files: &mut Vec<UsedFile<'a>>,
@@ -103,7 +104,7 @@ fn is_shared(files: &[UsedFile], file: &UsedFile) -> bool
 }
 
 /// The file of an operator, where it is a source or sink that has one.
-fn file_of_op<'a>(sites: &SiteTable<'a>, op: &Op) -> Option<UsedFile<'a>>
+fn file_of_op<'a>(sites: &'a SiteTable<'_>, op: &Op) -> Option<UsedFile<'a>>
     ensures { option_to_list (option_map file_seen result) ≡ op_file sites.now.unit.now sites.now.expansions.now op.now }
 {
     let rules = rules_of(op.kind);
@@ -120,7 +121,7 @@ fn file_of_op<'a>(sites: &SiteTable<'a>, op: &Op) -> Option<UsedFile<'a>>
 }
 
 /// The text of its parameter `file`.
-fn file_of<'a>(sites: &SiteTable<'a>, op: &Op) -> Option<&'a [u8]>
+fn file_of<'a>(sites: &'a SiteTable<'_>, op: &Op) -> Option<&'a [u8]>
     ensures { option_copied result ≡ file_of sites.now.unit.now sites.now.expansions.now op.now }
 {
     let invocation = sites.invocation(op.site)?;
@@ -128,93 +129,20 @@ fn file_of<'a>(sites: &SiteTable<'a>, op: &Op) -> Option<&'a [u8]>
     text_of(sites, op.site.expansion, value)
 }
 
-/// The text that an expression gives in the expansion of a number. An argument is meant where
-/// the composite is invoked, so this goes up through the expansions.
-fn text_of<'a>(sites: &SiteTable<'a>, number: u32, value: &'a Expr) -> Option<&'a [u8]>
+/// The text that an expression gives in the expansion of a number.
+fn text_of<'a>(sites: &'a SiteTable<'_>, number: u32, value: &'a Expr) -> Option<&'a [u8]>
     ensures { option_copied result ≡ text_in (length sites.now.expansions.now) sites.now.unit.now sites.now.expansions.now number value.now }
 {
-    let mut number = number;
-    let mut value = value;
-    let mut left = sites.expansions.len();
-    'expansions: while left > 0 {
-        left -= 1;
-        let expansion = sites.expansion(number)?;
-        let argument = match text_within(sites, expansion, value) {
-            ValueText::Literal(bytes) => return Some(bytes),
-            ValueText::Argument(argument) => argument,
-            ValueText::Nothing => return None,
-        };
-        let site = expansion.site?;
-        number = site.expansion;
-        value = argument;
-    }
-    None
+    let found = Follow::new(sites, number).target(value)?;
+    literal_text(found)
 }
 
-/// What an expression gives that should be a text.
-enum ValueText<'a> {
-    Literal(&'a [u8]),
-    /// An argument, which is meant where the composite is invoked.
-    Argument(&'a Expr),
-    Nothing,
-}
-
-/// What an expression in an expansion gives.
-fn text_within<'a>(sites: &SiteTable<'a>, expansion: &Expansion, value: &'a Expr) -> ValueText<'a>
-    ensures { text_seen result ≡ own_text sites.now.unit.now sites.now.expansions.now expansion.now value.now }
-{
-    match form_of(value) {
-        Form::Literal(bytes) => ValueText::Literal(bytes),
-        Form::Dollar(name) => parameter_text(
-            sites.heads(expansion),
-            sites.arguments(expansion),
-            name,
-        ),
-        Form::Other => ValueText::Nothing,
-    }
-}
-
-/// The value of a `$` parameter: its argument, or else its default, which may be a further one.
-/// There are no more of them than parameters, unless they lead back to themselves.
-fn parameter_text<'a>(
-    heads: &'a [CompositeParameter],
-    arguments: &'a [Parameter],
-    name: &'a [u8],
-) -> ValueText<'a>
-    ensures { text_seen result ≡ dollar_text (length heads.now) heads.now arguments.now name.now }
-{
-    let mut name = name;
-    let mut left = heads.len();
-    'defaults: while left > 0 {
-        left -= 1;
-        if let Some(argument) = value_named(arguments, name) {
-            return ValueText::Argument(argument);
-        }
-        let Some(default) = default_named(heads, name) else {
-            return ValueText::Nothing;
-        };
-        name = match form_of(default) {
-            Form::Literal(bytes) => return ValueText::Literal(bytes),
-            Form::Dollar(other) => other,
-            Form::Other => return ValueText::Nothing,
-        };
-    }
-    ValueText::Nothing
-}
-
-/// The forms of an expression that should be a text.
-enum Form<'a> {
-    Literal(&'a [u8]),
-    Dollar(&'a [u8]),
-    Other,
-}
-
-fn form_of(value: &Expr) -> Form
-    ensures { (dollar : List ℕ → Text) → text_of dollar value.now ≡ form_text dollar result }
+/// The text that an expression is.
+fn literal_text(value: &Expr) -> Option<&[u8]>
+    ensures { option_copied result ≡ literal_text value.now }
 {
     match value.what.get() {
-        ExprKind::Text(bytes) => Form::Literal(bytes.as_slice()),
-        ExprKind::Dollar(name) => Form::Dollar(name.as_slice()),
-        _ => Form::Other,
+        ExprKind::Text(bytes) => Some(bytes.as_slice()),
+        _ => None,
     }
 }
