@@ -20,6 +20,15 @@ use spl_tree::{OpKind, Placed, PortWindow, WindowPart};
 use spl_value::Items;
 use std::alloc::Global;
 
+/// A window as it is written: where its numbers stand, the port that it is of, and its clause, which
+/// names the port.
+#[derive(Clone, Copy)]
+struct WrittenWindow<'s> {
+    site: &'s ExpressionSite<'s>,
+    port: &'s Port,
+    clause: &'s PortWindow,
+}
+
 /// The windows of an operator's ports, in the order of these, by its window clause, where it has one. An
 /// operator that has no windows has none.
 ///
@@ -114,7 +123,12 @@ fn window_of(
     if has_window(found, place) {
         return Err(extra(alloc, window.port.at, b"window"));
     }
-    let policy = policy_of(alloc, site, form, port, window)?;
+    let written = WrittenWindow {
+        site,
+        port,
+        clause: window,
+    };
+    let policy = policy_of(alloc, form, &written)?;
     Ok((place, policy))
 }
 
@@ -130,44 +144,27 @@ fn has_window(found: &[(u32, Policy)], place: u32) -> bool
 }
 
 /// A window of the form.
-fn policy_of(
-    alloc: Global,
-    site: &ExpressionSite,
-    form: WindowForm,
-    port: &Port,
-    window: &PortWindow,
-) -> Result<Policy, TypeAnswer>
-    ensures { Finds (policy_of form (numbers_at site.now) port.now window.now) result }
+fn policy_of(alloc: Global, form: WindowForm, window: &WrittenWindow) -> Result<Policy, TypeAnswer>
+    ensures { Finds (policy_of form (numbers_at window.now.site.now) window.now.port.now window.now.clause.now) result }
 {
     match form {
-        WindowForm::Aggregate => aggregate_policy(alloc, site, port, window),
-        WindowForm::Join => join_policy(alloc, site, port, window),
+        WindowForm::Aggregate => aggregate_policy(alloc, window),
+        WindowForm::Join => join_policy(alloc, window),
     }
 }
 
-fn aggregate_policy(
-    alloc: Global,
-    site: &ExpressionSite,
-    port: &Port,
-    window: &PortWindow,
-) -> Result<Policy, TypeAnswer>
-    ensures { Finds (aggregate_policy (numbers_at site.now) port.now window.now) result }
+fn aggregate_policy(alloc: Global, window: &WrittenWindow) -> Result<Policy, TypeAnswer>
+    ensures { Finds (aggregate_policy (numbers_at window.now.site.now) window.now.port.now window.now.clause.now) result }
 {
-    let (partitioned, parts) = partitioned_or_not(window.parts.as_slice());
-    let rule = aggregate_rule(alloc, site, port.schema.as_slice(), window.port.at, parts)?;
+    let (partitioned, parts) = partitioned_or_not(window.clause.parts.as_slice());
+    let rule = aggregate_rule(alloc, window, parts)?;
     Ok(Policy { partitioned, rule })
 }
 
-fn join_policy(
-    alloc: Global,
-    site: &ExpressionSite,
-    port: &Port,
-    window: &PortWindow,
-) -> Result<Policy, TypeAnswer>
-    ensures { Finds (join_policy (numbers_at site.now) port.now window.now) result }
+fn join_policy(alloc: Global, window: &WrittenWindow) -> Result<Policy, TypeAnswer>
+    ensures { Finds (join_policy (numbers_at window.now.site.now) window.now.port.now window.now.clause.now) result }
 {
-    let parts = window.parts.as_slice();
-    let rule = join_rule(alloc, site, port.schema.as_slice(), window.port.at, parts)?;
+    let rule = join_rule(alloc, window, window.clause.parts.as_slice())?;
     Ok(Policy {
         partitioned: false,
         rule,

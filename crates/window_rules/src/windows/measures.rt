@@ -11,6 +11,7 @@ ghost use Rattle.language_model.specs.Finds.{Finds};
 ghost use Rattle.literal_sites.specs.Sites.{numbers_at};
 ghost use Rattle.window_rules.specs.Windows.{counted, differing, with_kind, with_limit};
 
+use super::WrittenWindow;
 use super::rules::bad_window;
 use crate::numbers::number_literal;
 use language_model::{TypeAnswer, attribute_named, narrow, unknown};
@@ -34,18 +35,17 @@ pub(super) enum Measure {
 /// What `count(..)` or `delta(..)` measures; none of another part. A count is at least `least` tuples.
 pub(super) fn measure_of(
     alloc: Global,
-    site: &ExpressionSite,
+    window: &WrittenWindow,
     least: u64,
-    schema: &[Attribute],
     part: &WindowPart,
 ) -> Result<Option<Measure>, TypeAnswer>
-    ensures { Finds (measured (numbers_at site.now) least schema.now (λ n. Some (counted n)) (λ d. Some (differing d)) (Ok None) part.now) result }
+    ensures { Finds (measured (numbers_at window.now.site.now) least window.now.port.now.schema (λ n. Some (counted n)) (λ d. Some (differing d)) (Ok None) part.now) result }
 {
     if is_named(part, b"count") {
-        let count = only_count(alloc, site, least, part)?;
+        let count = only_count(alloc, window.site, least, part)?;
         Ok(Some(Measure::Count(count)))
     } else if is_named(part, b"delta") {
-        let (attribute, limit) = delta(alloc, site, schema, part)?;
+        let (attribute, limit) = delta(alloc, window.site, window.port.schema.as_slice(), part)?;
         Ok(Some(Measure::Delta { attribute, limit }))
     } else {
         Ok(None)

@@ -7,11 +7,10 @@ ghost use Rattle.language_model.specs.Finds.{Finds};
 ghost use Rattle.literal_sites.specs.Sites.{numbers_at};
 ghost use Rattle.window_rules.specs.Windows.{counted, differing, slides_by, tumbles_by};
 
+use super::WrittenWindow;
 use super::measures::{Measure, is_named, measure_of, only_count};
 use language_model::{CheckError, TypeAnswer, WindowRule, refused};
-use literal_sites::ExpressionSite;
 use spl_tree::WindowPart;
-use spl_value::Attribute;
 use std::alloc::Global;
 
 /// A window, or a part of one, that the operator doesn't have.
@@ -21,43 +20,39 @@ pub(super) fn bad_window(at: u32) -> TypeAnswer
     refused(CheckError::BadWindow, at)
 }
 
-/// The rule of an Aggregate's window, whose port is named at a place.
+/// The rule of an Aggregate's window with these parts.
 pub(super) fn aggregate_rule(
     alloc: Global,
-    site: &ExpressionSite,
-    schema: &[Attribute],
-    at: u32,
+    window: &WrittenWindow,
     parts: &[WindowPart],
 ) -> Result<WindowRule, TypeAnswer>
-    ensures { Finds (aggregate_rule (numbers_at site.now) schema.now at parts.now) result }
+    ensures { Finds (aggregate_rule (numbers_at window.now.site.now) window.now.port.now.schema window.now.clause.now.port.at parts.now) result }
 {
     let Some((part, rest)) = parts.split_first() else {
-        return Err(bad_window(at));
+        return Err(bad_window(window.clause.port.at));
     };
     if is_word(part, b"tumbling") {
-        tumbling(alloc, site, schema, at, rest)
+        tumbling(alloc, window, rest)
     } else if is_word(part, b"sliding") {
-        sliding_with_trigger(alloc, site, schema, at, rest)
+        sliding_with_trigger(alloc, window, rest)
     } else {
         Err(bad_window(part.name.at))
     }
 }
 
-/// The rule of a Join's window.
+/// The rule of a Join's window with these parts.
 pub(super) fn join_rule(
     alloc: Global,
-    site: &ExpressionSite,
-    schema: &[Attribute],
-    at: u32,
+    window: &WrittenWindow,
     parts: &[WindowPart],
 ) -> Result<WindowRule, TypeAnswer>
-    ensures { Finds (join_rule (numbers_at site.now) schema.now at parts.now) result }
+    ensures { Finds (join_rule (numbers_at window.now.site.now) window.now.port.now.schema window.now.clause.now.port.at parts.now) result }
 {
     let Some((part, rest)) = parts.split_first() else {
-        return Err(bad_window(at));
+        return Err(bad_window(window.clause.port.at));
     };
     if is_word(part, b"sliding") {
-        sliding_alone(alloc, site, schema, at, rest)
+        sliding_alone(alloc, window, rest)
     } else {
         Err(bad_window(part.name.at))
     }
@@ -73,17 +68,15 @@ pub(super) fn is_word(part: &WindowPart, name: &[u8]) -> bool
 /// The rule after `tumbling`.
 fn tumbling(
     alloc: Global,
-    site: &ExpressionSite,
-    schema: &[Attribute],
-    at: u32,
+    window: &WrittenWindow,
     parts: &[WindowPart],
 ) -> Result<WindowRule, TypeAnswer>
-    ensures { Finds (tumbling (numbers_at site.now) schema.now at parts.now) result }
+    ensures { Finds (tumbling (numbers_at window.now.site.now) window.now.port.now.schema window.now.clause.now.port.at parts.now) result }
 {
     let Some((part, rest)) = parts.split_first() else {
-        return Err(bad_window(at));
+        return Err(bad_window(window.clause.port.at));
     };
-    let rule = match measure_of(alloc, site, 1, schema, part)? {
+    let rule = match measure_of(alloc, window, 1, part)? {
         Some(measure) => tumbling_by(measure),
         None => punctuated(part)?,
     };
@@ -136,49 +129,44 @@ fn last<T: Copy>(value: T, rest: &[WindowPart]) -> Result<T, TypeAnswer>
 /// The rule after the `sliding` of an Aggregate: what it keeps, and the count that fires.
 fn sliding_with_trigger(
     alloc: Global,
-    site: &ExpressionSite,
-    schema: &[Attribute],
-    at: u32,
+    window: &WrittenWindow,
     parts: &[WindowPart],
 ) -> Result<WindowRule, TypeAnswer>
-    ensures { Finds (sliding_with_trigger (numbers_at site.now) schema.now at parts.now) result }
+    ensures { Finds (sliding_with_trigger (numbers_at window.now.site.now) window.now.port.now.schema window.now.clause.now.port.at parts.now) result }
 {
     let Some((part, rest)) = parts.split_first() else {
-        return Err(bad_window(at));
+        return Err(bad_window(window.clause.port.at));
     };
-    let measure = sliding_measure(alloc, site, 1, schema, part)?;
-    let every = trigger(alloc, site, at, rest)?;
+    let measure = sliding_measure(alloc, window, 1, part)?;
+    let every = trigger(alloc, window, rest)?;
     Ok(sliding_by(measure, Some(every)))
 }
 
 /// The rule after the `sliding` of a Join, which every tuple fires.
 fn sliding_alone(
     alloc: Global,
-    site: &ExpressionSite,
-    schema: &[Attribute],
-    at: u32,
+    window: &WrittenWindow,
     parts: &[WindowPart],
 ) -> Result<WindowRule, TypeAnswer>
-    ensures { Finds (sliding_alone (numbers_at site.now) schema.now at parts.now) result }
+    ensures { Finds (sliding_alone (numbers_at window.now.site.now) window.now.port.now.schema window.now.clause.now.port.at parts.now) result }
 {
     let Some((part, rest)) = parts.split_first() else {
-        return Err(bad_window(at));
+        return Err(bad_window(window.clause.port.at));
     };
-    let measure = sliding_measure(alloc, site, 0, schema, part)?;
+    let measure = sliding_measure(alloc, window, 0, part)?;
     last(sliding_by(measure, None), rest)
 }
 
 /// What a window that slides keeps.
 fn sliding_measure(
     alloc: Global,
-    site: &ExpressionSite,
+    window: &WrittenWindow,
     least: u64,
-    schema: &[Attribute],
     part: &WindowPart,
 ) -> Result<Measure, TypeAnswer>
-    ensures { Finds (measured (numbers_at site.now) least schema.now counted differing (bad_window part.now.name.at) part.now) result }
+    ensures { Finds (measured (numbers_at window.now.site.now) least window.now.port.now.schema counted differing (bad_window part.now.name.at) part.now) result }
 {
-    match measure_of(alloc, site, least, schema, part)? {
+    match measure_of(alloc, window, least, part)? {
         Some(measure) => Ok(measure),
         None => Err(bad_window(part.name.at)),
     }
@@ -198,20 +186,15 @@ fn sliding_by(measure: Measure, every: Option<u64>) -> WindowRule
 }
 
 /// The count of tuples that fires: the one part after what slides.
-fn trigger(
-    alloc: Global,
-    site: &ExpressionSite,
-    at: u32,
-    parts: &[WindowPart],
-) -> Result<u64, TypeAnswer>
-    ensures { Finds (trigger (numbers_at site.now) at parts.now) result }
+fn trigger(alloc: Global, window: &WrittenWindow, parts: &[WindowPart]) -> Result<u64, TypeAnswer>
+    ensures { Finds (trigger (numbers_at window.now.site.now) window.now.clause.now.port.at parts.now) result }
 {
     let Some((part, rest)) = parts.split_first() else {
-        return Err(bad_window(at));
+        return Err(bad_window(window.clause.port.at));
     };
     if !is_named(part, b"count") {
         return Err(bad_window(part.name.at));
     }
-    let every = only_count(alloc, site, 1, part)?;
+    let every = only_count(alloc, window.site, 1, part)?;
     last(every, rest)
 }

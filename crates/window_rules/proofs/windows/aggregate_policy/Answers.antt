@@ -9,9 +9,9 @@ use Rattle.language_model.proofs.FoundAnswers.{finds_by, stops}
 
 pub returns-in_err-rule : goal.returns-in_err-rule
 returns-in_err-rule c =
-    let numbers = numbers_at c.args.site.now in
-    let port = c.args.port.now in
-    let w = c.args.window.now in
+    let numbers = numbers_at c.args.window.now.site.now in
+    let port = c.args.window.now.port.now in
+    let w = c.args.window.now.clause.now in
     let parts = partitioned_or_not w.parts in
     let others = c.partitioned_or_not-partitioned.ensures.1 ∙ ap (λ parts. (partitioned_or_not parts).others) c.as_slice.ensures in
     let e = c.in_err-rule.field-0.0 in
@@ -19,4 +19,4 @@ returns-in_err-rule c =
     (after (aggregate_rule numbers port.schema w.port.at parts.others) (λ rule. Ok (record { partitioned = parts.partitioned; rule = rule })))
     _ e c.from_residual.ensures.1 refl
     (stops (aggregate_rule numbers port.schema w.port.at parts.others) (λ rule. Ok (record { partitioned = parts.partitioned; rule = rule })) e
-    (finds_by _ _ (Err e) (λ i. aggregate_rule numbers (sym c.as_slice-2.ensures i) w.port.at (sym others i)) c.in_err-rule.ensures))
+    (finds_by _ _ (Err e) (λ i. aggregate_rule numbers port.schema w.port.at (sym others i)) c.in_err-rule.ensures))

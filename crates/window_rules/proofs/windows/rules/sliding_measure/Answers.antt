@@ -9,5 +9,5 @@ pub returns-in_err-measure : goal.returns-in_err-measure
 returns-in_err-measure c =
     let other = bad_window c.args.part.now.name.at in
     fails _ _ _ c.in_err-measure.field-0.0 c.from_residual.ensures.1
-    (measured_by (numbers_at c.args.site.now) c.args.least c.args.schema.now c.args.part.now (λ m. m) other)
+    (measured_by (numbers_at c.args.window.now.site.now) c.args.least c.args.window.now.port.now.schema c.args.part.now (λ m. m) other)
     (stops _ (measure_or (λ m. m) other) _ c.in_err-measure.ensures)
