@@ -42,7 +42,8 @@ use Rattle.port_reacts.proofs.Replying.{outs_fit, replies_by}
 use Rattle.join_op.specs.declared.clauses.Clauses.{Clauses}
 use Rattle.join_op.specs.declared.side.Side.{Side}
 use Rattle.join_op.specs.declared.side.Side.TheVariants.{Left, Right}
-use Rattle.join_op.specs.Fitting.{PairFits, PassesFit}
+use Rattle.port_reacts.specs.Evaluation.{PassesFit}
+use Rattle.join_op.specs.Fitting.{PairFits}
 use Rattle.join_op.specs.Pairs.{IsReady, pair_env}
 use Rattle.join_op.specs.Sides.{JoinStands, SidesStand}
 use Rattle.join_op.specs.steps.Matching.{MayMatch, matched, operator_of}

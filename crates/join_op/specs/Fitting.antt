@@ -1,5 +1,5 @@
 -- What a Join asks of pairs of tuples: that its clauses fit them.
-use Rattle.std.specs.Prelude.{◌≡◌, ⊤, ℕ, List, Option, None, Some, slice_get}
+use Rattle.std.specs.Prelude.{◌≡◌, ℕ, List, Option, Some, slice_get}
 use Rattle.spl_value.specs.declared.types.SplType.TheVariants as S
 use Rattle.spl_value.specs.declared.value.Value.{Value}
 use Rattle.spl_tree.specs.declared.body.Function.{Function}
@@ -8,11 +8,7 @@ use Rattle.spl_tree.specs.declared.code.Slot.{Slot}
 use Rattle.language_model.specs.declared.env.Env.{Env}
 use Rattle.language_model.specs.StreamTypes.{Attributes}
 use Rattle.language_model.specs.WorldFits.{Fits}
-
--- a condition, where there is one, fits
-abbrev pub PassesFit : List Function → Option (Code Slot) → Env → Type 0
-PassesFit functions None env = ⊤
-PassesFit functions (Some condition) env = Fits functions condition env S.Bool
+use Rattle.port_reacts.specs.Evaluation.{PassesFit}
 
 -- a condition and the code of a tuple fit an environment
 pub record PairFits (functions : List Function) (condition : Option (Code Slot)) (output : Code Slot) (env : Env) : Type 0 where

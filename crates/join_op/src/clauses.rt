@@ -1,8 +1,7 @@
 //! The clauses of a Join.
-ghost use Rattle.std.specs.Prelude.{◌≡◌};
 
 use port_reacts::CheckedOperator;
-use spl_tree::{Code, Functions, Slot};
+use spl_tree::{Code, Slot};
 
 /// The clauses of a Join, where it stands in the graph.
 #[derive(Clone, Copy)]
@@ -10,14 +9,4 @@ pub(crate) struct Clauses<'c> {
     pub at: CheckedOperator<'c>,
     pub condition: &'c Option<Code<Slot>>,
     pub output: &'c Code<Slot>,
-}
-
-impl<'c> Clauses<'c> {
-    /// The functions that they may call.
-    pub(crate) fn functions(&self) -> &Functions
-        ensures { result.now ≡ self.now.at.checked.now.functions }
-    {
-        let checked = self.at.checked;
-        &checked.functions
-    }
 }

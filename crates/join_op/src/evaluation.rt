@@ -1,22 +1,19 @@
 //! The results of a Join's clauses for a pair of tuples.
-ghost use Rattle.std.specs.Prelude.{◌≡◌, IsTrue, Some};
 ghost use Rattle.spl_value.specs.declared.types.SplType.TheVariants as T;
-ghost use Rattle.spl_value.specs.declared.value.Value.TheViews.{out-Value};
-ghost use Rattle.spl_value.specs.Values.{fits};
-ghost use Rattle.language_model.specs.Statements.{level_tuple};
 ghost use Rattle.language_model.specs.StreamTypes.{Attributes};
 ghost use Rattle.language_model.specs.WorldFits.{Fits};
 ghost use Rattle.stream_model.specs.Bodies.{made_where, passes, tuple_by};
 ghost use Rattle.value_operations.specs.Answers.{Answers};
-ghost use Rattle.join_op.specs.Fitting.{PairFits, PassesFit};
+ghost use Rattle.port_reacts.specs.Evaluation.{PassesFit};
+ghost use Rattle.join_op.specs.Fitting.{PairFits};
 ghost use Rattle.join_op.specs.steps.Giving.{MakesWhere};
 
 use expr_eval::eval;
 use language_model::{Env, evaluation_law};
 use spl_tree::{Code, Functions, Slot};
-use spl_value::{Evaluated, Value, Values};
+use spl_value::{Evaluated, Values};
 use std::alloc::Global;
-use value_operations::{Stop, truth_of};
+use value_operations::{Stop, truth_of, tuple_values};
 
 /// Whether the condition holds, as an absent one does.
 fn passes(
@@ -40,17 +37,6 @@ fn passes(
     }
 }
 
-/// The values of a tuple.
-fn values_of(value: Value) -> Values
-    requires { (schema : Attributes) × IsTrue (fits (T.Tuple schema) value) }
-    ensures { level_tuple (out-Value value) ≡ Some result }
-{
-    match value {
-        Value::Tuple(values) => values,
-        _ => unreachable!(),
-    }
-}
-
 /// The tuple that the code gives.
 fn made(
     alloc: Global,
@@ -64,7 +50,7 @@ fn made(
 {
     evaluation_law();
     match eval(alloc, functions, code, env, turns) {
-        Evaluated::Value(value) => Ok(values_of(value)),
+        Evaluated::Value(value) => Ok(tuple_values(value)),
         Evaluated::Bad(kind) => Err(Stop::Fault(kind)),
         Evaluated::Memory => Err(Stop::Memory),
     }

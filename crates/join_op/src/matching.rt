@@ -12,8 +12,8 @@ use crate::clauses::Clauses;
 use crate::evaluation::made_where;
 use crate::pair::set_other;
 use crate::side::Side;
-use language_model::{Env, Output, Outs};
-use port_reacts::MOST_TURNS;
+use language_model::{Env, Outs};
+use port_reacts::{MOST_TURNS, give_first};
 use spl_value::{Item, Items, NoMemory, Values};
 use std::alloc::Global;
 use value_operations::Stop;
@@ -23,13 +23,10 @@ use window_policy::{Content, Window};
 fn give(outs: &mut Outs, tuple: Option<Values>) -> Result<(), NoMemory>
     ensures { IfOk result (λ _. outs.new ≡ outs.old ++ given tuple) }
 {
-    if let Some(values) = tuple {
-        outs.push(Output {
-            port: 0,
-            item: Item::Tuple(values),
-        })?;
+    match tuple {
+        Some(values) => give_first(outs, Item::Tuple(values)),
+        None => Ok(()),
     }
-    Ok(())
 }
 
 /// What the pairs of a tuple with the others give, from the first on, under the turns of one event. The
@@ -46,7 +43,7 @@ fn match_all(
     ensures gives { GivesAs (matched clauses.now (map (with_other side env.old) others.now)) result }
     ensures env { IfOk result (λ _. (u : List V) → with_other side env.new u ≡ with_other side env.old u) }
 {
-    let functions = clauses.functions();
+    let functions = clauses.at.functions();
     let mut turns = MOST_TURNS;
     let mut outs = Outs::new(alloc);
     for i in 0..others.len() {

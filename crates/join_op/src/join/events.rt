@@ -1,10 +1,9 @@
 //! What the events of a side cause.
 ghost use Rattle.std.specs.Prelude.{◌≡◌, ◌∷◌, [], List, length, map};
 ghost use Rattle.language_model.specs.declared.checked.WindowRule.{WindowRule};
-ghost use Rattle.stream_model.specs.Bodies.{Makes, by_item};
+ghost use Rattle.stream_model.specs.Bodies.{by_item};
 ghost use Rattle.stream_model.specs.React.{answer};
 ghost use Rattle.stream_model.specs.Windows.{WindowEvent, Insert, Mark, content};
-ghost use Rattle.value_operations.specs.Answers.{StopsAs};
 ghost use Rattle.window_policy.specs.Standing.{Stands};
 ghost use Rattle.port_reacts.specs.Bodies.{GoesOn, RepliesTo, RepliesToItem};
 ghost use Rattle.join_op.specs.Pairs.{IsReady, pair_env};
@@ -17,23 +16,11 @@ use crate::matching::match_window;
 use crate::pair::swap_own;
 use crate::side::Side;
 use language_model::Env;
-use port_reacts::{CheckedOperator, given_none};
+use port_reacts::given_none;
 use spl_value::{Item, Items, Values};
 use std::alloc::Global;
 use stream_model::Reply;
-use value_operations::Stop;
 use window_policy::Window;
-
-/// The reply where what the pairs give stops early.
-fn on_stop(alloc: Global, at: &CheckedOperator<'_>, stop: Stop) -> Reply
-    ensures replies { (outcome : Makes) → StopsAs outcome stop → RepliesTo at.now.number (length at.now.op.now.outs) (answer outcome) result }
-    ensures ends { WhereOut result ⊥ }
-{
-    match stop {
-        Stop::Fault(kind) => at.faulted(alloc, kind),
-        Stop::Memory => Reply::Memory,
-    }
-}
 
 /// A tuple gives what it gives with the other side's window, and goes into its own.
 fn on_tuple(
@@ -61,7 +48,7 @@ fn on_tuple(
                 Err(_) => Reply::Memory,
             }
         }
-        Err(stop) => on_stop(alloc, &clauses.at, stop),
+        Err(stop) => clauses.at.stopped(alloc, stop),
     }
 }
 

@@ -1,6 +1,6 @@
 use Rattle.std.proofs.Common.{subst}
 use Rattle.spl_value.specs.declared.types.SplType.TheVariants as T
-use Rattle.join_op.specs.Fitting.{PassesFit}
+use Rattle.port_reacts.specs.Evaluation.{PassesFit}
 use Rattle.join_op.proofs.Comings.{comes_to}
 use Rattle.join_op.proofs.evaluation.passes.Goals as goal
 

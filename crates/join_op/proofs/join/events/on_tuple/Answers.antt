@@ -51,11 +51,11 @@ returns-in-Err-clause-replies c rule h stood =
     let x = c.args.clauses.now in
     let same : with_other c.args.side c.swap_own.new.env ≡ pair_env c.args.side c.args.tuple =
     λ i u. pair_there c.args.side c.args.env.now c.swap_own.new.env c.args.tuple u c.requires.ready c.swap_own.ensures.now i in
-    subst (λ f. RepliesTo x.at.number (length x.at.op.now.outs) (answer (matched x (map f (content rule [] h)))) c.on_stop.result) same
-    (c.on_stop.ensures.replies _ (c.in-Err.ensures.gives rule h stood))
+    subst (λ f. RepliesTo x.at.number (length x.at.op.now.outs) (answer (matched x (map f (content rule [] h)))) c.stopped.result) same
+    (c.stopped.ensures.replies _ (c.in-Err.ensures.gives rule h stood))
 
 pub returns-in-Err-clause-stands : goal.returns-in-Err-clause-stands
-returns-in-Err-clause-stands c = not_out c.on_stop.result _ c.on_stop.ensures.ends
+returns-in-Err-clause-stands c = not_out c.stopped.result _ c.stopped.ensures.ends
 
 pub returns-in-Err-clause-ready : goal.returns-in-Err-clause-ready
-returns-in-Err-clause-ready c = not_out c.on_stop.result _ c.on_stop.ensures.ends
+returns-in-Err-clause-ready c = not_out c.stopped.result _ c.stopped.ensures.ends
