@@ -55,7 +55,8 @@ use Rattle.port_reacts.specs.Bodies.{RepliesToItem}
 use Rattle.port_reacts.specs.PortReplies.{MayTakeAt, RepliesAt, WhereOut}
 use Rattle.port_reacts.proofs.Replying.{none_faulted, outs_fit, replies_by}
 use Rattle.aggregate_op.specs.declared.clauses.Clauses.{Clauses}
-use Rattle.aggregate_op.specs.Arguments.{ArgumentFits, ArgumentsFit, blank, idle}
+use Rattle.port_reacts.specs.Evaluation.{idle}
+use Rattle.aggregate_op.specs.Arguments.{ArgumentFits, ArgumentsFit, blank}
 use Rattle.aggregate_op.specs.Standing.{AggregateStands, came_into, operator_of}
 use Rattle.aggregate_op.specs.steps.Firing.{MayCome, behind, item_makes, key_of_tuple, tuple_behind, tuple_event}
 use Rattle.aggregate_op.specs.steps.Giving.{contents_given}

@@ -6,7 +6,7 @@ use Rattle.stream_model.specs.Operators.{input_attributes}
 use Rattle.window_policy.specs.Standing.{Stands}
 use Rattle.aggregate_op.specs.declared.aggregate.Aggregate.{Aggregate}
 use Rattle.aggregate_op.specs.declared.clauses.Clauses.{Clauses}
-use Rattle.aggregate_op.specs.Arguments.{idle}
+use Rattle.port_reacts.specs.Evaluation.{idle}
 use Rattle.aggregate_op.specs.Standing.{AggregateStands, operator_of}
 
 pub begins : {E : Type 0} (r : Result Aggregate E) (clauses : Clauses)

@@ -28,7 +28,3 @@ blank (Some v) = v
 -- a tuple with the values of its arguments after its own
 abbrev pub extended : List Function → List CollectedAttribute → List Value → List Value
 extended functions output t = t ++ map blank (arguments_of functions output t)
-
--- no tuple is in the environment
-abbrev pub idle : Env
-idle = record { inputs = []; vars = []; punct = None }

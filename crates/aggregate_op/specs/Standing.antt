@@ -13,7 +13,7 @@ use Rattle.window_policy.specs.declared.window.Window.{Window}
 use Rattle.window_policy.specs.Standing.{Stands}
 use Rattle.port_reacts.specs.PortReplies.{goes_on}
 use Rattle.aggregate_op.specs.declared.clauses.Clauses.{Clauses}
-use Rattle.aggregate_op.specs.Arguments.{idle}
+use Rattle.port_reacts.specs.Evaluation.{idle}
 use Rattle.aggregate_op.specs.steps.Firing.{key_of_tuple, tuple_behind}
 
 -- the operator with these clauses

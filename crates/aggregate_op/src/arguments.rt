@@ -4,7 +4,8 @@ ghost use Rattle.spl_value.specs.declared.value.Value.{Value as V};
 ghost use Rattle.stream_model.specs.Aggregates.{argument as argument_of, arguments as arguments_of};
 ghost use Rattle.stream_model.specs.Bodies.{at_tuple, most_turns};
 ghost use Rattle.value_operations.specs.Answers.{Answers};
-ghost use Rattle.aggregate_op.specs.Arguments.{ArgumentFits, ArgumentsFit, blank, idle};
+ghost use Rattle.port_reacts.specs.Evaluation.{idle};
+ghost use Rattle.aggregate_op.specs.Arguments.{ArgumentFits, ArgumentsFit, blank};
 ghost use Rattle.aggregate_op.specs.steps.Evaluating.{EvaluatesTo, ExtendsAs};
 
 use expr_eval::eval;

@@ -9,7 +9,8 @@ ghost use Rattle.tuple_groups.specs.Seen.{entry_of, seen};
 ghost use Rattle.aggregate_op.specs.steps.Giving.{AreGiven, content_given, contents_given, groups_given, tuple_given};
 
 use crate::clauses::Clauses;
-use language_model::{Output, Outs, WindowRule};
+use language_model::{Outs, WindowRule};
+use port_reacts::give_first;
 use spl_value::{Item, NoMemory, Values};
 use std::alloc::Global;
 use tuple_groups::{group_tuple, groups};
@@ -48,11 +49,7 @@ fn give_group(
     ensures { IfOk result (λ _. (vs : List V) → tuple_given clauses.now (seen members.now) ≡ Some vs → outs.new ≡ outs.old ++ on_first (I.Tuple vs)) }
 {
     let values = group_tuple(alloc, clauses.output, clauses.width, members)?;
-    outs.push(Output {
-        port: 0,
-        item: Item::Tuple(values),
-    })?;
-    Ok(())
+    give_first(outs, Item::Tuple(values))
 }
 
 /// Gives the tuple of each group.
@@ -77,13 +74,7 @@ fn give_marker(rule: WindowRule, outs: &mut Outs) -> Result<(), NoMemory>
 {
     match rule {
         WindowRule::SlidingCount { .. } | WindowRule::SlidingDelta { .. } => Ok(()),
-        _ => {
-            outs.push(Output {
-                port: 0,
-                item: Item::Window,
-            })?;
-            Ok(())
-        }
+        _ => give_first(outs, Item::Window),
     }
 }
 

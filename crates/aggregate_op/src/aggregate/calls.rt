@@ -7,15 +7,15 @@ ghost use Rattle.stream_model.specs.CheckedMeaning.{first_schema, graph_of, oper
 ghost use Rattle.stream_model.specs.Operators.{input_attributes};
 ghost use Rattle.window_policy.specs.Answers.{IsAllowed};
 ghost use Rattle.window_policy.specs.Standing.{Stands};
-ghost use Rattle.aggregate_op.specs.Arguments.{idle};
+ghost use Rattle.port_reacts.specs.Evaluation.{idle};
 ghost use Rattle.aggregate_op.specs.Standing.{AggregateStands, operator_of};
 
 use crate::aggregate::Aggregate;
 use crate::aggregate::events::on_item;
 use crate::clauses::Clauses;
-use language_model::{Checked, CheckedClauses, Env};
-use port_reacts::{CheckedOperator, OnPort, fits_law};
-use spl_value::{Inputs, Item, Items, NoMemory};
+use language_model::{Checked, CheckedClauses};
+use port_reacts::{CheckedOperator, OnPort, fits_law, idle_env};
+use spl_value::{Inputs, Item, NoMemory};
 use std::alloc::Global;
 use stream_model::Reply;
 use window_policy::Window;
@@ -78,11 +78,7 @@ fn begun<'c>(alloc: Global, clauses: Clauses<'c>) -> Result<Aggregate<'c>, NoMem
     ensures idle { IfOk result (λ aggregate. aggregate.env ≡ idle) }
 {
     let window = Window::new(alloc, clauses.window)?;
-    let env = Env {
-        inputs: Items::with_capacity(alloc, 1)?,
-        vars: Items::new(alloc),
-        punct: None,
-    };
+    let env = idle_env(alloc)?;
     Ok(Aggregate {
         alloc,
         clauses,

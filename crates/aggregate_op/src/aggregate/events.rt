@@ -3,14 +3,14 @@ ghost use Rattle.std.specs.Prelude.{◌≡◌, ◌∷◌, ◌++◌, [], true, If
 ghost use Rattle.language_model.specs.declared.checked.WindowRule.{WindowRule as Rule};
 ghost use Rattle.language_model.specs.declared.outs.Output.{Output as O};
 ghost use Rattle.stream_model.specs.Aggregates.{marker_passed};
-ghost use Rattle.stream_model.specs.Bodies.{Makes, at_tuple};
+ghost use Rattle.stream_model.specs.Bodies.{at_tuple};
 ghost use Rattle.stream_model.specs.React.{answer};
 ghost use Rattle.stream_model.specs.Windows.{Insert, Mark, WindowEvent, content, contents_of, fired_contents, has_come};
-ghost use Rattle.value_operations.specs.Answers.{StopsAs};
 ghost use Rattle.window_policy.specs.Answers.{firing_of};
 ghost use Rattle.window_policy.specs.Standing.{Stands};
 ghost use Rattle.port_reacts.specs.Bodies.{RepliesTo, RepliesToItem};
-ghost use Rattle.aggregate_op.specs.Arguments.{ArgumentsFit, extended as extended_by, idle};
+ghost use Rattle.port_reacts.specs.Evaluation.{idle};
+ghost use Rattle.aggregate_op.specs.Arguments.{ArgumentsFit, extended as extended_by};
 ghost use Rattle.port_reacts.specs.PortReplies.{WhereOut};
 ghost use Rattle.aggregate_op.specs.steps.Firing.{EventGives, MayCome, TupleGives, behind, event_makes, item_makes, key_of_tuple, tuple_makes};
 ghost use Rattle.aggregate_op.specs.steps.Giving.{contents_given};
@@ -18,13 +18,12 @@ ghost use Rattle.aggregate_op.specs.steps.Giving.{contents_given};
 use crate::arguments::extended;
 use crate::clauses::Clauses;
 use crate::contents::{give_flushed, give_held, give_tuples};
-use language_model::{Env, Output, Outs, Tuples, WindowRule};
-use port_reacts::{CheckedOperator, given_none};
+use language_model::{Env, Outs, Tuples, WindowRule};
+use port_reacts::{give_first, given_none};
 use spl_value::{Item, Items, NoMemory, Values, copy_values};
 use std::alloc::Global;
 use stream_model::Reply;
 use tuple_groups::key_of;
-use value_operations::Stop;
 use window_policy::{Content, Fired, Window};
 
 /// The key of a tuple in the window, which is empty where it isn't partitioned.
@@ -125,11 +124,7 @@ fn pass_marker(rule: WindowRule, outs: &mut Outs) -> Result<(), NoMemory>
 {
     match rule {
         WindowRule::SlidingCount { .. } | WindowRule::SlidingDelta { .. } => {
-            outs.push(Output {
-                port: 0,
-                item: Item::Window,
-            })?;
-            Ok(())
+            give_first(outs, Item::Window)
         }
         _ => Ok(()),
     }
@@ -147,17 +142,6 @@ fn mark(alloc: Global, clauses: &Clauses<'_>, window: &mut Window) -> Result<Out
     give_flushed(alloc, clauses, flushed.as_slice(), &mut outs)?;
     pass_marker(clauses.window.rule, &mut outs)?;
     Ok(outs)
-}
-
-/// The reply where the arguments stop early.
-fn on_stop(alloc: Global, at: &CheckedOperator<'_>, stop: Stop) -> Reply
-    ensures replies { (outcome : Makes) → StopsAs outcome stop → RepliesTo at.now.number (length at.now.op.now.outs) (answer outcome) result }
-    ensures ends { WhereOut result ⊥ }
-{
-    match stop {
-        Stop::Fault(kind) => at.faulted(alloc, kind),
-        Stop::Memory => Reply::Memory,
-    }
 }
 
 /// A tuple goes into its window with the values of its arguments, and gives what it fires with.
@@ -180,12 +164,12 @@ fn on_tuple(
     let Ok(key) = window_key(alloc, clauses, &tuple) else {
         return Reply::Memory;
     };
-    match extended(alloc, clauses.functions(), clauses.output, env, tuple) {
+    match extended(alloc, clauses.at.functions(), clauses.output, env, tuple) {
         Ok(extended) => match fire(alloc, clauses, window, key, extended) {
             Ok(outs) => Reply::Out(outs),
             Err(_) => Reply::Memory,
         },
-        Err(stop) => on_stop(alloc, &clauses.at, stop),
+        Err(stop) => clauses.at.stopped(alloc, stop),
     }
 }
 
