@@ -10,7 +10,7 @@ ghost use Rattle.language_model.specs.TypingLaws.{parted, parts};
 ghost use Rattle.language_model.specs.Finds.{Finds, FindsBy};
 ghost use Rattle.call_rules.specs.CallNames.{changing, computing, looking};
 ghost use Rattle.call_rules.specs.Kinds.{has_order};
-ghost use Rattle.call_rules.specs.Calls.{asked, asked_by_change, change_asked, first_for, given, row_for, value_asked};
+ghost use Rattle.call_rules.specs.Calls.{asked, change_asked, first_for, given, row_for, value_asked};
 
 use crate::answer::not_mutable;
 use crate::forms::root_name;
@@ -243,21 +243,6 @@ pub type Gives = Option<(BuiltIn, Boxed<SplType>)>;
 /// What a call gives, and the types that the arguments after the first have to have.
 pub type Asked = (Gives, Items<SplType>);
 
-/// A call that changes its first argument, which is of a type.
-fn change_alone(
-    alloc: Global,
-    scope: &Scope,
-    at: u32,
-    call: CallName,
-    first: &Expr,
-    kind: &SplType,
-) -> Result<Asked, TypeAnswer>
-    ensures { Finds (asked_by_change (change_asked at scope.now (parted first.now) (level_changed call (out-SplType kind.now)))) result }
-{
-    let kinds = change_asked(alloc, scope, at, call, first, kind)?;
-    Ok((None, kinds))
-}
-
 /// The length of a text.
 fn length_asked(alloc: Global) -> Result<Asked, TypeAnswer>
     ensures { Finds (Ok (Some (Q.Length, int32), [])) result }
@@ -304,7 +289,8 @@ fn asked_of(
 {
     match call {
         CallName::AppendM | CallName::RemoveM | CallName::ClearM => {
-            change_alone(alloc, scope, at, call, first, kind.get())
+            let kinds = change_asked(alloc, scope, at, call, first, kind.get())?;
+            Ok((None, kinds))
         }
         CallName::Length => length_asked(alloc),
         CallName::Substring => substring_asked(alloc),
