@@ -16,7 +16,7 @@ use Rattle.expr_parser.specs.Rules.{done, stop, look, read}
 use Rattle.spl_tree.specs.Phrases.{Phrase}
 use Rattle.spl_tree.specs.Fronts.{Starts}
 use Rattle.expr_parser.specs.Parts.{Closed, closed, SpellsSteps, alone, selects}
-use Rattle.expr_parser.proofs.Soundness.{Behind, After, Leads, leads_some, Sound, sound as sound_lines}
+use Rattle.expr_parser.proofs.Soundness.{Behind, After, EachStarts, Leads, leads_some, Sound, sound as sound_lines}
 use Rattle.expr_parser.specs.Lines as lines
 use Rattle.expr_parser.specs.Lines.{Line, Value, Whole, Rest, Climb, Chain, Prefixed, Group, Named, Brace, rule, R, is, expect, field, field_rule, operator_of, is_name, name_of}
 use Rattle.expr_parser.proofs.TestLaws.{is-true, is_name-true, is_literal-true, is_prefix-true, is_target-true, is_operator-true}
@@ -221,7 +221,7 @@ a_name_spells : Spells a_name (a_word ∷ [])
 a_name_spells = plain a_name (a_word ∷ []) (at_spells 9 (operand a_name (a_word ∷ []) (primary a_name (a_word ∷ []) a_name_primary)))
 
 -- a phrase of each line
-pub has : (x : Line) → Starts (Phrases x) []
+pub has : EachStarts Phrases
 has Whole = record { behind = a_word ∷ []; value = a_name; spells = a_name_spells }
 has (Rest u) = record { behind = []; value = u; spells = λ a d. rw (append-nil a) (plain u a (at_spells 9 d)) }
 has (Climb k u) = record { behind = []; value = u; spells = λ a d. rw (append-nil a) (at_spells k d) }

@@ -20,6 +20,10 @@ Sound P ts (Took v rest) = Takes P ts v rest
 Sound P ts (Refused rest) = Begins P ts rest
 Sound P ts Spent = Unit {0}
 
+-- each line has a phrase
+abbrev pub EachStarts : {Line : Type 0} {Value : Line → Type 0} → ((x : Line) → Phrase (Value x)) → Type 0
+EachStarts {Line} Phrases = (x : Line) → Starts (Phrases x) []
+
 module _ {Line : Type 0} {Value : Line → Type 0} (Phrases : (x : Line) → Phrase (Value x)) where
   -- each way through a rule completes a phrase of U, and where it stops, some tokens would complete one
   abbrev pub Leads : {A : Type 0} → Phrase A → Rule Line Value A → Type 0
@@ -65,7 +69,7 @@ module _ {A B : Type 0} (P : Phrase A) (U : Phrase B) where
     spells = rw (← append_assoc) (more.spells (front ++ s.behind) s.spells);
   }
 
-module _ {Line : Type 0} {Value : Line → Type 0} (Phrases : (x : Line) → Phrase (Value x)) (has : (x : Line) → Starts (Phrases x) []) where
+module _ {Line : Type 0} {Value : Line → Type 0} (Phrases : (x : Line) → Phrase (Value x)) (has : EachStarts Phrases) where
   -- a rule that leads to phrases leads to at least one
   pub leads_some : {A : Type 0} (U : Phrase A) (r : Rule Line Value A) → Leads Phrases U r → Starts U []
   leads_some U (done v) q = record { behind = []; value = v; spells = q }

@@ -25,6 +25,7 @@ use Rattle.expr_parser.specs.Lines as expression_lines
 use Rattle.spl_tree.specs.Fronts.{Starts}
 use Rattle.expr_parser.specs.Parts.{Closed, closed}
 use Rattle.expr_parser.proofs.Sound as expressions
+use Rattle.expr_parser.proofs.Soundness.{EachStarts}
 use Rattle.statement_parser.specs.Lines as lines
 use Rattle.statement_parser.specs.Lines.{Line, Name, declared, parameter_with}
 use Rattle.unit_parser.proofs.SoundPhrases.{Leading, SpellsAttribute, attribute, field, Phrases, part_with}
@@ -109,7 +110,7 @@ pub declaration_spells : {m : Bool} {k : TypeExpr} {n : Name} {v : Option Expr} 
 declaration_spells {m} {k} {v} {z} {a} {b} s mut d (units.name t n word) dv semicolon = declaration m k t s n v z a b mut d word dv semicolon
 
 -- a phrase of each line
-pub has : (x : Line) → Starts (Phrases x) []
+pub has : EachStarts Phrases
 has (lines.Expression x) = expressions.has x
 has lines.TypeExpression = record { behind = some_type; value = a_type; spells = a_type_spells }
 has (lines.ListType at) = record {
