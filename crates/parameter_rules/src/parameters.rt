@@ -1,7 +1,5 @@
 //! The parameters of operators.
 ghost use Rattle.std.specs.Prelude.{◌≡◌, [], map, reverse};
-ghost use Rattle.std.specs.List.{list_any};
-ghost use Rattle.std.specs.Str.{bytes_eq};
 ghost use Rattle.language_model.specs.Checking.{parameters_checked};
 ghost use Rattle.language_model.specs.ParameterTyping.{parameter_typing, parameters_typing, role_of};
 ghost use Rattle.language_model.specs.declared.scope.CheckError.TheVariants as E;
@@ -16,7 +14,7 @@ mod values;
 pub use given::{position_given, strict_given, take_code, take_file, take_places};
 use language_model::{CheckError, Given, TypeAnswer, refused_name};
 use literal_sites::{ExpressionSite, extra};
-use roles::{missing, role_of};
+use roles::{is_given, missing, role_of};
 use spl_tree::{OpKind, Parameter};
 use spl_value::Items;
 use std::alloc::Global;
@@ -87,21 +85,10 @@ fn parameter_typing(
     let Some(role) = role_of(kind, partitioned, name) else {
         return Err(extra(alloc, parameter.name.at, name));
     };
-    if has_name(given, name) {
+    if is_given(given, name) {
         return Err(extra(alloc, parameter.name.at, name));
     }
     let name = Items::from_slice(alloc, name)?;
     let value = value_of(alloc, site, role, parameter)?;
     Ok(Given { name, value })
-}
-
-fn has_name(given: &[Given], name: &[u8]) -> bool
-    ensures { result ≡ list_any (λ n. bytes_eq n name.now) (reverse (map (λ g. g.name) given.now)) }
-{
-    for parameter in given {
-        if parameter.name.as_slice() == name {
-            return true;
-        }
-    }
-    false
 }

@@ -68,7 +68,8 @@ fn missing_among(
     None
 }
 
-fn is_given(given: &[Given], name: &[u8]) -> bool
+/// Whether a parameter of the name is given.
+pub(super) fn is_given(given: &[Given], name: &[u8]) -> bool
     ensures { result ≡ list_any (λ g. bytes_eq g.name name.now) given.now }
 {
     for parameter in given {
