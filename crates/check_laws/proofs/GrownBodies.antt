@@ -19,7 +19,7 @@ use Rattle.language_model.specs.Invoking.{Body, Nothing, Operator, Target, fits_
 use Rattle.language_model.specs.Scopes.{At}
 use Rattle.graph_laws.proofs.ExpansionAnswers.{after_gives, same_Ok}
 use Rattle.spl_value.proofs.Lists.{append_front as grown, append_last as last_at}
-use Rattle.graph_laws.proofs.Inlining.{found}
+use Rattle.graph_laws.proofs.Inlining.{declared_gives, found}
 use Rattle.std.proofs.lemmas.List.{append-nil}
 
 -- ---- lists
@@ -203,10 +203,6 @@ module _ (unit : List Definition) (expands : Expands) (all : KeepsAll unit expan
   keeps_target there Nothing is e = absurd cc
 
 -- ---- a graph
-
-declared_gives : (o : Option (Placed (List ℕ))) (found : Found Made) (made : Made) → if_declared o found ≡ Ok made → found ≡ Ok made
-declared_gives None found made e = e
-declared_gives (Some n) found made e = absurd cc
 
 module _ (unit : List Definition) (expands : Expands) (all : KeepsAll unit expands) (p : Opened) where
   keeps_invocation : (number : ℕ) (i : Invocation) (before next : Made) → Holds unit before → StandsIn p before → slice_get p.body.composite.what.graph number ≡ Some i

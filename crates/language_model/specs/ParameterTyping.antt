@@ -63,16 +63,20 @@ level_word _ = None
 abbrev pub word_of : Expr → Option (List ℕ)
 word_of e = level_word (out-ExprKind e.what)
 
-abbrev pub format_of : ℕ → Option (List ℕ) → Found ParameterValue
+-- how the word of a parameter at a place is read, where there is one
+abbrev pub WordReading : Type 0
+WordReading = ℕ → Option (List ℕ) → Found ParameterValue
+
+abbrev pub format_of : WordReading
 format_of at None = mismatch at
 format_of at (Some word) = if bytes_eq word (codes "csv") then Ok V.Format else mismatch at
 
-abbrev pub parsing_of : ℕ → Option (List ℕ) → Found ParameterValue
+abbrev pub parsing_of : WordReading
 parsing_of at None = mismatch at
 parsing_of at (Some word) =
     if bytes_eq word (codes "strict") then Ok (V.Strict true) else if bytes_eq word (codes "permissive") then Ok (V.Strict false) else mismatch at
 
-abbrev pub position_of : ℕ → Option (List ℕ) → Found ParameterValue
+abbrev pub position_of : WordReading
 position_of at None = mismatch at
 position_of at (Some word) =
     if bytes_eq word (codes "before") then Ok (V.Position P.Before) else if bytes_eq word (codes "after") then Ok (V.Position P.After) else mismatch at

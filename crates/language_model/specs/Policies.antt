@@ -111,8 +111,12 @@ are_no_arguments _ = false
 abbrev pub punctuated : WindowPart → Found WindowRule
 punctuated p = if has_name (codes "punct") p && are_no_arguments p.arguments then Ok W.TumblingPunct else bad_window p.name.at
 
+-- how the parts of a window are read, whose port has these attributes and stands at that place
+abbrev pub RuleReading : Type 0
+RuleReading = Numbers → List (Named SplType) → ℕ → List WindowPart → Found WindowRule
+
 -- after `tumbling`
-abbrev pub tumbling : Numbers → List (Named SplType) → ℕ → List WindowPart → Found WindowRule
+abbrev pub tumbling : RuleReading
 tumbling numbers schema at [] = bad_window at
 tumbling numbers schema at (p ∷ ps) =
     after (measured numbers 1 schema W.TumblingCount (λ d. W.TumblingDelta d.attribute (pos d.limit)) (punctuated p) p) (λ rule. nothing_behind rule ps)
@@ -132,19 +136,19 @@ trigger numbers at (p ∷ ps) =
     after (if has_name (codes "count") p then only_count numbers 1 p p.arguments else bad_window p.name.at) (λ n. nothing_behind n ps)
 
 -- after `sliding`
-abbrev pub sliding_with_trigger : Numbers → List (Named SplType) → ℕ → List WindowPart → Found WindowRule
+abbrev pub sliding_with_trigger : RuleReading
 sliding_with_trigger numbers schema at [] = bad_window at
 sliding_with_trigger numbers schema at (p ∷ ps) =
     after (sliding_rule numbers 1 schema p) (λ rule. after (trigger numbers at ps) (λ every. Ok (rule (Some every))))
 
-abbrev pub sliding_alone : Numbers → List (Named SplType) → ℕ → List WindowPart → Found WindowRule
+abbrev pub sliding_alone : RuleReading
 sliding_alone numbers schema at [] = bad_window at
 sliding_alone numbers schema at (p ∷ ps) = after (sliding_rule numbers 0 schema p) (λ rule. nothing_behind (rule None) ps)
 
 -- ---- windows
 
 -- the parts of a window of an Aggregate, at its port's name
-abbrev pub aggregate_rule : Numbers → List (Named SplType) → ℕ → List WindowPart → Found WindowRule
+abbrev pub aggregate_rule : RuleReading
 aggregate_rule numbers schema at [] = bad_window at
 aggregate_rule numbers schema at (p ∷ ps) =
     if is_word (codes "tumbling") p then tumbling numbers schema at ps
@@ -152,7 +156,7 @@ aggregate_rule numbers schema at (p ∷ ps) =
     else bad_window p.name.at
 
 -- and of a Join
-abbrev pub join_rule : Numbers → List (Named SplType) → ℕ → List WindowPart → Found WindowRule
+abbrev pub join_rule : RuleReading
 join_rule numbers schema at [] = bad_window at
 join_rule numbers schema at (p ∷ ps) = if is_word (codes "sliding") p then sliding_alone numbers schema at ps else bad_window p.name.at
 

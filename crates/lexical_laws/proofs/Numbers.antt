@@ -23,7 +23,7 @@ use Rattle.spl_tree.proofs.GapLaws.{drop-prefix_len, prefix_len-append, take-pre
 use Rattle.spl_tree.proofs.FrontLaws.{Stands, front_stands, token_front-is}
 use Rattle.spl_lexer.specs.steps.Scanning.{suffix_ahead}
 use Rattle.spl_lexer.proofs.Reach.{prefix_len-first}
-use Rattle.spl_lexer.proofs.Fronts.{number_front}
+use Rattle.spl_lexer.proofs.Fronts.{digit_letter, number_front}
 use Rattle.lexical_laws.specs.Refusals as refusals
 use Rattle.lexical_laws.specs.Refusals.{Decimal, none, digit, Sign, signed, unsigned, Width, int, int8, int16, int32, int64, uint, uint8, uint16, uint32, uint64, IsSuffix, IsNumber, number, Shows, bad_number}
 
@@ -151,9 +151,6 @@ digits_words (d ∷ ds) all =
     let both = and_parts (is_digit d) (list_all is_digit ds) all in
     let word : is_word_byte d ≡ true = digit_word d both.0 in
     rw word (digits_words ds both.1)
-
-digit_letter : (b : ℕ) → is_digit b ≡ true → is_letter b ≡ false
-digit_letter b h = grind (arith, nat_tests)
 
 -- what a digit begins has the form of a token where it is a number by its suffix, and is that number
 digit_formed : (bs : List ℕ) → begins is_digit bs ≡ true → is_formed bs ≡ is_some (suffix_kind (suffix bs))

@@ -20,7 +20,8 @@ use Rattle.spl_tree.specs.Laws.{IsToken, done, token}
 use Rattle.spl_tree.proofs.CutLaws.{one_cut_law}
 use Rattle.lexical_laws.specs.Written as written
 use Rattle.lexical_laws.specs.Written.{Escapes, double_quote, single_quote, backslash, line_feed, tab, carriage_return, Means, Written, TokenLaw}
-use Rattle.lexical_laws.proofs.Texts.{unequal, unescaped_plain}
+use Rattle.lexical_laws.proofs.Texts.{unequal}
+use Rattle.spl_lexer.proofs.Escapes.{unescaped_plain}
 use Rattle.lexical_laws.proofs.Numbers.{number_token}
 use Rattle.lexical_laws.proofs.Writing.{keyword_of-word}
 

@@ -7,6 +7,7 @@ use Rattle.spl_tree.specs.declared.token.LexicalError.{LexicalError}
 use Rattle.spl_tree.specs.declared.token.LexicalError.TheVariants as E
 use Rattle.spl_tree.specs.Tokens.{Refuse, as_front, text_kind, unescaped, escape, onto, onto_escape, front}
 use Rattle.spl_lexer.specs.steps.Scanning.{text_length, text_ahead}
+use Rattle.spl_lexer.proofs.Escapes.{unescaped_plain}
 use Rattle.spl_lexer.proofs.Fronts.{text_front}
 use Rattle.lexical_laws.specs.Refusals as refusals
 use Rattle.lexical_laws.specs.Refusals.{IsPlain, Inside, nothing, plain, pair, IsEscape, double_quote, single_quote, backslash, line_feed, tab, carriage_return, Escaped, Shows, open_text, bad_escape}
@@ -154,10 +155,6 @@ escape_feed tab e = absurd (omega (arith, e))
 escape_feed carriage_return e = absurd (omega (arith, e))
 
 -- a byte that is no backslash stands for itself
-pub unescaped_plain : (at b : ℕ) (bs : List ℕ) → (b == 92) ≡ false → unescaped at (b ∷ bs) ≡ onto b (unescaped (at + 1) bs)
-unescaped_plain at b [] h = rw h refl
-unescaped_plain at b (c ∷ bs) h = rw h refl
-
 -- bytes of a text with a backslash in them that begins no escape, at a place
 record BadAt (quote at : ℕ) (bs : List ℕ) (i : ℕ) : Type 0 where
   good : List ℕ

@@ -26,7 +26,8 @@ use Rattle.lexical_laws.specs.Refusals as refusals
 use Rattle.lexical_laws.specs.Refusals.{Inside}
 use Rattle.lexical_laws.specs.Written as written
 use Rattle.lexical_laws.specs.Written.{Escapes, double_quote, single_quote, backslash, line_feed, tab, carriage_return, Means, Written, WrittenLaw}
-use Rattle.lexical_laws.proofs.Texts.{unequal, closing, unescaped_plain}
+use Rattle.lexical_laws.proofs.Texts.{unequal, closing}
+use Rattle.spl_lexer.proofs.Escapes.{unescaped_plain}
 use Rattle.lexical_laws.proofs.Numbers.{numbered}
 use Rattle.lexical_laws.proofs.Symbols.{find_passes, symbol_of-text}
 

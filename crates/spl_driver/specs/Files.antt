@@ -26,8 +26,12 @@ abbrev pub if_given : Option (List ℕ) → List (List ℕ)
 if_given None = []
 if_given (Some name) = name ∷ []
 
+-- names of files that a request has, with the clauses of the operators of its program
+abbrev pub FileNames : Type 0
+FileNames = Option Request → List CheckedClauses → List (List ℕ)
+
 -- the files of the sources, where they are run, which are read row by row
-abbrev pub row_files : Option Request → List CheckedClauses → List (List ℕ)
+abbrev pub row_files : FileNames
 row_files (Some (R.Run program options)) parts = source_files parts
 row_files (Some (R.Replay program arrivals)) parts = source_files parts
 row_files (Some (R.Simulate program width schedule steps)) parts = source_files parts
@@ -40,11 +44,11 @@ whole_files (Some (R.Replay program arrivals)) = program ∷ arrivals ∷ []
 whole_files (Some request) = if_given (program_of request)
 
 -- the files that are opened, each of which is read to its end
-abbrev pub opens : Option Request → List CheckedClauses → List (List ℕ)
+abbrev pub opens : FileNames
 opens request parts = whole_files request ++ row_files request parts
 
 -- the files of the sinks where they are run, a record that is written, and a file that is made
-abbrev pub creates : Option Request → List CheckedClauses → List (List ℕ)
+abbrev pub creates : FileNames
 creates (Some (R.Run program options)) parts = sink_files parts ++ if_given options.arrivals
 creates (Some (R.Replay program arrivals)) parts = sink_files parts
 creates (Some (R.Simulate program width schedule steps)) parts = sink_files parts

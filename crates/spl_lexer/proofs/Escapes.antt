@@ -21,16 +21,16 @@ pub behind_none : (rest : Result (List ℕ) ℕ) → behind [] rest ≡ rest
 behind_none (Ok bs) = refl
 behind_none (Err at) = refl
 
-plain : (at b : ℕ) (bs : List ℕ) → (b == 92) ≡ false → unescaped at (b ∷ bs) ≡ onto b (unescaped (at + 1) bs)
-plain at b [] h = rw h refl
-plain at b (c ∷ bs) h = rw h refl
+pub unescaped_plain : (at b : ℕ) (bs : List ℕ) → (b == 92) ≡ false → unescaped at (b ∷ bs) ≡ onto b (unescaped (at + 1) bs)
+unescaped_plain at b [] h = rw h refl
+unescaped_plain at b (c ∷ bs) h = rw h refl
 
 module _ (bs : List ℕ) (i : ℕ) (lt : i < length bs) where
   pub plain_step : (text : List ℕ) → (get_or bs i 0 == 92) ≡ false
       → behind (text ++ get_or bs i 0 ∷ []) (to_come false (i + 1) (drop (i + 1) bs)) ≡ behind text (to_come false i (drop i bs))
   plain_step text h =
       behind-onto text (get_or bs i 0) (unescaped (i + 1 + 1) (drop (i + 1) bs))
-      ∙ ap (behind text) (sym (at_drop_more (unescaped (i + 1)) bs i 0 lt ∙ plain (i + 1) (get_or bs i 0) (drop (i + 1) bs) h))
+      ∙ ap (behind text) (sym (at_drop_more (unescaped (i + 1)) bs i 0 lt ∙ unescaped_plain (i + 1) (get_or bs i 0) (drop (i + 1) bs) h))
 
   pub backslash_step : get_or bs i 0 ≡ 92 → to_come true (i + 1) (drop (i + 1) bs) ≡ to_come false i (drop i bs)
   backslash_step h = sym (at_drop_more (unescaped (i + 1)) bs i 0 lt ∙ ap (λ (b : ℕ). unescaped (i + 1) (b ∷ drop (i + 1) bs)) h)

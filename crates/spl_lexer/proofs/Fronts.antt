@@ -38,7 +38,7 @@ digit_blank b h = grind (arith, nat_tests)
 digit_slash : (b : ℕ) → is_digit b ≡ true → (b == 47) ≡ false
 digit_slash b h = grind (arith, nat_tests)
 
-digit_letter : (b : ℕ) → is_digit b ≡ true → is_letter b ≡ false
+pub digit_letter : (b : ℕ) → is_digit b ≡ true → is_letter b ≡ false
 digit_letter b h = grind (arith, nat_tests)
 
 -- a quote is no blank, no slash, no letter, no digit and no dollar
