@@ -5,6 +5,7 @@ use Rattle.std.proofs.Math.Dec.{eqb-suc-zero}
 use Rattle.spl_value.specs.declared.types.SplType.{SplType}
 use Rattle.spl_value.specs.declared.types.SplType.TheVariants as S
 use Rattle.spl_value.specs.declared.types.SplType.TheViews.{out-SplType}
+use Rattle.spl_tree.specs.declared.body.Statement.{Statement}
 use Rattle.spl_tree.specs.declared.body.Statement.TheVariants as T
 use Rattle.spl_tree.specs.declared.expression.Placed.{Placed}
 use Rattle.spl_tree.specs.declared.code.BuiltIn.TheVariants as Q
@@ -19,10 +20,10 @@ use Rattle.language_model.specs.declared.scope.Scope.{Scope}
 use Rattle.language_model.specs.declared.scope.Signature.{Signature}
 use Rattle.language_model.specs.declared.scope.Typed.{Typed}
 use Rattle.language_model.specs.Scopes.{At, unresolved_of}
-use Rattle.language_model.specs.StatementTyping.{function_statement}
-use Rattle.language_model.specs.Typing.{Found, OnFirst, Part, after, arguments_typed, built_in_typed, changed_typed, first_typed, function_typed, if_mutable, int32, is_mutable, level_changed, level_first, mismatch, not_callable, part_typed, refused, typed, value_given, wrong_call}
+use Rattle.language_model.specs.StatementTyping.{change_typing, function_statement}
+use Rattle.language_model.specs.Typing.{Found, OnFirst, Part, after, argument_count, arguments_typed, built_in_typed, changed_typed, first_typed, function_typed, if_mutable, int32, is_mutable, level_changed, level_first, mismatch, not_callable, part_typed, refused, typed, value_given, wrong_call}
 use Rattle.call_rules.specs.Calls.{Asked, asked, asked_by_change, change_asked, first_for, given, row_for, value_asked}
-use Rattle.name_rules.specs.Functions.{function_found}
+use Rattle.type_rules.specs.Called.{called_with}
 use Rattle.language_model.specs.Finds.{with_front}
 use Rattle.type_rules.proofs.Steps.{after_each}
 use Rattle.language_model.proofs.FoundAnswers.{after_after}
@@ -128,29 +129,53 @@ changed_law at scope e es (Some ts) = by_name e.what.form.root
     by_name None = refl
     by_name (Some name) = mutable (is_mutable scope name)
 
+-- ---- calls that change their first argument
+
+no_row : {A : Type 0} (at : ℕ) (b : Bool) → (if b then wrong_call {A = A} at else wrong_call at) ≡ wrong_call at
+no_row at true = refl
+no_row at false = refl
+
+-- the first argument and the others, and then the change
+pub changing_law : (at : ℕ) (scope : Scope) (call : CallName) (es : List (Placed Part))
+    → (if length es == argument_count call then change_typing at scope call es else wrong_call at)
+    ≡ after (row_for at call es) (λ p. change_typing at scope call (p.0 ∷ p.1))
+changing_law at scope call [] = no_row at (0 == argument_count call)
+changing_law at scope call (e ∷ es) = by (length (e ∷ es) == argument_count call)
+  where
+    by : (b : Bool) → (if b then change_typing at scope call (e ∷ es) else wrong_call at)
+        ≡ after {A = Placed Part × List (Placed Part)} (if b then Ok (e, es) else wrong_call at) (λ p. change_typing at scope call (p.0 ∷ p.1))
+    by true = refl
+    by false = refl
+
 -- ---- calls of functions
 
-module _ {B : Type 0} (at : ℕ) (scope : Scope) (name : List ℕ) (es : List (Placed Part)) (found : At Signature → Found B) where
-  as_many : (b : Bool) (f : At Signature) → (if b then found f else wrong_call at) ≡ after (if b then Ok f else wrong_call at) found
-  as_many true f = refl
+-- the function and the codes of the arguments, and then what a call makes of them
+module _ {B : Type 0} (at : ℕ) (scope : Scope) (name : List ℕ) (es : List (Placed Part)) (made : At Signature → List (Code Slot) → Found B) where
+  abbrev with_codes : Found (At Signature) → Found (At Signature × List (Code Slot))
+  with_codes found = after found (λ f. after (arguments_typed scope f.what.parameters es) (λ xs. Ok (f, xs)))
+
+  not_there : (r : Option CheckRefusal) → not_callable at name r ≡ after (with_codes (not_callable at name r)) (λ p. made p.0 p.1)
+  not_there None = refl
+  not_there (Some r) = refl
+
+  as_many : (b : Bool) (f : At Signature)
+      → (if b then after (arguments_typed scope f.what.parameters es) (made f) else wrong_call at)
+      ≡ after (with_codes (if b then Ok f else wrong_call at)) (λ p. made p.0 p.1)
+  as_many true f = sym (after_after (arguments_typed scope f.what.parameters es) (λ xs. Ok (f, xs)) (λ p. made p.0 p.1))
   as_many false f = refl
 
-pub function_law : (at : ℕ) (scope : Scope) (name : List ℕ) (es : List (Placed Part)) (o : Option (At Signature))
-    → function_typed at scope name es o ≡ after (function_found at scope name es o) (λ f. after (arguments_typed scope f.what.parameters es) (λ xs. value_given at f.what.result (C.Call f.place xs)))
-function_law at scope name es None = not_there (unresolved_of scope name)
-  where
-    not_there : (r : Option CheckRefusal) → not_callable at name r ≡ after (not_callable at name r) (λ (f : At Signature). after (arguments_typed scope f.what.parameters es) (λ xs. value_given at f.what.result (C.Call f.place xs)))
-    not_there None = refl
-    not_there (Some r) = refl
-function_law at scope name es (Some f) =
-    as_many at scope name es (λ f. after (arguments_typed scope f.what.parameters es) (λ xs. value_given at f.what.result (C.Call f.place xs))) (length es == length f.what.parameters) f
+module _ (at : ℕ) (scope : Scope) (name : List ℕ) (es : List (Placed Part)) where
+  abbrev value_made : At Signature → List (Code Slot) → Found Typed
+  value_made f xs = value_given at f.what.result (C.Call f.place xs)
 
-pub function_statement_law : (at : ℕ) (scope : Scope) (name : List ℕ) (es : List (Placed Part)) (o : Option (At Signature))
-    → function_statement at scope name es o ≡ after (function_found at scope name es o) (λ f. after (arguments_typed scope f.what.parameters es) (λ xs. Ok (T.Call f.place xs)))
-function_statement_law at scope name es None = not_there (unresolved_of scope name)
-  where
-    not_there : (r : Option CheckRefusal) → not_callable at name r ≡ after (not_callable at name r) (λ (f : At Signature). after (arguments_typed scope f.what.parameters es) (λ xs. Ok (T.Call f.place xs)))
-    not_there None = refl
-    not_there (Some r) = refl
-function_statement_law at scope name es (Some f) =
-    as_many at scope name es (λ f. after (arguments_typed scope f.what.parameters es) (λ xs. Ok (T.Call f.place xs))) (length es == length f.what.parameters) f
+  pub function_law : (o : Option (At Signature))
+      → function_typed at scope name es o ≡ after (called_with at scope name es o) (λ p. value_given at p.0.what.result (C.Call p.0.place p.1))
+  function_law None = not_there at scope name es value_made (unresolved_of scope name)
+  function_law (Some f) = as_many at scope name es value_made (length es == length f.what.parameters) f
+
+  abbrev statement_made : At Signature → List (Code Slot) → Found Statement
+  statement_made f xs = Ok (T.Call f.place xs)
+
+  pub function_statement_law : (o : Option (At Signature)) → function_statement at scope name es o ≡ after (called_with at scope name es o) (λ p. Ok (T.Call p.0.place p.1))
+  function_statement_law None = not_there at scope name es statement_made (unresolved_of scope name)
+  function_statement_law (Some f) = as_many at scope name es statement_made (length es == length f.what.parameters) f

@@ -6,13 +6,15 @@ ghost use Rattle.spl_value.specs.declared.types.SplType.TheVariants as S;
 ghost use Rattle.spl_tree.specs.declared.code.Code.TheVariants as C;
 ghost use Rattle.language_model.specs.Typing.{typing, typed, part, list_typed, wants_list, map_typed, wants_map, tuple_typed, wants_tuple, select_typed, of_base, binary_or_marker, marker_asked, arguments_typed, built_in_typed, call_typed, call_of};
 ghost use Rattle.language_model.specs.TypingLaws.{parted, parts, entry_parts, field_parts, step_parts};
-ghost use Rattle.language_model.specs.Finds.{Finds, with_front};
+ghost use Rattle.language_model.specs.Finds.{Finds, FindsBy, with_front};
+ghost use Rattle.language_model.specs.Scopes.{at_place, function_of};
+ghost use Rattle.type_rules.specs.Called.{called_with};
 
 use call_rules::{
     argument_row, asks, behind_first, branch_wanted, call_named, first_wanted, given, marker,
     marker_test, operation_of, prefixed, required, right_wanted, truth,
 };
-use language_model::{Codes, Scope, TypeAnswer, Typed};
+use language_model::{Codes, Scope, Signature, TypeAnswer, Typed};
 use name_rules::{
     add_code, add_field, called, chosen, dollar_typed, element_wanted, field_wanted,
     function_given, index_wanted, kind_in, kinds_in, list_given, literal, map_given, name_typed,
@@ -30,20 +32,9 @@ use std::alloc::Global;
 /// order of the text, that has no meaning. A `$` parameter has the type and the code of its value, or
 /// the refusal of that. A call of a function whose types aren't any has the refusal of those.
 /// `Memory` is also the answer for rows of more than 2^32 names.
-pub fn type_of(
-    alloc: Global,
-    scope: &Scope,
-    expr: &Expr,
-    wanted: Option<&SplType>,
-) -> Result<Typed, TypeAnswer>
-    ensures { Finds (typing scope.now expr.now (option_copied wanted.entry)) result }
-{
-    type_at(alloc, scope, expr, wanted)
-}
-
 #[cycle(types)]
 #[tactic(auto, using(language_model::proofs::TypingLaws::typing_laws))]
-fn type_at(
+pub fn type_of(
     alloc: Global,
     scope: &Scope,
     expr: &Expr,
@@ -53,15 +44,15 @@ fn type_at(
 {
     let at = expr.at;
     match expr.what.get() {
-        ExprKind::Group(inner) => type_at(alloc, scope, inner, wanted),
+        ExprKind::Group(inner) => type_of(alloc, scope, inner, wanted),
         ExprKind::List(elements) => list(alloc, scope, at, elements.as_slice(), wanted),
         ExprKind::Map(entries) => map(alloc, scope, at, entries.as_slice(), wanted),
         ExprKind::Tuple(fields) => tuple(alloc, scope, at, fields.as_slice(), wanted),
         ExprKind::Conditional(condition, first, second) => {
-            let test = type_at(alloc, scope, condition, Some(&SplType::Bool))?;
-            let one = type_at(alloc, scope, first, wanted)?;
+            let test = type_of(alloc, scope, condition, Some(&SplType::Bool))?;
+            let one = type_of(alloc, scope, first, wanted)?;
             let wanted = branch_wanted(wanted, one.kind.get());
-            let other = type_at(alloc, scope, second, wanted)?;
+            let other = type_of(alloc, scope, second, wanted)?;
             chosen(alloc, test, one, other)
         }
         ExprKind::Name(name) => {
@@ -83,7 +74,7 @@ fn type_at(
             required(at, wanted, selection(alloc, scope, base, steps.as_slice()))
         }
         ExprKind::Unary(prefixes, operand) => {
-            let typed = type_at(alloc, scope, operand, None);
+            let typed = type_of(alloc, scope, operand, None);
             let found = prefixed(alloc, prefixes.as_slice(), operand.at, typed);
             required(at, wanted, found)
         }
@@ -107,7 +98,7 @@ fn list(
     let mut kind = element_wanted(alloc, at, wanted)?;
     let mut codes = Items::new(alloc);
     for element in all {
-        let typed = type_at(alloc, scope, element, kind_in(&kind))?;
+        let typed = type_of(alloc, scope, element, kind_in(&kind))?;
         kind = with_element(kind, &mut codes, typed)?;
     }
     list_given(alloc, at, kind, codes)
@@ -128,8 +119,8 @@ fn map(
     let mut codes = Items::new(alloc);
     for entry in all {
         let (key, value) = kinds_in(&kinds);
-        let first = type_at(alloc, scope, &entry.0, key)?;
-        let second = type_at(alloc, scope, &entry.1, value)?;
+        let first = type_of(alloc, scope, &entry.0, key)?;
+        let second = type_of(alloc, scope, &entry.1, value)?;
         kinds = with_entry(kinds, &mut codes, first, second)?;
     }
     map_given(alloc, at, kinds, codes)
@@ -152,7 +143,7 @@ fn tuple(
     let mut codes = Items::new(alloc);
     for (place, field) in fields.iter().enumerate() {
         let (number, kind) = field_wanted(schema, place, field)?;
-        let typed = type_at(alloc, scope, &field.value, kind)?;
+        let typed = type_of(alloc, scope, &field.value, kind)?;
         add_field(
             alloc,
             schema,
@@ -185,7 +176,7 @@ fn taken(
                 kind = take_member(alloc, base, kind, member, &mut takings)?;
             }
             Step::Index(index) => {
-                let typed = type_at(alloc, scope, index, index_wanted(base, kind.get())?)?;
+                let typed = type_of(alloc, scope, index, index_wanted(base, kind.get())?)?;
                 kind = take_index(alloc, base, kind, index.at, typed, &mut takings)?;
             }
         }
@@ -207,7 +198,7 @@ fn selection(
         let typed = of_port(alloc, place, port, member)?;
         return taken(alloc, scope, base.at, typed, rest);
     }
-    let typed = type_at(alloc, scope, base, None)?;
+    let typed = type_of(alloc, scope, base, None)?;
     taken(alloc, scope, base.at, typed, steps)
 }
 
@@ -227,9 +218,9 @@ fn operation(
     if let Some(code) = marker_test(alloc, asks, operator, marker(right))? {
         return truth(alloc, code);
     }
-    let first = type_at(alloc, scope, left, None)?;
+    let first = type_of(alloc, scope, left, None)?;
     let wanted = right_wanted(operator, left.at, first.kind.get())?;
-    let second = type_at(alloc, scope, right, wanted)?;
+    let second = type_of(alloc, scope, right, wanted)?;
     operation_of(alloc, operator, left.at, first, right.at, second)
 }
 
@@ -247,11 +238,28 @@ pub(crate) fn arguments(
     let mut codes = front;
     let mut at = 0;
     'arguments: while at < kinds.len() && at < arguments.len() {
-        let typed = type_at(alloc, scope, &arguments[at], Some(&kinds[at]))?;
+        let typed = type_of(alloc, scope, &arguments[at], Some(&kinds[at]))?;
         add_code(&mut codes, typed)?;
         at += 1;
     }
     Ok(codes)
+}
+
+/// The function that is called, with its place, and the codes of its arguments.
+#[cycle(types)]
+pub(crate) fn called_with<'s>(
+    alloc: Global,
+    scope: &'s Scope,
+    at: u32,
+    name: &[u8],
+    all: &[Expr],
+) -> Result<(usize, &'s Signature, Codes), TypeAnswer>
+    ensures { FindsBy (λ p. (at_place p.0 p.1.now, p.2)) (called_with at scope.now name.now (parts all.now) (function_of scope.now name.now)) result }
+{
+    let (place, found) = called(alloc, scope, at, name, all)?;
+    let kinds = found.parameters.as_slice();
+    let codes = arguments(alloc, scope, kinds, all, Items::new(alloc))?;
+    Ok((place, found, codes))
 }
 
 /// A call of a function, or of one that the language has built in.
@@ -269,14 +277,7 @@ pub(crate) fn call(
     if let Some(call) = call_named(name) {
         return built_in(alloc, scope, at, call, all);
     }
-    let (place, found) = called(alloc, scope, at, name, all)?;
-    let codes = arguments(
-        alloc,
-        scope,
-        found.parameters.as_slice(),
-        all,
-        Items::new(alloc),
-    )?;
+    let (place, found, codes) = called_with(alloc, scope, at, name, all)?;
     function_given(alloc, at, place, found.result.as_ref(), codes)
 }
 
@@ -294,7 +295,7 @@ fn built_in(
 {
     let (first, rest) = argument_row(at, call, all)?;
     let wanted = first_wanted(alloc, call)?;
-    let typed = type_at(alloc, scope, first, kind_in(&wanted))?;
+    let typed = type_of(alloc, scope, first, kind_in(&wanted))?;
     let (gives, others, front) = behind_first(alloc, scope, at, call, first, typed)?;
     let codes = arguments(alloc, scope, others.as_slice(), rest, front)?;
     given(alloc, at, gives, codes)

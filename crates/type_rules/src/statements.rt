@@ -1,18 +1,16 @@
 //! Assignments, and calls as statements.
 ghost use Rattle.std.specs.Prelude.{◌≡◌, ◌==◌, None, length, if◌then◌else◌};
 ghost use Rattle.spl_value.specs.declared.types.SplType.TheViews.{out-SplType};
-ghost use Rattle.language_model.specs.Scopes.{function_of};
 ghost use Rattle.language_model.specs.Typing.{argument_count, call_of, changed_typed, level_changed, level_operator, operands_typed, wrong_call};
 ghost use Rattle.language_model.specs.TypingLaws.{parted, parts};
-ghost use Rattle.language_model.specs.StatementTyping.{assignment_typing, compound_typing, call_typing, call_statement, function_statement, change_typing, change_made};
+ghost use Rattle.language_model.specs.StatementTyping.{assignment_typing, compound_typing, call_typing, call_statement, change_typing, change_made};
 ghost use Rattle.language_model.specs.Finds.{Finds};
 ghost use Rattle.type_rules.specs.Places.{only};
 
 use crate::places::{place_given, place_of};
-use crate::rules::{arguments, call, type_of};
-use call_rules::{argument_count, as_wanted, binary, call_named, change_asked, operator_on};
+use crate::rules::{arguments, call, called_with, type_of};
+use call_rules::{argument_row, as_wanted, binary, call_named, change_asked, operator_on};
 use language_model::{Codes, Scope, TypeAnswer, Typed, mismatch, narrow, wrong_call};
-use name_rules::called;
 use spl_tree::{BinaryOperator, CallName, Change, Code, Expr, ExprKind, Place, Slot, Statement};
 use spl_value::{Boxed, Items, SplType};
 use std::alloc::Global;
@@ -113,6 +111,7 @@ pub fn call_of(alloc: Global, scope: &Scope, call: &Expr) -> Result<Statement, T
 }
 
 /// A call by its name: one that changes a place, one whose value isn't used, or one of a function.
+#[tactic(auto, using(crate::proofs::CallLaws::function_statement_law))]
 fn call_statement(
     alloc: Global,
     scope: &Scope,
@@ -139,11 +138,16 @@ fn call_statement(
             let typed = call(alloc, scope, at, name, all)?;
             Ok(Statement::Evaluate(code_of(typed)))
         }
-        None => function_statement(alloc, scope, at, name, all),
+        None => {
+            let (place, _, codes) = called_with(alloc, scope, at, name, all)?;
+            let place = narrow(place)?;
+            Ok(Statement::Call(place, codes))
+        }
     }
 }
 
 /// A call that changes its first argument, with as many arguments as it has.
+#[tactic(auto, using(crate::proofs::CallLaws::changing_law))]
 fn changing(
     alloc: Global,
     scope: &Scope,
@@ -153,25 +157,7 @@ fn changing(
 ) -> Result<Statement, TypeAnswer>
     ensures { Finds (if length (parts all.now) == argument_count call then change_typing at scope.now call (parts all.now) else wrong_call at) result }
 {
-    if all.len() != argument_count(call) {
-        return Err(wrong_call(at));
-    }
-    change(alloc, scope, at, call, all)
-}
-
-/// A call that changes its first argument.
-fn change(
-    alloc: Global,
-    scope: &Scope,
-    at: u32,
-    call: CallName,
-    all: &[Expr],
-) -> Result<Statement, TypeAnswer>
-    ensures { Finds (change_typing at scope.now call (parts all.now)) result }
-{
-    let Some((first, rest)) = all.split_first() else {
-        return Err(wrong_call(at));
-    };
+    let (first, rest) = argument_row(at, call, all)?;
     let typed = type_of(alloc, scope, first, None)?;
     let others = changed(alloc, scope, at, call, typed.kind.get(), first, rest)?;
     let (place, _) = place_given(alloc, first.at, typed)?;
@@ -225,27 +211,4 @@ fn change_made(
         CallName::ClearM if others.is_empty() => Ok(Statement::Change(place, Change::Clear)),
         _ => Err(wrong_call(at)),
     }
-}
-
-/// A call of a function, with a result or without.
-#[tactic(auto, using(crate::proofs::CallLaws::function_statement_law))]
-fn function_statement(
-    alloc: Global,
-    scope: &Scope,
-    at: u32,
-    name: &[u8],
-    all: &[Expr],
-) -> Result<Statement, TypeAnswer>
-    ensures { Finds (function_statement at scope.now name.now (parts all.now) (function_of scope.now name.now)) result }
-{
-    let (place, found) = called(alloc, scope, at, name, all)?;
-    let codes = arguments(
-        alloc,
-        scope,
-        found.parameters.as_slice(),
-        all,
-        Items::new(alloc),
-    )?;
-    let place = narrow(place)?;
-    Ok(Statement::Call(place, codes))
 }

@@ -91,122 +91,122 @@ pub arguments-returns : goal.arguments-returns
 arguments-returns t c =
     elim c.arguments-test.branch [ arguments-then-arguments-test+else-at-arguments w ↦ c.arguments.invariant ∙ arguments_past c.args.scope.now c.args.kinds.now c.args.arguments.now c.arguments.at c.arguments.codes w.if-at-arguments.false | arguments-else-arguments-test w ↦ c.arguments.invariant ∙ kinds_past c.args.scope.now c.args.kinds.now c.args.arguments.now c.arguments.at c.arguments.codes w.arguments-test.false ]
 
-pub list-type_at-requires : goal.list-type_at-requires
-list-type_at-requires t c =
+pub list-type_of-requires : goal.list-type_of-requires
+list-type_of-requires t c =
     (let q = item_below expr_weight c.args.all.now c.loop-element.element-index c.element-item.result c.loop-element-test.true c.element-item.is in omega arith, tt)
 
-pub map-type_at-requires : goal.map-type_at-requires
-map-type_at-requires t c =
+pub map-type_of-requires : goal.map-type_of-requires
+map-type_of-requires t c =
     (let q = item_below entry_weight c.args.all.now c.loop-entry.entry-index c.entry-item.result c.loop-entry-test.true c.entry-item.is in omega arith, tt)
 
-pub map-type_at-requires-in-loop-entry : goal.map-type_at-requires-in-loop-entry
-map-type_at-requires-in-loop-entry t c =
+pub map-type_of-requires-in-loop-entry : goal.map-type_of-requires-in-loop-entry
+map-type_of-requires-in-loop-entry t c =
     (let q = item_below entry_weight c.args.all.now c.loop-entry.entry-index c.entry-item.result c.loop-entry-test.true c.entry-item.is in omega arith, tt)
 
-pub tuple-type_at-requires : goal.tuple-type_at-requires
-tuple-type_at-requires t c =
+pub tuple-type_of-requires : goal.tuple-type_of-requires
+tuple-type_of-requires t c =
     (let q = item_below field_weight c.args.fields.now c.loop-place.place c.index-fields-place.result c.loop-place-test.true c.index-fields-place.is in omega arith, tt)
 
-pub taken-type_at-requires : goal.taken-type_at-requires
-taken-type_at-requires t c = (
+pub taken-type_of-requires : goal.taken-type_of-requires
+taken-type_of-requires t c = (
   let q = item_below step_weight c.args.steps.now c.loop-next.next-index c.next-item.result c.loop-next-test.true c.next-item.is in
       let r = ap step_weight c.in-Index.is in omega arith,
   tt,
 )
 
-pub arguments-type_at-requires : goal.arguments-type_at-requires
-arguments-type_at-requires t c =
+pub arguments-type_of-requires : goal.arguments-type_of-requires
+arguments-type_of-requires t c =
     (let q = item_below expr_weight c.args.arguments.now c.arguments.at c.index-arguments-at.result c.if-at-arguments.true c.index-arguments-at.is in omega arith, tt)
 
-pub type_at-list-requires : goal.type_at-list-requires
-type_at-list-requires t c =
+pub type_of-list-requires : goal.type_of-list-requires
+type_of-list-requires t c =
     (let w = ap weight (sym c.get.ensures ∙ c.in-List.is) ∙ list_weight c.in-List.elements in let e = ap weights c.as_slice.ensures in omega arith, tt)
 
-pub type_at-map-requires : goal.type_at-map-requires
-type_at-map-requires t c =
+pub type_of-map-requires : goal.type_of-map-requires
+type_of-map-requires t c =
     (let w = ap weight (sym c.get.ensures ∙ c.in-Map.is) ∙ map_weight c.in-Map.entries in let e = ap entry_weights c.as_slice-in-Map.ensures in omega arith, tt)
 
-pub type_at-tuple-requires : goal.type_at-tuple-requires
-type_at-tuple-requires t c =
+pub type_of-tuple-requires : goal.type_of-tuple-requires
+type_of-tuple-requires t c =
     (let w = ap weight (sym c.get.ensures ∙ c.in-Tuple.is) ∙ tuple_weight c.in-Tuple.fields in let e = ap field_weights c.as_slice-in-Tuple.ensures in omega arith, tt)
 
-pub type_at-call-found-requires : goal.type_at-call-found-requires
-type_at-call-found-requires t c =
+pub type_of-call-found-requires : goal.type_of-call-found-requires
+type_of-call-found-requires t c =
     (let w = ap weight (sym c.get.ensures ∙ c.in-Call.is) ∙ call_weight c.in-Call.name c.in-Call.arguments in let e = ap weights c.as_slice-in-Call-2.ensures in omega arith, tt)
 
-pub type_at-selection-requires : goal.type_at-selection-requires
-type_at-selection-requires t c = (
+pub type_of-selection-requires : goal.type_of-selection-requires
+type_of-selection-requires t c = (
   let w = ap weight (sym c.get.ensures ∙ c.in-Select.is) ∙ select_weight c.in-Select.base c.in-Select.steps in
       let e = ap step_weights c.as_slice-in-Select.ensures in omega arith,
   tt,
 )
 
-pub built_in-type_at-requires : goal.built_in-type_at-requires
-built_in-type_at-requires t c =
+pub built_in-type_of-requires : goal.built_in-type_of-requires
+built_in-type_of-requires t c =
     (let q = ap weights c.in_ok-first.ensures.row in omega arith, tt)
 
 pub built_in-arguments-requires : goal.built_in-arguments-requires
 built_in-arguments-requires t c =
     (let q = ap weights c.in_ok-first.ensures.row in omega arith, tt)
 
-pub type_at-returns-in-Name : goal.type_at-returns-in-Name
-type_at-returns-in-Name t c =
+pub type_of-returns-in-Name : goal.type_of-returns-in-Name
+type_of-returns-in-Name t c =
     let at = c.args.expr.now.at in
     let scope = c.args.scope.now in
     let w = option_copied c.args.wanted in
     by_form c.args.expr.now.what _ at scope w (sym c.get.ensures ∙ c.in-Name.is ∙ (λ i. V.Name (sym c.as_slice-in-Name.ensures i))) _ (laws.name_typed c.as_slice-in-Name.result.now at scope w) _ _ c.required.ensures c.name_typed.ensures
 
-pub type_at-returns-in-Dollar : goal.type_at-returns-in-Dollar
-type_at-returns-in-Dollar t c =
+pub type_of-returns-in-Dollar : goal.type_of-returns-in-Dollar
+type_of-returns-in-Dollar t c =
     let at = c.args.expr.now.at in
     let scope = c.args.scope.now in
     let w = option_copied c.args.wanted in
     by_form c.args.expr.now.what _ at scope w (sym c.get.ensures ∙ c.in-Dollar.is ∙ (λ i. V.Dollar (sym c.as_slice-in-Dollar.ensures i))) _ (laws.dollar_typed c.as_slice-in-Dollar.result.now at scope w) _ _ c.required-in-Dollar.ensures c.dollar_typed.ensures
 
-pub type_at-returns-in-Number : goal.type_at-returns-in-Number
-type_at-returns-in-Number t c =
+pub type_of-returns-in-Number : goal.type_of-returns-in-Number
+type_of-returns-in-Number t c =
     let at = c.args.expr.now.at in
     let scope = c.args.scope.now in
     let w = option_copied c.args.wanted in
     by_form c.args.expr.now.what _ at scope w (sym c.get.ensures ∙ c.in-Number.is) _ (laws.number_typed c.in-Number.number at scope w) _ _ c.required-in-Number.ensures c.number_typed.ensures
 
-pub type_at-returns-in-Text : goal.type_at-returns-in-Text
-type_at-returns-in-Text t c =
+pub type_of-returns-in-Text : goal.type_of-returns-in-Text
+type_of-returns-in-Text t c =
     let at = c.args.expr.now.at in
     let scope = c.args.scope.now in
     let w = option_copied c.args.wanted in
     by_form c.args.expr.now.what _ at scope w (sym c.get.ensures ∙ c.in-Text.is) _ (laws.text_typed c.in-Text.bytes at scope w) _ _ c.required-in-Text.ensures c.text.ensures
 
-pub type_at-returns-in-Bool : goal.type_at-returns-in-Bool
-type_at-returns-in-Bool t c =
+pub type_of-returns-in-Bool : goal.type_of-returns-in-Bool
+type_of-returns-in-Bool t c =
     let at = c.args.expr.now.at in
     let scope = c.args.scope.now in
     let w = option_copied c.args.wanted in
     by_form c.args.expr.now.what _ at scope w (sym c.get.ensures ∙ c.in-Bool.is) _ (laws.bool_typed c.in-Bool.b at scope w) _ _ c.required-in-Bool.ensures c.literal.ensures
 
-pub type_at-returns-in-Call : goal.type_at-returns-in-Call
-type_at-returns-in-Call t c =
+pub type_of-returns-in-Call : goal.type_of-returns-in-Call
+type_of-returns-in-Call t c =
     let at = c.args.expr.now.at in
     let scope = c.args.scope.now in
     let w = option_copied c.args.wanted in
     by_form c.args.expr.now.what _ at scope w (sym c.get.ensures ∙ c.in-Call.is ∙ (λ i. V.Call (sym c.as_slice-in-Call.ensures i) (sym c.as_slice-in-Call-2.ensures i))) _ (laws.call_typed c.as_slice-in-Call.result.now c.as_slice-in-Call-2.result.now at scope w) _ _ c.required-in-Call.ensures c.call-found.ensures
 
-pub type_at-returns-in-Select : goal.type_at-returns-in-Select
-type_at-returns-in-Select t c =
+pub type_of-returns-in-Select : goal.type_of-returns-in-Select
+type_of-returns-in-Select t c =
     let at = c.args.expr.now.at in
     let scope = c.args.scope.now in
     let w = option_copied c.args.wanted in
     by_form c.args.expr.now.what _ at scope w (sym c.get.ensures ∙ c.in-Select.is ∙ (λ i. V.Select c.in-Select.base (sym c.as_slice-in-Select.ensures i))) _ (laws.select_typed c.in-Select.base c.as_slice-in-Select.result.now at scope w) _ _ c.required-in-Select.ensures c.selection.ensures
 
-pub type_at-returns-in-Unary : goal.type_at-returns-in-Unary
-type_at-returns-in-Unary t c =
+pub type_of-returns-in-Unary : goal.type_of-returns-in-Unary
+type_of-returns-in-Unary t c =
     let at = c.args.expr.now.at in
     let scope = c.args.scope.now in
     let w = option_copied c.args.wanted in
-    by_form c.args.expr.now.what _ at scope w (sym c.get.ensures ∙ c.in-Unary.is ∙ (λ i. V.Unary (sym c.as_slice-in-Unary.ensures i) c.in-Unary.operand)) _ (laws.unary_typed c.as_slice-in-Unary.result.now c.in-Unary.operand at scope w) _ _ c.required-in-Unary.ensures (c.prefixed-found.ensures _ c.type_at-typed.ensures)
+    by_form c.args.expr.now.what _ at scope w (sym c.get.ensures ∙ c.in-Unary.is ∙ (λ i. V.Unary (sym c.as_slice-in-Unary.ensures i) c.in-Unary.operand)) _ (laws.unary_typed c.as_slice-in-Unary.result.now c.in-Unary.operand at scope w) _ _ c.required-in-Unary.ensures (c.prefixed-found.ensures _ c.type_of-typed.ensures)
 
-pub type_at-returns-in-Binary : goal.type_at-returns-in-Binary
-type_at-returns-in-Binary t c =
+pub type_of-returns-in-Binary : goal.type_of-returns-in-Binary
+type_of-returns-in-Binary t c =
     let at = c.args.expr.now.at in
     let scope = c.args.scope.now in
     let w = option_copied c.args.wanted in

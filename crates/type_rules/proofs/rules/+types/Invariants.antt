@@ -35,8 +35,8 @@ invariant-arguments-arguments l =
 abbrev pub decreases-arguments-arguments : goal.decreases-arguments-arguments
 decreases-arguments-arguments l = length l.kinds - l.at
 
-abbrev pub decreases-type_at : goal.decreases-type_at
-decreases-type_at l = expr_weight l.expr.now
+abbrev pub decreases-type_of : goal.decreases-type_of
+decreases-type_of l = expr_weight l.expr.now
 
 abbrev pub decreases-list : goal.decreases-list
 decreases-list l = weights l.all.now + 1
@@ -58,6 +58,9 @@ decreases-operation l = expr_weight l.left.now + expr_weight l.right.now + 1
 
 abbrev pub decreases-arguments : goal.decreases-arguments
 decreases-arguments l = weights l.arguments.now + 1
+
+abbrev pub decreases-called_with : goal.decreases-called_with
+decreases-called_with l = weights l.all.now + 2
 
 abbrev pub decreases-call : goal.decreases-call
 decreases-call l = weights l.all.now + 3
