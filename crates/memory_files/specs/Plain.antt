@@ -6,9 +6,9 @@ use Rattle.feed_pour.specs.Table.{under}
 use Rattle.feed_pour.specs.declared.table.Entry.{Entry}
 
 -- a list, or the empty one where there is none
-abbrev pub or_empty : Option (List ℕ) → List ℕ
+abbrev pub or_empty : {A : Type 0} → Option (List A) → List A
 or_empty None = []
-or_empty (Some bytes) = bytes
+or_empty (Some xs) = xs
 
 -- a feed without faults gives all and then the end
 abbrev pub plain_script : List ℕ → Script

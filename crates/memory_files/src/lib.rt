@@ -2,6 +2,7 @@
 #![tactic(auto)]
 
 mod calls;
+mod lists;
 mod memory;
 mod memory_shelf;
 mod plain;

@@ -6,10 +6,10 @@ ghost use Rattle.feed_pour.specs.Counts.{CreatingCounted, Lends, OpeningCounted,
 ghost use Rattle.memory_files.specs.Failing.{calls_after, one_more};
 ghost use Rattle.feed_pour.specs.Files.{counts_in, counts_of, knows};
 ghost use Rattle.memory_files.specs.Memory.{memory_told};
-ghost use Rattle.memory_files.specs.Plain.{or_empty};
 ghost use Rattle.feed_pour.specs.Table.{under};
 
 use crate::calls::Calls;
+use crate::lists::{copy_under, list_under};
 use crate::memory::{MemoryFeed, MemoryPour};
 use feed_pour::{
     Entry, Failed, Feed, Opened, Pour, Shelf, Tallies, find, know, put, raise_creating,
@@ -30,19 +30,6 @@ pub struct MemoryShelf {
     calls: Calls,
     // How many feeds and pours are lent, up to 2^64 - 1.
     lent: u64,
-}
-
-fn numbers_under(
-    alloc: Global,
-    numbers: &[Entry<Items<u64>>],
-    name: &Name,
-) -> Result<Items<u64>, NoMemory>
-    ensures { IfOk result (λ found. found ≡ or_empty (under numbers.now name.now)) }
-{
-    match find(numbers, name) {
-        None => Ok(Items::new(alloc)),
-        Some(found) => Ok(Items::from_slice(alloc, found.as_slice())?),
-    }
 }
 
 fn bytes_under(
@@ -112,10 +99,7 @@ impl MemoryShelf {
     pub fn file(&self, name: &Name) -> Option<&[u8]>
         ensures { option_copied result ≡ files_of self.now name.now }
     {
-        match find(self.files.as_slice(), name) {
-            None => None,
-            Some(bytes) => Some(bytes.as_slice()),
-        }
+        list_under(self.files.as_slice(), name)
     }
 
     /// The four counts of a name, 0 for one that the shelf was never asked for.
@@ -174,7 +158,7 @@ impl Shelf for MemoryShelf {
         if know(self.alloc, &mut self.tallies, name).is_err() {
             return Opened::Memory;
         }
-        let Ok(failing) = numbers_under(self.alloc, self.failing_reads.as_slice(), name) else {
+        let Ok(failing) = copy_under(self.alloc, self.failing_reads.as_slice(), name) else {
             return Opened::Memory;
         };
         let Ok(found) = bytes_under(self.alloc, self.files.as_slice(), name) else {
@@ -221,7 +205,7 @@ impl Shelf for MemoryShelf {
         if know(self.alloc, &mut self.tallies, name).is_err() {
             return Opened::Memory;
         }
-        let Ok(failing) = numbers_under(self.alloc, self.failing_writes.as_slice(), name) else {
+        let Ok(failing) = copy_under(self.alloc, self.failing_writes.as_slice(), name) else {
             return Opened::Memory;
         };
         if self.calls.next_fails() {

@@ -7,7 +7,8 @@ ghost use Rattle.feed_pour.specs.Counts.{Counted, Lends, OpeningCounted, no_coun
 ghost use Rattle.memory_files.specs.Plain.{or_empty, plain_script, plain_told};
 ghost use Rattle.feed_pour.specs.Table.{under, Puts};
 
-use feed_pour::{Entry, Failed, Feed, Opened, Pour, PourAnswer, Shelf, find, put};
+use crate::lists::{copy_under, list_under};
+use feed_pour::{Entry, Failed, Feed, Opened, Pour, PourAnswer, Shelf, put};
 use spl_value::{Bytes, Items, Name, NoMemory};
 use std::alloc::Global;
 
@@ -152,19 +153,7 @@ impl PlainShelf {
     pub fn file(&self, name: &Name) -> Option<&[u8]>
         ensures { option_copied result ≡ plain_files self.now name.now }
     {
-        match find(self.files.as_slice(), name) {
-            None => None,
-            Some(bytes) => Some(bytes.as_slice()),
-        }
-    }
-}
-
-fn copy_under(alloc: Global, files: &[Entry<Bytes>], name: &Name) -> Result<Bytes, NoMemory>
-    ensures { IfOk result (λ bytes. bytes ≡ or_empty (under files.now name.now)) }
-{
-    match find(files, name) {
-        None => Ok(Items::new(alloc)),
-        Some(bytes) => Ok(Items::from_slice(alloc, bytes.as_slice())?),
+        list_under(self.files.as_slice(), name)
     }
 }
 
