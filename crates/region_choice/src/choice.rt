@@ -151,30 +151,6 @@ fn begin(
     Ok(())
 }
 
-/// Takes an operator, which reads this stream, into the region whose last one it may follow, or lets it
-/// begin one.
-fn join_or_begin(
-    alloc: Global,
-    checked: &Checked,
-    counts: &Items<u32>,
-    choice: &mut Choice,
-    op: u32,
-    stream: u32,
-    state: &StateKind,
-) -> Result<(), NoMemory>
-    requires kept { Keeps checked.now }
-    requires number { op < length checked.now.parts }
-    requires standing { (g : Graph) → graph_of checked.now ≡ g → IsStanding g choice.old }
-    ensures { IfOk result (λ _. (g : Graph) (o : Operator) → graph_of checked.now ≡ g → IsCandidate g counts.now op stream state.now o
-        → IsOutside choice.old op → IsPlaced g choice.old op choice.new) }
-{
-    if join(alloc, checked, counts, choice, op, stream, state)? {
-        Ok(())
-    } else {
-        begin(alloc, checked, choice, op, state)
-    }
-}
-
 /// The stream that an operator with this state reads, where it may stand in a region.
 fn entry(checked: &Checked, op: u32, state: &StateKind) -> Option<u32>
     ensures { (g : Graph) (o : Operator) → graph_of checked.now ≡ g → slice_get g.ops op ≡ Some o → result ≡ entry_of o.ins o.outs state.now }
@@ -185,7 +161,8 @@ fn entry(checked: &Checked, op: u32, state: &StateKind) -> Option<u32>
     }
 }
 
-/// Takes an operator into a region, where it may stand in one.
+/// Takes an operator into a region, where it may stand in one: into that whose last one it may follow, or
+/// else into one that it begins.
 fn settle(
     alloc: Global,
     checked: &Checked,
@@ -201,9 +178,13 @@ fn settle(
         → IsSettled g choice.old op choice.new) }
 {
     let state = state_of(alloc, checked, op)?;
-    match entry(checked, op, &state) {
-        Some(stream) => join_or_begin(alloc, checked, counts, choice, op, stream, &state),
-        None => Ok(()),
+    let Some(stream) = entry(checked, op, &state) else {
+        return Ok(());
+    };
+    if join(alloc, checked, counts, choice, op, stream, &state)? {
+        Ok(())
+    } else {
+        begin(alloc, checked, choice, op, &state)
     }
 }
 
