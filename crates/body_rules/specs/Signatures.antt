@@ -1,22 +1,18 @@
 -- What the private steps answer on the functions of a unit.
-use Rattle.std.specs.Prelude.{◌≡◌, Some, ℕ, false, List, [], ◌∷◌, ◌++◌, map, filter_map, Ok, Err}
+use Rattle.std.specs.Prelude.{ℕ, false, List, [], ◌∷◌, ◌++◌, map, filter_map, Ok, Err}
 use Rattle.spl_value.specs.declared.types.Named.{Named}
 use Rattle.spl_value.specs.declared.types.SplType.{SplType}
 use Rattle.spl_tree.specs.declared.body.Function.{Function}
-use Rattle.spl_tree.specs.declared.expression.Placed.{Placed}
 use Rattle.spl_tree.specs.declared.unit.Definition.{Definition}
 use Rattle.spl_tree.specs.declared.unit.Definition.TheVariants as D
 use Rattle.spl_tree.specs.declared.unit.FunctionDefinition.{FunctionDefinition}
-use Rattle.language_model.specs.declared.scope.CheckError.TheVariants as E
 use Rattle.language_model.specs.declared.scope.Scope.{Scope}
 use Rattle.language_model.specs.BodyFits.{OfFunction}
-use Rattle.language_model.specs.BodyTyping.{Setting, body_typing, variable}
+use Rattle.language_model.specs.BodyTyping.{body_typing, variable}
 use Rattle.language_model.specs.Composites.{functions}
 use Rattle.language_model.specs.FunctionTyping.{FunctionTypes as Typing, function_types, signature, as_signature, as_unresolved, if_returning}
 use Rattle.language_model.specs.TypeNames.{Types}
 use Rattle.language_model.specs.Typing.{Found, after}
-use Rattle.language_model.specs.declared.answer.TypeAnswer.{TypeAnswer}
-use Rattle.language_model.specs.declared.answer.TypeAnswer.TheVariants.{Refused, Memory}
 use Rattle.body_rules.specs.declared.functions.FunctionTypes.{FunctionTypes}
 
 -- the same types
@@ -52,8 +48,3 @@ abbrev pub function_in : Types → Scope → FunctionDefinition → Found Functi
 function_in types scope f =
     after (function_types types f) (λ t.
     after (body_typing (record { types = types; purpose = OfFunction t.result; outputs = [] }) (with_parameters scope t.parameters) f.body) (if_returning f t))
-
--- the function of the name may end without a result
-abbrev pub MayEnd : Placed (List ℕ) → TypeAnswer → Type 0
-MayEnd name (Refused refusal) = refusal ≡ record { error = E.NoReturn; at = name.at; name = Some name.what }
-MayEnd name Memory = Unit {0}

@@ -7,7 +7,7 @@ ghost use Rattle.language_model.specs.FunctionTyping.{function_types, functions_
 ghost use Rattle.language_model.specs.TypeNames.{unit_types};
 ghost use Rattle.spl_tree.specs.declared.unit.Definition.TheVariants as D;
 ghost use Rattle.body_rules.specs.Leads.{shortened};
-ghost use Rattle.body_rules.specs.Signatures.{MayEnd, as_types, function_in, scope_in, with_definition, with_parameters};
+ghost use Rattle.body_rules.specs.Signatures.{as_types, function_in, scope_in, with_definition, with_parameters};
 ghost use Rattle.written_types.specs.TypeScopes.{types_in};
 ghost use Rattle.language_model.specs.Finds.{Finds};
 
@@ -15,12 +15,10 @@ use crate::bodies::{
     BodyPurpose, BodySetting, add_variable, body_of, drop_variables, ends_with_result,
 };
 use language_model::{
-    CheckError, CheckRefusal, Scope, Signature, Signatures, TypeAnswer, Unresolved,
+    CheckError, Scope, Signature, Signatures, TypeAnswer, Unresolved, refused_name,
 };
-use spl_tree::{
-    Body, Definition, Function, FunctionDefinition, Functions, Placed, Stmt, TypeExpr, Unit,
-};
-use spl_value::{Attribute, Boxed, Items, Name, NoMemory, Schema, SplType, copy_type};
+use spl_tree::{Body, Definition, Function, FunctionDefinition, Functions, Stmt, TypeExpr, Unit};
+use spl_value::{Attribute, Boxed, Items, NoMemory, Schema, SplType, copy_type};
 use std::alloc::Global;
 use written_types::{TypeScope, TypeTable, attributes_of, type_of_written};
 
@@ -141,39 +139,8 @@ fn add_parameters(
     Ok(())
 }
 
-/// The refusal of a function with a result whose body may end without one, at its name.
-fn no_return(alloc: Global, name: &Placed<Name>) -> TypeAnswer
-    ensures { MayEnd name.now result }
-{
-    match Items::from_slice(alloc, name.what.as_slice()) {
-        Ok(copy) => TypeAnswer::Refused(CheckRefusal {
-            error: CheckError::NoReturn,
-            at: name.at,
-            name: Some(copy),
-        }),
-        Err(_) => TypeAnswer::Memory,
-    }
-}
-
-/// The code of the body of a function of these types, in a scope.
-fn body_in(
-    alloc: Global,
-    types: &TypeScope,
-    scope: &mut Scope,
-    found: &FunctionTypes,
-    statements: &[Stmt],
-) -> Result<Body, TypeAnswer>
-    ensures code { Finds (body_typing (record { types = types_in types.now; purpose = OfFunction found.now.result; outputs = [] })
-        (with_parameters scope.old found.now.parameters) statements.now) result }
-    ensures same_scope { scope.new ≡ scope.old }
-{
-    let before = scope.vars.len();
-    let body = body_with(alloc, types, scope, found, statements);
-    drop_variables(scope, before);
-    body
-}
-
-/// The same. The parameters stay after the variables that there were.
+/// The code of the body of a function of these types, in a scope. The parameters stay after the variables
+/// that there were.
 fn body_with(
     alloc: Global,
     types: &TypeScope,
@@ -205,7 +172,8 @@ fn returning(
 {
     let FunctionTypes { result, parameters } = found;
     if result.is_some() && !ends_with_result(function.body.as_slice()) {
-        return Err(no_return(alloc, &function.name));
+        let name = &function.name;
+        return Err(refused_name(alloc, CheckError::NoReturn, name.at, name.what.as_slice()));
     }
     let parameters = kinds(alloc, parameters)?;
     Ok(Function {
@@ -227,7 +195,10 @@ fn function_of(
     ensures same_scope { scope.new ≡ scope.old }
 {
     let found = types_of(alloc, types, function)?;
-    let body = body_in(alloc, types, scope, &found, function.body.as_slice())?;
+    let before = scope.vars.len();
+    let answer = body_with(alloc, types, scope, &found, function.body.as_slice());
+    drop_variables(scope, before);
+    let body = answer?;
     returning(alloc, function, found, body)
 }
 

@@ -64,7 +64,7 @@ fn is_handled(handled: &[Handled], event: HandledEvent, port: u32) -> bool
 }
 
 /// A port without a name and without attributes.
-fn empty_port(alloc: Global) -> Port
+pub fn empty_port(alloc: Global) -> Port
     ensures { result ≡ record { name = []; schema = [] } }
 {
     Port {

@@ -7,4 +7,4 @@ mod handlers;
 
 pub use bodies::{BodyPurpose, BodySetting, body_of, ends_with_result};
 pub use functions::{functions_of, scope_of_unit};
-pub use handlers::handlers_of;
+pub use handlers::{empty_port, handlers_of};

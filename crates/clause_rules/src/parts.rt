@@ -12,6 +12,7 @@ ghost use Rattle.language_model.specs.Finds.{Finds};
 ghost use Rattle.clause_rules.specs.steps.Operators.{around_seen, checks_seen, groups_at, rows_of_schemas, rows_seen, tuple_at};
 
 use crate::logic::logic_of;
+use body_rules::empty_port;
 use language_model::{
     CheckError, CheckedClauses, CollectedAttribute, Given, Policy, Port, Position, Scope,
     TypeAnswer, refused, refused_name, rules_of,
@@ -183,7 +184,7 @@ fn tuple(
     match around.outputs.first() {
         Some(output) => tuple_of(alloc, scope, at, output, rows),
         None => {
-            let nothing = nothing(alloc);
+            let nothing = empty_port(alloc);
             tuple_of(alloc, scope, at, &nothing, rows)
         }
     }
@@ -196,16 +197,6 @@ fn there<T: Drop>(at: u32, found: Option<T>) -> Result<T, TypeAnswer>
     match found {
         Some(found) => Ok(found),
         None => Err(refused(CheckError::Mismatch, at)),
-    }
-}
-
-/// A port without a name and without attributes.
-fn nothing(alloc: Global) -> Port
-    ensures { result ≡ record { name = []; schema = [] } }
-{
-    Port {
-        name: Items::new(alloc),
-        schema: Items::new(alloc),
     }
 }
 
@@ -317,7 +308,7 @@ fn groups(
     match around.outputs.first() {
         Some(output) => groups_of(alloc, scope, at, output, rows),
         None => {
-            let nothing = nothing(alloc);
+            let nothing = empty_port(alloc);
             groups_of(alloc, scope, at, &nothing, rows)
         }
     }
