@@ -1,6 +1,5 @@
 //! What is looked up by name in the bodies of composites.
 ghost use Rattle.std.specs.Prelude.{◌≡◌, IfOk};
-ghost use Rattle.language_model.specs.Expansion.{place_of};
 ghost use Rattle.language_model.specs.Invoking.{input_names, is_among, stream_names};
 ghost use Rattle.language_model.specs.StreamTypes.{output_names};
 ghost use Rattle.program_tables.specs.Names.{HoldsNames};
@@ -17,9 +16,9 @@ use written_types::TypeTable;
 pub(crate) struct BodyNames<'u> {
     pub(crate) composite: &'u Composite,
     /// Those of the streams that its graph makes, in the order of the text.
-    streams: Names<'u>,
-    inputs: Names<'u>,
-    outputs: Names<'u>,
+    pub(crate) streams: Names<'u>,
+    pub(crate) inputs: Names<'u>,
+    pub(crate) outputs: Names<'u>,
     /// Those of its own types.
     types: Names<'u>,
     pub(crate) table: TypeTable<'u>,
@@ -42,25 +41,6 @@ impl<'u> BodyNames<'u> {
             types: names_of(alloc, composite.types.as_slice())?,
             table: TypeTable::of_composite(alloc, composite)?,
         })
-    }
-
-    /// The place of a stream among those that the graph makes.
-    pub(crate) fn stream(&self, name: &[u8]) -> Option<u32>
-        ensures { result ≡ place_of name.now (stream_names self.now.composite.now) }
-    {
-        self.streams.place(name)
-    }
-
-    pub(crate) fn input(&self, name: &[u8]) -> Option<u32>
-        ensures { result ≡ place_of name.now (input_names self.now.composite.now) }
-    {
-        self.inputs.place(name)
-    }
-
-    pub(crate) fn output(&self, name: &[u8]) -> Option<u32>
-        ensures { result ≡ place_of name.now (output_names self.now.composite.now) }
-    {
-        self.outputs.place(name)
     }
 
     pub(crate) fn has_type(&self, name: &[u8]) -> bool

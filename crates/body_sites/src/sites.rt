@@ -1,9 +1,9 @@
 //! The composites and invocations that operators and bodies come from.
-ghost use Rattle.std.specs.Prelude.{◌≡◌, map, slice_get, IfOk};
+ghost use Rattle.std.specs.Prelude.{◌≡◌, map, IfOk};
 ghost use Rattle.std.specs.Option.{option_copied, option_map};
 ghost use Rattle.language_model.specs.Composites.{composites};
 ghost use Rattle.language_model.specs.Invoking.{is_among};
-ghost use Rattle.language_model.specs.SinkFiles.{composite_of, invocation_at, arguments_of};
+ghost use Rattle.language_model.specs.SinkFiles.{composite_of, arguments_of};
 ghost use Rattle.language_model.specs.TypeNames.{type_definitions};
 ghost use Rattle.body_sites.specs.Bodies.{body_at_sites, body_seen};
 ghost use Rattle.program_tables.specs.Names.{HoldsNames};
@@ -14,7 +14,7 @@ ghost use Rattle.body_sites.specs.Sites.{MeansTypes};
 use crate::bodies::Body;
 use crate::names::BodyNames;
 use program_tables::{Names, SiteTable};
-use spl_tree::{Composite, Definition, Expansion, Invocation, Parameter, Site, Unit};
+use spl_tree::{Composite, Definition, Expansion, Parameter, Unit};
 use spl_value::NoMemory;
 use std::alloc::Global;
 use written_types::{TypeScope, TypeTable};
@@ -61,13 +61,6 @@ impl<'a> Sites<'a> {
         })
     }
 
-    /// The expansion of a number.
-    pub fn expansion(&self, number: u32) -> Option<&'a Expansion>
-        ensures { option_copied result ≡ slice_get self.now.expansions.now number }
-    {
-        self.expansions.get(number as usize)
-    }
-
     fn names(&self, expansion: &Expansion) -> Option<&BodyNames<'a>>
         ensures { option_map (λ b. b.now.composite.now) result ≡ composite_of self.now.unit.now expansion.now }
     {
@@ -111,13 +104,6 @@ impl<'a> Sites<'a> {
         ensures { result ≡ is_among name.now (type_names_of (type_definitions self.now.unit.now)) }
     {
         self.unit_names.has(name)
-    }
-
-    /// The invocation at a site.
-    pub fn invocation(&self, site: Site) -> Option<&'a Invocation>
-        ensures { option_copied result ≡ invocation_at self.now.unit.now self.now.expansions.now site }
-    {
-        self.table.invocation(site)
     }
 
     /// The arguments that an expansion has; the main one has none.

@@ -33,21 +33,21 @@ impl<'a> Body<'a> {
     pub fn own_place(&self, name: &[u8]) -> Option<u32>
         ensures { result ≡ place_of name.now (stream_names self.now.composite.now) }
     {
-        self.names.stream(name)
+        self.names.streams.place(name)
     }
 
     /// The first input of the head that has the name.
     pub fn input_place(&self, name: &[u8]) -> Option<u32>
         ensures { result ≡ place_of name.now (input_names self.now.composite.now) }
     {
-        self.names.input(name)
+        self.names.inputs.place(name)
     }
 
     /// The first output of the head that has the name.
     pub fn output_place(&self, name: &[u8]) -> Option<u32>
         ensures { result ≡ place_of name.now (output_names self.now.composite.now) }
     {
-        self.names.output(name)
+        self.names.outputs.place(name)
     }
 
     fn own_stream(&self, name: &[u8]) -> Option<u32>
