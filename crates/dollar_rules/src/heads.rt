@@ -2,7 +2,7 @@
 ghost use Rattle.std.specs.Prelude.{◌≡◌, IfOk, filter_map};
 ghost use Rattle.std.specs.Option.{option_copied};
 ghost use Rattle.language_model.specs.Parameters.{constant_scope, constant_typing, default_leads, has_meaning, parameter_leads, parameter_place, parameter_typing};
-ghost use Rattle.language_model.specs.Finds.{Finds, IsUnknown};
+ghost use Rattle.language_model.specs.Finds.{Finds};
 ghost use Rattle.dollar_rules.specs.steps.Mentioned.{names_seen};
 ghost use Rattle.written_types.specs.TypeScopes.{types_in};
 ghost use Rattle.dollar_rules.specs.steps.Heads.{rows_of, passes_at, passes_from};
@@ -10,9 +10,9 @@ ghost use Rattle.dollar_rules.specs.steps.Heads.{rows_of, passes_at, passes_from
 use crate::constants::is_constant;
 use crate::mentions::dollars_in;
 use crate::weights::is_small;
-use language_model::{CheckError, CheckRefusal, Scope, TypeAnswer, Typed};
+use language_model::{CheckError, CheckRefusal, Scope, TypeAnswer, Typed, refused, unknown};
 use program_tables::value_named;
-use spl_tree::{CompositeParameter, Expr, Parameter, Placed};
+use spl_tree::{CompositeParameter, Expr, Parameter};
 use spl_value::{Items, Name, NoMemory, SplType};
 use std::alloc::Global;
 use type_rules::type_of;
@@ -134,20 +134,6 @@ fn meanings(
     Ok(meanings)
 }
 
-/// A name without a meaning, at its place.
-fn unknown(alloc: Global, name: &Placed<Name>) -> TypeAnswer
-    ensures { IsUnknown name.now.at name.now.what result }
-{
-    match Items::from_slice(alloc, name.what.as_slice()) {
-        Ok(copy) => TypeAnswer::Refused(CheckRefusal {
-            error: CheckError::Unknown,
-            at: name.at,
-            name: Some(copy),
-        }),
-        Err(_) => TypeAnswer::Memory,
-    }
-}
-
 /// An expression that is the value of a parameter of the type, where these can be named.
 fn constant_typing(
     alloc: Global,
@@ -159,11 +145,7 @@ fn constant_typing(
     ensures { Finds (constant_typing given.now.dollars expr.now kind.now) result }
 {
     if !is_constant(expr) {
-        return Err(TypeAnswer::Refused(CheckRefusal {
-            error: CheckError::Mismatch,
-            at: expr.at,
-            name: None,
-        }));
+        return Err(refused(CheckError::Mismatch, expr.at));
     }
     let typed = type_of(alloc, given, expr, Some(kind))?;
     if !is_small(typed.code.get()) {
@@ -229,12 +211,13 @@ impl<'a> Head<'a> {
         ensures { Finds (parameter_typing (types_in self.now.types) self.now.outer.now.dollars own.now.dollars self.now.arguments.now parameter.now) result }
     {
         let kind = type_of_written(alloc, &self.types, &parameter.kind)?;
-        if let Some(argument) = value_named(self.arguments, parameter.name.what.as_slice()) {
+        let name = parameter.name.what.as_slice();
+        if let Some(argument) = value_named(self.arguments, name) {
             return constant_typing(alloc, self.outer, argument, &kind);
         }
         match &parameter.default {
             Some(default) => constant_typing(alloc, own, default, &kind),
-            None => Err(unknown(alloc, &parameter.name)),
+            None => Err(unknown(alloc, parameter.name.at, name)),
         }
     }
 

@@ -64,10 +64,7 @@ impl Settled {
     fn has(&self, place: u32) -> bool
         ensures { result ≡ is_marked self.now.marks.items place }
     {
-        match self.marks.get(place as usize) {
-            Some(mark) => *mark,
-            None => false,
-        }
+        self.marks.get(place as usize).copied().unwrap_or(false)
     }
 
     /// Settles a parameter whose default mentions none that isn't settled.
