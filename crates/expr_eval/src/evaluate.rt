@@ -42,12 +42,7 @@ pub fn eval(
     requires { IsFit functions.now code.now env.now }
     ensures { Evaluates (value functions.now code.now (world_of env.now) turns.old) result turns.new }
 {
-    let context = Context {
-        alloc,
-        functions,
-        env,
-        depth: *turns,
-    };
+    let context = Context::new(alloc, functions, env, *turns);
     evaluated(alloc, eval_at(&context, DEEPEST, code, turns))
 }
 

@@ -77,12 +77,7 @@ fn fields_but_moved(
     ensures { AnswersBut fields.now moves.now (followed (field_values (calls_of functions.now turns.old) fields.now (world_of env.now) turns.old) (λ gs left. need (tuple_of gs) (λ vs. Done vs left))) result turns.new }
 {
     evaluation_law();
-    let context = Context {
-        alloc,
-        functions,
-        env,
-        depth: *turns,
-    };
+    let context = Context::new(alloc, functions, env, *turns);
     let mut values = blanks(room, fields.len())?;
     for (i, field) in fields.iter().enumerate() {
         if let Some(_) = moves[i] {

@@ -36,12 +36,7 @@ pub fn holds(
     requires { Fits functions.now code.now env.now T.Bool }
     ensures { IsSo (truth (value functions.now code.now) (world_of env.now) turns.old) result turns.new }
 {
-    let context = Context {
-        alloc,
-        functions,
-        env,
-        depth: *turns,
-    };
+    let context = Context::new(alloc, functions, env, *turns);
     truth(truth_at(&context, DEEPEST, code, turns))
 }
 
@@ -100,7 +95,10 @@ fn truth_of_two<'e>(
             }
             truth_at(context, room, right, turns)
         }
-        _ => is_related(context, room, operator, left, right, turns),
+        _ => match standing_relation(context, operator, left, right) {
+            Some(holds) => Ok(holds),
+            None => evaluated_relation(context, room, operator, left, right, turns),
+        },
     }
 }
 
@@ -133,28 +131,22 @@ fn inverted(operators: &[UnaryCode], truth: bool) -> bool
     inverted
 }
 
-/// Whether a relation between two operands holds.
-fn is_related<'e>(
+/// Whether a relation between two operands holds, where both stand somewhere as values.
+fn standing_relation<'e>(
     context: &Context<'e>,
-    room: u32,
     operator: BinaryCode,
     left: &'e Code<Slot>,
     right: &'e Code<Slot>,
-    turns: &mut u32,
-) -> Result<bool, Stop>
+) -> Option<bool>
     requires fits { Fits context.now.functions.now (C.Binary operator left.now right.now) context.now.env.now T.Bool }
     requires no_and { operator ≢ D.And }
     requires no_or { operator ≢ D.Or }
-    ensures { Answers (truth_value (calls_of context.now.functions.now context.now.depth) (C.Binary operator left.now right.now) (world_of context.now.env.now) turns.old) result turns.new }
+    ensures { IfSome result (λ holds. (turns : ℕ) → truth_value (calls_of context.now.functions.now context.now.depth) (C.Binary operator left.now right.now) (world_of context.now.env.now) turns ≡ Done holds turns) }
 {
     evaluation_law();
-    let Some(first) = standing(context, left) else {
-        return evaluated_relation(context, room, operator, left, right, turns);
-    };
-    let Some(second) = standing(context, right) else {
-        return evaluated_relation(context, room, operator, left, right, turns);
-    };
-    Ok(are_related(operator, first, second))
+    let first = standing(context, left)?;
+    let second = standing(context, right)?;
+    Some(are_related(operator, first, second))
 }
 
 /// Whether a relation between two operands that are evaluated holds.

@@ -34,12 +34,7 @@ pub fn tuple_into(
     requires { (schema : List (Named SplType)) × Fits functions.now code.now env.now (T.Tuple schema) }
     ensures { IsMadeAs (followed (value functions.now code.now (world_of env.now) turns.old) (λ v turns. need (level_tuple (out-Value v)) (λ vs. Done vs turns))) result turns.new }
 {
-    let context = Context {
-        alloc,
-        functions,
-        env,
-        depth: *turns,
-    };
+    let context = Context::new(alloc, functions, env, *turns);
     made(tuple_at(&context, code, turns, room))
 }
 

@@ -1,12 +1,13 @@
-use Rattle.std.proofs.Common.{◌<◌, ℕ, [], Some, length, get_or, refl, sym, ap, subst, ◌∙◌}
+use Rattle.std.proofs.Common.{◌≡◌, ◌<◌, ℕ, [], Some, length, get_or, refl, sym, ap, subst, ◌∙◌}
 use Rattle.std.proofs.lemmas.List.{length-set}
 use Rattle.std.proofs.lemmas.Option.{slice_get-get_or, slice_get_read}
 use Rattle.spl_tree.specs.declared.code.Code.TheVariants as C
-use Rattle.language_model.specs.Evaluation.{tuple_of, world_of}
+use Rattle.language_model.specs.Evaluation.{code_value, tuple_of, world_of}
 use Rattle.language_model.specs.EvaluationLaws.{field_values}
 use Rattle.language_model.specs.Functions.{calls_of}
 use Rattle.language_model.specs.Outcomes.{Done, followed, need}
-use Rattle.value_operations.proofs.Following.{exit}
+use Rattle.value_operations.proofs.Following.{exit, stops_by}
+use Rattle.expr_eval.specs.Fitting.{IsFit}
 use Rattle.expr_eval.specs.steps.MovedFields.{AnswersBut}
 use Rattle.expr_eval.proofs.CodeParts.{field_places, tuple_is_fit}
 use Rattle.expr_eval.proofs.MovedFields.{so_far_moved, so_far_on, so_far_start, told}
@@ -24,8 +25,10 @@ loop-i-init c = record {
 pub own_value-requires : goal.own_value-requires
 own_value-requires c =
     let fs = c.args.fields.now in
-    tuple_is_fit c.args.functions.now c.args.env.now (C.Tuple fs) c.requires.fit fs refl c.loop-i.i c.index-fields-i.result
-    (slice_get_read fs (length fs) c.loop-i.i c.index-fields-i.result refl c.loop-i-test.true c.index-fields-i.is)
+    subst (λ env. IsFit c.new-context.result.functions.now c.index-fields-i.result.1 env) (sym c.new-context.ensures.env)
+    (subst (λ functions. IsFit functions c.index-fields-i.result.1 c.args.env.now) (sym c.new-context.ensures.functions)
+    (tuple_is_fit c.args.functions.now c.args.env.now (C.Tuple fs) c.requires.fit fs refl c.loop-i.i c.index-fields-i.result
+    (slice_get_read fs (length fs) c.loop-i.i c.index-fields-i.result refl c.loop-i-test.true c.index-fields-i.is)))
 
 pub set-requires : goal.set-requires
 set-requires c =
@@ -49,10 +52,13 @@ loop-i-preserved-in-Some c =
 pub loop-i-preserved : goal.loop-i-preserved
 loop-i-preserved c =
     let fs = c.args.fields.now in
+    let same : code_value (calls_of c.args.functions.now c.args.turns.now) c.index-fields-i.result.1 (world_of c.args.env.now) c.loop-i.turns
+    ≡ code_value (calls_of c.new-context.result.functions.now c.new-context.result.depth) c.index-fields-i.result.1 (world_of c.new-context.result.env.now) c.loop-i.turns =
+    λ i. code_value (calls_of (sym c.new-context.ensures.functions i) (sym c.new-context.ensures.depth i)) c.index-fields-i.result.1 (world_of (sym c.new-context.ensures.env i)) c.loop-i.turns in
     record {
       made = so_far_on c.args.functions.now c.args.env.now c.args.turns.now fs c.requires.fit c.args.moves.now c.requires.moves
           (get_or c.args.env.now.inputs 0 []) (slice_get-get_or c.args.env.now.inputs 0 [] c.requires.came) c.evaluation_law.ensures.never_stuck c.in_ok-values.values c.args.turns.now
-          c.loop-i.i c.loop-i.values c.loop-i.turns c.loop-i.invariant.made c.index-fields-i.result c.loop-i-test.true c.index-fields-i.is _ _ _ c.in_ok-value.ensures c.set.ensures;
+          c.loop-i.i c.loop-i.values c.loop-i.turns c.loop-i.invariant.made c.index-fields-i.result c.loop-i-test.true c.index-fields-i.is _ _ _ (same ∙ c.in_ok-value.ensures) c.set.ensures;
       long = ap length c.set.ensures ∙ length-set c.loop-i.values c.index-fields-i.result.0 _ ∙ c.loop-i.invariant.long;
     }
 
@@ -63,7 +69,8 @@ returns-in_err-value c =
     (λ r. AnswersBut fs c.args.moves.now (followed (field_values (calls_of c.args.functions.now c.args.turns.now) fs (world_of c.args.env.now) c.args.turns.now) (λ gs left. need (tuple_of gs) (λ vs. Done vs left))) r c.own_value.new.turns)
     _ _ c.from_residual-in_err-value.ensures.1
     (placed_stops (calls_of c.args.functions.now c.args.turns.now) (world_of c.args.env.now) fs c.in_ok-values.values c.args.turns.now c.loop-i.i c.loop-i.invariant.made.0 c.loop-i.turns c.loop-i.invariant.made.1
-    c.index-fields-i.result c.loop-i-test.true c.index-fields-i.is _ c.in_err-value.ensures)
+    c.index-fields-i.result c.loop-i-test.true c.index-fields-i.is _
+    (stops_by _ _ _ (λ i. code_value (calls_of (sym c.new-context.ensures.functions i) (sym c.new-context.ensures.depth i)) c.index-fields-i.result.1 (world_of (sym c.new-context.ensures.env i)) c.loop-i.turns) c.in_err-value.ensures))
 
 pub returns : goal.returns
 returns c =

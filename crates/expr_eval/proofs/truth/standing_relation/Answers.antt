@@ -3,7 +3,7 @@ use Rattle.language_model.specs.Evaluation.{world_of}
 use Rattle.language_model.specs.Functions.{calls_of}
 use Rattle.expr_eval.proofs.Binary.{left_is_fit, right_is_fit}
 use Rattle.expr_eval.proofs.Truths.{relation_done, relation_of_operands}
-use Rattle.expr_eval.proofs.truth.is_related.Goals as goal
+use Rattle.expr_eval.proofs.truth.standing_relation.Goals as goal
 
 pub standing-requires : goal.standing-requires
 standing-requires c = left_is_fit c.args.context.now.functions.now c.args.context.now.env.now c.args.operator c.args.left.now c.args.right.now (T.Bool, c.requires.fits)
@@ -13,10 +13,10 @@ standing-requires-2 c = right_is_fit c.args.context.now.functions.now c.args.con
 
 pub are_related-requires : goal.are_related-requires
 are_related-requires c =
-    relation_of_operands c.args.context.now.functions.now c.args.context.now.env.now c.args.operator c.args.left.now c.args.right.now c.requires.fits c.evaluation_law.ensures.never_stuck c.args.context.now.depth c.args.turns.now c.args.turns.now c.args.turns.now _ _
-    (c.in-Some.ensures c.args.turns.now) (c.in-Some-standing.ensures c.args.turns.now) c.requires.no_and c.requires.no_or
+    relation_of_operands c.args.context.now.functions.now c.args.context.now.env.now c.args.operator c.args.left.now c.args.right.now c.requires.fits c.evaluation_law.ensures.never_stuck c.args.context.now.depth 0 0 0 _ _
+    (c.in_ok-first.ensures 0) (c.in_ok-second.ensures 0) c.requires.no_and c.requires.no_or
 
 pub returns : goal.returns
-returns c =
-    relation_done (calls_of c.args.context.now.functions.now c.args.context.now.depth) (world_of c.args.context.now.env.now) c.args.operator c.args.left.now c.args.right.now c.args.turns.now c.requires.no_and c.requires.no_or _ _ c.args.turns.now c.args.turns.now _
-    (c.in-Some.ensures c.args.turns.now) (c.in-Some-standing.ensures c.args.turns.now) c.are_related.ensures
+returns c = λ turns.
+    relation_done (calls_of c.args.context.now.functions.now c.args.context.now.depth) (world_of c.args.context.now.env.now) c.args.operator c.args.left.now c.args.right.now turns c.requires.no_and c.requires.no_or _ _ turns turns _
+    (c.in_ok-first.ensures turns) (c.in_ok-second.ensures turns) c.are_related.ensures
