@@ -2,7 +2,6 @@ pub mod Creating
 pub mod Files
 pub mod Finishing
 pub mod LastText
-pub mod SinkSteps
 pub mod Sinking
 pub mod Unwritten
 pub mod Writing

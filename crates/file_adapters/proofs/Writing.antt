@@ -13,7 +13,8 @@ use Rattle.spl_value.specs.declared.memory.NoMemory.{NoMemory}
 use Rattle.feed_pour.specs.declared.outside.PourAnswer.{PourAnswer}
 use Rattle.feed_pour.specs.declared.outside.PourAnswer.TheVariants as P
 use Rattle.file_adapters.specs.Sinks.{sink_rows, sink_text, stream_at}
-use Rattle.file_adapters.specs.steps.Steps.{AllCounted, CountedUnless, EachPoured, RowsPoured, TextPoured}
+use Rattle.row_writer.specs.Writing.{RowsPoured}
+use Rattle.file_adapters.specs.steps.Steps.{AllCounted, CountedUnless, EachPoured, TextPoured}
 use Rattle.file_adapters.specs.declared.sinks.Sink.{Sink}
 
 -- into the pours before this place their texts were poured

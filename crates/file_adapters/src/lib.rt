@@ -5,6 +5,6 @@ mod sinks;
 mod text;
 
 pub use row_reader::{Rows, read_rows};
-pub use row_writer::{PutAnswer, RowWriter, write_rows};
+pub use row_writer::{PutAnswer, RowWriter};
 pub use sinks::{Sink, Sunk, write_sinks};
 pub use text::TextFile;

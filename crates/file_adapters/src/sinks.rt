@@ -4,16 +4,15 @@ ghost use Rattle.std.specs.List.{All, count_by};
 ghost use Rattle.std.specs.Vec.{vec_capacity};
 ghost use Rattle.feed_pour.specs.Counts.{Counted};
 ghost use Rattle.feed_pour.specs.Contents.{AllPoured, KeepsNames, WhereTold, failed_read, failed_write};
-ghost use Rattle.stream_model.specs.Rows.{item_text, text_of};
+ghost use Rattle.stream_model.specs.Rows.{text_of};
 ghost use Rattle.stream_model.specs.Stream.{is_tuple};
-ghost use Rattle.spl_value.specs.declared.item.Item.TheVariants as I;
 ghost use Rattle.file_adapters.specs.Sinks.{AreDistinct, FilesCounted, FilesWritten, HasOwnFile, SinksCount, names_of, sink_names, sink_rows, stream_at};
-ghost use Rattle.file_adapters.specs.steps.Steps.{AllCounted, CountedUnless, CreateCounted, CreatedCount, EachFinished, EachPoured, FinishCounted, IsAfter, IsFilled, RowsPoured, SinksEmptied, LastCounted, LastFinished, LastGiven, TextPoured, first_failed, not_created, sunk_of, text_sunk};
+ghost use Rattle.file_adapters.specs.steps.Steps.{AllCounted, CountedUnless, CreateCounted, CreatedCount, EachFinished, EachPoured, FinishCounted, IsAfter, IsFilled, SinksEmptied, LastCounted, LastFinished, LastGiven, TextPoured, first_failed, not_created, sunk_of, text_sunk};
 
 use crate::text::TextFile;
 use feed_pour::{Failed, Opened, Pour, PourAnswer, Shelf, write_all};
-use row_writer::add_row;
-use spl_value::{Item, Items, Name, NoMemory, Values};
+use row_writer::RowWriter;
+use spl_value::{Item, Items, Name, NoMemory};
 use std::alloc::Global;
 
 /// A sink to be written: its file, and the place of what it writes among the streams that are given.
@@ -55,39 +54,6 @@ fn stream_of<'s>(streams: &'s Items<Items<Item>>, sink: &Sink) -> &'s [Item]
     }
 }
 
-// Pours a tuple's row. The buffer's bytes are lost.
-fn put_row<P: Pour>(row: &mut Vec<u8>, pour: &mut P, tuple: &Values) -> Result<(), PourAnswer>
-    ensures poured { AllPoured (P.poured pour.old) (P.poured pour.new) result
-        (item_text (I.Tuple tuple.now)) }
-    ensures cause { Counted (failed_write result) (P.faults pour.old) (P.faults pour.new) }
-{
-    row.clear();
-    if add_row(row, tuple.as_slice()).is_err() {
-        return Err(PourAnswer::Memory);
-    }
-    write_all(pour, row.as_slice())
-}
-
-// Pours the rows of a stream's tuples, one after another, and counts them. The buffer's bytes are
-// lost.
-fn write_rows<P: Pour>(row: &mut Vec<u8>, pour: &mut P, items: &[Item]) -> Result<u64, PourAnswer>
-    ensures poured { RowsPoured (P.poured pour.old) (P.poured pour.new) result (text_of items.now) }
-    ensures count { IfOk result (λ n. n ≡ count_by is_tuple items.now) }
-    ensures small { IfOk result (λ n. n < 2 ^ 64) }
-    ensures cause { Counted (failed_write result) (P.faults pour.old) (P.faults pour.new) }
-{
-    let mut tuples = 0u64;
-    for item in items {
-        if let Item::Tuple(values) = item {
-            match put_row(row, pour, values) {
-                Ok(()) => tuples += 1,
-                Err(e) => return Err(e),
-            }
-        }
-    }
-    Ok(tuples)
-}
-
 // Creates the files of sinks, in order, up to the first that isn't created.
 fn create_each<H: Shelf>(
     shelf: &mut H,
@@ -119,15 +85,19 @@ fn create_each<H: Shelf>(
 }
 
 // Pours the rows of a stream's tuples, and counts them. Where the pour fails, a front is poured, and
-// 0 is answered. The buffer's bytes are lost.
-fn write_stream<P: Pour>(row: &mut Vec<u8>, pour: &mut P, items: &[Item]) -> Result<u64, NoMemory>
+// 0 is answered.
+fn write_stream<P: Pour>(
+    writer: &mut RowWriter,
+    pour: &mut P,
+    items: &[Item],
+) -> Result<u64, NoMemory>
     ensures poured { TextPoured result (P.poured pour.old) (P.poured pour.new) (P.faults pour.new)
         (text_of items.now) }
     ensures count { IfOk result (λ n. CountedUnless (P.faults pour.new) n
         (count_by is_tuple items.now)) }
     ensures small { IfOk result (λ n. n < 2 ^ 64) }
 {
-    match write_rows(row, pour, items) {
+    match writer.put_all(pour, items) {
         Ok(tuples) => Ok(tuples),
         Err(PourAnswer::Failed) => Ok(0),
         Err(PourAnswer::Memory) => Err(NoMemory),
@@ -152,9 +122,11 @@ fn write_each<P: Pour>(
     let Ok(mut counts) = Vec::with_capacity(alloc, pours.len()) else {
         return Err(NoMemory);
     };
-    let mut row = Vec::new(alloc);
+    let Ok(mut writer) = RowWriter::new(alloc) else {
+        return Err(NoMemory);
+    };
     'sinks: for at in 0..pours.len() {
-        match write_stream(&mut row, &mut pours[at], stream_of(streams, &sinks[at])) {
+        match write_stream(&mut writer, &mut pours[at], stream_of(streams, &sinks[at])) {
             Ok(tuples) => add(&mut counts, tuples),
             Err(e) => return Err(e),
         }

@@ -5,10 +5,10 @@ ghost use Rattle.spl_value.specs.declared.types.SplType.TheViews.{out-SplType};
 ghost use Rattle.row_reader.specs.Reading.{is_over};
 
 use crate::shown::numbers;
-use feed_pour::{Feed, Pour};
+use feed_pour::{Feed, Pour, PourAnswer};
 use memory_files::{MemoryFeed, MemoryPour};
 use row_reader::{Rows, read_rows};
-use row_writer::{PutAnswer, RowWriter, write_rows};
+use row_writer::RowWriter;
 use spl_value::{
     Attribute, Bytes, FaultKind, IntKind, Item, Items, NoMemory, Schema, SplType, Value,
 };
@@ -219,12 +219,12 @@ impl Answers for Copies {
     }
 }
 
-fn put_word(put: Result<u64, PutAnswer>) -> &'static str {
+fn put_word(put: Result<u64, PourAnswer>) -> &'static str {
     match put {
         Ok(3) => "three rows: ",
         Ok(_) => "other rows: ",
-        Err(PutAnswer::Failed) => "failed: ",
-        Err(PutAnswer::Memory) => "no memory: ",
+        Err(PourAnswer::Failed) => "failed: ",
+        Err(PourAnswer::Memory) => "no memory: ",
     }
 }
 
@@ -236,7 +236,10 @@ impl Answers for Sinks {
             return "no memory".to_string(alloc);
         };
         let mut pour = MemoryPour::new(alloc, numbers(alloc, failing)?);
-        let put = write_rows(alloc, &mut pour, items.as_slice());
+        let Ok(mut writer) = RowWriter::new(alloc) else {
+            return "no memory".to_string(alloc);
+        };
+        let put = writer.put_all(&mut pour, items.as_slice());
         shown_bytes(alloc, put_word(put), pour.bytes())
     }
 }

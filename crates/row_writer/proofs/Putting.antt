@@ -3,11 +3,11 @@ use Rattle.std.proofs.Common.{◌≡◌, ℕ, ◌+◌, ◌<◌, ◌≤◌, List,
 use Rattle.std.proofs.lemmas.List.{append-nil, take_more, take-append-drop, take-append-le}
 use Rattle.std.proofs.Math.Seq.{take-append-add}
 use Rattle.spl_value.specs.declared.item.Item.{Item}
-use Rattle.row_writer.specs.declared.writer.PutAnswer.{PutAnswer}
-use Rattle.feed_pour.specs.Contents.{PouredSoFar}
+use Rattle.feed_pour.specs.declared.outside.PourAnswer.{PourAnswer}
+use Rattle.feed_pour.specs.Contents.{AllPoured, PouredSoFar}
 use Rattle.stream_model.specs.Rows.{item_text, text_of}
 use Rattle.stream_model.proofs.PathLaws.{text_of-append}
-use Rattle.row_writer.specs.Writing.{TextPoured}
+use Rattle.row_writer.specs.Writing.{RowsPoured}
 
 -- the text of the rows before place i, of the row there, and of the rows after it
 pub text_cut : (items : List Item) (i : ℕ) (x : Item) → i < length items → x ≡ get_or items i x
@@ -23,11 +23,11 @@ text_cut items i x lt is =
 pub front_of : (a b c : List ℕ) (n : ℕ) → n ≤ length b → take (length a + n) (a ++ (b ++ c)) ≡ a ++ take n b
 front_of a b c n h = take-append-add a (b ++ c) n ∙ ap (λ (t : List ℕ). a ++ t) (take-append-le n b c h)
 
-pub rows_failed : (old mid now : Option (List ℕ)) (items : List Item) (i : ℕ) (x : Item) (e : PutAnswer) → i < length items → x ≡ get_or items i x
-    → PouredSoFar old mid (text_of (take i items)) → TextPoured {A = Unit {0}} mid now (Err e) (item_text x) → TextPoured {A = ℕ} old now (Err e) (text_of items)
+pub rows_failed : (old mid now : Option (List ℕ)) (items : List Item) (i : ℕ) (x : Item) (e : PourAnswer) → i < length items → x ≡ get_or items i x
+    → PouredSoFar old mid (text_of (take i items)) → AllPoured mid now (Err e) (item_text x) → RowsPoured {A = ℕ} old now (Err e) (text_of items)
 rows_failed None mid now items i x e lt is so_far poured = tt
 rows_failed (Some old) mid now items i x e lt is so_far poured =
-    let poured' : TextPoured {A = Unit {0}} (Some (old ++ text_of (take i items))) now (Err e) (item_text x) = rw so_far at poured in
+    let poured' : AllPoured (Some (old ++ text_of (take i items))) now (Err e) (item_text x) = rw so_far at poured in
     let a = text_of (take i items) in
     let b = item_text x in
     let c = text_of (drop (i + 1) items) in

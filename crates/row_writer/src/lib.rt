@@ -4,5 +4,7 @@
 mod row;
 mod writer;
 
+/// Why a row was poured in part, or not at all.
+pub use feed_pour::PourAnswer as PutAnswer;
 pub use row::add_row;
-pub use writer::{PutAnswer, RowWriter, write_rows};
+pub use writer::RowWriter;

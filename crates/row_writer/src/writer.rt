@@ -1,41 +1,22 @@
 //! Rows poured into a sink.
 ghost use Rattle.std.specs.Prelude.{◌≡◌, ◌<◌, ◌^◌, IfOk};
 ghost use Rattle.std.specs.List.{count_by};
+ghost use Rattle.feed_pour.specs.Contents.{AllPoured, failed_write};
 ghost use Rattle.feed_pour.specs.Counts.{Counted};
 ghost use Rattle.stream_model.specs.Rows.{item_text, text_of};
 ghost use Rattle.stream_model.specs.Stream.{is_tuple};
 ghost use Rattle.spl_value.specs.declared.item.Item.TheVariants as I;
-ghost use Rattle.row_writer.specs.Writing.{TextPoured, failed_put};
+ghost use Rattle.row_writer.specs.Writing.{RowsPoured};
 
 use crate::row::add_row;
 use feed_pour::{Pour, PourAnswer, write_all};
 use spl_value::{Item, NoMemory, Values};
 use std::alloc::Global;
 
-/// Why a row was poured in part, or not at all.
-#[derive(Clone, Copy, Debug, PartialEq, Eq)]
-pub enum PutAnswer {
-    /// The device failed, and the pour counted the fault.
-    Failed,
-    /// No memory was left.
-    Memory,
-}
-
 /// A writer of rows. It keeps one row's text.
 #[derive(Drop)]
 pub struct RowWriter {
     row: Vec<u8>,
-}
-
-// How a write ended.
-fn put_answer(written: Result<(), PourAnswer>) -> Result<(), PutAnswer>
-    ensures { result ≡ Rattle.row_writer.specs.Writing.put_answer written }
-{
-    match written {
-        Ok(()) => Ok(()),
-        Err(PourAnswer::Failed) => Err(PutAnswer::Failed),
-        Err(PourAnswer::Memory) => Err(PutAnswer::Memory),
-    }
 }
 
 impl RowWriter {
@@ -48,39 +29,36 @@ impl RowWriter {
 
     /// Pours a tuple's row, and repeats the call until the row is poured. After an `Err` a front of
     /// the row is poured, which may be empty. A list, a map or a tuple is an empty field.
-    pub fn put<P: Pour>(&mut self, pour: &mut P, tuple: &Values) -> Result<(), PutAnswer>
-        ensures poured { TextPoured (P.poured pour.old) (P.poured pour.new) result
+    pub fn put<P: Pour>(&mut self, pour: &mut P, tuple: &Values) -> Result<(), PourAnswer>
+        ensures poured { AllPoured (P.poured pour.old) (P.poured pour.new) result
             (item_text (I.Tuple tuple.now)) }
-        ensures cause { Counted (failed_put result) (P.faults pour.old) (P.faults pour.new) }
+        ensures cause { Counted (failed_write result) (P.faults pour.old) (P.faults pour.new) }
     {
         self.row.clear();
         if add_row(&mut self.row, tuple.as_slice()).is_err() {
-            return Err(PutAnswer::Memory);
+            return Err(PourAnswer::Memory);
         }
-        put_answer(write_all(pour, self.row.as_slice()))
+        write_all(pour, self.row.as_slice())
     }
-}
 
-/// Pours the rows of a list's tuples, one after another, and counts them. After an `Err` a front of
-/// their text is poured, which may be empty.
-pub fn write_rows<P: Pour>(alloc: Global, pour: &mut P, items: &[Item]) -> Result<u64, PutAnswer>
-    ensures poured { TextPoured (P.poured pour.old) (P.poured pour.new) result
-        (text_of items.now) }
-    ensures count { IfOk result (λ n. n ≡ count_by is_tuple items.now) }
-    ensures small { IfOk result (λ n. n < 2 ^ 64) }
-    ensures cause { Counted (failed_put result) (P.faults pour.old) (P.faults pour.new) }
-{
-    let Ok(mut writer) = RowWriter::new(alloc) else {
-        return Err(PutAnswer::Memory);
-    };
-    let mut tuples = 0u64;
-    for item in items {
-        if let Item::Tuple(values) = item {
-            match writer.put(pour, values) {
-                Ok(()) => tuples += 1,
-                Err(e) => return Err(e),
+    /// Pours the rows of a list's tuples, one after another, and counts them. After an `Err` a front
+    /// of their text is poured, which may be empty.
+    pub fn put_all<P: Pour>(&mut self, pour: &mut P, items: &[Item]) -> Result<u64, PourAnswer>
+        ensures poured { RowsPoured (P.poured pour.old) (P.poured pour.new) result
+            (text_of items.now) }
+        ensures count { IfOk result (λ n. n ≡ count_by is_tuple items.now) }
+        ensures small { IfOk result (λ n. n < 2 ^ 64) }
+        ensures cause { Counted (failed_write result) (P.faults pour.old) (P.faults pour.new) }
+    {
+        let mut tuples = 0u64;
+        for item in items {
+            if let Item::Tuple(values) = item {
+                match self.put(pour, values) {
+                    Ok(()) => tuples += 1,
+                    Err(e) => return Err(e),
+                }
             }
         }
+        Ok(tuples)
     }
-    Ok(tuples)
 }

@@ -57,12 +57,6 @@ pub record CreateCounted (r : Result (Unit {0}) PourAnswer) (place : ℕ) (sinks
 
 -- ---- writing
 
--- a text was poured; where it failed or memory ran out, a front of it
-abbrev pub RowsPoured : {A : Type 0} → Option (List ℕ) → Option (List ℕ) → Result A PourAnswer → List ℕ → Type 0
-RowsPoured None now r text = ⊤
-RowsPoured (Some old) now (Ok n) text = now ≡ Some (old ++ text)
-RowsPoured (Some old) now (Err e) text = (n : ℕ) × (n ≤ length text) × (now ≡ Some (old ++ take n text))
-
 -- a front of a text was poured
 abbrev pub FrontPoured : List ℕ → Option (List ℕ) → List ℕ → Type 0
 FrontPoured old now text = (n : ℕ) × (n ≤ length text) × (now ≡ Some (old ++ take n text))

@@ -2,7 +2,7 @@ use Rattle.std.proofs.Common.{◌≡◌, ◌≤◌, take, count_by}
 use Rattle.feed_pour.specs.Contents.{PouredSoFar}
 use Rattle.stream_model.specs.Rows.{text_of}
 use Rattle.stream_model.specs.Stream.{is_tuple}
-use Rattle.row_writer.proofs.writer.write_rows.Given as goal
+use Rattle.row_writer.proofs.writer.RowWriter.put_all.Given as goal
 
 abbrev pub invariant-loop-item : goal.invariant-loop-item
 invariant-loop-item g l = record {

@@ -1,5 +1,5 @@
-use Rattle.file_adapters.proofs.SinkSteps.{rows_failed}
-use Rattle.file_adapters.proofs.sinks.write_rows.Goals as goal
+use Rattle.row_writer.proofs.Putting.{rows_failed}
+use Rattle.row_writer.proofs.writer.RowWriter.put_all.Goals as goal
 
 pub returns-in-Err-clause-poured : goal.returns-in-Err-clause-poured
 returns-in-Err-clause-poured g c =
