@@ -131,7 +131,8 @@ fn inverted(operators: &[UnaryCode], truth: bool) -> bool
     inverted
 }
 
-/// Whether a relation between two operands holds, where both stand somewhere as values.
+/// Whether a relation between two operands holds, where neither has to be evaluated: each is a literal, a
+/// variable or an attribute. Where it answers `None`, they are evaluated.
 fn standing_relation<'e>(
     context: &Context<'e>,
     operator: BinaryCode,

@@ -1,6 +1,6 @@
 //! Graphs as texts: the operators, their topological order and the bodies, with ` | ` between them.
 //!
-//! | Text | CheckedClauses |
+//! | Text | Part |
 //! |---|---|
 //! | `Filter C.A(0 1) 2; Join B(2, 3) 4` | operators: kind, name, the streams of each input port, the streams that they make |
 //! | `0 1 2` | the numbers of the operators |

@@ -32,7 +32,7 @@ ended_there op done fault e =
 
 -- ---- what it gives
 
--- events stage_after the end give nothing
+-- events after the end give nothing
 pub same_out : (op : Operator) (p : ℕ) (done rest : List Event) → has_ended op done ≡ true → out op p (done ++ rest) ≡ out op p done
 same_out op p done rest h =
     ap (on_port p)

@@ -1,4 +1,4 @@
--- The items of an operator's inputs as a record names them, or input stage_after input.
+-- The items of an operator's inputs as a record names them, or input after input.
 use Rattle.std.proofs.Common.{◌≡◌, ℕ, zero, suc, ◌<◌, ◌≤◌, ◌==◌, ◌&&◌, nat_lt, not, Bool, true, false, cond, List, [], ◌∷◌, ◌++◌, append_assoc, append-nil, map, refl, sym, ap, subst, ◌∙◌, length, length-append, reverse, slice_get, Option, Some, inl, inr, arith}
 use Rattle.std.specs.Prelude.{slice_set, IfOk, Result, Ok, Err}
 use Rattle.std.specs.Option.{unwrap_or}
@@ -39,7 +39,7 @@ use Rattle.list_engine.proofs.Taking.{map_append}
 use Rattle.list_engine.proofs.Turns.{turns_from}
 use Rattle.list_engine.proofs.Advancing.{there_is}
 
--- ---- input stage_after input
+-- ---- input after input
 
 -- the events up to the first that ends an operator
 to_end : (s : Stage) (front : List Event) (last : Event) (rest : List Event) → (stage_after s front).over ≡ false → (stage_after s (front ++ last ∷ [])).over ≡ true
@@ -188,7 +188,7 @@ arrive_more (i ∷ front) more l = go (l i) (λ items. arrive_more front more (w
     go [] rest = ([], refl)
     go (x ∷ xs) rest = let r = rest xs in (r.0, ap (λ es. came i x ∷ es) r.1)
 
--- a record that goes on stage_after the end isn't whole
+-- a record that goes on after the end isn't whole
 too_long : (op : Operator) (l : Lists) (front : List ℕ) (y : ℕ) (more : List ℕ) (done : List Event) → arrive l front ≡ done → inputs_of done ≡ front → has_ended op done ≡ true
     → is_whole op l (front ++ y ∷ more) ≡ false
 too_long op l front y more done takes inputs over =

@@ -1,6 +1,6 @@
 //! Rows that are asked of the program.
 //!
-//! | CheckedClauses of a row | What it says |
+//! | Part of a row | What it says |
 //! |---|---|
 //! | the first one | the file `p.spl`, as `programs` says; `@none` where it isn't there |
 //! | `t.csv: 5␊` | a file beside it, and what it holds; `@times 9 x y` is nine times `x`, and `y`; `«0 9 x»` in a file is nine times `x` too |

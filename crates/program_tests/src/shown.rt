@@ -2,7 +2,7 @@
 //!
 //! The parts of an answer come one after another:
 //!
-//! | Text | CheckedClauses |
+//! | Text | Part |
 //! |---|---|
 //! | `3 stopped B DivZero␊` | the status, and after a blank what was told, where anything was |
 //! | `; o.csv 20␊` | a file that a sink made, and what it holds, or its length, `of 1200 bytes` |

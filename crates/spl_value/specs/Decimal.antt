@@ -7,16 +7,16 @@ use Rattle.spl_value.specs.Values.{kind_holds}
 abbrev pub is_digit : ℕ → Bool
 is_digit b = not (nat_lt b 48) && nat_lt b 58
 
--- one more digit at the end of a integer
+-- one more digit at the end of a number
 abbrev pub digit_step : ℕ → ℕ → ℕ
 digit_step n b = n * 10 + (b - 48)
 
--- the integer that one or more digits spell
+-- the number that one or more digits spell
 abbrev pub natural : List ℕ → Option ℕ
 natural [] = None
 natural (b ∷ bs) = if list_all is_digit (b ∷ bs) then Some (fold digit_step 0 (b ∷ bs)) else None
 
--- the integer that an optional `-` and digits spell
+-- the number that an optional `-` and digits spell
 abbrev pub integer : List ℕ → Option ℤ
 integer [] = None
 integer (b ∷ bs) = if b == 45 then option_map (λ n. neg_ℤ (pos n)) (natural bs) else option_map pos (natural (b ∷ bs))
@@ -25,6 +25,6 @@ abbrev pub in_kind : IntKind → Option ℤ → Option ℤ
 in_kind k None = None
 in_kind k (Some n) = if kind_holds k n then Some n else None
 
--- the integer of the kind that an optional `-` and digits spell
+-- the number of the kind that an optional `-` and digits spell
 abbrev pub integer_of : IntKind → List ℕ → Option ℤ
 integer_of k text = in_kind k (integer text)

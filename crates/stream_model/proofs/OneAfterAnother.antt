@@ -1,4 +1,4 @@
--- The record that takes input stage_after input until the operator ends.
+-- The record that takes input after input until the operator ends.
 use Rattle.std.proofs.Common.{ℕ, zero, suc, ◌+◌, ◌<◌, ◌≤◌, ◌==◌, nat_lt, Bool, true, false, cond, not, ◌&&◌, List, [], ◌∷◌, ◌++◌, ◌≡◌, map, length, None, is_some, inl, inr, refl, sym, ap, ◌∙◌, append_assoc, arith}
 use Rattle.std.specs.List.{list_all}
 use Rattle.std.proofs.Math.Path.{fun_ext}
@@ -22,7 +22,7 @@ use Rattle.stream_model.proofs.Closings.{ended_by-last}
 
 -- ---- the events
 
--- of n inputs one stage_after the other, from input i on
+-- of n inputs one after the other, from input i on
 abbrev pub events_from : Lists → ℕ → ℕ → List Event
 events_from lists i zero = []
 events_from lists i (suc n) = map (came i) (lists i) ++ events_from lists (suc i) n

@@ -74,7 +74,7 @@ items_law lists entries i = takes_items entries lists i
 
 -- ---- one entry more
 
--- what is left of a list stage_after an item of some list
+-- what is left of a list after an item of some list
 left_behind : (lists : Lists) (j i : ℕ) (y : Item) (ys : List Item) (came_later left : List Item) → lists j ≡ y ∷ ys
     → lists i ≡ cond (j == i) (y ∷ came_later) came_later ++ left → with_list lists j ys i ≡ came_later ++ left
 left_behind lists j i y ys came_later left e h = elim (cases_eq j i) [

@@ -11,7 +11,7 @@ use Rattle.language_model.specs.declared.checked.PortTypes.{PortTypes}
 use Rattle.stream_model.specs.Operators.{Operator}
 use Rattle.stream_model.specs.Stages.{Stage, gives, next, gives_all, stage_after, on_port}
 
--- an operator stage_after these events, the newest first, over or not
+-- an operator after these events, the newest first, over or not
 abbrev pub stage_at : Operator → List Event → Bool → Stage
 stage_at op seen over = record { op = op; seen = seen; over = over }
 
@@ -24,14 +24,14 @@ pub one_in-parts : (op : Operator) (clauses : CheckedClauses) (s : ℕ) (outs : 
     → op ≡ one_in op.number clauses op.functions op.types s outs
 one_in-parts op clauses s outs k i o = rw (← k, ← i, ← o)
 
--- events in two lists: what the first gives, and what the second gives stage_after it
+-- events in two lists: what the first gives, and what the second gives after it
 pub gives_all-append : (s : Stage) (first second : List Event) → gives_all s (first ++ second) ≡ gives_all s first ++ gives_all (stage_after s first) second
 gives_all-append s [] second = refl
 gives_all-append s (e ∷ first) second =
     ap (λ outs. gives s e ++ outs) (gives_all-append (next s e) first second)
     ∙ sym (append_assoc (gives s e) (gives_all (next s e) first) (gives_all (stage_after (next s e) first) second))
 
--- the stage stage_after two lists of events
+-- the stage after two lists of events
 pub after-append : (s : Stage) (first second : List Event) → stage_after s (first ++ second) ≡ stage_after (stage_after s first) second
 after-append s [] second = refl
 after-append s (e ∷ first) second = after-append (next s e) first second

@@ -25,19 +25,19 @@ has_ended op events = (stage_after (start op) events).over
 abbrev pub StartLaw : Type 0
 StartLaw = (op : Operator) → ((p : ℕ) → out op p [] ≡ []) × (has_ended op [] ≡ false)
 
--- while the operator hasn't ended, one event more adds at the end what it causes stage_after all before it; afterwards it
+-- while the operator hasn't ended, one event more adds at the end what it causes after all before it; afterwards it
 -- adds nothing
 abbrev pub HistoryLaw : Type 0
 HistoryLaw = (op : Operator) (p : ℕ) (events : List Event) (e : Event) →
     (has_ended op events ≡ false → out op p (events ++ e ∷ []) ≡ out op p events ++ on_port p (react op (reverse events) e))
     × (has_ended op events ≡ true → out op p (events ++ e ∷ []) ≡ out op p events)
 
--- an operator that hasn't ended ends with an event that ends it stage_after all before it, and stays ended
+-- an operator that hasn't ended ends with an event that ends it after all before it, and stays ended
 abbrev pub EndLaw : Type 0
 EndLaw = (op : Operator) (events : List Event) (e : Event) →
     has_ended op (events ++ e ∷ []) ≡ (if has_ended op events then true else is_some (ended op (reverse events) e))
 
--- an operator hasn't ended stage_after a history exactly where it hasn't stage_after its events in their order
+-- an operator hasn't ended after a history exactly where it hasn't after its events in their order
 abbrev pub LiveLaw : Type 0
 LiveLaw = (op : Operator) (h : List Event) → is_live op h ≡ not (has_ended op (reverse h))
 
@@ -193,7 +193,7 @@ pub record IsWithin (o : Setting) (bytes : List ℕ) : Type 0 where
   pub each : All (λ piece. length piece ≤ 65536) (pieces bytes)
   pub file : length bytes ≤ o.limit
 
--- lines with a line feed stage_after each, and a last piece with none, are the pieces of the whole
+-- lines with a line feed after each, and a last piece with none, are the pieces of the whole
 abbrev pub PiecesLaw : Type 0
 PiecesLaw = (ended : List (List ℕ)) (last : List ℕ) → All (λ line. list_any (λ b. b == 10) line ≡ false) (ended ++ last ∷ [])
     → pieces (flat_map (λ line. line ++ 10 ∷ []) ended ++ last) ≡ ended ++ last ∷ []
@@ -203,7 +203,7 @@ abbrev pub RowsLaw : Type 0
 RowsLaw = (o : Setting) (bytes : List ℕ) → IsWithin o bytes → any_bad o (lines bytes) ≡ false
     → rows o bytes End ≡ tuples o (lines bytes) ++ I.Window ∷ I.Final ∷ []
 
--- where a read failed stage_after such bytes, the rows of the lines that a line feed ends, and then the fault, at the next line
+-- where a read failed after such bytes, the rows of the lines that a line feed ends, and then the fault, at the next line
 abbrev pub FailedRowsLaw : Type 0
 FailedRowsLaw = (o : Setting) (bytes : List ℕ) → IsWithin o bytes → any_bad o (ended_lines bytes) ≡ false
     → rows o bytes Failed ≡ tuples o (ended_lines bytes) ++ I.Bad (record { op = o.op; kind = K.ReadFailed; line = 1 + count_by (λ b. b == 10) bytes }) ∷ []
