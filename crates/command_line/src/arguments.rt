@@ -5,7 +5,7 @@ use spl_value::{Bytes, Items, Name, NoMemory};
 use std::alloc::Global;
 
 /// A file name, an option with its value, or `--counts`.
-#[derive(Debug, Drop)]
+#[derive(Drop)]
 pub(crate) enum Argument {
     File(Name),
     Valued { name: Name, value: Bytes },
@@ -13,7 +13,7 @@ pub(crate) enum Argument {
 }
 
 /// What a word is by itself: an argument, where it is one, or `--name`, whose value is the next word.
-#[derive(Debug, Drop)]
+#[derive(Drop)]
 pub(crate) enum Word {
     Whole(Option<Argument>),
     Named(Name),

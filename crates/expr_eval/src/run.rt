@@ -26,7 +26,7 @@ use std::alloc::Global;
 use value_operations::{Held, Stop, elements, enter, take_step};
 
 /// How the run of a body ended.
-#[derive(Clone, Copy, Debug, PartialEq, Eq)]
+#[derive(Clone, Copy, PartialEq, Eq)]
 pub enum Ran {
     Done,
     Bad(FaultKind),

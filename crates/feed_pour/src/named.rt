@@ -8,7 +8,7 @@ use spl_value::{Bytes, Name};
 use std::alloc::Global;
 
 /// What a file of a shelf gave.
-#[derive(Debug, Drop)]
+#[derive(Drop)]
 pub enum Fetched {
     /// All of its bytes.
     Whole(Bytes),

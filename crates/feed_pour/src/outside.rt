@@ -8,11 +8,11 @@ ghost use Rattle.feed_pour.specs.Contents.{PieceGiven, LeftTaken, Poured, failed
 use spl_value::Name;
 
 /// The device failed. The object that answers it counted the fault.
-#[derive(Clone, Copy, Debug, PartialEq, Eq)]
+#[derive(Clone, Copy, PartialEq, Eq)]
 pub struct Failed;
 
 /// Why a write poured less than it was given.
-#[derive(Clone, Copy, Debug, PartialEq, Eq)]
+#[derive(Clone, Copy, PartialEq, Eq)]
 pub enum PourAnswer {
     /// The device failed, and the pour counted the fault. A front of the bytes may be poured.
     Failed,
@@ -21,7 +21,7 @@ pub enum PourAnswer {
 }
 
 /// What a shelf answers where it is asked to open or to create a file.
-#[derive(Debug, Drop)]
+#[derive(Drop)]
 pub enum Opened<T> {
     Ok(T),
     /// The device failed, and the shelf counted the fault under the name.

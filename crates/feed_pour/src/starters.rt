@@ -17,7 +17,7 @@ pub trait Gate: Sync {
 }
 
 /// Each group gets a worker.
-#[derive(Clone, Copy, Debug, PartialEq, Eq)]
+#[derive(Clone, Copy, PartialEq, Eq)]
 pub struct AllStart;
 
 impl Starter for AllStart {
@@ -29,7 +29,7 @@ impl Starter for AllStart {
 }
 
 /// Each group gets a worker but those of a list.
-#[derive(Debug, Drop)]
+#[derive(Drop)]
 pub struct NotThese {
     pub groups: Items<u32>,
 }
@@ -44,7 +44,7 @@ impl Starter for NotThese {
 }
 
 /// Does nothing before a put.
-#[derive(Clone, Copy, Debug, PartialEq, Eq)]
+#[derive(Clone, Copy, PartialEq, Eq)]
 pub struct OpenGate;
 
 impl Gate for OpenGate {

@@ -8,7 +8,7 @@ use spl_value::{Items, Name};
 use std::alloc::{AllocError, Global};
 
 /// A value and the name that it stands under.
-#[derive(Debug, Drop)]
+#[derive(Drop)]
 pub struct Entry<T> {
     pub name: Name,
     pub value: T,

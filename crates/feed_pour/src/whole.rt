@@ -9,7 +9,7 @@ use std::alloc::Global;
 const PIECE: usize = 8192;
 
 /// What reading a feed to its end gave.
-#[derive(Debug, Drop)]
+#[derive(Drop)]
 pub enum ReadAll {
     /// All of its bytes.
     Whole(Bytes),

@@ -16,14 +16,14 @@ use spl_value::{Item, Items, Name, NoMemory};
 use std::alloc::Global;
 
 /// A sink to be written: its file, and the place of what it writes among the streams that are given.
-#[derive(Debug, Drop)]
+#[derive(Drop)]
 pub struct Sink {
     pub file: Name,
     pub stream: u32,
 }
 
 /// How the writing of sinks ended. `Done` has the number of rows of each, in order.
-#[derive(Debug, PartialEq, Eq, Drop)]
+#[derive(PartialEq, Eq, Drop)]
 pub enum Sunk {
     Done(Items<u64>),
     /// The file at this place couldn't be created. That of a text stands after those of the sinks.

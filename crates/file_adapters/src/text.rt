@@ -2,7 +2,7 @@
 use spl_value::{Bytes, Name};
 
 /// A file and the text that it is to hold.
-#[derive(Debug, Drop)]
+#[derive(Drop)]
 pub struct TextFile {
     pub file: Name,
     pub text: Bytes,

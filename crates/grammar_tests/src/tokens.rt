@@ -1,6 +1,6 @@
 //! Tokens.
 use spl_lexer::{LexAnswer, lex};
-use spl_tree::{Token, TokenKind};
+use spl_tree::{LexicalError, Token, TokenKind};
 use std::alloc::{AllocError, Global};
 use std::test::Fail;
 use test_texts::rows::{Answers, expect};
@@ -8,9 +8,19 @@ use test_texts::signs::{without_signs, words};
 use test_texts::text::Text;
 use tree_texts::tokens::add_token;
 
+fn name_of(error: LexicalError) -> &'static str {
+    match error {
+        LexicalError::BadByte => "BadByte",
+        LexicalError::OpenText => "OpenText",
+        LexicalError::OpenComment => "OpenComment",
+        LexicalError::BadNumber => "BadNumber",
+        LexicalError::TooLong => "TooLong",
+    }
+}
+
 fn refused(alloc: Global, answer: LexAnswer) -> Result<String, AllocError> {
     match answer {
-        LexAnswer::Refused(error, at) => format!(in alloc; "{error:?} {at}"),
+        LexAnswer::Refused(error, at) => format!(in alloc; "{} {}", name_of(error), at),
         LexAnswer::Memory => "memory".to_string(alloc),
     }
 }

@@ -10,7 +10,7 @@ use spl_value::{Items, NoMemory};
 use std::alloc::{AllocError, Global};
 
 /// Why there is no type.
-#[derive(Debug, Drop)]
+#[derive(Drop)]
 pub enum TypeAnswer {
     /// The expression is refused, as the first refusal in it says.
     Refused(CheckRefusal),

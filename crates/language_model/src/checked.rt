@@ -36,7 +36,7 @@ pub struct Policy {
 }
 
 /// Where a Punctor puts its markers.
-#[derive(Clone, Copy, Debug, PartialEq, Eq)]
+#[derive(Clone, Copy, PartialEq, Eq)]
 pub enum Position {
     Before,
     After,
@@ -65,7 +65,7 @@ pub struct Given {
 }
 
 /// What an Aggregate makes of the values of an expression in a group. `Any` is `First`.
-#[derive(Clone, Copy, Debug, PartialEq, Eq)]
+#[derive(Clone, Copy, PartialEq, Eq)]
 pub enum Collector {
     /// The sum in that type.
     Sum(IntKind),

@@ -1,7 +1,7 @@
 use spl_value::Value;
 
 /// Where a statement leads.
-#[derive(Debug, PartialEq, Eq, Drop)]
+#[derive(PartialEq, Eq, Drop)]
 pub enum Flow {
     /// The next statement follows.
     Next,

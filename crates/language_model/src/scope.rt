@@ -65,7 +65,7 @@ pub struct Typed {
 }
 
 /// Why a graph is refused by the rules of types and clauses.
-#[derive(Clone, Copy, Debug, PartialEq, Eq)]
+#[derive(Clone, Copy, PartialEq, Eq)]
 pub enum CheckError {
     /// A name has no meaning, or is an attribute of two ports.
     Unknown,
@@ -95,7 +95,7 @@ pub enum CheckError {
 
 /// A refusal by these rules: the byte of the program at which it comes, and the name that it is about,
 /// where it is about one.
-#[derive(Debug, Drop)]
+#[derive(Drop)]
 pub struct CheckRefusal {
     pub error: CheckError,
     pub at: u32,

@@ -6,7 +6,7 @@ ghost use Rattle.feed_pour.specs.Counts.{Counted};
 use spl_value::Items;
 
 /// The calls of a feed, a pour or a shelf in memory.
-#[derive(Debug, Drop)]
+#[derive(Drop)]
 pub struct Calls {
     /// The numbers of the calls that are to fail.
     pub failing: Items<u64>,

@@ -14,7 +14,7 @@ use spl_value::{Bytes, Items};
 use std::alloc::Global;
 
 /// A feed of bytes in memory. Each read places as many bytes as fit.
-#[derive(Debug, Drop)]
+#[derive(Drop)]
 pub struct MemoryFeed {
     bytes: Bytes,
     at: usize,
@@ -82,7 +82,7 @@ impl Feed for MemoryFeed {
 }
 
 /// A pour into memory. A write takes all of its bytes, or none of them.
-#[derive(Debug, Drop)]
+#[derive(Drop)]
 pub struct MemoryPour {
     poured: Vec<u8>,
     /// Its writes so far, and those that are to fail.

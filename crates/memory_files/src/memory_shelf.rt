@@ -20,7 +20,7 @@ use std::alloc::Global;
 
 /// Files in memory, and the numbers of the calls that are to fail: of the reads and the writes of
 /// each name, and of the shelf's own calls `open_in`, `create` and `finish` together.
-#[derive(Debug, Drop)]
+#[derive(Drop)]
 pub struct MemoryShelf {
     alloc: Global,
     tallies: Vec<Entry<Tallies>>,

@@ -24,7 +24,7 @@ pub fn place(bytes: &[u8], at: usize, into: &mut [u8]) -> usize
 }
 
 /// A feed of bytes in memory. Each read places as many bytes as fit, and none fails.
-#[derive(Debug, Drop)]
+#[derive(Drop)]
 pub struct PlainFeed {
     bytes: Bytes,
     at: usize,
@@ -67,7 +67,7 @@ impl Feed for PlainFeed {
 }
 
 /// A pour into memory. A write takes all of its bytes, and none fails.
-#[derive(Debug, Drop)]
+#[derive(Drop)]
 pub struct PlainPour {
     poured: Vec<u8>,
 }
@@ -114,7 +114,7 @@ impl Pour for PlainPour {
 }
 
 /// Files in memory. No call fails, so that all counts are 0, but memory may run out.
-#[derive(Debug, Drop)]
+#[derive(Drop)]
 pub struct PlainShelf {
     alloc: Global,
     files: Vec<Entry<Bytes>>,

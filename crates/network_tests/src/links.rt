@@ -39,8 +39,8 @@ fn a_full_link_hands_the_packet_back(rt: HostRuntime) -> Result<(), Fail> {
         told(line.try_put(&rt, &mut send, Packet::Pulse(3))),
         "full 3"
     );
-    assert!(rt; take_one(&rt, &line, &mut take) == Some(Packet::Pulse(1)));
-    assert!(rt; take_one(&rt, &line, &mut take) == Some(Packet::Pulse(2)));
+    assert!(rt; matches!(take_one(&rt, &line, &mut take), Some(Packet::Pulse(1))));
+    assert!(rt; matches!(take_one(&rt, &line, &mut take), Some(Packet::Pulse(2))));
     assert!(rt; take_one(&rt, &line, &mut take).is_none());
     let settled = settle(&rt, line, send, take);
     assert_eq!(rt; (settled.sent, settled.taken, settled.capacity), (2, 2, 2));

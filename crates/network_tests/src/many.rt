@@ -63,19 +63,19 @@ fn by_pulses(alloc: Global, width: u32, count: u64) -> Result<u64, NoMemory>
 
 #[test]
 fn a_million_items_by_turns(rt: HostRuntime) -> Result<(), Fail> {
-    assert!(rt; by_turns(rt.alloc(), 4, 1_000_000) == Ok(1_000_000));
+    assert!(rt; matches!(by_turns(rt.alloc(), 4, 1_000_000), Ok(1_000_000)));
     Ok(())
 }
 
 #[test]
 fn a_million_items_by_numbers(rt: HostRuntime) -> Result<(), Fail> {
-    assert!(rt; by_numbers(rt.alloc(), 4, 1_000_000) == Ok(1_000_000));
+    assert!(rt; matches!(by_numbers(rt.alloc(), 4, 1_000_000), Ok(1_000_000)));
     Ok(())
 }
 
 // The last items wait for the other channels, since numbers may be missing.
 #[test]
 fn a_million_items_by_pulses(rt: HostRuntime) -> Result<(), Fail> {
-    assert!(rt; by_pulses(rt.alloc(), 4, 1_000_000) == Ok(999_997));
+    assert!(rt; matches!(by_pulses(rt.alloc(), 4, 1_000_000), Ok(999_997)));
     Ok(())
 }

@@ -109,7 +109,7 @@ struct PlainRest;
 
 fn add_rest(alloc: Global, text: &mut Text, mut feed: PlainFeed, mut pour: PlainPour) {
     let mut two = [0u8; 2];
-    if feed.read(&mut two) == Ok(2) {
+    if matches!(feed.read(&mut two), Ok(2)) {
         text.add("2; ");
     }
     if let ReadAll::Whole(rest) = read_all(alloc, &mut feed, 9) {

@@ -11,7 +11,7 @@ use crate::plain::read_plain;
 use spl_value::{NoMemory, Values};
 
 /// What a line gives.
-#[derive(Debug, Drop)]
+#[derive(Drop)]
 pub enum Given {
     Row(Values),
     Nothing,

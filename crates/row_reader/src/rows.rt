@@ -23,7 +23,7 @@ use std::alloc::Global;
 const PIECE: usize = 8192;
 
 /// What a source gives next.
-#[derive(Clone, Copy, Debug, PartialEq, Eq)]
+#[derive(Clone, Copy, PartialEq, Eq)]
 pub enum Stage {
     /// What its bytes give.
     Reading,

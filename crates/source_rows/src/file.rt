@@ -14,7 +14,7 @@ use std::alloc::Global;
 const MOST_BYTES: u64 = 1 << 40;
 
 /// The result of reading the file of a source.
-#[derive(Debug, Drop)]
+#[derive(Drop)]
 pub(crate) enum FileRows {
     Rows(Items<Item>),
     OpenFailed,

@@ -17,7 +17,7 @@ use spl_value::{Item, Items, Name, Schema};
 use std::alloc::Global;
 
 /// The result of reading the file of an operator.
-#[derive(Debug, Drop)]
+#[derive(Drop)]
 pub(crate) enum OneSource {
     /// Its rows. An operator that is no source has none.
     Rows(Items<Item>),
@@ -27,7 +27,7 @@ pub(crate) enum OneSource {
 }
 
 /// The result of reading the sources of a run.
-#[derive(Debug, Drop)]
+#[derive(Drop)]
 pub enum Sources {
     /// The rows of each operator, by its number. An operator that is no source has none.
     Rows(Items<Items<Item>>),

@@ -29,7 +29,7 @@ use spl_value::{Bytes, Items, Name, NoMemory};
 use std::alloc::Global;
 
 /// How a request ends, and the text that tells it.
-#[derive(Debug, Drop)]
+#[derive(Drop)]
 pub struct Answer {
     pub ended: Ended,
     pub text: Result<Bytes, NoMemory>,

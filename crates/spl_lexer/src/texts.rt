@@ -11,7 +11,7 @@ use spl_value::{Bytes, Items, NoMemory};
 use std::alloc::Global;
 
 /// The bytes between the quotes of a text.
-#[derive(Debug, Drop)]
+#[derive(Drop)]
 pub(crate) enum Unescaped {
     /// Each escape is the byte that it stands for.
     Bytes(Bytes),

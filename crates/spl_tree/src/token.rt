@@ -5,7 +5,7 @@ use spl_value::{Bytes, IntKind, Items, Name};
 pub const MOST_BYTES: u32 = 1_048_576;
 
 /// What a number literal says: its type, and its value, which is in the type's range.
-#[derive(Clone, Copy, Debug, PartialEq, Eq)]
+#[derive(Clone, Copy, PartialEq, Eq)]
 pub struct Number {
     pub kind: IntKind,
     pub value: u64,
@@ -44,7 +44,7 @@ pub struct Tokens {
 }
 
 /// Why bytes are no tokens.
-#[derive(Clone, Copy, Debug, PartialEq, Eq)]
+#[derive(Clone, Copy, PartialEq, Eq)]
 pub enum LexicalError {
     /// A byte begins no token, or a backslash begins no escape.
     BadByte,

@@ -110,7 +110,7 @@ pub struct Handler {
     pub body: Block,
 }
 
-#[derive(Clone, Copy, Debug, PartialEq, Eq)]
+#[derive(Clone, Copy, PartialEq, Eq)]
 pub enum HandledEvent {
     /// `onTuple`
     Tuple,

@@ -17,7 +17,7 @@ pub enum IntKind {
 }
 
 /// A type of the language. `Text` is `rstring`.
-#[derive(Debug, PartialEq, Eq, Drop)]
+#[derive(PartialEq, Eq, Drop)]
 pub enum SplType {
     Int(IntKind),
     Bool,
@@ -28,7 +28,7 @@ pub enum SplType {
 }
 
 /// A name, and what it is given.
-#[derive(Debug, PartialEq, Eq, Drop)]
+#[derive(PartialEq, Eq, Drop)]
 pub struct Named<K> {
     pub name: Name,
     pub kind: K,

@@ -4,7 +4,7 @@ use crate::{Bytes, Items, NoMemory, Reserved};
 use std::alloc::Global;
 
 /// A value of the language. An integer stands as its number, whatever its kind.
-#[derive(Debug, PartialEq, Eq, PartialOrd, Ord, Hash, Drop)]
+#[derive(PartialEq, Eq, PartialOrd, Ord, Hash, Drop)]
 pub enum Value {
     Int(i128),
     Bool(bool),

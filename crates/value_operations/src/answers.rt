@@ -1,7 +1,7 @@
 use spl_value::{FaultKind, Values};
 
 /// Whether a condition holds.
-#[derive(Clone, Copy, Debug, PartialEq, Eq)]
+#[derive(Clone, Copy, PartialEq, Eq)]
 pub enum Truth {
     Is(bool),
     Bad(FaultKind),
@@ -10,7 +10,7 @@ pub enum Truth {
 }
 
 /// The result of a code of a tuple.
-#[derive(Debug, PartialEq, Eq, Drop)]
+#[derive(PartialEq, Eq, Drop)]
 pub enum Made {
     Tuple(Values),
     Bad(FaultKind),

@@ -156,7 +156,7 @@ fn pairs_are_found_and_changed_at_their_keys(rt: HostRuntime) -> Result<(), Fail
 #[test]
 fn a_key_of_another_type_is_not_found(rt: HostRuntime) -> Result<(), Fail> {
     let none = pairs_of(rt.alloc(), "")?;
-    assert_eq!(rt; none.find(&Value::Bool(false)), None);
+    assert!(rt; none.find(&Value::Bool(false)).is_none());
     Ok(())
 }
 
@@ -179,7 +179,7 @@ fn each_of_a_thousand_keys_is_found(rt: HostRuntime) -> Result<(), Fail> {
     for i in 0..1000u32 {
         let key = i128::from(i);
         let found = pairs.find(&Value::Int(2 * key));
-        assert_eq!(rt; found, Some(&Value::Int(key)));
+        assert!(rt; found == Some(&Value::Int(key)));
         assert!(rt; !pairs.contains_key(&Value::Int(2 * key + 1)));
     }
     Ok(())
