@@ -5,7 +5,7 @@ ghost use Rattle.arrival_format.specs.declared.answer.ArrivalsAnswer.TheVariants
 use std::alloc::AllocError;
 
 /// Why no arrival record was read.
-#[derive(Clone, Copy, PartialEq, Eq)]
+#[derive(Clone, Copy)]
 pub enum ArrivalsAnswer {
     /// The bytes spell none.
     Bad,

@@ -15,7 +15,7 @@ pub struct Connections {
 }
 
 /// What the end of a connection ends besides.
-#[derive(Clone, Copy, PartialEq, Eq)]
+#[derive(Clone, Copy)]
 pub enum Closing {
     /// Nothing: another connection of the port is open.
     Waiting,

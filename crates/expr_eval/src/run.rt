@@ -26,7 +26,7 @@ use std::alloc::Global;
 use value_operations::{Held, Stop, elements, enter, take_step};
 
 /// How the run of a body ended.
-#[derive(Clone, Copy, PartialEq, Eq)]
+#[derive(Clone, Copy)]
 pub enum Ran {
     Done,
     Bad(FaultKind),

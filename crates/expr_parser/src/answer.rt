@@ -12,7 +12,7 @@ pub struct ParsedExpr {
 }
 
 /// Why there is no expression. The places are those of bytes in the program.
-#[derive(Clone, Copy, PartialEq, Eq)]
+#[derive(Clone, Copy)]
 pub enum SyntaxAnswer {
     /// This token can't stand here. The end of the program counts as a token.
     Unexpected(u32),

@@ -8,11 +8,11 @@ ghost use Rattle.feed_pour.specs.Contents.{PieceGiven, LeftTaken, Poured, failed
 use spl_value::Name;
 
 /// The device failed. The object that answers it counted the fault.
-#[derive(Clone, Copy, PartialEq, Eq)]
+#[derive(Clone, Copy)]
 pub struct Failed;
 
 /// Why a write poured less than it was given.
-#[derive(Clone, Copy, PartialEq, Eq)]
+#[derive(Clone, Copy)]
 pub enum PourAnswer {
     /// The device failed, and the pour counted the fault. A front of the bytes may be poured.
     Failed,

@@ -17,7 +17,7 @@ pub trait Gate: Sync {
 }
 
 /// Each group gets a worker.
-#[derive(Clone, Copy, PartialEq, Eq)]
+#[derive(Clone, Copy)]
 pub struct AllStart;
 
 impl Starter for AllStart {
@@ -44,7 +44,7 @@ impl Starter for NotThese {
 }
 
 /// Does nothing before a put.
-#[derive(Clone, Copy, PartialEq, Eq)]
+#[derive(Clone, Copy)]
 pub struct OpenGate;
 
 impl Gate for OpenGate {

@@ -10,7 +10,7 @@ use std::alloc::{AllocError, Global};
 
 /// How often a name failed to open, to be created, to be read and to be written. Each count stands
 /// still at 2^64 - 1.
-#[derive(Clone, Copy, PartialEq, Eq)]
+#[derive(Clone, Copy)]
 pub struct Tallies {
     pub opening: u64,
     pub creating: u64,

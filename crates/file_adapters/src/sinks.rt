@@ -23,7 +23,7 @@ pub struct Sink {
 }
 
 /// How the writing of sinks ended. `Done` has the number of rows of each, in order.
-#[derive(PartialEq, Eq, Drop)]
+#[derive(Drop)]
 pub enum Sunk {
     Done(Items<u64>),
     /// The file at this place couldn't be created. That of a text stands after those of the sinks.

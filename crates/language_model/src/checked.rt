@@ -3,7 +3,7 @@ use spl_tree::{Body, Code, HandledEvent, Slot};
 use spl_value::{Bytes, IntKind, Items, Name, Places, Schema, SplType};
 
 /// When a window fires, and what it holds then.
-#[derive(Clone, Copy, PartialEq, Eq)]
+#[derive(Clone, Copy)]
 pub enum WindowRule {
     /// This number of tuples, and then the window begins anew.
     TumblingCount(u64),
@@ -29,14 +29,14 @@ pub enum WindowRule {
 }
 
 /// A window of an input port. A partitioned one has a window for each value of some attributes.
-#[derive(Clone, Copy, PartialEq, Eq)]
+#[derive(Clone, Copy)]
 pub struct Policy {
     pub partitioned: bool,
     pub rule: WindowRule,
 }
 
 /// Where a Punctor puts its markers.
-#[derive(Clone, Copy, PartialEq, Eq)]
+#[derive(Clone, Copy)]
 pub enum Position {
     Before,
     After,
@@ -65,7 +65,7 @@ pub struct Given {
 }
 
 /// What an Aggregate makes of the values of an expression in a group. `Any` is `First`.
-#[derive(Clone, Copy, PartialEq, Eq)]
+#[derive(Clone, Copy)]
 pub enum Collector {
     /// The sum in that type.
     Sum(IntKind),

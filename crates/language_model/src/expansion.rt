@@ -29,7 +29,7 @@ pub enum ExpansionRefusal {
 
 /// The stream that a name of a graph means in an expansion: the number of the expansion, and the
 /// place of the name among those of the streams that the graph makes, from 0.
-#[derive(Clone, Copy, PartialEq, Eq)]
+#[derive(Clone, Copy)]
 pub struct Source {
     pub expansion: u32,
     pub place: u32,

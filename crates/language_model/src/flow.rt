@@ -1,7 +1,7 @@
 use spl_value::Value;
 
 /// Where a statement leads.
-#[derive(PartialEq, Eq, Drop)]
+#[derive(Drop)]
 pub enum Flow {
     /// The next statement follows.
     Next,

@@ -7,7 +7,7 @@ use std::alloc::{AllocError, Global};
 use std::marker::Model;
 
 /// An item on an output port, counted from 0.
-#[derive(PartialEq, Eq, Drop)]
+#[derive(Drop)]
 pub struct Output {
     pub port: u32,
     pub item: Item,

@@ -65,7 +65,7 @@ pub struct Typed {
 }
 
 /// Why a graph is refused by the rules of types and clauses.
-#[derive(Clone, Copy, PartialEq, Eq)]
+#[derive(Clone, Copy)]
 pub enum CheckError {
     /// A name has no meaning, or is an attribute of two ports.
     Unknown,

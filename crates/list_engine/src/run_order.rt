@@ -16,7 +16,7 @@ pub enum Order {
 }
 
 /// Why a run isn't made to its end.
-#[derive(Clone, Copy, PartialEq, Eq)]
+#[derive(Clone, Copy)]
 pub enum RunAnswer {
     /// The record isn't whole for this operator, the first such in topological order.
     NotWhole(u32),

@@ -11,7 +11,7 @@ use spl_value::{Attribute, IntKind, Items, NoMemory, SplType, Value, Values, rea
 use std::alloc::Global;
 
 /// The type of an attribute that a row can hold.
-#[derive(Clone, Copy, PartialEq, Eq)]
+#[derive(Clone, Copy)]
 pub enum Column {
     Int(IntKind),
     Bool,

@@ -12,7 +12,7 @@ use crate::find::find;
 use spl_value::{NoMemory, Values};
 
 /// What a line gives. The values of a row stand beside it.
-#[derive(Clone, Copy, PartialEq, Eq)]
+#[derive(Clone, Copy)]
 pub enum LineGives {
     Row,
     Nothing,

@@ -23,7 +23,7 @@ use std::alloc::Global;
 const PIECE: usize = 8192;
 
 /// What a source gives next.
-#[derive(Clone, Copy, PartialEq, Eq)]
+#[derive(Clone, Copy)]
 pub enum Stage {
     /// What its bytes give.
     Reading,

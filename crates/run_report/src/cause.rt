@@ -2,7 +2,7 @@ use crate::Refusal;
 use spl_value::{Fault, Name};
 
 /// Why the program ended.
-#[derive(PartialEq, Eq, Drop)]
+#[derive(Drop)]
 pub enum Cause {
     /// The request was carried out.
     Done,

@@ -3,7 +3,7 @@ use spl_tree::LexicalError;
 use spl_value::Name;
 
 /// Why a unit has no graph, by its code.
-#[derive(Clone, Copy, PartialEq, Eq)]
+#[derive(Clone, Copy)]
 pub enum ExpansionError {
     /// `E1`: there is no main composite.
     NoMain,
@@ -24,7 +24,7 @@ pub enum ExpansionError {
 }
 
 /// Why a program is refused. Each reason has a code of its own, which is told.
-#[derive(Clone, Copy, PartialEq, Eq)]
+#[derive(Clone, Copy)]
 pub enum Code {
     /// `L1` to `L5`: the program's bytes are no tokens, or too many.
     Lexical(LexicalError),
@@ -40,7 +40,7 @@ pub enum Code {
 
 /// Why a program is refused: the first reason, and the byte of the program, counted from 0, where it
 /// comes. The name is that of what is refused, where the reason has one.
-#[derive(PartialEq, Eq, Drop)]
+#[derive(Drop)]
 pub struct Refusal {
     pub code: Code,
     pub at: u32,

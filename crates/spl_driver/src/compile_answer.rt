@@ -14,7 +14,7 @@ use spl_tree::Placed;
 use spl_value::Name;
 
 /// Why a program isn't compiled.
-#[derive(PartialEq, Eq, Drop)]
+#[derive(Drop)]
 pub enum CompileAnswer {
     /// The program's first refusal.
     Refused(Refusal),

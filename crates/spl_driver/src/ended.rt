@@ -10,7 +10,7 @@ use stream_model::{Arrivals, Counts};
 
 /// How the program ended: its exit status and the cause, the arrival record, and what the run
 /// counted. The counts are stated after a run that was carried out alone.
-#[derive(PartialEq, Eq, Drop)]
+#[derive(Drop)]
 pub struct Ended {
     pub status: u8,
     pub cause: Cause,

@@ -6,7 +6,7 @@ use spl_value::NoMemory;
 use std::alloc::AllocError;
 
 /// Why there are no tokens.
-#[derive(Clone, Copy, PartialEq, Eq)]
+#[derive(Clone, Copy)]
 pub enum LexAnswer {
     /// The program's first refusal, and the place of its byte.
     Refused(LexicalError, u32),

@@ -32,7 +32,7 @@ pub enum Code<N> {
 }
 
 /// What a name means in a scope, by places from 0.
-#[derive(Clone, Copy, PartialEq, Eq)]
+#[derive(Clone, Copy)]
 pub enum Slot {
     /// A variable.
     Variable(u32),
@@ -54,7 +54,7 @@ pub enum Selector<C> {
 }
 
 /// An operator in front of its operand.
-#[derive(Clone, Copy, PartialEq, Eq)]
+#[derive(Clone, Copy)]
 pub enum UnaryCode {
     /// `!`
     Not,
@@ -69,7 +69,7 @@ pub enum UnaryCode {
 }
 
 /// An operator between two operands.
-#[derive(Clone, Copy, PartialEq, Eq)]
+#[derive(Clone, Copy)]
 pub enum BinaryCode {
     /// `* / % + - & ^ |` of two integers of that type.
     Integers(IntegerOperator, IntKind),
@@ -91,7 +91,7 @@ pub enum BinaryCode {
     InMap,
 }
 
-#[derive(Clone, Copy, PartialEq, Eq)]
+#[derive(Clone, Copy)]
 pub enum IntegerOperator {
     Multiply,
     Divide,
@@ -103,7 +103,7 @@ pub enum IntegerOperator {
     BitOr,
 }
 
-#[derive(Clone, Copy, PartialEq, Eq)]
+#[derive(Clone, Copy)]
 pub enum OrderOperator {
     Less,
     LessOrEqual,
@@ -112,7 +112,7 @@ pub enum OrderOperator {
 }
 
 /// A call that the language has built in and that gives a value.
-#[derive(Clone, Copy, PartialEq, Eq)]
+#[derive(Clone, Copy)]
 pub enum BuiltIn {
     Length,
     Size,
@@ -124,14 +124,14 @@ pub enum BuiltIn {
 }
 
 /// A marker of a stream.
-#[derive(Clone, Copy, PartialEq, Eq)]
+#[derive(Clone, Copy)]
 pub enum Marker {
     Window,
     Final,
 }
 
 /// The names of the calls that the language has built in, and of that which asks for the marker.
-#[derive(Clone, Copy, PartialEq, Eq)]
+#[derive(Clone, Copy)]
 pub enum CallName {
     Length,
     Size,

@@ -3,7 +3,7 @@ use spl_value::{Boxed, Bytes, IntKind, Items, Name};
 use std::alloc::{AllocError, Global};
 
 /// Something, with the place of its first byte in the program.
-#[derive(PartialEq, Eq, Drop)]
+#[derive(Drop)]
 pub struct Placed<T> {
     pub at: u32,
     pub what: T,
@@ -81,7 +81,7 @@ pub enum Step<E> {
 /// A prefix operator or a cast, at its first token.
 pub type Prefix = Placed<PrefixOperator>;
 
-#[derive(Clone, Copy, PartialEq, Eq)]
+#[derive(Clone, Copy)]
 pub enum PrefixOperator {
     /// `!`
     Not,
@@ -94,7 +94,7 @@ pub enum PrefixOperator {
 }
 
 /// A type that an expression can be cast to.
-#[derive(Clone, Copy, PartialEq, Eq)]
+#[derive(Clone, Copy)]
 pub enum CastTarget {
     Int(IntKind),
     /// `rstring`
@@ -102,7 +102,7 @@ pub enum CastTarget {
 }
 
 /// An operator between two operands. Those that bind tighter come first.
-#[derive(Clone, Copy, PartialEq, Eq)]
+#[derive(Clone, Copy)]
 pub enum BinaryOperator {
     /// `*`
     Multiply,

@@ -32,7 +32,7 @@ pub struct Op {
 }
 
 /// The kinds of operator that the language has.
-#[derive(Clone, Copy, PartialEq, Eq)]
+#[derive(Clone, Copy)]
 pub enum OpKind {
     FileSource,
     FileSink,
@@ -47,7 +47,7 @@ pub enum OpKind {
 }
 
 /// A stream. Its type is written where it is made.
-#[derive(Clone, Copy, PartialEq, Eq)]
+#[derive(Clone, Copy)]
 pub struct Stream {
     /// The operator that makes it, and the port on which it does.
     pub maker: u32,
@@ -56,7 +56,7 @@ pub struct Stream {
 
 /// An invocation within an expansion: the number of the expansion, and the place of the invocation in
 /// the graph of its composite.
-#[derive(Clone, Copy, PartialEq, Eq)]
+#[derive(Clone, Copy)]
 pub struct Site {
     pub expansion: u32,
     pub invocation: u32,
@@ -76,7 +76,7 @@ pub struct Expansion {
 }
 
 /// The streams that an input of a composite's head takes.
-#[derive(Clone, Copy, PartialEq, Eq)]
+#[derive(Clone, Copy)]
 pub struct InputStreams {
     /// How many streams, of which no more than 2^30 are counted.
     pub count: u32,

@@ -4,7 +4,7 @@ ghost use Rattle.spl_tree.specs.Words.{int_word, left_out_word, keyword_word};
 use spl_value::IntKind;
 
 /// A reserved word: a word that is no name.
-#[derive(Clone, Copy, PartialEq, Eq)]
+#[derive(Clone, Copy)]
 pub enum Keyword {
     Namespace,
     Type,
@@ -49,7 +49,7 @@ pub enum Keyword {
 }
 
 /// A type of SPL that this profile leaves out. Its word is reserved.
-#[derive(Clone, Copy, PartialEq, Eq)]
+#[derive(Clone, Copy)]
 pub enum LeftOut {
     Float32,
     Float64,

@@ -1,5 +1,5 @@
 /// A symbol of the language.
-#[derive(Clone, Copy, Debug, PartialEq, Eq)]
+#[derive(Clone, Copy, Debug)]
 pub enum Symbol {
     /// `(`
     LeftParen,

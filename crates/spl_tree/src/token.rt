@@ -5,14 +5,14 @@ use spl_value::{Bytes, IntKind, Items, Name};
 pub const MOST_BYTES: u32 = 1_048_576;
 
 /// What a number literal says: its type, and its value, which is in the type's range.
-#[derive(Clone, Copy, PartialEq, Eq)]
+#[derive(Clone, Copy)]
 pub struct Number {
     pub kind: IntKind,
     pub value: u64,
 }
 
 /// What a token is.
-#[derive(PartialEq, Eq, Drop)]
+#[derive(Drop)]
 pub enum TokenKind {
     /// A word that isn't reserved.
     Word(Name),
@@ -26,7 +26,7 @@ pub enum TokenKind {
 }
 
 /// A token, with the place of its first byte and the place after its last.
-#[derive(PartialEq, Eq, Drop)]
+#[derive(Drop)]
 pub struct Token {
     pub kind: TokenKind,
     pub start: u32,
@@ -37,14 +37,14 @@ pub struct Token {
 pub type TokenList = Items<Token>;
 
 /// The tokens of a program, and the number of its bytes, which is the place of its end.
-#[derive(PartialEq, Eq, Drop)]
+#[derive(Drop)]
 pub struct Tokens {
     pub list: TokenList,
     pub length: u32,
 }
 
 /// Why bytes are no tokens.
-#[derive(Clone, Copy, PartialEq, Eq)]
+#[derive(Clone, Copy)]
 pub enum LexicalError {
     /// A byte begins no token, or a backslash begins no escape.
     BadByte,

@@ -110,7 +110,7 @@ pub struct Handler {
     pub body: Block,
 }
 
-#[derive(Clone, Copy, PartialEq, Eq)]
+#[derive(Clone, Copy)]
 pub enum HandledEvent {
     /// `onTuple`
     Tuple,

@@ -4,7 +4,7 @@ use crate::{NoMemory, Value, Values, copy_values};
 use std::alloc::Global;
 
 /// Why an operator ended early.
-#[derive(Clone, Copy, PartialEq, Eq)]
+#[derive(Clone, Copy)]
 pub enum FaultKind {
     /// The divisor of `/` or `%` is zero.
     DivZero,
@@ -26,7 +26,7 @@ pub enum FaultKind {
 
 /// A fault: the number of the operator that ended, the kind, and for a source's fault the line of
 /// its file, counted from 1; else the line is 0.
-#[derive(Clone, Copy, PartialEq, Eq)]
+#[derive(Clone, Copy)]
 pub struct Fault {
     pub op: u32,
     pub kind: FaultKind,
@@ -34,7 +34,7 @@ pub struct Fault {
 }
 
 /// What a stream is a list of. Nothing follows `Final` or `Bad`.
-#[derive(PartialEq, Eq, Drop)]
+#[derive(Drop)]
 pub enum Item {
     /// A tuple: its attributes' values, in the order of its schema.
     Tuple(Values),
@@ -47,7 +47,7 @@ pub enum Item {
 }
 
 /// The result of an evaluation: a value, a fault, or lack of memory.
-#[derive(PartialEq, Eq, Drop)]
+#[derive(Drop)]
 pub enum Evaluated {
     Value(Value),
     Bad(FaultKind),

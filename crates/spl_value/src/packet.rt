@@ -1,7 +1,7 @@
 use crate::Item;
 
 /// What travels on a link.
-#[derive(PartialEq, Eq, Drop)]
+#[derive(Drop)]
 pub enum Packet {
     /// An item under its number in the region's input, or under that of the item that caused it.
     /// Outside regions the number is 0.

@@ -1,7 +1,7 @@
 use crate::Places;
 
 /// Where a region's splitter sends the items that enter the region.
-#[derive(PartialEq, Eq, Drop)]
+#[derive(Drop)]
 pub enum Routing {
     /// In a region without a key: to the channels in turn.
     Turns,

@@ -2,7 +2,7 @@ use spl_value::{Ids, Items, Places};
 
 /// What an operator keeps from event to event, as far as parallel regions ask: nothing, a state for each
 /// value of some attributes of its input, or more.
-#[derive(PartialEq, Eq, Drop)]
+#[derive(Drop)]
 pub enum StateKind {
     Stateless,
     /// The attributes of its input by their places, in the order of the text.
@@ -11,7 +11,7 @@ pub enum StateKind {
 }
 
 /// How many items each event of an operator with one connection and one output port causes.
-#[derive(Clone, Copy, PartialEq, Eq)]
+#[derive(Clone, Copy)]
 pub enum Gives {
     One,
     AtMostOne,
@@ -19,7 +19,7 @@ pub enum Gives {
 }
 
 /// How the outputs of the replicas of a region are put in order.
-#[derive(Clone, Copy, PartialEq, Eq)]
+#[derive(Clone, Copy)]
 pub enum Merge {
     /// Item by item, channel after channel.
     Turns,
@@ -30,7 +30,7 @@ pub enum Merge {
 }
 
 /// A chain of operators that runs in replicas.
-#[derive(PartialEq, Eq, Drop)]
+#[derive(Drop)]
 pub struct Region {
     /// Their numbers, in the order of the chain.
     pub ops: Ids,

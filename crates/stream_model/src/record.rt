@@ -1,7 +1,7 @@
 use spl_value::{Inputs, Items};
 
 /// The input numbers of an operator's events, in their order.
-#[derive(PartialEq, Eq, Drop)]
+#[derive(Drop)]
 pub struct ArrivalList {
     pub op: u32,
     pub inputs: Inputs,
@@ -11,13 +11,13 @@ pub type ArrivalLists = Items<ArrivalList>;
 
 /// The arrival record of a run: a list for each operator with several connections, in the order of
 /// the operators.
-#[derive(PartialEq, Eq, Drop)]
+#[derive(Drop)]
 pub struct Arrivals {
     pub lists: ArrivalLists,
 }
 
 /// How many items a splitter sent to a channel of a region.
-#[derive(Clone, Copy, PartialEq, Eq)]
+#[derive(Clone, Copy)]
 pub struct ChannelCount {
     pub region: u32,
     pub channel: u32,
@@ -27,7 +27,7 @@ pub struct ChannelCount {
 pub type ChannelCounts = Items<ChannelCount>;
 
 /// How many tuples a FileSink wrote.
-#[derive(Clone, Copy, PartialEq, Eq)]
+#[derive(Clone, Copy)]
 pub struct SinkCount {
     pub op: u32,
     pub tuples: u64,
@@ -36,7 +36,7 @@ pub struct SinkCount {
 pub type SinkCounts = Items<SinkCount>;
 
 /// What a run counted: by region and channel, and by sink in the order of the operators.
-#[derive(PartialEq, Eq, Drop)]
+#[derive(Drop)]
 pub struct Counts {
     pub channels: ChannelCounts,
     pub sinks: SinkCounts,

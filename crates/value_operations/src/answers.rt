@@ -1,7 +1,7 @@
 use spl_value::{FaultKind, Values};
 
 /// Whether a condition holds.
-#[derive(Clone, Copy, PartialEq, Eq)]
+#[derive(Clone, Copy)]
 pub enum Truth {
     Is(bool),
     Bad(FaultKind),
@@ -10,7 +10,7 @@ pub enum Truth {
 }
 
 /// The result of a code of a tuple.
-#[derive(PartialEq, Eq, Drop)]
+#[derive(Drop)]
 pub enum Made {
     Tuple(Values),
     Bad(FaultKind),

@@ -6,7 +6,7 @@ use spl_value::{FaultKind, NoMemory};
 use std::alloc::AllocError;
 
 /// Why there is no value.
-#[derive(Clone, Copy, PartialEq, Eq)]
+#[derive(Clone, Copy)]
 pub enum Stop {
     Fault(FaultKind),
     /// There was no memory, or no room for a deeper call.
