@@ -69,30 +69,30 @@ fn if_of_kind(kind: IntKind, n: i128) -> Option<i128>
     if is_of_kind(kind, n) { Some(n) } else { None }
 }
 
+// The number that any digits spell, or one past every kind; at most 18 digits are added up in 64 bits.
+fn read_digits(digits: &[u8]) -> Option<u128>
+    ensures value { MatchOption result (natural digits.now ≡ None) (λ n. Spells digits.now n) }
+    ensures small { IfSome result (λ n. n < 10 ^ 22) }
+{
+    if digits.len() <= 18 {
+        Some(u128::from(read_natural(digits)?))
+    } else {
+        long_natural(digits)
+    }
+}
+
 // The number of the kind that digits spell.
 fn read_positive(kind: IntKind, digits: &[u8]) -> Option<i128>
     ensures { result ≡ in_kind kind (option_map pos (natural digits.now)) }
 {
-    if digits.len() <= 18 {
-        let n = read_natural(digits)?;
-        if_of_kind(kind, i128::from(n))
-    } else {
-        let n = long_natural(digits)?;
-        if_of_kind(kind, n as i128)
-    }
+    if_of_kind(kind, read_digits(digits)? as i128)
 }
 
 // The number of the kind that a minus and these digits spell.
 fn read_negative(kind: IntKind, digits: &[u8]) -> Option<i128>
     ensures { result ≡ in_kind kind (option_map (λ n. neg_ℤ (pos n)) (natural digits.now)) }
 {
-    if digits.len() <= 18 {
-        let n = read_natural(digits)?;
-        if_of_kind(kind, -i128::from(n))
-    } else {
-        let n = long_natural(digits)?;
-        if_of_kind(kind, -(n as i128))
-    }
+    if_of_kind(kind, -(read_digits(digits)? as i128))
 }
 
 /// The number of the kind that an optional `-` and decimal digits spell. Leading zeros are

@@ -1,4 +1,4 @@
-ghost use Rattle.std.specs.Prelude.{◌≡◌, ◌↔◌, IsTrue, IfOk};
+ghost use Rattle.std.specs.Prelude.{◌≡◌, ◌↔◌, IsTrue, IfOk, Ok};
 
 use crate::{Boxed, Items, NoMemory};
 use std::alloc::Global;
@@ -62,6 +62,13 @@ pub fn same_type(a: &SplType, b: &SplType) -> bool
     a == b
 }
 
+// The box of a type, where the type is there and memory for the box.
+fn boxed(alloc: Global, kind: Result<SplType, NoMemory>) -> Result<Boxed<SplType>, NoMemory>
+    ensures { IfOk result (λ b. kind ≡ Ok b) }
+{
+    Ok(Boxed::new(alloc, kind?)?)
+}
+
 /// A copy of a type.
 #[cycle(copy)]
 pub fn copy_type(alloc: Global, t: &SplType) -> Result<SplType, NoMemory>
@@ -72,13 +79,12 @@ pub fn copy_type(alloc: Global, t: &SplType) -> Result<SplType, NoMemory>
         SplType::Bool => Ok(SplType::Bool),
         SplType::Text => Ok(SplType::Text),
         SplType::List(element) => {
-            let element = copy_type(alloc, element.get())?;
-            Ok(SplType::List(Boxed::new(alloc, element)?))
+            Ok(SplType::List(boxed(alloc, copy_type(alloc, element.get()))?))
         }
         SplType::Map(key, value) => {
-            let key = copy_type(alloc, key.get())?;
-            let value = copy_type(alloc, value.get())?;
-            Ok(SplType::Map(Boxed::new(alloc, key)?, Boxed::new(alloc, value)?))
+            let key = boxed(alloc, copy_type(alloc, key.get()))?;
+            let value = boxed(alloc, copy_type(alloc, value.get()))?;
+            Ok(SplType::Map(key, value))
         }
         SplType::Tuple(schema) => Ok(SplType::Tuple(copy_schema(alloc, schema.as_slice())?)),
     }
