@@ -15,7 +15,8 @@ ghost use Rattle.call_rules.specs.Calls.{asked, change_asked, first_for, given, 
 use crate::answer::not_mutable;
 use crate::forms::root_name;
 use crate::kinds::{has_order, integer_of};
-use language_model::{Codes, Scope, TypeAnswer, Typed, mismatch, variable_named, wrong_call};
+use code_copies::Codes;
+use language_model::{Scope, TypeAnswer, Typed, mismatch, variable_named, wrong_call};
 use spl_tree::{BuiltIn, CallName, Code, Expr, Slot};
 use spl_value::{Boxed, IntKind, Items, SplType, copy_type};
 use std::alloc::Global;

@@ -3,7 +3,7 @@ ghost use Rattle.check_laws.specs.KeepsLaw.{KeepsLaw};
 ghost use Rattle.check_laws.specs.PartsLaw.{PartsLaw};
 
 use graph_laws::flat_law;
-use language_model::{bodies_law, dollars_law, typing_law};
+use language_laws::{bodies_law, dollars_law, typing_law};
 
 /// The clauses of an operator that are accepted fit its ports: codes fit its scope, attributes are those
 /// of its ports, and numbers are in their ranges.

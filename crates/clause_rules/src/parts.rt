@@ -15,8 +15,9 @@ use crate::logic::logic_of;
 use body_rules::empty_port;
 use language_model::{
     CheckError, CheckedClauses, CollectedAttribute, Given, Policy, Port, Position, Scope,
-    TypeAnswer, refused, refused_name, rules_of,
+    TypeAnswer, refused, refused_name,
 };
+use operator_kinds::rules_of;
 use output_rules::{groups_of, places_of, tuple_of};
 use parameter_rules::{position_given, strict_given, take_code, take_file, take_places};
 use spl_tree::{Clauses, Code, Logic, OpKind, OutputAssignments, Placed, Slot};

@@ -5,7 +5,8 @@ ghost use Rattle.language_model.specs.Finds.{Finds};
 ghost use Rattle.language_model.specs.Kinds.{is_within};
 ghost use Rattle.clause_rules.specs.steps.Operators.{named};
 
-use language_model::{CheckError, Port, PortBounds, TypeAnswer, refused, refused_name, rules_of};
+use language_model::{CheckError, Port, PortBounds, TypeAnswer, refused, refused_name};
+use operator_kinds::rules_of;
 use spl_tree::{InputPort, Invocation, Op, OpKind, OutputStream, Parameter};
 use spl_value::{Items, Name, NoMemory, Schema};
 use std::alloc::Global;

@@ -7,7 +7,7 @@ ghost use Rattle.language_model.specs.Mentions.{clause_mentions};
 ghost use Rattle.composite_expand.specs.steps.Invocations.{seen, named, streams_read, undeclared_operator, undeclared_parameters, unreadable};
 
 use composite_tables::{Composites, Scope};
-use language_model::kind_named;
+use operator_kinds::kind_named;
 use program_tables::{Mention, of_invocation};
 use spl_tree::{Clauses, InputPort, Invocation, OpKind, Placed};
 use spl_value::{Name, NoMemory};

@@ -9,7 +9,8 @@ ghost use Rattle.dollar_rules.specs.steps.Settling.{IsSettled, Settles, given_of
 ghost use Rattle.written_types.specs.TypeScopes.{types_in};
 
 use crate::heads::Head;
-use language_model::{Dollar, Scope, Signatures, dollars_law};
+use language_laws::dollars_law;
+use language_model::{Dollar, Scope, Signatures};
 use spl_value::{Items, NoMemory};
 use std::alloc::Global;
 use written_types::narrow;

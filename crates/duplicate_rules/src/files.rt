@@ -7,8 +7,8 @@ ghost use Rattle.language_model.specs.Declarations.{first_of, repeated};
 ghost use Rattle.language_model.specs.SinkFiles.{text_in, file_of, op_file, is_had};
 ghost use Rattle.duplicate_rules.specs.steps.Seen.{file_seen, literal_text};
 
-use language_model::rules_of;
 use literal_sites::Follow;
+use operator_kinds::rules_of;
 use program_tables::{SiteTable, value_named};
 use spl_tree::{Expansion, Expr, ExprKind, Op, Placed, Unit};
 use spl_value::{Items, Name, NoMemory};

@@ -12,8 +12,8 @@ use Rattle.language_model.specs.Evaluation.{slot_value}
 use Rattle.language_model.specs.Functions.{bodies_of}
 use Rattle.language_model.specs.Outcomes.{Outcome, Done, Faulted, Stuck}
 use Rattle.language_model.specs.Statements.{State, Bodies, body_leaves}
-use Rattle.language_model.proofs.Extending.{Extends, extends_with_none, at_turns}
-use Rattle.language_model.proofs.LikeStatements.{Likeness, left_alike}
+use Rattle.evaluation_laws.proofs.Extending.{Extends, extends_with_none, at_turns}
+use Rattle.evaluation_laws.proofs.LikeStatements.{Likeness, left_alike}
 use Rattle.evaluation_laws.specs.NamedSlotsLaw.{SameOutcome, LeftAlike, NamedSlotsLaw}
 
 -- ---- lists that are the same at a place, and of one length

@@ -39,8 +39,8 @@ use Rattle.language_model.specs.Slots.{level_names, names_of, row_slots}
 use Rattle.language_model.specs.StatementLaws.{statement_laws}
 use Rattle.language_model.specs.Typing.{int32}
 use Rattle.language_model.specs.WorldFits.{BodyFits, Fits, FunctionsFit, VariablesFit}
-use Rattle.language_model.proofs.NamedSlots.{changed_slots, for_slots, submit_slots}
-use Rattle.language_model.proofs.NamesInCodes.{list_names, name_names, tuple_names}
+use Rattle.evaluation_laws.proofs.NamedSlots.{changed_slots, for_slots, submit_slots}
+use Rattle.evaluation_laws.proofs.NamesInCodes.{list_names, name_names, tuple_names}
 use Rattle.evaluation_laws.specs.HandlerLaws.{AreFirst}
 use Rattle.evaluation_laws.specs.LiteralLaws.{IsAlways}
 use Rattle.evaluation_laws.specs.NamedSlotsLaw.{Agree}

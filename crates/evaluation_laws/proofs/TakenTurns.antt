@@ -12,7 +12,7 @@ use Rattle.language_model.specs.Evaluation.{World, code_value}
 use Rattle.language_model.specs.Functions.{function_env, bodies_of, calls_of, value, runs}
 use Rattle.language_model.specs.Outcomes.{Outcome, Done, Faulted, Stuck}
 use Rattle.language_model.specs.Statements.{body_leaves}
-use Rattle.language_model.proofs.MoreTurns.{value_faults, runs_faults}
+use Rattle.evaluation_laws.proofs.MoreTurns.{value_faults, runs_faults}
 use Rattle.evaluation_laws.specs.TurnsLaws.{LeavesNoMore, TakesAsMany, WantsTurns, FaultsWithFewer, StuckWithMore, ValueTurnsLeftLaw, ValueTurnsTakenLaw, ValueWantOfTurnsLaw, ValueFewerTurnsLaw, ValueStuckLaw, RunsTurnsLeftLaw, RunsTurnsTakenLaw, RunsWantOfTurnsLaw, RunsFewerTurnsLaw, RunsStuckLaw}
 use Rattle.evaluation_laws.proofs.Taking.{Takes, takes_none, takes_followed, takes_need, takes_within, takes_any, takes_each}
 use Rattle.evaluation_laws.proofs.TakingCodes.{codes_take}

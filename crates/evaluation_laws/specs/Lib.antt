@@ -5,3 +5,5 @@ pub mod ImmutableLaws
 pub mod OutcomeLaws
 pub mod HandlerLaws
 pub mod examples
+pub mod SlotsLaws
+pub mod SubmitsLaws

@@ -1,2 +1,3 @@
 pub mod OneCall
 pub mod OneHandler
+pub mod TwoStatements

@@ -13,6 +13,7 @@ ghost use Rattle.language_model.specs.Typing.{int32};
 ghost use Rattle.language_model.specs.WorldFits.{BodyFits, Fits};
 ghost use Rattle.evaluation_laws.specs.HandlerLaws.{AreFirst};
 ghost use Rattle.evaluation_laws.specs.NamedSlotsLaw.{Agree};
+ghost use Rattle.evaluation_laws.specs.examples.TwoStatements.{two_statements};
 ghost use Rattle.evaluation_laws.specs.examples.OneCall.{number, identity, call_of_seven, by_zero, nowhere};
 ghost use Rattle.evaluation_laws.specs.examples.OneHandler.{output, state, submit_constant, on_tuple, on_marker, handlers, one_port, of_tuple, held};
 ghost use Rattle.evaluation_laws.specs.examples.OneHandler.{env_of, left_of, env_at_window, left_at_window, constant_alone, env_alone, left_alone};
@@ -47,4 +48,9 @@ pub fn constant_on_literals()
     ensures fits { RowFits (OfHandler (output ∷ [])) false constant_alone (submit_constant ∷ []) }
     ensures constant { (i : ℕ) (x : Variable) → slice_get constant_alone.vars i ≡ Some x → x.mutable ≡ false }
     ensures leaves { runs [] (submit_constant ∷ []) env_alone 0 ≡ Done left_alone 0 }
+{}
+
+/// The slots that two statements name.
+pub fn slots_on_literals()
+    ensures row { row_slots two_statements ≡ L.Port 0 ∷ L.Variable 1 ∷ L.Variable 2 ∷ L.Attribute 0 1 ∷ L.Variable 3 ∷ [] }
 {}

@@ -13,7 +13,8 @@ ghost use Rattle.expr_eval.specs.Fitting.{IsFit, AreFit, PairsAreFit, FitTakings
 
 use crate::context::Context;
 use crate::run::run_function;
-use language_model::{Env, evaluation_law};
+use evaluation_laws::evaluation_law;
+use language_model::Env;
 use spl_tree::{BinaryCode, BuiltIn, Code, Functions, Selector, Slot, UnaryCode};
 use spl_value::{Evaluated, Items, Pairs, Value, Values};
 use std::alloc::Global;

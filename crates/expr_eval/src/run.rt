@@ -19,7 +19,8 @@ use crate::statements::{
     submit_window,
 };
 use crate::variables::change_variable;
-use language_model::{Env, Flow, Outs, evaluation_law};
+use evaluation_laws::evaluation_law;
+use language_model::{Env, Flow, Outs};
 use spl_tree::{Body, Change, Code, Functions, Place, Selector, Slot, Statement};
 use spl_value::{FaultKind, Items, Value, Values};
 use std::alloc::Global;

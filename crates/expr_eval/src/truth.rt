@@ -15,7 +15,8 @@ ghost use Rattle.expr_eval.specs.Fitting.{IsFit};
 
 use crate::context::Context;
 use crate::evaluate::{DEEPEST, eval_at, is_true};
-use language_model::{Env, evaluation_law};
+use evaluation_laws::evaluation_law;
+use language_model::Env;
 use spl_tree::{BinaryCode, Code, Functions, Slot, UnaryCode};
 use spl_value::Value;
 use std::alloc::Global;

@@ -13,7 +13,8 @@ ghost use Rattle.value_operations.specs.Answers.{Answers, IsMadeAs};
 
 use crate::context::Context;
 use crate::evaluate::{DEEPEST, eval_fields, own_value};
-use language_model::{Env, evaluation_law};
+use evaluation_laws::evaluation_law;
+use language_model::Env;
 use spl_tree::{Code, Functions, Slot};
 use spl_value::Values;
 use std::alloc::Global;

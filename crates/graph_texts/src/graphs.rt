@@ -5,7 +5,7 @@
 //! | `Filter C.A(0 1) 2; Join B(2, 3) 4` | operators: kind, name, the streams of each input port, the streams that they make |
 //! | `0 1 2` | the numbers of the operators |
 //! | `1: 0 2; 0@0.1: 2 (1 from 0)` | bodies: the composite's number, the number of the body and of the invocation around it, the streams of its names, and each input's number of streams and first one |
-use language_model::rules_of;
+use operator_kinds::rules_of;
 use spl_tree::{Expansion, Graph, Op};
 use std::alloc::{AllocError, Global};
 use test_texts::text::Text;

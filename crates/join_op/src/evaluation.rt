@@ -8,8 +8,9 @@ ghost use Rattle.port_reacts.specs.Evaluation.{PassesFit};
 ghost use Rattle.join_op.specs.Fitting.{PairFits};
 ghost use Rattle.join_op.specs.steps.Giving.{MakesWhere};
 
+use evaluation_laws::evaluation_law;
 use expr_eval::eval;
-use language_model::{Env, evaluation_law};
+use language_model::Env;
 use spl_tree::{Code, Functions, Slot};
 use spl_value::{Evaluated, Values};
 use std::alloc::Global;

@@ -10,11 +10,9 @@ pub mod EvaluationLaws
 pub mod Changes
 pub mod Statements
 pub mod StatementLaws
+pub mod TurnsLaws
 pub mod Functions
 pub mod Slots
-pub mod SubmitsLaws
-pub mod TurnsLaws
-pub mod SlotsLaws
 pub mod CodeFits
 pub mod BodyFits
 pub mod FitLaws
@@ -23,7 +21,6 @@ pub mod WorldFits
 pub mod Written
 pub mod ValueLaws
 pub mod StatementTyping
-pub mod PlaceLaws
 pub mod Mentions
 pub mod Declarations
 pub mod Composites
@@ -53,6 +50,5 @@ pub mod LogicTyping
 pub mod CheckedGraph
 pub mod Checking
 pub mod Keeping
-pub mod KindLaws
 pub mod Accepted
 pub mod examples

@@ -1,5 +1,1 @@
 pub mod FlatGraphs
-pub mod TypeNames
-pub mod TwoPorts
-pub mod TwoStatements
-pub mod SomeParameters

@@ -24,7 +24,7 @@ fn are_minus(operators: &[UnaryCode]) -> bool
 
 /// Whether a code is one of literals and `-`, and of lists, maps and tuples of such.
 #[cycle(plain)]
-#[tactic(auto, using(crate::proofs::PlainLaws::plain_laws, language_model::proofs::CodeWeights::weight_laws))]
+#[tactic(auto, using(crate::proofs::PlainLaws::plain_laws, code_copies::proofs::CodeWeights::weight_laws))]
 pub(crate) fn is_plain(code: &Code<Slot>) -> bool
     ensures { result ≡ is_plain code.now }
 {

@@ -7,9 +7,11 @@ ghost use Rattle.language_model.specs.TypingLaws.{parts};
 ghost use Rattle.language_model.specs.Finds.{Finds, FindsBy};
 ghost use Rattle.name_rules.specs.Functions.{function_found};
 
+use crate::copying::copy_refusal;
+use code_copies::{Codes, boxed_copy};
 use language_model::{
-    Codes, Scope, Signature, TypeAnswer, Typed, boxed_copy, copy_refusal, function_named, mismatch,
-    narrow, unknown, unresolved_named, wrong_call,
+    Scope, Signature, TypeAnswer, Typed, function_named, mismatch, narrow, unknown,
+    unresolved_named, wrong_call,
 };
 use spl_tree::{Code, Expr, Slot};
 use spl_value::{Boxed, Items, SplType};

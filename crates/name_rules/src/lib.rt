@@ -2,6 +2,7 @@
 #![tactic(auto)]
 
 mod boxing;
+mod copying;
 mod functions;
 mod literals;
 mod making;

@@ -8,9 +8,8 @@ ghost use Rattle.language_model.specs.Finds.{Finds};
 ghost use Rattle.name_rules.specs.LiteralAnswers.{list_given, map_given, with_own};
 
 use crate::boxing::boxed;
-use language_model::{
-    Codes, EntryCodes, FieldCodes, TypeAnswer, Typed, mismatch, push_code, push_entry, push_field,
-};
+use code_copies::{Codes, EntryCodes, FieldCodes, push_code, push_entry, push_field};
+use language_model::{TypeAnswer, Typed, mismatch};
 use spl_tree::Code;
 use spl_value::{Boxed, Items, Name, Named, NoMemory, Schema, SplType, copy_schema};
 use std::alloc::{AllocError, Global};

@@ -11,10 +11,8 @@ ghost use Rattle.name_rules.specs.Takings.{Takes, member_taken, index_taken};
 
 use crate::boxing::boxed;
 use crate::wanted::{index_typed, schema_of};
-use language_model::{
-    Takings, TypeAnswer, Typed, attribute_named, boxed_copy, mismatch, narrow, push_element,
-    push_key, unknown,
-};
+use code_copies::{Takings, boxed_copy, push_element, push_key};
+use language_model::{TypeAnswer, Typed, attribute_named, mismatch, narrow, unknown};
 use spl_tree::{Code, Number, Placed, Selector, Slot};
 use spl_value::{Attribute, Boxed, Bytes, Items, Name, SplType, Value, is_of_kind};
 use std::alloc::Global;

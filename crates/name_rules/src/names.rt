@@ -8,9 +8,11 @@ ghost use Rattle.language_model.specs.Typing.{meant_typed, dollar_typed, typed};
 ghost use Rattle.language_model.specs.Finds.{Finds};
 ghost use Rattle.name_rules.specs.Names.{Holds, Means};
 
+use crate::copying::{copy_refusal, copy_typed};
+use code_copies::boxed_copy;
 use language_model::{
-    Port, Scope, TypeAnswer, Typed, Variable, attribute_named, boxed_copy, copy_refusal,
-    copy_typed, dollar_named, narrow, port_named, unknown, variable_named,
+    Port, Scope, TypeAnswer, Typed, Variable, attribute_named, dollar_named, narrow, port_named,
+    unknown, variable_named,
 };
 use spl_tree::{Code, Slot};
 use spl_value::{Attribute, Boxed, SplType, copy_schema};

@@ -11,7 +11,8 @@ ghost use Rattle.name_rules.specs.Wanted.{this_or_other, pair_copied, if_wanted,
 ghost use Rattle.name_rules.specs.LiteralAnswers.{field_for};
 ghost use Rattle.language_model.specs.TypingLaws.{field_part, field_parts};
 
-use language_model::{TypeAnswer, Typed, attribute_named, boxed_copy, mismatch, narrow};
+use code_copies::boxed_copy;
+use language_model::{TypeAnswer, Typed, attribute_named, mismatch, narrow};
 use spl_tree::{Code, Expr, Field, Slot};
 use spl_value::{Attribute, Boxed, Schema, SplType};
 use std::alloc::Global;

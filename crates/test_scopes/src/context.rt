@@ -8,10 +8,10 @@ ghost use Rattle.test_scopes.specs.Contexts.{Holds};
 use crate::reading::body_named;
 use crate::unanswered::Unanswered;
 use body_rules::{functions_of, scope_of_unit};
+use evaluation_laws::evaluation_law;
 use expr_eval::eval;
-use language_model::{
-    Env, Port, Scope, Typed, Variable, bodies_law, dollars_law, evaluation_law, typing_law,
-};
+use language_laws::{bodies_law, dollars_law, typing_law};
+use language_model::{Env, Port, Scope, Typed, Variable};
 use spl_tree::{Declaration, Expr, Functions, Marker, Stmt, StmtKind, TypeExpr, Unit};
 use spl_value::{Evaluated, Items, Name, SplType, Value};
 use std::alloc::Global;

@@ -8,7 +8,8 @@ ghost use Rattle.type_rules.specs.Places.{with_kind};
 
 use crate::rules::type_of;
 use call_rules::{may_change, not_mutable};
-use language_model::{Scope, Takings, TypeAnswer, Typed};
+use code_copies::Takings;
+use language_model::{Scope, TypeAnswer, Typed};
 use spl_tree::{Code, Expr, Place, Slot};
 use spl_value::{Boxed, Items, SplType};
 use std::alloc::Global;

@@ -14,7 +14,8 @@ use call_rules::{
     argument_row, asks, behind_first, branch_wanted, call_named, first_wanted, given, marker,
     marker_test, operation_of, prefixed, required, right_wanted, truth,
 };
-use language_model::{Codes, Scope, Signature, TypeAnswer, Typed};
+use code_copies::Codes;
+use language_model::{Scope, Signature, TypeAnswer, Typed};
 use name_rules::{
     add_code, add_field, called, chosen, dollar_typed, element_wanted, field_wanted,
     function_given, index_wanted, kind_in, kinds_in, list_given, literal, map_given, name_typed,

@@ -13,8 +13,9 @@ ghost use Rattle.window_rules.specs.Windows.{ArePartitioned};
 mod measures;
 mod rules;
 
-use language_model::{Policy, Port, TypeAnswer, WindowForm, narrow, port_named, rules_of, unknown};
+use language_model::{Policy, Port, TypeAnswer, WindowForm, narrow, port_named, unknown};
 use literal_sites::{ExpressionSite, extra};
+use operator_kinds::rules_of;
 use rules::{aggregate_rule, bad_window, is_word, join_rule};
 use spl_tree::{OpKind, Placed, PortWindow, WindowPart};
 use spl_value::Items;

@@ -15,8 +15,8 @@ ghost use Rattle.custom_logic.specs.steps.Running.{HandledAs, LeavesIdle, MayRun
 use crate::custom::Custom;
 use crate::custom::first::first_values;
 use crate::custom::running::{Handled, handler, run_handler};
-use evaluation_laws::slots_law;
-use language_model::{Checked, CheckedClauses, Env, Handlers, evaluation_law};
+use evaluation_laws::{evaluation_law, slots_law};
+use language_model::{Checked, CheckedClauses, Env, Handlers};
 use port_reacts::{CheckedOperator, OnPort, fits_law};
 use spl_tree::{Functions, Marker};
 use spl_value::{Item, Items, NoMemory, Values};

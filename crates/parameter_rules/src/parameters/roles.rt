@@ -6,7 +6,8 @@ ghost use Rattle.std.specs.Str.{bytes_eq};
 ghost use Rattle.language_model.specs.Kinds.{is_had, is_needed, parameter_seen};
 ghost use Rattle.language_model.specs.ParameterTyping.{missing, needed, needed_among, role_among, role_of};
 
-use language_model::{Given, ParameterRule, Presence, Role, rules_of};
+use language_model::{Given, ParameterRule, Presence, Role};
+use operator_kinds::rules_of;
 use spl_tree::OpKind;
 
 fn is_had(partitioned: bool, presence: Presence) -> bool

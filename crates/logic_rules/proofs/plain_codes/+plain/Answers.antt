@@ -1,5 +1,5 @@
 use Rattle.std.proofs.Common.{arith}
-use Rattle.language_model.proofs.CodeWeights.{weight, entry_weight, field_weight}
+use Rattle.code_copies.proofs.CodeWeights.{weight, entry_weight, field_weight}
 use Rattle.spl_tree.proofs.ExprWeights.{item_below}
 use Rattle.logic_rules.proofs.plain_codes.+plain.Goals as goal
 

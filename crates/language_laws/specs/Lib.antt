@@ -1,0 +1,5 @@
+pub mod Unwanted
+pub mod Places
+pub mod KindLaws
+pub mod PlaceLaws
+pub mod examples

@@ -1,0 +1,3 @@
+pub mod SomeParameters
+pub mod TwoPorts
+pub mod TypeNames

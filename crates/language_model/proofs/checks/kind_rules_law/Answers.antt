@@ -1,5 +1,0 @@
-use Rattle.language_model.proofs.KindLaws.{kind_names, kind_rows}
-use Rattle.language_model.proofs.checks.kind_rules_law.Goals as goal
-
-pub returns : goal.returns
-returns c = record { names = kind_names; rows = kind_rows }

@@ -1,5 +1,0 @@
-use Rattle.language_model.proofs.DefinedTypes.{names_law}
-use Rattle.language_model.proofs.checks.types_law.Goals as goal
-
-pub returns : goal.returns
-returns c = record { names = names_law }

@@ -1,6 +1,0 @@
-use Rattle.language_model.proofs.Calling.{never_stuck_law, statement_leads_law, body_leaves_law}
-use Rattle.language_model.proofs.Naming.{written_law, names_law}
-use Rattle.language_model.proofs.laws.evaluation_law.Goals as goal
-
-pub returns : goal.returns
-returns c = record { never_stuck = never_stuck_law; statements = statement_leads_law; bodies = body_leaves_law; written = written_law; names = names_law }

@@ -1,2 +1,0 @@
-pub mod Unwanted
-pub mod Places
