@@ -63,7 +63,7 @@ WaitLaw = (op : Operator) (i j p : ℕ) (earlier : List Event) → slice_get (po
 
 -- the inputs are numbered by port and then by place within the port: the port of an input is the number of the ports before it
 abbrev pub PortsLaw : Type 0
-PortsLaw = (op : Operator) (before stage_after : List (List ℕ)) (streams : List ℕ) (k : ℕ) → op.ins ≡ before ++ streams ∷ stage_after → k < length streams
+PortsLaw = (op : Operator) (before after : List (List ℕ)) (streams : List ℕ) (k : ℕ) → op.ins ≡ before ++ streams ∷ after → k < length streams
     → slice_get (ports op) (length (concat before) + k) ≡ Some (length before)
 
 -- more events give more
@@ -118,13 +118,13 @@ is_made ops s = list_any (λ op. makes_stream op s) ops
 
 -- no stream is made by two operators, and none is read by its maker or by an operator before it
 pub record IsOrdered (ops : List Operator) : Type 0 where
-  pub once : (before stage_after : List Operator) (op : Operator) (s : ℕ) → ops ≡ before ++ op ∷ stage_after → makes_stream op s ≡ true → is_made stage_after s ≡ false
-  pub forward : (before stage_after : List Operator) (op : Operator) (s : ℕ) → ops ≡ before ++ op ∷ stage_after → reads_stream op s ≡ true → is_made (op ∷ stage_after) s ≡ false
+  pub once : (before after : List Operator) (op : Operator) (s : ℕ) → ops ≡ before ++ op ∷ after → makes_stream op s ≡ true → is_made after s ≡ false
+  pub forward : (before after : List Operator) (op : Operator) (s : ℕ) → ops ≡ before ++ op ∷ after → reads_stream op s ≡ true → is_made (op ∷ after) s ≡ false
 
 -- in an ordered graph the stream at each port of an operator is what the operator makes of the streams of the graph
 abbrev pub GraphLaw : Type 0
-GraphLaw = (g : Graph) (rows : Lists) (entries : Entries) (before stage_after : List Operator) (op : Operator) (p s : ℕ) →
-    IsOrdered (in_topo g) → in_topo g ≡ before ++ op ∷ stage_after → position (λ o. o == s) op.outs ≡ Some p
+GraphLaw = (g : Graph) (rows : Lists) (entries : Entries) (before after : List Operator) (op : Operator) (p s : ℕ) →
+    IsOrdered (in_topo g) → in_topo g ≡ before ++ op ∷ after → position (λ o. o == s) op.outs ≡ Some p
     → (meaning g rows entries).streams s ≡ makes op p (meaning g rows entries).streams rows entries
 
 -- the number of each operator is its place in the order of declaration
@@ -138,8 +138,8 @@ EventsLaw = (g : Graph) (rows : Lists) (entries : Entries) (op : Operator) (n : 
 
 -- so they are of one that stands in the topological order
 abbrev pub TopoEventsLaw : Type 0
-TopoEventsLaw = (g : Graph) (rows : Lists) (entries : Entries) (before stage_after : List Operator) (op : Operator) →
-    IsNumbered g → in_topo g ≡ before ++ op ∷ stage_after
+TopoEventsLaw = (g : Graph) (rows : Lists) (entries : Entries) (before after : List Operator) (op : Operator) →
+    IsNumbered g → in_topo g ≡ before ++ op ∷ after
     → (meaning g rows entries).events op.number ≡ events_of op (meaning g rows entries).streams (entries op.number)
 
 -- the rows of a file end with a final marker or a fault, and nothing follows it
