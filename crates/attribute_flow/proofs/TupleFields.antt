@@ -8,7 +8,7 @@ use Rattle.std.proofs.lemmas.Bool.Decides.{nat_tests}
 use Rattle.std.proofs.lemmas.List.{length-map}
 use Rattle.spl_value.specs.declared.value.Value.{Value}
 use Rattle.language_model.specs.Evaluation.{field_at, tuple_from, tuple_of}
-use Rattle.language_model.proofs.Counting.{how_often}
+use Rattle.language_model.proofs.Counting.{how_often, without, length_without}
 use Rattle.spl_value.proofs.Results.{some_same}
 
 abbrev Fields : Type 0
@@ -50,23 +50,7 @@ has_field (suc n) i (suc k) fs us e lt =
 abbrev places : Fields → List ℕ
 places fs = map (λ f. f.0) fs
 
--- the numbers that aren't n
-without : ℕ → List ℕ → List ℕ
-without n [] = []
-without n (j ∷ js) = cond (j == n) (without n js) (j ∷ without n js)
-
-length_without : (n : ℕ) (js : List ℕ) → length js ≡ how_often n js + length (without n js)
-unfolding without
-length_without n [] = refl
-length_without n (j ∷ js) =
-    let rest : length js ≡ how_often n js + length (without n js) = length_without n js in
-    elim (j == n) as (λ b. suc (length js) ≡ cond b (1 + how_often n js) (how_often n js) + length (cond b (without n js) (j ∷ without n js))) [
-      | true ↦ omega arith
-      | false ↦ omega arith
-    ]
-
 often_without : (n i : ℕ) (js : List ℕ) → (i ≡ n → ⊥) → how_often i (without n js) ≡ how_often i js
-unfolding without
 often_without n i [] other = refl
 often_without n i (j ∷ js) other =
     let rest : how_often i (without n js) ≡ how_often i js = often_without n i js other in

@@ -16,8 +16,6 @@ use Rattle.spl_tree.specs.declared.token.Number.{Number}
 use Rattle.spl_tree.specs.declared.code.Code.{Code}
 use Rattle.spl_tree.specs.declared.code.Code.TheVariants as C
 use Rattle.spl_tree.specs.declared.code.Code.TheOpen as O
-use Rattle.spl_tree.specs.declared.code.Code.TheOpen.{Code-F}
-use Rattle.spl_tree.specs.declared.code.Code.TheViews.{out-Code}
 use Rattle.spl_tree.specs.declared.code.Code.TheFolds.{fold_out-Code, map-Code}
 use Rattle.spl_tree.specs.declared.code.Slot.{Slot}
 use Rattle.spl_tree.specs.declared.code.UnaryCode.{UnaryCode}
@@ -48,19 +46,17 @@ use Rattle.language_model.specs.Typing.{Wanted, Found, Part, Wants, Anything, Th
 use Rattle.language_model.proofs.TypingLaws as Y
 use Rattle.language_model.specs.TypingLaws.{parted, parts, entry_parts, field_parts}
 use Rattle.check_laws.proofs.Accepting.{gives_if, none_at}
+use Rattle.language_model.proofs.PlainCodes.{plain_at}
 use Rattle.language_model.proofs.FoundAnswers.{Gives, gives_after, gives_from, gives_then}
 use Rattle.spl_value.proofs.Bools.{false_true as never_so}
 
 -- ---- codes, by their parts
 
-code_level : (k : Code Slot) (x : Code-F Slot (Code Slot)) → out-Code Slot k ≡ x → is_plain k ≡ level_plain (map-Code Slot (Code Slot) Bool is_plain x)
-code_level k x e = fold_out-Code Slot Bool level_plain k ∙ ap (λ y. level_plain (map-Code Slot (Code Slot) Bool is_plain y)) e
-
 literal_code : (v : Value) → is_plain (C.Literal v) ≡ true
-literal_code v = code_level (C.Literal v) (O.Literal v) (C.outs-Literal v)
+literal_code v = plain_at (C.Literal v) (O.Literal v) (C.outs-Literal v)
 
 list_code : (xs : List (Code Slot)) → is_plain (C.List xs) ≡ list_all is_plain xs
-list_code xs = code_level (C.List xs) (O.List xs) (C.outs-List xs) ∙ along xs
+list_code xs = plain_at (C.List xs) (O.List xs) (C.outs-List xs) ∙ along xs
   where
     along : (xs : List (Code Slot)) → level_plain (map-Code Slot (Code Slot) Bool is_plain (O.List xs)) ≡ list_all is_plain xs
     along [] = refl
@@ -70,7 +66,7 @@ abbrev plain_entry : Code Slot × Code Slot → Bool
 plain_entry x = is_plain x.0 && is_plain x.1
 
 map_code : (xs : List (Code Slot × Code Slot)) → is_plain (C.Map xs) ≡ list_all plain_entry xs
-map_code xs = code_level (C.Map xs) (O.Map xs) (C.outs-Map xs) ∙ along xs
+map_code xs = plain_at (C.Map xs) (O.Map xs) (C.outs-Map xs) ∙ along xs
   where
     along : (xs : List (Code Slot × Code Slot)) → level_plain (map-Code Slot (Code Slot) Bool is_plain (O.Map xs)) ≡ list_all plain_entry xs
     along [] = refl
@@ -80,14 +76,14 @@ abbrev plain_field : ℕ × Code Slot → Bool
 plain_field f = is_plain f.1
 
 tuple_code : (fs : List (ℕ × Code Slot)) → is_plain (C.Tuple fs) ≡ list_all plain_field fs
-tuple_code fs = code_level (C.Tuple fs) (O.Tuple fs) (C.outs-Tuple fs) ∙ along fs
+tuple_code fs = plain_at (C.Tuple fs) (O.Tuple fs) (C.outs-Tuple fs) ∙ along fs
   where
     along : (fs : List (ℕ × Code Slot)) → level_plain (map-Code Slot (Code Slot) Bool is_plain (O.Tuple fs)) ≡ list_all plain_field fs
     along [] = refl
     along (f ∷ fs) = ap (λ b. is_plain f.1 && b) (along fs)
 
 unary_code : (ops : List UnaryCode) (x : Code Slot) → is_plain (C.Unary ops x) ≡ (list_all is_minus ops && is_plain x)
-unary_code ops x = code_level (C.Unary ops x) (O.Unary ops x) (C.outs-Unary ops x)
+unary_code ops x = plain_at (C.Unary ops x) (O.Unary ops x) (C.outs-Unary ops x)
 
 -- ---- expressions, by their parts
 
@@ -366,12 +362,12 @@ module _ (given : List Dollar) where
       gives_after PlainFirst (AllByRecursion PlainFirst) (state_variable types given d) _ (variable_plain types d) (λ x h.
       gives_after (AllByRecursion PlainFirst) (AllByRecursion PlainFirst) (state_typing types given ds) _ (all_plain types ds) (λ xs rest. (h, rest)))
 
-plain_at : (xs : List StateVariable) → AllByRecursion (λ x. is_plain x.first ≡ true) xs → (k : ℕ) (x : StateVariable) → slice_get xs k ≡ Some x → IsTrue (is_plain x.first)
-plain_at [] h k x e = absurd (none_at k x e)
-plain_at (y ∷ xs) h zero x e = let same : y ≡ x = cc in subst (λ (z : StateVariable). is_plain z.first ≡ true) same h.0
-plain_at (y ∷ xs) h (suc k) x e = plain_at xs h.1 k x e
+each_plain : (xs : List StateVariable) → AllByRecursion (λ x. is_plain x.first ≡ true) xs → (k : ℕ) (x : StateVariable) → slice_get xs k ≡ Some x → IsTrue (is_plain x.first)
+each_plain [] h k x e = absurd (none_at k x e)
+each_plain (y ∷ xs) h zero x e = let same : y ≡ x = cc in subst (λ (z : StateVariable). is_plain z.first ≡ true) same h.0
+each_plain (y ∷ xs) h (suc k) x e = each_plain xs h.1 k x e
 
 -- each first value of a state that is typed is such a code
 pub state_plain : (types : Types) (given : List Dollar) (ds : List Declaration) (xs : List StateVariable) → state_typing types given ds ≡ Ok xs
     → (k : ℕ) (x : StateVariable) → slice_get xs k ≡ Some x → IsTrue (is_plain x.first)
-state_plain types given ds xs found = plain_at xs (gives_from (AllByRecursion (λ x. is_plain x.first ≡ true)) (state_typing types given ds) xs (all_plain given types ds) found)
+state_plain types given ds xs found = each_plain xs (gives_from (AllByRecursion (λ x. is_plain x.first ≡ true)) (state_typing types given ds) xs (all_plain given types ds) found)

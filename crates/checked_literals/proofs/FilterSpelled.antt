@@ -14,6 +14,7 @@ use Rattle.spl_tree.specs.declared.token.TokenKind.{TokenKind}
 use Rattle.spl_tree.specs.declared.token.TokenKind.TheVariants as T
 use Rattle.spl_tree.specs.declared.unit.Parameter.{Parameter}
 use Rattle.spl_tree.specs.Grammar.{At, Expr, Primary, Spells, placed, plain, tighter, unary, operand, primary, name, literal, number, text, binary, first_item}
+use Rattle.spl_tree.proofs.UnitSpellings.{named}
 use Rattle.spl_tree.specs.Operators.{binary_of}
 use Rattle.spl_tree.specs.Phrases as R
 use Rattle.spl_tree.specs.StatementGrammar as Q
@@ -41,9 +42,6 @@ at_two e a p = tighter 1 _ _ (tighter 0 _ _ (unary _ _ (operand e a (primary e a
 
 spells : (e : Expr) (a : List Token) → At 3 e a → Spells e a
 spells e a p = plain _ _ (tighter 8 _ _ (tighter 7 _ _ (tighter 6 _ _ (tighter 5 _ _ (tighter 4 _ _ (tighter 3 _ _ p))))))
-
-named : (t : Token) (n : List ℕ) → t.kind ≡ T.Word n → Spells (placed t.start (X.Name n)) (t ∷ [])
-named t n e = spells _ _ (tighter 2 _ _ (at_two _ _ (name t n e)))
 
 text_alone : (t : Token) (bytes : List ℕ) → t.kind ≡ T.Text bytes → Spells (placed t.start (X.Text bytes)) (t ∷ [])
 text_alone t bytes e = spells _ _ (tighter 2 _ _ (at_two _ _ (literal t (X.Text bytes) (text t bytes e))))

@@ -9,11 +9,8 @@ use Rattle.connection_counts.specs.Counting.{open_from}
 
 -- ---- none is open
 
-eq_false : (a b : ℕ) → (a ≡ b → ⊥) → (a == b) ≡ false
-eq_false a b apart = ne_eqb a b apart
-
 suc_zero : (n : ℕ) → false ≡ (suc n == 0)
-suc_zero n = sym (eq_false (suc n) 0 (λ e. omega (arith, e)))
+suc_zero n = sym (ne_eqb (suc n) 0 (λ e. omega (arith, e)))
 
 -- all have ended exactly where none is open
 pub none_open : (test : ℕ → Bool) (ps : List ℕ) (i : ℕ) (h : List Event) → all_over test ps i h ≡ (open_from test ps i h == 0)
@@ -53,7 +50,7 @@ not_final test (p ∷ ps) i e h none =
 before_all : (test : ℕ → Bool) (ps : List ℕ) (i j : ℕ) (h : List Event) → j < i → open_from test ps i (came j I.Final ∷ h) ≡ open_from test ps i h
 before_all test [] i j h lt = refl
 before_all test (p ∷ ps) i j h lt =
-    let over = over_stays (came j I.Final) h i (ap (λ b. b && true) (eq_false j i (λ e. omega (arith, e, lt)))) in
+    let over = over_stays (came j I.Final) h i (ap (λ b. b && true) (ne_eqb j i (λ e. omega (arith, e, lt)))) in
     let rest = before_all test ps (suc i) j h (omega (arith, lt)) in
     same_if (suc (open_from test ps (suc i) (came j I.Final ∷ h))) (open_from test ps (suc i) (came j I.Final ∷ h)) (suc (open_from test ps (suc i) h)) (open_from test ps (suc i) h) _ _
     (ap (λ o. test p && not o) over) (ap suc rest) rest
@@ -85,7 +82,7 @@ one_fewer test (q ∷ ps) i zero p h at was =
 one_fewer test (q ∷ ps) i (suc k) p h at was =
     let there : i + suc k ≡ suc i + k = omega arith in
     let rest = one_fewer test ps (suc i) k p h at (ap (is_over h) (sym there) ∙ was) in
-    let over = over_stays (came (i + suc k) I.Final) h i (ap (λ b. b && true) (eq_false (i + suc k) i (λ e. omega (arith, e)))) in
+    let over = over_stays (came (i + suc k) I.Final) h i (ap (λ b. b && true) (ne_eqb (i + suc k) i (λ e. omega (arith, e)))) in
     let moved : open_from test ps (suc i) (came (suc i + k) I.Final ∷ h) ≡ open_from test ps (suc i) (came (i + suc k) I.Final ∷ h) =
     ap (λ j. open_from test ps (suc i) (came j I.Final ∷ h)) (sym there) in
     by (test q) (is_over h i) (is_over (came (i + suc k) I.Final ∷ h) i) over (test p) (open_from test ps (suc i) h) (open_from test ps (suc i) (came (i + suc k) I.Final ∷ h))
@@ -132,7 +129,7 @@ none_later : (ins : List (List ℕ)) (k p i : ℕ) → p < k → open_from (λ q
 none_later [] k p i lt = refl
 none_later (streams ∷ ins) k p i lt =
     of_port (λ q. q == p) k streams (ports_from (suc k) ins) i i
-    ∙ (λ j. (if eq_false k p (λ e. omega (arith, e, lt)) j then length streams else 0) + none_later ins (suc k) p i (omega (arith, lt)) j)
+    ∙ (λ j. (if ne_eqb k p (λ e. omega (arith, e, lt)) j then length streams else 0) + none_later ins (suc k) p i (omega (arith, lt)) j)
 
 pub port_open : (ins : List (List ℕ)) (k m i : ℕ) (streams : List ℕ) → slice_get ins m ≡ Some streams → open_from (λ q. q == (k + m)) (ports_from k ins) i [] ≡ length streams
 port_open [] k m i streams at = absurd cc
@@ -145,7 +142,7 @@ port_open (own ∷ ins) k zero i streams at =
 port_open (own ∷ ins) k (suc m) i streams at =
     let there : suc k + m ≡ k + suc m = omega arith in
     of_port (λ q. q == (k + suc m)) k own (ports_from (suc k) ins) i i
-    ∙ (λ j. (if eq_false k (k + suc m) (λ e. omega (arith, e)) j then length own else 0) + open_from (λ q. q == (k + suc m)) (ports_from (suc k) ins) i [])
+    ∙ (λ j. (if ne_eqb k (k + suc m) (λ e. omega (arith, e)) j then length own else 0) + open_from (λ q. q == (k + suc m)) (ports_from (suc k) ins) i [])
     ∙ (let drop : 0 + open_from (λ q. q == (k + suc m)) (ports_from (suc k) ins) i [] ≡ open_from (λ q. q == (k + suc m)) (ports_from (suc k) ins) i [] = omega arith in drop)
     ∙ ap (λ n. open_from (λ q. q == n) (ports_from (suc k) ins) i []) (sym there)
     ∙ port_open ins (suc k) m i streams at

@@ -3,10 +3,6 @@ use Rattle.std.specs.Prelude.{◌≡◌, Bool, true, false, not, ◌||◌, cond,
 use Rattle.std.proofs.Common.{refl, ap}
 use Rattle.language_model.specs.Declarations.{repeated_after}
 
-pub or_cond : (a b : Bool) → cond a true b ≡ (a || b)
-or_cond true b = refl
-or_cond false b = refl
-
 pub not_taken : (taken added : Bool) → added ≡ not taken → added ≡ true → taken ≡ false
 not_taken true added e t = cc
 not_taken false added e t = refl

@@ -59,11 +59,11 @@ each_once n js distinct below long i within =
 -- ---- numbers below n, each of them once: n numbers
 
 -- the numbers that aren't n
-abbrev without : ℕ → List ℕ → List ℕ
+abbrev pub without : ℕ → List ℕ → List ℕ
 without n [] = []
 without n (j ∷ js) = cond (j == n) (without n js) (j ∷ without n js)
 
-length_without : (n : ℕ) (js : List ℕ) → length js ≡ how_often n js + length (without n js)
+pub length_without : (n : ℕ) (js : List ℕ) → length js ≡ how_often n js + length (without n js)
 length_without n [] = refl
 length_without n (j ∷ js) =
     let rest : length js ≡ how_often n js + length (without n js) = length_without n js in

@@ -41,7 +41,7 @@ use Rattle.spl_value.proofs.Bools.{both_true}
 part_at_level : (k : ExprKind) (x : ExprKind-F ExprKind) → out-ExprKind k ≡ x → part k ≡ level_part (map-ExprKind ExprKind Part part x)
 part_at_level k x e = fold_out-ExprKind Part level_part k ∙ ap (λ y. level_part (map-ExprKind ExprKind Part part y)) e
 
-abbrev steps_of : {A : Type 0} → ExprKind-F A → List (Step (Placed A))
+abbrev pub steps_of : {A : Type 0} → ExprKind-F A → List (Step (Placed A))
 steps_of (X.Select base ss) = ss
 steps_of _ = []
 

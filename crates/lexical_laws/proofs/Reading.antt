@@ -1,7 +1,7 @@
 -- What is written as a token of a kind is that token.
 use Rattle.std.proofs.Common.{◌≡◌, ◌∙◌, ℕ, suc, ◌+◌, ◌-◌, ◌==◌, ◌||◌, Bool, true, false, List, [], ◌∷◌, ◌++◌, length, take, Option, Some, None, Ok, refl, ap, ap₂, arith, append-nil, length-append, zero-add}
 use Rattle.std.proofs.Math.Seq.{take-append_seam}
-use Rattle.std.proofs.lemmas.Bool.{and_right, eqb-true, eq-eqb}
+use Rattle.std.proofs.lemmas.Bool.{and_right, eqb-true, eq-eqb, ne_eqb}
 use Rattle.spl_value.specs.declared.types.IntKind.{IntKind}
 use Rattle.spl_value.specs.declared.types.IntKind.TheVariants.{I8}
 use Rattle.spl_value.specs.Decimal.{is_digit}
@@ -20,7 +20,6 @@ use Rattle.spl_tree.specs.Laws.{IsToken, done, token}
 use Rattle.spl_tree.proofs.CutLaws.{one_cut_law}
 use Rattle.lexical_laws.specs.Written as written
 use Rattle.lexical_laws.specs.Written.{Escapes, double_quote, single_quote, backslash, line_feed, tab, carriage_return, Means, Written, TokenLaw}
-use Rattle.lexical_laws.proofs.Texts.{unequal}
 use Rattle.spl_lexer.proofs.Escapes.{unescaped_plain}
 use Rattle.lexical_laws.proofs.Numbers.{number_token}
 use Rattle.lexical_laws.proofs.Writing.{keyword_of-word}
@@ -62,13 +61,13 @@ module _ (quote : ℕ) (feed : (quote == 10) ≡ false) (slash : (92 == quote) �
   -- the bytes of a text end at its quote
   text_ends : {inside bytes : List ℕ} → Means quote inside bytes → ends_text quote false (inside ++ quote ∷ []) ≡ true
   text_ends written.nothing = rw (feed, eq-eqb quote quote refl) refl
-  text_ends (written.plain b bs cs p d) = rw (unequal b 10 p.feed, unequal b quote p.other, unequal b 92 p.backslash) (text_ends d)
+  text_ends (written.plain b bs cs p d) = rw (ne_eqb b 10 p.feed, ne_eqb b quote p.other, ne_eqb b 92 p.backslash) (text_ends d)
   text_ends (written.escape c b bs cs e d) = rw (slash, (escape_found e).1) (text_ends d)
 
   -- and unescaping gives the bytes that they mean
   text_means : {inside bytes : List ℕ} → Means quote inside bytes → (at : ℕ) → unescaped at inside ≡ Ok bytes
   text_means written.nothing at = refl
-  text_means (written.plain b bs cs p d) at = unescaped_plain at b bs (unequal b 92 p.backslash) ∙ ap (onto b) (text_means d (at + 1))
+  text_means (written.plain b bs cs p d) at = unescaped_plain at b bs (ne_eqb b 92 p.backslash) ∙ ap (onto b) (text_means d (at + 1))
   text_means (written.escape c b bs cs e d) at = ap₂ (λ o r. onto_escape at o r) (escape_found e).0 (text_means d (at + 2))
 
 -- what stands between the quotes

@@ -7,9 +7,10 @@ use Rattle.spl_tree.specs.declared.token.LexicalError.{LexicalError}
 use Rattle.spl_tree.specs.declared.token.LexicalError.TheVariants as E
 use Rattle.spl_tree.specs.declared.token.TheConstants.{MOST_BYTES}
 use Rattle.spl_tree.specs.Tokens.{is_formed, Front, Take, Pass, Refuse, Refusal, front, Lexed, with_front, by_front, tokens_from, with_length, tokens}
-use Rattle.spl_tree.specs.Laws.{Gap, blank, line, block, IsToken}
+use Rattle.spl_tree.specs.Laws.{Gap, IsToken}
 use Rattle.spl_tree.specs.TokenLaws.{Fits}
 use Rattle.spl_tree.proofs.TokenLaws.{front_fits, tokens_step}
+use Rattle.spl_tree.proofs.CutLaws.{gap-some}
 use Rattle.spl_tree.proofs.GapLaws.{gap_front}
 use Rattle.spl_tree.proofs.FrontLaws.{Stands, front_stands, token_front-is}
 use Rattle.lexical_laws.specs.Refusals as refusals
@@ -121,12 +122,7 @@ refused_law bytes e at r = by (nat_lt MOST_BYTES (length bytes)) refl r
 
 -- ---- and what shows why is refused
 
--- a gap is not empty, nor a token, nor bytes that show why
-gap_some : {text rest : List ℕ} → Gap text rest → 0 < length text
-gap_some (blank b rest e) = omega arith
-gap_some (line inside rest all stops) = omega arith
-gap_some (block inside rest none) = omega arith
-
+-- neither a token nor what shows why is empty, as no gap is
 token_some : {kind : TokenKind} {text rest : List ℕ} → IsToken kind text rest → 0 < length text
 token_some {kind} {text} {rest} t = by text t.formed
   where
@@ -147,7 +143,7 @@ refused_at : {at place i : ℕ} {bs rest : List ℕ} {ts : List Token} {e : Lexi
     → tokens_from 0 at bs ≡ Err (e, place + i)
 refused_at (here at rest) s = tokens_step at rest (shows_some s) ∙ rw (shown_refused s) refl
 refused_at (refusals.gap at place text after rest ts g c) s =
-    let some = gap_some g in
+    let some = gap-some g in
     tokens_step at (text ++ after) (omega (arith, length-append text after))
     ∙ rw (gap_front g, drop-append_seam text after) (refused_at c s)
 refused_at (refusals.token at place kind text after rest ts t c) s =

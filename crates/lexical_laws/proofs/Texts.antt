@@ -1,7 +1,7 @@
 -- Texts that aren't closed, and backslashes that begin no escape.
 use Rattle.std.proofs.Common.{◌≡◌, ◌∙◌, ℕ, suc, ◌+◌, ◌-◌, ◌==◌, Bool, true, false, cond, List, [], ◌∷◌, ◌++◌, length, take, Option, Some, None, option_map, Result, Ok, Err, refl, sym, ap, ap₂, arith}
 use Rattle.std.proofs.Math.Seq.{take-append_seam}
-use Rattle.std.proofs.lemmas.Bool.{eqb-true, eq-eqb, false_from_ne_true, true≢false}
+use Rattle.std.proofs.lemmas.Bool.{eqb-true, eq-eqb, ne_eqb, true≢false}
 use Rattle.spl_tree.specs.Bytes.{is_quote}
 use Rattle.spl_tree.specs.declared.token.LexicalError.{LexicalError}
 use Rattle.spl_tree.specs.declared.token.LexicalError.TheVariants as E
@@ -14,27 +14,23 @@ use Rattle.lexical_laws.specs.Refusals.{IsPlain, Inside, nothing, plain, pair, I
 
 -- ---- the closing quote
 
--- a byte isn't another one, by their test
-pub unequal : (b c : ℕ) → (b ≡ c → ⊥) → (b == c) ≡ false
-unequal b c apart = false_from_ne_true (b == c) (λ e. apart (eqb-true b c e))
-
 equal_not : (b c : ℕ) → (b == c) ≡ false → b ≡ c → ⊥
 equal_not b c e same = true≢false (sym (eq-eqb b c same) ∙ e)
 
 -- a quote is no line feed and no backslash
 quote_feed : (quote : ℕ) → is_quote quote ≡ true → (quote == 10) ≡ false
-quote_feed quote h = unequal quote 10 (λ e. true≢false (sym h ∙ ap is_quote e))
+quote_feed quote h = ne_eqb quote 10 (λ e. true≢false (sym h ∙ ap is_quote e))
 
 quote_backslash : (quote : ℕ) → is_quote quote ≡ true → (92 == quote) ≡ false
-quote_backslash quote h = unequal 92 quote (λ e. true≢false (sym h ∙ ap is_quote (sym e)))
+quote_backslash quote h = ne_eqb 92 quote (λ e. true≢false (sym h ∙ ap is_quote (sym e)))
 
 module _ (quote : ℕ) (quotes : is_quote quote ≡ true) where
   -- the quote after the bytes of a text is found
   text_length-inside : {inside : List ℕ} → Inside quote inside → (after : List ℕ) → text_length quote false (inside ++ quote ∷ after) ≡ Some (suc (length inside))
   text_length-inside nothing after = rw (quote_feed quote quotes, eq-eqb quote quote refl) refl
   text_length-inside (plain b bs p d) after =
-      rw (unequal b 10 p.feed, unequal b quote p.other, unequal b 92 p.backslash, text_length-inside d after) refl
-  text_length-inside (pair c bs feed d) after = rw (quote_backslash quote quotes, unequal c 10 feed, text_length-inside d after) refl
+      rw (ne_eqb b 10 p.feed, ne_eqb b quote p.other, ne_eqb b 92 p.backslash, text_length-inside d after) refl
+  text_length-inside (pair c bs feed d) after = rw (quote_backslash quote quotes, ne_eqb c 10 feed, text_length-inside d after) refl
 
 -- bytes with a quote that closes a text of them
 pub record Closing (quote : ℕ) (bs : List ℕ) (n : ℕ) : Type 0 where
@@ -171,7 +167,7 @@ record BadAt (quote at : ℕ) (bs : List ℕ) (i : ℕ) : Type 0 where
 bad_at : {quote : ℕ} {bs : List ℕ} → Inside quote bs → (at i : ℕ) → unescaped at bs ≡ Err i → BadAt quote at bs i
 bad_at nothing at i e = absurd (cc)
 bad_at {quote} (plain b bs p d) at i e =
-    by (unescaped (at + 1) bs) (bad_at d (at + 1)) (sym (unescaped_plain at b bs (unequal b 92 p.backslash)) ∙ e)
+    by (unescaped (at + 1) bs) (bad_at d (at + 1)) (sym (unescaped_plain at b bs (ne_eqb b 92 p.backslash)) ∙ e)
   where
     by : (r : Result (List ℕ) ℕ) → ((j : ℕ) → r ≡ Err j → BadAt quote (at + 1) bs j) → onto b r ≡ Err i → BadAt quote at (b ∷ bs) i
     by (Ok cs) later e = absurd (cc)
@@ -232,7 +228,7 @@ bad_refused nothing at c more none = by (escape c) refl
     by (Some b) known = absurd (none (escape_is c b known))
 bad_refused (plain b bs p d) at c more none =
     let count : at + 1 + length bs ≡ at + suc (length bs) = omega arith in
-    unescaped_plain at b (bs ++ 92 ∷ c ∷ more) (unequal b 92 p.backslash) ∙ ap (onto b) (bad_refused d (at + 1) c more none) ∙ ap Err count
+    unescaped_plain at b (bs ++ 92 ∷ c ∷ more) (ne_eqb b 92 p.backslash) ∙ ap (onto b) (bad_refused d (at + 1) c more none) ∙ ap Err count
 bad_refused (refusals.escape x bs is d) at c more none = by (escape x) refl (bad_refused d (at + 2) c more none)
   where
     by : (o : Option ℕ) → escape x ≡ o → unescaped (at + 2) (bs ++ 92 ∷ c ∷ more) ≡ Err (at + 2 + length bs)

@@ -1,8 +1,7 @@
 -- Each token of a program is written as its kind says.
 use Rattle.std.proofs.Common.{◌≡◌, ◌∙◌, ℕ, suc, ◌+◌, ◌-◌, ◌==◌, Bool, true, false, cond, List, [], ◌∷◌, ◌++◌, length, take, drop, All, Option, Some, None, Result, Ok, Err, refl, sym, ap, ap₂, subst₂, true≢false, arith, append-nil, length-append}
-use Rattle.std.proofs.Math.Seq.{take-append_seam, drop-append_seam}
-use Rattle.std.proofs.lemmas.Bool.{and_parts, eqb-true}
-use Rattle.std.proofs.lemmas.List.{drop-drop}
+use Rattle.std.proofs.Math.Seq.{take-append_seam}
+use Rattle.std.proofs.lemmas.Bool.{and_parts, eqb-true, ne_eqb}
 use Rattle.std.proofs.lemmas.List.Elements.{All-nil, All-cons}
 use Rattle.std.proofs.lemmas.Slice.Eq.{bytes_eq-Decides}
 use Rattle.std.specs.List.{list_all}
@@ -19,14 +18,14 @@ use Rattle.spl_tree.specs.Words.{symbol_of, keyword_word, keyword_of}
 use Rattle.spl_tree.specs.Tokens.{is_word, word_kind, is_formed, kind_of, ends_text, escape, onto, onto_escape, unescaped, between_quotes, text_kind, symbol_kind}
 use Rattle.spl_tree.specs.Laws.{Cut, done, gap, token, own_bytes}
 use Rattle.spl_tree.proofs.WordLaws.{keywords_law}
-use Rattle.spl_tree.proofs.CutLaws.{cut_law}
+use Rattle.spl_tree.proofs.CutLaws.{cut_law, behind}
 use Rattle.spl_lexer.specs.steps.Scanning.{text_length}
 use Rattle.spl_lexer.proofs.Reach.{is_length, ends_text-take}
 use Rattle.lexical_laws.specs.Refusals as refusals
 use Rattle.lexical_laws.specs.Refusals.{Inside}
 use Rattle.lexical_laws.specs.Written as written
 use Rattle.lexical_laws.specs.Written.{Escapes, double_quote, single_quote, backslash, line_feed, tab, carriage_return, Means, Written, WrittenLaw}
-use Rattle.lexical_laws.proofs.Texts.{unequal, closing}
+use Rattle.lexical_laws.proofs.Texts.{closing}
 use Rattle.spl_lexer.proofs.Escapes.{unescaped_plain}
 use Rattle.lexical_laws.proofs.Numbers.{numbered}
 use Rattle.lexical_laws.proofs.Symbols.{find_passes, symbol_of-text}
@@ -67,7 +66,7 @@ escapes c b e = by (c == 34) refl (c == 39) refl (c == 92) refl (c == 110) refl 
 means : {quote : ℕ} {bs : List ℕ} → Inside quote bs → (at : ℕ) (cs : List ℕ) → unescaped at bs ≡ Ok cs → Means quote bs cs
 means refusals.nothing at cs e = let none : [] ≡ cs = cc in rw (← none) written.nothing
 means {quote} (refusals.plain b bs p d) at cs e =
-    by (unescaped (at + 1) bs) (means d (at + 1)) (sym (unescaped_plain at b bs (unequal b 92 p.backslash)) ∙ e)
+    by (unescaped (at + 1) bs) (means d (at + 1)) (sym (unescaped_plain at b bs (ne_eqb b 92 p.backslash)) ∙ e)
   where
     by : (r : Result (List ℕ) ℕ) → ((ds : List ℕ) → r ≡ Ok ds → Means quote bs ds) → onto b r ≡ Ok cs → Means quote (b ∷ bs) cs
     by (Err j) later e = absurd (cc)
@@ -133,19 +132,15 @@ token_written (b ∷ bs) kind formed is = by (is_letter b) refl (is_digit b) ref
     by false l false d false c true q formed is = text_written b bs kind q (rw (l, d, c, q) at formed) (rw (l, d, c, q) at is)
     by false l false d false c false q formed is = symbol (symbol_of (b ∷ bs)) refl (rw (l, d, c, q) at is)
 
--- what stands after a text
-later : (at : ℕ) (text rest bytes : List ℕ) → text ++ rest ≡ drop at bytes → rest ≡ drop (at + length text) bytes
-later at text rest bytes here = sym (drop-append_seam text rest) ∙ ap (drop (length text)) here ∙ drop-drop (length text) at bytes
-
 -- each token of bytes that stand at a place is written there
 written_from : {at : ℕ} {bs : List ℕ} {ts : List Token} → Cut at bs ts → (bytes : List ℕ) → bs ≡ drop at bytes → All (λ t. Written t.kind (own_bytes bytes t)) ts
 written_from (done at) bytes here = All-nil (λ t. Written t.kind (own_bytes bytes t))
-written_from (gap at text rest ts g c) bytes here = written_from c bytes (later at text rest bytes here)
+written_from (gap at text rest ts g c) bytes here = written_from c bytes (behind at text rest bytes here)
 written_from (token at kind text rest ts t c) bytes here =
     let count : at + length text - at ≡ length text = omega arith in
     All-cons (λ t. Written t.kind (own_bytes bytes t)) (record { kind = kind; start = at; end = at + length text }) ts
     (rw (count, ← here, take-append_seam text rest) (token_written text kind t.formed t.is))
-    (written_from c bytes (later at text rest bytes here))
+    (written_from c bytes (behind at text rest bytes here))
 
 -- each token of a program is written in its own bytes
 pub written_law : WrittenLaw

@@ -14,6 +14,7 @@ use Rattle.spl_tree.specs.declared.expression.ExprKind.TheFolds.{fold-ExprKind, 
 use Rattle.spl_tree.specs.Grammar.{Expr, Prefix, placed}
 use Rattle.language_model.specs.Mentions.{Mentions, At, Called, Dollar, level_mentions, expr_mentions}
 use Rattle.language_model.specs.Mentions as D
+use Rattle.language_model.proofs.TypingLaws.{steps_of}
 use Rattle.program_tables.specs.steps.MentionParts.{entry_mentions, field_mentions, step_mentions}
 
 abbrev pub mentions : ExprKind → ℕ → Mentions
@@ -59,10 +60,6 @@ of_tuple fs at = at_level (V.Tuple fs) (X.Tuple fs) at (V.outs-Tuple fs) ∙ alo
     along : (fs : List (Field Expr)) → level_mentions (map-ExprKind ExprKind At mentions (X.Tuple fs)) at ≡ flat_map field_mentions fs
     along [] = refl
     along (f ∷ fs) = ap (λ ms. field_mentions f ++ ms) (along fs)
-
-abbrev steps_of : {A : Type 0} → ExprKind-F A → List (Step (Placed A))
-steps_of (X.Select base ss) = ss
-steps_of _ = []
 
 pub of_select : (base : Expr) (ss : List (Step Expr)) (at : ℕ)
     → mentions (V.Select base ss) at ≡ expr_mentions base ++ flat_map step_mentions ss

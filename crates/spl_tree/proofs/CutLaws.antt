@@ -18,7 +18,7 @@ use Rattle.spl_tree.proofs.GapLaws.{gap_front}
 use Rattle.spl_tree.proofs.FrontLaws.{Stands, front_stands, token_front-is}
 
 -- a gap is not empty
-gap-some : {text rest : List ℕ} → Gap text rest → 0 < length text
+pub gap-some : {text rest : List ℕ} → Gap text rest → 0 < length text
 gap-some (blank b rest e) = omega arith
 gap-some (line inside rest all stops) = omega arith
 gap-some (block inside rest none) = omega arith
@@ -147,7 +147,7 @@ token_alone kind text rest short t =
     one_cut_law text (record { kind = kind; start = 0; end = length text } ∷ []) short (rw (append-nil, zero-add) at c)
 
 -- what comes after a text
-behind : (at : ℕ) (text rest bytes : List ℕ) → text ++ rest ≡ drop at bytes → rest ≡ drop (at + length text) bytes
+pub behind : (at : ℕ) (text rest bytes : List ℕ) → text ++ rest ≡ drop at bytes → rest ≡ drop (at + length text) bytes
 behind at text rest bytes here =
     sym (drop-append_seam text rest) ∙ ap (drop (length text)) here ∙ drop-drop (length text) at bytes
 

@@ -31,7 +31,7 @@ abbrev pub sign : Symbol → ℕ → Token
 sign x s = token (T.Symbol x) s (suc s)
 
 -- a name as an expression
-named : (t : Token) (n : List ℕ) → t.kind ≡ T.Word n → Spells (placed t.start (X.Name n)) (t ∷ [])
+pub named : (t : Token) (n : List ℕ) → t.kind ≡ T.Word n → Spells (placed t.start (X.Name n)) (t ∷ [])
 named t n e =
     let operand = operand (placed t.start (X.Name n)) (t ∷ []) (primary _ _ (name t n e)) in
     plain _ _ (tighter 8 _ _ (tighter 7 _ _ (tighter 6 _ _ (tighter 5 _ _ (tighter 4 _ _ (tighter 3 _ _ (tighter 2 _ _ (tighter 1 _ _ (tighter 0 _ _ (unary _ _ operand))))))))))

@@ -1,6 +1,6 @@
 -- Conjunctions and disjunctions of truth values.
 use Rattle.std.proofs.Common.{ap, arith, refl, sym, ◌∙◌, ◌≡◌, not}
-use Rattle.std.specs.Prelude.{Bool, IsTrue, false, nat_lt, true, ℕ, ◌&&◌, ◌<◌, ◌||◌, ◌↔◌}
+use Rattle.std.specs.Prelude.{Bool, IsTrue, cond, false, nat_lt, true, ℕ, ◌&&◌, ◌<◌, ◌||◌, ◌↔◌}
 
 pub and_left : (a b : Bool) → (a && b) ≡ true → a ≡ true
 and_left true b is = refl
@@ -64,3 +64,7 @@ and_not_parts false b q = absurd (let no : false ≡ true = q in cc)
 pub neither : (a b : Bool) → (a || b) ≡ false → (a ≡ false) × (b ≡ false)
 neither true b e = absurd cc
 neither false b e = (refl, e)
+
+pub or_cond : (a b : Bool) → cond a true b ≡ (a || b)
+or_cond true b = refl
+or_cond false b = refl

@@ -2,7 +2,7 @@ use Rattle.std.proofs.Common.{ap, ◌∙◌}
 use Rattle.std.specs.Prelude.{not, ◌||◌}
 use Rattle.std.specs.List.{list_any}
 use Rattle.std.specs.Str.{bytes_eq}
-use Rattle.duplicate_rules.proofs.NameRows.{or_cond}
+use Rattle.spl_value.proofs.Bools.{or_cond}
 use Rattle.duplicate_rules.proofs.declarations.names.NamesBefore.add.Goals as goal
 
 pub returns : goal.returns

@@ -1,11 +1,8 @@
-use Rattle.std.proofs.Common.{◌≡◌, Bool, true, false, refl, ◌∙◌}
-use Rattle.std.specs.Prelude.{◌==◌, ◌&&◌, ◌||◌, cond}
+use Rattle.std.proofs.Common.{◌≡◌, ◌∙◌}
+use Rattle.std.specs.Prelude.{◌==◌, ◌&&◌, ◌||◌}
+use Rattle.spl_value.proofs.Bools.{or_cond}
 use Rattle.stream_rules.specs.steps.Looked.{has_looked}
 use Rattle.stream_rules.proofs.ports.inputs.heads.Looked.add.Goals as goal
-
-or_cond : (a b : Bool) → cond a true b ≡ (a || b)
-or_cond true b = refl
-or_cond false b = refl
 
 pub returns : goal.returns
 returns c = λ l t p.
