@@ -21,14 +21,15 @@ as_types found = after found (λ t. Ok (record { result = t.result; parameters =
 
 -- where names of types mean these, the functions of a unit can be called, and nothing else can be named
 abbrev pub scope_in : Types → List Definition → Scope
-scope_in types unit = record {
-  vars = [];
-  ports = [];
-  functions = filter_map (λ f. as_signature f.name.what (function_types types f)) (functions unit);
-  unresolved = filter_map (λ f. as_unresolved f.name.what (function_types types f)) (functions unit);
-  dollars = [];
-  punct = false;
-}
+scope_in types unit =
+    record {
+      vars = [];
+      ports = [];
+      functions = filter_map (λ f. as_signature f.name.what (function_types types f)) (functions unit);
+      unresolved = filter_map (λ f. as_unresolved f.name.what (function_types types f)) (functions unit);
+      dollars = [];
+      punct = false;
+    }
 
 -- a function more can be called, or is refused where it is called
 abbrev pub with_function : Scope → List ℕ → Found Typing → Scope

@@ -273,12 +273,13 @@ abbrev pub site_of : List Definition → Graph → Tables → Body → List Port
 site_of unit g tables b ports = record { scope = operator_scope unit tables b ports; follow = followed unit g.expansions b.number }
 
 abbrev pub surroundings : List Definition → Body → Invocation → Scope → List Attributes → Surroundings
-surroundings unit b i scope outs = record {
-  types = composite_types unit b.composite;
-  scope = scope;
-  outputs = map (λ o. o.name.what) i.outputs;
-  schemas = outs;
-}
+surroundings unit b i scope outs =
+    record {
+      types = composite_types unit b.composite;
+      scope = scope;
+      outputs = map (λ o. o.name.what) i.outputs;
+      schemas = outs;
+    }
 
 -- the clauses of an operator whose types are these
 abbrev pub clauses_checked : Op → Site → Surroundings → Clauses → Found CheckedClauses

@@ -103,15 +103,16 @@ site_in p number = record { expansion = p.number; invocation = number }
 -- ---- operators
 
 abbrev pub operation : List Inlined → Opened → ℕ → Invocation → OpKind → Operation
-operation es p number i kind = record {
-  name = p.prefix ++ invocation_name i;
-  label = p.prefix ++ label_of i i.outputs;
-  kind = kind;
-  ins = ports_of es p.number i;
-  outputs = length i.outputs;
-  site = site_in p number;
-  at = i.at;
-}
+operation es p number i kind =
+    record {
+      name = p.prefix ++ invocation_name i;
+      label = p.prefix ++ label_of i i.outputs;
+      kind = kind;
+      ins = ports_of es p.number i;
+      outputs = length i.outputs;
+      site = site_in p number;
+      at = i.at;
+    }
 
 -- how many streams the ports of an operator take
 abbrev pub connections_of : Operation → ℕ
@@ -134,11 +135,12 @@ abbrev pub inlined : Opened → ℕ → At Composite → Inlined
 inlined p number c = record { composite = c; site = Some (site_in p number) }
 
 abbrev pub opened_in : Opened → ℕ → Invocation → At Composite → Made → Opened
-opened_in p number i c made = record {
-  number = length made.expansions;
-  prefix = p.prefix ++ invocation_name i ++ codes ".";
-  body = inlined p number c;
-}
+opened_in p number i c made =
+    record {
+      number = length made.expansions;
+      prefix = p.prefix ++ invocation_name i ++ codes ".";
+      body = inlined p number c;
+    }
 
 abbrev pub with_expansion : Inlined → Made → Made
 with_expansion e made = record { ops = made.ops; expansions = made.expansions ++ e ∷ [] }

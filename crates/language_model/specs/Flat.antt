@@ -25,12 +25,13 @@ abbrev pub label_at : Made → ℕ → Placed (List ℕ)
 label_at made n = option_map_or (λ op. placed op.at op.label) (slice_get made.ops n) (placed 0 [])
 
 abbrev pub graph_of : Made → List ℕ → Graph
-graph_of made topo = record {
-  ops = ops_from made 0 made.ops;
-  streams = streams_from 0 made.ops;
-  expansions = expansions_from made 0 made.expansions;
-  topo = topo;
-}
+graph_of made topo =
+    record {
+      ops = ops_from made 0 made.ops;
+      streams = streams_from 0 made.ops;
+      expansions = expansions_from made 0 made.expansions;
+      topo = topo;
+    }
 
 -- the first operator that can't be taken is refused
 abbrev pub if_all_taken : Made → List ℕ → Option ℕ → Found Graph

@@ -50,14 +50,15 @@ as_unresolved name (Err refusal) = Some (record { name = name; refusal = refusal
 
 -- where the functions of a unit can be called, and nothing else can be named
 abbrev pub unit_scope : List Definition → Scope
-unit_scope unit = record {
-  vars = [];
-  ports = [];
-  functions = filter_map (λ f. as_signature f.name.what (function_types (unit_types unit) f)) (functions unit);
-  unresolved = filter_map (λ f. as_unresolved f.name.what (function_types (unit_types unit) f)) (functions unit);
-  dollars = [];
-  punct = false;
-}
+unit_scope unit =
+    record {
+      vars = [];
+      ports = [];
+      functions = filter_map (λ f. as_signature f.name.what (function_types (unit_types unit) f)) (functions unit);
+      unresolved = filter_map (λ f. as_unresolved f.name.what (function_types (unit_types unit) f)) (functions unit);
+      dollars = [];
+      punct = false;
+    }
 
 -- ---- bodies
 

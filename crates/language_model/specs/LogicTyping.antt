@@ -156,11 +156,12 @@ handlers_on event handled port (suc count) = handler_of event port handled ∷ h
 -- ---- the clause
 
 abbrev pub handlers_made : Surroundings → List StateVariable → List Handled → Handlers
-handlers_made around state handled = record {
-  state = state;
-  on_tuple = handlers_on H.Tuple handled 0 (length around.scope.ports);
-  on_punct = handlers_on H.Punctuation handled 0 (length around.scope.ports);
-}
+handlers_made around state handled =
+    record {
+      state = state;
+      on_tuple = handlers_on H.Tuple handled 0 (length around.scope.ports);
+      on_punct = handlers_on H.Punctuation handled 0 (length around.scope.ports);
+    }
 
 -- a Custom without logic does nothing
 abbrev pub logic_typing : Surroundings → Option (Placed Logic) → Found Handlers

@@ -77,14 +77,15 @@ streams_of made xs = filter_map (stream_of (length made.expansions) made) xs
 -- ---- the parts of a graph
 
 abbrev pub op_of : Made → ℕ → Operation → Op
-op_of made n op = record {
-  name = op.name;
-  kind = op.kind;
-  ins = map (streams_of made) op.ins;
-  outs = numbers_from (first_stream made.ops n) op.outputs;
-  site = op.site;
-  at = op.at;
-}
+op_of made n op =
+    record {
+      name = op.name;
+      kind = op.kind;
+      ins = map (streams_of made) op.ins;
+      outs = numbers_from (first_stream made.ops n) op.outputs;
+      site = op.site;
+      at = op.at;
+    }
 
 abbrev pub ops_from : Made → ℕ → List Operation → List Op
 ops_from made n [] = []
@@ -107,12 +108,13 @@ abbrev pub input_streams : Made → List Source → InputStreams
 input_streams made xs = record { count = min (length xs) (2 ^ 30); first = first_or_none (streams_of made (take 1 xs)) }
 
 abbrev pub expansion_of : Made → ℕ → Inlined → Expansion
-expansion_of made number e = record {
-  composite = e.composite.place;
-  site = e.site;
-  streams = streams_of made (own_sources number e.composite.what);
-  inputs = map (λ k. input_streams made (input_sources (sources_of made.expansions) made.expansions e.site k)) (numbers_from 0 (length e.composite.what.inputs));
-}
+expansion_of made number e =
+    record {
+      composite = e.composite.place;
+      site = e.site;
+      streams = streams_of made (own_sources number e.composite.what);
+      inputs = map (λ k. input_streams made (input_sources (sources_of made.expansions) made.expansions e.site k)) (numbers_from 0 (length e.composite.what.inputs));
+    }
 
 abbrev pub expansions_from : Made → ℕ → List Inlined → List Expansion
 expansions_from made n [] = []

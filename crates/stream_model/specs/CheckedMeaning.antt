@@ -20,14 +20,15 @@ first_schema c (s ∷ streams) = schema_at c s
 
 -- the operator with this number and these clauses
 abbrev pub operator_with : CheckedGraph → ℕ → Op → CheckedClauses → Operator
-operator_with c n op part = record {
-  number = n;
-  clauses = part;
-  functions = c.functions;
-  types = record { ins = map (first_schema c) op.ins; outs = map (schema_at c) op.outs };
-  ins = op.ins;
-  outs = op.outs;
-}
+operator_with c n op part =
+    record {
+      number = n;
+      clauses = part;
+      functions = c.functions;
+      types = record { ins = map (first_schema c) op.ins; outs = map (schema_at c) op.outs };
+      ins = op.ins;
+      outs = op.outs;
+    }
 
 -- operators with their clauses, numbered from n on
 abbrev pub operators_from : CheckedGraph → ℕ → List Op → List CheckedClauses → List Operator

@@ -82,10 +82,11 @@ events_of_number g streams entries n = option_map_or (λ op. events_of op stream
 -- The meaning of a graph for the rows of each source and the arrival record of each operator with several connections,
 -- both by the operator's number.
 abbrev pub meaning : Graph → Lists → Entries → Meaning
-meaning g rows entries = record {
-  streams = streams_of (reverse (in_topo g)) rows entries;
-  events = events_of_number g (streams_of (reverse (in_topo g)) rows entries) entries;
-}
+meaning g rows entries =
+    record {
+      streams = streams_of (reverse (in_topo g)) rows entries;
+      events = events_of_number g (streams_of (reverse (in_topo g)) rows entries) entries;
+    }
 
 -- how a source reads its file, which has at most 2^40 bytes: whether a bad row is a fault
 abbrev pub setting_of : Operator → Bool → Setting

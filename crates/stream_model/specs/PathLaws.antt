@@ -49,41 +49,45 @@ written (I.Bad f ∷ items) = []
 
 -- a source of stream 0, a filter that reads it and makes stream 1, and a sink that reads that, where all streams have these attributes
 abbrev pub path_source : Attributes → List ℕ → Bool → Operator
-path_source schema file strict = record {
-  number = 0;
-  clauses = A.FileSource file strict;
-  functions = [];
-  types = record { ins = []; outs = schema ∷ [] };
-  ins = [];
-  outs = 0 ∷ [];
-}
+path_source schema file strict =
+    record {
+      number = 0;
+      clauses = A.FileSource file strict;
+      functions = [];
+      types = record { ins = []; outs = schema ∷ [] };
+      ins = [];
+      outs = 0 ∷ [];
+    }
 
 abbrev pub path_filter : Attributes → Option (Code Slot) → Operator
-path_filter schema condition = record {
-  number = 1;
-  clauses = A.Filter condition;
-  functions = [];
-  types = record { ins = schema ∷ []; outs = schema ∷ [] };
-  ins = (0 ∷ []) ∷ [];
-  outs = 1 ∷ [];
-}
+path_filter schema condition =
+    record {
+      number = 1;
+      clauses = A.Filter condition;
+      functions = [];
+      types = record { ins = schema ∷ []; outs = schema ∷ [] };
+      ins = (0 ∷ []) ∷ [];
+      outs = 1 ∷ [];
+    }
 
 abbrev pub path_sink : Attributes → List ℕ → Operator
-path_sink schema file = record {
-  number = 2;
-  clauses = A.FileSink file;
-  functions = [];
-  types = record { ins = schema ∷ []; outs = [] };
-  ins = (1 ∷ []) ∷ [];
-  outs = [];
-}
+path_sink schema file =
+    record {
+      number = 2;
+      clauses = A.FileSink file;
+      functions = [];
+      types = record { ins = schema ∷ []; outs = [] };
+      ins = (1 ∷ []) ∷ [];
+      outs = [];
+    }
 
 -- whose source has a file, and whose sink another
 abbrev pub path_graph : Attributes → List ℕ → Bool → Option (Code Slot) → List ℕ → Graph
-path_graph schema source strict condition sink = record {
-  ops = path_source schema source strict ∷ path_filter schema condition ∷ path_sink schema sink ∷ [];
-  topo = 0 ∷ 1 ∷ 2 ∷ [];
-}
+path_graph schema source strict condition sink =
+    record {
+      ops = path_source schema source strict ∷ path_filter schema condition ∷ path_sink schema sink ∷ [];
+      topo = 0 ∷ 1 ∷ 2 ∷ [];
+    }
 
 -- ---- the laws
 

@@ -18,18 +18,19 @@ numbers = record { name = codes "n"; kind = T.Int N.I64 } ∷ []
 
 -- two sources, a Union of both, and a sink
 abbrev pub two_streams : CheckedGraph
-two_streams = record {
-  graph = record {
-    ops = op_named (codes "A") O.FileSource [] (0 ∷ []) ∷ op_named (codes "B") O.FileSource [] (1 ∷ [])
-        ∷ op_named (codes "U") O.Union ((0 ∷ []) ∷ (1 ∷ []) ∷ []) (2 ∷ []) ∷ op_named (codes "Out") O.FileSink ((2 ∷ []) ∷ []) [] ∷ [];
-    streams = record { maker = 0; port = 0 } ∷ record { maker = 1; port = 0 } ∷ record { maker = 2; port = 0 } ∷ [];
-    expansions = [];
-    topo = 0 ∷ 1 ∷ 2 ∷ 3 ∷ [];
-  };
-  schemas = numbers ∷ numbers ∷ numbers ∷ [];
-  functions = [];
-  parts = P.FileSource (codes "a.csv") true ∷ P.FileSource (codes "b.csv") true ∷ P.Union ((0 ∷ []) ∷ (0 ∷ []) ∷ []) ∷ P.FileSink (codes "o.csv") ∷ [];
-}
+two_streams =
+    record {
+      graph = record {
+        ops = op_named (codes "A") O.FileSource [] (0 ∷ []) ∷ op_named (codes "B") O.FileSource [] (1 ∷ [])
+            ∷ op_named (codes "U") O.Union ((0 ∷ []) ∷ (1 ∷ []) ∷ []) (2 ∷ []) ∷ op_named (codes "Out") O.FileSink ((2 ∷ []) ∷ []) [] ∷ [];
+        streams = record { maker = 0; port = 0 } ∷ record { maker = 1; port = 0 } ∷ record { maker = 2; port = 0 } ∷ [];
+        expansions = [];
+        topo = 0 ∷ 1 ∷ 2 ∷ 3 ∷ [];
+      };
+      schemas = numbers ∷ numbers ∷ numbers ∷ [];
+      functions = [];
+      parts = P.FileSource (codes "a.csv") true ∷ P.FileSource (codes "b.csv") true ∷ P.Union ((0 ∷ []) ∷ (0 ∷ []) ∷ []) ∷ P.FileSink (codes "o.csv") ∷ [];
+    }
 
 -- a record of the inputs of the Union alone
 abbrev pub of_union : List ℕ → Arrivals

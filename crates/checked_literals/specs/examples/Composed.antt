@@ -66,25 +66,27 @@ use Rattle.checked_literals.specs.examples.Shapes.{attribute_at, call_at, field_
 -- ---- the tree
 
 abbrev pub trade : TypeDefinition
-trade = record {
-  name = name_at 5 (codes "Trade");
-  shape = placed 13 (H.Attributes (attribute_at (rstring_at 13) 21 (codes "symbol") ∷ attribute_at (int64_at 29) 35 (codes "price") ∷ []));
-}
+trade =
+    record {
+      name = name_at 5 (codes "Trade");
+      shape = placed 13 (H.Attributes (attribute_at (rstring_at 13) 21 (codes "symbol") ∷ attribute_at (int64_at 29) 35 (codes "price") ∷ []));
+    }
 
 abbrev pub twice : FunctionDefinition
-twice = record {
-  result = Some (int64_at 43);
-  name = name_at 49 (codes "twice");
-  parameters = attribute_at (int64_at 55) 61 (codes "amount") ∷ [];
-  body =
-      placed 73 (M.Declare (record {
-        mutable = false;
-        kind = int64_at 73;
-        name = name_at 79 (codes "sum");
-        value = Some (placed 85 (E.Binary B.Add (word_at 85 (codes "amount")) (word_at 94 (codes "amount"))));
-      }))
-      ∷ placed 104 (M.Return (Some (word_at 111 (codes "sum")))) ∷ [];
-}
+twice =
+    record {
+      result = Some (int64_at 43);
+      name = name_at 49 (codes "twice");
+      parameters = attribute_at (int64_at 55) 61 (codes "amount") ∷ [];
+      body =
+          placed 73 (M.Declare (record {
+            mutable = false;
+            kind = int64_at 73;
+            name = name_at 79 (codes "sum");
+            value = Some (placed 85 (E.Binary B.Add (word_at 85 (codes "amount")) (word_at 94 (codes "amount"))));
+          }))
+          ∷ placed 104 (M.Return (Some (word_at 111 (codes "sum")))) ∷ [];
+    }
 
 abbrev pub least : CompositeParameter
 least = record { kind = int64_at 181; name = name_at 188 (codes "least"); default = Some (number_at 197 N.I64 10) }
@@ -99,25 +101,27 @@ condition = placed 283 (E.Binary B.And
     (placed 301 (E.Binary B.Less (word_at 301 (codes "price")) (placed 309 (E.Dollar (codes "most"))))))
 
 abbrev pub filter : Invocation
-filter = record {
-  at = 243;
-  outputs = output_of_name 250 (codes "I") 253 (codes "O") ∷ [];
-  alias = None;
-  operator = name_at 257 (codes "Filter");
-  inputs = port_at 264 (codes "I") ∷ [];
-  clauses = with_parameters (parameter_at 275 (codes "filter") condition ∷ []);
-}
+filter =
+    record {
+      at = 243;
+      outputs = output_of_name 250 (codes "I") 253 (codes "O") ∷ [];
+      alias = None;
+      operator = name_at 257 (codes "Filter");
+      inputs = port_at 264 (codes "I") ∷ [];
+      clauses = with_parameters (parameter_at 275 (codes "filter") condition ∷ []);
+    }
 
 abbrev pub between : Composite
-between = record {
-  name = name_at 129 (codes "Between");
-  outputs = record { shape = None; name = name_at 144 (codes "O") } ∷ [];
-  inputs = record { shape = None; name = name_at 153 (codes "I") } ∷ [];
-  parameters = least ∷ most ∷ [];
-  types = [];
-  graph = filter ∷ [];
-  config = [];
-}
+between =
+    record {
+      name = name_at 129 (codes "Between");
+      outputs = record { shape = None; name = name_at 144 (codes "O") } ∷ [];
+      inputs = record { shape = None; name = name_at 153 (codes "I") } ∷ [];
+      parameters = least ∷ most ∷ [];
+      types = [];
+      graph = filter ∷ [];
+      config = [];
+    }
 
 abbrev pub sink : Invocation
 sink = sink_at 350 356 (codes "Out") 362 (port_at 371 (codes "D")) (file_parameters 382 388 (codes "o.csv") 397 405)
@@ -133,53 +137,57 @@ arguments =
     ∷ parameter_at 537 (codes "least") (number_at 544 N.I64 2) ∷ []
 
 abbrev pub first : Invocation
-first = record {
-  at = 489;
-  outputs = output_of_name 496 (codes "Trade") 503 (codes "A") ∷ [];
-  alias = None;
-  operator = name_at 507 (codes "Between");
-  inputs = port_at 515 (codes "T") ∷ [];
-  clauses = with_parameters arguments;
-}
+first =
+    record {
+      at = 489;
+      outputs = output_of_name 496 (codes "Trade") 503 (codes "A") ∷ [];
+      alias = None;
+      operator = name_at 507 (codes "Between");
+      inputs = port_at 515 (codes "T") ∷ [];
+      clauses = with_parameters arguments;
+    }
 
 -- with the default of `$least`
 abbrev pub second : Invocation
-second = record {
-  at = 554;
-  outputs = output_of_name 561 (codes "T") 564 (codes "B") ∷ [];
-  alias = None;
-  operator = name_at 568 (codes "Between");
-  inputs = record { streams = name_at 576 (codes "T") ∷ name_at 579 (codes "A") ∷ []; alias = None } ∷ [];
-  clauses = with_parameters (parameter_at 590 (codes "most") (number_at 596 N.I64 100) ∷ []);
-}
+second =
+    record {
+      at = 554;
+      outputs = output_of_name 561 (codes "T") 564 (codes "B") ∷ [];
+      alias = None;
+      operator = name_at 568 (codes "Between");
+      inputs = record { streams = name_at 576 (codes "T") ∷ name_at 579 (codes "A") ∷ []; alias = None } ∷ [];
+      clauses = with_parameters (parameter_at 590 (codes "most") (number_at 596 N.I64 100) ∷ []);
+    }
 
 -- double = twice(price)
 abbrev pub output : OutputAssignments
-output = record {
-  stream = name_at 721 (codes "D");
-  assignments = field_at 724 (codes "double") (call_at 733 (codes "twice") (word_at 739 (codes "price") ∷ [])) ∷ [];
-}
+output =
+    record {
+      stream = name_at 721 (codes "D");
+      assignments = field_at 724 (codes "double") (call_at 733 (codes "twice") (word_at 739 (codes "price") ∷ [])) ∷ [];
+    }
 
 abbrev pub functor : Invocation
-functor = record {
-  at = 608;
-  outputs =
-      output_of 615 (
-      attribute_at (int64_at 615) 621 (codes "price")
-      ∷ attribute_at (rstring_at 628) 636 (codes "symbol")
-      ∷ attribute_at (int64_at 644) 650 (codes "double") ∷ []) 658 (codes "D")
-      ∷ [];
-  alias = None;
-  operator = name_at 662 (codes "Functor");
-  inputs = port_at 670 (codes "B") ∷ [];
-  clauses = record {
-    logic = None;
-    window = None;
-    parameters = parameter_at 687 (codes "filter") (placed 695 (E.Binary B.NotEqual (word_at 695 (codes "price")) (number_at 704 N.I64 0))) ∷ [];
-    output = Some (placed 714 (output ∷ []));
-    config = [];
-  };
-}
+functor =
+    record {
+      at = 608;
+      outputs =
+          output_of 615 (
+          attribute_at (int64_at 615) 621 (codes "price")
+          ∷ attribute_at (rstring_at 628) 636 (codes "symbol")
+          ∷ attribute_at (int64_at 644) 650 (codes "double") ∷ []) 658 (codes "D")
+          ∷ [];
+      alias = None;
+      operator = name_at 662 (codes "Functor");
+      inputs = port_at 670 (codes "B") ∷ [];
+      clauses = record {
+        logic = None;
+        window = None;
+        parameters = parameter_at 687 (codes "filter") (placed 695 (E.Binary B.NotEqual (word_at 695 (codes "price")) (number_at 704 N.I64 0))) ∷ [];
+        output = Some (placed 714 (output ∷ []));
+        config = [];
+      };
+    }
 
 abbrev pub main : Composite
 main = composite_of_graph (name_at 331 (codes "Main")) (sink ∷ source ∷ first ∷ second ∷ functor ∷ [])
@@ -191,20 +199,21 @@ composed = U.Type trade ∷ U.Function twice ∷ U.Composite between ∷ U.Compo
 
 -- both filters are that of `Between`, in a body of its own each. The second one takes two streams
 abbrev pub composed_graph : Graph
-composed_graph = record {
-  ops =
-      op_at (codes "Out") O.FileSink ((3 ∷ []) ∷ []) [] 0 0 350
-      ∷ op_at (codes "T") O.FileSource [] (0 ∷ []) 0 1 416
-      ∷ op_at (codes "A.O") O.Filter ((0 ∷ []) ∷ []) (1 ∷ []) 1 0 243
-      ∷ op_at (codes "B.O") O.Filter ((0 ∷ 1 ∷ []) ∷ []) (2 ∷ []) 2 0 243
-      ∷ op_at (codes "D") O.Functor ((2 ∷ []) ∷ []) (3 ∷ []) 0 4 608 ∷ [];
-  streams = record { maker = 1; port = 0 } ∷ record { maker = 2; port = 0 } ∷ record { maker = 3; port = 0 } ∷ record { maker = 4; port = 0 } ∷ [];
-  expansions =
-      record { composite = 1; site = None; streams = 0 ∷ 1 ∷ 2 ∷ 3 ∷ []; inputs = [] }
-      ∷ record { composite = 0; site = Some (record { expansion = 0; invocation = 2 }); streams = 1 ∷ []; inputs = record { count = 1; first = 0 } ∷ [] }
-      ∷ record { composite = 0; site = Some (record { expansion = 0; invocation = 3 }); streams = 2 ∷ []; inputs = record { count = 2; first = 0 } ∷ [] } ∷ [];
-  topo = 1 ∷ 2 ∷ 3 ∷ 4 ∷ 0 ∷ [];
-}
+composed_graph =
+    record {
+      ops =
+          op_at (codes "Out") O.FileSink ((3 ∷ []) ∷ []) [] 0 0 350
+          ∷ op_at (codes "T") O.FileSource [] (0 ∷ []) 0 1 416
+          ∷ op_at (codes "A.O") O.Filter ((0 ∷ []) ∷ []) (1 ∷ []) 1 0 243
+          ∷ op_at (codes "B.O") O.Filter ((0 ∷ 1 ∷ []) ∷ []) (2 ∷ []) 2 0 243
+          ∷ op_at (codes "D") O.Functor ((2 ∷ []) ∷ []) (3 ∷ []) 0 4 608 ∷ [];
+      streams = record { maker = 1; port = 0 } ∷ record { maker = 2; port = 0 } ∷ record { maker = 3; port = 0 } ∷ record { maker = 4; port = 0 } ∷ [];
+      expansions =
+          record { composite = 1; site = None; streams = 0 ∷ 1 ∷ 2 ∷ 3 ∷ []; inputs = [] }
+          ∷ record { composite = 0; site = Some (record { expansion = 0; invocation = 2 }); streams = 1 ∷ []; inputs = record { count = 1; first = 0 } ∷ [] }
+          ∷ record { composite = 0; site = Some (record { expansion = 0; invocation = 3 }); streams = 2 ∷ []; inputs = record { count = 2; first = 0 } ∷ [] } ∷ [];
+      topo = 1 ∷ 2 ∷ 3 ∷ 4 ∷ 0 ∷ [];
+    }
 
 -- ---- the checked graph
 
@@ -219,13 +228,14 @@ doubles =
 
 -- the variables are the parameter and `sum`
 abbrev pub twice_checked : Function
-twice_checked = record {
-  parameters = S.Int N.I64 ∷ [];
-  result = Some (S.Int N.I64);
-  body =
-      T.Declare (C.Binary (D.Integers Add N.I64) (variable 0) (variable 0))
-      ∷ T.Return (Some (variable 1)) ∷ [];
-}
+twice_checked =
+    record {
+      parameters = S.Int N.I64 ∷ [];
+      result = Some (S.Int N.I64);
+      body =
+          T.Declare (C.Binary (D.Integers Add N.I64) (variable 0) (variable 0))
+          ∷ T.Return (Some (variable 1)) ∷ [];
+    }
 
 -- the attributes of a trade
 abbrev pub symbol : Code Slot
@@ -244,14 +254,15 @@ doubled = C.Tuple ((2, C.Call 0 (price ∷ [])) ∷ (0, price) ∷ (1, symbol) �
 
 -- the first filter has the arguments of its invocation, and the second one the default of `$least`
 abbrev pub composed_checked : CheckedGraph
-composed_checked = record {
-  graph = composed_graph;
-  schemas = trades ∷ trades ∷ trades ∷ doubles ∷ [];
-  functions = twice_checked ∷ [];
-  parts =
-      A.FileSink (codes "o.csv")
-      ∷ A.FileSource (codes "t.csv") true
-      ∷ A.Filter (Some (is_between (number 2) (C.Unary (R.Negate N.I64 ∷ []) (number 5))))
-      ∷ A.Filter (Some (is_between (number 10) (number 100)))
-      ∷ A.Functor (Some (C.Binary D.NotEqual price (number 0))) doubled ∷ [];
-}
+composed_checked =
+    record {
+      graph = composed_graph;
+      schemas = trades ∷ trades ∷ trades ∷ doubles ∷ [];
+      functions = twice_checked ∷ [];
+      parts =
+          A.FileSink (codes "o.csv")
+          ∷ A.FileSource (codes "t.csv") true
+          ∷ A.Filter (Some (is_between (number 2) (C.Unary (R.Negate N.I64 ∷ []) (number 5))))
+          ∷ A.Filter (Some (is_between (number 10) (number 100)))
+          ∷ A.Functor (Some (C.Binary D.NotEqual price (number 0))) doubled ∷ [];
+    }

@@ -59,12 +59,13 @@ seen = record { mutable = true; kind = int64_at 218; name = name_at 224 (codes "
 
 -- int64 now = sum + price;
 abbrev pub declares : Stmt
-declares = placed 263 (M.Declare (record {
-  mutable = false;
-  kind = int64_at 263;
-  name = name_at 269 (codes "now");
-  value = Some (placed 275 (E.Binary B.Add (word_at 275 (codes "sum")) (word_at 281 (codes "price"))));
-}))
+declares =
+    placed 263 (M.Declare (record {
+      mutable = false;
+      kind = int64_at 263;
+      name = name_at 269 (codes "now");
+      value = Some (placed 275 (E.Binary B.Add (word_at 275 (codes "sum")) (word_at 281 (codes "price"))));
+    }))
 
 -- sum = now;
 abbrev pub assigns : Stmt
@@ -90,16 +91,17 @@ abbrev pub logic : Logic
 logic = record { state = sum ∷ seen ∷ []; handlers = placed 240 handler ∷ [] }
 
 abbrev pub custom : Invocation
-custom = record {
-  at = 108;
-  outputs =
-      output_of 115 (attribute_at (int64_at 115) 121 (codes "count") ∷ attribute_at (int64_at 128) 134 (codes "total") ∷ []) 141 (codes "C")
-      ∷ [];
-  alias = None;
-  operator = name_at 145 (codes "Custom");
-  inputs = port_at 152 (codes "T") ∷ [];
-  clauses = record { logic = Some (placed 163 logic); window = None; parameters = []; output = None; config = [] };
-}
+custom =
+    record {
+      at = 108;
+      outputs =
+          output_of 115 (attribute_at (int64_at 115) 121 (codes "count") ∷ attribute_at (int64_at 128) 134 (codes "total") ∷ []) 141 (codes "C")
+          ∷ [];
+      alias = None;
+      operator = name_at 145 (codes "Custom");
+      inputs = port_at 152 (codes "T") ∷ [];
+      clauses = record { logic = Some (placed 163 logic); window = None; parameters = []; output = None; config = [] };
+    }
 
 abbrev pub sink : Invocation
 sink = sink_at 401 407 (codes "Out") 413 (port_at 422 (codes "C")) (file_parameters 433 439 (codes "o.csv") 448 456)
@@ -110,15 +112,16 @@ counted = U.Composite (composite_of_graph (name_at 10 (codes "Main")) (source �
 -- ---- the graph
 
 abbrev pub counted_graph : Graph
-counted_graph = record {
-  ops =
-      op_at (codes "T") O.FileSource [] (0 ∷ []) 0 0 29
-      ∷ op_at (codes "C") O.Custom ((0 ∷ []) ∷ []) (1 ∷ []) 0 1 108
-      ∷ op_at (codes "Out") O.FileSink ((1 ∷ []) ∷ []) [] 0 2 401 ∷ [];
-  streams = record { maker = 0; port = 0 } ∷ record { maker = 1; port = 0 } ∷ [];
-  expansions = record { composite = 0; site = None; streams = 0 ∷ 1 ∷ []; inputs = [] } ∷ [];
-  topo = 0 ∷ 1 ∷ 2 ∷ [];
-}
+counted_graph =
+    record {
+      ops =
+          op_at (codes "T") O.FileSource [] (0 ∷ []) 0 0 29
+          ∷ op_at (codes "C") O.Custom ((0 ∷ []) ∷ []) (1 ∷ []) 0 1 108
+          ∷ op_at (codes "Out") O.FileSink ((1 ∷ []) ∷ []) [] 0 2 401 ∷ [];
+      streams = record { maker = 0; port = 0 } ∷ record { maker = 1; port = 0 } ∷ [];
+      expansions = record { composite = 0; site = None; streams = 0 ∷ 1 ∷ []; inputs = [] } ∷ [];
+      topo = 0 ∷ 1 ∷ 2 ∷ [];
+    }
 
 -- ---- the checked graph
 
@@ -143,9 +146,10 @@ abbrev pub handlers : Handlers
 handlers = record { state = state; on_tuple = Some body ∷ []; on_punct = None ∷ [] }
 
 abbrev pub counted_checked : CheckedGraph
-counted_checked = record {
-  graph = counted_graph;
-  schemas = prices ∷ totals ∷ [];
-  functions = [];
-  parts = A.FileSource (codes "t.csv") true ∷ A.Custom handlers ∷ A.FileSink (codes "o.csv") ∷ [];
-}
+counted_checked =
+    record {
+      graph = counted_graph;
+      schemas = prices ∷ totals ∷ [];
+      functions = [];
+      parts = A.FileSource (codes "t.csv") true ∷ A.Custom handlers ∷ A.FileSink (codes "o.csv") ∷ [];
+    }

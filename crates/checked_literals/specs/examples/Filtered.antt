@@ -51,14 +51,15 @@ abbrev pub condition : Expr
 condition = placed 158 (E.Binary B.Greater (placed 158 (E.Name (codes "price"))) (number_at 166 N.I64 10))
 
 abbrev pub filter : Invocation
-filter = record {
-  at = 108;
-  outputs = output_of 115 (attribute_at (int64_at 115) 121 (codes "price") ∷ []) 128 (codes "B") ∷ [];
-  alias = None;
-  operator = name_at 132 (codes "Filter");
-  inputs = port_at 139 (codes "T") ∷ [];
-  clauses = with_parameters (record { name = name_at 150 (codes "filter"); values = condition ∷ [] } ∷ []);
-}
+filter =
+    record {
+      at = 108;
+      outputs = output_of 115 (attribute_at (int64_at 115) 121 (codes "price") ∷ []) 128 (codes "B") ∷ [];
+      alias = None;
+      operator = name_at 132 (codes "Filter");
+      inputs = port_at 139 (codes "T") ∷ [];
+      clauses = with_parameters (record { name = name_at 150 (codes "filter"); values = condition ∷ [] } ∷ []);
+    }
 
 abbrev pub sink : Invocation
 sink = sink_at 177 183 (codes "Out") 189 (port_at 198 (codes "B")) (file_parameters 209 215 (codes "o.csv") 224 232)
@@ -69,15 +70,16 @@ filtered = U.Composite (composite_of_graph (name_at 10 (codes "Main")) (source �
 -- ---- the graph
 
 abbrev pub filtered_graph : Graph
-filtered_graph = record {
-  ops =
-      op_at (codes "T") O.FileSource [] (0 ∷ []) 0 0 29
-      ∷ op_at (codes "B") O.Filter ((0 ∷ []) ∷ []) (1 ∷ []) 0 1 108
-      ∷ op_at (codes "Out") O.FileSink ((1 ∷ []) ∷ []) [] 0 2 177 ∷ [];
-  streams = record { maker = 0; port = 0 } ∷ record { maker = 1; port = 0 } ∷ [];
-  expansions = record { composite = 0; site = None; streams = 0 ∷ 1 ∷ []; inputs = [] } ∷ [];
-  topo = 0 ∷ 1 ∷ 2 ∷ [];
-}
+filtered_graph =
+    record {
+      ops =
+          op_at (codes "T") O.FileSource [] (0 ∷ []) 0 0 29
+          ∷ op_at (codes "B") O.Filter ((0 ∷ []) ∷ []) (1 ∷ []) 0 1 108
+          ∷ op_at (codes "Out") O.FileSink ((1 ∷ []) ∷ []) [] 0 2 177 ∷ [];
+      streams = record { maker = 0; port = 0 } ∷ record { maker = 1; port = 0 } ∷ [];
+      expansions = record { composite = 0; site = None; streams = 0 ∷ 1 ∷ []; inputs = [] } ∷ [];
+      topo = 0 ∷ 1 ∷ 2 ∷ [];
+    }
 
 -- ---- the checked graph
 
@@ -89,9 +91,10 @@ abbrev pub is_above : Code Slot
 is_above = C.Binary (D.Order Greater) (attribute 0) (number 10)
 
 abbrev pub filtered_checked : CheckedGraph
-filtered_checked = record {
-  graph = filtered_graph;
-  schemas = prices ∷ prices ∷ [];
-  functions = [];
-  parts = A.FileSource (codes "t.csv") true ∷ A.Filter (Some is_above) ∷ A.FileSink (codes "o.csv") ∷ [];
-}
+filtered_checked =
+    record {
+      graph = filtered_graph;
+      schemas = prices ∷ prices ∷ [];
+      functions = [];
+      parts = A.FileSource (codes "t.csv") true ∷ A.Filter (Some is_above) ∷ A.FileSink (codes "o.csv") ∷ [];
+    }

@@ -55,19 +55,21 @@ left_source = source_at 95 (output_of 102 (
 
 -- U: sliding, count(0)
 abbrev pub right_window : PortWindow
-right_window = record {
-  port = name_at 307 (codes "U");
-  parts = window_word_at 310 (codes "sliding") ∷ window_at 319 (codes "count") (number_at 325 N.I32 0 ∷ []) ∷ [];
-}
+right_window =
+    record {
+      port = name_at 307 (codes "U");
+      parts = window_word_at 310 (codes "sliding") ∷ window_at 319 (codes "count") (number_at 325 N.I32 0 ∷ []) ∷ [];
+    }
 
 -- Trade: sliding, delta(second, 60l)
 abbrev pub left_window : PortWindow
-left_window = record {
-  port = name_at 329 (codes "Trade");
-  parts =
-      window_word_at 336 (codes "sliding")
-      ∷ window_at 345 (codes "delta") (word_at 351 (codes "second") ∷ number_at 359 N.I64 60 ∷ []) ∷ [];
-}
+left_window =
+    record {
+      port = name_at 329 (codes "Trade");
+      parts =
+          window_word_at 336 (codes "sliding")
+          ∷ window_at 345 (codes "delta") (word_at 351 (codes "second") ∷ number_at 359 N.I64 60 ∷ []) ∷ [];
+    }
 
 -- Trade.symbol == U.symbol && price <= limit
 abbrev pub condition : Expr
@@ -77,36 +79,38 @@ condition = placed 384 (E.Binary B.And
 
 -- worth = price * amount, symbol = U.symbol
 abbrev pub output : OutputAssignments
-output = record {
-  stream = name_at 441 (codes "J");
-  assignments =
-      field_at 444 (codes "worth") (placed 452 (E.Binary B.Multiply (word_at 452 (codes "price")) (word_at 460 (codes "amount"))))
-      ∷ field_at 468 (codes "symbol") (member_at 477 (codes "U") 479 (codes "symbol")) ∷ [];
-}
+output =
+    record {
+      stream = name_at 441 (codes "J");
+      assignments =
+          field_at 444 (codes "worth") (placed 452 (E.Binary B.Multiply (word_at 452 (codes "price")) (word_at 460 (codes "amount"))))
+          ∷ field_at 468 (codes "symbol") (member_at 477 (codes "U") 479 (codes "symbol")) ∷ [];
+    }
 
 abbrev pub join : Invocation
-join = record {
-  at = 204;
-  outputs =
-      output_of 211 (
-      attribute_at (int64_at 211) 217 (codes "worth")
-      ∷ attribute_at (int64_at 224) 230 (codes "second")
-      ∷ attribute_at (rstring_at 238) 246 (codes "symbol")
-      ∷ attribute_at (int64_at 254) 260 (codes "amount") ∷ []) 268 (codes "J")
-      ∷ [];
-  alias = None;
-  operator = name_at 272 (codes "Join");
-  inputs =
-      record { streams = name_at 277 (codes "T") ∷ []; alias = Some (name_at 282 (codes "Trade")) }
-      ∷ port_at 289 (codes "U") ∷ [];
-  clauses = record {
-    logic = None;
-    window = Some (placed 300 (right_window ∷ left_window ∷ []));
-    parameters = parameter_at 377 (codes "match") condition ∷ [];
-    output = Some (placed 434 (output ∷ []));
-    config = [];
-  };
-}
+join =
+    record {
+      at = 204;
+      outputs =
+          output_of 211 (
+          attribute_at (int64_at 211) 217 (codes "worth")
+          ∷ attribute_at (int64_at 224) 230 (codes "second")
+          ∷ attribute_at (rstring_at 238) 246 (codes "symbol")
+          ∷ attribute_at (int64_at 254) 260 (codes "amount") ∷ []) 268 (codes "J")
+          ∷ [];
+      alias = None;
+      operator = name_at 272 (codes "Join");
+      inputs =
+          record { streams = name_at 277 (codes "T") ∷ []; alias = Some (name_at 282 (codes "Trade")) }
+          ∷ port_at 289 (codes "U") ∷ [];
+      clauses = record {
+        logic = None;
+        window = Some (placed 300 (right_window ∷ left_window ∷ []));
+        parameters = parameter_at 377 (codes "match") condition ∷ [];
+        output = Some (placed 434 (output ∷ []));
+        config = [];
+      };
+    }
 
 abbrev pub right_source : Invocation
 right_source = source_at 497 (output_of 504 (
@@ -123,16 +127,17 @@ joined = U.Composite (composite_of_graph (name_at 10 (codes "Main")) (sink ∷ l
 
 -- the sink reads the Join's stream, and that the streams of both sources, of which the second stands after it
 abbrev pub joined_graph : Graph
-joined_graph = record {
-  ops =
-      op_at (codes "Out") O.FileSink ((1 ∷ []) ∷ []) [] 0 0 29
-      ∷ op_at (codes "T") O.FileSource [] (0 ∷ []) 0 1 95
-      ∷ op_at (codes "J") O.Join ((0 ∷ []) ∷ (2 ∷ []) ∷ []) (1 ∷ []) 0 2 204
-      ∷ op_at (codes "U") O.FileSource [] (2 ∷ []) 0 3 497 ∷ [];
-  streams = record { maker = 1; port = 0 } ∷ record { maker = 2; port = 0 } ∷ record { maker = 3; port = 0 } ∷ [];
-  expansions = record { composite = 0; site = None; streams = 0 ∷ 1 ∷ 2 ∷ []; inputs = [] } ∷ [];
-  topo = 1 ∷ 3 ∷ 2 ∷ 0 ∷ [];
-}
+joined_graph =
+    record {
+      ops =
+          op_at (codes "Out") O.FileSink ((1 ∷ []) ∷ []) [] 0 0 29
+          ∷ op_at (codes "T") O.FileSource [] (0 ∷ []) 0 1 95
+          ∷ op_at (codes "J") O.Join ((0 ∷ []) ∷ (2 ∷ []) ∷ []) (1 ∷ []) 0 2 204
+          ∷ op_at (codes "U") O.FileSource [] (2 ∷ []) 0 3 497 ∷ [];
+      streams = record { maker = 1; port = 0 } ∷ record { maker = 2; port = 0 } ∷ record { maker = 3; port = 0 } ∷ [];
+      expansions = record { composite = 0; site = None; streams = 0 ∷ 1 ∷ 2 ∷ []; inputs = [] } ∷ [];
+      topo = 1 ∷ 3 ∷ 2 ∷ 0 ∷ [];
+    }
 
 -- ---- the checked graph
 
@@ -178,13 +183,14 @@ pair = C.Tuple ((0, C.Binary (D.Integers Multiply N.I64) (of_trade 2) (of_order 
 
 -- parsing is strict where nothing else is said
 abbrev pub joined_checked : CheckedGraph
-joined_checked = record {
-  graph = joined_graph;
-  schemas = trades ∷ pairs ∷ orders ∷ [];
-  functions = [];
-  parts =
-      A.FileSink (codes "o.csv")
-      ∷ A.FileSource (codes "t.csv") true
-      ∷ A.Join last_minute nothing_kept (Some matches) pair
-      ∷ A.FileSource (codes "u.csv") false ∷ [];
-}
+joined_checked =
+    record {
+      graph = joined_graph;
+      schemas = trades ∷ pairs ∷ orders ∷ [];
+      functions = [];
+      parts =
+          A.FileSink (codes "o.csv")
+          ∷ A.FileSource (codes "t.csv") true
+          ∷ A.Join last_minute nothing_kept (Some matches) pair
+          ∷ A.FileSource (codes "u.csv") false ∷ [];
+    }

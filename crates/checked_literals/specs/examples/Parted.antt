@@ -77,46 +77,50 @@ right_source = source_at 118 (output_of 125 (
     (file_parameters 187 193 (codes "u.csv") 202 210)
 
 abbrev pub punctor : Invocation
-punctor = record {
-  at = 221;
-  outputs = output_of_name 228 (codes "T") 231 (codes "P") ∷ [];
-  alias = None;
-  operator = name_at 235 (codes "Punctor");
-  inputs = port_at 243 (codes "T") ∷ [];
-  clauses = with_parameters (
-      parameter_at 254 (codes "position") (word_at 264 (codes "after"))
-      ∷ parameter_at 271 (codes "punctuation") (word_at 284 (codes "last")) ∷ []);
-}
+punctor =
+    record {
+      at = 221;
+      outputs = output_of_name 228 (codes "T") 231 (codes "P") ∷ [];
+      alias = None;
+      operator = name_at 235 (codes "Punctor");
+      inputs = port_at 243 (codes "T") ∷ [];
+      clauses = with_parameters (
+          parameter_at 254 (codes "position") (word_at 264 (codes "after"))
+          ∷ parameter_at 271 (codes "punctuation") (word_at 284 (codes "last")) ∷ []);
+    }
 
 abbrev pub split : Invocation
-split = record {
-  at = 296;
-  outputs = output_of_name 304 (codes "P") 307 (codes "X") ∷ output_of_name 317 (codes "T") 320 (codes "Y") ∷ [];
-  alias = Some (name_at 326 (codes "Parts"));
-  operator = name_at 334 (codes "Split");
-  inputs = port_at 340 (codes "P") ∷ [];
-  clauses = with_parameters (parameter_at 351 (codes "index") (placed 358 (E.Binary B.Remainder (word_at 358 (codes "n")) (number_at 362 N.I32 2))) ∷ []);
-}
+split =
+    record {
+      at = 296;
+      outputs = output_of_name 304 (codes "P") 307 (codes "X") ∷ output_of_name 317 (codes "T") 320 (codes "Y") ∷ [];
+      alias = Some (name_at 326 (codes "Parts"));
+      operator = name_at 334 (codes "Split");
+      inputs = port_at 340 (codes "P") ∷ [];
+      clauses = with_parameters (parameter_at 351 (codes "index") (placed 358 (E.Binary B.Remainder (word_at 358 (codes "n")) (number_at 362 N.I32 2))) ∷ []);
+    }
 
 abbrev pub union : Invocation
-union = record {
-  at = 371;
-  outputs =
-      output_of 378 (attribute_at (int32_at 378) 384 (codes "n") ∷ attribute_at (boolean_at 387) 395 (codes "last") ∷ []) 401 (codes "V") ∷ [];
-  alias = None;
-  operator = name_at 405 (codes "Union");
-  inputs = record { streams = name_at 411 (codes "X") ∷ name_at 414 (codes "Y") ∷ []; alias = None } ∷ port_at 417 (codes "U") ∷ [];
-  clauses = with_parameters [];
-}
+union =
+    record {
+      at = 371;
+      outputs =
+          output_of 378 (attribute_at (int32_at 378) 384 (codes "n") ∷ attribute_at (boolean_at 387) 395 (codes "last") ∷ []) 401 (codes "V") ∷ [];
+      alias = None;
+      operator = name_at 405 (codes "Union");
+      inputs = record { streams = name_at 411 (codes "X") ∷ name_at 414 (codes "Y") ∷ []; alias = None } ∷ port_at 417 (codes "U") ∷ [];
+      clauses = with_parameters [];
+    }
 
 -- mutable list<int32> seen = [-1, 7];
 abbrev pub seen : Declaration
-seen = record {
-  mutable = true;
-  kind = placed 526 (Y.List (int32_at 531));
-  name = name_at 538 (codes "seen");
-  value = Some (placed 545 (E.List (placed 546 (E.Unary (placed 546 P.Negate ∷ []) (number_at 547 N.I32 1)) ∷ number_at 550 N.I32 7 ∷ [])));
-}
+seen =
+    record {
+      mutable = true;
+      kind = placed 526 (Y.List (int32_at 531));
+      name = name_at 538 (codes "seen");
+      value = Some (placed 545 (E.List (placed 546 (E.Unary (placed 546 P.Negate ∷ []) (number_at 547 N.I32 1)) ∷ number_at 550 N.I32 7 ∷ [])));
+    }
 
 -- mutable int32 n = 3;
 abbrev pub count : Declaration
@@ -124,12 +128,13 @@ count = record { mutable = true; kind = int32_at 562; name = name_at 568 (codes 
 
 -- int32 seen = Other.n;
 abbrev pub declares : Stmt
-declares = placed 612 (M.Declare (record {
-  mutable = false;
-  kind = int32_at 612;
-  name = name_at 618 (codes "seen");
-  value = Some (member_at 625 (codes "Other") 631 (codes "n"));
-}))
+declares =
+    placed 612 (M.Declare (record {
+      mutable = false;
+      kind = int32_at 612;
+      name = name_at 618 (codes "seen");
+      value = Some (member_at 625 (codes "Other") 631 (codes "n"));
+    }))
 
 -- last && n > 0
 abbrev pub is_last : Expr
@@ -145,50 +150,55 @@ otherwise = placed 696 (M.Block (
     (name_at 742 (codes "K"))) ∷ []))
 
 abbrev pub on_other : Handler
-on_other = record {
-  event = W.Tuple;
-  port = name_at 593 (codes "Other");
-  body =
-      declares
-      ∷ placed 644 (M.If ((is_last, placed 663 (M.Submit (word_at 670 (codes "Other")) (name_at 677 (codes "W")))) ∷ []) (Some otherwise)) ∷ [];
-}
+on_other =
+    record {
+      event = W.Tuple;
+      port = name_at 593 (codes "Other");
+      body =
+          declares
+          ∷ placed 644 (M.If ((is_last, placed 663 (M.Submit (word_at 670 (codes "Other")) (name_at 677 (codes "W")))) ∷ []) (Some otherwise)) ∷ [];
+    }
 
 -- currentPunct() == Sys.WindowMarker
 abbrev pub is_window : Expr
 is_window = placed 783 (E.Binary B.Equal (call_at 783 (codes "currentPunct") []) (member_at 801 (codes "Sys") 805 (codes "WindowMarker")))
 
 abbrev pub on_marker : Handler
-on_marker = record {
-  event = W.Punctuation;
-  port = name_at 774 (codes "X");
-  body =
-      placed 779 (M.If ((is_window, placed 819 (M.Submit (member_at 826 (codes "Sys") 830 (codes "WindowMarker")) (name_at 844 (codes "K")))) ∷ []) None)
-      ∷ [];
-}
+on_marker =
+    record {
+      event = W.Punctuation;
+      port = name_at 774 (codes "X");
+      body =
+          placed 779 (M.If ((is_window, placed 819 (M.Submit (member_at 826 (codes "Sys") 830 (codes "WindowMarker")) (name_at 844 (codes "K")))) ∷ []) None)
+          ∷ [];
+    }
 
 -- appendM(seen, X.n);
 abbrev pub on_first : Handler
-on_first = record {
-  event = W.Tuple;
-  port = name_at 866 (codes "X");
-  body = placed 871 (M.Call (call_at 871 (codes "appendM") (word_at 879 (codes "seen") ∷ member_at 885 (codes "X") 887 (codes "n") ∷ []))) ∷ [];
-}
+on_first =
+    record {
+      event = W.Tuple;
+      port = name_at 866 (codes "X");
+      body = placed 871 (M.Call (call_at 871 (codes "appendM") (word_at 879 (codes "seen") ∷ member_at 885 (codes "X") 887 (codes "n") ∷ []))) ∷ [];
+    }
 
 abbrev pub logic : Logic
-logic = record {
-  state = seen ∷ count ∷ [];
-  handlers = placed 585 on_other ∷ placed 766 on_marker ∷ placed 858 on_first ∷ [];
-}
+logic =
+    record {
+      state = seen ∷ count ∷ [];
+      handlers = placed 585 on_other ∷ placed 766 on_marker ∷ placed 858 on_first ∷ [];
+    }
 
 abbrev pub custom : Invocation
-custom = record {
-  at = 425;
-  outputs = output_of_name 433 (codes "V") 436 (codes "W") ∷ output_of 446 (attribute_at (int32_at 446) 452 (codes "n") ∷ []) 455 (codes "K") ∷ [];
-  alias = Some (name_at 461 (codes "C"));
-  operator = name_at 465 (codes "Custom");
-  inputs = port_at 472 (codes "X") ∷ record { streams = name_at 475 (codes "V") ∷ []; alias = Some (name_at 480 (codes "Other")) } ∷ [];
-  clauses = record { logic = Some (placed 495 logic); window = None; parameters = []; output = None; config = [] };
-}
+custom =
+    record {
+      at = 425;
+      outputs = output_of_name 433 (codes "V") 436 (codes "W") ∷ output_of 446 (attribute_at (int32_at 446) 452 (codes "n") ∷ []) 455 (codes "K") ∷ [];
+      alias = Some (name_at 461 (codes "C"));
+      operator = name_at 465 (codes "Custom");
+      inputs = port_at 472 (codes "X") ∷ record { streams = name_at 475 (codes "V") ∷ []; alias = Some (name_at 480 (codes "Other")) } ∷ [];
+      clauses = record { logic = Some (placed 495 logic); window = None; parameters = []; output = None; config = [] };
+    }
 
 abbrev pub sink : Invocation
 sink = sink_at 903 909 (codes "Out") 915 (port_at 924 (codes "W")) (file_parameters 935 941 (codes "o.csv") 950 958)
@@ -199,21 +209,22 @@ parted = U.Composite (composite_of_graph (name_at 10 (codes "Main")) (left_sourc
 -- ---- the graph
 
 abbrev pub parted_graph : Graph
-parted_graph = record {
-  ops =
-      op_at (codes "T") O.FileSource [] (0 ∷ []) 0 0 29
-      ∷ op_at (codes "U") O.FileSource [] (1 ∷ []) 0 1 118
-      ∷ op_at (codes "P") O.Punctor ((0 ∷ []) ∷ []) (2 ∷ []) 0 2 221
-      ∷ op_at (codes "Parts") O.Split ((2 ∷ []) ∷ []) (3 ∷ 4 ∷ []) 0 3 296
-      ∷ op_at (codes "V") O.Union ((3 ∷ 4 ∷ []) ∷ (1 ∷ []) ∷ []) (5 ∷ []) 0 4 371
-      ∷ op_at (codes "C") O.Custom ((3 ∷ []) ∷ (5 ∷ []) ∷ []) (6 ∷ 7 ∷ []) 0 5 425
-      ∷ op_at (codes "Out") O.FileSink ((6 ∷ []) ∷ []) [] 0 6 903 ∷ [];
-  streams =
-      record { maker = 0; port = 0 } ∷ record { maker = 1; port = 0 } ∷ record { maker = 2; port = 0 } ∷ record { maker = 3; port = 0 }
-      ∷ record { maker = 3; port = 1 } ∷ record { maker = 4; port = 0 } ∷ record { maker = 5; port = 0 } ∷ record { maker = 5; port = 1 } ∷ [];
-  expansions = record { composite = 0; site = None; streams = 0 ∷ 1 ∷ 2 ∷ 3 ∷ 4 ∷ 5 ∷ 6 ∷ 7 ∷ []; inputs = [] } ∷ [];
-  topo = 0 ∷ 1 ∷ 2 ∷ 3 ∷ 4 ∷ 5 ∷ 6 ∷ [];
-}
+parted_graph =
+    record {
+      ops =
+          op_at (codes "T") O.FileSource [] (0 ∷ []) 0 0 29
+          ∷ op_at (codes "U") O.FileSource [] (1 ∷ []) 0 1 118
+          ∷ op_at (codes "P") O.Punctor ((0 ∷ []) ∷ []) (2 ∷ []) 0 2 221
+          ∷ op_at (codes "Parts") O.Split ((2 ∷ []) ∷ []) (3 ∷ 4 ∷ []) 0 3 296
+          ∷ op_at (codes "V") O.Union ((3 ∷ 4 ∷ []) ∷ (1 ∷ []) ∷ []) (5 ∷ []) 0 4 371
+          ∷ op_at (codes "C") O.Custom ((3 ∷ []) ∷ (5 ∷ []) ∷ []) (6 ∷ 7 ∷ []) 0 5 425
+          ∷ op_at (codes "Out") O.FileSink ((6 ∷ []) ∷ []) [] 0 6 903 ∷ [];
+      streams =
+          record { maker = 0; port = 0 } ∷ record { maker = 1; port = 0 } ∷ record { maker = 2; port = 0 } ∷ record { maker = 3; port = 0 }
+          ∷ record { maker = 3; port = 1 } ∷ record { maker = 4; port = 0 } ∷ record { maker = 5; port = 0 } ∷ record { maker = 5; port = 1 } ∷ [];
+      expansions = record { composite = 0; site = None; streams = 0 ∷ 1 ∷ 2 ∷ 3 ∷ 4 ∷ 5 ∷ 6 ∷ 7 ∷ []; inputs = [] } ∷ [];
+      topo = 0 ∷ 1 ∷ 2 ∷ 3 ∷ 4 ∷ 5 ∷ 6 ∷ [];
+    }
 
 -- ---- the checked graph
 
@@ -262,16 +273,17 @@ handlers = record { state = state; on_tuple = Some first_body ∷ Some other_bod
 
 -- of the Union, the places of `n` and of `last` in each input
 abbrev pub parted_checked : CheckedGraph
-parted_checked = record {
-  graph = parted_graph;
-  schemas = flagged ∷ named ∷ flagged ∷ flagged ∷ flagged ∷ united ∷ united ∷ numbers ∷ [];
-  functions = [];
-  parts =
-      A.FileSource (codes "t.csv") true
-      ∷ A.FileSource (codes "u.csv") true
-      ∷ A.Punctor (attribute 0) Q.After
-      ∷ A.Split (on_numbers Remainder (attribute 1) (number 2))
-      ∷ A.Union ((1 ∷ 0 ∷ []) ∷ (0 ∷ 2 ∷ []) ∷ [])
-      ∷ A.Custom handlers
-      ∷ A.FileSink (codes "o.csv") ∷ [];
-}
+parted_checked =
+    record {
+      graph = parted_graph;
+      schemas = flagged ∷ named ∷ flagged ∷ flagged ∷ flagged ∷ united ∷ united ∷ numbers ∷ [];
+      functions = [];
+      parts =
+          A.FileSource (codes "t.csv") true
+          ∷ A.FileSource (codes "u.csv") true
+          ∷ A.Punctor (attribute 0) Q.After
+          ∷ A.Split (on_numbers Remainder (attribute 1) (number 2))
+          ∷ A.Union ((1 ∷ 0 ∷ []) ∷ (0 ∷ 2 ∷ []) ∷ [])
+          ∷ A.Custom handlers
+          ∷ A.FileSink (codes "o.csv") ∷ [];
+    }

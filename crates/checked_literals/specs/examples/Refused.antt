@@ -37,12 +37,13 @@ with_middle i = U.Composite (composite_of_graph (name_at 10 (codes "Main")) (sou
 
 -- the graph with an operator of the kind and these inputs in the middle
 abbrev pub graph_of : OpKind → List (List ℕ) → Graph
-graph_of kind ins = record filtered_graph {
-  ops =
-      op_at (codes "T") O.FileSource [] (0 ∷ []) 0 0 29
-      ∷ op_at (codes "B") kind ins (1 ∷ []) 0 1 108
-      ∷ op_at (codes "Out") O.FileSink ((1 ∷ []) ∷ []) [] 0 2 177 ∷ [];
-}
+graph_of kind ins =
+    record filtered_graph {
+      ops =
+          op_at (codes "T") O.FileSource [] (0 ∷ []) 0 0 29
+          ∷ op_at (codes "B") kind ins (1 ∷ []) 0 1 108
+          ∷ op_at (codes "Out") O.FileSink ((1 ∷ []) ∷ []) [] 0 2 177 ∷ [];
+    }
 
 -- and with one input, that reads `T`
 abbrev pub graph_with : OpKind → Graph
@@ -127,23 +128,25 @@ slides at port word = Some (placed at (record { port = name_at port (codes "T");
 
 -- stream<int64 price> B = Filter(T) { window T: sliding; param filter: cost; config host: 1; }
 abbrev pub other_config : Invocation
-other_config = middle (prices_at 115 121 128) 132 (codes "Filter") (reads 139) (record {
-  logic = None;
-  window = slides 144 151 154;
-  parameters = parameter_at 169 (codes "filter") (word_at 177 (codes "cost")) ∷ [];
-  output = None;
-  config = parameter_at 190 (codes "host") (number_at 196 N.I32 1) ∷ [];
-})
+other_config =
+    middle (prices_at 115 121 128) 132 (codes "Filter") (reads 139) (record {
+      logic = None;
+      window = slides 144 151 154;
+      parameters = parameter_at 169 (codes "filter") (word_at 177 (codes "cost")) ∷ [];
+      output = None;
+      config = parameter_at 190 (codes "host") (number_at 196 N.I32 1) ∷ [];
+    })
 
 -- stream<int64 price> B = Filter(T) { window T: sliding; param filter: cost; }
 abbrev pub other_window : Invocation
-other_window = middle (prices_at 115 121 128) 132 (codes "Filter") (reads 139) (record {
-  logic = None;
-  window = slides 144 151 154;
-  parameters = parameter_at 169 (codes "filter") (word_at 177 (codes "cost")) ∷ [];
-  output = None;
-  config = [];
-})
+other_window =
+    middle (prices_at 115 121 128) 132 (codes "Filter") (reads 139) (record {
+      logic = None;
+      window = slides 144 151 154;
+      parameters = parameter_at 169 (codes "filter") (word_at 177 (codes "cost")) ∷ [];
+      output = None;
+      config = [];
+    })
 
 -- `window T: tumbling, count(2);`
 abbrev pub tumbles : ℕ → ℕ → ℕ → ℕ → ℕ → Option (Placed (List PortWindow))
@@ -155,23 +158,25 @@ tumbles at port word count number =
 
 -- stream<int64 price> B = Aggregate(T) { window T: tumbling, count(2); param partitionBy: price; }
 abbrev pub partition_alone : Invocation
-partition_alone = middle (prices_at 115 121 128) 132 (codes "Aggregate") (reads 142) (record {
-  logic = None;
-  window = tumbles 147 154 157 167 173;
-  parameters = parameter_at 183 (codes "partitionBy") (word_at 196 (codes "price")) ∷ [];
-  output = None;
-  config = [];
-})
+partition_alone =
+    middle (prices_at 115 121 128) 132 (codes "Aggregate") (reads 142) (record {
+      logic = None;
+      window = tumbles 147 154 157 167 173;
+      parameters = parameter_at 183 (codes "partitionBy") (word_at 196 (codes "price")) ∷ [];
+      output = None;
+      config = [];
+    })
 
 -- stream<int64 price> B = Aggregate(T) { window T: tumbling, count(2); output B: cost = Count(); }
 abbrev pub no_group_attribute : Invocation
-no_group_attribute = middle (prices_at 115 121 128) 132 (codes "Aggregate") (reads 142) (record {
-  logic = None;
-  window = tumbles 147 154 157 167 173;
-  parameters = [];
-  output = Some (placed 177 (record { stream = name_at 184 (codes "B"); assignments = field_at 187 (codes "cost") (call_at 194 (codes "Count") []) ∷ [] } ∷ []));
-  config = [];
-})
+no_group_attribute =
+    middle (prices_at 115 121 128) 132 (codes "Aggregate") (reads 142) (record {
+      logic = None;
+      window = tumbles 147 154 157 167 173;
+      parameters = [];
+      output = Some (placed 177 (record { stream = name_at 184 (codes "B"); assignments = field_at 187 (codes "cost") (call_at 194 (codes "Count") []) ∷ [] } ∷ []));
+      config = [];
+    })
 
 -- ---- outputs
 
@@ -181,10 +186,11 @@ no_value = middle (output_of 115 (attribute_at (int64_at 115) 121 (codes "cost")
 
 -- stream<int64 price> B = Functor(T) { output B: cost = price; }
 abbrev pub no_attribute : Invocation
-no_attribute = middle (prices_at 115 121 128) 132 (codes "Functor") (reads 140) (with_output 145 (record {
-  stream = name_at 152 (codes "B");
-  assignments = field_at 155 (codes "cost") (word_at 162 (codes "price")) ∷ [];
-}))
+no_attribute =
+    middle (prices_at 115 121 128) 132 (codes "Functor") (reads 140) (with_output 145 (record {
+      stream = name_at 152 (codes "B");
+      assignments = field_at 155 (codes "cost") (word_at 162 (codes "price")) ∷ [];
+    }))
 
 -- ---- logic
 
@@ -227,13 +233,14 @@ unknown_without_position = middle (prices_at 115 121 128) 132 (codes "Punctor") 
 
 -- stream<int64 price> B = Split(T) { config host: 1; }
 abbrev pub config_without_index : Invocation
-config_without_index = middle (prices_at 115 121 128) 132 (codes "Split") (reads 138) (record {
-  logic = None;
-  window = None;
-  parameters = [];
-  output = None;
-  config = parameter_at 150 (codes "host") (number_at 156 N.I32 1) ∷ [];
-})
+config_without_index =
+    middle (prices_at 115 121 128) 132 (codes "Split") (reads 138) (record {
+      logic = None;
+      window = None;
+      parameters = [];
+      output = None;
+      config = parameter_at 150 (codes "host") (number_at 156 N.I32 1) ∷ [];
+    })
 
 -- `int64 f() {}` after the composite
 abbrev pub with_function : Invocation → List Definition
@@ -250,14 +257,15 @@ abbrev pub sink_first : Invocation → List Definition
 sink_first i = U.Composite (composite_of_graph (name_at 10 (codes "Main")) (no_file ∷ source ∷ i ∷ [])) ∷ []
 
 abbrev pub sink_first_graph : Graph
-sink_first_graph = record filtered_graph {
-  ops =
-      op_at (codes "Out") O.FileSink ((1 ∷ []) ∷ []) [] 0 0 177
-      ∷ op_at (codes "T") O.FileSource [] (0 ∷ []) 0 1 29
-      ∷ op_at (codes "B") O.Filter ((0 ∷ []) ∷ []) (1 ∷ []) 0 2 108 ∷ [];
-  streams = record { maker = 1; port = 0 } ∷ record { maker = 2; port = 0 } ∷ [];
-  topo = 1 ∷ 2 ∷ 0 ∷ [];
-}
+sink_first_graph =
+    record filtered_graph {
+      ops =
+          op_at (codes "Out") O.FileSink ((1 ∷ []) ∷ []) [] 0 0 177
+          ∷ op_at (codes "T") O.FileSource [] (0 ∷ []) 0 1 29
+          ∷ op_at (codes "B") O.Filter ((0 ∷ []) ∷ []) (1 ∷ []) 0 2 108 ∷ [];
+      streams = record { maker = 1; port = 0 } ∷ record { maker = 2; port = 0 } ∷ [];
+      topo = 1 ∷ 2 ∷ 0 ∷ [];
+    }
 
 -- ---- what is refused
 

@@ -90,22 +90,24 @@ with_parameters parameters = record { logic = None; window = None; parameters = 
 -- ---- sources and sinks
 
 abbrev pub source_at : ℕ → OutputStream → ℕ → List Parameter → Invocation
-source_at at output operator parameters = record {
-  at = at;
-  outputs = output ∷ [];
-  alias = None;
-  operator = name_at operator (codes "FileSource");
-  inputs = [];
-  clauses = with_parameters parameters;
-}
+source_at at output operator parameters =
+    record {
+      at = at;
+      outputs = output ∷ [];
+      alias = None;
+      operator = name_at operator (codes "FileSource");
+      inputs = [];
+      clauses = with_parameters parameters;
+    }
 
 -- a sink with an alias
 abbrev pub sink_at : ℕ → ℕ → List ℕ → ℕ → InputPort → List Parameter → Invocation
-sink_at at alias name operator input parameters = record {
-  at = at;
-  outputs = [];
-  alias = Some (name_at alias name);
-  operator = name_at operator (codes "FileSink");
-  inputs = input ∷ [];
-  clauses = with_parameters parameters;
-}
+sink_at at alias name operator input parameters =
+    record {
+      at = at;
+      outputs = [];
+      alias = Some (name_at alias name);
+      operator = name_at operator (codes "FileSink");
+      inputs = input ∷ [];
+      clauses = with_parameters parameters;
+    }

@@ -45,14 +45,15 @@ source = source_at 29 (output_of 36 (
 
 -- sliding, count(2), count(1), partitioned
 abbrev pub window : PortWindow
-window = record {
-  port = name_at 241 (codes "T");
-  parts =
-      window_word_at 244 (codes "sliding")
-      ∷ window_at 253 (codes "count") (number_at 259 N.I32 2 ∷ [])
-      ∷ window_at 263 (codes "count") (number_at 269 N.I32 1 ∷ [])
-      ∷ window_word_at 273 (codes "partitioned") ∷ [];
-}
+window =
+    record {
+      port = name_at 241 (codes "T");
+      parts =
+          window_word_at 244 (codes "sliding")
+          ∷ window_at 253 (codes "count") (number_at 259 N.I32 2 ∷ [])
+          ∷ window_at 263 (codes "count") (number_at 269 N.I32 1 ∷ [])
+          ∷ window_word_at 273 (codes "partitioned") ∷ [];
+    }
 
 abbrev pub parameters : List Parameter
 parameters =
@@ -61,34 +62,36 @@ parameters =
 
 -- n = Count(), sum = Sum(price)
 abbrev pub output : OutputAssignments
-output = record {
-  stream = name_at 355 (codes "A");
-  assignments =
-      field_at 358 (codes "n") (call_at 362 (codes "Count") [])
-      ∷ field_at 371 (codes "sum") (call_at 377 (codes "Sum") (word_at 381 (codes "price") ∷ [])) ∷ [];
-}
+output =
+    record {
+      stream = name_at 355 (codes "A");
+      assignments =
+          field_at 358 (codes "n") (call_at 362 (codes "Count") [])
+          ∷ field_at 371 (codes "sum") (call_at 377 (codes "Sum") (word_at 381 (codes "price") ∷ [])) ∷ [];
+    }
 
 abbrev pub aggregate : Invocation
-aggregate = record {
-  at = 152;
-  outputs =
-      output_of 159 (
-      attribute_at (boolean_at 159) 167 (codes "open")
-      ∷ attribute_at (int32_at 173) 179 (codes "sum")
-      ∷ attribute_at (int32_at 184) 190 (codes "n")
-      ∷ attribute_at (rstring_at 193) 201 (codes "symbol") ∷ []) 209 (codes "A")
-      ∷ [];
-  alias = None;
-  operator = name_at 213 (codes "Aggregate");
-  inputs = port_at 223 (codes "T") ∷ [];
-  clauses = record {
-    logic = None;
-    window = Some (placed 234 (window ∷ []));
-    parameters = parameters;
-    output = Some (placed 348 (output ∷ []));
-    config = [];
-  };
-}
+aggregate =
+    record {
+      at = 152;
+      outputs =
+          output_of 159 (
+          attribute_at (boolean_at 159) 167 (codes "open")
+          ∷ attribute_at (int32_at 173) 179 (codes "sum")
+          ∷ attribute_at (int32_at 184) 190 (codes "n")
+          ∷ attribute_at (rstring_at 193) 201 (codes "symbol") ∷ []) 209 (codes "A")
+          ∷ [];
+      alias = None;
+      operator = name_at 213 (codes "Aggregate");
+      inputs = port_at 223 (codes "T") ∷ [];
+      clauses = record {
+        logic = None;
+        window = Some (placed 234 (window ∷ []));
+        parameters = parameters;
+        output = Some (placed 348 (output ∷ []));
+        config = [];
+      };
+    }
 
 abbrev pub sink : Invocation
 sink = sink_at 399 405 (codes "Out") 411 (port_at 420 (codes "A")) (file_parameters 431 437 (codes "o.csv") 446 454)
@@ -99,15 +102,16 @@ summed = U.Composite (composite_of_graph (name_at 10 (codes "Main")) (source ∷
 -- ---- the graph
 
 abbrev pub summed_graph : Graph
-summed_graph = record {
-  ops =
-      op_at (codes "T") O.FileSource [] (0 ∷ []) 0 0 29
-      ∷ op_at (codes "A") O.Aggregate ((0 ∷ []) ∷ []) (1 ∷ []) 0 1 152
-      ∷ op_at (codes "Out") O.FileSink ((1 ∷ []) ∷ []) [] 0 2 399 ∷ [];
-  streams = record { maker = 0; port = 0 } ∷ record { maker = 1; port = 0 } ∷ [];
-  expansions = record { composite = 0; site = None; streams = 0 ∷ 1 ∷ []; inputs = [] } ∷ [];
-  topo = 0 ∷ 1 ∷ 2 ∷ [];
-}
+summed_graph =
+    record {
+      ops =
+          op_at (codes "T") O.FileSource [] (0 ∷ []) 0 0 29
+          ∷ op_at (codes "A") O.Aggregate ((0 ∷ []) ∷ []) (1 ∷ []) 0 1 152
+          ∷ op_at (codes "Out") O.FileSink ((1 ∷ []) ∷ []) [] 0 2 399 ∷ [];
+      streams = record { maker = 0; port = 0 } ∷ record { maker = 1; port = 0 } ∷ [];
+      expansions = record { composite = 0; site = None; streams = 0 ∷ 1 ∷ []; inputs = [] } ∷ [];
+      topo = 0 ∷ 1 ∷ 2 ∷ [];
+    }
 
 -- ---- the checked graph
 
@@ -139,9 +143,10 @@ collected =
 
 -- a partition for each symbol, and in it a group for each `open` with `second`, in the order of the text
 abbrev pub summed_checked : CheckedGraph
-summed_checked = record {
-  graph = summed_graph;
-  schemas = trades ∷ sums ∷ [];
-  functions = [];
-  parts = A.FileSource (codes "t.csv") true ∷ A.Aggregate last_two (1 ∷ []) (3 ∷ 0 ∷ []) collected ∷ A.FileSink (codes "o.csv") ∷ [];
-}
+summed_checked =
+    record {
+      graph = summed_graph;
+      schemas = trades ∷ sums ∷ [];
+      functions = [];
+      parts = A.FileSource (codes "t.csv") true ∷ A.Aggregate last_two (1 ∷ []) (3 ∷ 0 ∷ []) collected ∷ A.FileSink (codes "o.csv") ∷ [];
+    }

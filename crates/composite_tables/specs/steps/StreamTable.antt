@@ -19,14 +19,15 @@ stream_in table x = option_and_then (λ row. option_and_then (λ s. s) (slice_ge
 
 -- an operator, its first stream at a number
 abbrev pub op_in : Table → ℕ → Operation → Op
-op_in table first op = record {
-  name = op.name;
-  kind = op.kind;
-  ins = map (filter_map (stream_in table)) op.ins;
-  outs = numbers_from first op.outputs;
-  site = op.site;
-  at = op.at;
-}
+op_in table first op =
+    record {
+      name = op.name;
+      kind = op.kind;
+      ins = map (filter_map (stream_in table)) op.ins;
+      outs = numbers_from first op.outputs;
+      site = op.site;
+      at = op.at;
+    }
 
 -- operators one after another, the first stream at a number
 abbrev pub ops_in : Table → ℕ → List Operation → List Op
@@ -41,12 +42,13 @@ input_in table i = record { count = i.count; first = option_map_or (λ s. s) (op
 
 -- the body of a number, the rows of the inputs given
 abbrev pub expansion_in : Table → List (List Input) → ℕ → Body → Expansion
-expansion_in table rows number b = record {
-  composite = b.composite;
-  site = b.site;
-  streams = filter_map (λ s. s) (row_in table number);
-  inputs = map (input_in table) (row_in rows number);
-}
+expansion_in table rows number b =
+    record {
+      composite = b.composite;
+      site = b.site;
+      streams = filter_map (λ s. s) (row_in table number);
+      inputs = map (input_in table) (row_in rows number);
+    }
 
 abbrev pub expansions_in : Table → List (List Input) → ℕ → List Body → List Expansion
 expansions_in table rows number [] = []

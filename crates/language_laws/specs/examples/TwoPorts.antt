@@ -16,16 +16,17 @@ number name = record { name = name; kind = S.Int I32 }
 
 -- these variables, the port `A` with the attributes `k` and `n`, and a port of this name with `k` and `m`
 abbrev pub two_ports : List Variable → List ℕ → Scope
-two_ports vars second = record {
-  vars = vars;
-  ports =
-      record { name = codes "A"; schema = number (codes "k") ∷ number (codes "n") ∷ [] }
-      ∷ record { name = second; schema = number (codes "k") ∷ number (codes "m") ∷ [] } ∷ [];
-  functions = [];
-  unresolved = [];
-  dollars = [];
-  punct = false;
-}
+two_ports vars second =
+    record {
+      vars = vars;
+      ports =
+          record { name = codes "A"; schema = number (codes "k") ∷ number (codes "n") ∷ [] }
+          ∷ record { name = second; schema = number (codes "k") ∷ number (codes "m") ∷ [] } ∷ [];
+      functions = [];
+      unresolved = [];
+      dollars = [];
+      punct = false;
+    }
 
 abbrev pub variable : List ℕ → Variable
 variable name = record { name = name; kind = S.Int I32; mutable = false }

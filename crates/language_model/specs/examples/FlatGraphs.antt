@@ -33,14 +33,15 @@ abbrev pub port_of_names : List (Placed (List ℕ)) → InputPort
 port_of_names names = record { streams = names; alias = None }
 
 abbrev pub invocation_of : ℕ → List OutputStream → Option (Placed (List ℕ)) → Placed (List ℕ) → List InputPort → Invocation
-invocation_of at outputs alias operator inputs = record {
-  at = at;
-  outputs = outputs;
-  alias = alias;
-  operator = operator;
-  inputs = inputs;
-  clauses = record { logic = None; window = None; parameters = []; output = None; config = [] };
-}
+invocation_of at outputs alias operator inputs =
+    record {
+      at = at;
+      outputs = outputs;
+      alias = alias;
+      operator = operator;
+      inputs = inputs;
+      clauses = record { logic = None; window = None; parameters = []; output = None; config = [] };
+    }
 
 abbrev pub composite_of_graph : Placed (List ℕ) → List Invocation → Composite
 composite_of_graph name graph = record { name = name; outputs = []; inputs = []; parameters = []; types = []; graph = graph; config = [] }
@@ -57,17 +58,18 @@ two_types =
 
 -- composite P(output O; input I) { graph stream<int64> M = Filter(I); stream<int64> O = Filter(M); }
 abbrev pub twice_filtered : Composite
-twice_filtered = record {
-  name = placed 10 (codes "P");
-  outputs = record { shape = None; name = placed 19 (codes "O") } ∷ [];
-  inputs = record { shape = None; name = placed 28 (codes "I") } ∷ [];
-  parameters = [];
-  types = [];
-  graph =
-      invocation_of 39 (output_at 53 (codes "M") ∷ []) None (name_at 57 (codes "Filter")) (port_of_names (name_at 64 (codes "I") ∷ []) ∷ [])
-      ∷ invocation_of 68 (output_at 82 (codes "O") ∷ []) None (name_at 86 (codes "Filter")) (port_of_names (name_at 93 (codes "M") ∷ []) ∷ []) ∷ [];
-  config = [];
-}
+twice_filtered =
+    record {
+      name = placed 10 (codes "P");
+      outputs = record { shape = None; name = placed 19 (codes "O") } ∷ [];
+      inputs = record { shape = None; name = placed 28 (codes "I") } ∷ [];
+      parameters = [];
+      types = [];
+      graph =
+          invocation_of 39 (output_at 53 (codes "M") ∷ []) None (name_at 57 (codes "Filter")) (port_of_names (name_at 64 (codes "I") ∷ []) ∷ [])
+          ∷ invocation_of 68 (output_at 82 (codes "O") ∷ []) None (name_at 86 (codes "Filter")) (port_of_names (name_at 93 (codes "M") ∷ []) ∷ []) ∷ [];
+      config = [];
+    }
 
 -- composite Main { graph
 --   () as Out = FileSink(Y);
@@ -90,34 +92,36 @@ abbrev pub unknown_composite : List Definition
 unknown_composite = D.Composite reversed_main ∷ []
 
 abbrev pub op_at : List ℕ → OpKind → List (List ℕ) → List ℕ → ℕ → ℕ → ℕ → Op
-op_at name kind ins outs expansion invocation at = record {
-  name = name;
-  kind = kind;
-  ins = ins;
-  outs = outs;
-  site = record { expansion = expansion; invocation = invocation };
-  at = at;
-}
+op_at name kind ins outs expansion invocation at =
+    record {
+      name = name;
+      kind = kind;
+      ins = ins;
+      outs = outs;
+      site = record { expansion = expansion; invocation = invocation };
+      at = at;
+    }
 
 -- Out, Y.M, Y.O, X.M, X.O and S, with a stream of each but the first
 abbrev pub reversed_graph : Graph
-reversed_graph = record {
-  ops =
-      op_at (codes "Out") O.FileSink ((1 ∷ []) ∷ []) [] 0 0 200
-      ∷ op_at (codes "Y.M") O.Filter ((3 ∷ 4 ∷ []) ∷ []) (0 ∷ []) 1 0 39
-      ∷ op_at (codes "Y.O") O.Filter ((0 ∷ []) ∷ []) (1 ∷ []) 1 1 68
-      ∷ op_at (codes "X.M") O.Filter ((4 ∷ []) ∷ []) (2 ∷ []) 2 0 39
-      ∷ op_at (codes "X.O") O.Filter ((2 ∷ []) ∷ []) (3 ∷ []) 2 1 68
-      ∷ op_at (codes "S") O.FileSource [] (4 ∷ []) 0 3 500 ∷ [];
-  streams =
-      record { maker = 1; port = 0 } ∷ record { maker = 2; port = 0 } ∷ record { maker = 3; port = 0 } ∷ record { maker = 4; port = 0 }
-      ∷ record { maker = 5; port = 0 } ∷ [];
-  expansions =
-      record { composite = 1; site = None; streams = 1 ∷ 3 ∷ 4 ∷ []; inputs = [] }
-      ∷ record { composite = 0; site = Some (record { expansion = 0; invocation = 1 }); streams = 0 ∷ 1 ∷ []; inputs = record { count = 2; first = 3 } ∷ [] }
-      ∷ record { composite = 0; site = Some (record { expansion = 0; invocation = 2 }); streams = 2 ∷ 3 ∷ []; inputs = record { count = 1; first = 4 } ∷ [] } ∷ [];
-  topo = 5 ∷ 3 ∷ 4 ∷ 1 ∷ 2 ∷ 0 ∷ [];
-}
+reversed_graph =
+    record {
+      ops =
+          op_at (codes "Out") O.FileSink ((1 ∷ []) ∷ []) [] 0 0 200
+          ∷ op_at (codes "Y.M") O.Filter ((3 ∷ 4 ∷ []) ∷ []) (0 ∷ []) 1 0 39
+          ∷ op_at (codes "Y.O") O.Filter ((0 ∷ []) ∷ []) (1 ∷ []) 1 1 68
+          ∷ op_at (codes "X.M") O.Filter ((4 ∷ []) ∷ []) (2 ∷ []) 2 0 39
+          ∷ op_at (codes "X.O") O.Filter ((2 ∷ []) ∷ []) (3 ∷ []) 2 1 68
+          ∷ op_at (codes "S") O.FileSource [] (4 ∷ []) 0 3 500 ∷ [];
+      streams =
+          record { maker = 1; port = 0 } ∷ record { maker = 2; port = 0 } ∷ record { maker = 3; port = 0 } ∷ record { maker = 4; port = 0 }
+          ∷ record { maker = 5; port = 0 } ∷ [];
+      expansions =
+          record { composite = 1; site = None; streams = 1 ∷ 3 ∷ 4 ∷ []; inputs = [] }
+          ∷ record { composite = 0; site = Some (record { expansion = 0; invocation = 1 }); streams = 0 ∷ 1 ∷ []; inputs = record { count = 2; first = 3 } ∷ [] }
+          ∷ record { composite = 0; site = Some (record { expansion = 0; invocation = 2 }); streams = 2 ∷ 3 ∷ []; inputs = record { count = 1; first = 4 } ∷ [] } ∷ [];
+      topo = 5 ∷ 3 ∷ 4 ∷ 1 ∷ 2 ∷ 0 ∷ [];
+    }
 
 -- ---- loops
 

@@ -28,29 +28,31 @@ abbrev pub divides : Code Slot
 divides = C.Binary (D.Order Less) (C.Literal (V.Int (pos 1))) (C.Binary (D.Integers Divide I32) (C.Literal (V.Int (pos 12))) (C.Name (L.Attribute 0 0)))
 
 abbrev pub chain : CheckedGraph
-chain = record {
-  graph = record {
-    ops = op_of O.FileSource [] (0 ∷ []) ∷ op_of O.Filter ((0 ∷ []) ∷ []) (1 ∷ []) ∷ op_of O.Filter ((1 ∷ []) ∷ []) (2 ∷ [])
-        ∷ op_of O.FileSink ((2 ∷ []) ∷ []) [] ∷ op_of O.FileSink ((0 ∷ []) ∷ []) [] ∷ [];
-    streams = record { maker = 0; port = 0 } ∷ record { maker = 1; port = 0 } ∷ record { maker = 2; port = 0 } ∷ [];
-    expansions = [];
-    topo = 0 ∷ 1 ∷ 2 ∷ 3 ∷ 4 ∷ [];
-  };
-  schemas = numbers ∷ numbers ∷ numbers ∷ [];
-  functions = [];
-  parts = A.FileSource (codes "in") true ∷ A.Filter (Some divides) ∷ A.Filter None ∷ A.FileSink (codes "some") ∷ A.FileSink (codes "all") ∷ [];
-}
+chain =
+    record {
+      graph = record {
+        ops = op_of O.FileSource [] (0 ∷ []) ∷ op_of O.Filter ((0 ∷ []) ∷ []) (1 ∷ []) ∷ op_of O.Filter ((1 ∷ []) ∷ []) (2 ∷ [])
+            ∷ op_of O.FileSink ((2 ∷ []) ∷ []) [] ∷ op_of O.FileSink ((0 ∷ []) ∷ []) [] ∷ [];
+        streams = record { maker = 0; port = 0 } ∷ record { maker = 1; port = 0 } ∷ record { maker = 2; port = 0 } ∷ [];
+        expansions = [];
+        topo = 0 ∷ 1 ∷ 2 ∷ 3 ∷ 4 ∷ [];
+      };
+      schemas = numbers ∷ numbers ∷ numbers ∷ [];
+      functions = [];
+      parts = A.FileSource (codes "in") true ∷ A.Filter (Some divides) ∷ A.Filter None ∷ A.FileSink (codes "some") ∷ A.FileSink (codes "all") ∷ [];
+    }
 
 -- its operators
 abbrev pub chain_graph : Graph
-chain_graph = record {
-  ops = record { number = 0; clauses = A.FileSource (codes "in") true; functions = []; types = record { ins = []; outs = numbers ∷ [] }; ins = []; outs = 0 ∷ [] }
-      ∷ record { number = 1; clauses = A.Filter (Some divides); functions = []; types = record { ins = numbers ∷ []; outs = numbers ∷ [] }; ins = (0 ∷ []) ∷ []; outs = 1 ∷ [] }
-      ∷ record { number = 2; clauses = A.Filter None; functions = []; types = record { ins = numbers ∷ []; outs = numbers ∷ [] }; ins = (1 ∷ []) ∷ []; outs = 2 ∷ [] }
-      ∷ record { number = 3; clauses = A.FileSink (codes "some"); functions = []; types = record { ins = numbers ∷ []; outs = [] }; ins = (2 ∷ []) ∷ []; outs = [] }
-      ∷ record { number = 4; clauses = A.FileSink (codes "all"); functions = []; types = record { ins = numbers ∷ []; outs = [] }; ins = (0 ∷ []) ∷ []; outs = [] } ∷ [];
-  topo = 0 ∷ 1 ∷ 2 ∷ 3 ∷ 4 ∷ [];
-}
+chain_graph =
+    record {
+      ops = record { number = 0; clauses = A.FileSource (codes "in") true; functions = []; types = record { ins = []; outs = numbers ∷ [] }; ins = []; outs = 0 ∷ [] }
+          ∷ record { number = 1; clauses = A.Filter (Some divides); functions = []; types = record { ins = numbers ∷ []; outs = numbers ∷ [] }; ins = (0 ∷ []) ∷ []; outs = 1 ∷ [] }
+          ∷ record { number = 2; clauses = A.Filter None; functions = []; types = record { ins = numbers ∷ []; outs = numbers ∷ [] }; ins = (1 ∷ []) ∷ []; outs = 2 ∷ [] }
+          ∷ record { number = 3; clauses = A.FileSink (codes "some"); functions = []; types = record { ins = numbers ∷ []; outs = [] }; ins = (2 ∷ []) ∷ []; outs = [] }
+          ∷ record { number = 4; clauses = A.FileSink (codes "all"); functions = []; types = record { ins = numbers ∷ []; outs = [] }; ins = (0 ∷ []) ∷ []; outs = [] } ∷ [];
+      topo = 0 ∷ 1 ∷ 2 ∷ 3 ∷ 4 ∷ [];
+    }
 
 -- rows of four numbers
 abbrev pub row : ℕ → Item

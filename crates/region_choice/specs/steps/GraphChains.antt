@@ -16,9 +16,10 @@ abbrev pub is_pair : Graph → ℕ → ℕ → Bool
 is_pair g a b = option_map_or (λ x. option_map_or (λ y. is_chain g (x ∷ y ∷ [])) (slice_get g.ops b) false) (slice_get g.ops a) false
 
 abbrev pub chains_of : Graph → Chains
-chains_of g = record {
-  topo = g.topo;
-  eligible = λ n. option_map_or is_eligible (slice_get g.ops n) false;
-  links = is_pair g;
-  safe = λ ns. has_key (ops_of g ns);
-}
+chains_of g =
+    record {
+      topo = g.topo;
+      eligible = λ n. option_map_or is_eligible (slice_get g.ops n) false;
+      links = is_pair g;
+      safe = λ ns. has_key (ops_of g ns);
+    }

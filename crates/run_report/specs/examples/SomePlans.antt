@@ -21,12 +21,13 @@ op_of name kind ins outs = record { name = name; kind = kind; ins = ins; outs = 
 
 -- these operators in this topological order, and streams of these attributes
 abbrev pub graph_with : List Op → List ℕ → List Attributes → CheckedGraph
-graph_with ops topo schemas = record {
-  graph = record { ops = ops; streams = []; expansions = []; topo = topo };
-  schemas = schemas;
-  functions = [];
-  parts = [];
-}
+graph_with ops topo schemas =
+    record {
+      graph = record { ops = ops; streams = []; expansions = []; topo = topo };
+      schemas = schemas;
+      functions = [];
+      parts = [];
+    }
 
 -- a source, a Functor and an Aggregate that each read the one before, and a sink
 abbrev pub row : CheckedGraph

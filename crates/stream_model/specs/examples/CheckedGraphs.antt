@@ -22,14 +22,15 @@ ids = record { name = codes "id"; kind = T.Int N.U32 } ∷ []
 
 -- a source of texts, and an operator with these clauses that reads it, and makes streams of numbers and of texts
 abbrev pub after_source : OpKind → List ℕ → CheckedClauses → CheckedGraph
-after_source kind outs part = record {
-  graph = record {
-    ops = op_of O.FileSource [] (0 ∷ []) ∷ op_of kind ((0 ∷ []) ∷ []) outs ∷ [];
-    streams = record { maker = 0; port = 0 } ∷ [];
-    expansions = [];
-    topo = 0 ∷ 1 ∷ [];
-  };
-  schemas = texts ∷ ids ∷ texts ∷ [];
-  functions = [];
-  parts = A.FileSource (codes "in") true ∷ part ∷ [];
-}
+after_source kind outs part =
+    record {
+      graph = record {
+        ops = op_of O.FileSource [] (0 ∷ []) ∷ op_of kind ((0 ∷ []) ∷ []) outs ∷ [];
+        streams = record { maker = 0; port = 0 } ∷ [];
+        expansions = [];
+        topo = 0 ∷ 1 ∷ [];
+      };
+      schemas = texts ∷ ids ∷ texts ∷ [];
+      functions = [];
+      parts = A.FileSource (codes "in") true ∷ part ∷ [];
+    }

@@ -193,11 +193,12 @@ joined left right entries = out join 0 (arrive (lists_of left right) entries)
 
 -- a Functor from streams of a number `a` to such streams: `a = a + 1l`
 abbrev pub adding_one : Operator
-adding_one = record {
-  number = 1;
-  clauses = A.Functor None (C.Tuple ((0, C.Binary (D.Integers O.Add N.I64) (of_first 0) (literal (pos 1))) ∷ []));
-  functions = [];
-  types = record { ins = (record { name = codes "a"; kind = T.Int N.I64 } ∷ []) ∷ []; outs = (record { name = codes "a"; kind = T.Int N.I64 } ∷ []) ∷ [] };
-  ins = (0 ∷ []) ∷ [];
-  outs = 1 ∷ [];
-}
+adding_one =
+    record {
+      number = 1;
+      clauses = A.Functor None (C.Tuple ((0, C.Binary (D.Integers O.Add N.I64) (of_first 0) (literal (pos 1))) ∷ []));
+      functions = [];
+      types = record { ins = (record { name = codes "a"; kind = T.Int N.I64 } ∷ []) ∷ []; outs = (record { name = codes "a"; kind = T.Int N.I64 } ∷ []) ∷ [] };
+      ins = (0 ∷ []) ∷ [];
+      outs = 1 ∷ [];
+    }

@@ -36,13 +36,14 @@ abv = numbers (codes "a" ∷ codes "b" ∷ codes "v" ∷ [])
 -- a source of stream 0, an operator that makes stream 1 of it, one that makes stream 2 of that, and a sink of that, where streams have these
 -- attributes
 abbrev pub row_of : Attributes → CheckedClauses → Attributes → CheckedClauses → Attributes → Graph
-row_of zeroth first between second last = record {
-  ops = record { number = 0; clauses = A.FileSource (codes "t") true; functions = []; types = record { ins = []; outs = zeroth ∷ [] }; ins = []; outs = 0 ∷ [] }
-      ∷ record { number = 1; clauses = first; functions = []; types = record { ins = zeroth ∷ []; outs = between ∷ [] }; ins = (0 ∷ []) ∷ []; outs = 1 ∷ [] }
-      ∷ record { number = 2; clauses = second; functions = []; types = record { ins = between ∷ []; outs = last ∷ [] }; ins = (1 ∷ []) ∷ []; outs = 2 ∷ [] }
-      ∷ record { number = 3; clauses = A.FileSink (codes "o"); functions = []; types = record { ins = last ∷ []; outs = [] }; ins = (2 ∷ []) ∷ []; outs = [] } ∷ [];
-  topo = 0 ∷ 1 ∷ 2 ∷ 3 ∷ [];
-}
+row_of zeroth first between second last =
+    record {
+      ops = record { number = 0; clauses = A.FileSource (codes "t") true; functions = []; types = record { ins = []; outs = zeroth ∷ [] }; ins = []; outs = 0 ∷ [] }
+          ∷ record { number = 1; clauses = first; functions = []; types = record { ins = zeroth ∷ []; outs = between ∷ [] }; ins = (0 ∷ []) ∷ []; outs = 1 ∷ [] }
+          ∷ record { number = 2; clauses = second; functions = []; types = record { ins = between ∷ []; outs = last ∷ [] }; ins = (1 ∷ []) ∷ []; outs = 2 ∷ [] }
+          ∷ record { number = 3; clauses = A.FileSink (codes "o"); functions = []; types = record { ins = last ∷ []; outs = [] }; ins = (2 ∷ []) ∷ []; outs = [] } ∷ [];
+      topo = 0 ∷ 1 ∷ 2 ∷ 3 ∷ [];
+    }
 
 -- ---- clauses
 
