@@ -9,6 +9,7 @@ use Rattle.spl_value.specs.declared.types.SplType.TheVariants as S
 use Rattle.spl_value.specs.declared.types.IntKind.TheVariants as K
 use Rattle.spl_value.specs.Values.{fits, kind_holds}
 use Rattle.spl_value.proofs.FitsLaws.{fits_int, fits_tuple}
+use Rattle.spl_tree.specs.declared.body.Function.{Function}
 use Rattle.spl_tree.specs.declared.code.Code.{Code}
 use Rattle.spl_tree.specs.declared.code.Code.TheVariants as C
 use Rattle.spl_tree.specs.declared.code.BinaryCode.TheVariants as D
@@ -16,6 +17,7 @@ use Rattle.spl_tree.specs.declared.code.OrderOperator.TheVariants as O
 use Rattle.spl_tree.specs.declared.code.Slot.{Slot}
 use Rattle.spl_tree.specs.declared.code.Slot.TheVariants as L
 use Rattle.language_model.specs.declared.scope.Port.{Port}
+use Rattle.language_model.specs.declared.env.Env.{Env}
 use Rattle.language_model.specs.CodeFits as F
 use Rattle.language_model.specs.CodeFits.{CodeFits, OneEach, SlotFits}
 use Rattle.language_model.specs.WorldFits.{Fits, EnvFits}
@@ -62,3 +64,8 @@ swapped_fits =
     fit swapped (S.Tuple pair)
     (F.tuple ((0, attribute 1) ∷ (1, attribute 0) ∷ []) pair
     (F.field 0 (attribute 1) ((1, attribute 0) ∷ []) pair price refl size_there (F.field 1 (attribute 0) [] pair size refl price_there (F.no_fields pair))) one_each)
+
+-- what is made of a sample fits where what stands for its row comes
+pub fits_as : (t : SplType) (functions : List Function) (code sample : Code Slot) (env : Env) → functions ≡ [] → code ≡ sample → env ≡ row → Fits [] sample row t → Fits functions code env t
+fits_as t functions code sample env none is there f =
+    subst (λ fs. Fits fs code env t) (sym none) (subst (λ c. Fits [] c env t) (sym is) (subst (λ e. Fits [] sample e t) (sym there) f))

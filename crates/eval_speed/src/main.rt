@@ -134,15 +134,50 @@ fn reused(alloc: Global, functions: &Functions, code: &Code<Slot>, env: &Env) ->
     made
 }
 
+fn value(alloc: Global, functions: &Functions, env: &Env) -> Result<u32, NoMemory>
+    requires none { functions.now ≡ [] }
+    requires row { env.now ≡ row }
+{
+    Ok(values(alloc, functions, &above(alloc, 0, 500)?, env))
+}
+
+fn truth(alloc: Global, functions: &Functions, env: &Env) -> Result<u32, NoMemory>
+    requires none { functions.now ≡ [] }
+    requires row { env.now ≡ row }
+{
+    Ok(truths(alloc, functions, &above(alloc, 0, 500)?, env))
+}
+
+fn both(alloc: Global, functions: &Functions, env: &Env) -> Result<u32, NoMemory>
+    requires none { functions.now ≡ [] }
+    requires row { env.now ≡ row }
+{
+    Ok(truths(alloc, functions, &both_above(alloc)?, env))
+}
+
+fn tuple(alloc: Global, functions: &Functions, env: &Env) -> Result<u32, NoMemory>
+    requires none { functions.now ≡ [] }
+    requires row { env.now ≡ row }
+{
+    Ok(tuples(alloc, functions, &swapped(alloc)?, env))
+}
+
+fn tuple_reused(alloc: Global, functions: &Functions, env: &Env) -> Result<u32, NoMemory>
+    requires none { functions.now ≡ [] }
+    requires row { env.now ≡ row }
+{
+    Ok(reused(alloc, functions, &swapped(alloc)?, env))
+}
+
 fn evaluations(alloc: Global, kind: &str) -> Result<u32, NoMemory> {
     let env = env_of(alloc)?;
     let functions = Items::new(alloc);
     match kind {
-        "value" => Ok(values(alloc, &functions, &above(alloc, 0, 500)?, &env)),
-        "truth" => Ok(truths(alloc, &functions, &above(alloc, 0, 500)?, &env)),
-        "both" => Ok(truths(alloc, &functions, &both_above(alloc)?, &env)),
-        "tuple" => Ok(tuples(alloc, &functions, &swapped(alloc)?, &env)),
-        "reused" => Ok(reused(alloc, &functions, &swapped(alloc)?, &env)),
+        "value" => value(alloc, &functions, &env),
+        "truth" => truth(alloc, &functions, &env),
+        "both" => both(alloc, &functions, &env),
+        "tuple" => tuple(alloc, &functions, &env),
+        "reused" => tuple_reused(alloc, &functions, &env),
         _ => Ok(0),
     }
 }
