@@ -3,7 +3,7 @@ use Rattle.std.specs.Prelude.{ℕ, List, Option, slice_get}
 use Rattle.std.specs.Option.{option_and_then, option_map}
 use Rattle.spl_tree.specs.declared.graph.Expansion.{Expansion}
 use Rattle.spl_tree.specs.declared.unit.Definition.{Definition}
-use Rattle.language_model.specs.SinkFiles.{composite_of}
+use Rattle.language_model.specs.DollarTargets.{composite_of}
 use Rattle.language_model.specs.StreamTypes.{Body}
 use Rattle.body_sites.specs.declared.bodies.Body.{Body as Kept}
 

@@ -3,7 +3,7 @@ ghost use Rattle.std.specs.Prelude.{◌≡◌, map, IfOk};
 ghost use Rattle.std.specs.Option.{option_copied, option_map};
 ghost use Rattle.language_model.specs.Composites.{composites};
 ghost use Rattle.language_model.specs.Invoking.{is_among};
-ghost use Rattle.language_model.specs.SinkFiles.{composite_of, arguments_of};
+ghost use Rattle.language_model.specs.DollarTargets.{composite_of, arguments_of};
 ghost use Rattle.language_model.specs.TypeNames.{type_definitions};
 ghost use Rattle.body_sites.specs.Bodies.{body_at_sites, body_seen};
 ghost use Rattle.program_tables.specs.Names.{HoldsNames};

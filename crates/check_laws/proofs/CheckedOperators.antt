@@ -20,7 +20,7 @@ use Rattle.language_model.specs.FlatLaws.{IsInvoked}
 use Rattle.language_model.specs.FunctionTyping.{unit_scope}
 use Rattle.language_model.specs.Keeping.{OperatorFits, PartFits}
 use Rattle.language_model.specs.Parameters.{Tables, table_at}
-use Rattle.language_model.specs.SinkFiles.{composite_of, invocation_at}
+use Rattle.language_model.specs.DollarTargets.{composite_of, invocation_at}
 use Rattle.language_model.specs.StreamTypes.{Attributes, Body, body_at, outputs_attributes, passed, ports_attributes}
 use Rattle.language_model.specs.Typing.{Found, after, mismatch, refused}
 use Rattle.check_laws.specs.PartsLaw.{PartsLaw}

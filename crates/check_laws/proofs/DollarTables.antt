@@ -16,7 +16,7 @@ use Rattle.language_model.specs.CodeFits.{CodeFits}
 use Rattle.language_model.specs.FitLaws.{ConstantLaw, DollarsFit, FitLaw, no_names}
 use Rattle.language_model.specs.Parameters.{Tables, constant_scope, constant_typing, default_typing, dollar_tables, expansion_dollars, has_meaning, is_constant, own_from, own_within, parameter_typing, parameters_given, table_at, tables_from, value_typing}
 use Rattle.language_model.specs.Scopes.{at_place, first_from}
-use Rattle.language_model.specs.SinkFiles.{arguments_of, composite_of, value_named}
+use Rattle.language_model.specs.DollarTargets.{arguments_of, composite_of, value_named}
 use Rattle.language_model.specs.TypeNames.{Types, composite_types, type_meant}
 use Rattle.language_model.specs.Typing.{Found, mismatch, typing}
 use Rattle.language_model.proofs.FoundAnswers.{after_gives}

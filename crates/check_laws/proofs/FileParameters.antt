@@ -16,7 +16,7 @@ use Rattle.language_model.specs.declared.kinds.Role.TheVariants as R
 use Rattle.language_model.specs.Checking.{as_file, file_given, if_given, parameters_checked}
 use Rattle.language_model.specs.Literals.{file_typing}
 use Rattle.language_model.specs.ParameterTyping.{Site, extra, missing, needed, one_value, parameter_typing, parameters_typing, role_of, single_value, value_given, value_typing}
-use Rattle.language_model.specs.SinkFiles.{only_value, value_named}
+use Rattle.language_model.specs.DollarTargets.{only_value, value_named}
 use Rattle.language_model.specs.Typing.{after, mismatch}
 use Rattle.language_model.proofs.FoundAnswers.{after_gives, same_Ok}
 

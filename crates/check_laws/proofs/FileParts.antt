@@ -24,12 +24,13 @@ use Rattle.language_model.specs.declared.scope.Scope.{Scope}
 use Rattle.language_model.specs.Checking.{Checks, aggregated, body_checked, clauses_checked, code_given, config_checked, file_given, first_of, invocation_checked, is_partitioned, joined, logic_checked, operator_checked, operators_checked, operator_scope, output_rows, parameters_checked, part_of, places_given, plain, port_types, ports_checked, ports_of, position_given, rows_checked, site_of, strict_given, surroundings, there, tuple_of, windows_checked}
 use Rattle.language_model.specs.Keeping as F
 use Rattle.language_model.specs.Keeping.{PartFits}
-use Rattle.language_model.specs.Literals.{file_typing, followed, number_literal}
+use Rattle.language_model.specs.DollarTargets.{composite_of, followed, invocation_at, value_named}
+use Rattle.language_model.specs.Literals.{file_typing, number_literal}
 use Rattle.language_model.specs.LogicTyping.{Surroundings, logic_typing}
 use Rattle.language_model.specs.OutputTyping.{groups_typing, inputs_typing}
 use Rattle.language_model.specs.ParameterTyping.{Site, needed, role_of}
 use Rattle.language_model.specs.Parameters.{Tables}
-use Rattle.language_model.specs.SinkFiles.{OpFile, composite_of, file_of, invocation_at, is_sink, is_source, op_file, text_in, value_named}
+use Rattle.language_model.specs.SinkFiles.{OpFile, file_of, is_sink, is_source, op_file, text_in}
 use Rattle.language_model.specs.StreamTypes.{Attributes, Body, body_at}
 use Rattle.language_model.specs.Typing.{Found, after, mismatch}
 use Rattle.check_laws.proofs.FileParameters.{HasFile, has_file}
@@ -163,7 +164,7 @@ module _ (unit : List Definition) (g : Graph) (tables : Tables) where
       ap (option_and_then (λ (c : Composite). slice_get c.graph op.site.invocation)) at.composite ∙ there in
       let scope = operator_scope unit tables b ports in
       let typed = subst (λ number. file_typing scope (followed unit g.expansions number) h.expr ≡ Ok file) at.numbered h.typed in
-      let text = text_in (length g.expansions) unit g.expansions op.site.expansion in
+      let text = text_in unit g.expansions op.site.expansion in
       ap (option_and_then (λ (k : Invocation). option_and_then text (value_named k.clauses.parameters (codes "file")))) invoked
       ∙ ap (option_and_then text) h.there
       ∙ file_found scope unit g.expansions op.site.expansion b.expansion h.expr file at.expansion typed

@@ -19,7 +19,7 @@ use Rattle.language_model.specs.Composites.{composites}
 use Rattle.language_model.specs.Expansion.{Inlined, Made, connections_of, is_within}
 use Rattle.language_model.specs.Numbering.{expansion_of, expansions_from, op_of, ops_from, streams_of}
 use Rattle.language_model.specs.Scopes.{At}
-use Rattle.language_model.specs.SinkFiles.{composite_of}
+use Rattle.language_model.specs.DollarTargets.{composite_of}
 use Rattle.language_model.specs.StreamTypes.{Body, body_at, name_places}
 use Rattle.check_laws.proofs.GrownBodies.{Holds, Takes, main_holds}
 use Rattle.check_laws.proofs.SourceCounts.{body_of, port_counted, streams_within}

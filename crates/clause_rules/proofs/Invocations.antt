@@ -18,9 +18,8 @@ use Rattle.language_model.specs.declared.scope.Port.{Port}
 use Rattle.language_model.specs.declared.scope.Scope.{Scope}
 use Rattle.language_model.specs.Checking.{body_checked, clauses_checked, invocation_checked, operator_checked, port_name, port_types, outputs_checked, ports_checked, ports_of, surroundings}
 use Rattle.language_model.specs.FunctionTyping.{unit_scope}
-use Rattle.language_model.specs.Literals.{followed}
+use Rattle.language_model.specs.DollarTargets.{composite_of, followed}
 use Rattle.language_model.specs.Parameters.{Tables, table_at}
-use Rattle.language_model.specs.SinkFiles.{composite_of}
 use Rattle.language_model.specs.StreamTypes.{Attributes, Body, body_at, outputs_attributes, passed, stream_attributes, output_heads, ports_attributes}
 use Rattle.language_model.specs.TypeNames.{Types, composite_types}
 use Rattle.language_model.specs.Typing.{Found, after, mismatch}

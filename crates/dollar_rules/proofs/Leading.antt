@@ -12,7 +12,7 @@ use Rattle.language_model.specs.DollarLaws.{dollars_in}
 use Rattle.language_model.specs.Leading.{leads_back}
 use Rattle.language_model.specs.Parameters.{default_leads, has_meaning, parameter_leads, parameter_place}
 use Rattle.language_model.specs.Scopes.{At, at_place, first_from}
-use Rattle.language_model.specs.SinkFiles.{value_named}
+use Rattle.language_model.specs.DollarTargets.{value_named}
 use Rattle.dollar_rules.specs.steps.Heads.{rows_of}
 use Rattle.written_types.specs.Stepping.{LeadsWithin, steps_from}
 

@@ -16,7 +16,7 @@ use Rattle.language_model.specs.DollarLaws.{MentionedLaw, dollars_in}
 use Rattle.language_model.specs.FitLaws.{no_names}
 use Rattle.language_model.specs.Parameters.{constant_typing, default_leads, default_typing, is_constant, own_from, parameter_leads, parameter_place, value_typing}
 use Rattle.language_model.specs.Scopes.{dollar_of}
-use Rattle.language_model.specs.SinkFiles.{value_named}
+use Rattle.language_model.specs.DollarTargets.{value_named}
 use Rattle.language_model.specs.TypeNames.{type_meant}
 use Rattle.language_model.specs.declared.scope.Typed.{Typed}
 use Rattle.language_model.specs.Typing.{Found, after, mismatch}

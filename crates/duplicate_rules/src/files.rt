@@ -1,11 +1,11 @@
 //! The files of sources and sinks, and the first that a sink has together with another operator.
-ghost use Rattle.std.specs.Prelude.{◌≡◌, [], map, flat_map, reverse, length, codes, List, ℕ, IfOk, ◌&&◌, ◌||◌};
+ghost use Rattle.std.specs.Prelude.{◌≡◌, [], map, flat_map, reverse, codes, List, ℕ, IfOk, ◌&&◌, ◌||◌};
 ghost use Rattle.std.specs.List.{list_any};
 ghost use Rattle.std.specs.Option.{option_copied, option_map, option_to_list};
 ghost use Rattle.std.specs.Str.{bytes_eq};
 ghost use Rattle.language_model.specs.Declarations.{first_of, repeated};
-ghost use Rattle.language_model.specs.SinkFiles.{text_in, file_of, op_file, is_had};
-ghost use Rattle.duplicate_rules.specs.steps.Seen.{file_seen, literal_text};
+ghost use Rattle.language_model.specs.SinkFiles.{literal_text, text_in, file_of, op_file, is_had};
+ghost use Rattle.duplicate_rules.specs.steps.Seen.{file_seen};
 
 use literal_sites::Follow;
 use operator_kinds::rules_of;
@@ -131,7 +131,7 @@ fn file_of<'a>(sites: &'a SiteTable<'_>, op: &Op) -> Option<&'a [u8]>
 
 /// The text that an expression gives in the expansion of a number.
 fn text_of<'a>(sites: &'a SiteTable<'_>, number: u32, value: &'a Expr) -> Option<&'a [u8]>
-    ensures { option_copied result ≡ text_in (length sites.now.expansions.now) sites.now.unit.now sites.now.expansions.now number value.now }
+    ensures { option_copied result ≡ text_in sites.now.unit.now sites.now.expansions.now number value.now }
 {
     let found = Follow::new(sites, number).target(value)?;
     literal_text(found)

@@ -23,7 +23,7 @@ use Rattle.language_model.specs.Flat.{graph_of}
 use Rattle.language_model.specs.Invoking.{Operator, Body, target_of, is_readable, is_among, stream_names, input_names}
 use Rattle.language_model.specs.Numbering.{op_of, expansion_of, stream_of, streams_of}
 use Rattle.language_model.specs.Scopes.{At}
-use Rattle.language_model.specs.SinkFiles.{composite_of, invocation_at}
+use Rattle.language_model.specs.DollarTargets.{composite_of, invocation_at}
 use Rattle.graph_laws.proofs.Flattening.{topo_of}
 use Rattle.graph_laws.proofs.Inlining.{Holds}
 use Rattle.expansion_laws.specs.Laws.{InputLaw, OneStandingLaw}

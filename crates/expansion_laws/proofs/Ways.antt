@@ -17,7 +17,7 @@ use Rattle.language_model.specs.declared.expansion.Operation.{Operation}
 use Rattle.language_model.specs.Expansion.{Made, Inlined, invocation_name, first_output}
 use Rattle.language_model.specs.Flat.{graph_of}
 use Rattle.language_model.specs.Numbering.{op_of, expansion_of}
-use Rattle.language_model.specs.SinkFiles.{composite_of, invocation_at}
+use Rattle.language_model.specs.DollarTargets.{composite_of, invocation_at}
 use Rattle.graph_laws.proofs.ExpansionAnswers.{expansion_at, op_at}
 use Rattle.graph_laws.proofs.Flattening.{topo_of}
 use Rattle.language_model.proofs.Options.{mapped}

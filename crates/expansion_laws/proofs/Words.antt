@@ -35,7 +35,7 @@ use Rattle.spl_tree.specs.UnitGrammar.{SpellsAlias, SpellsComposite, SpellsDefin
 use Rattle.spl_tree.specs.Words.{keyword_of, symbol_of}
 use Rattle.spl_tree.proofs.CutLaws.{cut_law}
 use Rattle.language_model.specs.Composites.{composites}
-use Rattle.language_model.specs.SinkFiles.{composite_of, invocation_at}
+use Rattle.language_model.specs.DollarTargets.{composite_of, invocation_at}
 use Rattle.expansion_laws.specs.Bodies.{IsName, by_alias, by_stream, without, Lies, in_main, in_body}
 use Rattle.expansion_laws.specs.Names.{IsDotted, word, dotted, DottedLaw}
 use Rattle.expansion_laws.proofs.Ways.{name_law}

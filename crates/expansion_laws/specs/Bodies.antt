@@ -8,7 +8,7 @@ use Rattle.spl_tree.specs.declared.graph.Site.{Site}
 use Rattle.spl_tree.specs.declared.unit.Definition.{Definition}
 use Rattle.spl_tree.specs.declared.unit.Invocation.{Invocation}
 use Rattle.spl_tree.specs.declared.unit.OutputStream.{OutputStream}
-use Rattle.language_model.specs.SinkFiles.{invocation_at}
+use Rattle.language_model.specs.DollarTargets.{invocation_at}
 
 -- the name of an invocation: its alias, or else its first output stream
 pub data IsName (i : Invocation) : List ℕ → Type 0 where

@@ -10,7 +10,7 @@ use Rattle.language_model.specs.Expansion.{Found}
 use Rattle.language_model.specs.CheckedGraph.{CheckedGraph}
 use Rattle.language_model.specs.Checking.{checked}
 use Rattle.language_model.specs.Flat.{IsFlat}
-use Rattle.language_model.specs.SinkFiles.{invocation_at}
+use Rattle.language_model.specs.DollarTargets.{invocation_at}
 use Rattle.expansion_laws.specs.Bodies.{IsBefore, OpLies, IsNamed}
 use Rattle.expansion_laws.specs.Order.{IsTheOrder}
 use Rattle.expansion_laws.specs.Standing.{StandsFor, StandForAll}

@@ -11,7 +11,7 @@ use Rattle.spl_tree.specs.declared.unit.HeadPort.{HeadPort}
 use Rattle.spl_tree.specs.declared.unit.InputPort.{InputPort}
 use Rattle.spl_tree.specs.declared.unit.Invocation.{Invocation}
 use Rattle.spl_tree.specs.declared.unit.OutputStream.{OutputStream}
-use Rattle.language_model.specs.SinkFiles.{composite_of, invocation_at}
+use Rattle.language_model.specs.DollarTargets.{composite_of, invocation_at}
 
 abbrev pub site : ℕ → ℕ → Site
 site number place = record { expansion = number; invocation = place }

@@ -23,7 +23,7 @@ use Rattle.language_model.specs.Invoking.{Target, Operator, Body, Nothing, targe
 use Rattle.language_model.specs.Numbering.{op_of, expansion_of, expansions_from}
 use Rattle.language_model.specs.Recursion.{HasNoRecursion, calls_among, composite_callers}
 use Rattle.language_model.specs.Scopes.{At}
-use Rattle.language_model.specs.SinkFiles.{composite_of, invocation_at}
+use Rattle.language_model.specs.DollarTargets.{composite_of, invocation_at}
 use Rattle.graph_laws.proofs.Flattening.{topo_of, made_of, op_there}
 use Rattle.language_model.proofs.Options.{mapped}
 use Rattle.graph_laws.proofs.Inlining.{IsIn, Holds, Grows, within_is, found, declared_gives, main_holds}

@@ -41,7 +41,8 @@ use Rattle.language_model.specs.declared.scope.Scope.{Scope}
 use Rattle.language_model.specs.CheckedGraph.{CheckedGraph}
 use Rattle.language_model.specs.FunctionTyping.{functions_typing, unit_scope}
 use Rattle.language_model.specs.Kinds.{is_within, rules_of}
-use Rattle.language_model.specs.Literals.{followed, number_literal}
+use Rattle.language_model.specs.DollarTargets.{followed}
+use Rattle.language_model.specs.Literals.{number_literal}
 use Rattle.language_model.specs.LogicTyping.{Surroundings, logic_typing}
 use Rattle.language_model.specs.Numbering.{numbers_from}
 use Rattle.language_model.specs.OutputTyping.{groups_typing, inputs_typing, tuple_typing}

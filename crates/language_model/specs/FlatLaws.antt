@@ -16,7 +16,7 @@ use Rattle.language_model.specs.Flat.{IsFlat, flat_from}
 use Rattle.language_model.specs.Invoking.{Operator, Body, target_of}
 use Rattle.language_model.specs.Recursion.{HasNoRecursion, composite_callers}
 use Rattle.language_model.specs.Scopes.{At}
-use Rattle.language_model.specs.SinkFiles.{invocation_at}
+use Rattle.language_model.specs.DollarTargets.{invocation_at}
 
 -- a unit has one answer at most
 abbrev pub OneFlatLaw : Type 0

@@ -29,6 +29,7 @@ pub mod Invoking
 pub mod Expansion
 pub mod Numbering
 pub mod Taking
+pub mod DollarTargets
 pub mod SinkFiles
 pub mod Flat
 pub mod FlatLaws

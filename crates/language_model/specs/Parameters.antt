@@ -20,7 +20,7 @@ use Rattle.language_model.specs.DollarLaws.{dollars_in}
 use Rattle.language_model.specs.FitLaws.{no_names}
 use Rattle.language_model.specs.Leading.{leads_back}
 use Rattle.language_model.specs.Scopes.{first_from}
-use Rattle.language_model.specs.SinkFiles.{arguments_of, composite_of, value_named}
+use Rattle.language_model.specs.DollarTargets.{arguments_of, composite_of, value_named}
 use Rattle.language_model.specs.TypeNames.{Types, composite_types, type_meant}
 use Rattle.language_model.specs.Typing.{Found, after, mismatch, typing, unknown}
 

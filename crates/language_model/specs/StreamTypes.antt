@@ -28,7 +28,7 @@ use Rattle.language_model.specs.Expansion.{place_of}
 use Rattle.language_model.specs.Invoking.{input_names, stream_names}
 use Rattle.language_model.specs.Leading.{leads_back}
 use Rattle.language_model.specs.Scopes.{At, at_place}
-use Rattle.language_model.specs.SinkFiles.{composite_of}
+use Rattle.language_model.specs.DollarTargets.{composite_of}
 use Rattle.language_model.specs.TypeNames.{composite_types, definition_of, shape_meant, type_definitions}
 use Rattle.language_model.specs.Typing.{Found, after, mismatch, or_else, same_types, unknown}
 

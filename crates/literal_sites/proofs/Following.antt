@@ -6,7 +6,7 @@ use Rattle.spl_tree.specs.declared.graph.Expansion.{Expansion}
 use Rattle.spl_tree.specs.declared.graph.Site.{Site}
 use Rattle.spl_tree.specs.declared.unit.Definition.{Definition}
 use Rattle.spl_tree.specs.Grammar.{Expr}
-use Rattle.language_model.specs.Literals.{Target, target_in, followed_within, here_or}
+use Rattle.language_model.specs.DollarTargets.{Target, target_in, followed_within, here_or}
 
 module _ (unit : List Definition) (expansions : List Expansion) where
   -- an argument, where an expansion is invoked

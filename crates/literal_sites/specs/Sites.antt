@@ -1,7 +1,8 @@
 -- Where the expressions of an operator stand, by what a call is given.
 use Rattle.std.specs.Prelude.{Option}
 use Rattle.spl_tree.specs.Grammar.{Expr}
-use Rattle.language_model.specs.Literals.{followed, number_literal}
+use Rattle.language_model.specs.DollarTargets.{followed}
+use Rattle.language_model.specs.Literals.{number_literal}
 use Rattle.language_model.specs.ParameterTyping.{Site}
 use Rattle.language_model.specs.Policies.{Numbers}
 use Rattle.literal_sites.specs.declared.site.ExpressionSite.{ExpressionSite}

@@ -1,8 +1,7 @@
 //! The expressions that are the values of `$` parameters.
 ghost use Rattle.std.specs.Prelude.{◌≡◌, length};
 ghost use Rattle.std.specs.Option.{option_copied};
-ghost use Rattle.language_model.specs.Literals.{target, target_in, followed, parameter_target};
-ghost use Rattle.language_model.specs.SinkFiles.{arguments_of, heads_of};
+ghost use Rattle.language_model.specs.DollarTargets.{arguments_of, followed, heads_of, parameter_target, target, target_in};
 ghost use Rattle.literal_sites.specs.Following.{target_seen};
 ghost use Rattle.literal_sites.specs.Sites.{followed_in};
 

@@ -1,7 +1,7 @@
 //! The values and the defaults of parameters.
 ghost use Rattle.std.specs.Prelude.{◌≡◌};
 ghost use Rattle.std.specs.Option.{option_copied};
-ghost use Rattle.language_model.specs.SinkFiles.{default_named, only_value, value_named};
+ghost use Rattle.language_model.specs.DollarTargets.{default_named, only_value, value_named};
 
 use spl_tree::{CompositeParameter, Expr, Parameter};
 

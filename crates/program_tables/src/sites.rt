@@ -2,7 +2,7 @@
 ghost use Rattle.std.specs.Prelude.{◌≡◌, map, slice_get, IfOk};
 ghost use Rattle.std.specs.Option.{option_copied};
 ghost use Rattle.language_model.specs.Composites.{composites};
-ghost use Rattle.language_model.specs.SinkFiles.{composite_of, invocation_at, arguments_of, heads_of};
+ghost use Rattle.language_model.specs.DollarTargets.{composite_of, invocation_at, arguments_of, heads_of};
 
 use spl_tree::{
     Composite, CompositeParameter, Definition, Expansion, Invocation, Parameter, Site, Unit,

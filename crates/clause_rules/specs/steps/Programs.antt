@@ -8,7 +8,7 @@ use Rattle.language_model.specs.declared.checked.CheckedClauses.{CheckedClauses}
 use Rattle.language_model.specs.declared.scope.Scope.{Scope}
 use Rattle.language_model.specs.Checking.{clauses_checked, each_stream, operators_checked, port_types, ports_checked, ports_of, surroundings}
 use Rattle.language_model.specs.FlatLaws.{IsInvoked}
-use Rattle.language_model.specs.Literals.{followed}
+use Rattle.language_model.specs.DollarTargets.{followed}
 use Rattle.language_model.specs.Numbering.{numbers_from}
 use Rattle.language_model.specs.Parameters.{dollar_tables}
 use Rattle.language_model.specs.StreamTypes.{Body, body_at}

@@ -1,5 +1,5 @@
 use Rattle.std.proofs.Common.{Err, ◌∙◌}
-use Rattle.language_model.specs.Literals.{followed}
+use Rattle.language_model.specs.DollarTargets.{followed}
 use Rattle.written_types.specs.TypeScopes.{types_in}
 use Rattle.literal_sites.specs.Sites.{followed_in}
 use Rattle.body_sites.specs.Bodies.{body_seen}

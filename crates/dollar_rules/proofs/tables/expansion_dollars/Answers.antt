@@ -3,7 +3,7 @@ use Rattle.std.specs.Option.{option_map_or}
 use Rattle.spl_tree.specs.declared.graph.Site.{Site}
 use Rattle.language_model.specs.declared.scope.Scope.{Scope}
 use Rattle.language_model.specs.Parameters.{table_at}
-use Rattle.language_model.specs.SinkFiles.{composite_of}
+use Rattle.language_model.specs.DollarTargets.{composite_of}
 use Rattle.written_types.specs.TypeScopes.{types_in}
 use Rattle.dollar_rules.specs.steps.Tables.{tables_of}
 use Rattle.dollar_rules.proofs.ExpansionDollars.{dollars_there, means_there, outer_dollars, settled_for}

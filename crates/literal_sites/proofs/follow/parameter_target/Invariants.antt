@@ -1,5 +1,5 @@
 use Rattle.std.proofs.Common.{◌≡◌, length}
-use Rattle.language_model.specs.Literals.{parameter_target}
+use Rattle.language_model.specs.DollarTargets.{parameter_target}
 use Rattle.literal_sites.proofs.follow.parameter_target.Given as goal
 
 abbrev pub invariant-defaults : goal.invariant-defaults

@@ -1,5 +1,5 @@
 use Rattle.std.proofs.Common.{◌≡◌, drop}
-use Rattle.language_model.specs.SinkFiles.{default_named}
+use Rattle.language_model.specs.DollarTargets.{default_named}
 use Rattle.program_tables.proofs.parameters.default_named.Given as goal
 
 abbrev pub invariant-loop-head : goal.invariant-loop-head

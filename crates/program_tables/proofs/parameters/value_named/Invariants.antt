@@ -1,5 +1,5 @@
 use Rattle.std.proofs.Common.{◌≡◌, drop}
-use Rattle.language_model.specs.SinkFiles.{value_named}
+use Rattle.language_model.specs.DollarTargets.{value_named}
 use Rattle.program_tables.proofs.parameters.value_named.Given as goal
 
 abbrev pub invariant-loop-parameter : goal.invariant-loop-parameter

@@ -1,6 +1,6 @@
 use Rattle.std.specs.Prelude.{◌-◌}
 use Rattle.std.proofs.Common.{ap, ◌∙◌}
-use Rattle.language_model.specs.Literals.{Outside}
+use Rattle.language_model.specs.DollarTargets.{Outside}
 use Rattle.literal_sites.proofs.Following.{follow_step, outside}
 use Rattle.literal_sites.proofs.follow.Follow.target.Goals as goal
 

@@ -1,5 +1,5 @@
 use Rattle.std.proofs.Common.{◌≡◌, length}
-use Rattle.language_model.specs.Literals.{followed_within}
+use Rattle.language_model.specs.DollarTargets.{followed_within}
 use Rattle.literal_sites.proofs.follow.Follow.target.Given as goal
 
 abbrev pub invariant-expansions : goal.invariant-expansions
