@@ -23,10 +23,10 @@ use Rattle.composite_expand.specs.declared.answer.ExpandAnswer.TheVariants as X
 use Rattle.composite_expand.specs.Expands.{Expands, IsAnswer}
 use Rattle.composite_tables.specs.declared.made.Body as M
 use Rattle.composite_tables.specs.declared.made.Input.{Input}
-use Rattle.composite_tables.specs.declared.numbering.Numbered.{Numbered}
+use Rattle.stream_numbering.specs.declared.numbering.Numbered.{Numbered}
 use Rattle.composite_tables.specs.Inputs.{Shows, AreNested, InputsStand}
 use Rattle.composite_expand.specs.declared.walk.Walk.{Walk}
-use Rattle.composite_tables.specs.Numbered.{IsNumbered}
+use Rattle.stream_numbering.specs.Numbered.{IsNumbered}
 use Rattle.composite_expand.specs.steps.Walks.{IsExpanded, Starts, Refuses}
 use Rattle.spl_value.proofs.Bools.{and_left, and_right}
 

@@ -7,17 +7,18 @@ ghost use Rattle.spl_tree.specs.declared.unit.Composite.{Composite};
 ghost use Rattle.composite_expand.specs.Expands.{Expands, IsAnswer};
 ghost use Rattle.composite_expand.specs.steps.Waiting.{IsFirstWaiting};
 ghost use Rattle.composite_expand.specs.steps.Walks.{IsExpanded};
-ghost use Rattle.composite_tables.specs.Numbered.{IsNumbered};
+ghost use Rattle.stream_numbering.specs.Numbered.{IsNumbered};
 
 use crate::answer::ExpandAnswer;
 use crate::walk::{Walk, expand_main};
-use composite_tables::{Composites, Numbered, main_of, number_streams};
+use composite_tables::{Composites, main_of};
 use cycle_rules::{first_outside, first_recursion, topological_order};
 use duplicate_rules::{declared_twice, same_file};
 use language_model::{ExpansionRefusal, Operation};
 use spl_tree::{Graph, Placed, Unit};
 use spl_value::{Items, Name, NoMemory};
 use std::alloc::Global;
+use stream_numbering::{Numbered, number_streams};
 
 /// The operators, at their invocations, by their first streams.
 fn labels_of(alloc: Global, ops: &[Operation]) -> Result<Items<Placed<Name>>, NoMemory>

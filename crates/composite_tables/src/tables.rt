@@ -28,7 +28,7 @@ pub struct Scope<'u> {
 
 impl<'u> Scope<'u> {
     /// The place of a stream among those that the graph makes.
-    pub(crate) fn stream(&self, name: &[u8]) -> Option<u32>
+    pub fn stream(&self, name: &[u8]) -> Option<u32>
         ensures { result ≡ place_of name.now (stream_names self.now.composite.now) }
     {
         self.streams.place(name)

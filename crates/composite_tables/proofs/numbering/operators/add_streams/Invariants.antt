@@ -1,6 +1,0 @@
-use Rattle.std.proofs.Common.{◌≡◌, ◌++◌, map}
-use Rattle.language_model.specs.Numbering.{numbers_from}
-use Rattle.composite_tables.proofs.numbering.operators.add_streams.Given as goal
-
-abbrev pub invariant-loop-port : goal.invariant-loop-port
-invariant-loop-port l = l.streams ≡ l.fn.streams ++ map (λ port. record { maker = l.maker; port = port }) (numbers_from 0 l.port)

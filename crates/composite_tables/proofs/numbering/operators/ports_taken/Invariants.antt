@@ -1,7 +1,0 @@
-use Rattle.std.proofs.Common.{◌≡◌, map, take}
-use Rattle.std.specs.Prelude.{filter_map}
-use Rattle.composite_tables.specs.steps.StreamTable.{stream_in}
-use Rattle.composite_tables.proofs.numbering.operators.ports_taken.Given as goal
-
-abbrev pub invariant-loop-port : goal.invariant-loop-port
-invariant-loop-port l = l.ins ≡ map (filter_map (stream_in l.table)) (take l.port-index l.ports)

@@ -1,9 +1,0 @@
-use Rattle.std.proofs.Common.{◌∙◌, sym}
-use Rattle.composite_tables.specs.SiteTable.{number_at}
-use Rattle.composite_tables.proofs.InvokedSites.{added}
-use Rattle.composite_tables.proofs.numbering.sites.Sites.add.Goals as goal
-
-pub returns-in_ok-insert : goal.returns-in_ok-insert
-returns-in_ok-insert c =
-    added (number_at c.args.self.now) (number_at (record { numbers = c.insert.new.self })) c.args.site c.args.number
-    (λ q. c.in_ok-insert.ensures.updates.0 (q.expansion, q.invocation)) (sym c.contains_key.ensures ∙ c.if-not-contains_key.true)

@@ -1,9 +1,0 @@
-use Rattle.std.proofs.Common.{◌≡◌, ◌++◌, map}
-use Rattle.language_model.specs.Numbering.{numbers_from}
-use Rattle.composite_tables.specs.Describes.{Describes}
-use Rattle.composite_tables.specs.SiteTable.{Parts, stream_there}
-use Rattle.composite_tables.proofs.numbering.standing.Standing.add_outputs.Given as goal
-
-abbrev pub invariant-loop-output : goal.invariant-loop-output
-invariant-loop-output l =
-    (parts : Parts) → Describes l.self parts → l.row ≡ l.fn.row ++ map (stream_there parts l.table l.site) (numbers_from 0 l.output)

@@ -1,9 +1,0 @@
-use Rattle.std.proofs.Common.{◌≡◌, length}
-use Rattle.composite_tables.specs.Describes.{Describes}
-use Rattle.composite_tables.specs.SiteTable.{Parts, filled, table_of}
-use Rattle.composite_tables.proofs.numbering.standing.Standing.fill.Given as goal
-
-abbrev pub invariant-loop-number : goal.invariant-loop-number
-invariant-loop-number l =
-    (length l.table ≡ l.count)
-    × ((parts : Parts) → Describes l.self parts → filled parts l.number l.table ≡ table_of parts)

@@ -1,8 +1,0 @@
-use Rattle.std.proofs.lemmas.Result.{IfOk-weaker}
-use Rattle.composite_tables.specs.SiteTable.{parts_of}
-use Rattle.composite_tables.proofs.numbering.table_of.Goals as goal
-
-pub returns : goal.returns
-returns c =
-    let parts = parts_of c.args.composites.now.unit.now c.args.bodies.now c.args.operations.now in
-    IfOk-weaker c.table.result _ _ (λ table filled. filled parts c.in_ok-standing.ensures) c.table.ensures

@@ -1,0 +1,6 @@
+mod Filling
+mod InvokedSites
+mod NumberedParts
+mod Numbers
+mod Outputs
+mod SiteTables

@@ -1,0 +1,4 @@
+pub mod Describes
+pub mod Numbered
+pub mod SiteTable
+pub mod steps
