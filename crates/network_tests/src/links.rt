@@ -119,7 +119,7 @@ fn take_all<W: Wait>(rt: &W, link: &Link, mut pass: TakePass, count: u64) -> (Ta
 
 // `count` packets from one thread to another, over a link of this capacity: how many were sent, were taken, and came
 // in their order.
-fn carried<R: Threads + Wait + Sync>(
+fn passed_on<R: Threads + Wait + Sync>(
     rt: &R,
     alloc: Global,
     capacity: u32,
@@ -142,7 +142,7 @@ fn carried<R: Threads + Wait + Sync>(
 #[test]
 fn packets_come_to_another_thread_in_their_order(rt: HostRuntime) -> Result<(), Fail> {
     for (capacity, count) in [(18, 10_000), (1, 1_000), (1_024, 1_000_000)] {
-        let seen = carried(&rt, rt.alloc(), capacity, count);
+        let seen = passed_on(&rt, rt.alloc(), capacity, count);
         assert!(rt; seen == Some((count, count, count)));
     }
     Ok(())

@@ -64,7 +64,7 @@ fn run_text(
 }
 
 // The end of a run that was carried out.
-fn carried_out(
+fn finished(
     alloc: Global,
     counted: bool,
     checked: &Checked,
@@ -117,7 +117,7 @@ fn ended_run(
             unfinished(alloc, write_failed(alloc, name_at(files, *place)), arrivals)
         }
         Sunk::Memory => unfinished(alloc, Cause::NoMemory, arrivals),
-        Sunk::Done(rows) => carried_out(alloc, counted, checked, rows, fault, arrivals),
+        Sunk::Done(rows) => finished(alloc, counted, checked, rows, fault, arrivals),
     }
 }
 

@@ -19,5 +19,5 @@ returns-in-Memory c =
 
 pub returns-in-Done : goal.returns-in-Done
 returns-in-Done c =
-    ends_done c.args.sunk.now c.in-Done.rows c.args.counted c.args.checked.now (names_of c.args.files.now.sinks c.args.files.now.last) c.args.fault c.args.arrivals c.carried_out.result c.in-Done.is
-    c.carried_out.ensures.ends c.carried_out.ensures.text c.carried_out.ensures.recorded
+    ends_done c.args.sunk.now c.in-Done.rows c.args.counted c.args.checked.now (names_of c.args.files.now.sinks c.args.files.now.last) c.args.fault c.args.arrivals c.finished.result c.in-Done.is
+    c.finished.ensures.ends c.finished.ensures.text c.finished.ensures.recorded
