@@ -23,7 +23,7 @@ use Rattle.language_model.specs.Scopes.{At, unresolved_of}
 use Rattle.language_model.specs.StatementTyping.{change_typing, function_statement}
 use Rattle.language_model.specs.Typing.{Found, OnFirst, Part, after, argument_count, arguments_typed, built_in_typed, changed_typed, first_typed, function_typed, if_mutable, int32, is_mutable, level_changed, level_first, mismatch, not_callable, part_typed, refused, typed, value_given, wrong_call}
 use Rattle.call_rules.specs.Calls.{Asked, asked, asked_by_change, change_asked, first_for, given, row_for, value_asked}
-use Rattle.type_rules.specs.Called.{called_with}
+use Rattle.name_rules.specs.Functions.{function_found}
 use Rattle.language_model.specs.Finds.{with_front}
 use Rattle.type_rules.proofs.Steps.{after_each}
 use Rattle.language_model.proofs.FoundAnswers.{after_after}
@@ -149,19 +149,17 @@ changing_law at scope call (e ∷ es) = by (length (e ∷ es) == argument_count 
 
 -- ---- calls of functions
 
--- the function and the codes of the arguments, and then what a call makes of them
+-- the function, then the codes of the arguments, and then what a call makes of them
 module _ {B : Type 0} (at : ℕ) (scope : Scope) (name : List ℕ) (es : List (Placed Part)) (made : At Signature → List (Code Slot) → Found B) where
-  abbrev with_codes : Found (At Signature) → Found (At Signature × List (Code Slot))
-  with_codes found = after found (λ f. after (arguments_typed scope f.what.parameters es) (λ xs. Ok (f, xs)))
+  abbrev with_codes : At Signature → Found B
+  with_codes f = after (arguments_typed scope f.what.parameters es) (made f)
 
-  not_there : (r : Option CheckRefusal) → not_callable at name r ≡ after (with_codes (not_callable at name r)) (λ p. made p.0 p.1)
+  not_there : (r : Option CheckRefusal) → not_callable at name r ≡ after {A = At Signature} (not_callable at name r) with_codes
   not_there None = refl
   not_there (Some r) = refl
 
-  as_many : (b : Bool) (f : At Signature)
-      → (if b then after (arguments_typed scope f.what.parameters es) (made f) else wrong_call at)
-      ≡ after (with_codes (if b then Ok f else wrong_call at)) (λ p. made p.0 p.1)
-  as_many true f = sym (after_after (arguments_typed scope f.what.parameters es) (λ xs. Ok (f, xs)) (λ p. made p.0 p.1))
+  as_many : (b : Bool) (f : At Signature) → (if b then with_codes f else wrong_call at) ≡ after (if b then Ok f else wrong_call at) with_codes
+  as_many true f = refl
   as_many false f = refl
 
 module _ (at : ℕ) (scope : Scope) (name : List ℕ) (es : List (Placed Part)) where
@@ -169,13 +167,14 @@ module _ (at : ℕ) (scope : Scope) (name : List ℕ) (es : List (Placed Part)) 
   value_made f xs = value_given at f.what.result (C.Call f.place xs)
 
   pub function_law : (o : Option (At Signature))
-      → function_typed at scope name es o ≡ after (called_with at scope name es o) (λ p. value_given at p.0.what.result (C.Call p.0.place p.1))
+      → function_typed at scope name es o ≡ after (function_found at scope name es o) (λ f. after (arguments_typed scope f.what.parameters es) (value_made f))
   function_law None = not_there at scope name es value_made (unresolved_of scope name)
   function_law (Some f) = as_many at scope name es value_made (length es == length f.what.parameters) f
 
   abbrev statement_made : At Signature → List (Code Slot) → Found Statement
   statement_made f xs = Ok (T.Call f.place xs)
 
-  pub function_statement_law : (o : Option (At Signature)) → function_statement at scope name es o ≡ after (called_with at scope name es o) (λ p. Ok (T.Call p.0.place p.1))
+  pub function_statement_law : (o : Option (At Signature))
+      → function_statement at scope name es o ≡ after (function_found at scope name es o) (λ f. after (arguments_typed scope f.what.parameters es) (statement_made f))
   function_statement_law None = not_there at scope name es statement_made (unresolved_of scope name)
   function_statement_law (Some f) = as_many at scope name es statement_made (length es == length f.what.parameters) f

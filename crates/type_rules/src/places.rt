@@ -1,5 +1,5 @@
 //! Places that are changed.
-ghost use Rattle.std.specs.Prelude.{◌≡◌};
+ghost use Rattle.std.specs.Prelude.{None, ◌≡◌};
 ghost use Rattle.spl_tree.specs.declared.code.Code.TheViews.{out-Code};
 ghost use Rattle.spl_tree.specs.declared.code.Slot.{Slot};
 ghost use Rattle.language_model.specs.StatementTyping.{level_variable, level_place, place_given, place_typing};
@@ -27,8 +27,12 @@ fn variable_read(code: Boxed<Code<Slot>>, takings: Takings) -> Option<Place>
     }
 }
 
-/// Drops a code.
-fn release(_code: Code<Slot>) {}
+/// Drops what has no place.
+fn nothing<T: Drop>(_: T) -> Option<Place>
+    ensures { result ≡ None }
+{
+    None
+}
 
 /// The place that a code reads, where it is one of a variable.
 fn place_read(alloc: Global, code: Boxed<Code<Slot>>) -> Option<Place>
@@ -40,10 +44,7 @@ fn place_read(alloc: Global, code: Boxed<Code<Slot>>) -> Option<Place>
             takings: Items::new(alloc),
         }),
         Code::Select(base, takings) => variable_read(base, takings),
-        other => {
-            release(other);
-            None
-        }
+        other => nothing(other),
     }
 }
 

@@ -1,14 +1,15 @@
 //! The types of expressions, by a call for each form of expression.
 
-ghost use Rattle.std.specs.Prelude.{None, Ok, ◌&&◌};
+ghost use Rattle.std.specs.Prelude.{List, None, Ok, ◌&&◌};
 ghost use Rattle.std.specs.Option.{option_copied};
 ghost use Rattle.spl_value.specs.declared.types.SplType.TheVariants as S;
 ghost use Rattle.spl_tree.specs.declared.code.Code.TheVariants as C;
-ghost use Rattle.language_model.specs.Typing.{typing, typed, part, list_typed, wants_list, map_typed, wants_map, tuple_typed, wants_tuple, select_typed, of_base, binary_or_marker, marker_asked, arguments_typed, built_in_typed, call_typed, call_of};
+ghost use Rattle.language_model.specs.Typing.{Found, after, conditional_typed, value_given, typing, typed, part, list_typed, wants_list, map_typed, wants_map, tuple_typed, wants_tuple, select_typed, of_base, binary_or_marker, marker_asked, arguments_typed, built_in_typed, call_typed, call_of};
 ghost use Rattle.language_model.specs.TypingLaws.{parted, parts, entry_parts, field_parts, step_parts};
-ghost use Rattle.language_model.specs.Finds.{Finds, FindsBy, with_front};
-ghost use Rattle.language_model.specs.Scopes.{at_place, function_of};
-ghost use Rattle.type_rules.specs.Called.{called_with};
+ghost use Rattle.language_model.specs.declared.scope.Typed.{Typed};
+ghost use Rattle.spl_tree.specs.declared.code.Code.{Code};
+ghost use Rattle.spl_tree.specs.declared.code.Slot.{Slot};
+ghost use Rattle.language_model.specs.Finds.{Finds, with_front};
 
 use call_rules::{
     argument_row, asks, behind_first, branch_wanted, call_named, first_wanted, given, marker,
@@ -22,8 +23,8 @@ use name_rules::{
     number_typed, of_port, pair_wanted, port_member, schema_wanted, select, take_index,
     take_member, text, tuple_given, with_element, with_entry,
 };
-use spl_tree::{BinaryOperator, CallName, Expr, ExprKind, Field, Step};
-use spl_value::{Items, SplType, Value};
+use spl_tree::{BinaryOperator, CallName, Code, Expr, ExprKind, Field, Slot, Step};
+use spl_value::{Boxed, Items, SplType, Value};
 use std::alloc::Global;
 
 /// The type and the code of an expression in a scope, under the type that its place wants, if it
@@ -34,7 +35,6 @@ use std::alloc::Global;
 /// the refusal of that. A call of a function whose types aren't any has the refusal of those.
 /// `Memory` is also the answer for rows of more than 2^32 names.
 #[cycle(types)]
-#[tactic(auto, using(language_model::proofs::TypingLaws::typing_laws))]
 pub fn type_of(
     alloc: Global,
     scope: &Scope,
@@ -50,11 +50,7 @@ pub fn type_of(
         ExprKind::Map(entries) => map(alloc, scope, at, entries.as_slice(), wanted),
         ExprKind::Tuple(fields) => tuple(alloc, scope, at, fields.as_slice(), wanted),
         ExprKind::Conditional(condition, first, second) => {
-            let test = type_of(alloc, scope, condition, Some(&SplType::Bool))?;
-            let one = type_of(alloc, scope, first, wanted)?;
-            let wanted = branch_wanted(wanted, one.kind.get());
-            let other = type_of(alloc, scope, second, wanted)?;
-            chosen(alloc, test, one, other)
+            conditional(alloc, scope, condition, first, second, wanted)
         }
         ExprKind::Name(name) => {
             required(at, wanted, name_typed(alloc, scope, at, name.as_slice()))
@@ -82,6 +78,39 @@ pub fn type_of(
         ExprKind::Binary(operator, left, right) => {
             required(at, wanted, operation(alloc, scope, *operator, left, right))
         }
+    }
+}
+
+/// A conditional. Its second branch has to be of the wanted type, or else of that of the first one.
+#[cycle(types)]
+fn conditional(
+    alloc: Global,
+    scope: &Scope,
+    condition: &Expr,
+    first: &Expr,
+    second: &Expr,
+    wanted: Option<&SplType>,
+) -> Result<Typed, TypeAnswer>
+    ensures { Finds (conditional_typed scope.now (option_copied wanted.entry) (parted condition.now) (parted first.now) (parted second.now)) result }
+{
+    let test = type_of(alloc, scope, condition, Some(&SplType::Bool))?;
+    let one = type_of(alloc, scope, first, wanted)?;
+    let other = type_of(alloc, scope, second, branch_wanted(wanted, one.kind.get()));
+    if_other(alloc, test, one, other)
+}
+
+/// A conditional, where its second branch was found.
+fn if_other(
+    alloc: Global,
+    condition: Typed,
+    first: Typed,
+    second: Result<Typed, TypeAnswer>,
+) -> Result<Typed, TypeAnswer>
+    ensures { (o : Found Typed) → Finds o second → Finds (after o (λ z. Ok (typed first.kind (C.Conditional condition.code first.code z.code)))) result }
+{
+    match second {
+        Ok(second) => chosen(alloc, condition, first, second),
+        Err(answer) => Err(answer),
     }
 }
 
@@ -203,9 +232,22 @@ fn selection(
     taken(alloc, scope, base.at, typed, steps)
 }
 
+/// A comparison with a marker, where a marker has come.
+fn marker_tested(
+    alloc: Global,
+    scope: &Scope,
+    operator: BinaryOperator,
+    left: &Expr,
+    right: &Expr,
+) -> Result<Option<Boxed<Code<Slot>>>, TypeAnswer>
+    ensures { Finds (Ok (marker_asked (scope.now.punct && (part left.now.what).form.asks) operator (part right.now.what).form.marker)) result }
+{
+    let asks = scope.punct && asks(left);
+    marker_test(alloc, asks, operator, marker(right))
+}
+
 /// An operator between two operands, or a comparison with a marker.
 #[cycle(types)]
-#[tactic(auto, using(crate::proofs::Exits::binary_law))]
 fn operation(
     alloc: Global,
     scope: &Scope,
@@ -215,8 +257,7 @@ fn operation(
 ) -> Result<Typed, TypeAnswer>
     ensures { Finds (binary_or_marker (marker_asked (scope.now.punct && (part left.now.what).form.asks) operator (part right.now.what).form.marker) scope.now operator (parted left.now) (parted right.now)) result }
 {
-    let asks = scope.punct && asks(left);
-    if let Some(code) = marker_test(alloc, asks, operator, marker(right))? {
+    if let Some(code) = marker_tested(alloc, scope, operator, left, right)? {
         return truth(alloc, code);
     }
     let first = type_of(alloc, scope, left, None)?;
@@ -246,26 +287,8 @@ pub(crate) fn arguments(
     Ok(codes)
 }
 
-/// The function that is called, with its place, and the codes of its arguments.
-#[cycle(types)]
-pub(crate) fn called_with<'s>(
-    alloc: Global,
-    scope: &'s Scope,
-    at: u32,
-    name: &[u8],
-    all: &[Expr],
-) -> Result<(usize, &'s Signature, Codes), TypeAnswer>
-    ensures { FindsBy (λ p. (at_place p.0 p.1.now, p.2)) (called_with at scope.now name.now (parts all.now) (function_of scope.now name.now)) result }
-{
-    let (place, found) = called(alloc, scope, at, name, all)?;
-    let kinds = found.parameters.as_slice();
-    let codes = arguments(alloc, scope, kinds, all, Items::new(alloc))?;
-    Ok((place, found, codes))
-}
-
 /// A call of a function, or of one that the language has built in.
 #[cycle(types)]
-#[tactic(auto, using(crate::proofs::CallLaws::function_law))]
 pub(crate) fn call(
     alloc: Global,
     scope: &Scope,
@@ -278,13 +301,30 @@ pub(crate) fn call(
     if let Some(call) = call_named(name) {
         return built_in(alloc, scope, at, call, all);
     }
-    let (place, found, codes) = called_with(alloc, scope, at, name, all)?;
-    function_given(alloc, at, place, found.result.as_ref(), codes)
+    let (place, found) = called(alloc, scope, at, name, all)?;
+    let kinds = found.parameters.as_slice();
+    let codes = arguments(alloc, scope, kinds, all, Items::new(alloc));
+    if_codes(alloc, at, place, found, codes)
+}
+
+/// A call of the function at a place, where the codes of its arguments were found.
+fn if_codes(
+    alloc: Global,
+    at: u32,
+    place: usize,
+    function: &Signature,
+    codes: Result<Codes, TypeAnswer>,
+) -> Result<Typed, TypeAnswer>
+    ensures { (o : Found (List (Code Slot))) → Finds o codes → Finds (after o (λ xs. value_given at function.now.result (C.Call place xs))) result }
+{
+    match codes {
+        Ok(codes) => function_given(alloc, at, place, function.result.as_ref(), codes),
+        Err(answer) => Err(answer),
+    }
 }
 
 /// A call of one that the language has built in. Its first argument says what the others have to be.
 #[cycle(types)]
-#[tactic(auto, using(crate::proofs::CallLaws::built_in_law))]
 fn built_in(
     alloc: Global,
     scope: &Scope,

@@ -1,18 +1,26 @@
 //! Assignments, and calls as statements.
 ghost use Rattle.std.specs.Prelude.{◌≡◌, ◌==◌, None, length, if◌then◌else◌};
 ghost use Rattle.spl_value.specs.declared.types.SplType.TheViews.{out-SplType};
-ghost use Rattle.language_model.specs.Typing.{argument_count, call_of, changed_typed, level_changed, level_operator, operands_typed, wrong_call};
+ghost use Rattle.language_model.specs.Typing.{Found, after, argument_count, call_of, changed_typed, level_changed, level_operator, operands_typed, typed, wrong_call};
 ghost use Rattle.language_model.specs.TypingLaws.{parted, parts};
-ghost use Rattle.language_model.specs.StatementTyping.{assignment_typing, compound_typing, call_typing, call_statement, change_typing, change_made};
+ghost use Rattle.language_model.specs.StatementTyping.{function_statement, assignment_typing, compound_typing, call_typing, call_statement, change_typing, change_made};
+ghost use Rattle.language_model.specs.Scopes.{function_of};
+ghost use Rattle.language_model.specs.declared.scope.Typed.{Typed};
+ghost use Rattle.spl_tree.specs.declared.code.Code.TheVariants as C;
+ghost use Rattle.spl_tree.specs.declared.body.Change.TheVariants as H;
+ghost use Rattle.spl_tree.specs.declared.body.Statement.TheVariants as T;
 ghost use Rattle.language_model.specs.Finds.{Finds};
-ghost use Rattle.type_rules.specs.Places.{only};
+ghost use Rattle.type_rules.specs.Places.{compound_value, only};
 
 use crate::places::{place_given, place_of};
-use crate::rules::{arguments, call, called_with, type_of};
-use call_rules::{argument_row, as_wanted, binary, call_named, change_asked, operator_on};
+use crate::rules::{arguments, call, type_of};
+use call_rules::{argument_row, binary, call_named, change_asked, operator_on, required};
 use code_copies::Codes;
 use language_model::{Scope, TypeAnswer, Typed, mismatch, narrow, wrong_call};
-use spl_tree::{BinaryOperator, CallName, Change, Code, Expr, ExprKind, Place, Slot, Statement};
+use name_rules::called;
+use spl_tree::{
+    BinaryCode, BinaryOperator, CallName, Change, Code, Expr, ExprKind, Place, Slot, Statement,
+};
 use spl_value::{Boxed, Items, SplType};
 use std::alloc::Global;
 
@@ -33,7 +41,6 @@ fn code_of(typed: Typed) -> Code<Slot>
 /// `Refused` comes with the first of these: a refusal of the place as an expression; `WrongCall` at
 /// the place where it isn't one; `NotMutable` at the place where its variable isn't mutable; a
 /// refusal of the value, under the type that is wanted of it. `Memory` is as that of `type_of`.
-#[tactic(auto, using(crate::proofs::PlacesFound::behind_place))]
 pub fn assignment_of(
     alloc: Global,
     scope: &Scope,
@@ -43,8 +50,17 @@ pub fn assignment_of(
     ensures { Finds (assignment_typing scope.now place.now value.now) result }
 {
     let (target, kind) = place_of(alloc, scope, place)?;
-    let typed = type_of(alloc, scope, value, Some(kind.get()))?;
-    Ok(Statement::Change(target, Change::Put(code_of(typed))))
+    put(target, type_of(alloc, scope, value, Some(kind.get())))
+}
+
+/// The statement that puts what was found into a place.
+fn put(place: Place, value: Result<Typed, TypeAnswer>) -> Result<Statement, TypeAnswer>
+    ensures { (o : Found Typed) → Finds o value → Finds (after o (λ y. Ok (T.Change place (H.Put y.code)))) result }
+{
+    match value {
+        Ok(typed) => Ok(Statement::Change(place, Change::Put(code_of(typed)))),
+        Err(answer) => Err(answer),
+    }
 }
 
 /// An operator whose right operand has to have the type of the left one.
@@ -61,9 +77,40 @@ fn same_operands(
     let Some((operator, kind)) = operator_on(operator, first.kind.get()) else {
         return Err(mismatch(left.at));
     };
-    let kind = Boxed::new(alloc, kind)?;
-    let second = type_of(alloc, scope, right, Some(first.kind.get()))?;
-    binary(alloc, kind, operator, first, second)
+    let second = type_of(alloc, scope, right, Some(first.kind.get()));
+    if_second(alloc, kind, operator, first, second)
+}
+
+/// An operator that gives this type, where its right operand was found.
+fn if_second(
+    alloc: Global,
+    kind: SplType,
+    operator: BinaryCode,
+    first: Typed,
+    second: Result<Typed, TypeAnswer>,
+) -> Result<Typed, TypeAnswer>
+    ensures { (o : Found Typed) → Finds o second → Finds (after o (λ y. Ok (typed kind (C.Binary operator first.code y.code)))) result }
+{
+    match second {
+        Ok(second) => binary(alloc, Boxed::new(alloc, kind)?, operator, first, second),
+        Err(answer) => Err(answer),
+    }
+}
+
+/// The value of `place op value`, which has to be of the type of what the place holds.
+fn compound_value(
+    alloc: Global,
+    scope: &Scope,
+    operator: BinaryOperator,
+    place: &Expr,
+    value: &Expr,
+    held: &SplType,
+) -> Result<Typed, TypeAnswer>
+    ensures { Finds (compound_value scope.now operator place.now value.now held.now) result }
+{
+    let first = type_of(alloc, scope, place, None)?;
+    let typed = same_operands(alloc, scope, operator, first, place, value);
+    required(place.at, Some(held), typed)
 }
 
 /// The statement `place op= value;` in a scope, which is that of `place = place op value;`. So the
@@ -73,7 +120,6 @@ fn same_operands(
 /// at the place where the operator isn't one of the type of what it holds; a refusal of the value,
 /// which has to be of that type; `Mismatch` at the place where the operator gives another type.
 /// `Memory` is as that of `type_of`.
-#[tactic(auto, using(crate::proofs::PlacesFound::behind_place))]
 pub fn compound_of(
     alloc: Global,
     scope: &Scope,
@@ -84,10 +130,10 @@ pub fn compound_of(
     ensures { Finds (compound_typing scope.now operator place.now value.now) result }
 {
     let (target, held) = place_of(alloc, scope, place)?;
-    let first = type_of(alloc, scope, place, None)?;
-    let typed = same_operands(alloc, scope, operator, first, place, value)?;
-    let typed = as_wanted(place.at, Some(held.get()), typed)?;
-    Ok(Statement::Change(target, Change::Put(code_of(typed))))
+    put(
+        target,
+        compound_value(alloc, scope, operator, place, value, held.get()),
+    )
 }
 
 /// A call as a statement, in a scope. `appendM(list, value)`, `removeM(map, key)`, `clearM(list)` and
@@ -112,7 +158,6 @@ pub fn call_of(alloc: Global, scope: &Scope, call: &Expr) -> Result<Statement, T
 }
 
 /// A call by its name: one that changes a place, one whose value isn't used, or one of a function.
-#[tactic(auto, using(crate::proofs::CallLaws::function_statement_law))]
 fn call_statement(
     alloc: Global,
     scope: &Scope,
@@ -139,12 +184,26 @@ fn call_statement(
             let typed = call(alloc, scope, at, name, all)?;
             Ok(Statement::Evaluate(code_of(typed)))
         }
-        None => {
-            let (place, _, codes) = called_with(alloc, scope, at, name, all)?;
-            let place = narrow(place)?;
-            Ok(Statement::Call(place, codes))
-        }
+        None => function_statement(alloc, scope, at, name, all),
     }
+}
+
+/// A call of a function.
+#[tactic(auto, using(crate::proofs::CallLaws::function_statement_law))]
+fn function_statement(
+    alloc: Global,
+    scope: &Scope,
+    at: u32,
+    name: &[u8],
+    all: &[Expr],
+) -> Result<Statement, TypeAnswer>
+    ensures { Finds (function_statement at scope.now name.now (parts all.now) (function_of scope.now name.now)) result }
+{
+    let (place, found) = called(alloc, scope, at, name, all)?;
+    let kinds = found.parameters.as_slice();
+    let codes = arguments(alloc, scope, kinds, all, Items::new(alloc))?;
+    let place = narrow(place)?;
+    Ok(Statement::Call(place, codes))
 }
 
 /// A call that changes its first argument, with as many arguments as it has.

@@ -1,16 +1,29 @@
-use Rattle.std.proofs.Common.{◌≡◌, Err, ap, arith, refl, sym, ◌+◌, ◌∙◌, drop}
+use Rattle.std.proofs.Common.{◌≡◌, ℕ, List, Err, ap, arith, refl, sym, ◌+◌, ◌∙◌, drop}
 use Rattle.std.specs.Option.{option_copied}
-use Rattle.language_model.specs.Typing.{typing, wants_tuple}
-use Rattle.language_model.specs.TypingLaws.{entry_parts, field_parts, parts}
-use Rattle.type_rules.proofs.Loops.{arguments_past, index_by, kinds_past, member_by, taken_by}
-use Rattle.type_rules.proofs.LiteralLaws.{field_next, field_stops, list_done, list_next, list_on, list_past, map_done, map_next, map_on, map_past, tuple_first, tuple_past, value_stops}
+use Rattle.language_model.specs.Scopes.{at_place, function_of}
+use Rattle.language_model.specs.Finds.{with_front}
+use Rattle.language_model.specs.Typing.{arguments_typed, binary_or_marker, branch_wanted, call_typed, typing, wants_list, wants_map, wants_tuple}
+use Rattle.language_model.specs.TypingLaws.{entry_parts, field_parts, parted, parts}
+use Rattle.std.specs.Borrow.{Bor}
+use Rattle.spl_value.specs.declared.types.SplType.{SplType}
+use Rattle.spl_tree.specs.declared.code.Code.{Code}
+use Rattle.spl_tree.specs.declared.code.Slot.{Slot}
+use Rattle.language_model.specs.declared.scope.Signature.{Signature}
+use Rattle.language_model.specs.declared.scope.Typed.{Typed}
+use Rattle.call_rules.specs.Calls.{Asked, Gives}
+use Rattle.call_rules.specs.Operands.{right_for}
+use Rattle.type_rules.proofs.Loops.{arguments_past, index_by, kinds_past, member_by, taken_by, taken_past}
+use Rattle.type_rules.proofs.LiteralLaws.{field_next, field_stops, list_done, list_law, list_next, list_on, list_past, map_done, map_law, map_next, map_on, map_past, tuple_first, tuple_past, value_stops}
 use Rattle.type_rules.proofs.Weights.{weight, expr_weight, weights, entry_weight, entry_weights, field_weight, field_weights, step_weight, step_weights, list_weight, map_weight, tuple_weight, call_weight, select_weight}
 use Rattle.type_rules.proofs.rules.+types.Goals.{arguments-then-arguments-test+else-at-arguments, arguments-else-arguments-test, taken-in-Member+in_ok-kind-in-Member, taken-in-Index+in_ok-index_wanted-in-Index+in_ok-typed-in-Index+in_ok-kind-in-Index}
 use Rattle.type_rules.proofs.rules.+types.Goals as goal
-use Rattle.language_model.proofs.FoundAnswers.{fails, finds_by}
+use Rattle.language_model.proofs.FoundAnswers.{fails, finds_by, goes, no_front, same_Ok, stops}
 use Rattle.language_model.proofs.TypingLaws as laws
 use Rattle.spl_tree.specs.declared.expression.ExprKind.TheVariants as V
-use Rattle.type_rules.proofs.WantedForms.{by_form}
+use Rattle.type_rules.proofs.WantedForms.{by_form, of_form}
+use Rattle.type_rules.proofs.Steps.{seen_refused}
+use Rattle.type_rules.proofs.Exits.{binary_law}
+use Rattle.type_rules.proofs.CallLaws.{built_in_law, function_law}
 use Rattle.spl_tree.proofs.ExprWeights.{item_below}
 
 pub list-loop-element-preserved : goal.list-loop-element-preserved
@@ -211,3 +224,136 @@ type_of-returns-in-Binary t c =
     let scope = c.args.scope.now in
     let w = option_copied c.args.wanted in
     by_form c.args.expr.now.what _ at scope w (sym c.get.ensures ∙ c.in-Binary.is) _ (laws.binary_typed c.in-Binary.operator c.in-Binary.left c.in-Binary.right at scope w) _ _ c.required-in-Binary.ensures c.operation.ensures
+
+pub type_of-returns-in-Group : goal.type_of-returns-in-Group
+type_of-returns-in-Group t c =
+    let at = c.args.expr.now.at in
+    let scope = c.args.scope.now in
+    let w = option_copied c.args.wanted in
+    of_form c.args.expr.now.what _ at scope w (sym c.get.ensures ∙ c.in-Group.is) _ (laws.group_typed c.in-Group.inner at scope w) _ c.type_of.ensures
+
+pub type_of-returns-in-List : goal.type_of-returns-in-List
+type_of-returns-in-List t c =
+    let at = c.args.expr.now.at in
+    let scope = c.args.scope.now in
+    let w = option_copied c.args.wanted in
+    of_form c.args.expr.now.what _ at scope w (sym c.get.ensures ∙ c.in-List.is ∙ (λ i. V.List (sym c.as_slice.ensures i))) _ (laws.list_typed c.as_slice.result.now at scope w) _ c.list.ensures
+
+pub type_of-returns-in-Map : goal.type_of-returns-in-Map
+type_of-returns-in-Map t c =
+    let at = c.args.expr.now.at in
+    let scope = c.args.scope.now in
+    let w = option_copied c.args.wanted in
+    of_form c.args.expr.now.what _ at scope w (sym c.get.ensures ∙ c.in-Map.is ∙ (λ i. V.Map (sym c.as_slice-in-Map.ensures i))) _ (laws.map_typed c.as_slice-in-Map.result.now at scope w) _ c.map.ensures
+
+pub type_of-returns-in-Tuple : goal.type_of-returns-in-Tuple
+type_of-returns-in-Tuple t c =
+    let at = c.args.expr.now.at in
+    let scope = c.args.scope.now in
+    let w = option_copied c.args.wanted in
+    of_form c.args.expr.now.what _ at scope w (sym c.get.ensures ∙ c.in-Tuple.is ∙ (λ i. V.Tuple (sym c.as_slice-in-Tuple.ensures i))) _ (laws.tuple_typed c.as_slice-in-Tuple.result.now at scope w) _ c.tuple.ensures
+
+pub type_of-returns-in-Conditional : goal.type_of-returns-in-Conditional
+type_of-returns-in-Conditional t c =
+    let at = c.args.expr.now.at in
+    let scope = c.args.scope.now in
+    let w = option_copied c.args.wanted in
+    of_form c.args.expr.now.what _ at scope w (sym c.get.ensures ∙ c.in-Conditional.is) _ (laws.conditional_typed c.in-Conditional.condition c.in-Conditional.first c.in-Conditional.second at scope w) _ c.conditional.ensures
+
+pub conditional-returns-in_err-test : goal.conditional-returns-in_err-test
+conditional-returns-in_err-test t c = fails _ _ c.in_err-test.field-0.0 c.from_residual.ensures.1 (stops _ _ _ c.in_err-test.ensures)
+
+pub conditional-returns-in_err-one : goal.conditional-returns-in_err-one
+conditional-returns-in_err-one t c =
+    let e = c.in_err-one.field-0.0 in
+    fails {B = Typed} _ _ e c.from_residual-in_err-one.ensures.1
+    (goes {B = Typed} _ _ c.in_ok-test.test (Err e) c.in_ok-test.ensures (stops {A = Typed} {B = Typed} _ _ e c.in_err-one.ensures))
+
+pub conditional-returns : goal.conditional-returns
+conditional-returns t c =
+    goes _ _ c.in_ok-test.test _ c.in_ok-test.ensures
+    (goes _ _ c.in_ok-one.one _ c.in_ok-one.ensures
+    (c.if_other.ensures _
+    (finds_by _ _ _ (ap (typing c.args.scope.now c.args.second.now) (sym (c.branch_wanted.ensures ∙ ap (branch_wanted (option_copied c.args.wanted)) c.get.ensures))) c.type_of-other.ensures)))
+
+pub call-returns-in_err-place : goal.call-returns-in_err-place
+call-returns-in_err-place t c =
+    let at = c.args.at in
+    let scope = c.args.scope.now in
+    let name = c.args.name.now in
+    let es = parts c.args.all.now in
+    fails _ _ c.in_err-place.field-0.0 c.from_residual.ensures.1
+    (finds_by _ _ (Err c.in_err-place.field-0.0) (ap (call_typed at scope name es) (sym c.call_named.ensures ∙ c.in_default.is) ∙ function_law at scope name es (function_of scope name))
+    (stops _ _ _ (seen_refused {B = ℕ × Bor Signature} (λ p. at_place p.0 p.1.now) _ _ c.in_err-place.ensures)))
+
+pub call-returns : goal.call-returns
+call-returns t c =
+    let at = c.args.at in
+    let scope = c.args.scope.now in
+    let name = c.args.name.now in
+    let es = parts c.args.all.now in
+    finds_by _ _ _ (ap (call_typed at scope name es) (sym c.call_named.ensures ∙ c.in_default.is) ∙ function_law at scope name es (function_of scope name))
+    (goes _ _ (at_place c.in_ok-place.place c.in_ok-place.found.now) _ c.in_ok-place.ensures
+    (c.if_codes.ensures _
+    (finds_by _ _ _ (ap (λ ts. arguments_typed scope ts es) (sym c.as_slice-kinds.ensures) ∙ no_front _ _ c.new.ensures) c.arguments-codes.ensures)))
+
+pub operation-returns : goal.operation-returns
+operation-returns t c =
+    let scope = c.args.scope.now in
+    let l = parted c.args.left.now in
+    let r = parted c.args.right.now in
+    finds_by _ _ _ (ap (λ m. binary_or_marker m scope c.args.operator l r) (same_Ok c.in_ok-code.ensures ∙ c.in_default.is) ∙ binary_law scope c.args.operator l r)
+    (goes _ _ c.in_ok-first.first _ c.in_ok-first.ensures
+    (goes _ _ (option_copied c.in_ok-wanted.wanted) _ (ap (right_for l.at c.args.operator) (sym c.get.ensures) ∙ c.in_ok-wanted.ensures)
+    (goes _ _ c.in_ok-second.second _ c.in_ok-second.ensures c.operation_of.ensures)))
+
+pub built_in-returns-in_err-gives : goal.built_in-returns-in_err-gives
+built_in-returns-in_err-gives t c =
+    let at = c.args.at in
+    let scope = c.args.scope.now in
+    let e = c.in_err-gives.field-0.0 in
+    fails {B = Typed} _ _ e c.from_residual-in_err-gives.ensures.1
+    (finds_by _ _ (Err e) (built_in_law at scope c.args.call (parts c.args.all.now))
+    (goes {B = Typed} _ _ (parted c.in_ok-first.first.now, parts c.in_ok-first.rest.now) (Err e) c.in_ok-first.ensures.found
+    (goes {B = Typed} _ _ c.in_ok-typed.typed (Err e) (ap (typing scope c.in_ok-first.first.now) (same_Ok c.in_ok-wanted.ensures ∙ sym c.kind_in.ensures) ∙ c.in_ok-typed.ensures)
+    (stops {A = Asked} {B = Typed} _ _ e (seen_refused {B = Gives × List SplType × List (Code Slot)} (λ p. (p.0, p.1)) _ e c.in_err-gives.ensures.asked)))))
+
+pub built_in-returns-in_err-codes : goal.built_in-returns-in_err-codes
+built_in-returns-in_err-codes t c =
+    let at = c.args.at in
+    let scope = c.args.scope.now in
+    let e = c.in_err-codes.field-0.0 in
+    fails {B = Typed} _ _ e c.from_residual-in_err-codes.ensures.1
+    (finds_by _ _ (Err e) (built_in_law at scope c.args.call (parts c.args.all.now))
+    (goes {B = Typed} _ _ (parted c.in_ok-first.first.now, parts c.in_ok-first.rest.now) (Err e) c.in_ok-first.ensures.found
+    (goes {B = Typed} _ _ c.in_ok-typed.typed (Err e) (ap (typing scope c.in_ok-first.first.now) (same_Ok c.in_ok-wanted.ensures ∙ sym c.kind_in.ensures) ∙ c.in_ok-typed.ensures)
+    (goes {B = Typed} _ _ (c.in_ok-gives.gives, c.in_ok-gives.others) (Err e) c.in_ok-gives.ensures.asked
+    (stops {A = List (Code Slot)} {B = Typed} _ _ e
+    (finds_by _ _ (Err e) (λ i. with_front (sym c.in_ok-gives.ensures.front i) (arguments_typed scope (sym c.as_slice.ensures i) (parts c.in_ok-first.rest.now))) c.in_err-codes.ensures))))))
+
+pub built_in-returns : goal.built_in-returns
+built_in-returns t c =
+    let at = c.args.at in
+    let scope = c.args.scope.now in
+    finds_by _ _ _ (built_in_law at scope c.args.call (parts c.args.all.now))
+    (goes _ _ (parted c.in_ok-first.first.now, parts c.in_ok-first.rest.now) _ c.in_ok-first.ensures.found
+    (goes _ _ c.in_ok-typed.typed _ (ap (typing scope c.in_ok-first.first.now) (same_Ok c.in_ok-wanted.ensures ∙ sym c.kind_in.ensures) ∙ c.in_ok-typed.ensures)
+    (goes _ _ (c.in_ok-gives.gives, c.in_ok-gives.others) _ c.in_ok-gives.ensures.asked
+    (goes _ _ c.in_ok-codes.codes _ ((λ i. with_front (sym c.in_ok-gives.ensures.front i) (arguments_typed scope (sym c.as_slice.ensures i) (parts c.in_ok-first.rest.now))) ∙ c.in_ok-codes.ensures)
+    c.given.ensures))))
+
+pub list-returns-in_err-kind : goal.list-returns-in_err-kind
+list-returns-in_err-kind t c =
+    fails _ _ c.in_err-kind.field-0.0 c.from_residual.ensures.1
+    (finds_by _ _ (Err c.in_err-kind.field-0.0) (list_law c.args.at c.args.scope.now (wants_list (option_copied c.args.wanted)) (parts c.args.all.now)) (stops _ _ _ c.in_err-kind.ensures))
+
+pub map-returns-in_err-kinds : goal.map-returns-in_err-kinds
+map-returns-in_err-kinds t c =
+    fails _ _ c.in_err-kinds.field-0.0 c.from_residual.ensures.1
+    (finds_by _ _ (Err c.in_err-kinds.field-0.0) (map_law c.args.at c.args.scope.now (wants_map (option_copied c.args.wanted)) (entry_parts c.args.all.now)) (stops _ _ _ c.in_err-kinds.ensures))
+
+pub taken-returns : goal.taken-returns
+taken-returns t c =
+    finds_by _ _ _
+    (c.loop-next.invariant ∙ taken_past c.args.scope.now c.args.base c.args.first.code c.loop-next.kind c.args.steps.now c.loop-next.next-index c.loop-next.takings c.loop-next-test.false)
+    c.select.ensures

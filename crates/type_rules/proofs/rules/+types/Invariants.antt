@@ -38,6 +38,9 @@ decreases-arguments-arguments l = length l.kinds - l.at
 abbrev pub decreases-type_of : goal.decreases-type_of
 decreases-type_of l = expr_weight l.expr.now
 
+abbrev pub decreases-conditional : goal.decreases-conditional
+decreases-conditional l = expr_weight l.condition.now + (expr_weight l.first.now + expr_weight l.second.now) + 1
+
 abbrev pub decreases-list : goal.decreases-list
 decreases-list l = weights l.all.now + 1
 
@@ -58,9 +61,6 @@ decreases-operation l = expr_weight l.left.now + expr_weight l.right.now + 1
 
 abbrev pub decreases-arguments : goal.decreases-arguments
 decreases-arguments l = weights l.arguments.now + 1
-
-abbrev pub decreases-called_with : goal.decreases-called_with
-decreases-called_with l = weights l.all.now + 2
 
 abbrev pub decreases-call : goal.decreases-call
 decreases-call l = weights l.all.now + 3
