@@ -1,5 +1,5 @@
 -- What is answered on a statement, by what is answered on its form.
-use Rattle.std.specs.Prelude.{◌≡◌, ℕ, Bool, true, false, [], ◌∷◌, Result, Ok, Err, IfOk}
+use Rattle.std.specs.Prelude.{◌≡◌, ℕ, Bool, true, false, [], ◌∷◌, Result, Ok, Err, IsErrAnd}
 use Rattle.std.proofs.Common.{refl, ap, sym, subst, ◌∙◌}
 use Rattle.spl_tree.specs.declared.body.Statement.{Statement}
 use Rattle.spl_tree.specs.declared.statement.StmtKind.{StmtKind}
@@ -12,6 +12,7 @@ use Rattle.language_model.specs.declared.answer.TypeAnswer.{TypeAnswer}
 use Rattle.language_model.specs.declared.answer.TypeAnswer.TheVariants.{Refused, Memory}
 use Rattle.language_model.specs.Finds.{Finds}
 use Rattle.body_rules.specs.Leads.{Leads, inside_loop}
+use Rattle.language_model.proofs.FoundAnswers.{exit}
 
 pub leads_by : (o p : Found (Statement × Scope)) (r : Result Statement TypeAnswer) (scope : Scope) → o ≡ p → Leads p r scope → Leads o r scope
 leads_by o p r scope e h = subst (λ o. Leads o r scope) (sym e) h
@@ -38,3 +39,10 @@ pub alone_stops : (s : Stmt) (setting : Setting) (inside : Bool) (scope next : S
     → Finds (alone setting inside scope (stated s)) (Err e)
 alone_stops s setting inside scope next (Refused r) h = ap (λ o. after o (λ x. Ok (x.0 ∷ []))) h
 alone_stops s setting inside scope next Memory h = tt
+
+refused_leads : (o : Found (Statement × Scope)) (e : TypeAnswer) (next : Scope) → Finds o (Err e) → Leads o (Err e) next
+refused_leads o (Refused r) next h = h
+refused_leads o Memory next h = tt
+
+pub leads_fails : (o : Found (Statement × Scope)) (r : Result Statement TypeAnswer) (e : TypeAnswer) (next : Scope) → IsErrAnd r (λ y. y ≡ e) → Finds o (Err e) → Leads o r next
+leads_fails o r e next h q = exit (λ r. Leads o r next) r e h (refused_leads o e next q)

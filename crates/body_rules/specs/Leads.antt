@@ -1,5 +1,5 @@
 -- What a call answers on a statement, and to which scope it leads.
-use Rattle.std.specs.Prelude.{◌≡◌, ℕ, Bool, List, take, if◌then◌else◌, Result, Ok, Err}
+use Rattle.std.specs.Prelude.{◌≡◌, ℕ, Bool, take, if◌then◌else◌, Result, Ok, Err}
 use Rattle.spl_tree.specs.declared.body.Statement.{Statement}
 use Rattle.language_model.specs.declared.scope.Scope.{Scope}
 use Rattle.language_model.specs.Typing.{Found, wrong_call}

@@ -7,18 +7,19 @@ ghost use Rattle.language_model.specs.FunctionTyping.{function_types, functions_
 ghost use Rattle.language_model.specs.TypeNames.{unit_types};
 ghost use Rattle.spl_tree.specs.declared.unit.Definition.TheVariants as D;
 ghost use Rattle.body_rules.specs.Leads.{shortened};
-ghost use Rattle.body_rules.specs.Signatures.{as_types, function_in, scope_in, with_definition, with_parameters};
+ghost use Rattle.body_rules.specs.Signatures.{as_types, function_in, scope_in, with_definition, with_function, with_parameters};
 ghost use Rattle.written_types.specs.TypeScopes.{types_in};
 ghost use Rattle.language_model.specs.Finds.{Finds};
 
 use crate::bodies::{
     BodyPurpose, BodySetting, add_variable, body_of, drop_variables, ends_with_result,
 };
+use code_copies::boxed_copy;
 use language_model::{
     CheckError, Scope, Signature, Signatures, TypeAnswer, Unresolved, refused_name,
 };
 use spl_tree::{Body, Definition, Function, FunctionDefinition, Functions, Stmt, TypeExpr, Unit};
-use spl_value::{Attribute, Boxed, Items, NoMemory, Schema, SplType, copy_type};
+use spl_value::{Attribute, Items, Name, NoMemory, Schema, SplType};
 use std::alloc::Global;
 use written_types::{TypeScope, TypeTable, attributes_of, type_of_written};
 
@@ -76,21 +77,31 @@ fn add_function(
 {
     let name = Items::from_slice(alloc, function.name.what.as_slice())?;
     match types_of(alloc, types, function) {
-        Ok(found) => {
-            let parameters = kinds(alloc, found.parameters)?;
-            let signature = Signature {
-                name,
-                parameters,
-                result: found.result,
-            };
-            scope.functions.push(alloc, signature)?;
-        }
+        Ok(found) => add_signature(alloc, scope, name, found),
         Err(TypeAnswer::Refused(refusal)) => {
-            scope.unresolved.push(Unresolved { name, refusal })?;
+            Ok(scope.unresolved.push(Unresolved { name, refusal })?)
         }
-        Err(TypeAnswer::Memory) => return Err(NoMemory),
+        Err(TypeAnswer::Memory) => Err(NoMemory),
     }
-    Ok(())
+}
+
+/// Adds a function of these types.
+fn add_signature(
+    alloc: Global,
+    scope: &mut Scope,
+    name: Name,
+    found: FunctionTypes,
+) -> Result<(), NoMemory>
+    ensures { IfOk result (λ _. scope.new ≡ with_function scope.old name (Ok (record { result = found.result; parameters = found.parameters }))) }
+{
+    let FunctionTypes { result, parameters } = found;
+    let parameters = kinds(alloc, parameters)?;
+    let signature = Signature {
+        name,
+        parameters,
+        result,
+    };
+    Ok(scope.functions.push(alloc, signature)?)
 }
 
 /// A scope with the functions of these definitions.
@@ -133,7 +144,7 @@ fn add_parameters(
     ensures longer { shortened (length scope.old.vars) scope.new ≡ scope.old }
 {
     for parameter in parameters {
-        let kind = Boxed::new(alloc, copy_type(alloc, &parameter.kind)?)?;
+        let kind = boxed_copy(alloc, &parameter.kind)?;
         add_variable(alloc, scope, false, &parameter.name, kind)?;
     }
     Ok(())
@@ -233,6 +244,26 @@ pub fn functions_of(alloc: Global, unit: &Unit) -> Result<Functions, TypeAnswer>
 {
     let table = TypeTable::of_unit(alloc, unit)?;
     let types = TypeScope::of_unit(&table);
-    let mut scope = with_functions(alloc, &types, unit.as_slice())?;
-    each_function(alloc, &types, &mut scope, unit.as_slice())
+    let scope = with_functions(alloc, &types, unit.as_slice());
+    functions_in(alloc, &types, scope, unit.as_slice())
+}
+
+/// The functions of a unit, where there is memory for their scope.
+fn functions_in(
+    alloc: Global,
+    types: &TypeScope,
+    scope: Result<Scope, NoMemory>,
+    unit: &[Definition],
+) -> Result<Functions, TypeAnswer>
+    requires types { types_in types.now ≡ unit_types unit.now }
+    requires scope { IfOk scope (λ scope. scope ≡ unit_scope unit.now) }
+    ensures { Finds (functions_typing unit.now) result }
+{
+    match scope {
+        Ok(scope) => {
+            let mut scope = scope;
+            each_function(alloc, types, &mut scope, unit)
+        }
+        Err(NoMemory) => Err(TypeAnswer::Memory),
+    }
 }

@@ -1,4 +1,6 @@
 //! Submits.
+ghost use Rattle.std.specs.Prelude.{◌≡◌, IfOk};
+ghost use Rattle.spl_value.specs.declared.types.SplType.TheVariants as S;
 ghost use Rattle.language_model.specs.BodyTyping.{submit_typing, submitted};
 ghost use Rattle.body_rules.specs.Settings.{purpose_meant, setting_meant};
 ghost use Rattle.language_model.specs.Finds.{Finds};
@@ -7,7 +9,7 @@ use super::{BodyPurpose, BodySetting};
 use call_rules::marker;
 use language_model::{Scope, TypeAnswer, narrow, port_named, unknown, wrong_call};
 use spl_tree::{Expr, Marker, Placed, Statement};
-use spl_value::{Boxed, Name, Schema, SplType, copy_schema};
+use spl_value::{Boxed, Name, NoMemory, Schema, SplType, copy_schema};
 use std::alloc::Global;
 use type_rules::type_of;
 
@@ -33,6 +35,14 @@ pub(super) fn submitted(
     submitted_on(alloc, scope, place, &port.schema, value)
 }
 
+/// The type of tuples of these attributes.
+fn tuple_type(alloc: Global, schema: &Schema) -> Result<Boxed<SplType>, NoMemory>
+    ensures { IfOk result (λ kind. kind ≡ S.Tuple schema.now) }
+{
+    let schema = copy_schema(alloc, schema.as_slice())?;
+    Ok(Boxed::new(alloc, SplType::Tuple(schema))?)
+}
+
 /// A window marker, or a tuple of the port's attributes, on the port at a place.
 fn submitted_on(
     alloc: Global,
@@ -46,10 +56,7 @@ fn submitted_on(
     if let Some(Marker::Window) = marker(value) {
         return Ok(Statement::SubmitWindow(port));
     }
-    let kind = Boxed::new(
-        alloc,
-        SplType::Tuple(copy_schema(alloc, schema.as_slice())?),
-    )?;
+    let kind = tuple_type(alloc, schema)?;
     let typed = type_of(alloc, scope, value, Some(kind.get()))?;
     Ok(Statement::Submit(port, typed.code.into_inner()))
 }
