@@ -2,3 +2,4 @@ pub mod CompleteParts
 pub mod Readings
 pub mod TypeReadings
 pub mod StatementReadings
+pub mod Sequences

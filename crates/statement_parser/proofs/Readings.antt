@@ -124,3 +124,8 @@ module _ {A : Type 0} (ts : List Token) where
   pub expression_fails : (x : expressions.Line) (k : expressions.Value x → R A) (e : Stop) → Answers x ts (Err e) → Comes (call (Expression x) k) ts (Err e)
   expression_fails x k (S.At rest) g = runs_fail (embedded g)
   expression_fails x k S.Memory g = tt
+
+-- what a name that has to come answers, as a rule by itself
+pub name_comes : (ts : List Token) (res : Answered Name) → PassesName ts res → Comes (expect_name done) ts res
+name_comes ts (Ok found) p = name_passed done p finished
+name_comes ts (Err e) p = name_fails ts done e p

@@ -5,12 +5,13 @@ use Rattle.spl_tree.specs.declared.symbol.Symbol.{Symbol}
 use Rattle.spl_tree.specs.declared.symbol.Symbol.TheVariants as S
 use Rattle.spl_tree.specs.declared.token.Token.{Token}
 use Rattle.spl_tree.specs.TypeGrammar.{TypeExpr}
-use Rattle.expr_parser.specs.Lines.{is, is_name}
+use Rattle.expr_parser.specs.Lines.{is}
 use Rattle.expr_parser.specs.Rules.{done, call, Answer, Took, RunsTo, Reads}
-use Rattle.expr_parser.specs.Taken.{Taken, TakenAs}
-use Rattle.statement_parser.proofs.Readings.{reads, taken, line_read, name_passed, says_on}
+use Rattle.expr_parser.specs.Taken.{Taken}
+use Rattle.statement_parser.proofs.Readings.{reads, taken, says_on}
+use Rattle.statement_parser.proofs.StatementReadings.{part_read}
 use Rattle.statement_parser.specs.Gives.{Answered, Comes, Gives}
-use Rattle.statement_parser.specs.Lines.{Line, Value, Name, TypeExpression, Attributes, MoreAttributes, name_at, rule, R}
+use Rattle.statement_parser.specs.Lines.{Line, Value, Name, Attributes, MoreAttributes, attribute_rule, rule, R}
 use Rattle.expr_parser.specs.RuleLaws.{runs_last}
 
 -- a line whose rule goes on with the rule r at mid gives the result of r there
@@ -26,19 +27,18 @@ tail y ts res g = says_on {P = Reads rule y ts} {Q = RunsTo rule (call y done) t
 abbrev pub attribute : TypeExpr → Name → Attribute TypeExpr
 attribute k n = record { kind = k; name = n }
 
--- what follows a type that is followed by its name
-abbrev pub named_rule : Symbol → List (Attribute TypeExpr) → TypeExpr → Name → R (List (Attribute TypeExpr))
-named_rule close xs k n = call (MoreAttributes close (xs ++ attribute k n ∷ [])) done
-
 -- a comma comes, and then more of them
 pub more_read : (close : Symbol) (xs : List (Attribute TypeExpr)) {ts mid : List Token} {t : Token} {o : Answer (List (Attribute TypeExpr))} → Taken (is S.Comma) ts t mid
     → Reads rule (Attributes close xs) mid o → Reads rule (MoreAttributes close xs) ts o
 unfolding rule
 more_read close xs comma r = reads (taken comma (runs_last r))
 
+-- what follows one more of them
+abbrev pub one_more : Symbol → List (Attribute TypeExpr) → Attribute TypeExpr → R (List (Attribute TypeExpr))
+one_more close xs x = call (MoreAttributes close (xs ++ x ∷ [])) done
+
 -- one more of them is read
-pub attribute_read : (close : Symbol) (xs : List (Attribute TypeExpr)) {ts mid rest : List Token} {o : Answer (List (Attribute TypeExpr))} {k : TypeExpr} {n : Name}
-    → Reads rule TypeExpression ts (Took k mid) → TakenAs is_name name_at mid n rest → Reads rule (MoreAttributes close (xs ++ attribute k n ∷ [])) rest o
-    → Reads rule (Attributes close xs) ts o
+pub attribute_read : (close : Symbol) (xs : List (Attribute TypeExpr)) {ts mid : List Token} {o : Answer (List (Attribute TypeExpr))} {x : Attribute TypeExpr}
+    → RunsTo rule attribute_rule ts (Took x mid) → Reads rule (MoreAttributes close (xs ++ x ∷ [])) mid o → Reads rule (Attributes close xs) ts o
 unfolding rule
-attribute_read close xs {k = k} first name r = reads (line_read first (name_passed (named_rule close xs k) name (runs_last r)))
+attribute_read close xs first r = reads (part_read attribute_rule (one_more close xs) first (runs_last r))

@@ -1,5 +1,5 @@
 -- What a call that reads answers, against the results of the lines and their rules.
-use Rattle.std.specs.Prelude.{◌≡◌, ℕ, false, List, Option, Some, None, Result, Ok, Err}
+use Rattle.std.specs.Prelude.{◌≡◌, ℕ, false, List, [], ◌∷◌, ◌++◌, Option, Some, None, Result, Ok, Err}
 use Rattle.std.specs.Borrow.{Bor}
 use Rattle.spl_tree.specs.declared.expression.Placed.{Placed}
 use Rattle.spl_tree.specs.declared.keyword.Keyword.{Keyword}
@@ -48,3 +48,12 @@ TypeFirst ts (Ok (Some found)) = TakenAs is_type type_of ts found.0 found.1.now
 TypeFirst ts (Ok None) = begins_with is_type ts ≡ false
 TypeFirst ts (Err (S.At rest)) = ⊥
 TypeFirst ts (Err S.Memory) = Unit {0}
+
+-- the value that is answered is pushed onto those before it, with these tokens after it; or reading stops as it did for
+-- the value
+abbrev pub Pushed : {A : Type 0} → List A → Answered A → Result (Bor (List Token)) Stop → List A → Type 0
+Pushed xs (Ok one) (Ok rest) ys = (ys ≡ xs ++ one.0 ∷ []) × (rest.now ≡ one.1.now)
+Pushed xs (Ok one) (Err (S.At rest)) ys = ⊥
+Pushed xs (Ok one) (Err S.Memory) ys = Unit {0}
+Pushed xs (Err e) (Ok rest) ys = ⊥
+Pushed xs (Err e) (Err stop) ys = stop ≡ e

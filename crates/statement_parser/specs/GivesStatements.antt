@@ -4,6 +4,8 @@ use Rattle.std.specs.Borrow.{Bor}
 use Rattle.spl_tree.specs.declared.expression.ExprKind.TheVariants as X
 use Rattle.spl_tree.specs.declared.keyword.Keyword.TheVariants as K
 use Rattle.spl_tree.specs.declared.shape.Attribute.{Attribute}
+use Rattle.spl_tree.specs.declared.shape.TypeKind.TheVariants as Y
+use Rattle.spl_tree.specs.declared.statement.StmtKind.{StmtKind}
 use Rattle.spl_tree.specs.declared.statement.StmtKind.TheVariants as Z
 use Rattle.spl_tree.specs.declared.symbol.Symbol.TheVariants as S
 use Rattle.spl_tree.specs.declared.token.Token.{Token}
@@ -11,11 +13,12 @@ use Rattle.spl_tree.specs.Grammar.{Expr, placed}
 use Rattle.spl_tree.specs.StatementGrammar.{Stmt}
 use Rattle.spl_tree.specs.TypeGrammar.{TypeExpr}
 use Rattle.expr_parser.specs.Lines as expressions
-use Rattle.expr_parser.specs.Lines.{is}
+use Rattle.expr_parser.specs.Lines.{is, is_name, name_of}
 use Rattle.expr_parser.specs.RuleLaws.{begins_with}
 use Rattle.expr_parser.specs.Rules.{done, stop, look, call}
 use Rattle.expr_parser.specs.Taken.{Taken}
-use Rattle.statement_parser.specs.Lines.{R, Expression, TypeExpression, expect, expect_name, expect_word, expression, is_word, is_assignment, assignment_at, condition_rule, for_head_rule}
+use Rattle.statement_parser.specs.Lines as lines
+use Rattle.statement_parser.specs.Lines.{Name, R, Begun, Expression, Valued, attribute_rule, expect, expect_word, expression, expression_before, is_word, is_assignment, assignment_at, condition_rule, for_head_rule}
 
 -- a condition in parentheses by itself
 abbrev pub condition : R Expr
@@ -25,12 +28,24 @@ condition = condition_rule done
 abbrev pub for_head : R (Attribute TypeExpr × Expr)
 for_head = for_head_rule (λ v e. done (v, e))
 
--- the variable of a `for`, and what it goes over with the closing parenthesis
+-- the variable of a `for` with the opening parenthesis, and what it goes over with the closing one
 abbrev pub for_variable : R (Attribute TypeExpr)
-for_variable = call TypeExpression (λ k. expect_name (λ n. done (record { kind = k; name = n })))
+for_variable = expect S.LeftParen attribute_rule
 
 abbrev pub gone_over : R Expr
-gone_over = expect_word K.In (expression (λ e. expect S.RightParen (done e)))
+gone_over = expect_word K.In (expression_before S.RightParen)
+
+-- the `;` and the statement of that kind at a place
+abbrev pub ended_rule : ℕ → StmtKind → R Stmt
+ended_rule at s = expect S.Semicolon (done (placed at s))
+
+-- a declaration, after the name of its type at a place and the name of the variable
+abbrev pub variable_rule : ℕ → List ℕ → Name → R Stmt
+variable_rule at n variable = call (Valued false (placed at (Y.Name n)) variable) (λ d. done (placed at (Z.Declare d)))
+
+-- a statement that begins with a name, or else with a type
+abbrev pub named_rule : R (Stmt × Bool)
+named_rule = look is_name (λ t. call (Begun t.start (name_of t)) (λ s. done (s, true))) lines.variable_rule
 
 -- a call, after its parenthesis, as a statement at a place
 abbrev pub called_rule : ℕ → List ℕ → R Stmt

@@ -283,6 +283,10 @@ expect_word k r = look (is_word k) (λ _. r) stop
 abbrev pub expect_name : {A : Type 0} → (Name → R A) → R A
 expect_name r = look is_name (λ t. r (name_at t)) stop
 
+-- a name and that symbol after it have to come
+abbrev pub name_before : Symbol → R Name
+name_before s = expect_name (λ n. expect s (done n))
+
 abbrev pub expression : {A : Type 0} → (Expr → R A) → R A
 expression r = call (Expression expressions.Whole) r
 
@@ -292,6 +296,27 @@ lifted (done x) = done x
 lifted stop = stop
 lifted (look p f d) = look p (λ t. lifted (f t)) (lifted d)
 lifted (call x k) = call (Expression x) (λ y. lifted (k y))
+
+-- an expression and that symbol after it, also with a symbol before it
+abbrev pub expression_before : Symbol → R Expr
+expression_before s = expression (λ e. expect s (done e))
+
+abbrev pub expression_between : Symbol → Symbol → R Expr
+expression_between opening close = expect opening (expression_before close)
+
+-- the same of a type
+abbrev pub type_before : Symbol → R TypeExpr
+type_before s = call TypeExpression (λ k. expect s (done k))
+
+abbrev pub type_between : Symbol → Symbol → R TypeExpr
+type_between opening close = expect opening (type_before close)
+
+-- a type with a name, also after the type
+abbrev pub named_attribute_rule : TypeExpr → R (Attribute TypeExpr)
+named_attribute_rule k = expect_name (λ n. done (record { kind = k; name = n }))
+
+abbrev pub attribute_rule : R (Attribute TypeExpr)
+attribute_rule = call TypeExpression named_attribute_rule
 
 -- a type, or another way where no type begins here
 abbrev pub a_type : {A : Type 0} → (TypeExpr → R A) → R A → R A
@@ -315,6 +340,10 @@ shape_rule close =
     call TypeExpression (λ k.
     look is_name (λ t. call (MoreAttributes close (named k t (name_of t) ∷ [])) (λ xs. done (placed k.at (H.Attributes xs))))
     (expect close (done (placed k.at (H.Type k)))))
+
+-- a shape at a place, after its first attribute
+abbrev pub named_shape_rule : ℕ → Symbol → Attribute TypeExpr → R Shape
+named_shape_rule at close x = call (MoreAttributes close (x ∷ [])) (λ xs. done (placed at (H.Attributes xs)))
 
 abbrev pub declared : Bool → TypeExpr → Name → Option Expr → Declaration
 declared m k n v = record { mutable = m; kind = k; name = n; value = v }

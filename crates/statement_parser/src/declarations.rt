@@ -4,8 +4,9 @@ ghost use Rattle.statement_parser.specs.Gives.{Gives};
 ghost use Rattle.statement_parser.specs.Lines as lines;
 
 use crate::first::word_first;
+use crate::sequence::{closed, expression_before};
 use crate::types::read_type;
-use expr_parser::{Taken, after, pass, pass_name, read_expression};
+use expr_parser::{Taken, after, pass_name};
 use spl_tree::{Declaration, Keyword, Placed, Symbol, Token, TypeExpr};
 use spl_value::Name;
 use std::alloc::Global;
@@ -49,19 +50,21 @@ pub(crate) fn valued<'t>(
 ) -> Taken<'t, Declaration>
     ensures { Gives (lines.Valued mutable kind name) ts.now result }
 {
-    let (value, behind) = match after(ts, Symbol::Assign) {
-        Some((_, behind)) => {
-            let (value, behind) = read_expression(alloc, behind)?;
-            (Some(value), behind)
-        }
-        None => (None, ts),
+    let Some((_, behind)) = after(ts, Symbol::Assign) else {
+        let declaration = Declaration {
+            mutable,
+            kind,
+            name,
+            value: None,
+        };
+        return closed(declaration, Symbol::Semicolon, ts);
     };
-    let behind = pass(behind, Symbol::Semicolon)?;
+    let (value, behind) = expression_before(alloc, Symbol::Semicolon, behind)?;
     let declaration = Declaration {
         mutable,
         kind,
         name,
-        value,
+        value: Some(value),
     };
     Ok((declaration, behind))
 }

@@ -12,10 +12,9 @@ ghost use Rattle.statement_parser.specs.Lines as lines;
 
 use crate::declarations::{declared, valued};
 use crate::first::{assignment_first, pass_word, word_first};
-use crate::types::read_type;
-use expr_parser::{
-    Stop, Taken, after, name_first, pass, pass_name, read_elements, read_expression, read_steps,
-};
+use crate::sequence::{expression_before, expression_between, name_before};
+use crate::types::{read_attribute, read_type};
+use expr_parser::{Stop, Taken, after, name_first, pass, pass_name, read_elements, read_steps};
 use spl_tree::{
     Attribute, Expr, ExprKind, Keyword, Placed, Stmt, StmtKind, Symbol, Token, TypeExpr, TypeKind,
 };
@@ -26,10 +25,7 @@ use std::alloc::Global;
 pub(crate) fn condition<'t>(alloc: Global, ts: &'t [Token]) -> Taken<'t, Expr>
     ensures { Comes statements.condition ts.now result }
 {
-    let behind = pass(ts, Symbol::LeftParen)?;
-    let (condition, behind) = read_expression(alloc, behind)?;
-    let behind = pass(behind, Symbol::RightParen)?;
-    Ok((condition, behind))
+    expression_between(alloc, Symbol::LeftParen, Symbol::RightParen, ts)
 }
 
 /// The tokens after an `else` that comes first, where one can belong to the `if` whose last statement
@@ -48,19 +44,17 @@ pub(crate) fn else_first(closed: bool, ts: &[Token]) -> Option<&[Token]>
 pub(crate) fn for_head<'t>(alloc: Global, ts: &'t [Token]) -> Taken<'t, (Attribute<TypeExpr>, Expr)>
     ensures { Comes statements.for_head ts.now result }
 {
-    let behind = pass(ts, Symbol::LeftParen)?;
-    let (variable, behind) = for_variable(alloc, behind)?;
+    let (variable, behind) = for_variable(alloc, ts)?;
     let (over, behind) = gone_over(alloc, behind)?;
     Ok(((variable, over), behind))
 }
 
-/// The variable of a `for`: a type with a name.
+/// The opening parenthesis of a `for` and its variable: a type with a name.
 fn for_variable<'t>(alloc: Global, ts: &'t [Token]) -> Taken<'t, Attribute<TypeExpr>>
     ensures { Comes statements.for_variable ts.now result }
 {
-    let (kind, behind) = read_type(alloc, ts)?;
-    let (name, behind) = pass_name(alloc, behind)?;
-    Ok((Attribute { kind, name }, behind))
+    let behind = pass(ts, Symbol::LeftParen)?;
+    read_attribute(alloc, behind)
 }
 
 /// What a `for` goes over, after its variable, and the closing parenthesis.
@@ -68,9 +62,7 @@ fn gone_over<'t>(alloc: Global, ts: &'t [Token]) -> Taken<'t, Expr>
     ensures { Comes statements.gone_over ts.now result }
 {
     let behind = pass_word(ts, Keyword::In)?;
-    let (over, behind) = read_expression(alloc, behind)?;
-    let behind = pass(behind, Symbol::RightParen)?;
-    Ok((over, behind))
+    expression_before(alloc, Symbol::RightParen, behind)
 }
 
 /// The statement of that kind at a place, with whether it is closed.
@@ -92,10 +84,10 @@ pub(crate) fn simple_statement<'t>(alloc: Global, ts: &'t [Token]) -> Taken<'t, 
     ensures { Comes lines.simple_rule ts.now result }
 {
     if let Some((word, behind)) = word_first(ts, Keyword::Break) {
-        return broken(alloc, word.start, behind);
+        return ended(alloc, word.start, StmtKind::Break, behind);
     }
     if let Some((word, behind)) = word_first(ts, Keyword::Continue) {
-        return continued(alloc, word.start, behind);
+        return ended(alloc, word.start, StmtKind::Continue, behind);
     }
     if let Some((word, behind)) = word_first(ts, Keyword::Return) {
         return returned(alloc, word.start, behind);
@@ -106,6 +98,13 @@ pub(crate) fn simple_statement<'t>(alloc: Global, ts: &'t [Token]) -> Taken<'t, 
     if let Some((word, behind)) = word_first(ts, Keyword::Mutable) {
         return mutable_variable(alloc, word.start, behind);
     }
+    named_statement(alloc, ts)
+}
+
+/// A statement that begins with a name, or else with a type.
+fn named_statement<'t>(alloc: Global, ts: &'t [Token]) -> Taken<'t, (Stmt, bool)>
+    ensures { Comes statements.named_rule ts.now result }
+{
     match name_first(ts) {
         Some((token, name, behind)) => {
             let name = Items::from_slice(alloc, name.as_slice())?;
@@ -116,20 +115,28 @@ pub(crate) fn simple_statement<'t>(alloc: Global, ts: &'t [Token]) -> Taken<'t, 
     }
 }
 
-/// A `break`, after its word.
-fn broken<'t>(alloc: Global, at: u32, ts: &'t [Token]) -> Taken<'t, (Stmt, bool)>
-    ensures { Comes (lines.ended_rule at Z.Break) ts.now result }
+/// The `;` of a statement of that kind at a place.
+fn ended<'t>(alloc: Global, at: u32, what: StmtKind, ts: &'t [Token]) -> Taken<'t, (Stmt, bool)>
+    ensures { Comes (lines.ended_rule at what) ts.now result }
 {
     let behind = pass(ts, Symbol::Semicolon)?;
-    statement_at(alloc, at, StmtKind::Break, true, behind)
+    statement_at(alloc, at, what, true, behind)
 }
 
-/// A `continue`, after its word.
-fn continued<'t>(alloc: Global, at: u32, ts: &'t [Token]) -> Taken<'t, (Stmt, bool)>
-    ensures { Comes (lines.ended_rule at Z.Continue) ts.now result }
+/// The same, without whether it is closed.
+fn statement_ended<'t>(alloc: Global, at: u32, what: StmtKind, ts: &'t [Token]) -> Taken<'t, Stmt>
+    ensures { Comes (statements.ended_rule at what) ts.now result }
 {
     let behind = pass(ts, Symbol::Semicolon)?;
-    statement_at(alloc, at, StmtKind::Continue, true, behind)
+    statement_made(alloc, at, what, behind)
+}
+
+/// The statement of that kind at a place.
+fn statement_made<'t>(alloc: Global, at: u32, what: StmtKind, ts: &'t [Token]) -> Taken<'t, Stmt>
+    ensures { Comes (done (placed at what)) ts.now result }
+{
+    let statement = Placed::boxed(alloc, at, what)?;
+    Ok((statement, ts))
 }
 
 /// A `return`, after its word.
@@ -139,8 +146,7 @@ fn returned<'t>(alloc: Global, at: u32, ts: &'t [Token]) -> Taken<'t, (Stmt, boo
     if let Some((_, behind)) = after(ts, Symbol::Semicolon) {
         return statement_at(alloc, at, StmtKind::Return(None), true, behind);
     }
-    let (value, behind) = read_expression(alloc, ts)?;
-    let behind = pass(behind, Symbol::Semicolon)?;
+    let (value, behind) = expression_before(alloc, Symbol::Semicolon, ts)?;
     statement_at(alloc, at, StmtKind::Return(Some(value)), true, behind)
 }
 
@@ -148,13 +154,9 @@ fn returned<'t>(alloc: Global, at: u32, ts: &'t [Token]) -> Taken<'t, (Stmt, boo
 fn submitted<'t>(alloc: Global, at: u32, ts: &'t [Token]) -> Taken<'t, (Stmt, bool)>
     ensures { Comes (lines.submitted_rule at) ts.now result }
 {
-    let behind = pass(ts, Symbol::LeftParen)?;
-    let (value, behind) = read_expression(alloc, behind)?;
-    let behind = pass(behind, Symbol::Comma)?;
-    let (stream, behind) = pass_name(alloc, behind)?;
-    let behind = pass(behind, Symbol::RightParen)?;
-    let behind = pass(behind, Symbol::Semicolon)?;
-    statement_at(alloc, at, StmtKind::Submit(value, stream), true, behind)
+    let (value, behind) = expression_between(alloc, Symbol::LeftParen, Symbol::Comma, ts)?;
+    let (stream, behind) = name_before(alloc, Symbol::RightParen, behind)?;
+    ended(alloc, at, StmtKind::Submit(value, stream), behind)
 }
 
 /// A declaration as a statement, after its `mutable`.
@@ -182,10 +184,7 @@ fn begun<'t>(alloc: Global, at: u32, name: Name, ts: &'t [Token]) -> Taken<'t, S
 {
     if name_first(ts).is_some() {
         let (variable, behind) = pass_name(alloc, ts)?;
-        let kind = Placed::boxed(alloc, at, TypeKind::Name(name))?;
-        let (declaration, behind) = valued(alloc, false, kind, variable, behind)?;
-        let statement = Placed::boxed(alloc, at, StmtKind::Declare(declaration))?;
-        return Ok((statement, behind));
+        return variable_begun(alloc, at, name, variable, behind);
     }
     match after(ts, Symbol::LeftParen) {
         Some((_, behind)) => called(alloc, at, name, behind),
@@ -193,15 +192,28 @@ fn begun<'t>(alloc: Global, at: u32, name: Name, ts: &'t [Token]) -> Taken<'t, S
     }
 }
 
+/// A declaration as a statement, after the name of its type and that of the variable.
+fn variable_begun<'t>(
+    alloc: Global,
+    at: u32,
+    name: Name,
+    variable: Placed<Name>,
+    ts: &'t [Token],
+) -> Taken<'t, Stmt>
+    ensures { Comes (statements.variable_rule at name variable) ts.now result }
+{
+    let kind = Placed::boxed(alloc, at, TypeKind::Name(name))?;
+    let (declaration, behind) = valued(alloc, false, kind, variable, ts)?;
+    statement_made(alloc, at, StmtKind::Declare(declaration), behind)
+}
+
 /// A call as a statement, after its parenthesis.
 fn called<'t>(alloc: Global, at: u32, name: Name, ts: &'t [Token]) -> Taken<'t, Stmt>
     ensures { Comes (statements.called_rule at name) ts.now result }
 {
     let (arguments, behind) = read_elements(alloc, Symbol::RightParen, ts)?;
-    let behind = pass(behind, Symbol::Semicolon)?;
     let call = Placed::boxed(alloc, at, ExprKind::Call(name, arguments))?;
-    let statement = Placed::boxed(alloc, at, StmtKind::Call(call))?;
-    Ok((statement, behind))
+    statement_ended(alloc, at, StmtKind::Call(call), behind)
 }
 
 /// A place, after the name with which it begins.
@@ -220,8 +232,6 @@ fn assigned<'t>(alloc: Global, at: u32, name: Name, ts: &'t [Token]) -> Taken<'t
     let Some((operator, behind)) = assignment_first(behind) else {
         return Err(Stop::At(behind));
     };
-    let (value, behind) = read_expression(alloc, behind)?;
-    let behind = pass(behind, Symbol::Semicolon)?;
-    let statement = Placed::boxed(alloc, at, StmtKind::Assign(place, operator, value))?;
-    Ok((statement, behind))
+    let (value, behind) = expression_before(alloc, Symbol::Semicolon, behind)?;
+    statement_made(alloc, at, StmtKind::Assign(place, operator, value), behind)
 }

@@ -1,9 +1,12 @@
 //! Types and shapes. `depth` is how deep types may still nest in one another.
 ghost use Rattle.std.specs.Prelude.{[]};
-ghost use Rattle.statement_parser.specs.Gives.{Gives};
+ghost use Rattle.expr_parser.specs.Rules.{done};
+ghost use Rattle.spl_tree.specs.Grammar.{placed};
+ghost use Rattle.statement_parser.specs.Gives.{Comes, Gives};
 ghost use Rattle.statement_parser.specs.Lines as lines;
 
 use crate::first::{type_first, word_first};
+use crate::sequence::{closed, push_taken};
 use expr_parser::{Stop, Taken, after, name_first, pass, pass_name};
 use spl_tree::{
     Attribute, Attributes, Keyword, Placed, Shape, ShapeKind, Symbol, Token, TypeExpr, TypeKind,
@@ -20,6 +23,18 @@ pub fn read_type<'t>(alloc: Global, ts: &'t [Token]) -> Taken<'t, TypeExpr>
     ensures { Gives lines.TypeExpression ts.now result }
 {
     type_at(alloc, MOST_NESTED, ts)
+}
+
+/// A type between two symbols.
+pub fn read_type_between<'t>(
+    alloc: Global,
+    opening: Symbol,
+    close: Symbol,
+    ts: &'t [Token],
+) -> Taken<'t, TypeExpr>
+    ensures { Comes (lines.type_between opening close) ts.now result }
+{
+    type_between(alloc, MOST_NESTED, opening, close, ts)
 }
 
 #[cycle(types)]
@@ -44,16 +59,50 @@ fn type_at<'t>(alloc: Global, depth: u32, ts: &'t [Token]) -> Taken<'t, TypeExpr
     }
 }
 
+/// A type between two symbols, within another type.
+#[cycle(types)]
+fn type_between<'t>(
+    alloc: Global,
+    depth: u32,
+    opening: Symbol,
+    close: Symbol,
+    ts: &'t [Token],
+) -> Taken<'t, TypeExpr>
+    ensures { Comes (lines.type_between opening close) ts.now result }
+{
+    let behind = pass(ts, opening)?;
+    type_before(alloc, depth, close, behind)
+}
+
+/// A type, and the symbol that has to come after it.
+#[cycle(types)]
+fn type_before<'t>(
+    alloc: Global,
+    depth: u32,
+    symbol: Symbol,
+    ts: &'t [Token],
+) -> Taken<'t, TypeExpr>
+    ensures { Comes (lines.type_before symbol) ts.now result }
+{
+    let (kind, behind) = type_at(alloc, depth, ts)?;
+    closed(kind, symbol, behind)
+}
+
+/// The type of that kind at a place.
+fn type_made<'t>(alloc: Global, at: u32, what: TypeKind, ts: &'t [Token]) -> Taken<'t, TypeExpr>
+    ensures { Comes (done (placed at what)) ts.now result }
+{
+    let kind = Placed::boxed(alloc, at, what)?;
+    Ok((kind, ts))
+}
+
 /// A type of lists, after `list`.
 #[cycle(types)]
 fn list_type<'t>(alloc: Global, depth: u32, at: u32, ts: &'t [Token]) -> Taken<'t, TypeExpr>
     ensures { Gives (lines.ListType at) ts.now result }
 {
-    let behind = pass(ts, Symbol::Less)?;
-    let (element, behind) = type_at(alloc, depth, behind)?;
-    let behind = pass(behind, Symbol::Greater)?;
-    let kind = Placed::boxed(alloc, at, TypeKind::List(element))?;
-    Ok((kind, behind))
+    let (element, behind) = type_between(alloc, depth, Symbol::Less, Symbol::Greater, ts)?;
+    type_made(alloc, at, TypeKind::List(element), behind)
 }
 
 /// A type of maps, after `map`.
@@ -61,13 +110,9 @@ fn list_type<'t>(alloc: Global, depth: u32, at: u32, ts: &'t [Token]) -> Taken<'
 fn map_type<'t>(alloc: Global, depth: u32, at: u32, ts: &'t [Token]) -> Taken<'t, TypeExpr>
     ensures { Gives (lines.MapType at) ts.now result }
 {
-    let behind = pass(ts, Symbol::Less)?;
-    let (key, behind) = type_at(alloc, depth, behind)?;
-    let behind = pass(behind, Symbol::Comma)?;
-    let (value, behind) = type_at(alloc, depth, behind)?;
-    let behind = pass(behind, Symbol::Greater)?;
-    let kind = Placed::boxed(alloc, at, TypeKind::Map(key, value))?;
-    Ok((kind, behind))
+    let (key, behind) = type_between(alloc, depth, Symbol::Less, Symbol::Comma, ts)?;
+    let (value, behind) = type_before(alloc, depth, Symbol::Greater, behind)?;
+    type_made(alloc, at, TypeKind::Map(key, value), behind)
 }
 
 /// A type of tuples, after `tuple`.
@@ -77,8 +122,7 @@ fn tuple_type<'t>(alloc: Global, depth: u32, at: u32, ts: &'t [Token]) -> Taken<
 {
     let behind = pass(ts, Symbol::Less)?;
     let (attributes, behind) = attributes(alloc, depth, Symbol::Greater, behind)?;
-    let kind = Placed::boxed(alloc, at, TypeKind::Tuple(attributes))?;
-    Ok((kind, behind))
+    type_made(alloc, at, TypeKind::Tuple(attributes), behind)
 }
 
 /// One type with a name or more, with commas between them, and the symbol that closes them.
@@ -91,11 +135,37 @@ fn attributes<'t>(
 ) -> Taken<'t, Attributes>
     ensures { Gives (lines.Attributes close []) ts.now result }
 {
-    let (kind, behind) = type_at(alloc, depth, ts)?;
-    let (name, behind) = pass_name(alloc, behind)?;
     let mut first = Items::new(alloc);
-    first.push(Attribute { kind, name })?;
+    let behind = push_taken(&mut first, attribute(alloc, depth, ts))?;
     more_attributes(alloc, depth, close, first, behind)
+}
+
+/// A type with a name.
+#[cycle(types)]
+fn attribute<'t>(alloc: Global, depth: u32, ts: &'t [Token]) -> Taken<'t, Attribute<TypeExpr>>
+    ensures { Comes lines.attribute_rule ts.now result }
+{
+    let (kind, behind) = type_at(alloc, depth, ts)?;
+    named_attribute(alloc, kind, behind)
+}
+
+/// The same, after the type.
+fn named_attribute<'t>(
+    alloc: Global,
+    kind: TypeExpr,
+    ts: &'t [Token],
+) -> Taken<'t, Attribute<TypeExpr>>
+    ensures { Comes (lines.named_attribute_rule kind) ts.now result }
+{
+    let (name, behind) = pass_name(alloc, ts)?;
+    Ok((Attribute { kind, name }, behind))
+}
+
+/// A type with a name, not within another type.
+pub(crate) fn read_attribute<'t>(alloc: Global, ts: &'t [Token]) -> Taken<'t, Attribute<TypeExpr>>
+    ensures { Comes lines.attribute_rule ts.now result }
+{
+    attribute(alloc, MOST_NESTED, ts)
 }
 
 /// More of them after the first.
@@ -113,12 +183,9 @@ fn more_attributes<'t>(
     let mut at = ts;
     'attributes: loop {
         let Some((_, behind)) = after(at, Symbol::Comma) else {
-            let behind = pass(at, close)?;
-            return Ok((all, behind));
+            return closed(all, close, at);
         };
-        let (kind, behind) = type_at(alloc, depth, behind)?;
-        let (name, behind) = pass_name(alloc, behind)?;
-        all.push(Attribute { kind, name })?;
+        let behind = push_taken(&mut all, attribute(alloc, depth, behind))?;
         at = behind;
     }
 }
@@ -140,14 +207,26 @@ pub fn shape<'t>(alloc: Global, close: Symbol, ts: &'t [Token]) -> Taken<'t, Sha
     let (kind, behind) = read_type(alloc, ts)?;
     let at = kind.at;
     if name_first(behind).is_none() {
-        let behind = pass(behind, close)?;
         let what = ShapeKind::Type(kind);
-        return Ok((Placed { at, what }, behind));
+        return closed(Placed { at, what }, close, behind);
     }
     let (name, behind) = pass_name(alloc, behind)?;
-    let mut first = Items::new(alloc);
-    first.push(Attribute { kind, name })?;
-    let (all, behind) = more_attributes(alloc, MOST_NESTED, close, first, behind)?;
+    named_shape(alloc, at, close, Attribute { kind, name }, behind)
+}
+
+/// A shape at a place, after its first attribute.
+fn named_shape<'t>(
+    alloc: Global,
+    at: u32,
+    close: Symbol,
+    first: Attribute<TypeExpr>,
+    ts: &'t [Token],
+) -> Taken<'t, Shape>
+    ensures { Comes (lines.named_shape_rule at close first) ts.now result }
+{
+    let mut all = Items::new(alloc);
+    all.push(first)?;
+    let (all, behind) = more_attributes(alloc, MOST_NESTED, close, all, ts)?;
     let what = ShapeKind::Attributes(all);
     Ok((Placed { at, what }, behind))
 }

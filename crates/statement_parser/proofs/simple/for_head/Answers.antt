@@ -1,11 +1,10 @@
 use Rattle.expr_parser.specs.Rules.{done}
 use Rattle.spl_tree.specs.declared.shape.Attribute.{Attribute}
-use Rattle.spl_tree.specs.declared.symbol.Symbol.TheVariants as S
 use Rattle.spl_tree.specs.Grammar.{Expr}
 use Rattle.spl_tree.specs.TypeGrammar.{TypeExpr}
 use Rattle.statement_parser.specs.GivesStatements as statements
 use Rattle.statement_parser.specs.Lines.{R}
-use Rattle.statement_parser.proofs.Readings.{finished, passed, rule_fails}
+use Rattle.statement_parser.proofs.Readings.{finished, rule_fails}
 use Rattle.statement_parser.proofs.StatementReadings.{behind, part_read, part_fails}
 use Rattle.statement_parser.proofs.simple.for_head.Goals as goal
 
@@ -18,17 +17,16 @@ over v = behind statements.gone_over (closed v)
 
 pub returns-in_err-variable : goal.returns-in_err-variable
 returns-in_err-variable c =
-    rule_fails statements.for_head _ c.args.ts.now c.in_ok-behind.behind.now _ c.in_err-variable.field-0.0 c.from_residual-in_err-variable.ensures.1
-    (λ o q. passed S.LeftParen c.in_ok-behind.ensures q)
+    rule_fails statements.for_head _ c.args.ts.now c.args.ts.now _ c.in_err-variable.field-0.0 c.from_residual.ensures.1 (λ o q. q)
     (part_fails statements.for_variable over _ _ c.in_err-variable.ensures)
 
 pub returns-in_err-over : goal.returns-in_err-over
 returns-in_err-over c =
     rule_fails statements.for_head _ c.args.ts.now c.in_ok-variable.behind.now _ c.in_err-over.field-0.0 c.from_residual-in_err-over.ensures.1
-    (λ o q. passed S.LeftParen c.in_ok-behind.ensures (part_read statements.for_variable over c.in_ok-variable.ensures q))
+    (λ o q. part_read statements.for_variable over c.in_ok-variable.ensures q)
     (part_fails statements.gone_over (closed c.in_ok-variable.variable) _ _ c.in_err-over.ensures)
 
 pub returns : goal.returns
 returns c =
-    passed S.LeftParen c.in_ok-behind.ensures (part_read statements.for_variable over c.in_ok-variable.ensures
-    (part_read statements.gone_over (closed c.in_ok-variable.variable) c.in_ok-over.ensures finished))
+    part_read statements.for_variable over c.in_ok-variable.ensures
+    (part_read statements.gone_over (closed c.in_ok-variable.variable) c.in_ok-over.ensures finished)

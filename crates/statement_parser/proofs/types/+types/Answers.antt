@@ -1,138 +1,19 @@
-use Rattle.std.proofs.Common.{Ok, ◌∙◌, [], ◌∷◌, ◌++◌, sym, ap, subst, arith}
+use Rattle.std.proofs.Common.{ℕ, Ok, ◌∙◌, [], ◌∷◌, ◌++◌, ap, subst, arith}
+use Rattle.spl_tree.specs.declared.shape.TypeKind.TheVariants as Y
 use Rattle.spl_tree.specs.declared.symbol.Symbol.TheVariants as S
-use Rattle.expr_parser.specs.Rules.{done, call, Took, Reads}
+use Rattle.spl_tree.specs.Grammar.{placed}
+use Rattle.spl_tree.specs.TypeGrammar.{TypeExpr}
+use Rattle.expr_parser.specs.Rules.{done, call, RunsTo, Reads}
 use Rattle.expr_parser.specs.RuleLaws.{runs_stop}
-use Rattle.statement_parser.proofs.Readings.{finished, reads, taken, taken_as, skipped, passed, line_read, says_on, fails, pass_fails, name_fails, line_fails}
-use Rattle.statement_parser.proofs.TypeReadings.{goes, tail, attribute, named_rule, more_read, attribute_read}
+use Rattle.statement_parser.proofs.Readings.{finished, reads, taken, taken_as, skipped, passed, line_read, says_on, rule_on, fails, rule_fails, pass_fails, line_fails}
+use Rattle.statement_parser.proofs.Sequences.{pushed, pushed_fails}
+use Rattle.statement_parser.proofs.StatementReadings.{behind, part_read, part_fails}
+use Rattle.statement_parser.proofs.TypeReadings.{goes, tail, one_more, more_read, attribute_read}
 use Rattle.statement_parser.specs.Gives.{TypeFirst}
-use Rattle.statement_parser.specs.Lines.{TypeExpression, ListType, MapType, TupleType, Attributes, MoreAttributes, is_type, type_of, rule}
+use Rattle.statement_parser.specs.Lines as lines
+use Rattle.statement_parser.specs.Lines.{R, TypeExpression, ListType, MapType, TupleType, Attributes, MoreAttributes, expect, is_type, type_of, rule}
 use Rattle.statement_parser.proofs.types.+types.Goals as goal
-use Rattle.expr_parser.proofs.Locality.{reads_shrinks, taken_as_shrinks, taken_shrinks}
-
-pub attributes-returns-in_err-kind : goal.attributes-returns-in_err-kind
-unfolding rule
-attributes-returns-in_err-kind t c =
-    fails (Attributes c.args.close []) c.args.ts.now c.args.ts.now _ c.from_residual.result c.in_err-kind.field-0.0 c.from_residual.ensures.1 (λ o q. reads q)
-    (line_fails _ TypeExpression _ _ c.in_err-kind.ensures)
-
-pub attributes-returns-in_err-name : goal.attributes-returns-in_err-name
-unfolding rule
-attributes-returns-in_err-name t c =
-    fails (Attributes c.args.close []) c.args.ts.now c.in_ok-kind.behind.now _ c.from_residual-in_err-name.result c.in_err-name.field-0.0 c.from_residual-in_err-name.ensures.1
-    (λ o q. reads (line_read c.in_ok-kind.ensures q))
-    (name_fails _ (named_rule c.args.close [] c.in_ok-kind.kind) _ c.in_err-name.ensures)
-
-pub attributes-returns : goal.attributes-returns
-attributes-returns t c =
-    says_on (λ o q. attribute_read c.args.close [] c.in_ok-kind.ensures c.in_ok-name.ensures
-    (subst (λ xs. Reads rule (MoreAttributes c.args.close xs) c.in_ok-name.behind.now o)
-    (c.in_ok-push.ensures.ok ∙ ap (λ xs. xs ++ attribute c.in_ok-kind.kind c.in_ok-name.name ∷ []) c.new-first.ensures) q))
-    c.more_attributes.result c.more_attributes.ensures
-
-pub list_type-returns-in_err-behind : goal.list_type-returns-in_err-behind
-unfolding rule
-list_type-returns-in_err-behind t c =
-    fails (ListType c.args.at) c.args.ts.now c.args.ts.now _ c.from_residual.result c.in_err-behind.field-0.0 c.from_residual.ensures.1 (λ o q. reads q)
-    (pass_fails _ S.Less _ _ c.in_err-behind.ensures)
-
-pub list_type-returns-in_err-element : goal.list_type-returns-in_err-element
-unfolding rule
-list_type-returns-in_err-element t c =
-    fails (ListType c.args.at) c.args.ts.now c.in_ok-behind.behind.now _ c.from_residual-in_err-element.result c.in_err-element.field-0.0 c.from_residual-in_err-element.ensures.1
-    (λ o q. reads (passed S.Less c.in_ok-behind.ensures q))
-    (line_fails _ TypeExpression _ _ c.in_err-element.ensures)
-
-pub list_type-returns-in_err-behind-2 : goal.list_type-returns-in_err-behind-2
-unfolding rule
-list_type-returns-in_err-behind-2 t c =
-    fails (ListType c.args.at) c.args.ts.now c.in_ok-element.behind.now _ c.from_residual-in_err-behind-2.result c.in_err-behind-2.field-0.0 c.from_residual-in_err-behind-2.ensures.1
-    (λ o q. reads (passed S.Less c.in_ok-behind.ensures (line_read c.in_ok-element.ensures q)))
-    (pass_fails _ S.Greater _ _ c.in_err-behind-2.ensures)
-
-pub list_type-returns : goal.list_type-returns
-unfolding rule
-list_type-returns t c =
-    subst (λ k. Reads rule (ListType c.args.at) c.args.ts.now (Took k c.in_ok-behind-2.behind.now)) (sym c.in_ok-kind.ensures)
-    (reads (passed S.Less c.in_ok-behind.ensures (line_read c.in_ok-element.ensures (passed S.Greater c.in_ok-behind-2.ensures finished))))
-
-pub map_type-returns-in_err-behind : goal.map_type-returns-in_err-behind
-unfolding rule
-map_type-returns-in_err-behind t c =
-    fails (MapType c.args.at) c.args.ts.now c.args.ts.now _ c.from_residual.result c.in_err-behind.field-0.0 c.from_residual.ensures.1 (λ o q. reads q)
-    (pass_fails _ S.Less _ _ c.in_err-behind.ensures)
-
-pub map_type-returns-in_err-key : goal.map_type-returns-in_err-key
-unfolding rule
-map_type-returns-in_err-key t c =
-    fails (MapType c.args.at) c.args.ts.now c.in_ok-behind.behind.now _ c.from_residual-in_err-key.result c.in_err-key.field-0.0 c.from_residual-in_err-key.ensures.1
-    (λ o q. reads (passed S.Less c.in_ok-behind.ensures q))
-    (line_fails _ TypeExpression _ _ c.in_err-key.ensures)
-
-pub map_type-returns-in_err-behind-2 : goal.map_type-returns-in_err-behind-2
-unfolding rule
-map_type-returns-in_err-behind-2 t c =
-    fails (MapType c.args.at) c.args.ts.now c.in_ok-key.behind.now _ c.from_residual-in_err-behind-2.result c.in_err-behind-2.field-0.0 c.from_residual-in_err-behind-2.ensures.1
-    (λ o q. reads (passed S.Less c.in_ok-behind.ensures (line_read c.in_ok-key.ensures q)))
-    (pass_fails _ S.Comma _ _ c.in_err-behind-2.ensures)
-
-pub map_type-returns-in_err-value : goal.map_type-returns-in_err-value
-unfolding rule
-map_type-returns-in_err-value t c =
-    fails (MapType c.args.at) c.args.ts.now c.in_ok-behind-2.behind.now _ c.from_residual-in_err-value.result c.in_err-value.field-0.0 c.from_residual-in_err-value.ensures.1
-    (λ o q. reads (passed S.Less c.in_ok-behind.ensures (line_read c.in_ok-key.ensures (passed S.Comma c.in_ok-behind-2.ensures q))))
-    (line_fails _ TypeExpression _ _ c.in_err-value.ensures)
-
-pub map_type-returns-in_err-behind-3 : goal.map_type-returns-in_err-behind-3
-unfolding rule
-map_type-returns-in_err-behind-3 t c =
-    fails (MapType c.args.at) c.args.ts.now c.in_ok-value.behind.now _ c.from_residual-in_err-behind-3.result c.in_err-behind-3.field-0.0 c.from_residual-in_err-behind-3.ensures.1
-    (λ o q. reads (passed S.Less c.in_ok-behind.ensures (line_read c.in_ok-key.ensures (passed S.Comma c.in_ok-behind-2.ensures (line_read c.in_ok-value.ensures q)))))
-    (pass_fails _ S.Greater _ _ c.in_err-behind-3.ensures)
-
-pub map_type-returns : goal.map_type-returns
-unfolding rule
-map_type-returns t c =
-    subst (λ k. Reads rule (MapType c.args.at) c.args.ts.now (Took k c.in_ok-behind-3.behind.now)) (sym c.in_ok-kind.ensures)
-    (reads (passed S.Less c.in_ok-behind.ensures (line_read c.in_ok-key.ensures (passed S.Comma c.in_ok-behind-2.ensures (line_read c.in_ok-value.ensures
-    (passed S.Greater c.in_ok-behind-3.ensures finished))))))
-
-pub more_attributes-returns-in_err-behind : goal.more_attributes-returns-in_err-behind
-unfolding rule
-more_attributes-returns-in_err-behind t c =
-    fails (MoreAttributes c.args.close c.args.first) c.args.ts.now c.attributes.at.now _ c.from_residual.result c.in_err-behind.field-0.0 c.from_residual.ensures.1
-    (λ o q. c.attributes.invariant o (reads (skipped c.in_default.ensures q)))
-    (pass_fails _ c.args.close (done c.attributes.all) _ c.in_err-behind.ensures)
-
-pub more_attributes-returns-in_default : goal.more_attributes-returns-in_default
-unfolding rule
-more_attributes-returns-in_default t c =
-    c.attributes.invariant (Took c.attributes.all c.in_ok-behind.behind.now) (reads (skipped c.in_default.ensures (passed c.args.close c.in_ok-behind.ensures finished)))
-
-pub more_attributes-returns-in_err-kind : goal.more_attributes-returns-in_err-kind
-unfolding rule
-more_attributes-returns-in_err-kind t c =
-    fails (MoreAttributes c.args.close c.args.first) c.args.ts.now c.in-Some.behind.now _ c.from_residual-in_err-kind.result c.in_err-kind.field-0.0 c.from_residual-in_err-kind.ensures.1
-    (λ o q. c.attributes.invariant o (more_read c.args.close c.attributes.all c.in-Some.ensures (reads q)))
-    (line_fails _ TypeExpression _ _ c.in_err-kind.ensures)
-
-pub more_attributes-returns-in_err-name : goal.more_attributes-returns-in_err-name
-unfolding rule
-more_attributes-returns-in_err-name t c =
-    fails (MoreAttributes c.args.close c.args.first) c.args.ts.now c.in_ok-kind.behind.now _ c.from_residual-in_err-name.result c.in_err-name.field-0.0 c.from_residual-in_err-name.ensures.1
-    (λ o q. c.attributes.invariant o (more_read c.args.close c.attributes.all c.in-Some.ensures (reads (line_read c.in_ok-kind.ensures q))))
-    (name_fails _ (named_rule c.args.close c.attributes.all c.in_ok-kind.kind) _ c.in_err-name.ensures)
-
-pub more_attributes-attributes-smaller : goal.more_attributes-attributes-smaller
-more_attributes-attributes-smaller t c =
-    let one = taken_shrinks c.in-Some.ensures in
-    let two = reads_shrinks c.in_ok-kind.ensures in
-    let three = taken_as_shrinks c.in_ok-name.ensures in
-    omega arith
-
-pub more_attributes-attributes-preserved : goal.more_attributes-attributes-preserved
-more_attributes-attributes-preserved t c =
-    λ o r. c.attributes.invariant o (more_read c.args.close c.attributes.all c.in-Some.ensures (attribute_read c.args.close c.attributes.all c.in_ok-kind.ensures c.in_ok-name.ensures
-    (subst (λ xs. Reads rule (MoreAttributes c.args.close xs) c.in_ok-name.behind.now o) c.in_ok-push.ensures.ok r)))
+use Rattle.expr_parser.proofs.Locality.{runs_shrinks, taken_shrinks}
 
 pub tuple_type-returns-in_err-behind : goal.tuple_type-returns-in_err-behind
 unfolding rule
@@ -150,8 +31,121 @@ tuple_type-returns-in_err-attributes t c =
 pub tuple_type-returns : goal.tuple_type-returns
 unfolding rule
 tuple_type-returns t c =
-    subst (λ k. Reads rule (TupleType c.args.at) c.args.ts.now (Took k c.in_ok-attributes.behind.now)) (sym c.in_ok-kind.ensures)
-    (reads (passed S.Less c.in_ok-behind.ensures (line_read c.in_ok-attributes.ensures finished)))
+    goes (TupleType c.args.at) c.args.ts.now c.in_ok-attributes.behind.now (done (placed c.args.at (Y.Tuple c.in_ok-attributes.attributes))) c.type_made.result
+    (λ o q. reads (passed S.Less c.in_ok-behind.ensures (line_read c.in_ok-attributes.ensures q))) c.type_made.ensures
+
+pub type_before-returns-in_err-kind : goal.type_before-returns-in_err-kind
+type_before-returns-in_err-kind t c =
+    rule_fails (lines.type_before c.args.symbol) _ c.args.ts.now c.args.ts.now _ c.in_err-kind.field-0.0 c.from_residual.ensures.1 (λ o q. q)
+    (line_fails _ TypeExpression (λ k. expect c.args.symbol (done k)) _ c.in_err-kind.ensures)
+
+pub type_before-returns : goal.type_before-returns
+type_before-returns t c =
+    rule_on (lines.type_before c.args.symbol) (expect c.args.symbol (done c.in_ok-kind.kind)) c.args.ts.now c.in_ok-kind.behind.now c.closed.result
+    (λ o q. line_read c.in_ok-kind.ensures q) c.closed.ensures
+
+pub type_between-returns-in_err-behind : goal.type_between-returns-in_err-behind
+type_between-returns-in_err-behind t c =
+    rule_fails (lines.type_between c.args.opening c.args.close) _ c.args.ts.now c.args.ts.now _ c.in_err-behind.field-0.0 c.from_residual.ensures.1 (λ o q. q)
+    (pass_fails _ c.args.opening (lines.type_before c.args.close) _ c.in_err-behind.ensures)
+
+pub type_between-returns : goal.type_between-returns
+type_between-returns t c =
+    rule_on (lines.type_between c.args.opening c.args.close) (lines.type_before c.args.close) c.args.ts.now c.in_ok-behind.behind.now c.type_before.result
+    (λ o q. passed c.args.opening c.in_ok-behind.ensures q) c.type_before.ensures
+
+-- the types of lists and of maps, after the types in them
+abbrev listed : ℕ → TypeExpr → R TypeExpr
+listed at e = done (placed at (Y.List e))
+
+abbrev valued : ℕ → TypeExpr → TypeExpr → R TypeExpr
+valued at k v = done (placed at (Y.Map k v))
+
+abbrev keyed : ℕ → TypeExpr → R TypeExpr
+keyed at k = behind (lines.type_before S.Greater) (valued at k)
+
+pub list_type-returns-in_err-element : goal.list_type-returns-in_err-element
+unfolding rule
+list_type-returns-in_err-element t c =
+    fails (ListType c.args.at) c.args.ts.now c.args.ts.now _ c.from_residual.result c.in_err-element.field-0.0 c.from_residual.ensures.1 (λ o q. reads q)
+    (part_fails (lines.type_between S.Less S.Greater) (listed c.args.at) _ _ c.in_err-element.ensures)
+
+pub list_type-returns : goal.list_type-returns
+unfolding rule
+list_type-returns t c =
+    goes (ListType c.args.at) c.args.ts.now c.in_ok-element.behind.now (listed c.args.at c.in_ok-element.element) c.type_made.result
+    (λ o q. reads (part_read (lines.type_between S.Less S.Greater) (listed c.args.at) c.in_ok-element.ensures q)) c.type_made.ensures
+
+pub map_type-returns-in_err-key : goal.map_type-returns-in_err-key
+unfolding rule
+map_type-returns-in_err-key t c =
+    fails (MapType c.args.at) c.args.ts.now c.args.ts.now _ c.from_residual.result c.in_err-key.field-0.0 c.from_residual.ensures.1 (λ o q. reads q)
+    (part_fails (lines.type_between S.Less S.Comma) (keyed c.args.at) _ _ c.in_err-key.ensures)
+
+pub map_type-returns-in_err-value : goal.map_type-returns-in_err-value
+unfolding rule
+map_type-returns-in_err-value t c =
+    fails (MapType c.args.at) c.args.ts.now c.in_ok-key.behind.now _ c.from_residual-in_err-value.result c.in_err-value.field-0.0 c.from_residual-in_err-value.ensures.1
+    (λ o q. reads (part_read (lines.type_between S.Less S.Comma) (keyed c.args.at) c.in_ok-key.ensures q))
+    (part_fails (lines.type_before S.Greater) (valued c.args.at c.in_ok-key.key) _ _ c.in_err-value.ensures)
+
+pub map_type-returns : goal.map_type-returns
+unfolding rule
+map_type-returns t c =
+    goes (MapType c.args.at) c.args.ts.now c.in_ok-value.behind.now (valued c.args.at c.in_ok-key.key c.in_ok-value.value) c.type_made.result
+    (λ o q. reads (part_read (lines.type_between S.Less S.Comma) (keyed c.args.at) c.in_ok-key.ensures
+    (part_read (lines.type_before S.Greater) (valued c.args.at c.in_ok-key.key) c.in_ok-value.ensures q))) c.type_made.ensures
+
+pub attribute-returns-in_err-kind : goal.attribute-returns-in_err-kind
+attribute-returns-in_err-kind t c =
+    rule_fails lines.attribute_rule _ c.args.ts.now c.args.ts.now _ c.in_err-kind.field-0.0 c.from_residual.ensures.1 (λ o q. q)
+    (line_fails _ TypeExpression lines.named_attribute_rule _ c.in_err-kind.ensures)
+
+pub attribute-returns : goal.attribute-returns
+attribute-returns t c =
+    rule_on lines.attribute_rule (lines.named_attribute_rule c.in_ok-kind.kind) c.args.ts.now c.in_ok-kind.behind.now c.named_attribute.result
+    (λ o q. line_read c.in_ok-kind.ensures q) c.named_attribute.ensures
+
+pub attributes-returns-in_err-behind : goal.attributes-returns-in_err-behind
+unfolding rule
+attributes-returns-in_err-behind t c =
+    fails (Attributes c.args.close []) c.args.ts.now c.args.ts.now _ c.from_residual.result c.in_err-behind.field-0.0 c.from_residual.ensures.1 (λ o q. reads q)
+    (part_fails lines.attribute_rule (one_more c.args.close []) _ _
+    (pushed_fails (RunsTo rule lines.attribute_rule c.args.ts.now) _ _ c.attribute.result _ c.attribute.ensures c.in_err-behind.ensures))
+
+pub attributes-returns : goal.attributes-returns
+attributes-returns t c =
+    let first = pushed (RunsTo rule lines.attribute_rule c.args.ts.now) _ _ c.attribute.result _ c.attribute.ensures c.in_ok-behind.ensures in
+    says_on (λ o q. attribute_read c.args.close [] first.said
+    (subst (λ xs. Reads rule (MoreAttributes c.args.close xs) c.in_ok-behind.behind.now o) (first.is ∙ ap (λ xs. xs ++ first.one ∷ []) c.new-first.ensures) q))
+    c.more_attributes.result c.more_attributes.ensures
+
+pub more_attributes-returns-in_default : goal.more_attributes-returns-in_default
+unfolding rule
+more_attributes-returns-in_default t c =
+    goes (MoreAttributes c.args.close c.args.first) c.args.ts.now c.attributes.at.now (expect c.args.close (done c.attributes.all)) c.closed.result
+    (λ o q. c.attributes.invariant o (reads (skipped c.in_default.ensures q))) c.closed.ensures
+
+pub more_attributes-returns-in_err-behind : goal.more_attributes-returns-in_err-behind
+unfolding rule
+more_attributes-returns-in_err-behind t c =
+    fails (MoreAttributes c.args.close c.args.first) c.args.ts.now c.in-Some.behind.now _ c.from_residual.result c.in_err-behind.field-0.0 c.from_residual.ensures.1
+    (λ o q. c.attributes.invariant o (more_read c.args.close c.attributes.all c.in-Some.ensures (reads q)))
+    (part_fails lines.attribute_rule (one_more c.args.close c.attributes.all) _ _
+    (pushed_fails (RunsTo rule lines.attribute_rule c.in-Some.behind.now) _ _ c.attribute.result _ c.attribute.ensures c.in_err-behind.ensures))
+
+pub more_attributes-attributes-smaller : goal.more_attributes-attributes-smaller
+more_attributes-attributes-smaller t c =
+    let next = pushed (RunsTo rule lines.attribute_rule c.in-Some.behind.now) _ _ c.attribute.result _ c.attribute.ensures c.in_ok-behind.ensures in
+    let one = taken_shrinks c.in-Some.ensures in
+    let two = runs_shrinks next.said in
+    omega arith
+
+pub more_attributes-attributes-preserved : goal.more_attributes-attributes-preserved
+more_attributes-attributes-preserved t c =
+    let next = pushed (RunsTo rule lines.attribute_rule c.in-Some.behind.now) _ _ c.attribute.result _ c.attribute.ensures c.in_ok-behind.ensures in
+    λ o r. c.attributes.invariant o (more_read c.args.close c.attributes.all c.in-Some.ensures (attribute_read c.args.close c.attributes.all next.said
+    (subst (λ xs. Reads rule (MoreAttributes c.args.close xs) c.in_ok-behind.behind.now o) next.is r)))
 
 pub type_at-returns-in-Some : goal.type_at-returns-in-Some
 unfolding rule

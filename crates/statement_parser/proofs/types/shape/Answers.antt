@@ -1,4 +1,4 @@
-use Rattle.std.proofs.Common.{[], ◌∷◌, ◌++◌, ◌∙◌, ◌≡◌, false, true≢false, Option, Some, None, Err, ap, subst}
+use Rattle.std.proofs.Common.{[], ◌∷◌, ◌≡◌, false, true≢false, Option, Some, None}
 use Rattle.std.specs.Prelude.{MatchOption, is_some}
 use Rattle.spl_tree.specs.declared.symbol.Symbol.{Symbol}
 use Rattle.spl_tree.specs.declared.shape.ShapeKind.TheVariants as H
@@ -6,11 +6,10 @@ use Rattle.spl_tree.specs.Grammar.{placed}
 use Rattle.spl_tree.specs.TypeGrammar.{TypeExpr, Shape}
 use Rattle.expr_parser.specs.Lines.{is_name}
 use Rattle.expr_parser.specs.RuleLaws.{begins_with}
-use Rattle.expr_parser.specs.Rules.{done, call, Took, Reads}
-use Rattle.statement_parser.proofs.Readings.{finished, reads, taken_as, skipped, passed, line_read, fails, pass_fails, line_fails}
-use Rattle.statement_parser.proofs.TypeReadings.{attribute}
-use Rattle.statement_parser.specs.Gives.{Gives}
-use Rattle.statement_parser.specs.Lines.{Name, R, TypeExpression, MoreAttributes, Shaped, name_at, rule}
+use Rattle.expr_parser.specs.Rules.{done, call}
+use Rattle.statement_parser.proofs.Readings.{reads, taken_as, skipped, line_read, fails, line_fails}
+use Rattle.statement_parser.proofs.TypeReadings.{goes, attribute}
+use Rattle.statement_parser.specs.Lines.{Name, R, TypeExpression, MoreAttributes, Shaped, expect, name_at, rule}
 use Rattle.statement_parser.proofs.types.shape.Goals as goal
 
 -- what follows the name of a first attribute
@@ -28,30 +27,15 @@ returns-in_err-kind c =
     fails (Shaped c.args.close) c.args.ts.now c.args.ts.now _ c.from_residual.result c.in_err-kind.field-0.0 c.from_residual.ensures.1 (λ o q. reads q)
     (line_fails _ TypeExpression _ _ c.in_err-kind.ensures)
 
-pub returns-in_err-behind : goal.returns-in_err-behind
-unfolding rule
-returns-in_err-behind c =
-    fails (Shaped c.args.close) c.args.ts.now c.in_ok-kind.behind.now _ c.from_residual-in_err-behind.result c.in_err-behind.field-0.0 c.from_residual-in_err-behind.ensures.1
-    (λ o q. reads (line_read c.in_ok-kind.ensures (skipped (none_first (begins_with is_name c.in_ok-kind.behind.now ≡ false) _ c.name_first.result c.name_first.ensures c.if-is_none.ensures) q)))
-    (pass_fails _ c.args.close (done (placed c.in_ok-kind.kind.at (H.Type c.in_ok-kind.kind))) _ c.in_err-behind.ensures)
-
 pub returns-then-is_none : goal.returns-then-is_none
 unfolding rule
 returns-then-is_none c =
-    reads (line_read c.in_ok-kind.ensures (skipped (none_first (begins_with is_name c.in_ok-kind.behind.now ≡ false) _ c.name_first.result c.name_first.ensures c.if-is_none.ensures) (passed c.args.close c.in_ok-behind.ensures finished)))
-
-pub returns-in_err-all : goal.returns-in_err-all
-unfolding rule
-returns-in_err-all c =
-    fails (Shaped c.args.close) c.args.ts.now c.in_ok-name.behind.now _ c.from_residual-in_err-all.result c.in_err-all.field-0.0 c.from_residual-in_err-all.ensures.1
-    (λ o q. reads (line_read c.in_ok-kind.ensures (taken_as is_name name_at (behind_name c.args.close c.in_ok-kind.kind) c.in_ok-name.ensures q)))
-    (line_fails _ (MoreAttributes c.args.close (attribute c.in_ok-kind.kind c.in_ok-name.name ∷ [])) (λ xs. done (placed c.in_ok-kind.kind.at (H.Attributes xs))) _
-    (subst (λ xs. Gives (MoreAttributes c.args.close xs) c.in_ok-name.behind.now (Err c.in_err-all.field-0.0))
-    (c.in_ok-push.ensures.ok ∙ ap (λ xs. xs ++ attribute c.in_ok-kind.kind c.in_ok-name.name ∷ []) c.new-first.ensures) c.in_err-all.ensures))
+    goes (Shaped c.args.close) c.args.ts.now c.in_ok-kind.behind.now (expect c.args.close (done (placed c.in_ok-kind.kind.at (H.Type c.in_ok-kind.kind)))) c.closed.result
+    (λ o q. reads (line_read c.in_ok-kind.ensures (skipped (none_first (begins_with is_name c.in_ok-kind.behind.now ≡ false) _ c.name_first.result c.name_first.ensures c.if-is_none.ensures) q)))
+    c.closed.ensures
 
 pub returns : goal.returns
 unfolding rule
 returns c =
-    reads (line_read c.in_ok-kind.ensures (taken_as is_name name_at (behind_name c.args.close c.in_ok-kind.kind) c.in_ok-name.ensures
-    (line_read (subst (λ xs. Reads rule (MoreAttributes c.args.close xs) c.in_ok-name.behind.now (Took c.in_ok-all.all c.in_ok-all.behind.now))
-    (c.in_ok-push.ensures.ok ∙ ap (λ xs. xs ++ attribute c.in_ok-kind.kind c.in_ok-name.name ∷ []) c.new-first.ensures) c.in_ok-all.ensures) finished)))
+    goes (Shaped c.args.close) c.args.ts.now c.in_ok-name.behind.now (behind_name c.args.close c.in_ok-kind.kind c.in_ok-name.name) c.named_shape.result
+    (λ o q. reads (line_read c.in_ok-kind.ensures (taken_as is_name name_at (behind_name c.args.close c.in_ok-kind.kind) c.in_ok-name.ensures q))) c.named_shape.ensures

@@ -1,13 +1,12 @@
 use Rattle.std.specs.Prelude.{true}
 use Rattle.expr_parser.specs.Rules.{done}
-use Rattle.spl_tree.specs.declared.statement.StmtKind.TheVariants as Z
 use Rattle.spl_tree.specs.declared.symbol.Symbol.TheVariants as S
 use Rattle.spl_tree.specs.Grammar.{placed}
 use Rattle.statement_parser.specs.Lines as lines
 use Rattle.statement_parser.proofs.Readings.{passed, rule_on}
-use Rattle.statement_parser.proofs.simple.continued.Goals as goal
+use Rattle.statement_parser.proofs.simple.ended.Goals as goal
 
 pub returns : goal.returns
 returns c =
-    rule_on (lines.ended_rule c.args.at Z.Continue) (done (placed c.args.at Z.Continue, true)) c.args.ts.now c.in_ok-behind.behind.now c.statement_at.result
+    rule_on (lines.ended_rule c.args.at c.args.what) (done (placed c.args.at c.args.what, true)) c.args.ts.now c.in_ok-behind.behind.now c.statement_at.result
     (λ o q. passed S.Semicolon c.in_ok-behind.ensures q) c.statement_at.ensures
