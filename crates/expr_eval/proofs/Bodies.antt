@@ -1,7 +1,6 @@
 -- What a body leaves, by where its row leads.
 use Rattle.std.specs.Prelude.{◌≡◌, ◌≢◌, ◌++◌, ℕ, List, [], Option, None, Some, Result, Ok, Err}
 use Rattle.std.proofs.Common.{refl, ap, subst, ◌∙◌}
-use Rattle.spl_value.specs.declared.item.FaultKind.{FaultKind}
 use Rattle.spl_value.specs.declared.value.Value.{Value}
 use Rattle.spl_tree.specs.declared.body.Function.{Function}
 use Rattle.spl_tree.specs.declared.body.Statement.{Statement}
@@ -9,8 +8,8 @@ use Rattle.language_model.specs.declared.env.Env.{Env}
 use Rattle.language_model.specs.declared.flow.Flow.{Flow}
 use Rattle.language_model.specs.declared.outs.Output.{Output}
 use Rattle.language_model.specs.Functions.{bodies_of, runs}
-use Rattle.language_model.specs.Outcomes.{Outcome, Done, Faulted, Stuck, followed, need}
-use Rattle.language_model.specs.Statements.{State, Bodies, Left, scoped, ended, row_acts, returned_by, left_by}
+use Rattle.language_model.specs.Outcomes.{Outcome, Done, followed, need}
+use Rattle.language_model.specs.Statements.{State, Bodies, Left, scoped, row_acts, returned_by, left_by}
 use Rattle.language_model.specs.ValueLaws.{BodyLeavesLaw}
 use Rattle.language_model.specs.WorldFits.{Leaves}
 use Rattle.expr_eval.specs.Running.{BodyIsFit, Leads, LeavesBehind, RanAs, ran_as, state}

@@ -1,5 +1,5 @@
 -- The outcome of a built-in call, by the outcomes of its arguments.
-use Rattle.std.specs.Prelude.{◌≡◌, ◌≤◌, ◌<◌, ℕ, suc, List, [], ◌∷◌, length, Result, Err, IsErrAnd}
+use Rattle.std.specs.Prelude.{◌≡◌, ◌≤◌, ◌<◌, ℕ, suc, List, [], ◌∷◌, length, Result, Err}
 use Rattle.std.proofs.Common.{refl, sym, ap, ◌∙◌, arith, get_or, subst}
 use Rattle.spl_value.specs.declared.types.SplType.{SplType}
 use Rattle.spl_value.specs.declared.value.Value.{Value}
@@ -20,7 +20,7 @@ use Rattle.value_operations.specs.Answers.{StopsAs, Answers}
 use Rattle.expr_eval.specs.Fitting.{IsFit}
 use Rattle.value_operations.specs.declared.stop.Stop.{Stop}
 use Rattle.expr_eval.proofs.CodeParts.{built_in_parts}
-use Rattle.value_operations.proofs.Following.{followed_followed, followed_stops, stops, stops_by}
+use Rattle.value_operations.proofs.Following.{followed_followed, followed_stops, stops_by}
 
 -- ---- how many arguments there are
 
@@ -140,12 +140,11 @@ module _ (calls : Calls) (w : World Slot) where
     abbrev called : Outcome Value
     called = followed (values_of calls xs w turns) (λ vs left. settled (built_in_of call vs) left)
 
-    pub called_stops : (r : Result Value Stop) (left : ℕ) (s : Stop) → IsErrAnd r (λ y. y ≡ s) → StopsAs (values_of calls xs w turns) s → Answers called r left
-    called_stops r left s h f = stops called r left s h (followed_stops (values_of calls xs w turns) (λ vs left. settled (built_in_of call vs) left) s f)
+    pub called_stops : (s : Stop) → StopsAs (values_of calls xs w turns) s → StopsAs called s
+    called_stops s f = followed_stops (values_of calls xs w turns) (λ vs left. settled (built_in_of call vs) left) s f
 
     pub called_stopped : (r : Result Value Stop) (left : ℕ) (s : Stop) → r ≡ Err s → StopsAs (values_of calls xs w turns) s → Answers called r left
-    called_stopped r left s h f =
-        subst (λ r. Answers called r left) (sym h) (followed_stops (values_of calls xs w turns) (λ vs left. settled (built_in_of call vs) left) s f)
+    called_stopped r left s h f = subst (λ r. Answers called r left) (sym h) (called_stops s f)
 
     with_values : (ys : List (Code Slot)) → xs ≡ ys → called ≡ followed (values_of calls ys w turns) (λ vs left. settled (built_in_of call vs) left)
     with_values ys e = ap (λ xs. followed (values_of calls xs w turns) (λ vs left. settled (built_in_of call vs) left)) e

@@ -1,5 +1,5 @@
 -- A call of a function: its body fits the environment of its arguments, and where the function has a result it returns one.
-use Rattle.std.specs.Prelude.{◌≡◌, ◌-◌, ℕ, zero, suc, false, IsTrue, List, [], ◌∷◌, map, length, Option, None, Some, slice_get}
+use Rattle.std.specs.Prelude.{◌≡◌, ◌-◌, ℕ, zero, suc, false, IsTrue, List, [], ◌∷◌, map, length, Option, None, Some, Result, Ok, Err, slice_get}
 use Rattle.std.specs.Cmp.{first_so, second_so}
 use Rattle.std.specs.Cmp.Lexicographic.{pointwise}
 use Rattle.std.proofs.Common.{refl, sym, ap, ◌∙◌, subst, arith}
@@ -20,10 +20,11 @@ use Rattle.language_model.specs.Outcomes.{Outcome, Done, followed, need, enter}
 use Rattle.language_model.specs.Statements.{State, Left, scoped, row_acts, returned_by, left_by, body_leaves}
 use Rattle.language_model.specs.ValueLaws.{BodyLeavesLaw}
 use Rattle.language_model.specs.WorldFits.{VariablesFit, FunctionFits, ResultFits, Leaves, body_scope}
-use Rattle.value_operations.specs.Answers.{StopsAs}
+use Rattle.value_operations.specs.Answers.{StopsAs, Answers}
 use Rattle.value_operations.specs.declared.stop.Stop.{Stop}
 use Rattle.expr_eval.specs.Fitting.{FitCall}
-use Rattle.expr_eval.specs.Running.{RowIsFit, FunctionIsFit, state}
+use Rattle.expr_eval.specs.Running.{RowIsFit, FunctionIsFit, Leads, state}
+use Rattle.expr_eval.specs.steps.Answered.{Returned}
 use Rattle.value_operations.proofs.Following.{enter_followed, followed_stops, stops_by}
 use Rattle.language_model.proofs.Returning.{done_followed}
 
@@ -77,7 +78,7 @@ module _ (functions : List Function) (i : ℕ) (vs : List Value) (h : FunctionIs
     arguments : VariablesFit scope (function_env vs)
     arguments = arguments_fit h.0 it_fits.variables vs (ap (λ ts. pointwise fits ts vs) it_fits.kinds ∙ h.4)
 
-    pub body_is_fit : (row : List Statement) → row ≡ f.body → (inputs : List (List Value)) → inputs ≡ [] → RowIsFit functions row (made inputs vs)
+    body_is_fit : (row : List Statement) → row ≡ f.body → (inputs : List (List Value)) → inputs ≡ [] → RowIsFit functions row (made inputs vs)
     body_is_fit row same inputs e =
         subst (λ row. RowIsFit functions row (made inputs vs)) (sym same)
         (subst (λ inputs. RowIsFit functions f.body (made inputs vs)) (sym e) (OfFunction h.1.result, false, scope, it_fits.body, (arguments, h.2)))
@@ -96,7 +97,7 @@ module _ (functions : List Function) (i : ℕ) (vs : List Value) (h : FunctionIs
         from_body : scoped (row_acts (bodies_of functions depth) f.body) (begun vs) turns ≡ scoped (row_acts (bodies_of functions depth) row) (state (made inputs vs) submits) turns
         from_body = λ j. scoped (row_acts (bodies_of functions depth) (sym same j)) (state (made (sym e j) vs) (sym d j)) turns
 
-        pub returned_there : (w : Flow × State) (after : ℕ) → scoped (row_acts (bodies_of functions depth) row) (state (made inputs vs) submits) turns ≡ Done w after → returned_by w.0 ≡ None → ⊥
+        returned_there : (w : Flow × State) (after : ℕ) → scoped (row_acts (bodies_of functions depth) row) (state (made inputs vs) submits) turns ≡ Done w after → returned_by w.0 ≡ None → ⊥
         returned_there w after r none =
             subst (Leaves (OfFunction h.1.result) scope (function_env vs)) (ap (λ o. followed o left_by) (from_body ∙ r) ∙ ap (λ o. need o (left_after w after)) none) leaves
 
@@ -125,14 +126,37 @@ module _ (functions : List Function) (i : ℕ) (vs : List Value) (h : FunctionIs
       call_acts : bodies_of functions depth i vs turns ≡ returns body_acts
       call_acts = call_is ∙ (λ j. returns (scoped (row_acts (bodies_of functions (depth - 1)) (sym same j)) (state (made (sym e j) vs) (sym d j)) turns))
 
-      pub body_stops : (p : Stop) → StopsAs body_acts p → StopsAs (bodies_of functions depth i vs turns) p
+      body_stops : (p : Stop) → StopsAs body_acts p → StopsAs (bodies_of functions depth i vs turns) p
       body_stops p q =
           stops_by (bodies_of functions depth i vs turns) _ p call_acts
           (followed_stops (followed body_acts left_by) (λ left turns. Done left.returned turns) p (followed_stops body_acts left_by p q))
 
-      pub body_done : (w : Flow × State) (after : ℕ) (r : Option Value) → body_acts ≡ Done w after → returned_by w.0 ≡ Some r → bodies_of functions depth i vs turns ≡ Done r after
+      body_done : (w : Flow × State) (after : ℕ) (r : Option Value) → body_acts ≡ Done w after → returned_by w.0 ≡ Some r → bodies_of functions depth i vs turns ≡ Done r after
       body_done w after r q some =
           call_acts ∙ ap returns q ∙ ap (λ (o : Option (Option Value)). followed {A = Left} (need o (left_after w after)) (λ left turns. Done left.returned turns)) some
+
+  -- how a call ends by how its body does, in the environment that is made for it
+  module _ (f : Function) (is : slice_get functions i ≡ Some f) (row : List Statement) (same : row ≡ f.body) (submits : List Output) (d : submits ≡ []) where
+    abbrev body_from : ℕ → ℕ → Env → Outcome (Flow × State)
+    body_from depth turns env = scoped (row_acts (bodies_of functions depth) row) (state env submits) turns
+
+    pub call_body_is_fit : (env : Env) → env ≡ function_env vs → RowIsFit functions row env
+    call_body_is_fit env e = subst (RowIsFit functions row) (sym e) (body_is_fit f is row same [] refl)
+
+    module _ (env : Env) (e : env ≡ function_env vs) (turns : ℕ) (answer : Result Flow Stop) (w : State) (left : ℕ) where
+      pub answer_returns : BodyLeavesLaw → (depth : ℕ) → Leads (body_from depth turns env) answer w left → (flow : Flow) → answer ≡ Ok flow → returned_by flow ≡ None → ⊥
+      answer_returns law depth h flow ok =
+          returned_there f is law depth turns row same [] refl submits d (flow, w) left
+          (subst (λ env. body_from depth turns env ≡ Done (flow, w) left) e (subst (λ answer. Leads (body_from depth turns env) answer w left) ok h))
+
+      pub call_returns : (depth : ℕ) → (depth ≡ 0 → ⊥) → Leads (body_from (depth - 1) turns env) answer w left → (r : Result (Option Value) Stop) → Returned answer r
+          → Answers (bodies_of functions depth i vs turns) r left
+      call_returns depth deep h (Ok r) k =
+          body_done f is depth turns deep row same [] refl submits d (k.0, w) left r
+          (subst (λ env. body_from (depth - 1) turns env ≡ Done (k.0, w) left) e (subst (λ answer. Leads (body_from (depth - 1) turns env) answer w left) k.1 h)) k.2
+      call_returns depth deep h (Err p) k =
+          body_stops f is depth turns deep row same [] refl submits d p
+          (subst (λ env. StopsAs (body_from (depth - 1) turns env) p) e (subst (λ answer. Leads (body_from (depth - 1) turns env) answer w left) k h))
 
 -- ---- a function with a result
 
@@ -144,14 +168,8 @@ module _ (functions : List Function) (i : ℕ) (vs : List Value) (depth turns : 
   abbrev entered : Outcome (Option Value)
   entered = enter turns (λ turns. bodies_of functions depth i vs turns)
 
-  value_called : enter turns (λ turns. calls_of functions depth i vs turns) ≡ followed entered wanted
+  pub value_called : enter turns (λ turns. calls_of functions depth i vs turns) ≡ followed entered wanted
   value_called = enter_followed turns (λ turns. bodies_of functions depth i vs turns) wanted
-
-  pub value_stops : (p : Stop) → StopsAs entered p → StopsAs (enter turns (λ turns. calls_of functions depth i vs turns)) p
-  value_stops p d = stops_by _ (followed entered wanted) p value_called (followed_stops entered wanted p d)
-
-  pub value_done : (r : Option Value) (v : Value) (left : ℕ) → entered ≡ Done r left → r ≡ Some v → enter turns (λ turns. calls_of functions depth i vs turns) ≡ Done v left
-  value_done r v left e some = value_called ∙ ap (λ o. followed o wanted) e ∙ ap (λ r. wanted r left) some
 
 module _ (functions : List Function) (i : ℕ) (vs : List Value) (h : FitCall functions i vs) where
   abbrev pub called_is_fit : FunctionIsFit functions i vs

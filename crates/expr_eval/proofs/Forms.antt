@@ -47,9 +47,8 @@ module _ (calls : Calls) (w : World Slot) (code : Code Slot) (turns : ℕ) where
     pub select_stops : (r : Result Held Stop) (left : ℕ) (s : Stop) → IsErrAnd r (λ y. y ≡ s) → StopsAs (code_value calls x w turns) s → AnswersHeld comes r left
     select_stops r left s h f = handed _ r left s select_form h (followed_stops (code_value calls x w turns) (λ v turns. takings_value calls ts v w turns) s f)
 
-    pub select_answers : (v : Value) (after : ℕ) → code_value calls x w turns ≡ Done v after → (r : Result Held Stop) (left : ℕ) → AnswersHeld (takings_value calls ts v w after) r left
-        → AnswersHeld comes r left
-    select_answers v after d r left h = answers_held_by comes _ r left (select_form ∙ ap (λ o. followed o (λ v turns. takings_value calls ts v w turns)) d) h
+    pub select_comes : (v : Value) (after : ℕ) → code_value calls x w turns ≡ Done v after → comes ≡ takings_value calls ts v w after
+    select_comes v after d = select_form ∙ ap (λ o. followed o (λ v turns. takings_value calls ts v w turns)) d
 
   module _ (ops : List UnaryCode) (x : Code Slot) (is : code ≡ C.Unary ops x) where
     unary_form : comes ≡ followed (code_value calls x w turns) (λ v turns. unaries_of ops v turns)

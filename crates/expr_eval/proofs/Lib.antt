@@ -1,3 +1,4 @@
+mod Answering
 mod Binary
 mod Bodies
 mod BuiltIns

@@ -1,5 +1,5 @@
 -- What rows and loops come to from where they have come.
-use Rattle.std.specs.Prelude.{◌≡◌, ◌≤◌, ◌<◌, ◌+◌, ℕ, zero, suc, Bool, true, false, if◌then◌else◌, List, ◌∷◌, length, drop, get_or, None, Some}
+use Rattle.std.specs.Prelude.{◌≡◌, ◌≤◌, ◌<◌, ◌+◌, ℕ, zero, suc, Bool, true, false, if◌then◌else◌, List, ◌∷◌, length, drop, get_or, None, Some, Result, Ok, Err}
 use Rattle.std.proofs.Common.{refl, sym, ap, ◌∙◌, subst}
 use Rattle.std.proofs.lemmas.List.{drop_all}
 use Rattle.spl_value.specs.declared.item.FaultKind.TheVariants as K
@@ -15,11 +15,16 @@ use Rattle.language_model.specs.Outcomes.{Outcome, Done, Faulted, followed, ente
 use Rattle.language_model.specs.Statements.{State, Acts, Bodies, truth_in, statement_acts, row_acts, scoped, declared, then_rest, then_again, turns_while, turns_over}
 use Rattle.language_model.specs.StatementLaws.{arms_act}
 use Rattle.value_operations.specs.Answers.{StopsAs}
-use Rattle.expr_eval.specs.Running.{EndsRow, EndsLoop}
+use Rattle.expr_eval.specs.Running.{EndsRow, EndsLoop, Leads}
+use Rattle.expr_eval.specs.steps.Answered.{LoopGoes, RowGoes}
 use Rattle.value_operations.specs.declared.stop.Stop.{Stop}
 use Rattle.value_operations.specs.declared.stop.Stop.TheVariants as P
 use Rattle.value_operations.proofs.Following.{enter_followed, followed_stops, stops_by}
 use Rattle.spl_value.proofs.Lists.{drop_at}
+
+-- what was answered, where it is a flow
+pub led_to : (o : Outcome (Flow × State)) (answer : Result Flow Stop) (flow : Flow) → answer ≡ Ok flow → (w : State) (left : ℕ) → Leads o answer w left → o ≡ Done (flow, w) left
+led_to o answer flow is w left h = subst (λ answer. Leads o answer w left) is h
 
 -- ---- rows
 
@@ -27,7 +32,7 @@ module _ (bodies : Bodies) (row : List Statement) (i : ℕ) (x : Statement) (h :
   row_rest : row_acts bodies (drop i row) s turns ≡ followed (statement_acts bodies x s turns) (λ w turns. then_rest w turns (row_acts bodies (drop (i + 1) row)))
   row_rest = ap (λ row. row_acts bodies row s turns) (drop_at row i x h e)
 
-  pub row_stops : (stop : Stop) → StopsAs (statement_acts bodies x s turns) stop → StopsAs (row_acts bodies (drop i row) s turns) stop
+  row_stops : (stop : Stop) → StopsAs (statement_acts bodies x s turns) stop → StopsAs (row_acts bodies (drop i row) s turns) stop
   row_stops stop q =
       stops_by (row_acts bodies (drop i row) s turns) _ stop row_rest
       (followed_stops (statement_acts bodies x s turns) (λ w turns. then_rest w turns (row_acts bodies (drop (i + 1) row))) stop q)
@@ -39,11 +44,20 @@ module _ (bodies : Bodies) (row : List Statement) (i : ℕ) (x : Statement) (h :
     pub row_on : EndsRow flow None → row_acts bodies (drop i row) s turns ≡ row_acts bodies (drop (i + 1) row) w left
     row_on on = row_comes ∙ on w left (row_acts bodies (drop (i + 1) row))
 
-    pub row_ends : (end : Flow) → EndsRow flow (Some end) → row_acts bodies (drop i row) s turns ≡ Done (end, w) left
+    row_ends : (end : Flow) → EndsRow flow (Some end) → row_acts bodies (drop i row) s turns ≡ Done (end, w) left
     row_ends end ends = row_comes ∙ ends w left (row_acts bodies (drop (i + 1) row))
 
 pub row_past : (bodies : Bodies) (row : List Statement) (i : ℕ) (s : State) (turns : ℕ) → length row ≤ i → row_acts bodies (drop i row) s turns ≡ Done (F.Next, s) turns
 row_past bodies row i s turns h = ap (λ row. row_acts bodies row s turns) (drop_all i row h)
+
+-- by what the statement answered
+pub row_ended : (bodies : Bodies) (row : List Statement) (i : ℕ) (x : Statement) → i < length row → x ≡ get_or row i x → (s : State) (turns : ℕ)
+    → (answer : Result Flow Stop) (w : State) (left : ℕ) → Leads (statement_acts bodies x s turns) answer w left → (end : Result Flow Stop) → RowGoes answer (Some end)
+    → Leads (row_acts bodies (drop i row) s turns) end w left
+row_ended bodies row i x h e s turns answer w left led (Ok end) goes =
+    row_ends bodies row i x h e s turns goes.0 w left (led_to (statement_acts bodies x s turns) answer goes.0 goes.1 w left led) end goes.2
+row_ended bodies row i x h e s turns answer w left led (Err stop) goes =
+    row_stops bodies row i x h e s turns stop (subst (λ answer. Leads (statement_acts bodies x s turns) answer w left) goes led)
 
 -- ---- arms
 
@@ -106,7 +120,7 @@ module _ (n : ℕ) (bodies : Bodies) (code : Code Slot) (body : Acts) (s : State
       entered_comes : turns_while n bodies code body s turns ≡ turn after
       entered_comes = turn_comes ∙ ap (λ left. enter left turn) entered
 
-      pub while_stops_in_turn : (stop : Stop) → StopsAs (body s after) stop → StopsAs (turns_while n bodies code body s turns) stop
+      while_stops_in_turn : (stop : Stop) → StopsAs (body s after) stop → StopsAs (turns_while n bodies code body s turns) stop
       while_stops_in_turn stop q =
           stops_by (turns_while n bodies code body s turns) (turn after) stop entered_comes
           (followed_stops (body s after) (λ w turns. then_again w turns (after_rounds n bodies code body)) stop q)
@@ -115,11 +129,20 @@ module _ (n : ℕ) (bodies : Bodies) (code : Code Slot) (body : Acts) (s : State
         led_comes : turns_while n bodies code body s turns ≡ then_again (flow, w) rest (after_rounds n bodies code body)
         led_comes = entered_comes ∙ ap (λ o. followed o (λ w turns. then_again w turns (after_rounds n bodies code body))) led
 
-        pub while_ends : (end : Flow) → EndsLoop flow (Some end) → turns_while n bodies code body s turns ≡ Done (end, w) rest
+        while_ends : (end : Flow) → EndsLoop flow (Some end) → turns_while n bodies code body s turns ≡ Done (end, w) rest
         while_ends end ends = led_comes ∙ ends w rest (after_rounds n bodies code body)
 
         pub while_on : EndsLoop flow None → (m : ℕ) → n ≡ suc m → turns_while n bodies code body s turns ≡ turns_while m bodies code body w rest
         while_on on m one = led_comes ∙ on w rest (after_rounds n bodies code body) ∙ ap (λ n. after_rounds n bodies code body w rest) one
+
+-- by what the body answered
+pub while_ended : (n : ℕ) (bodies : Bodies) (code : Code Slot) (body : Acts) (s : State) (turns : ℕ) (b : Bool) (left : ℕ) → truth_in bodies code s turns ≡ Done b left → b ≡ true
+    → (after : ℕ) → left ≡ suc after → (answer : Result Flow Stop) (w : State) (rest : ℕ) → Leads (body s after) answer w rest → (end : Result Flow Stop) → LoopGoes answer (Some end)
+    → Leads (turns_while n bodies code body s turns) end w rest
+while_ended n bodies code body s turns b left is holds after entered answer w rest led (Ok end) goes =
+    while_ends n bodies code body s turns b left is holds after entered goes.0 w rest (led_to (body s after) answer goes.0 goes.1 w rest led) end goes.2
+while_ended n bodies code body s turns b left is holds after entered answer w rest led (Err stop) goes =
+    while_stops_in_turn n bodies code body s turns b left is holds after entered stop (subst (λ answer. Leads (body s after) answer w rest) goes led)
 
 -- one that makes n turns and one at most
 abbrev pub while_from : ℕ → List Function → ℕ → Code Slot → List Statement → Acts
@@ -128,9 +151,24 @@ while_from n functions depth code row = turns_while n (bodies_of functions depth
 -- ---- a loop over values
 
 module _ (values others : List Value) (v : Value) (body : Acts) (is : values ≡ v ∷ others) (s : State) (turns : ℕ) where
-  pub over_on : (flow : Flow) (w : State) (left : ℕ) → enter turns (λ turns. scoped (λ s turns. body (declared s v) turns) s turns) ≡ Done (flow, w) left → EndsLoop flow None
-      → turns_over values body s turns ≡ turns_over others body w left
-  over_on flow w left led on =
+  abbrev first : Outcome (Flow × State)
+  first = enter turns (λ turns. scoped (λ s turns. body (declared s v) turns) s turns)
+
+  over_rest : turns_over values body s turns ≡ followed first (λ w turns. then_again w turns (turns_over others body))
+  over_rest =
       ap (λ values. turns_over values body s turns) is
       ∙ enter_followed turns (λ turns. scoped (λ s turns. body (declared s v) turns) s turns) (λ w turns. then_again w turns (turns_over others body))
-      ∙ ap (λ o. followed o (λ w turns. then_again w turns (turns_over others body))) led ∙ on w left (turns_over others body)
+
+  pub over_on : (flow : Flow) (w : State) (left : ℕ) → first ≡ Done (flow, w) left → EndsLoop flow None → turns_over values body s turns ≡ turns_over others body w left
+  over_on flow w left led on =
+      over_rest ∙ ap (λ o. followed o (λ w turns. then_again w turns (turns_over others body))) led ∙ on w left (turns_over others body)
+
+  -- by what the turn answered
+  pub over_ended : (answer : Result Flow Stop) (w : State) (left : ℕ) → Leads first answer w left → (end : Result Flow Stop) → LoopGoes answer (Some end)
+      → Leads (turns_over values body s turns) end w left
+  over_ended answer w left led (Ok end) goes =
+      over_rest ∙ ap (λ o. followed o (λ w turns. then_again w turns (turns_over others body))) (led_to first answer goes.0 goes.1 w left led)
+      ∙ goes.2 w left (turns_over others body)
+  over_ended answer w left led (Err stop) goes =
+      stops_by (turns_over values body s turns) _ stop over_rest
+      (followed_stops first (λ w turns. then_again w turns (turns_over others body)) stop (subst (λ answer. Leads first answer w left) goes led))

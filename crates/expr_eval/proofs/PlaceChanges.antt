@@ -1,5 +1,5 @@
 -- Changes of places: the values that they come to, and what those ask of the variable.
-use Rattle.std.specs.Prelude.{◌≡◌, ◌<◌, ℕ, IsTrue, List, [], ◌∷◌, length, Some, slice_get, Result, IsErrAnd}
+use Rattle.std.specs.Prelude.{◌≡◌, ◌<◌, ℕ, IsTrue, List, [], ◌∷◌, length, Some, slice_get, Result}
 use Rattle.std.proofs.Common.{refl, sym, ap, ◌∙◌, subst, inl, inr, get_or}
 use Rattle.std.proofs.lemmas.Option.{slice_get_read, slice_get_within}
 use Rattle.spl_value.specs.declared.types.SplType.{SplType}
@@ -29,12 +29,12 @@ use Rattle.language_model.specs.Functions.{bodies_of}
 use Rattle.language_model.specs.Outcomes.{Outcome, Done, followed, need, settled}
 use Rattle.language_model.specs.Statements.{State, Bodies, value_in, step_value, step_values, steps_taken, change_value, change_values, changed_at, change_acts}
 use Rattle.language_model.specs.ValueLaws.{NeverStuckLaw}
-use Rattle.value_operations.specs.Answers.{StopsAs}
+use Rattle.value_operations.specs.Answers.{StopsAs, Answers}
 use Rattle.value_operations.specs.Changing as C
 use Rattle.value_operations.specs.Changing.{StepsLeadTo, ArgumentFits, CanChangeAt}
 use Rattle.value_operations.specs.declared.stop.Stop.{Stop}
 use Rattle.expr_eval.specs.Running.{IsIn, PlaceIsFit, ChangeIsFit, LeadsNext, state}
-use Rattle.value_operations.proofs.Following.{followed_stops, stops_by, exit}
+use Rattle.value_operations.proofs.Following.{followed_followed, followed_stops, answers_by, stops_by}
 use Rattle.expr_eval.proofs.StepValues.{StepsFrom, taken_from, taken_start}
 use Rattle.expr_eval.proofs.ValueTypes.{of_type}
 use Rattle.language_model.proofs.Returning.{done_followed}
@@ -52,7 +52,7 @@ module _ (functions : List Function) (place : Place) (env : Env) (h : PlaceIsFit
   at_variable : (x : Variable) × (slice_get h.0.vars place.variable ≡ Some x) × StepsLead h.0 place.takings x.kind h.1
   at_variable = place_parts h.0 place h.1 h.2
 
-  variable_holds : (v : Value) × (slice_get env.vars place.variable ≡ Some v) × StepsFrom functions place.takings env v
+  pub variable_holds : (v : Value) × (slice_get env.vars place.variable ≡ Some v) × StepsFrom functions place.takings env v
   variable_holds =
       let v = h.3.0.env_fits.variables place.variable at_variable.0 at_variable.1 in
       (v.0, v.1, (h.0, at_variable.0.kind, h.1, at_variable.2, v.2, h.3))
@@ -95,6 +95,61 @@ module _ (bodies : Bodies) (s : State) where
 
   abbrev by_place : Place → Change (Code Slot) → ℕ → Outcome Changed
   by_place place change turns = need (slice_get s.env.vars place.variable) (λ v. followed (steps_taken bodies place.takings v s turns) (with_argument change))
+
+-- by what its parts answered
+module _ (bodies : Bodies) (s : State) (place : Place) (turns : ℕ) where
+  abbrev values_of : Change (Code Slot) → Outcome Changed
+  values_of change = change_values bodies place change s turns
+
+  module _ (change : Change (Code Slot)) (x : Code Slot) (is : change ≡ H.Put x) where
+    abbrev put_behind : Change Value → ℕ → Outcome Changed
+    put_behind change turns = followed (step_values bodies place.takings s turns) (λ steps turns. Done (steps, change) turns)
+
+    pub put_stops : (p : Stop) → StopsAs (value_in bodies x s turns) p → StopsAs (values_of change) p
+    put_stops p h =
+        stops_by (values_of change) (values_of (H.Put x)) p (ap values_of is)
+        (followed_stops (change_value bodies (H.Put x) s turns) put_behind p (followed_stops (value_in bodies x s turns) (λ v turns. Done (H.Put v) turns) p h))
+
+    pub put_answers : (v : Value) (after : ℕ) → value_in bodies x s turns ≡ Done v after → (r : Result Changed Stop) (left : ℕ)
+        → Answers (followed (step_values bodies place.takings s after) (λ steps left. Done (steps, H.Put v) left)) r left → Answers (values_of change) r left
+    put_answers v after d r left h =
+        answers_by (values_of change) _ r left (ap values_of is ∙ ap (λ o. followed (followed o (λ v turns. Done (H.Put v) turns)) put_behind) d) h
+
+  -- of any other change
+  module _ (change other : Change (Code Slot)) (is : change ≡ other) (goes_on : (v : Value) → values_of other ≡ by_place bodies s place other turns) (v : Value)
+      (at : slice_get s.env.vars place.variable ≡ Some v) where
+    after_steps : values_of change ≡ followed (steps_taken bodies place.takings v s turns) (with_argument bodies s other)
+    after_steps = ap values_of is ∙ goes_on v ∙ ap (λ o. need o (λ v. followed (steps_taken bodies place.takings v s turns) (with_argument bodies s other))) at
+
+    steps_stop : (p : Stop) → StopsAs (steps_taken bodies place.takings v s turns) p → StopsAs (values_of change) p
+    steps_stop p h = stops_by (values_of change) _ p after_steps (followed_stops (steps_taken bodies place.takings v s turns) (with_argument bodies s other) p h)
+
+    argument_answers : (steps : List (Selector Value)) (after : ℕ) → steps_taken bodies place.takings v s turns ≡ Done steps after → (r : Result Changed Stop) (left : ℕ)
+        → Answers (with_argument bodies s other steps after) r left → Answers (values_of change) r left
+    argument_answers steps after d r left h =
+        answers_by (values_of change) _ r left (after_steps ∙ ap (λ o. followed o (with_argument bodies s other)) d) h
+
+  module _ (change : Change (Code Slot)) (x : Code Slot) (v : Value) (at : slice_get s.env.vars place.variable ≡ Some v) where
+    pub append_stops : change ≡ H.Append x → (p : Stop) → StopsAs (steps_taken bodies place.takings v s turns) p → StopsAs (values_of change) p
+    append_stops is = steps_stop change (H.Append x) is (λ v. refl) v at
+
+    pub remove_stops : change ≡ H.Remove x → (p : Stop) → StopsAs (steps_taken bodies place.takings v s turns) p → StopsAs (values_of change) p
+    remove_stops is = steps_stop change (H.Remove x) is (λ v. refl) v at
+
+    module _ (steps : List (Selector Value)) (after : ℕ) (d : steps_taken bodies place.takings v s turns ≡ Done steps after) (r : Result Changed Stop) (left : ℕ) where
+      pub append_answers : change ≡ H.Append x → Answers (followed (value_in bodies x s after) (λ v left. Done (steps, H.Append v) left)) r left → Answers (values_of change) r left
+      append_answers is h =
+          argument_answers change (H.Append x) is (λ v. refl) v at steps after d r left
+          (answers_by _ _ r left (followed_followed (value_in bodies x s after) (λ v turns. Done (H.Append v) turns) (λ c turns. Done (steps, c) turns)) h)
+
+      pub remove_answers : change ≡ H.Remove x → Answers (followed (value_in bodies x s after) (λ v left. Done (steps, H.Remove v) left)) r left → Answers (values_of change) r left
+      remove_answers is h =
+          argument_answers change (H.Remove x) is (λ v. refl) v at steps after d r left
+          (answers_by _ _ r left (followed_followed (value_in bodies x s after) (λ v turns. Done (H.Remove v) turns) (λ c turns. Done (steps, c) turns)) h)
+
+  pub clear_answers : (change : Change (Code Slot)) → change ≡ H.Clear → (v : Value) → slice_get s.env.vars place.variable ≡ Some v → (r : Result Changed Stop) (left : ℕ)
+      → Answers (followed (steps_taken bodies place.takings v s turns) (λ steps left. Done (steps, H.Clear) left)) r left → Answers (values_of change) r left
+  clear_answers change is v at r left h = answers_by (values_of change) _ r left (after_steps change H.Clear is (λ v. refl) v at) h
 
 -- ---- the values of a change that fits can be put to the variable
 
@@ -283,19 +338,11 @@ module _ (bodies : Bodies) (env : Env) (submits : List Output) where
     abbrev put_to : Changed → ℕ → Outcome (Flow × State)
     put_to w turns = changed_at place.variable w.0 w.1 (state env submits) turns
 
-    pub place_change_stops : (p : Stop) → StopsAs (change_values bodies place change (state env []) turns) p → StopsAs (change_acts bodies place change (state env submits) turns) p
-    place_change_stops p d =
-        stops_by (change_acts bodies place change (state env submits) turns) _ p (ap (λ o. followed o put_to) (any_change place change turns))
-        (followed_stops (change_values bodies place change (state env []) turns) put_to p d)
-
-    pub place_change_done : (w : Changed) (left : ℕ) → change_values bodies place change (state env []) turns ≡ Done w left
-        → change_acts bodies place change (state env submits) turns ≡ changed_at place.variable w.0 w.1 (state env submits) left
-    place_change_done w left e = ap (λ o. followed o put_to) (any_change place change turns ∙ e)
+    -- the values, and what is done with them
+    pub place_changes : change_acts bodies place change (state env submits) turns ≡ followed (change_values bodies place change (state env []) turns) put_to
+    place_changes = ap (λ o. followed o put_to) (any_change place change turns)
 
 -- ---- answers
-
-pub leads_next_stops : (o : Outcome (Flow × State)) (r : Result (Unit {0}) Stop) (s : State) (turns : ℕ) (p : Stop) → IsErrAnd r (λ y. y ≡ p) → StopsAs o p → LeadsNext o r s turns
-leads_next_stops o r s turns p h q = exit (λ r. LeadsNext o r s turns) r p h q
 
 pub leads_next_by : (o p : Outcome (Flow × State)) (r : Result (Unit {0}) Stop) (s : State) (turns : ℕ) → o ≡ p → LeadsNext p r s turns → LeadsNext o r s turns
 leads_next_by o p r s turns e h = subst (λ o. LeadsNext o r s turns) (sym e) h

@@ -1,5 +1,5 @@
 -- The steps of places, with the values of their indexes and keys.
-use Rattle.std.specs.Prelude.{◌≡◌, ◌+◌, ◌<◌, ◌≤◌, ℕ, IsTrue, List, [], ◌∷◌, ◌++◌, length, drop, Err}
+use Rattle.std.specs.Prelude.{◌≡◌, ◌+◌, ◌<◌, ◌≤◌, ℕ, IsTrue, List, [], ◌∷◌, ◌++◌, length, drop}
 use Rattle.std.proofs.Common.{refl, sym, ap, ◌∙◌, subst, get_or, append_assoc, append-nil}
 use Rattle.std.proofs.lemmas.List.{drop_all}
 use Rattle.spl_value.specs.declared.types.SplType.{SplType}
@@ -21,13 +21,13 @@ use Rattle.language_model.specs.Functions.{bodies_of, calls_of}
 use Rattle.language_model.specs.Outcomes.{Outcome, Done, followed, settled}
 use Rattle.language_model.specs.Statements.{State, Bodies, calls_by, value_in, step_value, step_values, steps_taken}
 use Rattle.language_model.specs.ValueLaws.{NeverStuckLaw}
-use Rattle.value_operations.specs.Answers.{StopsAs, SettlesHeld}
+use Rattle.value_operations.specs.Answers.{StopsAs}
 use Rattle.value_operations.specs.declared.stop.Stop.{Stop}
-use Rattle.value_operations.specs.declared.stop.Stop.TheVariants as P
 use Rattle.expr_eval.specs.Fitting.{FitTakings}
 use Rattle.expr_eval.specs.Running.{IsIn, StepsAreFit, state}
 use Rattle.value_operations.specs.Taking.{StepFits}
-use Rattle.value_operations.proofs.Following.{followed_followed, followed_done, followed_stops, stops_by}
+use Rattle.value_operations.proofs.Following.{followed_followed, followed_done, stops_by}
+use Rattle.expr_eval.proofs.Answering.{stops_within}
 use Rattle.expr_eval.proofs.Rows.{IsRow, appends, past, on, stop}
 use Rattle.expr_eval.proofs.StepParts.{steps, one_step, has_member, has_elements, has_keys}
 use Rattle.expr_eval.proofs.ValueTypes.{taken_of_type}
@@ -122,8 +122,8 @@ module _ (bodies : Bodies) (s : State) where
           ∙ followed_followed (step_value bodies t s turns) (λ step turns. followed (settled (step_of step v) turns) (others step)) (λ more turns. Done (done ++ more) turns)
           ∙ (λ j. followed (step_value bodies t s turns) (λ step turns. step_taken step turns j))
 
-      pub taken_stop_at_value : (p : Stop) → StopsAs (step_value bodies t s turns) p → StopsAs (taken_from ts i v done turns) p
-      taken_stop_at_value p d = stops_by (taken_from ts i v done turns) _ p rest (followed_stops (step_value bodies t s turns) (λ step turns. followed (settled (step_of step v) turns) (after step)) p d)
+      pub taken_stop : (p : Stop) → StopsAs (followed (step_value bodies t s turns) (λ step turns. settled (step_of step v) turns)) p → StopsAs (taken_from ts i v done turns) p
+      taken_stop p d = stops_by (taken_from ts i v done turns) _ p rest (stops_within (step_value bodies t s turns) (λ step turns. settled (step_of step v) turns) after p d)
 
       module _ (step : Selector Value) (left : ℕ) (is : step_value bodies t s turns ≡ Done step left) where
         with_step : taken_from ts i v done turns ≡ followed (settled (step_of step v) left) (after step)
@@ -132,10 +132,6 @@ module _ (bodies : Bodies) (s : State) where
         pub taken_on : (u : Value) (new : List (Selector Value)) → step_of step v ≡ Gives u → new ≡ done ++ step ∷ [] → taken_from ts i v done turns ≡ taken_from ts (i + 1) u new left
         taken_on u new gives n =
             with_step ∙ ap (λ o. followed (settled o left) (after step)) gives ∙ ap (λ done. taken_from ts (i + 1) u done left) (sym n)
-
-        pub taken_stop_at_step : (p : Stop) → SettlesHeld (step_of step v) (Err p) → StopsAs (taken_from ts i v done turns) p
-        taken_stop_at_step (P.Fault kind) d = with_step ∙ ap (λ o. followed (settled o left) (after step)) d
-        taken_stop_at_step P.Memory d = tt
 
 module _ (functions : List Function) (env : Env) where
   takings_are_fit : (ts : List (Selector (Code Slot))) (v : Value) → StepsFrom functions ts env v → FitTakings functions ts env v

@@ -1,2 +1,3 @@
+pub mod Answered
 pub mod Keeping
 pub mod MovedFields

@@ -2,26 +2,27 @@
 ghost use Rattle.std.specs.Prelude.{◌≡◌, ◌∷◌, []};
 ghost use Rattle.spl_value.specs.declared.types.SplType.TheVariants as T;
 ghost use Rattle.spl_tree.specs.declared.code.Code.TheVariants as C;
-ghost use Rattle.language_model.specs.Outcomes.{Done, followed, need, settled, enter};
+ghost use Rattle.language_model.specs.Outcomes.{Done, followed, need, settled};
 ghost use Rattle.language_model.specs.Operators.{built_in_of};
 ghost use Rattle.language_model.specs.Evaluation.{code_value, world_of, binary, taken, map_of, tuple_of};
 ghost use Rattle.language_model.specs.Functions.{calls_of, value};
-ghost use Rattle.language_model.specs.EvaluationLaws.{values_of, pair_values, field_values, taking_meaning, takings_value, truth_value};
+ghost use Rattle.language_model.specs.EvaluationLaws.{values_of, field_values, taking_meaning, truth_value};
 ghost use Rattle.language_model.specs.WorldFits.{Fits};
 ghost use Rattle.value_operations.specs.Answers.{Answers, AnswersHeld, Evaluates, held};
-ghost use Rattle.expr_eval.specs.Fitting.{IsFit, AreFit, PairsAreFit, FitTakings, FitCall};
+ghost use Rattle.expr_eval.specs.Fitting.{IsFit, AreFit, PairsAreFit, FitTakings};
 
+use crate::answered::{add, own, put_at_key, truth_held, value_returned};
 use crate::context::Context;
 use crate::run::run_function;
 use evaluation_laws::evaluation_law;
 use language_model::Env;
 use spl_tree::{BinaryCode, BuiltIn, Code, Functions, Selector, Slot, UnaryCode};
-use spl_value::{Evaluated, Items, Pairs, Value, Values};
+use spl_value::{Evaluated, Items, Value, Values};
 use std::alloc::Global;
 use value_operations::{
     Held, Stop, blanks, call_with_one, call_with_three, call_with_two, element_at, evaluated,
-    is_marker, list_value, map_value, member, operator_with, owned, slot_value, stopped, truth_of,
-    tuple_value, unaries_of, value_at,
+    is_marker, list_value, member, operator_with, owned, slot_value, stopped, tuple_value,
+    unaries_of, value_at,
 };
 
 /// How many codes and statements may stand inside one another, those of called functions too, since
@@ -108,7 +109,11 @@ fn select<'e>(
 {
     evaluation_law();
     let first = eval_at(context, room, base, turns)?;
-    taken_all(context, room, takings, first, turns)
+    let mut value = first;
+    for taking in takings {
+        value = taken(context, room, taking, value, turns)?;
+    }
+    Ok(value)
 }
 
 /// Operators and casts in front of an operand.
@@ -165,7 +170,7 @@ fn list<'e>(
     list_value(eval_all(context, room, codes, turns))
 }
 
-/// The map of the values of pairs.
+/// The map of the values of pairs: of those with one key the last counts.
 #[inline(never)]
 #[cycle(eval)]
 fn map<'e>(
@@ -177,7 +182,12 @@ fn map<'e>(
     requires { IsFit context.now.functions.now (C.Map pairs.now) context.now.env.now }
     ensures { AnswersHeld (code_value (calls_of context.now.functions.now context.now.depth) (C.Map pairs.now) (world_of context.now.env.now) turns.old) result turns.new }
 {
-    map_value(eval_pairs(context, room, pairs, turns))
+    let mut made = Items::new(context.alloc);
+    for pair in pairs {
+        let key = own_value(context, room, &pair.0, turns)?;
+        put_at_key(&mut made, key, own_value(context, room, &pair.1, turns))?;
+    }
+    Ok(Held::Own(Value::Map(made)))
 }
 
 /// The tuple of the values of fields.
@@ -196,7 +206,7 @@ fn tuple<'e>(
     tuple_value(eval_fields(context, room, list, fields, turns))
 }
 
-/// What a call that the language has built in gives.
+/// What a call that the language has built in gives. Its arguments are read where they stand.
 #[inline(never)]
 #[cycle(eval)]
 fn built_in<'e>(
@@ -209,7 +219,29 @@ fn built_in<'e>(
     requires { IsFit context.now.functions.now (C.BuiltIn call codes.now) context.now.env.now }
     ensures { AnswersHeld (code_value (calls_of context.now.functions.now context.now.depth) (C.BuiltIn call codes.now) (world_of context.now.env.now) turns.old) result turns.new }
 {
-    owned(value_of_built_in(context, room, call, codes, turns))
+    evaluation_law();
+    match codes {
+        [first] => {
+            let first = eval_at(context, room, first, turns);
+            owned(call_with_one(call, first))
+        }
+        [first, second] => {
+            let first = eval_at(context, room, first, turns)?;
+            let second = eval_at(context, room, second, turns);
+            owned(call_with_two(context.alloc, call, first, second))
+        }
+        [first, second, third] => {
+            let first = eval_at(context, room, first, turns)?;
+            match eval_at(context, room, second, turns) {
+                Ok(second) => {
+                    let third = eval_at(context, room, third, turns);
+                    owned(call_with_three(context.alloc, call, first, second, third))
+                }
+                Err(stop) => owned(stopped(first, stop)),
+            }
+        }
+        _ => unreachable!(),
+    }
 }
 
 /// What a function gives for the values of codes.
@@ -227,7 +259,7 @@ fn call<'e>(
 {
     evaluation_law();
     let values = eval_all(context, room, codes, turns)?;
-    owned(value_of_call(context, room, place, values, turns))
+    value_returned(run_function(context, room, place, values, turns))
 }
 
 /// The value of a code, as one of its own.
@@ -241,8 +273,7 @@ pub(crate) fn own_value<'e>(
     requires { IsFit context.now.functions.now code.now context.now.env.now }
     ensures { Answers (code_value (calls_of context.now.functions.now context.now.depth) code.now (world_of context.now.env.now) turns.old) result turns.new }
 {
-    let held = eval_at(context, room, code, turns)?;
-    Ok(held.into_value(context.alloc)?)
+    own(context.alloc, eval_at(context, room, code, turns))
 }
 
 /// The values of codes, from left to right.
@@ -258,30 +289,9 @@ pub(crate) fn eval_all<'e>(
 {
     let mut values = Items::new(context.alloc);
     for code in codes {
-        let value = own_value(context, room, code, turns)?;
-        values.push(value)?;
+        add(&mut values, own_value(context, room, code, turns))?;
     }
     Ok(values)
-}
-
-/// The map of pairs: of those with one key the last counts.
-#[cycle(eval)]
-fn eval_pairs<'e>(
-    context: &Context<'e>,
-    room: u32,
-    pairs: &'e [(Code<Slot>, Code<Slot>)],
-    turns: &mut u32,
-) -> Result<Pairs, Stop>
-    requires { PairsAreFit context.now.functions.now pairs.now context.now.env.now }
-    ensures { Answers (followed (pair_values (calls_of context.now.functions.now context.now.depth) pairs.now (world_of context.now.env.now) turns.old) (λ ps left. Done (map_of ps) left)) result turns.new }
-{
-    let mut map = Items::new(context.alloc);
-    for pair in pairs {
-        let key = own_value(context, room, &pair.0, turns)?;
-        let value = own_value(context, room, &pair.1, turns)?;
-        map.put(key, value)?;
-    }
-    Ok(map)
 }
 
 /// The tuple of the values of fields, which are evaluated in the order of the text, in the room of a list
@@ -304,26 +314,6 @@ pub(crate) fn eval_fields<'e>(
         values.set(field.0 as usize, value);
     }
     Ok(values)
-}
-
-/// What is taken of a value in turn.
-#[cycle(eval)]
-fn taken_all<'e>(
-    context: &Context<'e>,
-    room: u32,
-    takings: &'e [Selector<Code<Slot>>],
-    first: Held<'e>,
-    turns: &mut u32,
-) -> Result<Held<'e>, Stop>
-    requires { FitTakings context.now.functions.now takings.now context.now.env.now (held first) }
-    ensures { AnswersHeld (takings_value (calls_of context.now.functions.now context.now.depth) takings.now (held first.entry) (world_of context.now.env.now) turns.old) result turns.new }
-{
-    evaluation_law();
-    let mut value = first;
-    for taking in takings {
-        value = taken(context, room, taking, value, turns)?;
-    }
-    Ok(value)
 }
 
 /// What one taking gives of a value.
@@ -364,8 +354,7 @@ pub(crate) fn is_true<'e>(
     ensures { Answers (truth_value (calls_of context.now.functions.now context.now.depth) code.now (world_of context.now.env.now) turns.old) result turns.new }
 {
     evaluation_law();
-    let held = eval_at(context, room, code, turns)?;
-    Ok(truth_of(held.value()))
+    truth_held(eval_at(context, room, code, turns))
 }
 
 /// An operator between two operands. `&&` and `||` evaluate the right one only where it counts.
@@ -401,61 +390,5 @@ fn binary<'e>(
             let right = eval_at(context, room, right, turns);
             operator_with(context.alloc, operator, left, right)
         }
-    }
-}
-
-/// A call that the language has built in. Its arguments are read where they stand.
-#[cycle(eval)]
-fn value_of_built_in<'e>(
-    context: &Context<'e>,
-    room: u32,
-    call: BuiltIn,
-    codes: &'e [Code<Slot>],
-    turns: &mut u32,
-) -> Result<Value, Stop>
-    requires { IsFit context.now.functions.now (C.BuiltIn call codes.now) context.now.env.now }
-    ensures { Answers (followed (values_of (calls_of context.now.functions.now context.now.depth) codes.now (world_of context.now.env.now) turns.old) (λ vs left. settled (built_in_of call vs) left)) result turns.new }
-{
-    evaluation_law();
-    match codes {
-        [first] => {
-            let first = eval_at(context, room, first, turns);
-            call_with_one(call, first)
-        }
-        [first, second] => {
-            let first = eval_at(context, room, first, turns)?;
-            let second = eval_at(context, room, second, turns);
-            call_with_two(context.alloc, call, first, second)
-        }
-        [first, second, third] => {
-            let first = eval_at(context, room, first, turns)?;
-            match eval_at(context, room, second, turns) {
-                Ok(second) => {
-                    let third = eval_at(context, room, third, turns);
-                    call_with_three(context.alloc, call, first, second, third)
-                }
-                Err(stop) => stopped(first, stop),
-            }
-        }
-        _ => unreachable!(),
-    }
-}
-
-/// What a function gives for arguments. The call takes a turn.
-#[cycle(eval)]
-fn value_of_call<'e>(
-    context: &Context<'e>,
-    room: u32,
-    place: u32,
-    values: Values,
-    turns: &mut u32,
-) -> Result<Value, Stop>
-    requires { FitCall context.now.functions.now place values }
-    ensures { Answers (enter turns.old (λ turns. calls_of context.now.functions.now context.now.depth place values turns)) result turns.new }
-{
-    evaluation_law();
-    match run_function(context, room, place, values, turns)? {
-        Some(value) => Ok(value),
-        None => unreachable!(),
     }
 }

@@ -1,6 +1,7 @@
 //! The values of typed expressions, and what typed statements do.
 #![tactic(auto)]
 
+mod answered;
 mod context;
 mod evaluate;
 mod flow;

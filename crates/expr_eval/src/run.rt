@@ -11,20 +11,23 @@ ghost use Rattle.expr_eval.specs.Running.{StatementIsFit, RowIsFit, ArmsAreFit, 
 ghost use Rattle.expr_eval.specs.declared.run.Ran.TheVariants as R;
 ghost use Rattle.expr_eval.specs.steps.Keeping.{Keeps};
 
+use crate::answered::{
+    add, element_step, key_step, take_next, with_append, with_clear, with_put, with_remove,
+};
 use crate::context::{Context, Program};
 use crate::evaluate::{DEEPEST, eval_all, eval_at, is_true, own_value};
-use crate::flow::{after_statement, after_turn, returned_by};
+use crate::flow::{begin_turn, enter_call, returned, statement_end, turn_end};
 use crate::statements::{
     declare, next_follows, next_follows_call, next_follows_value, return_value, submit,
     submit_window,
 };
-use crate::variables::change_variable;
+use crate::variables::change_with;
 use evaluation_laws::evaluation_law;
 use language_model::{Env, Flow, Outs};
 use spl_tree::{Body, Change, Code, Functions, Place, Selector, Slot, Statement};
 use spl_value::{FaultKind, Items, Value, Values};
 use std::alloc::Global;
-use value_operations::{Held, Stop, elements, enter, take_step};
+use value_operations::{Held, Stop, elements, enter};
 
 /// How the run of a body ended.
 #[derive(Clone, Copy)]
@@ -69,7 +72,7 @@ pub fn run_body(
     let row = body.as_slice();
     let mut left = *turns;
     let mut outs = Outs::new(alloc);
-    let ran = ran_as(&run_scoped(&program, DEEPEST, row, env, &mut left, &mut outs));
+    let ran = ran_as(run_scoped(&program, DEEPEST, row, env, &mut left, &mut outs));
     let Ran::Done = ran else {
         return ran;
     };
@@ -81,12 +84,12 @@ pub fn run_body(
 }
 
 /// How a body ended, by what its row answered.
-fn ran_as(answer: &Result<Flow, Stop>) -> Ran
-    ensures { result ≡ ran_as answer.now }
+fn ran_as(answer: Result<Flow, Stop>) -> Ran
+    ensures { result ≡ ran_as answer }
 {
     match answer {
         Ok(_) => Ran::Done,
-        Err(Stop::Fault(kind)) => Ran::Bad(*kind),
+        Err(Stop::Fault(kind)) => Ran::Bad(kind),
         Err(Stop::Memory) => Ran::Memory,
     }
 }
@@ -105,7 +108,6 @@ macro_rules! in_env {
 
 /// What a statement does, where codes and statements may nest `room` deep.
 #[cycle(eval)]
-#[tactic(auto, using(language_model::specs::StatementLaws::statement_laws))]
 fn run_statement<'p>(
     program: &Program<'p>,
     room: u32,
@@ -223,9 +225,9 @@ fn run_row<'p>(
 {
     evaluation_law();
     for statement in row {
-        let flow = run_statement(program, room, statement, env, turns, submits)?;
-        if let Some(end) = after_statement(flow) {
-            return Ok(end);
+        let answer = run_statement(program, room, statement, env, turns, submits);
+        if let Some(end) = statement_end(answer) {
+            return end;
         }
     }
     Ok(Flow::Next)
@@ -294,9 +296,9 @@ fn run_while<'p>(
     let mut rounds = *turns;
     'rounds: while is_true(&in_env!(program, env), room, code, turns)? {
         enter(turns)?;
-        let flow = run_scoped(program, room, row, env, turns, submits)?;
-        if let Some(end) = after_turn(flow) {
-            return Ok(end);
+        let answer = run_scoped(program, room, row, env, turns, submits);
+        if let Some(end) = turn_end(answer) {
+            return end;
         }
         let Some(left) = rounds.checked_sub(1) else {
             return Err(Stop::Fault(FaultKind::Turns));
@@ -323,9 +325,9 @@ fn run_over<'p>(
 {
     evaluation_law();
     'values: for value in values.into_vec() {
-        let flow = run_turn(program, room, value, row, env, turns, submits)?;
-        if let Some(end) = after_turn(flow) {
-            return Ok(end);
+        let answer = run_turn(program, room, value, row, env, turns, submits);
+        if let Some(end) = turn_end(answer) {
+            return end;
         }
     }
     Ok(Flow::Next)
@@ -347,9 +349,8 @@ fn run_turn<'p>(
     ensures kept { Keeps env.old env.new }
     ensures ended { length env.new.vars ≡ length env.old.vars }
 {
-    enter(turns)?;
     let count = env.vars.len();
-    env.vars.push(value)?;
+    begin_turn(env, value, turns)?;
     let answer = run_row(program, room, row, env, turns, submits);
     env.vars.truncate(count);
     answer
@@ -367,27 +368,21 @@ fn change_values<'e>(
     requires { ChangeIsFit context.now.functions.now place.now change.now context.now.env.now }
     ensures { Answers (change_values (bodies_of context.now.functions.now context.now.depth) place.now change.now (state context.now.env.now []) turns.old) result turns.new }
 {
-    let takings = place.takings.as_slice();
     match change {
         Change::Put(code) => {
             let value = own_value(context, room, code, turns)?;
-            let steps = step_values(context, room, takings, turns)?;
-            Ok((steps, Change::Put(value)))
+            let takings = place.takings.as_slice();
+            with_put(step_values(context, room, takings, turns), value)
         }
         Change::Append(code) => {
             let steps = steps_taken(context, room, place, turns)?;
-            let value = own_value(context, room, code, turns)?;
-            Ok((steps, Change::Append(value)))
+            with_append(steps, own_value(context, room, code, turns))
         }
         Change::Remove(code) => {
             let steps = steps_taken(context, room, place, turns)?;
-            let key = own_value(context, room, code, turns)?;
-            Ok((steps, Change::Remove(key)))
+            with_remove(steps, own_value(context, room, code, turns))
         }
-        Change::Clear => {
-            let steps = steps_taken(context, room, place, turns)?;
-            Ok((steps, Change::Clear))
-        }
+        Change::Clear => with_clear(steps_taken(context, room, place, turns)),
     }
 }
 
@@ -404,8 +399,7 @@ fn step_values<'e>(
 {
     let mut steps = Items::new(context.alloc);
     for taking in takings {
-        let step = step_value(context, room, taking, turns)?;
-        steps.push(step)?;
+        add(&mut steps, step_value(context, room, taking, turns))?;
     }
     Ok(steps)
 }
@@ -422,8 +416,8 @@ fn step_value<'e>(
 {
     match taking {
         Selector::Member(place) => Ok(Selector::Member(*place)),
-        Selector::Element(code) => Ok(Selector::Element(own_value(context, room, code, turns)?)),
-        Selector::AtKey(code) => Ok(Selector::AtKey(own_value(context, room, code, turns)?)),
+        Selector::Element(code) => element_step(own_value(context, room, code, turns)),
+        Selector::AtKey(code) => key_step(own_value(context, room, code, turns)),
     }
 }
 
@@ -442,8 +436,8 @@ fn steps_taken<'e>(
     let mut steps = Items::new(context.alloc);
     let mut value = Held::Lent(&context.env.vars.as_slice()[place.variable as usize]);
     for taking in place.takings.as_slice() {
-        let step = step_value(context, room, taking, turns)?;
-        value = take_step(value, step, &mut steps)?;
+        let step = step_value(context, room, taking, turns);
+        value = take_next(value, step, &mut steps)?;
     }
     Ok(steps)
 }
@@ -463,9 +457,8 @@ fn run_change<'p>(
     ensures kept { Keeps env.old env.new }
 {
     evaluation_law();
-    let context = in_env!(program, env);
-    let (steps, change) = change_values(&context, room, place, change, turns)?;
-    change_variable(program.alloc, env, place.variable, steps.as_slice(), change)
+    let values = change_values(&in_env!(program, env), room, place, change, turns);
+    change_with(program.alloc, env, place.variable, values)
 }
 
 /// What a function returns for arguments. The call takes a turn.
@@ -481,17 +474,9 @@ pub(crate) fn run_function<'e>(
     ensures { Answers (enter turns.old (λ turns. bodies_of context.now.functions.now context.now.depth place values turns)) result turns.new }
 {
     evaluation_law();
-    enter(turns)?;
-    if context.depth == 0 {
-        return Err(Stop::Fault(FaultKind::Turns));
-    }
+    let mut env = enter_call(context.alloc, values, context.depth, turns)?;
     let Some(function) = context.functions.get(place as usize) else {
         unreachable!()
-    };
-    let mut env = Env {
-        inputs: Items::new(context.alloc),
-        vars: values,
-        punct: None,
     };
     let mut submits = Outs::new(context.alloc);
     let program = Program {
@@ -500,6 +485,5 @@ pub(crate) fn run_function<'e>(
         depth: context.depth - 1,
     };
     let row = function.body.as_slice();
-    let flow = run_scoped(&program, room, row, &mut env, turns, &mut submits)?;
-    Ok(returned_by(flow))
+    returned(run_scoped(&program, room, row, &mut env, turns, &mut submits))
 }

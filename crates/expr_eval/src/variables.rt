@@ -1,7 +1,12 @@
 //! Changes of variables.
-ghost use Rattle.std.specs.Prelude.{ℕ, List};
+ghost use Rattle.std.specs.Prelude.{◌≡◌, ℕ, List, Ok};
+ghost use Rattle.spl_tree.specs.declared.body.Change.{Change};
+ghost use Rattle.spl_tree.specs.declared.code.Selector.{Selector};
+ghost use Rattle.spl_value.specs.declared.value.Value.{Value};
 ghost use Rattle.language_model.specs.declared.outs.Output.{Output};
+ghost use Rattle.language_model.specs.Outcomes.{Outcome, followed};
 ghost use Rattle.language_model.specs.Statements.{changed_at};
+ghost use Rattle.value_operations.specs.Answers.{Answers};
 ghost use Rattle.value_operations.specs.Changing.{CanChangeAt};
 ghost use Rattle.expr_eval.specs.Running.{LeadsNext, state};
 ghost use Rattle.expr_eval.specs.steps.Keeping.{Keeps};
@@ -9,12 +14,30 @@ ghost use Rattle.expr_eval.specs.steps.Keeping.{Keeps};
 use crate::evaluate::DEEPEST;
 use language_model::Env;
 use spl_tree::{Change, Selector};
-use spl_value::Value;
+use spl_value::{Items, Value};
 use std::alloc::Global;
 use value_operations::{Stop, change_at};
 
+/// Changes what steps take of a variable in turn, where they and the change were evaluated.
+pub(crate) fn change_with(
+    alloc: Global,
+    env: &mut Env,
+    variable: u32,
+    values: Result<(Items<Selector<Value>>, Change<Value>), Stop>,
+) -> Result<(), Stop>
+    requires { (w : List (Selector Value) × Change Value) → values ≡ Ok w → CanChangeAt variable w.0 w.1 env.old }
+    ensures leads { (outcome : Outcome (List (Selector Value) × Change Value)) (submits : List Output) (turns : ℕ) → Answers outcome values turns
+        → LeadsNext (followed outcome (λ w left. changed_at variable w.0 w.1 (state env.old submits) left)) result (state env.new submits) turns }
+    ensures kept { Keeps env.old env.new }
+{
+    match values {
+        Ok((steps, change)) => change_variable(alloc, env, variable, steps.as_slice(), change),
+        Err(stop) => Err(stop),
+    }
+}
+
 /// Changes what the steps take of a variable in turn.
-pub(crate) fn change_variable(
+fn change_variable(
     alloc: Global,
     env: &mut Env,
     variable: u32,

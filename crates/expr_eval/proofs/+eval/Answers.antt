@@ -1,7 +1,7 @@
 use Rattle.expr_eval.proofs.Binary.{and_left, left_is_fit, on_left, or_left, right_is_fit}
 use Rattle.expr_eval.proofs.BuiltIns.{are_three, are_two, called_stopped, called_stops, first_of_three_stops, first_of_two_stops, is_one, one_to_three, one_value, second_of_three_stops, three_values, two_values, with_one, with_three, with_two}
 use Rattle.expr_eval.proofs.CodeParts.{built_in_is_fit, call_is_fit, conditional_parts, has_marker, has_other_marker, has_slot, list_is_fit, map_is_fit, select_parts, tuple_is_fit, unary_parts}
-use Rattle.value_operations.proofs.Following.{answers_by, answers_held_by, stops, stops_by, stops_held}
+use Rattle.value_operations.proofs.Following.{answers_by, answers_held_by, followed_stops, stops, stops_by, stops_held}
 use Rattle.expr_eval.proofs.PlacedFields.{placed_done, placed_on, placed_start, placed_stops}
 use Rattle.std.proofs.lemmas.List.{length-set}
 use Rattle.std.proofs.Common.{ℕ}
@@ -11,8 +11,8 @@ use Rattle.expr_eval.proofs.CodeParts.{field_places}
 use Rattle.expr_eval.proofs.ValueTypes.{as_long}
 use Rattle.expr_eval.proofs.Keeping.{keeps_all, keeps_declared, keeps_ended, keeps_then, vars_ended}
 use Rattle.expr_eval.proofs.Leading.{leads_by, scoped_leads, stops_leading}
-use Rattle.expr_eval.proofs.Forms.{arguments_stop, binary_answers, built_in_answers, call_answers, conditional_stops, first_answers, list_answers, literal_done, map_answers, marker_done, name_answers, other_marker_done, second_answers, select_answers, select_stops, tuple_answers, unary_answers, unary_stops}
-use Rattle.expr_eval.proofs.LoopParts.{arm_passed, arm_taken, arms_stop, over_on, row_ends, row_on, row_stops, while_ends, while_no_turns, while_on, while_stops, while_stops_in_turn}
+use Rattle.expr_eval.proofs.Forms.{arguments_stop, binary_answers, built_in_answers, call_answers, conditional_stops, first_answers, list_answers, literal_done, map_answers, marker_done, name_answers, other_marker_done, second_answers, select_comes, select_stops, tuple_answers, unary_answers, unary_stops}
+use Rattle.expr_eval.proofs.LoopParts.{arm_passed, arm_taken, arms_stop, led_to, over_ended, over_on, row_ended, row_on, while_ended, while_no_turns, while_on, while_stops}
 use Rattle.expr_eval.proofs.RowParts.{condition_of_arm, loop_after_turn, other_arms, other_turns, rest_of_row, row_of_arm, row_of_turn, statement_is_fit, turn_is_fit}
 use Rattle.expr_eval.proofs.Rows.{pairs_on, pairs_past, pairs_start, pairs_stop_at_key, pairs_stop_at_value, takings_on, takings_past, takings_stop, values_on, values_past, values_start, values_stop}
 use Rattle.expr_eval.proofs.StepParts.{first_is_fit, has_elements, has_keys, has_member, index_is_fit, key_is_fit, others_are_fit}
@@ -21,25 +21,29 @@ use Rattle.value_operations.specs.Answers.{Answers, AnswersHeld, held}
 use Rattle.expr_eval.specs.Fitting.{IsFit}
 use Rattle.expr_eval.specs.Running.{Leads, OverIsFit, RowIsFit, state}
 use Rattle.spl_value.specs.Pairs.{are_pairs}
-use Rattle.spl_value.specs.Values.{fits}
 use Rattle.std.proofs.Common.{[], ap, arith, length, refl, subst, sym, ◌≡◌, ◌<◌, ◌∙◌}
 use Rattle.std.proofs.lemmas.Option.{slice_get_read}
-use Rattle.std.specs.Prelude.{IsTrue, take}
+use Rattle.std.specs.Prelude.{None, Ok, take}
+use Rattle.value_operations.specs.declared.held.Held.TheVariants as O
+use Rattle.language_model.specs.StatementLaws.{block_is, break_is, continue_is, return_is}
+use Rattle.language_model.specs.declared.env.Env.{Env}
+use Rattle.expr_eval.specs.steps.Keeping.{Keeps}
 use Rattle.language_model.specs.Evaluation.{code_value, taken, world_of}
 use Rattle.language_model.specs.EvaluationLaws.{taking_meaning}
 use Rattle.language_model.specs.Functions.{bodies_of, calls_of}
-use Rattle.language_model.specs.Outcomes.{enter}
-use Rattle.language_model.specs.Statements.{Acts, declared, row_acts, scoped, turns_over, with_vars}
+use Rattle.language_model.specs.Outcomes.{Done, enter, followed}
+use Rattle.spl_value.specs.declared.value.Value.TheVariants as V
+use Rattle.language_model.specs.Statements.{Acts, declared, row_acts, scoped, turns_over}
 use Rattle.spl_tree.specs.declared.code.Code.TheVariants as C
 use Rattle.spl_tree.specs.declared.body.Statement.TheVariants as S
 use Rattle.expr_eval.proofs.StatementForms.{arguments_stopped, change_leads, declare_leads, evaluate_leads, function_leads, if_leads, return_leads, submit_leads, submit_window_leads, while_leads}
 use Rattle.expr_eval.proofs.StatementParts.{arguments_are_fit, function_is_fit, has_loop_values, over_is_fit, result_is_fit, has_tuple}
 use Rattle.spl_value.specs.declared.types.SplType.TheVariants as T
-use Rattle.expr_eval.proofs.Calling.{body_done, body_is_fit, body_stops, called_is_fit, result_there, returned_there, value_done, value_stops}
-use Rattle.expr_eval.proofs.PlaceChanges.{can_change, leads_next_by, leads_next_stops, place_change_done, place_change_stops, steps_begin, taken_begins}
-use Rattle.expr_eval.proofs.StepValues.{first_step_is_fit, later_steps_are_fit, next_step_is_fit, others_fit, step_fits, steps_on, steps_past, steps_start, steps_stop, taken_on, taken_past, taken_stop_at_step, taken_stop_at_value}
-use Rattle.value_operations.specs.Changing.{CanChangeAt}
-use Rattle.language_model.specs.Statements.{changed_at}
+use Rattle.expr_eval.proofs.Calling.{answer_returns, call_body_is_fit, call_returns, called_is_fit, result_there, value_called}
+use Rattle.expr_eval.proofs.Answering.{no_call, no_turn_begins}
+use Rattle.expr_eval.proofs.PlaceChanges.{append_answers, append_stops, can_change, clear_answers, leads_next_by, place_changes, put_answers, put_stops, remove_answers, remove_stops, steps_begin, taken_begins, variable_holds}
+use Rattle.expr_eval.proofs.StepValues.{first_step_is_fit, later_steps_are_fit, next_step_is_fit, others_fit, step_fits, steps_on, steps_past, steps_start, steps_stop, taken_on, taken_past, taken_stop}
+use Rattle.language_model.specs.Statements.{change_values, step_value, step_values}
 use Rattle.expr_eval.proofs.+eval.Goals as goal
 
 pub evaluate::eval_at-slot_value-requires : goal.evaluate::eval_at-slot_value-requires
@@ -118,14 +122,6 @@ pub evaluate::select-returns-in_err-first : goal.evaluate::select-returns-in_err
 evaluate::select-returns-in_err-first t c =
     select_stops (calls_of c.args.context.now.functions.now c.args.context.now.depth) (world_of c.args.context.now.env.now) (C.Select c.args.base.now c.args.takings.now) c.args.turns.now c.args.base.now c.args.takings.now refl _ _ _ c.from_residual.ensures.1 c.in_err-first.ensures
 
-pub evaluate::select-taken_all-requires : goal.evaluate::select-taken_all-requires
-evaluate::select-taken_all-requires t c =
-    (omega arith, takings_of_base c.evaluation_law.ensures.never_stuck c.args.context.now.functions.now c.args.context.now.env.now c.args.context.now.depth (C.Select c.args.base.now c.args.takings.now) c.requires c.args.base.now c.args.takings.now refl c.args.turns.now _ _ c.in_ok-first.ensures)
-
-pub evaluate::select-returns : goal.evaluate::select-returns
-evaluate::select-returns t c =
-    select_answers (calls_of c.args.context.now.functions.now c.args.context.now.depth) (world_of c.args.context.now.env.now) (C.Select c.args.base.now c.args.takings.now) c.args.turns.now c.args.base.now c.args.takings.now refl _ _ c.in_ok-first.ensures _ _ c.taken_all.ensures
-
 pub evaluate::unary-eval_at-requires : goal.evaluate::unary-eval_at-requires
 evaluate::unary-eval_at-requires t c =
     (omega arith, (let p = unary_parts c.args.context.now.functions.now c.args.context.now.env.now (C.Unary c.args.operators.now c.args.operand.now) c.requires c.args.operators.now c.args.operand.now refl in (p.0, p.1)))
@@ -174,21 +170,9 @@ pub evaluate::list-returns : goal.evaluate::list-returns
 evaluate::list-returns t c =
     list_answers (calls_of c.args.context.now.functions.now c.args.context.now.depth) (world_of c.args.context.now.env.now) (C.List c.args.codes.now) c.args.turns.now c.args.codes.now refl _ _ (c.list_value.ensures _ _ c.eval_all.ensures)
 
-pub evaluate::map-eval_pairs-requires : goal.evaluate::map-eval_pairs-requires
-evaluate::map-eval_pairs-requires t c =
-    (omega arith, map_is_fit c.args.context.now.functions.now c.args.context.now.env.now (C.Map c.args.pairs.now) c.requires c.args.pairs.now refl)
-
-pub evaluate::map-returns : goal.evaluate::map-returns
-evaluate::map-returns t c =
-    map_answers (calls_of c.args.context.now.functions.now c.args.context.now.depth) (world_of c.args.context.now.env.now) (C.Map c.args.pairs.now) c.args.turns.now c.args.pairs.now refl _ _ (c.map_value.ensures _ _ c.eval_pairs.ensures)
-
 pub evaluate::tuple-returns : goal.evaluate::tuple-returns
 evaluate::tuple-returns t c =
     tuple_answers (calls_of c.args.context.now.functions.now c.args.context.now.depth) (world_of c.args.context.now.env.now) (C.Tuple c.args.fields.now) c.args.turns.now c.args.fields.now refl _ _ (c.tuple_value.ensures _ _ c.eval_fields.ensures)
-
-pub evaluate::built_in-returns : goal.evaluate::built_in-returns
-evaluate::built_in-returns t c =
-    built_in_answers (calls_of c.args.context.now.functions.now c.args.context.now.depth) (world_of c.args.context.now.env.now) (C.BuiltIn c.args.call c.args.codes.now) c.args.turns.now c.args.call c.args.codes.now refl _ _ (c.owned.ensures.answered _ _ c.value_of_built_in.ensures)
 
 pub evaluate::call-eval_all-requires : goal.evaluate::call-eval_all-requires
 evaluate::call-eval_all-requires t c =
@@ -197,14 +181,6 @@ evaluate::call-eval_all-requires t c =
 pub evaluate::call-returns-in_err-values : goal.evaluate::call-returns-in_err-values
 evaluate::call-returns-in_err-values t c =
     arguments_stop (calls_of c.args.context.now.functions.now c.args.context.now.depth) (world_of c.args.context.now.env.now) (C.Call c.args.place c.args.codes.now) c.args.turns.now c.args.place c.args.codes.now refl _ _ _ c.from_residual.ensures.1 c.in_err-values.ensures
-
-pub evaluate::call-value_of_call-requires : goal.evaluate::call-value_of_call-requires
-evaluate::call-value_of_call-requires t c =
-    (omega arith, call_of_arguments c.evaluation_law.ensures.never_stuck c.args.context.now.functions.now c.args.context.now.env.now c.args.context.now.depth (C.Call c.args.place c.args.codes.now) c.requires c.args.place c.args.codes.now refl c.args.turns.now _ _ c.in_ok-values.ensures)
-
-pub evaluate::call-returns : goal.evaluate::call-returns
-evaluate::call-returns t c =
-    call_answers (calls_of c.args.context.now.functions.now c.args.context.now.depth) (world_of c.args.context.now.env.now) (C.Call c.args.place c.args.codes.now) c.args.turns.now c.args.place c.args.codes.now refl _ _ c.in_ok-values.ensures _ _ (c.owned.ensures.answered _ _ c.value_of_call.ensures)
 
 pub evaluate::eval_at-is_marker-requires : goal.evaluate::eval_at-is_marker-requires
 evaluate::eval_at-is_marker-requires t c =
@@ -225,73 +201,10 @@ evaluate::eval_at-returns-in-IsNotMarker t c =
 pub evaluate::eval_all-loop-code-init : goal.evaluate::eval_all-loop-code-init
 evaluate::eval_all-loop-code-init t c = values_start (calls_of c.args.context.now.functions.now c.args.context.now.depth) (world_of c.args.context.now.env.now) c.args.codes.now c.new-values.result c.args.turns.now c.new-values.ensures
 
-pub evaluate::eval_all-loop-code-preserved : goal.evaluate::eval_all-loop-code-preserved
-evaluate::eval_all-loop-code-preserved t c =
-    c.loop-code.invariant
-    ∙ values_on (calls_of c.args.context.now.functions.now c.args.context.now.depth) (world_of c.args.context.now.env.now) c.args.codes.now c.loop-code.code-index c.loop-code.values c.loop-code.turns
-    c.code-item.result c.loop-code-test.true c.code-item.is _ _ _ c.in_ok-value.ensures c.in_ok-push.ensures.ok
-
 pub evaluate::eval_all-returns : goal.evaluate::eval_all-returns
 evaluate::eval_all-returns t c =
     c.loop-code.invariant
     ∙ values_past (calls_of c.args.context.now.functions.now c.args.context.now.depth) (world_of c.args.context.now.env.now) c.args.codes.now c.loop-code.code-index c.loop-code.values c.loop-code.turns c.loop-code-test.false
-
-pub evaluate::eval_all-returns-in_err-value : goal.evaluate::eval_all-returns-in_err-value
-evaluate::eval_all-returns-in_err-value t c =
-    stops _ _ _ _ c.from_residual.ensures.1
-    (stops_by _ _ _ c.loop-code.invariant
-    (values_stop (calls_of c.args.context.now.functions.now c.args.context.now.depth) (world_of c.args.context.now.env.now) c.args.codes.now c.loop-code.code-index c.loop-code.values c.loop-code.turns
-    c.code-item.result c.loop-code-test.true c.code-item.is _ c.in_err-value.ensures))
-
-pub evaluate::eval_pairs-loop-pair-init : goal.evaluate::eval_pairs-loop-pair-init
-evaluate::eval_pairs-loop-pair-init t c = record {
-  comes = pairs_start (calls_of c.args.context.now.functions.now c.args.context.now.depth) (world_of c.args.context.now.env.now) c.args.pairs.now c.new-map.result c.args.turns.now c.new-map.ensures;
-  sorted = ap are_pairs c.new-map.ensures;
-}
-
-pub evaluate::eval_pairs-own_value-requires : goal.evaluate::eval_pairs-own_value-requires
-evaluate::eval_pairs-own_value-requires t c = (
-  omega arith,
-  (c.requires c.loop-pair.pair-index c.pair-item.result
-      (slice_get_read c.args.pairs.now (length c.args.pairs.now) c.loop-pair.pair-index c.pair-item.result refl c.loop-pair-test.true c.pair-item.is)).0,
-)
-
-pub evaluate::eval_pairs-own_value-requires-in-loop-pair : goal.evaluate::eval_pairs-own_value-requires-in-loop-pair
-evaluate::eval_pairs-own_value-requires-in-loop-pair t c = (
-  omega arith,
-  (c.requires c.loop-pair.pair-index c.pair-item.result
-      (slice_get_read c.args.pairs.now (length c.args.pairs.now) c.loop-pair.pair-index c.pair-item.result refl c.loop-pair-test.true c.pair-item.is)).1,
-)
-
-pub evaluate::eval_pairs-put-requires : goal.evaluate::eval_pairs-put-requires
-evaluate::eval_pairs-put-requires t c = c.loop-pair.invariant.sorted
-
-pub evaluate::eval_pairs-loop-pair-preserved : goal.evaluate::eval_pairs-loop-pair-preserved
-evaluate::eval_pairs-loop-pair-preserved t c = record {
-  comes = c.loop-pair.invariant.comes
-      ∙ pairs_on (calls_of c.args.context.now.functions.now c.args.context.now.depth) (world_of c.args.context.now.env.now) c.args.pairs.now c.loop-pair.pair-index c.loop-pair.map c.loop-pair.turns
-      c.pair-item.result c.loop-pair-test.true c.pair-item.is _ _ _ _ _ c.in_ok-key.ensures c.in_ok-value.ensures c.in_ok-put.ensures.ok;
-  sorted = c.in_ok-put.ensures.sorted;
-}
-
-pub evaluate::eval_pairs-returns : goal.evaluate::eval_pairs-returns
-evaluate::eval_pairs-returns t c =
-    c.loop-pair.invariant.comes
-    ∙ pairs_past (calls_of c.args.context.now.functions.now c.args.context.now.depth) (world_of c.args.context.now.env.now) c.args.pairs.now c.loop-pair.pair-index c.loop-pair.map c.loop-pair.turns c.loop-pair-test.false
-
-pub evaluate::eval_pairs-returns-in_err-key : goal.evaluate::eval_pairs-returns-in_err-key
-evaluate::eval_pairs-returns-in_err-key t c =
-    stops _ _ _ _ c.from_residual.ensures.1
-    (stops_by _ _ _ c.loop-pair.invariant.comes
-    (pairs_stop_at_key (calls_of c.args.context.now.functions.now c.args.context.now.depth) (world_of c.args.context.now.env.now) c.args.pairs.now c.loop-pair.pair-index c.loop-pair.map c.loop-pair.turns
-    c.pair-item.result c.loop-pair-test.true c.pair-item.is _ c.in_err-key.ensures))
-
-pub evaluate::eval_pairs-returns-in_err-value : goal.evaluate::eval_pairs-returns-in_err-value
-evaluate::eval_pairs-returns-in_err-value t c =
-    stops _ _ _ _ c.from_residual-in_err-value.ensures.1
-    (stops_by _ _ _ c.loop-pair.invariant.comes
-    (pairs_stop_at_value (calls_of c.args.context.now.functions.now c.args.context.now.depth) (world_of c.args.context.now.env.now) c.args.pairs.now c.loop-pair.pair-index c.loop-pair.map c.loop-pair.turns
-    c.pair-item.result c.loop-pair-test.true c.pair-item.is _ _ _ c.in_ok-key.ensures c.in_err-value.ensures))
 
 pub evaluate::eval_fields-loop-field-init : goal.evaluate::eval_fields-loop-field-init
 evaluate::eval_fields-loop-field-init t c =
@@ -327,37 +240,6 @@ evaluate::eval_fields-returns t c =
     (λ gs left d. as_long c.evaluation_law.ensures.never_stuck c.args.context.now.functions.now c.args.context.now.env.now c.args.context.now.depth c.args.fields.now c.args.turns.now left gs d)
     (λ gs left d. places_of_fields c.evaluation_law.ensures.never_stuck c.args.context.now.functions.now c.args.context.now.env.now c.args.context.now.depth (C.Tuple c.args.fields.now) c.requires c.args.fields.now refl c.args.turns.now left gs d)
 
-pub evaluate::taken_all-loop-taking-init : goal.evaluate::taken_all-loop-taking-init
-evaluate::taken_all-loop-taking-init t c = record { comes = refl; others = c.requires }
-
-pub evaluate::taken_all-taken-requires : goal.evaluate::taken_all-taken-requires
-evaluate::taken_all-taken-requires t c = (
-  omega arith,
-  first_is_fit c.args.context.now.functions.now c.args.context.now.env.now c.args.takings.now c.loop-taking.taking-index (held c.loop-taking.value) c.loop-taking.invariant.others
-      c.taking-item.result c.loop-taking-test.true c.taking-item.is,
-)
-
-pub evaluate::taken_all-loop-taking-preserved : goal.evaluate::taken_all-loop-taking-preserved
-evaluate::taken_all-loop-taking-preserved t c = record {
-  comes = c.loop-taking.invariant.comes
-      ∙ takings_on (calls_of c.args.context.now.functions.now c.args.context.now.depth) (world_of c.args.context.now.env.now) c.args.takings.now c.loop-taking.taking-index (held c.loop-taking.value) c.loop-taking.turns
-      c.taking-item.result c.loop-taking-test.true c.taking-item.is _ _ c.in_ok-value.ensures;
-  others = others_are_fit c.args.context.now.functions.now c.args.context.now.env.now c.args.takings.now c.loop-taking.taking-index (held c.loop-taking.value) c.loop-taking.invariant.others
-      c.taking-item.result c.loop-taking-test.true c.taking-item.is c.evaluation_law.ensures.never_stuck c.args.context.now.depth c.loop-taking.turns _ _ c.in_ok-value.ensures;
-}
-
-pub evaluate::taken_all-returns : goal.evaluate::taken_all-returns
-evaluate::taken_all-returns t c =
-    c.loop-taking.invariant.comes
-    ∙ takings_past (calls_of c.args.context.now.functions.now c.args.context.now.depth) (world_of c.args.context.now.env.now) c.args.takings.now c.loop-taking.taking-index (held c.loop-taking.value) c.loop-taking.turns c.loop-taking-test.false
-
-pub evaluate::taken_all-returns-in_err-value : goal.evaluate::taken_all-returns-in_err-value
-evaluate::taken_all-returns-in_err-value t c =
-    stops_held _ _ _ _ c.from_residual.ensures.1
-    (stops_by _ _ _ c.loop-taking.invariant.comes
-    (takings_stop (calls_of c.args.context.now.functions.now c.args.context.now.depth) (world_of c.args.context.now.env.now) c.args.takings.now c.loop-taking.taking-index (held c.loop-taking.value) c.loop-taking.turns
-    c.taking-item.result c.loop-taking-test.true c.taking-item.is _ c.in_err-value.ensures))
-
 pub evaluate::taken-member-requires : goal.evaluate::taken-member-requires
 evaluate::taken-member-requires t c = has_member c.args.context.now.functions.now c.args.context.now.env.now c.args.taking.now (held c.args.value) c.requires c.in-Member.place c.in-Member.is
 
@@ -388,11 +270,6 @@ pub evaluate::taken-returns-in-AtKey : goal.evaluate::taken-returns-in-AtKey
 evaluate::taken-returns-in-AtKey t c =
     subst (λ t. AnswersHeld (taken (taking_meaning (calls_of c.args.context.now.functions.now c.args.context.now.depth) t) (held c.args.value) (world_of c.args.context.now.env.now) c.args.turns.now) c.value_at.result c.eval_at-key.new.turns) (sym c.in-AtKey.is)
     (c.value_at.ensures _ _ c.eval_at-key.ensures)
-
-pub evaluate::is_true-truth_of-requires : goal.evaluate::is_true-truth_of-requires
-evaluate::is_true-truth_of-requires t c =
-    subst (λ v. IsTrue (fits T.Bool v)) (sym c.value.ensures)
-    (of_type c.evaluation_law.ensures.never_stuck c.args.context.now.functions.now c.args.context.now.env.now c.args.context.now.depth c.args.code.now T.Bool c.requires c.args.turns.now _ _ c.in_ok-held.ensures)
 
 pub evaluate::binary-is_true-requires : goal.evaluate::binary-is_true-requires
 evaluate::binary-is_true-requires t c =
@@ -431,107 +308,6 @@ evaluate::binary-returns-in_ok-left-in_default t c =
     (world_of c.args.context.now.env.now) c.args.turns.now c.in_default.not-And c.in_default.not-Or _ _ c.in_ok-left-in_default.ensures)
     (c.operator_with.ensures _ _ c.eval_at-right.ensures)
 
-pub evaluate::value_of_built_in-eval_at-first-requires : goal.evaluate::value_of_built_in-eval_at-first-requires
-evaluate::value_of_built_in-eval_at-first-requires t c = (
-  omega arith,
-  let within : 0 < length c.args.codes.now = omega arith in
-      built_in_is_fit c.args.context.now.functions.now c.args.context.now.env.now (C.BuiltIn c.args.call c.args.codes.now) c.requires c.args.call c.args.codes.now refl 0 c.first-item.result
-      (slice_get_read c.args.codes.now (length c.args.codes.now) 0 c.first-item.result refl within c.first-item.is),
-)
-
-pub evaluate::value_of_built_in-call_with_one-requires : goal.evaluate::value_of_built_in-call_with_one-requires
-evaluate::value_of_built_in-call_with_one-requires t c = λ h is.
-    built_in_of_arguments c.evaluation_law.ensures.never_stuck c.args.context.now.functions.now c.args.context.now.env.now c.args.context.now.depth (C.BuiltIn c.args.call c.args.codes.now) c.requires c.args.call c.args.codes.now refl c.args.turns.now _ _
-    (one_value (calls_of c.args.context.now.functions.now c.args.context.now.depth) (world_of c.args.context.now.env.now) c.args.codes.now c.args.turns.now c.first-item.result (is_one c.args.codes.now c.first-item.result c.in-len1.len_at_least c.in-len1.len_below c.first-item.is) _ _ (subst (λ r. AnswersHeld (code_value (calls_of c.args.context.now.functions.now c.args.context.now.depth) c.first-item.result (world_of c.args.context.now.env.now) c.args.turns.now) r c.eval_at-first.new.turns) is c.eval_at-first.ensures))
-
-pub evaluate::value_of_built_in-returns-in-len1 : goal.evaluate::value_of_built_in-returns-in-len1
-evaluate::value_of_built_in-returns-in-len1 t c =
-    answers_by _ _ _ _
-    (with_one (calls_of c.args.context.now.functions.now c.args.context.now.depth) (world_of c.args.context.now.env.now) c.args.call c.args.codes.now c.args.turns.now c.first-item.result (is_one c.args.codes.now c.first-item.result c.in-len1.len_at_least c.in-len1.len_below c.first-item.is))
-    (c.call_with_one.ensures _ _ c.eval_at-first.ensures)
-
-pub evaluate::value_of_built_in-eval_at-requires : goal.evaluate::value_of_built_in-eval_at-requires
-evaluate::value_of_built_in-eval_at-requires t c = (
-  omega arith,
-  let within : 0 < length c.args.codes.now = omega arith in
-      built_in_is_fit c.args.context.now.functions.now c.args.context.now.env.now (C.BuiltIn c.args.call c.args.codes.now) c.requires c.args.call c.args.codes.now refl 0 c.first-item-then-codes-lt3.result
-      (slice_get_read c.args.codes.now (length c.args.codes.now) 0 c.first-item-then-codes-lt3.result refl within c.first-item-then-codes-lt3.is),
-)
-
-pub evaluate::value_of_built_in-eval_at-second-requires : goal.evaluate::value_of_built_in-eval_at-second-requires
-evaluate::value_of_built_in-eval_at-second-requires t c = (
-  omega arith,
-  let within : 1 < length c.args.codes.now = omega arith in
-      built_in_is_fit c.args.context.now.functions.now c.args.context.now.env.now (C.BuiltIn c.args.call c.args.codes.now) c.requires c.args.call c.args.codes.now refl 1 c.second-item.result
-      (slice_get_read c.args.codes.now (length c.args.codes.now) 1 c.second-item.result refl within c.second-item.is),
-)
-
-pub evaluate::value_of_built_in-returns-in_err-first-in-len2 : goal.evaluate::value_of_built_in-returns-in_err-first-in-len2
-evaluate::value_of_built_in-returns-in_err-first-in-len2 t c =
-    called_stops (calls_of c.args.context.now.functions.now c.args.context.now.depth) (world_of c.args.context.now.env.now) c.args.call c.args.codes.now c.args.turns.now _ _ _ c.from_residual.ensures.1
-    (first_of_two_stops (calls_of c.args.context.now.functions.now c.args.context.now.depth) (world_of c.args.context.now.env.now) c.args.codes.now c.args.turns.now c.first-item-then-codes-lt3.result c.second-item.result (are_two c.args.codes.now c.first-item-then-codes-lt3.result c.second-item.result c.in-len2.len_at_least c.in-len2.len_below c.first-item-then-codes-lt3.is c.second-item.is) _ c.in_err-first-in-len2.ensures)
-
-pub evaluate::value_of_built_in-call_with_two-requires : goal.evaluate::value_of_built_in-call_with_two-requires
-evaluate::value_of_built_in-call_with_two-requires t c = λ h is.
-    built_in_of_arguments c.evaluation_law.ensures.never_stuck c.args.context.now.functions.now c.args.context.now.env.now c.args.context.now.depth (C.BuiltIn c.args.call c.args.codes.now) c.requires c.args.call c.args.codes.now refl c.args.turns.now _ _
-    (two_values (calls_of c.args.context.now.functions.now c.args.context.now.depth) (world_of c.args.context.now.env.now) c.args.codes.now c.args.turns.now c.first-item-then-codes-lt3.result c.second-item.result (are_two c.args.codes.now c.first-item-then-codes-lt3.result c.second-item.result c.in-len2.len_at_least c.in-len2.len_below c.first-item-then-codes-lt3.is c.second-item.is) _ _ c.in_ok-first-in-len2.ensures _ _ (subst (λ r. AnswersHeld (code_value (calls_of c.args.context.now.functions.now c.args.context.now.depth) c.second-item.result (world_of c.args.context.now.env.now) c.eval_at.new.turns) r c.eval_at-second.new.turns) is c.eval_at-second.ensures))
-
-pub evaluate::value_of_built_in-returns-in_ok-first-in-len2 : goal.evaluate::value_of_built_in-returns-in_ok-first-in-len2
-evaluate::value_of_built_in-returns-in_ok-first-in-len2 t c =
-    answers_by _ _ _ _
-    (with_two (calls_of c.args.context.now.functions.now c.args.context.now.depth) (world_of c.args.context.now.env.now) c.args.call c.args.codes.now c.args.turns.now c.first-item-then-codes-lt3.result c.second-item.result (are_two c.args.codes.now c.first-item-then-codes-lt3.result c.second-item.result c.in-len2.len_at_least c.in-len2.len_below c.first-item-then-codes-lt3.is c.second-item.is) _ _ c.in_ok-first-in-len2.ensures)
-    (c.call_with_two.ensures _ _ c.eval_at-second.ensures)
-
-pub evaluate::value_of_built_in-eval_at-requires-in-len3 : goal.evaluate::value_of_built_in-eval_at-requires-in-len3
-evaluate::value_of_built_in-eval_at-requires-in-len3 t c = (
-  omega arith,
-  let within : 0 < length c.args.codes.now = omega arith in
-      built_in_is_fit c.args.context.now.functions.now c.args.context.now.env.now (C.BuiltIn c.args.call c.args.codes.now) c.requires c.args.call c.args.codes.now refl 0 c.first-item-then-codes-lt4.result
-      (slice_get_read c.args.codes.now (length c.args.codes.now) 0 c.first-item-then-codes-lt4.result refl within c.first-item-then-codes-lt4.is),
-)
-
-pub evaluate::value_of_built_in-eval_at-requires-in-len3-2 : goal.evaluate::value_of_built_in-eval_at-requires-in-len3-2
-evaluate::value_of_built_in-eval_at-requires-in-len3-2 t c = (
-  omega arith,
-  let within : 1 < length c.args.codes.now = omega arith in
-      built_in_is_fit c.args.context.now.functions.now c.args.context.now.env.now (C.BuiltIn c.args.call c.args.codes.now) c.requires c.args.call c.args.codes.now refl 1 c.second-item-then-codes-lt4.result
-      (slice_get_read c.args.codes.now (length c.args.codes.now) 1 c.second-item-then-codes-lt4.result refl within c.second-item-then-codes-lt4.is),
-)
-
-pub evaluate::value_of_built_in-eval_at-third-requires : goal.evaluate::value_of_built_in-eval_at-third-requires
-evaluate::value_of_built_in-eval_at-third-requires t c = (
-  omega arith,
-  let within : 2 < length c.args.codes.now = omega arith in
-      built_in_is_fit c.args.context.now.functions.now c.args.context.now.env.now (C.BuiltIn c.args.call c.args.codes.now) c.requires c.args.call c.args.codes.now refl 2 c.third-item.result
-      (slice_get_read c.args.codes.now (length c.args.codes.now) 2 c.third-item.result refl within c.third-item.is),
-)
-
-pub evaluate::value_of_built_in-returns-in_err-first-in-len3 : goal.evaluate::value_of_built_in-returns-in_err-first-in-len3
-evaluate::value_of_built_in-returns-in_err-first-in-len3 t c =
-    called_stops (calls_of c.args.context.now.functions.now c.args.context.now.depth) (world_of c.args.context.now.env.now) c.args.call c.args.codes.now c.args.turns.now _ _ _ c.from_residual-in_err-first-in-len3.ensures.1
-    (first_of_three_stops (calls_of c.args.context.now.functions.now c.args.context.now.depth) (world_of c.args.context.now.env.now) c.args.codes.now c.args.turns.now c.first-item-then-codes-lt4.result c.second-item-then-codes-lt4.result c.third-item.result (are_three c.args.codes.now c.first-item-then-codes-lt4.result c.second-item-then-codes-lt4.result c.third-item.result c.in-len3.len_at_least c.in-len3.len_below c.first-item-then-codes-lt4.is c.second-item-then-codes-lt4.is c.third-item.is) _ c.in_err-first-in-len3.ensures)
-
-pub evaluate::value_of_built_in-call_with_three-requires : goal.evaluate::value_of_built_in-call_with_three-requires
-evaluate::value_of_built_in-call_with_three-requires t c = λ h is.
-    built_in_of_arguments c.evaluation_law.ensures.never_stuck c.args.context.now.functions.now c.args.context.now.env.now c.args.context.now.depth (C.BuiltIn c.args.call c.args.codes.now) c.requires c.args.call c.args.codes.now refl c.args.turns.now _ _
-    (three_values (calls_of c.args.context.now.functions.now c.args.context.now.depth) (world_of c.args.context.now.env.now) c.args.codes.now c.args.turns.now c.first-item-then-codes-lt4.result c.second-item-then-codes-lt4.result c.third-item.result (are_three c.args.codes.now c.first-item-then-codes-lt4.result c.second-item-then-codes-lt4.result c.third-item.result c.in-len3.len_at_least c.in-len3.len_below c.first-item-then-codes-lt4.is c.second-item-then-codes-lt4.is c.third-item.is) _ _ c.in_ok-first-in-len3.ensures _ _ c.in-Ok.ensures _ _ (subst (λ r. AnswersHeld (code_value (calls_of c.args.context.now.functions.now c.args.context.now.depth) c.third-item.result (world_of c.args.context.now.env.now) c.eval_at-in-len3-2.new.turns) r c.eval_at-third.new.turns) is c.eval_at-third.ensures))
-
-pub evaluate::value_of_built_in-returns-in-Ok : goal.evaluate::value_of_built_in-returns-in-Ok
-evaluate::value_of_built_in-returns-in-Ok t c =
-    answers_by _ _ _ _
-    (with_three (calls_of c.args.context.now.functions.now c.args.context.now.depth) (world_of c.args.context.now.env.now) c.args.call c.args.codes.now c.args.turns.now c.first-item-then-codes-lt4.result c.second-item-then-codes-lt4.result c.third-item.result (are_three c.args.codes.now c.first-item-then-codes-lt4.result c.second-item-then-codes-lt4.result c.third-item.result c.in-len3.len_at_least c.in-len3.len_below c.first-item-then-codes-lt4.is c.second-item-then-codes-lt4.is c.third-item.is) _ _ c.in_ok-first-in-len3.ensures _ _ c.in-Ok.ensures)
-    (c.call_with_three.ensures _ _ c.eval_at-third.ensures)
-
-pub evaluate::value_of_built_in-returns-in-Err : goal.evaluate::value_of_built_in-returns-in-Err
-evaluate::value_of_built_in-returns-in-Err t c =
-    called_stopped (calls_of c.args.context.now.functions.now c.args.context.now.depth) (world_of c.args.context.now.env.now) c.args.call c.args.codes.now c.args.turns.now _ _ c.in-Err.stop c.stopped.ensures
-    (second_of_three_stops (calls_of c.args.context.now.functions.now c.args.context.now.depth) (world_of c.args.context.now.env.now) c.args.codes.now c.args.turns.now c.first-item-then-codes-lt4.result c.second-item-then-codes-lt4.result c.third-item.result (are_three c.args.codes.now c.first-item-then-codes-lt4.result c.second-item-then-codes-lt4.result c.third-item.result c.in-len3.len_at_least c.in-len3.len_below c.first-item-then-codes-lt4.is c.second-item-then-codes-lt4.is c.third-item.is) _ _ c.in_ok-first-in-len3.ensures _ c.in-Err.ensures)
-
-pub evaluate::value_of_built_in-unreachable-requires : goal.evaluate::value_of_built_in-unreachable-requires
-evaluate::value_of_built_in-unreachable-requires t c =
-    let few = one_to_three c.args.context.now.functions.now c.args.context.now.env.now c.args.call c.args.codes.now c.requires in
-    grind (arith, few.0, few.1)
-
 -- ---- places
 
 pub run::step_values-loop-taking-init : goal.run::step_values-loop-taking-init
@@ -543,20 +319,8 @@ run::step_values-loop-taking-init t c = record {
 pub run::step_values-step_value-requires : goal.run::step_values-step_value-requires
 run::step_values-step_value-requires t c = (omega arith, next_step_is_fit c.args.context.now.functions.now c.args.context.now.env.now c.args.takings.now c.loop-taking.taking-index c.loop-taking.invariant.others c.taking-item.result c.loop-taking-test.true c.taking-item.is)
 
-pub run::step_values-loop-taking-preserved : goal.run::step_values-loop-taking-preserved
-run::step_values-loop-taking-preserved t c = record {
-  comes = c.loop-taking.invariant.comes
-      ∙ steps_on (bodies_of c.args.context.now.functions.now c.args.context.now.depth) (state c.args.context.now.env.now []) c.args.takings.now c.loop-taking.taking-index c.loop-taking.steps c.loop-taking.turns c.taking-item.result c.loop-taking-test.true c.taking-item.is _ _ _ c.in_ok-step.ensures c.in_ok-push.ensures.ok;
-  others = later_steps_are_fit c.args.context.now.functions.now c.args.context.now.env.now c.args.takings.now c.loop-taking.taking-index c.loop-taking.invariant.others c.taking-item.result c.loop-taking-test.true c.taking-item.is;
-}
-
 pub run::step_values-returns : goal.run::step_values-returns
 run::step_values-returns t c = c.loop-taking.invariant.comes ∙ steps_past (bodies_of c.args.context.now.functions.now c.args.context.now.depth) (state c.args.context.now.env.now []) c.args.takings.now c.loop-taking.taking-index c.loop-taking.steps c.loop-taking.turns c.loop-taking-test.false
-
-pub run::step_values-returns-in_err-step : goal.run::step_values-returns-in_err-step
-run::step_values-returns-in_err-step t c =
-    stops _ _ _ _ c.from_residual.ensures.1
-    (stops_by _ _ _ c.loop-taking.invariant.comes (steps_stop (bodies_of c.args.context.now.functions.now c.args.context.now.depth) (state c.args.context.now.env.now []) c.args.takings.now c.loop-taking.taking-index c.loop-taking.steps c.loop-taking.turns c.taking-item.result c.loop-taking-test.true c.taking-item.is _ c.in_err-step.ensures))
 
 pub run::steps_taken-loop-taking-init : goal.run::steps_taken-loop-taking-init
 run::steps_taken-loop-taking-init t c = record {
@@ -567,86 +331,10 @@ run::steps_taken-loop-taking-init t c = record {
       c.index-as_slice-place.result c.index-as_slice-place.is c.as_slice-taking-items.result.now c.as_slice-taking-items.ensures;
 }
 
-pub run::steps_taken-step_value-requires : goal.run::steps_taken-step_value-requires
-run::steps_taken-step_value-requires t c = (omega arith, first_step_is_fit c.args.context.now.functions.now c.args.context.now.env.now c.as_slice-taking-items.result.now c.loop-taking.taking-index (held c.loop-taking.value) c.loop-taking.invariant.others c.taking-item.result c.loop-taking-test.true c.taking-item.is)
-
-pub run::steps_taken-returns-in_err-step : goal.run::steps_taken-returns-in_err-step
-run::steps_taken-returns-in_err-step t c = λ v at.
-    stops _ _ _ _ c.from_residual.ensures.1
-    (stops_by _ _ _ (c.loop-taking.invariant.comes v at) (taken_stop_at_value (bodies_of c.args.context.now.functions.now c.args.context.now.depth) (state c.args.context.now.env.now []) c.as_slice-taking-items.result.now c.loop-taking.taking-index (held c.loop-taking.value) c.loop-taking.steps c.loop-taking.turns c.taking-item.result c.loop-taking-test.true c.taking-item.is _ c.in_err-step.ensures))
-
-pub run::steps_taken-take_step-requires : goal.run::steps_taken-take_step-requires
-run::steps_taken-take_step-requires t c =
-    step_fits c.args.context.now.functions.now c.args.context.now.env.now c.as_slice-taking-items.result.now c.loop-taking.taking-index (held c.loop-taking.value) c.loop-taking.invariant.others c.taking-item.result c.loop-taking-test.true c.taking-item.is c.evaluation_law.ensures.never_stuck c.args.context.now.depth c.loop-taking.turns _ _ c.in_ok-step.ensures
-
-pub run::steps_taken-returns-in_err-value : goal.run::steps_taken-returns-in_err-value
-run::steps_taken-returns-in_err-value t c = λ v at.
-    stops _ _ _ _ c.from_residual-in_err-value.ensures.1
-    (stops_by _ _ _ (c.loop-taking.invariant.comes v at)
-    (taken_stop_at_step (bodies_of c.args.context.now.functions.now c.args.context.now.depth) (state c.args.context.now.env.now []) c.as_slice-taking-items.result.now c.loop-taking.taking-index (held c.loop-taking.value) c.loop-taking.steps c.loop-taking.turns c.taking-item.result c.loop-taking-test.true c.taking-item.is _ _ c.in_ok-step.ensures _ c.in_err-value.ensures))
-
-pub run::steps_taken-loop-taking-preserved : goal.run::steps_taken-loop-taking-preserved
-run::steps_taken-loop-taking-preserved t c = record {
-  comes = λ v at. c.loop-taking.invariant.comes v at
-      ∙ taken_on (bodies_of c.args.context.now.functions.now c.args.context.now.depth) (state c.args.context.now.env.now []) c.as_slice-taking-items.result.now c.loop-taking.taking-index (held c.loop-taking.value) c.loop-taking.steps c.loop-taking.turns c.taking-item.result c.loop-taking-test.true c.taking-item.is _ _ c.in_ok-step.ensures _ _ c.in_ok-value.ensures.0 c.in_ok-value.ensures.1;
-  others = others_fit c.args.context.now.functions.now c.args.context.now.env.now c.as_slice-taking-items.result.now c.loop-taking.taking-index (held c.loop-taking.value) c.loop-taking.invariant.others c.taking-item.result c.loop-taking-test.true c.taking-item.is c.evaluation_law.ensures.never_stuck c.args.context.now.depth c.loop-taking.turns _ _ c.in_ok-step.ensures
-      _ c.in_ok-value.ensures.0;
-}
-
 pub run::steps_taken-returns : goal.run::steps_taken-returns
 run::steps_taken-returns t c = λ v at. c.loop-taking.invariant.comes v at ∙ taken_past (bodies_of c.args.context.now.functions.now c.args.context.now.depth) (state c.args.context.now.env.now []) c.as_slice-taking-items.result.now c.loop-taking.taking-index (held c.loop-taking.value) c.loop-taking.steps c.loop-taking.turns c.loop-taking-test.false
 
-pub run::run_change-returns-in_err-steps-clause-leads : goal.run::run_change-returns-in_err-steps-clause-leads
-run::run_change-returns-in_err-steps-clause-leads t c = λ submits.
-    leads_next_stops _ _ _ _ _ c.from_residual.ensures.1
-    (place_change_stops (bodies_of c.args.program.now.functions.now c.args.program.now.depth) c.args.env.now submits c.args.place.now c.args.change.now c.args.turns.now _ c.in_err-steps.ensures)
-
-pub run::run_change-change_variable-requires : goal.run::run_change-change_variable-requires
-run::run_change-change_variable-requires t c =
-    subst (λ steps. CanChangeAt c.args.place.now.variable steps c.in_ok-steps.change c.args.env.now) (sym c.as_slice.ensures)
-    (can_change c.evaluation_law.ensures.never_stuck c.args.program.now.functions.now c.args.program.now.depth c.args.place.now c.args.env.now c.args.change.now c.requires c.args.turns.now _ (c.in_ok-steps.steps, c.in_ok-steps.change) c.in_ok-steps.ensures)
-
-pub run::run_change-returns-clause-leads : goal.run::run_change-returns-clause-leads
-run::run_change-returns-clause-leads t c = λ submits.
-    leads_next_by _ _ _ _ _
-    (place_change_done (bodies_of c.args.program.now.functions.now c.args.program.now.depth) c.args.env.now submits c.args.place.now c.args.change.now c.args.turns.now (c.in_ok-steps.steps, c.in_ok-steps.change) _ c.in_ok-steps.ensures
-    ∙ ap (λ steps. changed_at c.args.place.now.variable steps c.in_ok-steps.change (state c.args.env.now submits) c.change_values.new.turns) (sym c.as_slice.ensures))
-    (c.change_variable.ensures.leads submits _)
-
 -- ---- functions
-
-pub run::run_function-run_scoped-requires : goal.run::run_function-run_scoped-requires
-run::run_function-run_scoped-requires t c = (omega arith, body_is_fit c.args.context.now.functions.now c.args.place c.args.values c.requires c.in-Some.function.now (sym c.in-Some.ensures.value) c.as_slice-row.result.now c.as_slice-row.ensures c.new.result c.new.ensures)
-
-pub run::run_function-returns-in_err-flow : goal.run::run_function-returns-in_err-flow
-run::run_function-returns-in_err-flow t c =
-    stops _ _ _ _ c.from_residual-in_err-flow.ensures.1
-    (stops_by _ _ _ (ap (λ turns. enter turns (λ turns. bodies_of c.args.context.now.functions.now c.args.context.now.depth c.args.place c.args.values turns)) c.in_ok-enter.ensures)
-    (body_stops c.args.context.now.functions.now c.args.place c.args.values c.requires c.in-Some.function.now (sym c.in-Some.ensures.value) c.args.context.now.depth c.enter.new.turns c.if-context-eq0.false c.as_slice-row.result.now c.as_slice-row.ensures c.new.result c.new.ensures c.new-submits.result c.new-submits.ensures _ c.in_err-flow.ensures.leads))
-
-pub run::run_function-returned_by-requires : goal.run::run_function-returned_by-requires
-run::run_function-returned_by-requires t c =
-    returned_there c.args.context.now.functions.now c.args.place c.args.values c.requires c.in-Some.function.now (sym c.in-Some.ensures.value) c.evaluation_law.ensures.bodies _ c.enter.new.turns c.as_slice-row.result.now c.as_slice-row.ensures c.new.result c.new.ensures c.new-submits.result c.new-submits.ensures _ _ c.in_ok-flow.ensures.leads
-
-pub run::run_function-returns : goal.run::run_function-returns
-run::run_function-returns t c =
-    ap (λ turns. enter turns (λ turns. bodies_of c.args.context.now.functions.now c.args.context.now.depth c.args.place c.args.values turns)) c.in_ok-enter.ensures
-    ∙ body_done c.args.context.now.functions.now c.args.place c.args.values c.requires c.in-Some.function.now (sym c.in-Some.ensures.value) c.args.context.now.depth c.enter.new.turns c.if-context-eq0.false c.as_slice-row.result.now c.as_slice-row.ensures c.new.result c.new.ensures c.new-submits.result c.new-submits.ensures _ _ _ c.in_ok-flow.ensures.leads c.returned_by.ensures
-
-pub evaluate::value_of_call-run_function-requires : goal.evaluate::value_of_call-run_function-requires
-evaluate::value_of_call-run_function-requires t c = (omega arith, called_is_fit c.args.context.now.functions.now c.args.place c.args.values c.requires)
-
-pub evaluate::value_of_call-unreachable-requires : goal.evaluate::value_of_call-unreachable-requires
-evaluate::value_of_call-unreachable-requires t c =
-    result_there c.args.context.now.functions.now c.args.place c.args.values c.requires c.evaluation_law.ensures.bodies c.args.context.now.depth c.args.turns.now _ _ c.in_ok-value.ensures c.in-None.is
-
-pub evaluate::value_of_call-returns-in_err-value : goal.evaluate::value_of_call-returns-in_err-value
-evaluate::value_of_call-returns-in_err-value t c =
-    stops _ _ _ _ c.from_residual.ensures.1 (value_stops c.args.context.now.functions.now c.args.place c.args.values c.args.context.now.depth c.args.turns.now _ c.in_err-value.ensures)
-
-pub evaluate::value_of_call-returns : goal.evaluate::value_of_call-returns
-evaluate::value_of_call-returns t c =
-    value_done c.args.context.now.functions.now c.args.place c.args.values c.args.context.now.depth c.args.turns.now _ _ _ c.in_ok-value.ensures c.in-Some.is
 
 pub run::run_statement-run_call-requires : goal.run::run_statement-run_call-requires
 run::run_statement-run_call-requires t c =
@@ -731,41 +419,9 @@ run::run_statement-returns-in-SubmitWindow-clause-leads t c =
 
 -- ---- rows and loops
 
-pub run::run_row-run_statement-requires : goal.run::run_row-run_statement-requires
-run::run_row-run_statement-requires t c =
+pub run::run_row-run_statement-answer-requires : goal.run::run_row-run_statement-answer-requires
+run::run_row-run_statement-answer-requires t c =
     (omega arith, statement_is_fit c.args.program.now.functions.now c.args.row.now c.loop-statement.statement-index c.statement-item.result c.loop-statement-test.true c.statement-item.is c.loop-statement.env c.loop-statement.invariant.rest)
-
-pub run::run_row-returns-in_err-flow-clause-leads : goal.run::run_row-returns-in_err-flow-clause-leads
-run::run_row-returns-in_err-flow-clause-leads t c =
-    stops_leading _ _ _ _ _ c.from_residual.ensures.1
-    (stops_by _ _ _ c.loop-statement.invariant.comes
-    (row_stops (bodies_of c.args.program.now.functions.now c.args.program.now.depth) c.args.row.now c.loop-statement.statement-index
-    c.statement-item.result c.loop-statement-test.true c.statement-item.is (state c.loop-statement.env c.loop-statement.submits) c.loop-statement.turns
-    _ c.in_err-flow.ensures.leads))
-
-pub run::run_row-returns-in-Some-clause-leads : goal.run::run_row-returns-in-Some-clause-leads
-run::run_row-returns-in-Some-clause-leads t c =
-    c.loop-statement.invariant.comes
-    ∙ row_ends (bodies_of c.args.program.now.functions.now c.args.program.now.depth) c.args.row.now c.loop-statement.statement-index
-    c.statement-item.result c.loop-statement-test.true c.statement-item.is (state c.loop-statement.env c.loop-statement.submits) c.loop-statement.turns
-    _ _ _ c.in_ok-flow.ensures.leads c.in-Some.end c.in-Some.ensures
-
-pub run::run_row-loop-statement-preserved : goal.run::run_row-loop-statement-preserved
-run::run_row-loop-statement-preserved t c = record {
-  comes = c.loop-statement.invariant.comes
-      ∙ row_on (bodies_of c.args.program.now.functions.now c.args.program.now.depth) c.args.row.now c.loop-statement.statement-index
-      c.statement-item.result c.loop-statement-test.true c.statement-item.is (state c.loop-statement.env c.loop-statement.submits) c.loop-statement.turns
-      _ _ _ c.in_ok-flow.ensures.leads c.in_default.ensures;
-  rest = rest_of_row c.args.program.now.functions.now c.args.row.now c.loop-statement.statement-index c.statement-item.result c.loop-statement-test.true c.statement-item.is c.loop-statement.env
-      c.loop-statement.invariant.rest c.evaluation_law.ensures.statements c.args.program.now.depth c.loop-statement.turns _ c.loop-statement.submits _ _ c.in_ok-flow.ensures.leads;
-  kept = keeps_then _ _ _ c.loop-statement.invariant.kept c.in_ok-flow.ensures.kept;
-}
-
-pub run::run_row-returns-in_err-flow-clause-kept : goal.run::run_row-returns-in_err-flow-clause-kept
-run::run_row-returns-in_err-flow-clause-kept t c = keeps_then _ _ _ c.loop-statement.invariant.kept c.in_err-flow.ensures.kept
-
-pub run::run_row-returns-in-Some-clause-kept : goal.run::run_row-returns-in-Some-clause-kept
-run::run_row-returns-in-Some-clause-kept t c = keeps_then _ _ _ c.loop-statement.invariant.kept c.in_ok-flow.ensures.kept
 
 pub run::run_if-is_true-requires : goal.run::run_if-is_true-requires
 run::run_if-is_true-requires t c =
@@ -822,39 +478,6 @@ run::run_while-returns-in_err-enter-clause-leads t c =
     (state c.rounds.env c.rounds.submits) c.rounds.turns
     _ _ c.in_ok-is_true.ensures c.if-branch.true _ c.in_err-enter.ensures.0 c.in_err-enter.ensures.1))
 
-pub run::run_while-returns-in_err-flow-clause-leads : goal.run::run_while-returns-in_err-flow-clause-leads
-run::run_while-returns-in_err-flow-clause-leads t c =
-    stops_leading _ _ _ _ _ c.from_residual-in_err-flow.ensures.1
-    (stops_by _ _ _ c.rounds.invariant.comes
-    (while_stops_in_turn c.rounds.rounds (bodies_of c.args.program.now.functions.now c.args.program.now.depth) c.args.code.now (scoped (row_acts (bodies_of c.args.program.now.functions.now c.args.program.now.depth) c.args.row.now))
-    (state c.rounds.env c.rounds.submits) c.rounds.turns
-    _ _ c.in_ok-is_true.ensures c.if-branch.true _ c.in_ok-enter.ensures _ c.in_err-flow.ensures.leads))
-
-pub run::run_while-returns-in-Some-clause-leads : goal.run::run_while-returns-in-Some-clause-leads
-run::run_while-returns-in-Some-clause-leads t c =
-    c.rounds.invariant.comes
-    ∙ while_ends c.rounds.rounds (bodies_of c.args.program.now.functions.now c.args.program.now.depth) c.args.code.now (scoped (row_acts (bodies_of c.args.program.now.functions.now c.args.program.now.depth) c.args.row.now))
-    (state c.rounds.env c.rounds.submits) c.rounds.turns
-    _ _ c.in_ok-is_true.ensures c.if-branch.true _ c.in_ok-enter.ensures _ _ _ c.in_ok-flow.ensures.leads c.in-Some.end c.in-Some.ensures
-
-pub run::run_while-returns-in_err-flow-clause-kept : goal.run::run_while-returns-in_err-flow-clause-kept
-run::run_while-returns-in_err-flow-clause-kept t c = keeps_then _ _ _ c.rounds.invariant.kept c.in_err-flow.ensures.kept
-
-pub run::run_while-returns-in-Some-clause-kept : goal.run::run_while-returns-in-Some-clause-kept
-run::run_while-returns-in-Some-clause-kept t c = keeps_then _ _ _ c.rounds.invariant.kept c.in_ok-flow.ensures.kept
-
-pub run::run_while-rounds-preserved : goal.run::run_while-rounds-preserved
-run::run_while-rounds-preserved t c = record {
-  comes = c.rounds.invariant.comes
-      ∙ while_on c.rounds.rounds (bodies_of c.args.program.now.functions.now c.args.program.now.depth) c.args.code.now (scoped (row_acts (bodies_of c.args.program.now.functions.now c.args.program.now.depth) c.args.row.now))
-      (state c.rounds.env c.rounds.submits) c.rounds.turns
-      _ _ c.in_ok-is_true.ensures c.if-branch.true _ c.in_ok-enter.ensures _ _ _ c.in_ok-flow.ensures.leads c.in_default.ensures c.in-Some-checked_sub.left
-      (omega (arith, c.in-Some-checked_sub.ensures.0, c.in-Some-checked_sub.ensures.1));
-  again = loop_after_turn c.args.program.now.functions.now c.evaluation_law.ensures.statements c.args.code.now c.args.row.now c.rounds.env c.rounds.invariant.again c.args.program.now.depth
-      c.enter.new.turns _ c.rounds.submits _ _ c.in_ok-flow.ensures.leads;
-  kept = keeps_then _ _ _ c.rounds.invariant.kept c.in_ok-flow.ensures.kept;
-}
-
 pub run::run_over-values-init : goal.run::run_over-values-init
 run::run_over-values-init t c =
     let all : c.into_iter-value-iterator.result.rest.items ≡ c.args.values = c.into_iter-value-iterator.ensures.into_iter_gives.0 ∙ c.into_vec-value-items.ensures in record {
@@ -863,51 +486,9 @@ run::run_over-values-init t c =
       kept = keeps_all c.args.env.now;
     }
 
-pub run::run_over-run_turn-requires : goal.run::run_over-run_turn-requires
-run::run_over-run_turn-requires t c =
+pub run::run_over-run_turn-answer-requires : goal.run::run_over-run_turn-answer-requires
+run::run_over-run_turn-answer-requires t c =
     (omega arith, turn_is_fit c.args.program.now.functions.now c.values.value-iterator.rest.items c.next.new.self.rest.items c.in-Some.value c.args.row.now c.values.env c.in-Some.ensures.steps.0 c.values.invariant.rest)
-
-pub run::run_over-values-preserved : goal.run::run_over-values-preserved
-run::run_over-values-preserved t c = record {
-  comes = c.values.invariant.comes
-      ∙ over_on c.values.value-iterator.rest.items c.next.new.self.rest.items c.in-Some.value (row_acts (bodies_of c.args.program.now.functions.now c.args.program.now.depth) c.args.row.now)
-      c.in-Some.ensures.steps.0 (state c.values.env c.values.submits) c.values.turns _ _ _ c.in_ok-flow.ensures.leads c.in_default.ensures;
-  rest = other_turns c.args.program.now.functions.now c.values.value-iterator.rest.items c.next.new.self.rest.items c.in-Some.value c.args.row.now c.values.env c.in-Some.ensures.steps.0
-      c.values.invariant.rest c.evaluation_law.ensures.statements c.args.program.now.depth c.values.turns _ c.values.submits _ _ c.in_ok-flow.ensures.leads;
-  kept = keeps_then _ _ _ c.values.invariant.kept c.in_ok-flow.ensures.kept;
-}
-
-pub run::run_over-returns-in_err-flow-clause-kept : goal.run::run_over-returns-in_err-flow-clause-kept
-run::run_over-returns-in_err-flow-clause-kept t c = keeps_then _ _ _ c.values.invariant.kept c.in_err-flow.ensures.kept
-
-pub run::run_over-returns-in-Some-after_turn-clause-kept : goal.run::run_over-returns-in-Some-after_turn-clause-kept
-run::run_over-returns-in-Some-after_turn-clause-kept t c = keeps_then _ _ _ c.values.invariant.kept c.in_ok-flow.ensures.kept
-
-pub run::run_turn-run_row-answer-requires : goal.run::run_turn-run_row-answer-requires
-run::run_turn-run_row-answer-requires t c =
-    (omega arith, row_of_turn c.args.program.now.functions.now c.args.value c.args.row.now c.args.env.now c.push.new.self c.requires c.in_ok-push.ensures.ok)
-
-pub run::run_turn-returns-clause-leads : goal.run::run_turn-returns-clause-leads
-run::run_turn-returns-clause-leads t c =
-    let bodies = bodies_of c.args.program.now.functions.now c.args.program.now.depth in
-    let s = state c.args.env.now c.args.submits.now in
-    let acts : Acts = λ s turns. row_acts bodies c.args.row.now (declared s c.args.value) turns in
-    leads_by _ _ _ _ _ (ap (λ turns. enter turns (λ turns. scoped acts s turns)) c.in_ok-enter.ensures)
-    (scoped_leads acts s c.enter.new.turns c.run_row-answer.result (state c.run_row-answer.new.env c.run_row-answer.new.submits) c.run_row-answer.new.turns c.truncate.new.self
-    (subst (λ vars. Leads (row_acts bodies c.args.row.now (with_vars s vars) c.enter.new.turns) c.run_row-answer.result (state c.run_row-answer.new.env c.run_row-answer.new.submits) c.run_row-answer.new.turns) c.in_ok-push.ensures.ok c.run_row-answer.ensures.leads)
-    (c.truncate.ensures ∙ ap (λ n. take n c.run_row-answer.new.env.vars) c.len-count.ensures))
-
-pub run::run_turn-returns-clause-kept : goal.run::run_turn-returns-clause-kept
-run::run_turn-returns-clause-kept t c =
-    keeps_ended c.args.env.now _ c.truncate.new.self
-    (keeps_then c.args.env.now _ _ (keeps_declared c.args.env.now c.args.value c.push.new.self c.in_ok-push.ensures.ok) c.run_row-answer.ensures.kept)
-    (c.truncate.ensures ∙ ap (λ n. take n c.run_row-answer.new.env.vars) c.len-count.ensures)
-
-pub run::run_turn-returns-clause-ended : goal.run::run_turn-returns-clause-ended
-run::run_turn-returns-clause-ended t c =
-    vars_ended c.args.env.now _ c.truncate.new.self
-    (keeps_then c.args.env.now _ _ (keeps_declared c.args.env.now c.args.value c.push.new.self c.in_ok-push.ensures.ok) c.run_row-answer.ensures.kept)
-    (c.truncate.ensures ∙ ap (λ n. take n c.run_row-answer.new.env.vars) c.len-count.ensures)
 
 pub run::run_scoped-returns-clause-leads : goal.run::run_scoped-returns-clause-leads
 run::run_scoped-returns-clause-leads t c =
@@ -922,3 +503,513 @@ run::run_scoped-returns-clause-kept t c =
 pub run::run_scoped-returns-clause-ended : goal.run::run_scoped-returns-clause-ended
 run::run_scoped-returns-clause-ended t c =
     vars_ended c.args.env.now _ c.truncate.new.self c.run_row-answer.ensures.kept (c.truncate.ensures ∙ ap (λ n. take n c.run_row-answer.new.env.vars) c.len-count.ensures)
+
+pub evaluate::own_value-returns : goal.evaluate::own_value-returns
+evaluate::own_value-returns t c = c.own.ensures _ _ c.eval_at.ensures
+
+pub evaluate::is_true-truth_held-requires : goal.evaluate::is_true-truth_held-requires
+evaluate::is_true-truth_held-requires t c = λ h is.
+    of_type c.evaluation_law.ensures.never_stuck c.args.context.now.functions.now c.args.context.now.env.now c.args.context.now.depth c.args.code.now T.Bool c.requires c.args.turns.now _ _
+    (subst (λ r. AnswersHeld (code_value (calls_of c.args.context.now.functions.now c.args.context.now.depth) c.args.code.now (world_of c.args.context.now.env.now) c.args.turns.now) r c.eval_at.new.turns) is c.eval_at.ensures)
+
+pub evaluate::is_true-returns : goal.evaluate::is_true-returns
+evaluate::is_true-returns t c = c.truth_held.ensures _ _ c.eval_at.ensures
+
+pub evaluate::eval_all-loop-code-preserved : goal.evaluate::eval_all-loop-code-preserved
+evaluate::eval_all-loop-code-preserved t c =
+    let added = c.in_ok-add.ensures _ _ c.own_value.ensures in
+    c.loop-code.invariant
+    ∙ values_on (calls_of c.args.context.now.functions.now c.args.context.now.depth) (world_of c.args.context.now.env.now) c.args.codes.now c.loop-code.code-index c.loop-code.values c.loop-code.turns
+    c.code-item.result c.loop-code-test.true c.code-item.is _ _ _ added.1 added.2
+
+pub evaluate::eval_all-returns-in_err-add : goal.evaluate::eval_all-returns-in_err-add
+evaluate::eval_all-returns-in_err-add t c =
+    stops _ _ _ _ c.from_residual.ensures.1
+    (stops_by _ _ _ c.loop-code.invariant
+    (values_stop (calls_of c.args.context.now.functions.now c.args.context.now.depth) (world_of c.args.context.now.env.now) c.args.codes.now c.loop-code.code-index c.loop-code.values c.loop-code.turns
+    c.code-item.result c.loop-code-test.true c.code-item.is _ (c.in_err-add.ensures _ _ c.own_value.ensures)))
+
+pub evaluate::call-run_function-requires : goal.evaluate::call-run_function-requires
+evaluate::call-run_function-requires t c = (omega arith, called_is_fit c.args.context.now.functions.now c.args.place c.in_ok-values.values (call_of_arguments c.evaluation_law.ensures.never_stuck c.args.context.now.functions.now c.args.context.now.env.now c.args.context.now.depth (C.Call c.args.place c.args.codes.now) c.requires c.args.place c.args.codes.now refl c.args.turns.now _ _ c.in_ok-values.ensures))
+
+pub evaluate::call-value_returned-requires : goal.evaluate::call-value_returned-requires
+evaluate::call-value_returned-requires t c = λ none.
+    result_there c.args.context.now.functions.now c.args.place c.in_ok-values.values (call_of_arguments c.evaluation_law.ensures.never_stuck c.args.context.now.functions.now c.args.context.now.env.now c.args.context.now.depth (C.Call c.args.place c.args.codes.now) c.requires c.args.place c.args.codes.now refl c.args.turns.now _ _ c.in_ok-values.ensures)
+    c.evaluation_law.ensures.bodies c.args.context.now.depth c.eval_all.new.turns _ None
+    (subst (λ r. Answers (enter c.eval_all.new.turns (λ turns. bodies_of c.args.context.now.functions.now c.args.context.now.depth c.args.place c.in_ok-values.values turns)) r c.run_function.new.turns) none c.run_function.ensures) refl
+
+pub evaluate::call-returns : goal.evaluate::call-returns
+evaluate::call-returns t c =
+    call_answers (calls_of c.args.context.now.functions.now c.args.context.now.depth) (world_of c.args.context.now.env.now) (C.Call c.args.place c.args.codes.now) c.args.turns.now c.args.place c.args.codes.now refl _ _ c.in_ok-values.ensures _ _
+    (answers_held_by _ _ _ _ (value_called c.args.context.now.functions.now c.args.place c.in_ok-values.values c.args.context.now.depth c.eval_all.new.turns) (c.value_returned.ensures _ _ c.run_function.ensures))
+
+pub run::step_values-loop-taking-preserved : goal.run::step_values-loop-taking-preserved
+run::step_values-loop-taking-preserved t c = let added = c.in_ok-add.ensures _ _ c.step_value.ensures in record {
+  comes = c.loop-taking.invariant.comes
+      ∙ steps_on (bodies_of c.args.context.now.functions.now c.args.context.now.depth) (state c.args.context.now.env.now []) c.args.takings.now c.loop-taking.taking-index c.loop-taking.steps c.loop-taking.turns c.taking-item.result c.loop-taking-test.true c.taking-item.is _ _ _ added.1 added.2;
+  others = later_steps_are_fit c.args.context.now.functions.now c.args.context.now.env.now c.args.takings.now c.loop-taking.taking-index c.loop-taking.invariant.others c.taking-item.result c.loop-taking-test.true c.taking-item.is;
+}
+
+pub run::step_values-returns-in_err-add : goal.run::step_values-returns-in_err-add
+run::step_values-returns-in_err-add t c =
+    stops _ _ _ _ c.from_residual.ensures.1
+    (stops_by _ _ _ c.loop-taking.invariant.comes
+    (steps_stop (bodies_of c.args.context.now.functions.now c.args.context.now.depth) (state c.args.context.now.env.now []) c.args.takings.now c.loop-taking.taking-index c.loop-taking.steps c.loop-taking.turns c.taking-item.result c.loop-taking-test.true c.taking-item.is _ (c.in_err-add.ensures _ _ c.step_value.ensures)))
+
+pub run::step_value-returns-in-Element : goal.run::step_value-returns-in-Element
+run::step_value-returns-in-Element t c =
+    answers_by _ _ _ _ (ap (λ t. step_value (bodies_of c.args.context.now.functions.now c.args.context.now.depth) t (state c.args.context.now.env.now []) c.args.turns.now) c.in-Element.is) (c.element_step.ensures _ _ c.own_value.ensures)
+
+pub run::step_value-returns-in-AtKey : goal.run::step_value-returns-in-AtKey
+run::step_value-returns-in-AtKey t c =
+    answers_by _ _ _ _ (ap (λ t. step_value (bodies_of c.args.context.now.functions.now c.args.context.now.depth) t (state c.args.context.now.env.now []) c.args.turns.now) c.in-AtKey.is) (c.key_step.ensures _ _ c.own_value-in-AtKey.ensures)
+
+pub run::steps_taken-step_value-step-requires : goal.run::steps_taken-step_value-step-requires
+run::steps_taken-step_value-step-requires t c = (omega arith, first_step_is_fit c.args.context.now.functions.now c.args.context.now.env.now c.as_slice-taking-items.result.now c.loop-taking.taking-index (held c.loop-taking.value) c.loop-taking.invariant.others c.taking-item.result c.loop-taking-test.true c.taking-item.is)
+
+pub run::steps_taken-take_next-requires : goal.run::steps_taken-take_next-requires
+run::steps_taken-take_next-requires t c = λ step is.
+    step_fits c.args.context.now.functions.now c.args.context.now.env.now c.as_slice-taking-items.result.now c.loop-taking.taking-index (held c.loop-taking.value) c.loop-taking.invariant.others c.taking-item.result c.loop-taking-test.true c.taking-item.is c.evaluation_law.ensures.never_stuck c.args.context.now.depth c.loop-taking.turns _ step
+    (subst (λ r. Answers (step_value (bodies_of c.args.context.now.functions.now c.args.context.now.depth) c.taking-item.result (state c.args.context.now.env.now []) c.loop-taking.turns) r c.step_value-step.new.turns) is c.step_value-step.ensures)
+
+pub run::steps_taken-returns-in_err-value : goal.run::steps_taken-returns-in_err-value
+run::steps_taken-returns-in_err-value t c = λ v at.
+    stops _ _ _ _ c.from_residual.ensures.1
+    (stops_by _ _ _ (c.loop-taking.invariant.comes v at) (taken_stop (bodies_of c.args.context.now.functions.now c.args.context.now.depth) (state c.args.context.now.env.now []) c.as_slice-taking-items.result.now c.loop-taking.taking-index (held c.loop-taking.value) c.loop-taking.steps c.loop-taking.turns c.taking-item.result c.loop-taking-test.true c.taking-item.is _ (c.in_err-value.ensures _ _ c.step_value-step.ensures)))
+
+pub run::steps_taken-loop-taking-preserved : goal.run::steps_taken-loop-taking-preserved
+run::steps_taken-loop-taking-preserved t c = let taken = c.in_ok-value.ensures _ _ c.step_value-step.ensures in record {
+  comes = λ v at. c.loop-taking.invariant.comes v at ∙ taken_on (bodies_of c.args.context.now.functions.now c.args.context.now.depth) (state c.args.context.now.env.now []) c.as_slice-taking-items.result.now c.loop-taking.taking-index (held c.loop-taking.value) c.loop-taking.steps c.loop-taking.turns c.taking-item.result c.loop-taking-test.true c.taking-item.is _ _ taken.1 _ _ taken.2 taken.3;
+  others = others_fit c.args.context.now.functions.now c.args.context.now.env.now c.as_slice-taking-items.result.now c.loop-taking.taking-index (held c.loop-taking.value) c.loop-taking.invariant.others c.taking-item.result c.loop-taking-test.true c.taking-item.is c.evaluation_law.ensures.never_stuck c.args.context.now.depth c.loop-taking.turns _ _ taken.1 _ taken.2;
+}
+
+pub run::change_values-returns-in_err-value-in-Put : goal.run::change_values-returns-in_err-value-in-Put
+run::change_values-returns-in_err-value-in-Put t c = stops _ _ _ _ c.from_residual.ensures.1 (put_stops (bodies_of c.args.context.now.functions.now c.args.context.now.depth) (state c.args.context.now.env.now []) c.args.place.now c.args.turns.now c.args.change.now c.in-Put.code c.in-Put.is _ c.in_err-value-in-Put.ensures)
+
+pub run::change_values-returns-in_ok-value-in-Put : goal.run::change_values-returns-in_ok-value-in-Put
+run::change_values-returns-in_ok-value-in-Put t c = put_answers (bodies_of c.args.context.now.functions.now c.args.context.now.depth) (state c.args.context.now.env.now []) c.args.place.now c.args.turns.now c.args.change.now c.in-Put.code c.in-Put.is _ _ c.in_ok-value-in-Put.ensures _ _ (c.with_put.ensures _ _ (subst (λ ts. Answers (step_values (bodies_of c.args.context.now.functions.now c.args.context.now.depth) ts (state c.args.context.now.env.now []) c.own_value.new.turns) c.step_values.result c.step_values.new.turns) c.as_slice-takings.ensures c.step_values.ensures))
+
+pub run::change_values-returns-in_err-steps-in-Append : goal.run::change_values-returns-in_err-steps-in-Append
+run::change_values-returns-in_err-steps-in-Append t c =
+    let there = (variable_holds c.args.context.now.functions.now c.args.place.now c.args.context.now.env.now (c.requires.0, c.requires.1, c.requires.2, c.requires.4)) in
+    stops _ _ _ _ c.from_residual-in_err-steps-in-Append.ensures.1 (append_stops (bodies_of c.args.context.now.functions.now c.args.context.now.depth) (state c.args.context.now.env.now []) c.args.place.now c.args.turns.now c.args.change.now c.in-Append.code there.0 there.1 c.in-Append.is _ (c.in_err-steps-in-Append.ensures there.0 there.1))
+
+pub run::change_values-returns-in_ok-steps-in-Append : goal.run::change_values-returns-in_ok-steps-in-Append
+run::change_values-returns-in_ok-steps-in-Append t c =
+    let there = (variable_holds c.args.context.now.functions.now c.args.place.now c.args.context.now.env.now (c.requires.0, c.requires.1, c.requires.2, c.requires.4)) in
+    append_answers (bodies_of c.args.context.now.functions.now c.args.context.now.depth) (state c.args.context.now.env.now []) c.args.place.now c.args.turns.now c.args.change.now c.in-Append.code there.0 there.1 _ _ (c.in_ok-steps-in-Append.ensures there.0 there.1) _ _ c.in-Append.is (c.with_append.ensures _ _ c.own_value-in-Append.ensures)
+
+pub run::change_values-returns-in_err-steps-in-Remove : goal.run::change_values-returns-in_err-steps-in-Remove
+run::change_values-returns-in_err-steps-in-Remove t c =
+    let there = (variable_holds c.args.context.now.functions.now c.args.place.now c.args.context.now.env.now (c.requires.0, c.requires.1, c.requires.2, c.requires.4)) in
+    stops _ _ _ _ c.from_residual-in_err-steps-in-Remove.ensures.1 (remove_stops (bodies_of c.args.context.now.functions.now c.args.context.now.depth) (state c.args.context.now.env.now []) c.args.place.now c.args.turns.now c.args.change.now c.in-Remove.code there.0 there.1 c.in-Remove.is _ (c.in_err-steps-in-Remove.ensures there.0 there.1))
+
+pub run::change_values-returns-in_ok-steps-in-Remove : goal.run::change_values-returns-in_ok-steps-in-Remove
+run::change_values-returns-in_ok-steps-in-Remove t c =
+    let there = (variable_holds c.args.context.now.functions.now c.args.place.now c.args.context.now.env.now (c.requires.0, c.requires.1, c.requires.2, c.requires.4)) in
+    remove_answers (bodies_of c.args.context.now.functions.now c.args.context.now.depth) (state c.args.context.now.env.now []) c.args.place.now c.args.turns.now c.args.change.now c.in-Remove.code there.0 there.1 _ _ (c.in_ok-steps-in-Remove.ensures there.0 there.1) _ _ c.in-Remove.is (c.with_remove.ensures _ _ c.own_value-in-Remove.ensures)
+
+pub run::change_values-returns-in-Clear : goal.run::change_values-returns-in-Clear
+run::change_values-returns-in-Clear t c =
+    let there = (variable_holds c.args.context.now.functions.now c.args.place.now c.args.context.now.env.now (c.requires.0, c.requires.1, c.requires.2, c.requires.4)) in
+    clear_answers (bodies_of c.args.context.now.functions.now c.args.context.now.depth) (state c.args.context.now.env.now []) c.args.place.now c.args.turns.now c.args.change.now c.in-Clear.is there.0 there.1 _ _ (c.with_clear.ensures _ _ (c.steps_taken-in-Clear.ensures there.0 there.1))
+
+pub run::run_change-change_with-requires : goal.run::run_change-change_with-requires
+run::run_change-change_with-requires t c = λ w is.
+    can_change c.evaluation_law.ensures.never_stuck c.args.program.now.functions.now c.args.program.now.depth c.args.place.now c.args.env.now c.args.change.now c.requires c.args.turns.now _ w
+    (subst (λ r. Answers (change_values (bodies_of c.args.program.now.functions.now c.args.program.now.depth) c.args.place.now c.args.change.now (state c.args.env.now []) c.args.turns.now) r c.change_values-values.new.turns) is c.change_values-values.ensures)
+
+pub run::run_change-returns-clause-leads : goal.run::run_change-returns-clause-leads
+run::run_change-returns-clause-leads t c = λ submits.
+    leads_next_by _ _ _ _ _ (place_changes (bodies_of c.args.program.now.functions.now c.args.program.now.depth) c.args.env.now submits c.args.place.now c.args.change.now c.args.turns.now)
+    (c.change_with.ensures.leads _ submits _ c.change_values-values.ensures)
+
+pub run::run_change-returns-clause-kept : goal.run::run_change-returns-clause-kept
+run::run_change-returns-clause-kept t c = c.change_with.ensures.kept
+
+pub run::run_function-returns-in_err-env : goal.run::run_function-returns-in_err-env
+run::run_function-returns-in_err-env t c = stops _ _ _ _ c.from_residual.ensures.1 (no_call c.args.context.now.functions.now c.args.place c.args.values c.args.context.now.depth c.args.turns.now _ c.in_err-env.ensures.0 c.in_err-env.ensures.1)
+
+pub run::run_function-run_scoped-requires : goal.run::run_function-run_scoped-requires
+run::run_function-run_scoped-requires t c = (omega arith, call_body_is_fit c.args.context.now.functions.now c.args.place c.args.values c.requires c.in-Some.function.now (sym c.in-Some.ensures.value) c.as_slice-row.result.now c.as_slice-row.ensures c.new-submits.result c.new-submits.ensures c.in_ok-env.env c.in_ok-env.ensures.2)
+
+pub run::run_function-returned-requires : goal.run::run_function-returned-requires
+run::run_function-returned-requires t c = answer_returns c.args.context.now.functions.now c.args.place c.args.values c.requires c.in-Some.function.now (sym c.in-Some.ensures.value) c.as_slice-row.result.now c.as_slice-row.ensures c.new-submits.result c.new-submits.ensures c.in_ok-env.env c.in_ok-env.ensures.2 c.enter_call.new.turns _ _ _ c.evaluation_law.ensures.bodies _ c.run_scoped.ensures.leads
+
+pub run::run_function-returns : goal.run::run_function-returns
+run::run_function-returns t c =
+    answers_by _ _ _ _ (ap (λ turns. enter turns (λ turns. bodies_of c.args.context.now.functions.now c.args.context.now.depth c.args.place c.args.values turns)) c.in_ok-env.ensures.0)
+    (call_returns c.args.context.now.functions.now c.args.place c.args.values c.requires c.in-Some.function.now (sym c.in-Some.ensures.value) c.as_slice-row.result.now c.as_slice-row.ensures c.new-submits.result c.new-submits.ensures c.in_ok-env.env c.in_ok-env.ensures.2 c.enter_call.new.turns _ _ _ c.args.context.now.depth c.in_ok-env.ensures.1 c.run_scoped.ensures.leads _ c.returned.ensures)
+
+pub run::run_turn-run_row-answer-requires : goal.run::run_turn-run_row-answer-requires
+run::run_turn-run_row-answer-requires t c = (omega arith, subst (RowIsFit c.args.program.now.functions.now c.args.row.now) (sym c.in_ok-begin_turn.ensures.1) (row_of_turn c.args.program.now.functions.now c.args.value c.args.row.now c.args.env.now _ c.requires refl))
+
+pub run::run_turn-returns-in_err-begin_turn-clause-leads : goal.run::run_turn-returns-in_err-begin_turn-clause-leads
+run::run_turn-returns-in_err-begin_turn-clause-leads t c = stops_leading _ _ _ _ _ c.from_residual.ensures.1 (no_turn_begins c.args.turns.now _ _ c.in_err-begin_turn.ensures.1)
+
+pub run::run_turn-returns-in_err-begin_turn-clause-kept : goal.run::run_turn-returns-in_err-begin_turn-clause-kept
+run::run_turn-returns-in_err-begin_turn-clause-kept t c = subst (Keeps c.args.env.now) (sym c.in_err-begin_turn.ensures.0) (keeps_all c.args.env.now)
+
+pub run::run_turn-returns-in_err-begin_turn-clause-ended : goal.run::run_turn-returns-in_err-begin_turn-clause-ended
+run::run_turn-returns-in_err-begin_turn-clause-ended t c = ap (λ (env : Env). length env.vars) c.in_err-begin_turn.ensures.0
+
+pub run::run_turn-returns-clause-leads : goal.run::run_turn-returns-clause-leads
+run::run_turn-returns-clause-leads t c =
+    let bodies = (bodies_of c.args.program.now.functions.now c.args.program.now.depth) in
+    let s = state c.args.env.now c.args.submits.now in
+    let acts : Acts = λ s turns. row_acts bodies c.args.row.now (declared s c.args.value) turns in
+    leads_by _ _ _ _ _ (ap (λ turns. enter turns (λ turns. scoped acts s turns)) c.in_ok-begin_turn.ensures.0)
+    (scoped_leads acts s c.begin_turn.new.turns c.run_row-answer.result (state c.run_row-answer.new.env c.run_row-answer.new.submits) c.run_row-answer.new.turns c.truncate.new.self
+    (subst (λ env. Leads (row_acts bodies c.args.row.now (state env c.args.submits.now) c.begin_turn.new.turns) c.run_row-answer.result (state c.run_row-answer.new.env c.run_row-answer.new.submits) c.run_row-answer.new.turns) c.in_ok-begin_turn.ensures.1 c.run_row-answer.ensures.leads)
+    (c.truncate.ensures ∙ ap (λ n. take n c.run_row-answer.new.env.vars) c.len-count.ensures))
+
+pub run::run_turn-returns-clause-kept : goal.run::run_turn-returns-clause-kept
+run::run_turn-returns-clause-kept t c = keeps_ended c.args.env.now _ c.truncate.new.self (keeps_then c.args.env.now _ _ (subst (Keeps c.args.env.now) (sym c.in_ok-begin_turn.ensures.1) (keeps_declared c.args.env.now c.args.value _ refl)) c.run_row-answer.ensures.kept) (c.truncate.ensures ∙ ap (λ n. take n c.run_row-answer.new.env.vars) c.len-count.ensures)
+
+pub run::run_turn-returns-clause-ended : goal.run::run_turn-returns-clause-ended
+run::run_turn-returns-clause-ended t c = vars_ended c.args.env.now _ c.truncate.new.self (keeps_then c.args.env.now _ _ (subst (Keeps c.args.env.now) (sym c.in_ok-begin_turn.ensures.1) (keeps_declared c.args.env.now c.args.value _ refl)) c.run_row-answer.ensures.kept) (c.truncate.ensures ∙ ap (λ n. take n c.run_row-answer.new.env.vars) c.len-count.ensures)
+
+pub run::run_statement-returns-in_default-clause-leads : goal.run::run_statement-returns-in_default-clause-leads
+run::run_statement-returns-in_default-clause-leads t c = tt
+
+pub run::run_statement-returns-in_default-clause-kept : goal.run::run_statement-returns-in_default-clause-kept
+run::run_statement-returns-in_default-clause-kept t c = keeps_all c.args.env.now
+
+pub run::run_statement-returns-in-Evaluate-clause-kept : goal.run::run_statement-returns-in-Evaluate-clause-kept
+run::run_statement-returns-in-Evaluate-clause-kept t c = keeps_all c.args.env.now
+
+pub run::run_statement-returns-in-Call-clause-kept : goal.run::run_statement-returns-in-Call-clause-kept
+run::run_statement-returns-in-Call-clause-kept t c = keeps_all c.args.env.now
+
+pub run::run_statement-returns-in-Break-clause-kept : goal.run::run_statement-returns-in-Break-clause-kept
+run::run_statement-returns-in-Break-clause-kept t c = keeps_all c.args.env.now
+
+pub run::run_statement-returns-in-Continue-clause-kept : goal.run::run_statement-returns-in-Continue-clause-kept
+run::run_statement-returns-in-Continue-clause-kept t c = keeps_all c.args.env.now
+
+pub run::run_statement-returns-in-None-clause-kept : goal.run::run_statement-returns-in-None-clause-kept
+run::run_statement-returns-in-None-clause-kept t c = keeps_all c.args.env.now
+
+pub run::run_statement-returns-in-Some-result-clause-kept : goal.run::run_statement-returns-in-Some-result-clause-kept
+run::run_statement-returns-in-Some-result-clause-kept t c = keeps_all c.args.env.now
+
+pub run::run_statement-returns-in-Submit-clause-kept : goal.run::run_statement-returns-in-Submit-clause-kept
+run::run_statement-returns-in-Submit-clause-kept t c = keeps_all c.args.env.now
+
+pub run::run_statement-returns-in-SubmitWindow-clause-kept : goal.run::run_statement-returns-in-SubmitWindow-clause-kept
+run::run_statement-returns-in-SubmitWindow-clause-kept t c = keeps_all c.args.env.now
+
+pub run::run_statement-returns-in-Block-clause-kept : goal.run::run_statement-returns-in-Block-clause-kept
+run::run_statement-returns-in-Block-clause-kept t c = c.run_scoped.ensures.kept
+
+pub run::run_statement-returns-in-Declare-clause-kept : goal.run::run_statement-returns-in-Declare-clause-kept
+run::run_statement-returns-in-Declare-clause-kept t c = c.declare.ensures.kept
+
+pub run::run_statement-returns-in-Change-clause-kept : goal.run::run_statement-returns-in-Change-clause-kept
+run::run_statement-returns-in-Change-clause-kept t c = c.run_change.ensures.kept
+
+pub run::run_statement-returns-in-If-clause-kept : goal.run::run_statement-returns-in-If-clause-kept
+run::run_statement-returns-in-If-clause-kept t c = c.run_if.ensures.kept
+
+pub run::run_statement-returns-in-While-clause-kept : goal.run::run_statement-returns-in-While-clause-kept
+run::run_statement-returns-in-While-clause-kept t c = c.run_while.ensures.kept
+
+pub run::run_statement-returns-in-For-clause-kept : goal.run::run_statement-returns-in-For-clause-kept
+run::run_statement-returns-in-For-clause-kept t c = c.run_for.ensures.kept
+
+pub run::run_statement-returns-in-Break-clause-leads : goal.run::run_statement-returns-in-Break-clause-leads
+run::run_statement-returns-in-Break-clause-leads t c = ap (λ x. statement_acts (bodies_of c.args.program.now.functions.now c.args.program.now.depth) x (state c.args.env.now c.args.submits.now) c.args.turns.now) c.in-Break.is ∙ break_is (bodies_of c.args.program.now.functions.now c.args.program.now.depth) (state c.args.env.now c.args.submits.now) c.args.turns.now
+
+pub run::run_statement-returns-in-Continue-clause-leads : goal.run::run_statement-returns-in-Continue-clause-leads
+run::run_statement-returns-in-Continue-clause-leads t c = ap (λ x. statement_acts (bodies_of c.args.program.now.functions.now c.args.program.now.depth) x (state c.args.env.now c.args.submits.now) c.args.turns.now) c.in-Continue.is ∙ continue_is (bodies_of c.args.program.now.functions.now c.args.program.now.depth) (state c.args.env.now c.args.submits.now) c.args.turns.now
+
+pub run::run_statement-returns-in-None-clause-leads : goal.run::run_statement-returns-in-None-clause-leads
+run::run_statement-returns-in-None-clause-leads t c = ap (λ x. statement_acts (bodies_of c.args.program.now.functions.now c.args.program.now.depth) x (state c.args.env.now c.args.submits.now) c.args.turns.now) (c.in-Return.is ∙ (λ i. S.Return (c.in-None.is i))) ∙ return_is (bodies_of c.args.program.now.functions.now c.args.program.now.depth) None (state c.args.env.now c.args.submits.now) c.args.turns.now
+
+pub run::run_statement-returns-in-Block-clause-leads : goal.run::run_statement-returns-in-Block-clause-leads
+run::run_statement-returns-in-Block-clause-leads t c = leads_by _ _ _ _ _ (ap (λ x. statement_acts (bodies_of c.args.program.now.functions.now c.args.program.now.depth) x (state c.args.env.now c.args.submits.now) c.args.turns.now) (c.in-Block.is ∙ (λ i. S.Block (sym c.as_slice.ensures i))) ∙ block_is (bodies_of c.args.program.now.functions.now c.args.program.now.depth) c.as_slice.result.now (state c.args.env.now c.args.submits.now) c.args.turns.now) c.run_scoped.ensures.leads
+
+pub run::run_if-returns-in_err-is_true-clause-kept : goal.run::run_if-returns-in_err-is_true-clause-kept
+run::run_if-returns-in_err-is_true-clause-kept t c = c.loop-arm.invariant.kept
+
+pub run::run_while-returns-in_err-is_true-clause-kept : goal.run::run_while-returns-in_err-is_true-clause-kept
+run::run_while-returns-in_err-is_true-clause-kept t c = c.rounds.invariant.kept
+
+pub run::run_while-returns-in_err-enter-clause-kept : goal.run::run_while-returns-in_err-enter-clause-kept
+run::run_while-returns-in_err-enter-clause-kept t c = c.rounds.invariant.kept
+
+pub run::run_while-returns-clause-kept : goal.run::run_while-returns-clause-kept
+run::run_while-returns-clause-kept t c = c.rounds.invariant.kept
+
+pub run::run_row-returns-clause-kept : goal.run::run_row-returns-clause-kept
+run::run_row-returns-clause-kept t c = c.loop-statement.invariant.kept
+
+pub run::run_over-returns-clause-kept : goal.run::run_over-returns-clause-kept
+run::run_over-returns-clause-kept t c = c.values.invariant.kept
+
+pub evaluate::select-loop-taking-init : goal.evaluate::select-loop-taking-init
+evaluate::select-loop-taking-init t c = record {
+  comes = select_comes (calls_of c.args.context.now.functions.now c.args.context.now.depth) (world_of c.args.context.now.env.now) (C.Select c.args.base.now c.args.takings.now) c.args.turns.now c.args.base.now c.args.takings.now refl _ _ c.in_ok-first.ensures;
+  others = takings_of_base c.evaluation_law.ensures.never_stuck c.args.context.now.functions.now c.args.context.now.env.now c.args.context.now.depth (C.Select c.args.base.now c.args.takings.now) c.requires c.args.base.now c.args.takings.now refl c.args.turns.now _ _ c.in_ok-first.ensures;
+}
+
+pub evaluate::select-taken-requires : goal.evaluate::select-taken-requires
+evaluate::select-taken-requires t c = (
+  omega arith,
+  first_is_fit c.args.context.now.functions.now c.args.context.now.env.now c.args.takings.now c.loop-taking.taking-index (held c.loop-taking.value) c.loop-taking.invariant.others
+      c.taking-item.result c.loop-taking-test.true c.taking-item.is,
+)
+
+pub evaluate::select-loop-taking-preserved : goal.evaluate::select-loop-taking-preserved
+evaluate::select-loop-taking-preserved t c = record {
+  comes = c.loop-taking.invariant.comes
+      ∙ takings_on (calls_of c.args.context.now.functions.now c.args.context.now.depth) (world_of c.args.context.now.env.now) c.args.takings.now c.loop-taking.taking-index (held c.loop-taking.value) c.loop-taking.turns
+      c.taking-item.result c.loop-taking-test.true c.taking-item.is _ _ c.in_ok-value.ensures;
+  others = others_are_fit c.args.context.now.functions.now c.args.context.now.env.now c.args.takings.now c.loop-taking.taking-index (held c.loop-taking.value) c.loop-taking.invariant.others
+      c.taking-item.result c.loop-taking-test.true c.taking-item.is c.evaluation_law.ensures.never_stuck c.args.context.now.depth c.loop-taking.turns _ _ c.in_ok-value.ensures;
+}
+
+pub evaluate::select-returns : goal.evaluate::select-returns
+evaluate::select-returns t c =
+    c.loop-taking.invariant.comes
+    ∙ takings_past (calls_of c.args.context.now.functions.now c.args.context.now.depth) (world_of c.args.context.now.env.now) c.args.takings.now c.loop-taking.taking-index (held c.loop-taking.value) c.loop-taking.turns c.loop-taking-test.false
+
+pub evaluate::select-returns-in_err-value : goal.evaluate::select-returns-in_err-value
+evaluate::select-returns-in_err-value t c =
+    stops_held _ _ _ _ c.from_residual-in_err-value.ensures.1
+    (stops_by _ _ _ c.loop-taking.invariant.comes
+    (takings_stop (calls_of c.args.context.now.functions.now c.args.context.now.depth) (world_of c.args.context.now.env.now) c.args.takings.now c.loop-taking.taking-index (held c.loop-taking.value) c.loop-taking.turns
+    c.taking-item.result c.loop-taking-test.true c.taking-item.is _ c.in_err-value.ensures))
+
+pub evaluate::map-loop-pair-init : goal.evaluate::map-loop-pair-init
+evaluate::map-loop-pair-init t c = record {
+  comes = pairs_start (calls_of c.args.context.now.functions.now c.args.context.now.depth) (world_of c.args.context.now.env.now) c.args.pairs.now c.new-made.result c.args.turns.now c.new-made.ensures;
+  sorted = ap are_pairs c.new-made.ensures;
+}
+
+pub evaluate::map-own_value-requires : goal.evaluate::map-own_value-requires
+evaluate::map-own_value-requires t c = (
+  omega arith,
+  (map_is_fit c.args.context.now.functions.now c.args.context.now.env.now (C.Map c.args.pairs.now) c.requires c.args.pairs.now refl c.loop-pair.pair-index c.pair-item.result
+      (slice_get_read c.args.pairs.now (length c.args.pairs.now) c.loop-pair.pair-index c.pair-item.result refl c.loop-pair-test.true c.pair-item.is)).0,
+)
+
+pub evaluate::map-own_value-requires-in-loop-pair : goal.evaluate::map-own_value-requires-in-loop-pair
+evaluate::map-own_value-requires-in-loop-pair t c = (
+  omega arith,
+  (map_is_fit c.args.context.now.functions.now c.args.context.now.env.now (C.Map c.args.pairs.now) c.requires c.args.pairs.now refl c.loop-pair.pair-index c.pair-item.result
+      (slice_get_read c.args.pairs.now (length c.args.pairs.now) c.loop-pair.pair-index c.pair-item.result refl c.loop-pair-test.true c.pair-item.is)).1,
+)
+
+pub evaluate::map-put_at_key-requires : goal.evaluate::map-put_at_key-requires
+evaluate::map-put_at_key-requires t c = c.loop-pair.invariant.sorted
+
+pub evaluate::map-loop-pair-preserved : goal.evaluate::map-loop-pair-preserved
+evaluate::map-loop-pair-preserved t c = let put = c.in_ok-put_at_key.ensures _ _ c.own_value-in-loop-pair.ensures in record {
+  comes = c.loop-pair.invariant.comes
+      ∙ pairs_on (calls_of c.args.context.now.functions.now c.args.context.now.depth) (world_of c.args.context.now.env.now) c.args.pairs.now c.loop-pair.pair-index c.loop-pair.made c.loop-pair.turns
+      c.pair-item.result c.loop-pair-test.true c.pair-item.is _ _ _ _ _ c.in_ok-key.ensures put.1 put.2;
+  sorted = put.3;
+}
+
+pub evaluate::map-returns : goal.evaluate::map-returns
+evaluate::map-returns t c =
+    map_answers (calls_of c.args.context.now.functions.now c.args.context.now.depth) (world_of c.args.context.now.env.now) (C.Map c.args.pairs.now) c.args.turns.now c.args.pairs.now refl (Ok (O.Own (V.Map c.loop-pair.made))) c.loop-pair.turns
+    (ap (λ o. followed o (λ m turns. Done (V.Map m) turns))
+    (c.loop-pair.invariant.comes
+    ∙ pairs_past (calls_of c.args.context.now.functions.now c.args.context.now.depth) (world_of c.args.context.now.env.now) c.args.pairs.now c.loop-pair.pair-index c.loop-pair.made c.loop-pair.turns c.loop-pair-test.false))
+
+pub evaluate::map-returns-in_err-key : goal.evaluate::map-returns-in_err-key
+evaluate::map-returns-in_err-key t c =
+    map_answers (calls_of c.args.context.now.functions.now c.args.context.now.depth) (world_of c.args.context.now.env.now) (C.Map c.args.pairs.now) c.args.turns.now c.args.pairs.now refl _ _
+    (stops_held _ _ _ _ c.from_residual.ensures.1 (followed_stops _ (λ m turns. Done (V.Map m) turns) _
+    (stops_by _ _ _ c.loop-pair.invariant.comes
+    (pairs_stop_at_key (calls_of c.args.context.now.functions.now c.args.context.now.depth) (world_of c.args.context.now.env.now) c.args.pairs.now c.loop-pair.pair-index c.loop-pair.made c.loop-pair.turns
+    c.pair-item.result c.loop-pair-test.true c.pair-item.is _ c.in_err-key.ensures))))
+
+pub evaluate::map-returns-in_err-put_at_key : goal.evaluate::map-returns-in_err-put_at_key
+evaluate::map-returns-in_err-put_at_key t c =
+    map_answers (calls_of c.args.context.now.functions.now c.args.context.now.depth) (world_of c.args.context.now.env.now) (C.Map c.args.pairs.now) c.args.turns.now c.args.pairs.now refl _ _
+    (stops_held _ _ _ _ c.from_residual-in_err-put_at_key.ensures.1 (followed_stops _ (λ m turns. Done (V.Map m) turns) _
+    (stops_by _ _ _ c.loop-pair.invariant.comes
+    (pairs_stop_at_value (calls_of c.args.context.now.functions.now c.args.context.now.depth) (world_of c.args.context.now.env.now) c.args.pairs.now c.loop-pair.pair-index c.loop-pair.made c.loop-pair.turns
+    c.pair-item.result c.loop-pair-test.true c.pair-item.is _ _ _ c.in_ok-key.ensures (c.in_err-put_at_key.ensures _ _ c.own_value-in-loop-pair.ensures)))))
+
+pub evaluate::built_in-eval_at-first-requires : goal.evaluate::built_in-eval_at-first-requires
+evaluate::built_in-eval_at-first-requires t c = (
+  omega arith,
+  let within : 0 < length c.args.codes.now = omega arith in
+      built_in_is_fit c.args.context.now.functions.now c.args.context.now.env.now (C.BuiltIn c.args.call c.args.codes.now) c.requires c.args.call c.args.codes.now refl 0 c.first-item.result
+      (slice_get_read c.args.codes.now (length c.args.codes.now) 0 c.first-item.result refl within c.first-item.is),
+)
+
+pub evaluate::built_in-call_with_one-requires : goal.evaluate::built_in-call_with_one-requires
+evaluate::built_in-call_with_one-requires t c = λ h is.
+    built_in_of_arguments c.evaluation_law.ensures.never_stuck c.args.context.now.functions.now c.args.context.now.env.now c.args.context.now.depth (C.BuiltIn c.args.call c.args.codes.now) c.requires c.args.call c.args.codes.now refl c.args.turns.now _ _
+    (one_value (calls_of c.args.context.now.functions.now c.args.context.now.depth) (world_of c.args.context.now.env.now) c.args.codes.now c.args.turns.now c.first-item.result (is_one c.args.codes.now c.first-item.result c.in-len1.len_at_least c.in-len1.len_below c.first-item.is) _ _ (subst (λ r. AnswersHeld (code_value (calls_of c.args.context.now.functions.now c.args.context.now.depth) c.first-item.result (world_of c.args.context.now.env.now) c.args.turns.now) r c.eval_at-first.new.turns) is c.eval_at-first.ensures))
+
+pub evaluate::built_in-returns-in-len1 : goal.evaluate::built_in-returns-in-len1
+evaluate::built_in-returns-in-len1 t c =
+    built_in_answers (calls_of c.args.context.now.functions.now c.args.context.now.depth) (world_of c.args.context.now.env.now) (C.BuiltIn c.args.call c.args.codes.now) c.args.turns.now c.args.call c.args.codes.now refl _ _
+    (c.owned.ensures.answered _ _
+    (answers_by _ _ _ _
+    (with_one (calls_of c.args.context.now.functions.now c.args.context.now.depth) (world_of c.args.context.now.env.now) c.args.call c.args.codes.now c.args.turns.now c.first-item.result (is_one c.args.codes.now c.first-item.result c.in-len1.len_at_least c.in-len1.len_below c.first-item.is))
+    (c.call_with_one.ensures _ _ c.eval_at-first.ensures)))
+
+pub evaluate::built_in-eval_at-requires : goal.evaluate::built_in-eval_at-requires
+evaluate::built_in-eval_at-requires t c = (
+  omega arith,
+  let within : 0 < length c.args.codes.now = omega arith in
+      built_in_is_fit c.args.context.now.functions.now c.args.context.now.env.now (C.BuiltIn c.args.call c.args.codes.now) c.requires c.args.call c.args.codes.now refl 0 c.first-item-then-codes-lt3.result
+      (slice_get_read c.args.codes.now (length c.args.codes.now) 0 c.first-item-then-codes-lt3.result refl within c.first-item-then-codes-lt3.is),
+)
+
+pub evaluate::built_in-eval_at-second-requires : goal.evaluate::built_in-eval_at-second-requires
+evaluate::built_in-eval_at-second-requires t c = (
+  omega arith,
+  let within : 1 < length c.args.codes.now = omega arith in
+      built_in_is_fit c.args.context.now.functions.now c.args.context.now.env.now (C.BuiltIn c.args.call c.args.codes.now) c.requires c.args.call c.args.codes.now refl 1 c.second-item.result
+      (slice_get_read c.args.codes.now (length c.args.codes.now) 1 c.second-item.result refl within c.second-item.is),
+)
+
+pub evaluate::built_in-returns-in_err-first-in-len2 : goal.evaluate::built_in-returns-in_err-first-in-len2
+evaluate::built_in-returns-in_err-first-in-len2 t c =
+    built_in_answers (calls_of c.args.context.now.functions.now c.args.context.now.depth) (world_of c.args.context.now.env.now) (C.BuiltIn c.args.call c.args.codes.now) c.args.turns.now c.args.call c.args.codes.now refl _ _
+    (stops_held _ _ _ _ c.from_residual.ensures.1 (called_stops (calls_of c.args.context.now.functions.now c.args.context.now.depth) (world_of c.args.context.now.env.now) c.args.call c.args.codes.now c.args.turns.now _
+    (first_of_two_stops (calls_of c.args.context.now.functions.now c.args.context.now.depth) (world_of c.args.context.now.env.now) c.args.codes.now c.args.turns.now c.first-item-then-codes-lt3.result c.second-item.result (are_two c.args.codes.now c.first-item-then-codes-lt3.result c.second-item.result c.in-len2.len_at_least c.in-len2.len_below c.first-item-then-codes-lt3.is c.second-item.is) _ c.in_err-first-in-len2.ensures)))
+
+pub evaluate::built_in-call_with_two-requires : goal.evaluate::built_in-call_with_two-requires
+evaluate::built_in-call_with_two-requires t c = λ h is.
+    built_in_of_arguments c.evaluation_law.ensures.never_stuck c.args.context.now.functions.now c.args.context.now.env.now c.args.context.now.depth (C.BuiltIn c.args.call c.args.codes.now) c.requires c.args.call c.args.codes.now refl c.args.turns.now _ _
+    (two_values (calls_of c.args.context.now.functions.now c.args.context.now.depth) (world_of c.args.context.now.env.now) c.args.codes.now c.args.turns.now c.first-item-then-codes-lt3.result c.second-item.result (are_two c.args.codes.now c.first-item-then-codes-lt3.result c.second-item.result c.in-len2.len_at_least c.in-len2.len_below c.first-item-then-codes-lt3.is c.second-item.is) _ _ c.in_ok-first-in-len2.ensures _ _ (subst (λ r. AnswersHeld (code_value (calls_of c.args.context.now.functions.now c.args.context.now.depth) c.second-item.result (world_of c.args.context.now.env.now) c.eval_at.new.turns) r c.eval_at-second.new.turns) is c.eval_at-second.ensures))
+
+pub evaluate::built_in-returns-in_ok-first-in-len2 : goal.evaluate::built_in-returns-in_ok-first-in-len2
+evaluate::built_in-returns-in_ok-first-in-len2 t c =
+    built_in_answers (calls_of c.args.context.now.functions.now c.args.context.now.depth) (world_of c.args.context.now.env.now) (C.BuiltIn c.args.call c.args.codes.now) c.args.turns.now c.args.call c.args.codes.now refl _ _
+    (c.owned-in-len2.ensures.answered _ _
+    (answers_by _ _ _ _
+    (with_two (calls_of c.args.context.now.functions.now c.args.context.now.depth) (world_of c.args.context.now.env.now) c.args.call c.args.codes.now c.args.turns.now c.first-item-then-codes-lt3.result c.second-item.result (are_two c.args.codes.now c.first-item-then-codes-lt3.result c.second-item.result c.in-len2.len_at_least c.in-len2.len_below c.first-item-then-codes-lt3.is c.second-item.is) _ _ c.in_ok-first-in-len2.ensures)
+    (c.call_with_two.ensures _ _ c.eval_at-second.ensures)))
+
+pub evaluate::built_in-eval_at-requires-in-len3 : goal.evaluate::built_in-eval_at-requires-in-len3
+evaluate::built_in-eval_at-requires-in-len3 t c = (
+  omega arith,
+  let within : 0 < length c.args.codes.now = omega arith in
+      built_in_is_fit c.args.context.now.functions.now c.args.context.now.env.now (C.BuiltIn c.args.call c.args.codes.now) c.requires c.args.call c.args.codes.now refl 0 c.first-item-then-codes-lt4.result
+      (slice_get_read c.args.codes.now (length c.args.codes.now) 0 c.first-item-then-codes-lt4.result refl within c.first-item-then-codes-lt4.is),
+)
+
+pub evaluate::built_in-eval_at-requires-in-len3-2 : goal.evaluate::built_in-eval_at-requires-in-len3-2
+evaluate::built_in-eval_at-requires-in-len3-2 t c = (
+  omega arith,
+  let within : 1 < length c.args.codes.now = omega arith in
+      built_in_is_fit c.args.context.now.functions.now c.args.context.now.env.now (C.BuiltIn c.args.call c.args.codes.now) c.requires c.args.call c.args.codes.now refl 1 c.second-item-then-codes-lt4.result
+      (slice_get_read c.args.codes.now (length c.args.codes.now) 1 c.second-item-then-codes-lt4.result refl within c.second-item-then-codes-lt4.is),
+)
+
+pub evaluate::built_in-eval_at-third-requires : goal.evaluate::built_in-eval_at-third-requires
+evaluate::built_in-eval_at-third-requires t c = (
+  omega arith,
+  let within : 2 < length c.args.codes.now = omega arith in
+      built_in_is_fit c.args.context.now.functions.now c.args.context.now.env.now (C.BuiltIn c.args.call c.args.codes.now) c.requires c.args.call c.args.codes.now refl 2 c.third-item.result
+      (slice_get_read c.args.codes.now (length c.args.codes.now) 2 c.third-item.result refl within c.third-item.is),
+)
+
+pub evaluate::built_in-returns-in_err-first-in-len3 : goal.evaluate::built_in-returns-in_err-first-in-len3
+evaluate::built_in-returns-in_err-first-in-len3 t c =
+    built_in_answers (calls_of c.args.context.now.functions.now c.args.context.now.depth) (world_of c.args.context.now.env.now) (C.BuiltIn c.args.call c.args.codes.now) c.args.turns.now c.args.call c.args.codes.now refl _ _
+    (stops_held _ _ _ _ c.from_residual-in_err-first-in-len3.ensures.1 (called_stops (calls_of c.args.context.now.functions.now c.args.context.now.depth) (world_of c.args.context.now.env.now) c.args.call c.args.codes.now c.args.turns.now _
+    (first_of_three_stops (calls_of c.args.context.now.functions.now c.args.context.now.depth) (world_of c.args.context.now.env.now) c.args.codes.now c.args.turns.now c.first-item-then-codes-lt4.result c.second-item-then-codes-lt4.result c.third-item.result (are_three c.args.codes.now c.first-item-then-codes-lt4.result c.second-item-then-codes-lt4.result c.third-item.result c.in-len3.len_at_least c.in-len3.len_below c.first-item-then-codes-lt4.is c.second-item-then-codes-lt4.is c.third-item.is) _ c.in_err-first-in-len3.ensures)))
+
+pub evaluate::built_in-call_with_three-requires : goal.evaluate::built_in-call_with_three-requires
+evaluate::built_in-call_with_three-requires t c = λ h is.
+    built_in_of_arguments c.evaluation_law.ensures.never_stuck c.args.context.now.functions.now c.args.context.now.env.now c.args.context.now.depth (C.BuiltIn c.args.call c.args.codes.now) c.requires c.args.call c.args.codes.now refl c.args.turns.now _ _
+    (three_values (calls_of c.args.context.now.functions.now c.args.context.now.depth) (world_of c.args.context.now.env.now) c.args.codes.now c.args.turns.now c.first-item-then-codes-lt4.result c.second-item-then-codes-lt4.result c.third-item.result (are_three c.args.codes.now c.first-item-then-codes-lt4.result c.second-item-then-codes-lt4.result c.third-item.result c.in-len3.len_at_least c.in-len3.len_below c.first-item-then-codes-lt4.is c.second-item-then-codes-lt4.is c.third-item.is) _ _ c.in_ok-first-in-len3.ensures _ _ c.in-Ok.ensures _ _ (subst (λ r. AnswersHeld (code_value (calls_of c.args.context.now.functions.now c.args.context.now.depth) c.third-item.result (world_of c.args.context.now.env.now) c.eval_at-in-len3-2.new.turns) r c.eval_at-third.new.turns) is c.eval_at-third.ensures))
+
+pub evaluate::built_in-returns-in-Ok : goal.evaluate::built_in-returns-in-Ok
+evaluate::built_in-returns-in-Ok t c =
+    built_in_answers (calls_of c.args.context.now.functions.now c.args.context.now.depth) (world_of c.args.context.now.env.now) (C.BuiltIn c.args.call c.args.codes.now) c.args.turns.now c.args.call c.args.codes.now refl _ _
+    (c.owned-in-Ok.ensures.answered _ _
+    (answers_by _ _ _ _
+    (with_three (calls_of c.args.context.now.functions.now c.args.context.now.depth) (world_of c.args.context.now.env.now) c.args.call c.args.codes.now c.args.turns.now c.first-item-then-codes-lt4.result c.second-item-then-codes-lt4.result c.third-item.result (are_three c.args.codes.now c.first-item-then-codes-lt4.result c.second-item-then-codes-lt4.result c.third-item.result c.in-len3.len_at_least c.in-len3.len_below c.first-item-then-codes-lt4.is c.second-item-then-codes-lt4.is c.third-item.is) _ _ c.in_ok-first-in-len3.ensures _ _ c.in-Ok.ensures)
+    (c.call_with_three.ensures _ _ c.eval_at-third.ensures)))
+
+pub evaluate::built_in-returns-in-Err : goal.evaluate::built_in-returns-in-Err
+evaluate::built_in-returns-in-Err t c =
+    built_in_answers (calls_of c.args.context.now.functions.now c.args.context.now.depth) (world_of c.args.context.now.env.now) (C.BuiltIn c.args.call c.args.codes.now) c.args.turns.now c.args.call c.args.codes.now refl _ _
+    (c.owned-in-Err.ensures.answered _ _
+    (called_stopped (calls_of c.args.context.now.functions.now c.args.context.now.depth) (world_of c.args.context.now.env.now) c.args.call c.args.codes.now c.args.turns.now _ _ c.in-Err.stop c.stopped.ensures
+    (second_of_three_stops (calls_of c.args.context.now.functions.now c.args.context.now.depth) (world_of c.args.context.now.env.now) c.args.codes.now c.args.turns.now c.first-item-then-codes-lt4.result c.second-item-then-codes-lt4.result c.third-item.result (are_three c.args.codes.now c.first-item-then-codes-lt4.result c.second-item-then-codes-lt4.result c.third-item.result c.in-len3.len_at_least c.in-len3.len_below c.first-item-then-codes-lt4.is c.second-item-then-codes-lt4.is c.third-item.is) _ _ c.in_ok-first-in-len3.ensures _ c.in-Err.ensures)))
+
+pub evaluate::built_in-unreachable-requires : goal.evaluate::built_in-unreachable-requires
+evaluate::built_in-unreachable-requires t c =
+    let few = one_to_three c.args.context.now.functions.now c.args.context.now.env.now c.args.call c.args.codes.now c.requires in
+    grind (arith, few.0, few.1)
+
+pub run::run_row-returns-in-Some-clause-leads : goal.run::run_row-returns-in-Some-clause-leads
+run::run_row-returns-in-Some-clause-leads t c =
+    leads_by _ _ _ _ _ c.loop-statement.invariant.comes
+    (row_ended (bodies_of c.args.program.now.functions.now c.args.program.now.depth) c.args.row.now c.loop-statement.statement-index
+    c.statement-item.result c.loop-statement-test.true c.statement-item.is (state c.loop-statement.env c.loop-statement.submits) c.loop-statement.turns
+    _ _ _ c.run_statement-answer.ensures.leads c.in-Some.end c.in-Some.ensures)
+
+pub run::run_row-returns-in-Some-clause-kept : goal.run::run_row-returns-in-Some-clause-kept
+run::run_row-returns-in-Some-clause-kept t c = keeps_then _ _ _ c.loop-statement.invariant.kept c.run_statement-answer.ensures.kept
+
+pub run::run_row-loop-statement-preserved : goal.run::run_row-loop-statement-preserved
+run::run_row-loop-statement-preserved t c =
+    let led = led_to _ c.run_statement-answer.result c.in_default.ensures.0 c.in_default.ensures.1 _ _ c.run_statement-answer.ensures.leads in
+    record {
+      comes = c.loop-statement.invariant.comes ∙ row_on (bodies_of c.args.program.now.functions.now c.args.program.now.depth) c.args.row.now c.loop-statement.statement-index
+          c.statement-item.result c.loop-statement-test.true c.statement-item.is (state c.loop-statement.env c.loop-statement.submits) c.loop-statement.turns
+          _ _ _ led c.in_default.ensures.2;
+      rest = rest_of_row c.args.program.now.functions.now c.args.row.now c.loop-statement.statement-index c.statement-item.result c.loop-statement-test.true c.statement-item.is c.loop-statement.env
+          c.loop-statement.invariant.rest c.evaluation_law.ensures.statements c.args.program.now.depth c.loop-statement.turns _ c.loop-statement.submits _ _ led;
+      kept = keeps_then _ _ _ c.loop-statement.invariant.kept c.run_statement-answer.ensures.kept;
+    }
+
+pub run::run_while-returns-in-Some-clause-leads : goal.run::run_while-returns-in-Some-clause-leads
+run::run_while-returns-in-Some-clause-leads t c =
+    leads_by _ _ _ _ _ c.rounds.invariant.comes
+    (while_ended c.rounds.rounds (bodies_of c.args.program.now.functions.now c.args.program.now.depth) c.args.code.now (scoped (row_acts (bodies_of c.args.program.now.functions.now c.args.program.now.depth) c.args.row.now))
+    (state c.rounds.env c.rounds.submits) c.rounds.turns
+    _ _ c.in_ok-is_true.ensures c.if-branch.true _ c.in_ok-enter.ensures
+    _ _ _ c.run_scoped-answer.ensures.leads c.in-Some.end c.in-Some.ensures)
+
+pub run::run_while-returns-in-Some-clause-kept : goal.run::run_while-returns-in-Some-clause-kept
+run::run_while-returns-in-Some-clause-kept t c = keeps_then _ _ _ c.rounds.invariant.kept c.run_scoped-answer.ensures.kept
+
+pub run::run_while-rounds-preserved : goal.run::run_while-rounds-preserved
+run::run_while-rounds-preserved t c =
+    let led = led_to _ c.run_scoped-answer.result c.in_default.ensures.0 c.in_default.ensures.1 _ _ c.run_scoped-answer.ensures.leads in
+    record {
+      comes = c.rounds.invariant.comes ∙ while_on c.rounds.rounds (bodies_of c.args.program.now.functions.now c.args.program.now.depth) c.args.code.now (scoped (row_acts (bodies_of c.args.program.now.functions.now c.args.program.now.depth) c.args.row.now))
+          (state c.rounds.env c.rounds.submits) c.rounds.turns
+          _ _ c.in_ok-is_true.ensures c.if-branch.true _ c.in_ok-enter.ensures
+          _ _ _ led c.in_default.ensures.2 c.in-Some-checked_sub.left
+          (omega (arith, c.in-Some-checked_sub.ensures.0, c.in-Some-checked_sub.ensures.1));
+      again = loop_after_turn c.args.program.now.functions.now c.evaluation_law.ensures.statements c.args.code.now c.args.row.now c.rounds.env c.rounds.invariant.again c.args.program.now.depth
+          c.enter.new.turns _ c.rounds.submits _ _ led;
+      kept = keeps_then _ _ _ c.rounds.invariant.kept c.run_scoped-answer.ensures.kept;
+    }
+
+pub run::run_over-returns-in-Some-turn_end-clause-leads : goal.run::run_over-returns-in-Some-turn_end-clause-leads
+run::run_over-returns-in-Some-turn_end-clause-leads t c =
+    leads_by _ _ _ _ _ c.values.invariant.comes
+    (over_ended c.values.value-iterator.rest.items c.next.new.self.rest.items c.in-Some.value (row_acts (bodies_of c.args.program.now.functions.now c.args.program.now.depth) c.args.row.now)
+    c.in-Some.ensures.steps.0 (state c.values.env c.values.submits) c.values.turns
+    _ _ _ c.run_turn-answer.ensures.leads c.in-Some-turn_end.end c.in-Some-turn_end.ensures)
+
+pub run::run_over-returns-in-Some-turn_end-clause-kept : goal.run::run_over-returns-in-Some-turn_end-clause-kept
+run::run_over-returns-in-Some-turn_end-clause-kept t c = keeps_then _ _ _ c.values.invariant.kept c.run_turn-answer.ensures.kept
+
+pub run::run_over-values-preserved : goal.run::run_over-values-preserved
+run::run_over-values-preserved t c =
+    let led = led_to _ c.run_turn-answer.result c.in_default.ensures.0 c.in_default.ensures.1 _ _ c.run_turn-answer.ensures.leads in
+    record {
+      comes = c.values.invariant.comes ∙ over_on c.values.value-iterator.rest.items c.next.new.self.rest.items c.in-Some.value (row_acts (bodies_of c.args.program.now.functions.now c.args.program.now.depth) c.args.row.now)
+          c.in-Some.ensures.steps.0 (state c.values.env c.values.submits) c.values.turns _ _ _ led c.in_default.ensures.2;
+      rest = other_turns c.args.program.now.functions.now c.values.value-iterator.rest.items c.next.new.self.rest.items c.in-Some.value c.args.row.now c.values.env c.in-Some.ensures.steps.0
+          c.values.invariant.rest c.evaluation_law.ensures.statements c.args.program.now.depth c.values.turns _ c.values.submits _ _ led;
+      kept = keeps_then _ _ _ c.values.invariant.kept c.run_turn-answer.ensures.kept;
+    }

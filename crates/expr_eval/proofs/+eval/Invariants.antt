@@ -5,9 +5,10 @@ use Rattle.expr_eval.specs.Fitting.{FitTakings}
 use Rattle.spl_value.specs.Pairs.{are_pairs}
 use Rattle.std.proofs.Common.{drop, length, ◌*◌, ◌+◌, ◌≡◌}
 use Rattle.std.specs.Prelude.{IsTrue}
-use Rattle.language_model.specs.Evaluation.{map_of, world_of}
+use Rattle.language_model.specs.Evaluation.{code_value, map_of, world_of}
+use Rattle.spl_tree.specs.declared.code.Code.TheVariants as C
 use Rattle.language_model.specs.Functions.{bodies_of, calls_of}
-use Rattle.language_model.specs.EvaluationLaws.{pair_values, takings_value, values_of}
+use Rattle.language_model.specs.EvaluationLaws.{pair_values, values_of}
 use Rattle.language_model.specs.Outcomes.{Done, followed}
 use Rattle.language_model.specs.Statements.{step_values, steps_taken}
 use Rattle.expr_eval.proofs.StepValues.{steps_from, taken_from, StepsFrom}
@@ -31,14 +32,8 @@ decreases-evaluate::own_value l = 6 * l.room + 1
 abbrev pub decreases-evaluate::eval_all : goal.decreases-evaluate::eval_all
 decreases-evaluate::eval_all l = 6 * l.room + 2
 
-abbrev pub decreases-evaluate::eval_pairs : goal.decreases-evaluate::eval_pairs
-decreases-evaluate::eval_pairs l = 6 * l.room + 2
-
 abbrev pub decreases-evaluate::eval_fields : goal.decreases-evaluate::eval_fields
 decreases-evaluate::eval_fields l = 6 * l.room + 2
-
-abbrev pub decreases-evaluate::taken_all : goal.decreases-evaluate::taken_all
-decreases-evaluate::taken_all l = 6 * l.room + 2
 
 abbrev pub decreases-evaluate::taken : goal.decreases-evaluate::taken
 decreases-evaluate::taken l = 6 * l.room + 1
@@ -48,12 +43,6 @@ decreases-evaluate::is_true l = 6 * l.room + 1
 
 abbrev pub decreases-evaluate::binary : goal.decreases-evaluate::binary
 decreases-evaluate::binary l = 6 * l.room + 2
-
-abbrev pub decreases-evaluate::value_of_built_in : goal.decreases-evaluate::value_of_built_in
-decreases-evaluate::value_of_built_in l = 6 * l.room + 1
-
-abbrev pub decreases-evaluate::value_of_call : goal.decreases-evaluate::value_of_call
-decreases-evaluate::value_of_call l = 6 * l.room + 4
 
 abbrev pub decreases-run::run_function : goal.decreases-run::run_function
 decreases-run::run_function l = 6 * l.room + 3
@@ -131,11 +120,11 @@ invariant-evaluate::eval_all-loop-code l =
     values_of (calls_of l.context.functions.now l.context.depth) l.codes (world_of l.context.env.now) l.fn.turns
     ≡ values_from (calls_of l.context.functions.now l.context.depth) (world_of l.context.env.now) l.codes l.code-index l.values l.turns
 
-abbrev pub invariant-evaluate::eval_pairs-loop-pair : goal.invariant-evaluate::eval_pairs-loop-pair
-invariant-evaluate::eval_pairs-loop-pair l = record {
+abbrev pub invariant-evaluate::map-loop-pair : goal.invariant-evaluate::map-loop-pair
+invariant-evaluate::map-loop-pair l = record {
   comes : followed (pair_values (calls_of l.context.functions.now l.context.depth) l.pairs (world_of l.context.env.now) l.fn.turns) (λ ps left. Done (map_of ps) left)
-      ≡ pairs_from (calls_of l.context.functions.now l.context.depth) (world_of l.context.env.now) l.pairs l.pair-index l.map l.turns;
-  sorted : IsTrue (are_pairs l.map);
+      ≡ pairs_from (calls_of l.context.functions.now l.context.depth) (world_of l.context.env.now) l.pairs l.pair-index l.made l.turns;
+  sorted : IsTrue (are_pairs l.made);
 }
 
 abbrev pub invariant-evaluate::eval_fields-loop-field : goal.invariant-evaluate::eval_fields-loop-field
@@ -144,9 +133,9 @@ invariant-evaluate::eval_fields-loop-field l = record {
   long : length l.values ≡ length l.fields;
 }
 
-abbrev pub invariant-evaluate::taken_all-loop-taking : goal.invariant-evaluate::taken_all-loop-taking
-invariant-evaluate::taken_all-loop-taking l = record {
-  comes : takings_value (calls_of l.context.functions.now l.context.depth) l.takings (held l.fn.first) (world_of l.context.env.now) l.fn.turns
+abbrev pub invariant-evaluate::select-loop-taking : goal.invariant-evaluate::select-loop-taking
+invariant-evaluate::select-loop-taking l = record {
+  comes : code_value (calls_of l.context.functions.now l.context.depth) (C.Select l.base l.takings) (world_of l.context.env.now) l.fn.turns
       ≡ takings_from (calls_of l.context.functions.now l.context.depth) (world_of l.context.env.now) l.takings l.taking-index (held l.value) l.turns;
   others : FitTakings l.context.functions.now (drop l.taking-index l.takings) l.context.env.now (held l.value);
 }
