@@ -6,3 +6,5 @@ pub mod AnswerSteps
 pub mod LastStreams
 pub mod PortHeads
 pub mod AlikeStreams
+pub mod GrownRows
+pub mod OutputRows
