@@ -1,4 +1,4 @@
-use Rattle.std.proofs.Common.{◌+◌, ap, ◌∙◌, drop}
+use Rattle.std.proofs.Common.{◌+◌, ap, sym, ◌∙◌, drop}
 use Rattle.std.specs.Prelude.{filter_map}
 use Rattle.std.specs.List.{cons_option}
 use Rattle.std.specs.Option.{option_copied}
@@ -20,3 +20,14 @@ loop-part-preserved g c =
           ∙ ap first_of (passes.2 rest)
           ∙ ap (λ o. first_of (cons_option (option_copied o) (again passes.0 rest))) c.in_default.is,
     )
+
+pub returns-in-Some : goal.returns-in-Some
+returns-in-Some g c =
+    let before = c.loop-part.invariant in
+    let passes = c.in_ok-name.ensures before.0 before.1 in
+    let own = g.T.Declares.own in
+    let rest = filter_map own (drop (c.loop-part.part-index + 1) c.args.row.now) in
+    sym (before.2
+    ∙ ap (λ r. first_of (again before.0 (filter_map own r))) (rest_at c.args.row.now c.loop-part.part-index c.part-item.result c.loop-part-test.true c.part-item.is)
+    ∙ ap first_of (passes.2 rest)
+    ∙ ap (λ o. first_of (cons_option (option_copied o) (again passes.0 rest))) c.in-Some.is)
