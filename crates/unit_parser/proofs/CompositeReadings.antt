@@ -1,5 +1,5 @@
 -- Rules that go on as others do, and the rests of the rules of composites after a name.
-use Rattle.std.proofs.Common.{◌≡◌, ◌∙◌, ℕ, zero, suc, ◌+◌, ◌<◌, ◌≤◌, Bool, true, false, if◌then◌else◌, List, [], ◌∷◌, ◌++◌, length, Option, Err, refl, sym, ap, subst, arith}
+use Rattle.std.proofs.Common.{◌≡◌, ◌∙◌, ℕ, zero, suc, ◌<◌, ◌≤◌, Bool, true, false, if◌then◌else◌, List, [], ◌∷◌, ◌++◌, length, Option, Err, refl, sym, ap, subst, arith}
 use Rattle.spl_tree.specs.declared.keyword.Keyword.TheVariants as K
 use Rattle.spl_tree.specs.declared.symbol.Symbol.TheVariants as S
 use Rattle.spl_tree.specs.declared.token.Token.{Token}

@@ -1,5 +1,5 @@
 -- What is answered of the tokens of a program is one thing.
-use Rattle.std.proofs.Common.{◌≡◌, ◌∙◌, inl, inr, ◌-◌, take, drop, Some, Ok, Err, refl, sym, ap, arith}
+use Rattle.std.proofs.Common.{◌≡◌, ◌∙◌, inl, inr, take, drop, Some, Ok, Err, refl, sym, ap}
 use Rattle.spl_tree.specs.UnitGrammar.{SpellsUnit}
 use Rattle.expr_parser.specs.declared.answer.SyntaxAnswer.TheVariants as A
 use Rattle.expr_parser.proofs.PhraseLaws.{longest_one}

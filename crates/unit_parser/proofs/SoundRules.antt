@@ -1,13 +1,12 @@
 -- How the rules of units lead to phrases.
 use Rattle.std.proofs.Common.{◌≡◌, Bool, true, List, [], ◌∷◌, ◌++◌, Some, refl, append_assoc, append-nil}
-use Rattle.spl_tree.specs.declared.expression.Step.{Step}
 use Rattle.spl_tree.specs.declared.keyword.Keyword.{Keyword}
 use Rattle.spl_tree.specs.declared.keyword.Keyword.TheVariants as K
 use Rattle.spl_tree.specs.declared.symbol.Symbol.{Symbol}
 use Rattle.spl_tree.specs.declared.symbol.Symbol.TheVariants as S
 use Rattle.spl_tree.specs.declared.token.Token.{Token}
 use Rattle.spl_tree.specs.declared.token.TokenKind.TheVariants as T
-use Rattle.spl_tree.specs.Grammar.{Expr, Is, Names}
+use Rattle.spl_tree.specs.Grammar.{Is, Names}
 use Rattle.spl_tree.specs.Phrases.{Phrase, IsKeyword, Row, more, Separated, first, next}
 use Rattle.spl_tree.specs.TypeGrammar.{TypeExpr, SpellsType}
 use Rattle.spl_tree.specs.StatementGrammar.{assignment_of}

@@ -11,7 +11,6 @@ use Rattle.spl_tree.specs.Grammar.{placed}
 use Rattle.spl_tree.specs.TypeGrammar.{SpellsType, boolean, rstring, int, left_out, name}
 use Rattle.spl_tree.specs.StatementGrammar.{assignment_of}
 use Rattle.statement_parser.specs.Lines.{keyword_type, type_kind, is_type, type_of, dollar_kind, is_dollar, is_assignment, assignment_at}
-use Rattle.statement_parser.proofs.CompleteParts.{word_is, same_word}
 use Rattle.expr_parser.proofs.TestLaws.{unwrap_or-is_some}
 
 -- a type by itself

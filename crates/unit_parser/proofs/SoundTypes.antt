@@ -7,8 +7,7 @@ use Rattle.spl_tree.specs.declared.shape.TypeKind.TheVariants as Y
 use Rattle.spl_tree.specs.declared.symbol.Symbol.{Symbol}
 use Rattle.spl_tree.specs.declared.symbol.Symbol.TheVariants as S
 use Rattle.spl_tree.specs.declared.token.Token.{Token}
-use Rattle.spl_tree.specs.Grammar as grammar
-use Rattle.spl_tree.specs.Grammar.{placed, Is, Items}
+use Rattle.spl_tree.specs.Grammar.{placed, Is}
 use Rattle.spl_tree.specs.Phrases.{IsKeyword}
 use Rattle.spl_tree.specs.TypeGrammar.{TypeExpr, named, SpellsType, list, map, tuple, SpellsAttributes, first_attribute, next_attribute, SpellsShape, plain, attributes}
 use Rattle.spl_tree.specs.StatementGrammar.{BeginsAt, begins}
@@ -20,7 +19,7 @@ use Rattle.expr_parser.proofs.Sound as sound
 use Rattle.statement_parser.specs.Lines as lines
 use Rattle.statement_parser.specs.Lines.{rule}
 use Rattle.unit_parser.proofs.SoundPhrases.{Leading, SpellsAttribute, attribute, Phrases}
-use Rattle.unit_parser.proofs.SoundSamples.{has, listing_closed}
+use Rattle.unit_parser.proofs.SoundSamples.{has}
 use Rattle.unit_parser.proofs.SoundRules.{LeadsTo, leads_lifted, ended, called, last, stops, comes_symbol, comes_name, may_symbol, may_name, may_type}
 use Rattle.unit_parser.proofs.CompleteTypes.{type_at}
 

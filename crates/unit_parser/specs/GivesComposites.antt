@@ -24,6 +24,12 @@ other_ports_rule word =
     look (is Y.Semicolon) (λ _. expect_word word (call (Ports []) (λ ps. expect Y.RightParen (done ps))))
     (expect Y.RightParen (done []))
 
+-- the ports after the first word of a head, and those after the other word
+abbrev pub both_ports_rule : Keyword → R (List HeadPort × List HeadPort)
+both_ports_rule word =
+    call (Ports []) (λ ps. look (is Y.Semicolon) (λ _. expect_word word (call (Ports []) (λ qs. expect Y.RightParen (done (ps, qs)))))
+    (expect Y.RightParen (done (ps, []))))
+
 -- the names of a namespace and the `;` come first, with these tokens after them
 abbrev pub PassesNames : List Token → Result (Bor (List Token)) Stop → Type 0
 PassesNames ts (Ok rest) = Reads rule Namespace ts (Took tt rest.now)

@@ -1,5 +1,6 @@
 -- What calls answer that read parts of a line, against parts of its rule.
-use Rattle.std.specs.Prelude.{List, Option}
+use Rattle.std.specs.Prelude.{List, [], Option}
+use Rattle.spl_tree.specs.declared.expression.Field.{Field}
 use Rattle.spl_tree.specs.declared.expression.Placed.{Placed}
 use Rattle.spl_tree.specs.declared.keyword.Keyword.TheVariants as K
 use Rattle.spl_tree.specs.declared.shape.Attribute.{Attribute}
@@ -9,12 +10,16 @@ use Rattle.spl_tree.specs.declared.unit.InputPort.{InputPort}
 use Rattle.spl_tree.specs.declared.unit.Invocation.{Invocation}
 use Rattle.spl_tree.specs.declared.unit.Logic.{Logic}
 use Rattle.spl_tree.specs.declared.unit.OutputAssignments.{OutputAssignments}
+use Rattle.spl_tree.specs.declared.unit.OutputStream.{OutputStream}
 use Rattle.spl_tree.specs.declared.unit.Parameter.{Parameter}
 use Rattle.spl_tree.specs.declared.unit.PortWindow.{PortWindow}
 use Rattle.spl_tree.specs.declared.unit.TypeDefinition.{TypeDefinition}
+use Rattle.spl_tree.specs.declared.unit.WindowPart.{WindowPart}
+use Rattle.spl_tree.specs.Grammar.{Expr}
 use Rattle.spl_tree.specs.TypeGrammar.{TypeExpr}
 use Rattle.expr_parser.specs.Rules.{done, stop, look, call}
-use Rattle.statement_parser.specs.Lines.{Name, R, expect, expect_name, is_dollar, dollar_at, TypeExpression, Inputs, LogicClause, WindowClause, ParameterClause, OutputClause, CompositeParameterClause, Default, TypeClause, GraphClause, FunctionParameters}
+use Rattle.expr_parser.specs.Lines as expressions
+use Rattle.statement_parser.specs.Lines.{Name, R, expect, expect_name, expect_word, expression, is_dollar, dollar_at, Alias, Assignments, Expression, InputStreams, PartArguments, Stream, WindowParts, TypeExpression, Inputs, LogicClause, WindowClause, ParameterClause, OutputClause, CompositeParameterClause, Default, TypeClause, GraphClause, FunctionParameters}
 
 -- what is invoked, after a head, and its inputs
 abbrev pub operator_and_inputs : R (Name × List InputPort)
@@ -52,3 +57,25 @@ graph_and_config = call GraphClause (λ xs. call (ParameterClause K.Config) (λ 
 -- the name of a function and its parameters
 abbrev pub signature : R (Name × List (Attribute TypeExpr))
 signature = expect_name (λ n. expect S.LeftParen (call FunctionParameters (λ xs. done (n, xs))))
+
+-- one more of a row
+abbrev pub port_window : R PortWindow
+port_window = expect_name (λ n. expect S.Colon (call (WindowParts []) (λ ps. done (record { port = n; parts = ps }))))
+
+abbrev pub window_part : R WindowPart
+window_part = expect_name (λ n. call PartArguments (λ es. done (record { name = n; arguments = es })))
+
+abbrev pub parameter : R Parameter
+parameter = expect_name (λ n. expect S.Colon (call (Expression (expressions.Items S.Semicolon [])) (λ es. done (record { name = n; values = es }))))
+
+abbrev pub stream_assignments : R OutputAssignments
+stream_assignments = expect_name (λ n. expect S.Colon (call (Assignments []) (λ fs. done (record { stream = n; assignments = fs }))))
+
+abbrev pub assignment : R (Field Expr)
+assignment = expect_name (λ n. expect S.Assign (expression (λ e. done (expressions.field n e))))
+
+abbrev pub listed_stream : R OutputStream
+listed_stream = expect_word K.Stream (call Stream done)
+
+abbrev pub input_port : R InputPort
+input_port = call (InputStreams []) (λ ns. call Alias (λ l. done (record { streams = ns; alias = l })))

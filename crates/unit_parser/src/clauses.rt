@@ -2,7 +2,7 @@
 ghost use Rattle.std.specs.Prelude.{[]};
 ghost use Rattle.statement_parser.specs.Gives.{Comes, Gives};
 ghost use Rattle.unit_parser.specs.GivesClauses.{EventFirst};
-ghost use Rattle.unit_parser.specs.GivesParts.{logic_and_window, param_to_config, output_and_config};
+ghost use Rattle.unit_parser.specs.GivesParts.{logic_and_window, param_to_config, output_and_config, port_window, window_part, parameter, stream_assignments, assignment};
 ghost use Rattle.statement_parser.specs.Lines as lines;
 
 use crate::declarations::declarations;
@@ -10,11 +10,11 @@ use expr_parser::{
     Taken, after, name_first, pass, pass_name, read_elements, read_expression, read_items,
 };
 use spl_tree::{
-    Clauses, Declaration, Exprs, Field, Fields, HandledEvent, Handler, Keyword, Logic,
+    Clauses, Declaration, Expr, Exprs, Field, Fields, HandledEvent, Handler, Keyword, Logic,
     OutputAssignments, Parameter, Placed, PortWindow, Symbol, Token, WindowPart,
 };
 use spl_value::Items;
-use statement_parser::{block, declaration, word_first};
+use statement_parser::{block, closed, declaration, name_before, push_taken, word_first};
 use std::alloc::Global;
 
 /// `output` with its assignments, or nothing.
@@ -80,8 +80,7 @@ fn output_and_config<'t>(
 {
     let (output, behind) = output(alloc, ts)?;
     let (config, behind) = parameter_clause(alloc, Keyword::Config, behind)?;
-    let behind = pass(behind, Symbol::RightBrace)?;
-    Ok(((output, config), behind))
+    closed((output, config), Symbol::RightBrace, behind)
 }
 
 /// `logic` and what follows, or nothing.
@@ -109,9 +108,8 @@ fn state<'t>(alloc: Global, ts: &'t [Token]) -> Taken<'t, Items<Declaration>>
     if let Some((_, behind)) = after(behind, Symbol::LeftBrace) {
         return declarations(alloc, behind);
     }
-    let (one, behind) = declaration(alloc, behind)?;
     let mut all = Items::new(alloc);
-    all.push(one)?;
+    let behind = push_taken(&mut all, declaration(alloc, behind))?;
     Ok((all, behind))
 }
 
@@ -125,8 +123,7 @@ fn handlers<'t>(alloc: Global, ts: &'t [Token]) -> Taken<'t, Items<Placed<Handle
         let Some((place, event, behind)) = event_first(at) else {
             return Ok((all, at));
         };
-        let (one, behind) = handler(alloc, place, event, behind)?;
-        all.push(one)?;
+        let behind = push_taken(&mut all, handler(alloc, place, event, behind))?;
         at = behind;
     }
 }
@@ -151,8 +148,7 @@ fn handler<'t>(
 ) -> Taken<'t, Placed<Handler>>
     ensures { Gives (lines.HandlerOf at event) ts.now result }
 {
-    let (port, behind) = pass_name(alloc, ts)?;
-    let behind = pass(behind, Symbol::Colon)?;
+    let (port, behind) = name_before(alloc, Symbol::Colon, ts)?;
     let (body, behind) = block(alloc, behind)?;
     let what = Handler { event, port, body };
     Ok((Placed { at, what }, behind))
@@ -177,15 +173,21 @@ fn windows<'t>(alloc: Global, ts: &'t [Token]) -> Taken<'t, Items<PortWindow>>
     let mut all = Items::new(alloc);
     let mut at = ts;
     'windows: loop {
-        if name_first(at).is_none() {
+        let Some(_) = name_first(at) else {
             return Ok((all, at));
-        }
-        let (port, behind) = pass_name(alloc, at)?;
-        let behind = pass(behind, Symbol::Colon)?;
-        let (parts, behind) = window_parts(alloc, behind)?;
-        all.push(PortWindow { port, parts })?;
+        };
+        let behind = push_taken(&mut all, port_window(alloc, at))?;
         at = behind;
     }
+}
+
+/// The window of a port.
+fn port_window<'t>(alloc: Global, ts: &'t [Token]) -> Taken<'t, PortWindow>
+    ensures { Comes port_window ts.now result }
+{
+    let (port, behind) = name_before(alloc, Symbol::Colon, ts)?;
+    let (parts, behind) = window_parts(alloc, behind)?;
+    Ok((PortWindow { port, parts }, behind))
 }
 
 /// One part of a window or more, with commas between them, up to the `;`.
@@ -195,15 +197,21 @@ fn window_parts<'t>(alloc: Global, ts: &'t [Token]) -> Taken<'t, Items<WindowPar
     let mut all = Items::new(alloc);
     let mut at = ts;
     'parts: loop {
-        let (name, behind) = pass_name(alloc, at)?;
-        let (arguments, behind) = part_arguments(alloc, behind)?;
-        all.push(WindowPart { name, arguments })?;
+        let behind = push_taken(&mut all, window_part(alloc, at))?;
         let Some((_, behind)) = after(behind, Symbol::Comma) else {
-            let behind = pass(behind, Symbol::Semicolon)?;
-            return Ok((all, behind));
+            return closed(all, Symbol::Semicolon, behind);
         };
         at = behind;
     }
+}
+
+/// A part of a window.
+fn window_part<'t>(alloc: Global, ts: &'t [Token]) -> Taken<'t, WindowPart>
+    ensures { Comes window_part ts.now result }
+{
+    let (name, behind) = pass_name(alloc, ts)?;
+    let (arguments, behind) = part_arguments(alloc, behind)?;
+    Ok((WindowPart { name, arguments }, behind))
 }
 
 /// Arguments in parentheses, or none.
@@ -238,15 +246,21 @@ fn parameters<'t>(alloc: Global, ts: &'t [Token]) -> Taken<'t, Items<Parameter>>
     let mut all = Items::new(alloc);
     let mut at = ts;
     'parameters: loop {
-        if name_first(at).is_none() {
+        let Some(_) = name_first(at) else {
             return Ok((all, at));
-        }
-        let (name, behind) = pass_name(alloc, at)?;
-        let behind = pass(behind, Symbol::Colon)?;
-        let (values, behind) = read_items(alloc, Symbol::Semicolon, behind)?;
-        all.push(Parameter { name, values })?;
+        };
+        let behind = push_taken(&mut all, parameter(alloc, at))?;
         at = behind;
     }
+}
+
+/// A name with values.
+fn parameter<'t>(alloc: Global, ts: &'t [Token]) -> Taken<'t, Parameter>
+    ensures { Comes parameter ts.now result }
+{
+    let (name, behind) = name_before(alloc, Symbol::Colon, ts)?;
+    let (values, behind) = read_items(alloc, Symbol::Semicolon, behind)?;
+    Ok((Parameter { name, values }, behind))
 }
 
 /// `output` and what follows, or nothing.
@@ -268,18 +282,25 @@ fn outputs<'t>(alloc: Global, ts: &'t [Token]) -> Taken<'t, Items<OutputAssignme
     let mut all = Items::new(alloc);
     let mut at = ts;
     'outputs: loop {
-        if name_first(at).is_none() {
+        let Some(_) = name_first(at) else {
             return Ok((all, at));
-        }
-        let (stream, behind) = pass_name(alloc, at)?;
-        let behind = pass(behind, Symbol::Colon)?;
-        let (assignments, behind) = assignments(alloc, behind)?;
-        all.push(OutputAssignments {
-            stream,
-            assignments,
-        })?;
+        };
+        let behind = push_taken(&mut all, stream_assignments(alloc, at))?;
         at = behind;
     }
+}
+
+/// Assignments for a stream.
+fn stream_assignments<'t>(alloc: Global, ts: &'t [Token]) -> Taken<'t, OutputAssignments>
+    ensures { Comes stream_assignments ts.now result }
+{
+    let (stream, behind) = name_before(alloc, Symbol::Colon, ts)?;
+    let (assignments, behind) = assignments(alloc, behind)?;
+    let one = OutputAssignments {
+        stream,
+        assignments,
+    };
+    Ok((one, behind))
 }
 
 /// One assignment of an attribute or more, with commas between them, up to the `;`.
@@ -289,14 +310,19 @@ fn assignments<'t>(alloc: Global, ts: &'t [Token]) -> Taken<'t, Fields>
     let mut all = Items::new(alloc);
     let mut at = ts;
     'assignments: loop {
-        let (name, behind) = pass_name(alloc, at)?;
-        let behind = pass(behind, Symbol::Assign)?;
-        let (value, behind) = read_expression(alloc, behind)?;
-        all.push(Field { name, value })?;
+        let behind = push_taken(&mut all, assignment(alloc, at))?;
         let Some((_, behind)) = after(behind, Symbol::Comma) else {
-            let behind = pass(behind, Symbol::Semicolon)?;
-            return Ok((all, behind));
+            return closed(all, Symbol::Semicolon, behind);
         };
         at = behind;
     }
+}
+
+/// An assignment of an attribute.
+fn assignment<'t>(alloc: Global, ts: &'t [Token]) -> Taken<'t, Field<Expr>>
+    ensures { Comes assignment ts.now result }
+{
+    let (name, behind) = name_before(alloc, Symbol::Assign, ts)?;
+    let (value, behind) = read_expression(alloc, behind)?;
+    Ok((Field { name, value }, behind))
 }

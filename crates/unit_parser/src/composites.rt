@@ -1,19 +1,22 @@
 //! Composites.
 ghost use Rattle.std.specs.Prelude.{[]};
 ghost use Rattle.statement_parser.specs.Gives.{Comes, Gives};
-ghost use Rattle.unit_parser.specs.GivesComposites.{other_ports_rule};
+ghost use Rattle.unit_parser.specs.GivesComposites.{both_ports_rule, other_ports_rule};
 ghost use Rattle.unit_parser.specs.GivesParts.{composite_clauses, parameters_and_types, graph_and_config, composite_parameter};
 ghost use Rattle.statement_parser.specs.Lines as lines;
 
 use crate::clauses::parameter_clause;
-use crate::invocations::graph;
-use expr_parser::{Taken, after, name_first, pass, pass_name, read_expression};
+use crate::invocations::{graph, stream};
+use expr_parser::{Taken, after, name_first, pass, pass_name};
 use spl_tree::{
-    Composite, CompositeParameter, HeadPort, Invocation, Keyword, Parameter, Placed, Symbol, Token,
-    TypeDefinition, TypeExpr,
+    Composite, CompositeParameter, HeadPort, Invocation, Keyword, OutputStream, Parameter, Placed,
+    Symbol, Token, TypeDefinition, TypeExpr,
 };
 use spl_value::{Items, Name};
-use statement_parser::{pass_dollar, pass_word, read_type, shape, word_first};
+use statement_parser::{
+    closed, expression_before, name_before, pass_dollar, pass_word, push_taken, read_type_between,
+    shape, word_first,
+};
 use std::alloc::Global;
 
 /// The outputs and the inputs of a head.
@@ -77,8 +80,7 @@ fn graph_and_config<'t>(
 {
     let (graph, behind) = graph_clause(alloc, ts)?;
     let (config, behind) = parameter_clause(alloc, Keyword::Config, behind)?;
-    let behind = pass(behind, Symbol::RightBrace)?;
-    Ok(((graph, config), behind))
+    closed((graph, config), Symbol::RightBrace, behind)
 }
 
 /// The ports of a head in parentheses, or none.
@@ -89,18 +91,22 @@ fn head_ports<'t>(alloc: Global, ts: &'t [Token]) -> Taken<'t, Ports>
         return Ok(((Items::new(alloc), Items::new(alloc)), ts));
     };
     match word_first(behind, Keyword::Output) {
-        Some((_, behind)) => {
-            let (outputs, behind) = ports(alloc, behind)?;
-            let (inputs, behind) = other_ports(alloc, Keyword::Input, behind)?;
-            Ok(((outputs, inputs), behind))
-        }
+        Some((_, behind)) => both_ports(alloc, Keyword::Input, behind),
         None => {
             let behind = pass_word(behind, Keyword::Input)?;
-            let (inputs, behind) = ports(alloc, behind)?;
-            let (outputs, behind) = other_ports(alloc, Keyword::Output, behind)?;
+            let ((inputs, outputs), behind) = both_ports(alloc, Keyword::Output, behind)?;
             Ok(((outputs, inputs), behind))
         }
     }
+}
+
+/// The ports after the first word of a head, and those after the other word.
+fn both_ports<'t>(alloc: Global, word: Keyword, ts: &'t [Token]) -> Taken<'t, Ports>
+    ensures { Comes (both_ports_rule word) ts.now result }
+{
+    let (first, behind) = ports(alloc, ts)?;
+    let (second, behind) = other_ports(alloc, word, behind)?;
+    Ok(((first, second), behind))
 }
 
 /// `;` and the ports after the word, or none, and the closing parenthesis.
@@ -108,13 +114,11 @@ fn other_ports<'t>(alloc: Global, word: Keyword, ts: &'t [Token]) -> Taken<'t, I
     ensures { Comes (other_ports_rule word) ts.now result }
 {
     let Some((_, behind)) = after(ts, Symbol::Semicolon) else {
-        let behind = pass(ts, Symbol::RightParen)?;
-        return Ok((Items::new(alloc), behind));
+        return closed(Items::new(alloc), Symbol::RightParen, ts);
     };
     let behind = pass_word(behind, word)?;
     let (all, behind) = ports(alloc, behind)?;
-    let behind = pass(behind, Symbol::RightParen)?;
-    Ok((all, behind))
+    closed(all, Symbol::RightParen, behind)
 }
 
 /// One port or more, with commas between them.
@@ -124,8 +128,7 @@ fn ports<'t>(alloc: Global, ts: &'t [Token]) -> Taken<'t, Items<HeadPort>>
     let mut all = Items::new(alloc);
     let mut at = ts;
     'ports: loop {
-        let (one, behind) = port(alloc, at)?;
-        all.push(one)?;
+        let behind = push_taken(&mut all, port(alloc, at))?;
         let Some((_, after_comma)) = after(behind, Symbol::Comma) else {
             return Ok((all, behind));
         };
@@ -141,9 +144,8 @@ fn port<'t>(alloc: Global, ts: &'t [Token]) -> Taken<'t, HeadPort>
         let (name, behind) = pass_name(alloc, ts)?;
         return Ok((HeadPort { shape: None, name }, behind));
     };
-    let behind = pass(behind, Symbol::Less)?;
-    let (shape, behind) = shape(alloc, Symbol::Greater, behind)?;
-    let (name, behind) = pass_name(alloc, behind)?;
+    let (one, behind) = stream(alloc, behind)?;
+    let OutputStream { shape, name } = one;
     let shape = Some(shape);
     Ok((HeadPort { shape, name }, behind))
 }
@@ -171,8 +173,7 @@ fn composite_parameters<'t>(alloc: Global, ts: &'t [Token]) -> Taken<'t, Items<C
         let Some((_, behind)) = word_first(at, Keyword::Expression) else {
             return Ok((all, at));
         };
-        let (one, behind) = composite_parameter(alloc, behind)?;
-        all.push(one)?;
+        let behind = push_taken(&mut all, composite_parameter(alloc, behind))?;
         at = behind;
     }
 }
@@ -181,9 +182,7 @@ fn composite_parameters<'t>(alloc: Global, ts: &'t [Token]) -> Taken<'t, Items<C
 fn composite_parameter<'t>(alloc: Global, ts: &'t [Token]) -> Taken<'t, CompositeParameter>
     ensures { Comes composite_parameter ts.now result }
 {
-    let behind = pass(ts, Symbol::Less)?;
-    let (kind, behind) = read_type(alloc, behind)?;
-    let behind = pass(behind, Symbol::Greater)?;
+    let (kind, behind) = read_type_between(alloc, Symbol::Less, Symbol::Greater, ts)?;
     let (name, behind) = pass_dollar(alloc, behind)?;
     defaulted(alloc, kind, name, behind)
 }
@@ -198,19 +197,15 @@ fn defaulted<'t>(
     ensures { Gives (lines.Default kind name) ts.now result }
 {
     let Some((_, behind)) = after(ts, Symbol::Colon) else {
-        let behind = pass(ts, Symbol::Semicolon)?;
         let default = None;
-        return Ok((
-            CompositeParameter {
-                kind,
-                name,
-                default,
-            },
-            behind,
-        ));
+        let one = CompositeParameter {
+            kind,
+            name,
+            default,
+        };
+        return closed(one, Symbol::Semicolon, ts);
     };
-    let (value, behind) = read_expression(alloc, behind)?;
-    let behind = pass(behind, Symbol::Semicolon)?;
+    let (value, behind) = expression_before(alloc, Symbol::Semicolon, behind)?;
     let default = Some(value);
     let one = CompositeParameter {
         kind,
@@ -240,8 +235,7 @@ fn types<'t>(alloc: Global, ts: &'t [Token]) -> Taken<'t, Items<TypeDefinition>>
         let Some(_) = name_first(at) else {
             return Ok((all, at));
         };
-        let (one, behind) = type_definition(alloc, at)?;
-        all.push(one)?;
+        let behind = push_taken(&mut all, type_definition(alloc, at))?;
         at = behind;
     }
 }
@@ -250,8 +244,7 @@ fn types<'t>(alloc: Global, ts: &'t [Token]) -> Taken<'t, Items<TypeDefinition>>
 pub(crate) fn type_definition<'t>(alloc: Global, ts: &'t [Token]) -> Taken<'t, TypeDefinition>
     ensures { Gives lines.TypeOf ts.now result }
 {
-    let (name, behind) = pass_name(alloc, ts)?;
-    let behind = pass(behind, Symbol::Assign)?;
+    let (name, behind) = name_before(alloc, Symbol::Assign, ts)?;
     let (shape, behind) = shape(alloc, Symbol::Semicolon, behind)?;
     Ok((TypeDefinition { name, shape }, behind))
 }

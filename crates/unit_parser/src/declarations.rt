@@ -6,7 +6,7 @@ ghost use Rattle.statement_parser.specs.Lines as lines;
 use expr_parser::{Taken, after};
 use spl_tree::{Declaration, Symbol, Token};
 use spl_value::Items;
-use statement_parser::declaration;
+use statement_parser::{declaration, push_taken};
 use std::alloc::Global;
 
 /// Declarations up to the closing brace.
@@ -19,8 +19,7 @@ pub(crate) fn declarations<'t>(alloc: Global, ts: &'t [Token]) -> Taken<'t, Item
         if let Some((_, behind)) = after(at, Symbol::RightBrace) {
             return Ok((all, behind));
         }
-        let (one, behind) = declaration(alloc, at)?;
-        all.push(one)?;
+        let behind = push_taken(&mut all, declaration(alloc, at))?;
         at = behind;
     }
 }

@@ -2,14 +2,14 @@
 ghost use Rattle.std.specs.Prelude.{[]};
 ghost use Rattle.statement_parser.specs.Gives.{Comes, Gives};
 ghost use Rattle.unit_parser.specs.GivesClauses.{InvocationsOn};
-ghost use Rattle.unit_parser.specs.GivesParts.{operator_and_inputs};
+ghost use Rattle.unit_parser.specs.GivesParts.{operator_and_inputs, listed_stream, input_port};
 ghost use Rattle.statement_parser.specs.Lines as lines;
 
 use crate::clauses::end;
 use expr_parser::{Stop, Taken, after, pass, pass_name};
 use spl_tree::{InputPort, Invocation, Keyword, OutputStream, Placed, Symbol, Token};
 use spl_value::{Items, Name};
-use statement_parser::{pass_word, shape, word_first};
+use statement_parser::{closed, name_before, pass_word, push_taken, shape, word_first};
 use std::alloc::Global;
 
 /// The streams that an invocation makes, and its alias.
@@ -52,10 +52,9 @@ fn invocation<'t>(alloc: Global, ts: &'t [Token]) -> Taken<'t, Option<Invocation
 fn stream_head<'t>(alloc: Global, ts: &'t [Token]) -> Taken<'t, Head>
     ensures { Gives lines.StreamHead ts.now result }
 {
-    let (one, behind) = stream(alloc, ts)?;
-    let (alias, behind) = alias(alloc, behind)?;
     let mut outputs = Items::new(alloc);
-    outputs.push(one)?;
+    let behind = push_taken(&mut outputs, stream(alloc, ts))?;
+    let (alias, behind) = alias(alloc, behind)?;
     Ok(((outputs, alias), behind))
 }
 
@@ -74,7 +73,7 @@ fn list_head<'t>(alloc: Global, ts: &'t [Token]) -> Taken<'t, Head>
 }
 
 /// A stream, after the word `stream`.
-fn stream<'t>(alloc: Global, ts: &'t [Token]) -> Taken<'t, OutputStream>
+pub(crate) fn stream<'t>(alloc: Global, ts: &'t [Token]) -> Taken<'t, OutputStream>
     ensures { Gives lines.Stream ts.now result }
 {
     let behind = pass(ts, Symbol::Less)?;
@@ -90,15 +89,20 @@ fn streams<'t>(alloc: Global, ts: &'t [Token]) -> Taken<'t, Items<OutputStream>>
     let mut all = Items::new(alloc);
     let mut at = ts;
     'streams: loop {
-        let behind = pass_word(at, Keyword::Stream)?;
-        let (one, behind) = stream(alloc, behind)?;
-        all.push(one)?;
+        let behind = push_taken(&mut all, listed_stream(alloc, at))?;
         let Some((_, behind)) = after(behind, Symbol::Semicolon) else {
-            let behind = pass(behind, Symbol::RightParen)?;
-            return Ok((all, behind));
+            return closed(all, Symbol::RightParen, behind);
         };
         at = behind;
     }
+}
+
+/// A stream with the word before it.
+fn listed_stream<'t>(alloc: Global, ts: &'t [Token]) -> Taken<'t, OutputStream>
+    ensures { Comes listed_stream ts.now result }
+{
+    let behind = pass_word(ts, Keyword::Stream)?;
+    stream(alloc, behind)
 }
 
 /// `as` and a name, or neither.
@@ -138,8 +142,7 @@ fn operator_and_inputs<'t>(
     ensures { Comes operator_and_inputs ts.now result }
 {
     let behind = pass(ts, Symbol::Assign)?;
-    let (operator, behind) = pass_name(alloc, behind)?;
-    let behind = pass(behind, Symbol::LeftParen)?;
+    let (operator, behind) = name_before(alloc, Symbol::LeftParen, behind)?;
     let (inputs, behind) = inputs(alloc, behind)?;
     Ok(((operator, inputs), behind))
 }
@@ -161,15 +164,21 @@ fn more_inputs<'t>(alloc: Global, ts: &'t [Token]) -> Taken<'t, Items<InputPort>
     let mut all = Items::new(alloc);
     let mut at = ts;
     'inputs: loop {
-        let (streams, behind) = input_streams(alloc, at)?;
-        let (alias, behind) = alias(alloc, behind)?;
-        all.push(InputPort { streams, alias })?;
+        let behind = push_taken(&mut all, input_port(alloc, at))?;
         let Some((_, behind)) = after(behind, Symbol::Semicolon) else {
-            let behind = pass(behind, Symbol::RightParen)?;
-            return Ok((all, behind));
+            return closed(all, Symbol::RightParen, behind);
         };
         at = behind;
     }
+}
+
+/// An input port.
+fn input_port<'t>(alloc: Global, ts: &'t [Token]) -> Taken<'t, InputPort>
+    ensures { Comes input_port ts.now result }
+{
+    let (streams, behind) = input_streams(alloc, ts)?;
+    let (alias, behind) = alias(alloc, behind)?;
+    Ok((InputPort { streams, alias }, behind))
 }
 
 /// One stream of a port or more, with commas between them.
@@ -179,8 +188,7 @@ fn input_streams<'t>(alloc: Global, ts: &'t [Token]) -> Taken<'t, Items<Placed<N
     let mut all = Items::new(alloc);
     let mut at = ts;
     'streams: loop {
-        let (name, behind) = pass_name(alloc, at)?;
-        all.push(name)?;
+        let behind = push_taken(&mut all, pass_name(alloc, at))?;
         let Some((_, after_comma)) = after(behind, Symbol::Comma) else {
             return Ok((all, behind));
         };

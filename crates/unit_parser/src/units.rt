@@ -13,7 +13,7 @@ use spl_tree::{
     TypeExpr, Unit,
 };
 use spl_value::{Items, Name};
-use statement_parser::{block, function_parameters, pass_word, read_type, word_first};
+use statement_parser::{block, function_parameters, name_before, pass_word, read_type, word_first};
 use std::alloc::Global;
 
 /// A unit.
@@ -162,8 +162,7 @@ fn function<'t>(
 fn signature<'t>(alloc: Global, ts: &'t [Token]) -> Taken<'t, (Placed<Name>, Attributes)>
     ensures { Comes signature ts.now result }
 {
-    let (name, behind) = pass_name(alloc, ts)?;
-    let behind = pass(behind, Symbol::LeftParen)?;
+    let (name, behind) = name_before(alloc, Symbol::LeftParen, ts)?;
     let (parameters, behind) = function_parameters(alloc, behind)?;
     Ok(((name, parameters), behind))
 }

@@ -1,6 +1,8 @@
 use Rattle.std.proofs.Common.{ap, [], ◌∷◌, ◌++◌, ◌∙◌}
 use Rattle.spl_tree.specs.declared.symbol.Symbol.TheVariants as S
+use Rattle.expr_parser.specs.Rules.{done, Reads}
 use Rattle.statement_parser.specs.Lines as lines
+use Rattle.statement_parser.proofs.Sequences.{pushed, pushed_fails}
 use Rattle.statement_parser.proofs.Readings.{reads, taken, skipped, passed, line_read, fails, pass_fails, line_fails}
 use Rattle.unit_parser.proofs.Rows.{made}
 use Rattle.unit_parser.proofs.clauses.state.Goals as goal
@@ -24,15 +26,17 @@ returns-in-Some-after c =
     (taken c.in-Some-after.ensures q))))
     (tail (lines.Declarations []) _ c.declarations.result c.declarations.ensures)
 
-pub returns-in_err-one : goal.returns-in_err-one
+pub returns-in_err-behind-2 : goal.returns-in_err-behind-2
 unfolding lines.rule
-returns-in_err-one c =
-    fails lines.State c.args.ts.now c.in_ok-behind.behind.now _ c.from_residual-in_err-one.result c.in_err-one.field-0.0 c.from_residual-in_err-one.ensures.1
+returns-in_err-behind-2 c =
+    fails lines.State c.args.ts.now c.in_ok-behind.behind.now _ c.from_residual-in_err-behind-2.result c.in_err-behind-2.field-0.0 c.from_residual-in_err-behind-2.ensures.1
     (λ o q. reads (taken c.in-Some.ensures (passed S.Colon c.in_ok-behind.ensures (skipped c.in_default-after.ensures q))))
-    (line_fails _ lines.Declare _ _ c.in_err-one.ensures)
+    (line_fails _ lines.Declare (λ d. done (d ∷ [])) _
+    (pushed_fails (Reads lines.rule lines.Declare c.in_ok-behind.behind.now) _ _ c.declaration.result _ c.declaration.ensures c.in_err-behind-2.ensures))
 
 pub returns : goal.returns
 unfolding lines.rule
 returns c =
-    let one = c.in_ok-push.ensures.ok ∙ ap (λ ds. ds ++ c.in_ok-one.one ∷ []) c.new-all.ensures in
-    reads (taken c.in-Some.ensures (passed S.Colon c.in_ok-behind.ensures (skipped c.in_default-after.ensures (line_read c.in_ok-one.ensures (made one)))))
+    let next = pushed (Reads lines.rule lines.Declare c.in_ok-behind.behind.now) _ _ c.declaration.result _ c.declaration.ensures c.in_ok-behind-2.ensures in
+    let one = next.is ∙ ap (λ ds. ds ++ next.one ∷ []) c.new-all.ensures in
+    reads (taken c.in-Some.ensures (passed S.Colon c.in_ok-behind.ensures (skipped c.in_default-after.ensures (line_read next.said (made one)))))

@@ -2,9 +2,10 @@ use Rattle.spl_tree.specs.declared.symbol.Symbol.TheVariants as S
 use Rattle.spl_tree.specs.declared.unit.CompositeParameter.{CompositeParameter}
 use Rattle.spl_tree.specs.TypeGrammar.{TypeExpr}
 use Rattle.expr_parser.specs.Rules.{done, stop, look, call, RunsTo, Reads}
-use Rattle.statement_parser.proofs.Readings.{passed, dollar_passed, line_read, says_on, rule_fails, pass_fails, dollar_fails, line_fails}
+use Rattle.statement_parser.proofs.Readings.{dollar_passed, says_on, rule_fails, dollar_fails}
+use Rattle.statement_parser.proofs.StatementReadings.{part_read, part_fails}
 use Rattle.unit_parser.specs.GivesParts.{composite_parameter}
-use Rattle.statement_parser.specs.Lines.{Name, R, TypeExpression, Default, expect, is_dollar, dollar_at, rule}
+use Rattle.statement_parser.specs.Lines.{Name, R, Default, is_dollar, dollar_at, rule, type_between}
 use Rattle.unit_parser.proofs.composites.composite_parameter.Goals as goal
 use Rattle.expr_parser.specs.RuleLaws.{runs_last}
 
@@ -15,35 +16,19 @@ named k n = call (Default k n) done
 abbrev dollar : TypeExpr → R CompositeParameter
 dollar k = look is_dollar (λ t. named k (dollar_at t)) stop
 
-abbrev closed : TypeExpr → R CompositeParameter
-closed k = expect S.Greater (dollar k)
-
-pub returns-in_err-behind : goal.returns-in_err-behind
-returns-in_err-behind c =
-    rule_fails composite_parameter _ c.args.ts.now c.args.ts.now _ c.in_err-behind.field-0.0 c.from_residual.ensures.1 (λ o q. q)
-    (pass_fails _ S.Less (call TypeExpression closed) _ c.in_err-behind.ensures)
-
 pub returns-in_err-kind : goal.returns-in_err-kind
 returns-in_err-kind c =
-    rule_fails composite_parameter _ c.args.ts.now c.in_ok-behind.behind.now _ c.in_err-kind.field-0.0 c.from_residual-in_err-kind.ensures.1
-    (λ o q. passed S.Less c.in_ok-behind.ensures q)
-    (line_fails _ TypeExpression closed _ c.in_err-kind.ensures)
-
-pub returns-in_err-behind-2 : goal.returns-in_err-behind-2
-returns-in_err-behind-2 c =
-    rule_fails composite_parameter _ c.args.ts.now c.in_ok-kind.behind.now _ c.in_err-behind-2.field-0.0 c.from_residual-in_err-behind-2.ensures.1
-    (λ o q. passed S.Less c.in_ok-behind.ensures (line_read c.in_ok-kind.ensures q))
-    (pass_fails _ S.Greater (dollar c.in_ok-kind.kind) _ c.in_err-behind-2.ensures)
+    rule_fails composite_parameter _ c.args.ts.now c.args.ts.now _ c.in_err-kind.field-0.0 c.from_residual.ensures.1 (λ o q. q)
+    (part_fails (type_between S.Less S.Greater) dollar _ _ c.in_err-kind.ensures)
 
 pub returns-in_err-name : goal.returns-in_err-name
 returns-in_err-name c =
-    rule_fails composite_parameter _ c.args.ts.now c.in_ok-behind-2.behind.now _ c.in_err-name.field-0.0 c.from_residual-in_err-name.ensures.1
-    (λ o q. passed S.Less c.in_ok-behind.ensures (line_read c.in_ok-kind.ensures (passed S.Greater c.in_ok-behind-2.ensures q)))
+    rule_fails composite_parameter _ c.args.ts.now c.in_ok-kind.behind.now _ c.in_err-name.field-0.0 c.from_residual-in_err-name.ensures.1
+    (λ o q. part_read (type_between S.Less S.Greater) dollar c.in_ok-kind.ensures q)
     (dollar_fails _ (named c.in_ok-kind.kind) _ c.in_err-name.ensures)
 
 pub returns : goal.returns
 returns c =
     says_on {P = Reads rule (Default c.in_ok-kind.kind c.in_ok-name.name) c.in_ok-name.behind.now} {Q = RunsTo rule composite_parameter c.args.ts.now}
-    (λ o q. passed S.Less c.in_ok-behind.ensures (line_read c.in_ok-kind.ensures (passed S.Greater c.in_ok-behind-2.ensures
-    (dollar_passed (named c.in_ok-kind.kind) c.in_ok-name.ensures (runs_last q)))))
+    (λ o q. part_read (type_between S.Less S.Greater) dollar c.in_ok-kind.ensures (dollar_passed (named c.in_ok-kind.kind) c.in_ok-name.ensures (runs_last q)))
     c.defaulted.result c.defaulted.ensures

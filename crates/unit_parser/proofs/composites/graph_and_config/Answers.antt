@@ -4,7 +4,7 @@ use Rattle.spl_tree.specs.declared.keyword.Keyword.TheVariants as K
 use Rattle.spl_tree.specs.declared.symbol.Symbol.TheVariants as S
 use Rattle.spl_tree.specs.declared.unit.Invocation.{Invocation}
 use Rattle.spl_tree.specs.declared.unit.Parameter.{Parameter}
-use Rattle.statement_parser.proofs.Readings.{finished, passed, line_read, rule_fails, pass_fails, line_fails}
+use Rattle.statement_parser.proofs.Readings.{line_read, rule_on, rule_fails, line_fails}
 use Rattle.unit_parser.specs.GivesParts.{graph_and_config}
 use Rattle.statement_parser.specs.Lines.{R, GraphClause, ParameterClause, expect}
 use Rattle.unit_parser.proofs.composites.graph_and_config.Goals as goal
@@ -27,11 +27,7 @@ returns-in_err-config c =
     (λ o q. line_read c.in_ok-graph.ensures q)
     (line_fails _ (ParameterClause K.Config) (closed c.in_ok-graph.graph) _ c.in_err-config.ensures)
 
-pub returns-in_err-behind : goal.returns-in_err-behind
-returns-in_err-behind c =
-    rule_fails graph_and_config _ c.args.ts.now c.in_ok-config.behind.now _ c.in_err-behind.field-0.0 c.from_residual-in_err-behind.ensures.1
-    (λ o q. line_read c.in_ok-graph.ensures (line_read c.in_ok-config.ensures q))
-    (pass_fails _ S.RightBrace (done (c.in_ok-graph.graph, c.in_ok-config.config)) _ c.in_err-behind.ensures)
-
 pub returns : goal.returns
-returns c = line_read c.in_ok-graph.ensures (line_read c.in_ok-config.ensures (passed S.RightBrace c.in_ok-behind.ensures finished))
+returns c =
+    rule_on graph_and_config (closed c.in_ok-graph.graph c.in_ok-config.config) c.args.ts.now c.in_ok-config.behind.now c.closed.result
+    (λ o q. line_read c.in_ok-graph.ensures (line_read c.in_ok-config.ensures q)) c.closed.ensures

@@ -1,9 +1,17 @@
 use Rattle.std.proofs.Common.{Some, None}
-use Rattle.spl_tree.specs.declared.symbol.Symbol.TheVariants as S
-use Rattle.statement_parser.proofs.Readings.{finished, reads, taken, skipped, passed, name_passed, line_read, fails, pass_fails, name_fails, line_fails}
-use Rattle.unit_parser.proofs.CompositeReadings.{port_named}
+use Rattle.expr_parser.specs.Rules.{done}
+use Rattle.spl_tree.specs.declared.unit.HeadPort.{HeadPort}
+use Rattle.spl_tree.specs.declared.unit.OutputStream.{OutputStream}
+use Rattle.statement_parser.proofs.Readings.{finished, reads, taken, skipped, name_passed, fails, name_fails}
+use Rattle.statement_parser.proofs.StatementReadings.{behind, part_read, part_fails}
+use Rattle.unit_parser.proofs.CompositeReadings.{by_rule, port_named, rule_comes}
 use Rattle.statement_parser.specs.Lines as lines
+use Rattle.statement_parser.specs.Lines.{R}
 use Rattle.unit_parser.proofs.composites.port.Goals as goal
+
+-- the port of a stream
+abbrev shaped : OutputStream → R HeadPort
+shaped x = done (record { shape = Some x.shape; name = x.name })
 
 pub returns-in_err-name : goal.returns-in_err-name
 unfolding lines.rule
@@ -16,27 +24,13 @@ pub returns-in_default : goal.returns-in_default
 unfolding lines.rule
 returns-in_default c = reads (skipped c.in_default.ensures (name_passed (port_named None) c.in_ok-name.ensures finished))
 
-pub returns-in_err-behind : goal.returns-in_err-behind
+pub returns-in_err-one : goal.returns-in_err-one
 unfolding lines.rule
-returns-in_err-behind c =
-    fails lines.Port c.args.ts.now c.in-Some.behind.now _ c.from_residual-in_err-behind.result c.in_err-behind.field-0.0 c.from_residual-in_err-behind.ensures.1
+returns-in_err-one c =
+    fails lines.Port c.args.ts.now c.in-Some.behind.now (behind (lines.rule lines.Stream) shaped) c.from_residual-in_err-one.result c.in_err-one.field-0.0 c.from_residual-in_err-one.ensures.1
     (λ o q. reads (taken c.in-Some.ensures q))
-    (pass_fails _ S.Less _ _ c.in_err-behind.ensures)
-
-pub returns-in_err-shape : goal.returns-in_err-shape
-unfolding lines.rule
-returns-in_err-shape c =
-    fails lines.Port c.args.ts.now c.in_ok-behind.behind.now _ c.from_residual-in_err-shape.result c.in_err-shape.field-0.0 c.from_residual-in_err-shape.ensures.1
-    (λ o q. reads (taken c.in-Some.ensures (passed S.Less c.in_ok-behind.ensures q)))
-    (line_fails _ (lines.Shaped S.Greater) _ _ c.in_err-shape.ensures)
-
-pub returns-in_err-name-2 : goal.returns-in_err-name-2
-unfolding lines.rule
-returns-in_err-name-2 c =
-    fails lines.Port c.args.ts.now c.in_ok-shape.behind.now _ c.from_residual-in_err-name-2.result c.in_err-name-2.field-0.0 c.from_residual-in_err-name-2.ensures.1
-    (λ o q. reads (taken c.in-Some.ensures (passed S.Less c.in_ok-behind.ensures (line_read c.in_ok-shape.ensures q))))
-    (name_fails _ (port_named (Some c.in_ok-shape.shape)) _ c.in_err-name-2.ensures)
+    (part_fails (lines.rule lines.Stream) shaped _ _ (rule_comes lines.Stream _ _ c.in_err-one.ensures))
 
 pub returns : goal.returns
 unfolding lines.rule
-returns c = reads (taken c.in-Some.ensures (passed S.Less c.in_ok-behind.ensures (line_read c.in_ok-shape.ensures (name_passed (port_named (Some c.in_ok-shape.shape)) c.in_ok-name-2.ensures finished))))
+returns c = reads (taken c.in-Some.ensures (part_read (lines.rule lines.Stream) shaped (by_rule tt c.in_ok-one.ensures) finished))
