@@ -10,6 +10,5 @@ pub mod PartReadings
 pub mod Derive
 pub mod Front
 pub mod LineSteps
-pub mod Weighing
 pub mod Parsed
 pub mod OneAnswer

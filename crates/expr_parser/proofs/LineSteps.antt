@@ -179,14 +179,9 @@ module _ (at : ℕ) (ts : List Token) where
   group_fails e g = gives_line (Group at) ts (Err e) (comes_fail ts Whole _ e g)
 
   module _ (v : Expr) (mid : List Token) (first : Reads rule Whole ts (Took v mid)) where
-    pub group_stops : (e : Stop) → Passes K.RightParen mid (Err e) → Gives (Group at) ts (Err e)
+    pub group_goes : (res : Answered Expr) → Comes (expect K.RightParen (done (placed at (X.Group v)))) mid res → Gives (Group at) ts res
     unfolding rule
-    group_stops e p = gives_line (Group at) ts (Err e) (comes_call ts Whole _ v mid (Err e) first (comes_pass_fail mid K.RightParen _ e p))
-
-    pub group_goes : (rest : Bor (List Token)) (res : Answered Expr) → Passes K.RightParen mid (Ok rest) → Makes (placed at (X.Group v)) rest.now res → Gives (Group at) ts res
-    unfolding rule
-    group_goes rest res p m =
-        gives_line (Group at) ts res (comes_call ts Whole _ v mid res first (comes_pass mid K.RightParen _ rest res p (comes_made (placed at (X.Group v)) rest.now res m)))
+    group_goes res c = gives_line (Group at) ts res (comes_call ts Whole _ v mid res first c)
 
   module _ (n : List ℕ) where
     pub named_ends : begins_with (is K.LeftParen) ts ≡ false → Reads rule (Named at n) ts (Took (placed at (X.Name n)) ts)
@@ -293,17 +288,10 @@ module _ (at : ℕ) (ts : List Token) where
     value_fails e g = gives_line (Entries at es key) ts (Err e) (comes_fail ts Whole _ e g)
 
     module _ (v : Expr) (mid : List Token) (first : Reads rule Whole ts (Took v mid)) where
-      pub entries_stops : begins_with (is K.Comma) mid ≡ false → (e : Stop) → Passes K.RightBrace mid (Err e) → Gives (Entries at es key) ts (Err e)
+      pub entries_end : begins_with (is K.Comma) mid ≡ false → (res : Answered Expr) → Comes (expect K.RightBrace (done (placed at (X.Map (es ++ (key, v) ∷ []))))) mid res
+          → Gives (Entries at es key) ts res
       unfolding rule
-      entries_stops none e p =
-          gives_line (Entries at es key) ts (Err e) (comes_call ts Whole _ v mid (Err e) first (comes_skip mid (is K.Comma) _ _ (Err e) none (comes_pass_fail mid K.RightBrace _ e p)))
-
-      pub entries_end : begins_with (is K.Comma) mid ≡ false → (rest : Bor (List Token)) (res : Answered Expr) → Passes K.RightBrace mid (Ok rest)
-          → Makes (placed at (X.Map (es ++ (key, v) ∷ []))) rest.now res → Gives (Entries at es key) ts res
-      unfolding rule
-      entries_end none rest res p m =
-          gives_line (Entries at es key) ts res (comes_call ts Whole _ v mid res first (comes_skip mid (is K.Comma) _ _ res none
-          (comes_pass mid K.RightBrace _ rest res p (comes_made (placed at (X.Map (es ++ (key, v) ∷ []))) rest.now res m))))
+      entries_end none res c = gives_line (Entries at es key) ts res (comes_call ts Whole _ v mid res first (comes_skip mid (is K.Comma) _ _ res none c))
 
       module _ (t : Token) (behind : List Token) (h : Taken (is K.Comma) mid t behind) where
         pub key_fails : (e : Stop) → Gives Whole behind (Err e) → Gives (Entries at es key) ts (Err e)
@@ -330,17 +318,10 @@ module _ (at : ℕ) (ts : List Token) where
     field_fails e g = gives_line (Fields at fs name) ts (Err e) (comes_fail ts Whole _ e g)
 
     module _ (v : Expr) (mid : List Token) (first : Reads rule Whole ts (Took v mid)) where
-      pub fields_stops : begins_with (is K.Comma) mid ≡ false → (e : Stop) → Passes K.RightBrace mid (Err e) → Gives (Fields at fs name) ts (Err e)
+      pub fields_end : begins_with (is K.Comma) mid ≡ false → (res : Answered Expr) → Comes (expect K.RightBrace (done (placed at (X.Tuple (fs ++ field name v ∷ []))))) mid res
+          → Gives (Fields at fs name) ts res
       unfolding rule
-      fields_stops none e p =
-          gives_line (Fields at fs name) ts (Err e) (comes_call ts Whole _ v mid (Err e) first (comes_skip mid (is K.Comma) _ _ (Err e) none (comes_pass_fail mid K.RightBrace _ e p)))
-
-      pub fields_end : begins_with (is K.Comma) mid ≡ false → (rest : Bor (List Token)) (res : Answered Expr) → Passes K.RightBrace mid (Ok rest)
-          → Makes (placed at (X.Tuple (fs ++ field name v ∷ []))) rest.now res → Gives (Fields at fs name) ts res
-      unfolding rule
-      fields_end none rest res p m =
-          gives_line (Fields at fs name) ts res (comes_call ts Whole _ v mid res first (comes_skip mid (is K.Comma) _ _ res none
-          (comes_pass mid K.RightBrace _ rest res p (comes_made (placed at (X.Tuple (fs ++ field name v ∷ []))) rest.now res m))))
+      fields_end none res c = gives_line (Fields at fs name) ts res (comes_call ts Whole _ v mid res first (comes_skip mid (is K.Comma) _ _ res none c))
 
       module _ (t : Token) (behind : List Token) (h : Taken (is K.Comma) mid t behind) where
         pub next_fails : (e : Stop) → PassesName behind (Err e) → Gives (Fields at fs name) ts (Err e)

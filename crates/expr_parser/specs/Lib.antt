@@ -4,5 +4,4 @@ pub mod Lines
 pub mod Taken
 pub mod Parts
 pub mod Gives
-pub mod Weighed
 pub mod Parses

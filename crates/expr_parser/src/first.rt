@@ -124,13 +124,8 @@ pub(crate) fn prefix_first(ts: &[Token]) -> Option<(Prefix, &[Token])>
 {
     let (token, rest) = ts.split_first()?;
     let what = prefix_operator(&token.kind)?;
-    Some((
-        Placed {
-            at: token.start,
-            what,
-        },
-        rest,
-    ))
+    let at = token.start;
+    Some((Placed { at, what }, rest))
 }
 
 fn cast_target(kind: &TokenKind) -> Option<CastTarget>

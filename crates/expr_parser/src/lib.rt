@@ -10,7 +10,6 @@ mod parts;
 mod prefixes;
 mod reading;
 mod stop;
-mod weight;
 
 pub use answer::{ParsedExpr, SyntaxAnswer};
 pub use first::{after, name_first, pass, pass_name};
@@ -18,4 +17,4 @@ pub use laws::expressions_law;
 pub use parse::{parse_expr, place_of};
 pub use parts::{Taken, read_elements, read_expression, read_items, read_steps};
 pub use stop::Stop;
-pub use weight::too_deep;
+pub use token_weights::too_deep;

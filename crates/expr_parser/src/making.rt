@@ -1,18 +1,23 @@
 //! The nodes of trees, each one higher than the highest of its parts.
 ghost use Rattle.spl_tree.specs.Grammar.{placed};
-ghost use Rattle.spl_tree.specs.declared.expression.ExprKind.TheVariants as X;
-ghost use Rattle.expr_parser.specs.Gives.{Makes};
-ghost use Rattle.expr_parser.specs.Lines.{binary, conditional, prefixed, selected};
+ghost use Rattle.expr_parser.specs.Gives.{Comes, Makes};
+ghost use Rattle.expr_parser.specs.Lines.{binary, conditional, expect, prefixed, selected};
+ghost use Rattle.expr_parser.specs.Rules.{done};
 
-use crate::stop::{Read, taller};
-use spl_tree::{
-    BinaryOperator, Entries, Expr, ExprKind, Exprs, Fields, Placed, Prefixes, Steps, Token,
-};
-use spl_value::{Boxed, Name};
+use crate::first::pass;
+use crate::stop::{Read, release, taller};
+use spl_tree::{BinaryOperator, Expr, ExprKind, Placed, Prefixes, Steps, Symbol, Token};
+use spl_value::Boxed;
 use std::alloc::{AllocError, Global};
 
 /// The node over parts of that height.
-fn node<'t>(alloc: Global, at: u32, what: ExprKind, height: u32, ts: &'t [Token]) -> Read<'t, Expr>
+pub(crate) fn node<'t>(
+    alloc: Global,
+    at: u32,
+    what: ExprKind,
+    height: u32,
+    ts: &'t [Token],
+) -> Read<'t, Expr>
     ensures { Makes (placed at what) ts.now result }
 {
     let expr = Placed::boxed(alloc, at, what)?;
@@ -94,63 +99,22 @@ pub(crate) fn selected<'t>(
     node(alloc, at, ExprKind::Select(primary, steps), height, ts)
 }
 
-pub(crate) fn group<'t>(
+/// The symbol that closes a node, and the node.
+pub(crate) fn closed<'t>(
     alloc: Global,
     at: u32,
-    inner: Expr,
+    what: ExprKind,
+    close: Symbol,
     height: u32,
     ts: &'t [Token],
 ) -> Read<'t, Expr>
-    ensures { Makes (placed at (X.Group inner)) ts.now result }
+    ensures { Comes (expect close (done (placed at what))) ts.now result }
 {
-    node(alloc, at, ExprKind::Group(inner), height, ts)
-}
-
-pub(crate) fn call<'t>(
-    alloc: Global,
-    at: u32,
-    name: Name,
-    arguments: Exprs,
-    height: u32,
-    ts: &'t [Token],
-) -> Read<'t, Expr>
-    ensures { Makes (placed at (X.Call name arguments)) ts.now result }
-{
-    node(alloc, at, ExprKind::Call(name, arguments), height, ts)
-}
-
-pub(crate) fn list<'t>(
-    alloc: Global,
-    at: u32,
-    items: Exprs,
-    height: u32,
-    ts: &'t [Token],
-) -> Read<'t, Expr>
-    ensures { Makes (placed at (X.List items)) ts.now result }
-{
-    node(alloc, at, ExprKind::List(items), height, ts)
-}
-
-pub(crate) fn map<'t>(
-    alloc: Global,
-    at: u32,
-    entries: Entries,
-    height: u32,
-    ts: &'t [Token],
-) -> Read<'t, Expr>
-    ensures { Makes (placed at (X.Map entries)) ts.now result }
-{
-    node(alloc, at, ExprKind::Map(entries), height, ts)
-}
-
-pub(crate) fn tuple<'t>(
-    alloc: Global,
-    at: u32,
-    fields: Fields,
-    height: u32,
-    ts: &'t [Token],
-) -> Read<'t, Expr>
-    ensures { Makes (placed at (X.Tuple fields)) ts.now result }
-{
-    node(alloc, at, ExprKind::Tuple(fields), height, ts)
+    match pass(ts, close) {
+        Ok(behind) => node(alloc, at, what, height, behind),
+        Err(stop) => {
+            release(what);
+            Err(stop)
+        }
+    }
 }

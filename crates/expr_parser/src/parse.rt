@@ -6,9 +6,9 @@ ghost use Rattle.expr_parser.specs.Parses.{ParsesExpr};
 use crate::answer::{ParsedExpr, SyntaxAnswer};
 use crate::reading::expr;
 use crate::stop::Stop;
-use crate::weight::too_deep;
 use spl_tree::Tokens;
 use std::alloc::Global;
+use token_weights::too_deep;
 
 /// How deep expressions may nest in one another: deeper than the weights of ordinary programs allow.
 /// The stack is memory.

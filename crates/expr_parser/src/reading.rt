@@ -10,7 +10,7 @@ ghost use Rattle.expr_parser.specs.Lines as lines;
 use crate::first::{after, literal, literal_first, name_first, operator_first, pass, pass_name};
 use crate::making;
 use crate::prefixes::prefixes;
-use crate::stop::{Read, Stop};
+use crate::stop::{Read, Stop, release};
 use spl_tree::{
     Entries, Expr, ExprKind, Exprs, Field, Fields, Placed, Prefixes, Step, Symbol, Token,
 };
@@ -178,8 +178,8 @@ fn group<'t>(alloc: Global, depth: u32, at: u32, ts: &'t [Token]) -> Read<'t, Ex
     ensures { Gives (Group at) ts.now result }
 {
     let (inner, height, behind) = nested(alloc, depth, ts)?;
-    let behind = pass(behind, Symbol::RightParen)?;
-    making::group(alloc, at, inner, height, behind)
+    let what = ExprKind::Group(inner);
+    making::closed(alloc, at, what, Symbol::RightParen, height, behind)
 }
 
 /// A call of the function of that name, or the name alone.
@@ -190,7 +190,7 @@ fn named<'t>(alloc: Global, depth: u32, at: u32, name: Name, ts: &'t [Token]) ->
     match after(ts, Symbol::LeftParen) {
         Some((_, behind)) => {
             let (arguments, height, behind) = elements(alloc, depth, Symbol::RightParen, behind)?;
-            making::call(alloc, at, name, arguments, height, behind)
+            making::node(alloc, at, ExprKind::Call(name, arguments), height, behind)
         }
         None => {
             let expr = Placed::boxed(alloc, at, ExprKind::Name(name))?;
@@ -205,7 +205,7 @@ fn list<'t>(alloc: Global, depth: u32, at: u32, ts: &'t [Token]) -> Read<'t, Exp
     ensures { Comes (list_rule at) ts.now result }
 {
     let (items, height, behind) = elements(alloc, depth, Symbol::RightBracket, ts)?;
-    making::list(alloc, at, items, height, behind)
+    making::node(alloc, at, ExprKind::List(items), height, behind)
 }
 
 /// Expressions with commas between them, or none, and the symbol that closes them.
@@ -257,7 +257,10 @@ fn name_alone(expr: Expr) -> Option<Placed<Name>>
     let Placed { at, what } = expr;
     match what.into_inner() {
         ExprKind::Name(what) => Some(Placed { at, what }),
-        _ => None,
+        other => {
+            release(other);
+            None
+        }
     }
 }
 
@@ -304,8 +307,8 @@ fn entries<'t>(
         all.push((key, value))?;
         height = height.max(tall);
         let Some((_, behind)) = after(behind, Symbol::Comma) else {
-            let behind = pass(behind, Symbol::RightBrace)?;
-            return making::map(alloc, at, all, height, behind);
+            let what = ExprKind::Map(all);
+            return making::closed(alloc, at, what, Symbol::RightBrace, height, behind);
         };
         let (next, tall, behind) = nested(alloc, depth, behind)?;
         left = pass(behind, Symbol::Colon)?;
@@ -334,8 +337,8 @@ fn fields<'t>(
         all.push(Field { name, value })?;
         height = height.max(tall);
         let Some((_, behind)) = after(behind, Symbol::Comma) else {
-            let behind = pass(behind, Symbol::RightBrace)?;
-            return making::tuple(alloc, at, all, height, behind);
+            let what = ExprKind::Tuple(all);
+            return making::closed(alloc, at, what, Symbol::RightBrace, height, behind);
         };
         let (next, behind) = pass_name(alloc, behind)?;
         left = pass(behind, Symbol::Assign)?;

@@ -1,11 +1,12 @@
 use Rattle.std.proofs.Common.{◌∙◌, [], Err, length, refl, sym, ap, subst, arith}
 use Rattle.spl_tree.specs.declared.expression.ExprKind.TheVariants as X
 use Rattle.spl_tree.specs.Grammar.{Expr, placed}
-use Rattle.expr_parser.specs.Rules.{Answer, Took, RunsTo, Reads}
-use Rattle.expr_parser.specs.Lines.{binary, Whole, Rest, Climb, Chain, Prefixed, Primary, Group, Named, Elements, Items, Brace, Entries, Fields, Steps, rule, choice_rule, operand_rule, list_rule}
-use Rattle.expr_parser.specs.Gives.{Comes, Gives, Makes, front_rule, StepFound, StepsOn}
+use Rattle.spl_tree.specs.declared.symbol.Symbol.TheVariants as S
+use Rattle.expr_parser.specs.Rules.{done, Answer, Took, RunsTo, Reads}
+use Rattle.expr_parser.specs.Lines.{binary, Whole, Rest, Climb, Chain, Prefixed, Primary, Group, Named, Elements, Items, Brace, Entries, Fields, Steps, expect, rule, choice_rule, operand_rule, list_rule}
+use Rattle.expr_parser.specs.Gives.{Comes, Gives, front_rule, StepFound, StepsOn}
 use Rattle.expr_parser.proofs.Derive.{exit, says_on, comes_fail, comes_call}
-use Rattle.expr_parser.proofs.LineSteps.{makes_fails, whole_fails, whole_goes, rest_fails, rest_ends, rest_goes, first_fails, colon_fails, second_fails, choice_goes, climb_ends, climb_fails, climb_goes, chain_ends, operand_fails, right_fails, chain_goes, fronts_fails, prefixed_fails, prefixed_goes, primary_literal, primary_name, primary_list, primary_brace, primary_stops, group_fails, group_stops, group_goes, named_ends, named_fails, named_goes, list_fails, list_goes, elements_none, elements_start, item_fails, items_stops, items_end, items_go, brace_empty, brace_fails, brace_entries, brace_stops, name_stops, brace_fields, value_fails, entries_stops, entries_end, key_fails, key_stops, entries_go, field_fails, fields_stops, fields_end, next_fails, next_stops, fields_go, steps_fails, steps_end, member_fails, member_found, index_fails, index_stops, index_found}
+use Rattle.expr_parser.proofs.LineSteps.{makes_fails, whole_fails, whole_goes, rest_fails, rest_ends, rest_goes, first_fails, colon_fails, second_fails, choice_goes, climb_ends, climb_fails, climb_goes, chain_ends, operand_fails, right_fails, chain_goes, fronts_fails, prefixed_fails, prefixed_goes, primary_literal, primary_name, primary_list, primary_brace, primary_stops, group_fails, group_goes, named_ends, named_fails, named_goes, list_fails, list_goes, elements_none, elements_start, item_fails, items_stops, items_end, items_go, brace_empty, brace_fails, brace_entries, brace_stops, name_stops, brace_fields, value_fails, entries_end, key_fails, key_stops, entries_go, field_fails, fields_end, next_fails, next_stops, fields_go, steps_fails, steps_end, member_fails, member_found, index_fails, index_stops, index_found}
 use Rattle.expr_parser.proofs.reading.+reader.Goals as goal
 use Rattle.expr_parser.proofs.Locality.{reads_shrinks, taken_shrinks, taken_as_shrinks}
 
@@ -157,14 +158,9 @@ group-returns-in_err-inner t c =
     exit (Gives (Group c.args.at) c.args.ts.now) c.from_residual.result c.in_err-inner.field-0.0 c.from_residual.ensures.1
     (group_fails c.args.at c.args.ts.now c.in_err-inner.field-0.0 c.in_err-inner.ensures)
 
-pub group-returns-in_err-behind : goal.group-returns-in_err-behind
-group-returns-in_err-behind t c =
-    exit (Gives (Group c.args.at) c.args.ts.now) c.from_residual-in_err-behind.result c.in_err-behind.field-0.0 c.from_residual-in_err-behind.ensures.1
-    (group_stops c.args.at c.args.ts.now c.in_ok-inner.inner c.in_ok-inner.behind.now c.in_ok-inner.ensures c.in_err-behind.field-0.0 c.in_err-behind.ensures)
-
 pub group-returns : goal.group-returns
 group-returns t c =
-    group_goes c.args.at c.args.ts.now c.in_ok-inner.inner c.in_ok-inner.behind.now c.in_ok-inner.ensures c.in_ok-behind.behind c.group.result c.in_ok-behind.ensures c.group.ensures
+    group_goes c.args.at c.args.ts.now c.in_ok-inner.inner c.in_ok-inner.behind.now c.in_ok-inner.ensures c.closed.result c.closed.ensures
 
 pub named-returns-in_err-arguments-in-Some : goal.named-returns-in_err-arguments-in-Some
 named-returns-in_err-arguments-in-Some t c =
@@ -173,7 +169,7 @@ named-returns-in_err-arguments-in-Some t c =
 
 pub named-returns-in_ok-arguments-in-Some : goal.named-returns-in_ok-arguments-in-Some
 named-returns-in_ok-arguments-in-Some t c =
-    named_goes c.args.at c.args.ts.now c.args.name c.in-Some.field-0-0.now c.in-Some.behind.now c.in-Some.ensures c.in_ok-arguments-in-Some.arguments c.in_ok-arguments-in-Some.behind.now c.call.result c.in_ok-arguments-in-Some.ensures c.call.ensures
+    named_goes c.args.at c.args.ts.now c.args.name c.in-Some.field-0-0.now c.in-Some.behind.now c.in-Some.ensures c.in_ok-arguments-in-Some.arguments c.in_ok-arguments-in-Some.behind.now c.node.result c.in_ok-arguments-in-Some.ensures c.node.ensures
 
 pub named-returns-in_ok-expr-in-None : goal.named-returns-in_ok-expr-in-None
 named-returns-in_ok-expr-in-None t c =
@@ -187,7 +183,7 @@ list-returns-in_err-items t c =
 
 pub list-returns : goal.list-returns
 list-returns t c =
-    list_goes c.args.at c.args.ts.now c.in_ok-items.items c.in_ok-items.behind.now c.list.result c.in_ok-items.ensures c.list.ensures
+    list_goes c.args.at c.args.ts.now c.in_ok-items.items c.in_ok-items.behind.now c.node.result c.in_ok-items.ensures c.node.ensures
 
 pub elements-returns-in-Some : goal.elements-returns-in-Some
 elements-returns-in-Some t c =
@@ -272,15 +268,10 @@ entries-returns-in_err-value t c =
     exit (Gives (Entries c.args.at [] c.args.key) c.args.ts.now) c.from_residual.result c.in_err-value.field-0.0 c.from_residual.ensures.1
     (says_on c.entries.invariant (Err c.in_err-value.field-0.0) (value_fails c.args.at c.entries.left.now c.entries.all c.entries.key c.in_err-value.field-0.0 c.in_err-value.ensures))
 
-pub entries-returns-in_err-behind : goal.entries-returns-in_err-behind
-entries-returns-in_err-behind t c =
-    exit (Gives (Entries c.args.at [] c.args.key) c.args.ts.now) c.from_residual-in_err-behind.result c.in_err-behind.field-0.0 c.from_residual-in_err-behind.ensures.1
-    (says_on c.entries.invariant (Err c.in_err-behind.field-0.0) (entries_stops c.args.at c.entries.left.now c.entries.all c.entries.key c.in_ok-value.value c.in_ok-value.behind.now c.in_ok-value.ensures c.in_default.ensures c.in_err-behind.field-0.0 c.in_err-behind.ensures))
-
 pub entries-returns-in_default : goal.entries-returns-in_default
 entries-returns-in_default t c =
-    says_on c.entries.invariant c.map.result (entries_end c.args.at c.entries.left.now c.entries.all c.entries.key c.in_ok-value.value c.in_ok-value.behind.now c.in_ok-value.ensures c.in_default.ensures c.in_ok-behind.behind c.map.result c.in_ok-behind.ensures
-    (subst (λ es. Makes (placed c.args.at (X.Map es)) c.in_ok-behind.behind.now c.map.result) c.in_ok-push.ensures.ok c.map.ensures))
+    says_on c.entries.invariant c.closed.result (entries_end c.args.at c.entries.left.now c.entries.all c.entries.key c.in_ok-value.value c.in_ok-value.behind.now c.in_ok-value.ensures c.in_default.ensures c.closed.result
+    (subst (λ es. Comes (expect S.RightBrace (done (placed c.args.at (X.Map es)))) c.in_ok-value.behind.now c.closed.result) c.in_ok-push.ensures.ok c.closed.ensures))
 
 pub entries-returns-in_err-next : goal.entries-returns-in_err-next
 entries-returns-in_err-next t c =
@@ -314,15 +305,10 @@ fields-returns-in_err-value t c =
     exit (Gives (Fields c.args.at [] c.args.name) c.args.ts.now) c.from_residual.result c.in_err-value.field-0.0 c.from_residual.ensures.1
     (says_on c.fields.invariant (Err c.in_err-value.field-0.0) (field_fails c.args.at c.fields.left.now c.fields.all c.fields.name c.in_err-value.field-0.0 c.in_err-value.ensures))
 
-pub fields-returns-in_err-behind : goal.fields-returns-in_err-behind
-fields-returns-in_err-behind t c =
-    exit (Gives (Fields c.args.at [] c.args.name) c.args.ts.now) c.from_residual-in_err-behind.result c.in_err-behind.field-0.0 c.from_residual-in_err-behind.ensures.1
-    (says_on c.fields.invariant (Err c.in_err-behind.field-0.0) (fields_stops c.args.at c.fields.left.now c.fields.all c.fields.name c.in_ok-value.value c.in_ok-value.behind.now c.in_ok-value.ensures c.in_default.ensures c.in_err-behind.field-0.0 c.in_err-behind.ensures))
-
 pub fields-returns-in_default : goal.fields-returns-in_default
 fields-returns-in_default t c =
-    says_on c.fields.invariant c.tuple.result (fields_end c.args.at c.fields.left.now c.fields.all c.fields.name c.in_ok-value.value c.in_ok-value.behind.now c.in_ok-value.ensures c.in_default.ensures c.in_ok-behind.behind c.tuple.result c.in_ok-behind.ensures
-    (subst (λ fs. Makes (placed c.args.at (X.Tuple fs)) c.in_ok-behind.behind.now c.tuple.result) c.in_ok-push.ensures.ok c.tuple.ensures))
+    says_on c.fields.invariant c.closed.result (fields_end c.args.at c.fields.left.now c.fields.all c.fields.name c.in_ok-value.value c.in_ok-value.behind.now c.in_ok-value.ensures c.in_default.ensures c.closed.result
+    (subst (λ fs. Comes (expect S.RightBrace (done (placed c.args.at (X.Tuple fs)))) c.in_ok-value.behind.now c.closed.result) c.in_ok-push.ensures.ok c.closed.ensures))
 
 pub fields-returns-in_err-next : goal.fields-returns-in_err-next
 fields-returns-in_err-next t c =

@@ -1,8 +1,8 @@
 use Rattle.std.proofs.Common.{◌+◌, ◌∙◌, [], refl, sym, ap, arith, lt-ltb, le-ltb}
 use Rattle.spl_tree.specs.Weights.{weights}
-use Rattle.expr_parser.specs.Weighed.{effect_of, brackets}
-use Rattle.expr_parser.proofs.Weighing.{leads_on, weighs_light, weighs_heavy, looks_from, looks_behind}
-use Rattle.expr_parser.proofs.weight.too_deep.Goals as goal
+use Rattle.token_weights.specs.Weighed.{effect_of, brackets}
+use Rattle.token_weights.proofs.Weighing.{leads_on, weighs_light, weighs_heavy, looks_from, looks_behind}
+use Rattle.token_weights.proofs.weight.too_deep.Goals as goal
 
 pub loop-i-init : goal.loop-i-init
 loop-i-init c = record {

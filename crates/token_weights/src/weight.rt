@@ -1,7 +1,7 @@
 //! How much tokens weigh.
 ghost use Rattle.std.specs.Prelude.{◌≡◌, ◌≤◌, true, length, IfOk};
 ghost use Rattle.spl_tree.specs.Weights.{symbol_effect, effect, Closes, next_adds, too_deep_from};
-ghost use Rattle.expr_parser.specs.Weighed.{effect_of, brackets, weighing_of, kept_start, kept_after};
+ghost use Rattle.token_weights.specs.Weighed.{effect_of, brackets, weighing_of, kept_start, kept_after};
 
 use spl_tree::{Keyword, Symbol, Token, TokenKind};
 use spl_value::{Items, NoMemory};

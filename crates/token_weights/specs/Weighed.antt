@@ -2,9 +2,9 @@
 use Rattle.std.specs.Prelude.{◌≡◌, ℕ, ◌+◌, min, Bool, true, false, List, [], ◌∷◌, map, drop, reverse}
 use Rattle.spl_tree.specs.declared.token.Token.{Token}
 use Rattle.spl_tree.specs.Weights as W
-use Rattle.expr_parser.specs.declared.weight.Effect.{Effect}
-use Rattle.expr_parser.specs.declared.weight.Effect.TheVariants as E
-use Rattle.expr_parser.specs.declared.weight.Weighing.{Weighing}
+use Rattle.token_weights.specs.declared.weight.Effect.{Effect}
+use Rattle.token_weights.specs.declared.weight.Effect.TheVariants as E
+use Rattle.token_weights.specs.declared.weight.Weighing.{Weighing}
 
 abbrev pub effect_of : Effect → W.Effect
 effect_of E.Nothing = W.Nothing

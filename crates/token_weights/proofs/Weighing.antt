@@ -4,8 +4,8 @@ use Rattle.std.specs.List.{position_from}
 use Rattle.std.proofs.lemmas.List.{take_rest, at_drop_more, at_drop_all, drop-drop}
 use Rattle.spl_tree.specs.declared.token.Token.{Token}
 use Rattle.spl_tree.specs.Weights.{Effect, Nothing, Adds, Opens, Separates, Closes, effect, next_adds, Opened, level_start, Weighing, after_closing, after_token, weight_at, weights_from, weights, most_weight}
-use Rattle.expr_parser.specs.declared.weight.Weighing as code
-use Rattle.expr_parser.specs.Weighed.{weighing_of, kept_weight, kept, kept_start, kept_closing, kept_after, Leads}
+use Rattle.token_weights.specs.declared.weight.Weighing as code
+use Rattle.token_weights.specs.Weighed.{weighing_of, kept_weight, kept, kept_start, kept_closing, kept_after, Leads}
 
 -- a token of that weight is too deep
 abbrev pub too_heavy : ℕ → Bool

@@ -1,9 +1,9 @@
 use Rattle.std.proofs.Common.{◌≡◌, ◌≤◌, drop}
 use Rattle.std.specs.List.{position_from}
 use Rattle.spl_tree.specs.Weights.{weights, too_deep_from}
-use Rattle.expr_parser.specs.Weighed.{Leads}
-use Rattle.expr_parser.proofs.Weighing.{too_heavy}
-use Rattle.expr_parser.proofs.weight.too_deep.Given as goal
+use Rattle.token_weights.specs.Weighed.{Leads}
+use Rattle.token_weights.proofs.Weighing.{too_heavy}
+use Rattle.token_weights.proofs.weight.too_deep.Given as goal
 
 abbrev pub invariant-loop-i : goal.invariant-loop-i
 invariant-loop-i l = record {

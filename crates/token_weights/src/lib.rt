@@ -1,0 +1,6 @@
+//! The weights of tokens.
+#![tactic(auto)]
+
+mod weight;
+
+pub use weight::too_deep;
