@@ -4,7 +4,7 @@ ghost use Rattle.std.specs.Prelude.{◌≡◌, ◌<◌, [], ℕ, IfOk, OnOk, IsT
 ghost use Rattle.std.specs.List.{Contains};
 ghost use Rattle.spl_tree.specs.declared.unit.CompositeParameter.{CompositeParameter};
 ghost use Rattle.language_model.specs.Parameters.{constant_scope, parameter_leads, parameters_given};
-ghost use Rattle.dollar_rules.specs.steps.Given.{IsReady, is_marked, marks_in, means};
+ghost use Rattle.dollar_rules.specs.steps.Given.{IsDone, IsReady, is_marked, marks_in, means};
 ghost use Rattle.dollar_rules.specs.steps.Settling.{IsSettled, Settles, given_of};
 ghost use Rattle.written_types.specs.TypeScopes.{types_in};
 
@@ -116,14 +116,24 @@ fn settle(
     settled.add(alloc, head, place)
 }
 
+/// Settles all parameters.
+fn settle_each(alloc: Global, head: &Head, settled: &mut Settled) -> Result<(), NoMemory>
+    requires { IsSettled (given_of head.now) settled.old }
+    ensures settled { OnOk result (IsSettled (given_of head.now) settled.new) }
+    ensures done { OnOk result ((place : ℕ) → place < length head.now.parameters.now → IsDone (given_of head.now) settled.new.marks.items place) }
+{
+    for at in 0..head.parameters.len() {
+        settle(alloc, head, settled, narrow(at)?, LONGEST_ROW)?;
+    }
+    Ok(())
+}
+
 /// The values of the parameters of a composite, in the order of its head.
 pub(crate) fn settle_all(alloc: Global, head: &Head) -> Result<Scope, NoMemory>
     ensures { IfOk result (λ own. own
         ≡ constant_scope (parameters_given (types_in head.now.types) head.now.outer.now.dollars head.now.arguments.now head.now.parameters.now)) }
 {
     let mut settled = Settled::new(alloc, head)?;
-    for at in 0..head.parameters.len() {
-        settle(alloc, head, &mut settled, narrow(at)?, LONGEST_ROW)?;
-    }
+    settle_each(alloc, head, &mut settled)?;
     Ok(settled.scope)
 }

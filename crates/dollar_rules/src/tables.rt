@@ -57,12 +57,31 @@ pub fn dollar_tables(
     ensures { IfOk result (λ tables. tables ≡ dollar_tables unit.now expansions.now) }
 {
     let sites = Sites::new(alloc, unit, expansions)?;
+    let scopes = each_scope(alloc, &sites, expansions)?;
+    tables(alloc, scopes)
+}
+
+/// Where the parameters of each expansion can be named.
+fn each_scope(
+    alloc: Global,
+    sites: &Sites,
+    expansions: &[Expansion],
+) -> Result<Vec<Scope>, NoMemory>
+    requires { sites.now.expansions.now ≡ expansions.now }
+    ensures { IfOk result (λ scopes. tables_of scopes.items ≡ dollar_tables sites.now.unit.now expansions.now) }
+{
     let mut scopes = Vec::new(alloc);
     for expansion in expansions {
-        let own = expansion_dollars(alloc, &sites, scopes.as_slice(), expansion)?;
+        let own = expansion_dollars(alloc, sites, scopes.as_slice(), expansion)?;
         scopes.push(own)?;
     }
-    tables(alloc, scopes)
+    Ok(scopes)
+}
+
+fn dollars_of(scope: Scope) -> Items<Dollar>
+    ensures { result ≡ scope.dollars }
+{
+    scope.dollars
 }
 
 fn tables(alloc: Global, scopes: Vec<Scope>) -> Result<Items<Items<Dollar>>, NoMemory>
@@ -70,7 +89,7 @@ fn tables(alloc: Global, scopes: Vec<Scope>) -> Result<Items<Items<Dollar>>, NoM
 {
     let mut tables = Items::new(alloc);
     for scope in scopes {
-        tables.push(scope.dollars)?;
+        tables.push(dollars_of(scope))?;
     }
     Ok(tables)
 }
