@@ -9,6 +9,9 @@ use spl_tree::{Expr, Placed, Symbol, Token};
 use spl_value::{Items, Name};
 use std::alloc::Global;
 
+/// Lets go of a value. Where it is dropped in place, each of its variants is.
+pub(crate) fn release<T: Drop>(_: T) {}
+
 /// Pushes the value that is read, and returns the tokens after it.
 pub fn push_taken<'t, T: Drop>(
     all: &mut Items<T>,

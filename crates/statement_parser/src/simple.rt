@@ -12,7 +12,7 @@ ghost use Rattle.statement_parser.specs.Lines as lines;
 
 use crate::declarations::{declared, valued};
 use crate::first::{assignment_first, pass_word, word_first};
-use crate::sequence::{expression_before, expression_between, name_before};
+use crate::sequence::{expression_before, expression_between, name_before, release};
 use crate::types::{read_attribute, read_type};
 use expr_parser::{Stop, Taken, after, name_first, pass, pass_name, read_elements, read_steps};
 use spl_tree::{
@@ -119,16 +119,26 @@ fn named_statement<'t>(alloc: Global, ts: &'t [Token]) -> Taken<'t, (Stmt, bool)
 fn ended<'t>(alloc: Global, at: u32, what: StmtKind, ts: &'t [Token]) -> Taken<'t, (Stmt, bool)>
     ensures { Comes (lines.ended_rule at what) ts.now result }
 {
-    let behind = pass(ts, Symbol::Semicolon)?;
-    statement_at(alloc, at, what, true, behind)
+    match pass(ts, Symbol::Semicolon) {
+        Ok(behind) => statement_at(alloc, at, what, true, behind),
+        Err(stop) => {
+            release(what);
+            Err(stop)
+        }
+    }
 }
 
 /// The same, without whether it is closed.
 fn statement_ended<'t>(alloc: Global, at: u32, what: StmtKind, ts: &'t [Token]) -> Taken<'t, Stmt>
     ensures { Comes (statements.ended_rule at what) ts.now result }
 {
-    let behind = pass(ts, Symbol::Semicolon)?;
-    statement_made(alloc, at, what, behind)
+    match pass(ts, Symbol::Semicolon) {
+        Ok(behind) => statement_made(alloc, at, what, behind),
+        Err(stop) => {
+            release(what);
+            Err(stop)
+        }
+    }
 }
 
 /// The statement of that kind at a place.
