@@ -8,7 +8,7 @@ ghost use Rattle.value_operations.specs.declared.held.Held.{Held};
 ghost use Rattle.value_operations.specs.Answers.{Answers, AnswersHeld, Settles, held};
 ghost use Rattle.value_operations.specs.Fitting.{FitBuiltIn};
 
-use crate::held::Held;
+use crate::held::{Held, stopped};
 use crate::stop::Stop;
 use builtin_calls::{abs, has, length, max, min, size, substring};
 use spl_tree::BuiltIn;
@@ -90,21 +90,21 @@ pub fn call_with_two(
         → Answers (followed outcome (λ v left. settled (built_in_of call (held first.entry ∷ v ∷ [])) left)) result turns }
 {
     match second {
-        Ok(second) => second_argument(alloc, call, first.value(), second),
-        Err(stop) => Err(stop),
+        Ok(second) => second_argument(alloc, call, first, second),
+        Err(stop) => stopped(first, stop),
     }
 }
 
 fn second_argument(
     alloc: Global,
     call: BuiltIn,
-    first: &Value,
+    first: Held<'_>,
     second: Held<'_>,
 ) -> Result<Value, Stop>
-    requires { FitBuiltIn call (first.now ∷ held second ∷ []) }
-    ensures { Settles (built_in_of call (first.now ∷ held second.entry ∷ [])) result }
+    requires { FitBuiltIn call (held first ∷ held second ∷ []) }
+    ensures { Settles (built_in_of call (held first.entry ∷ held second.entry ∷ [])) result }
 {
-    two_arguments(alloc, call, first, second.value())
+    two_arguments(alloc, call, first.value(), second.value())
 }
 
 /// A call with three arguments, where the third one gave a value.
@@ -120,20 +120,20 @@ pub fn call_with_three(
         → Answers (followed outcome (λ v left. settled (built_in_of call (held first.entry ∷ held second.entry ∷ v ∷ [])) left)) result turns }
 {
     match third {
-        Ok(third) => third_argument(alloc, call, first.value(), second.value(), third),
-        Err(stop) => Err(stop),
+        Ok(third) => third_argument(alloc, call, first, second, third),
+        Err(stop) => stopped((first, second), stop),
     }
 }
 
 fn third_argument(
     alloc: Global,
     call: BuiltIn,
-    first: &Value,
-    second: &Value,
+    first: Held<'_>,
+    second: Held<'_>,
     third: Held<'_>,
 ) -> Result<Value, Stop>
-    requires { FitBuiltIn call (first.now ∷ second.now ∷ held third ∷ []) }
-    ensures { Settles (built_in_of call (first.now ∷ second.now ∷ held third.entry ∷ [])) result }
+    requires { FitBuiltIn call (held first ∷ held second ∷ held third ∷ []) }
+    ensures { Settles (built_in_of call (held first.entry ∷ held second.entry ∷ held third.entry ∷ [])) result }
 {
-    three_arguments(alloc, call, first, second, third.value())
+    three_arguments(alloc, call, first.value(), second.value(), third.value())
 }

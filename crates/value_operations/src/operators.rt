@@ -16,7 +16,7 @@ ghost use Rattle.value_operations.specs.declared.held.Held.{Held};
 ghost use Rattle.value_operations.specs.Answers.{Settles, SettlesHeld, AnswersHeld, held};
 ghost use Rattle.value_operations.specs.Fitting.{FitBinary, FitRelation, FitsUnary, FitsUnaries};
 
-use crate::held::{Held, owned};
+use crate::held::{Held, owned, stopped};
 use crate::integers::on_integers;
 use crate::slots::truth_of;
 use crate::stop::Stop;
@@ -208,19 +208,19 @@ pub fn operator_with<'e>(
         → AnswersHeld (followed outcome (λ v after. settled (binary_of operator (held left.entry) v) after)) result turns }
 {
     match right {
-        Ok(right) => owned(right_operand(alloc, operator, left.value(), right)),
-        Err(stop) => Err(stop),
+        Ok(right) => owned(right_operand(alloc, operator, left, right)),
+        Err(stop) => owned(stopped(left, stop)),
     }
 }
 
 fn right_operand(
     alloc: Global,
     operator: BinaryCode,
-    left: &Value,
+    left: Held<'_>,
     right: Held<'_>,
 ) -> Result<Value, Stop>
-    requires { FitBinary operator left.now (held right) }
-    ensures { Settles (binary_of operator left.now (held right.entry)) result }
+    requires { FitBinary operator (held left) (held right) }
+    ensures { Settles (binary_of operator (held left.entry) (held right.entry)) result }
 {
-    binary_of(alloc, operator, left, right.value())
+    binary_of(alloc, operator, left.value(), right.value())
 }

@@ -10,7 +10,7 @@ ghost use Rattle.value_operations.specs.declared.held.Held.{Held};
 ghost use Rattle.value_operations.specs.Answers.{AnswersHeld, SettlesHeld, held};
 ghost use Rattle.value_operations.specs.Taking.{HasMember, HasElements, HasKeys, StepFits};
 
-use crate::held::Held;
+use crate::held::{Held, owned, stopped};
 use crate::stop::Stop;
 use spl_tree::Selector;
 use spl_value::{FaultKind, Items, Value, Values};
@@ -88,7 +88,7 @@ pub fn element_at<'e>(list: Held<'e>, index: Result<Held<'e>, Stop>) -> Result<H
 {
     match index {
         Ok(index) => element(list, index.value()),
-        Err(stop) => Err(stop),
+        Err(stop) => owned(stopped(list, stop)),
     }
 }
 
@@ -100,7 +100,7 @@ pub fn value_at<'e>(map: Held<'e>, key: Result<Held<'e>, Stop>) -> Result<Held<'
 {
     match key {
         Ok(key) => at_key(map, key.value()),
-        Err(stop) => Err(stop),
+        Err(stop) => owned(stopped(map, stop)),
     }
 }
 
