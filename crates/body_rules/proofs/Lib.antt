@@ -1,4 +1,3 @@
-mod Weights
 mod Lengths
 mod BodyRows
 mod Ending

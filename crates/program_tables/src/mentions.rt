@@ -125,7 +125,7 @@ fn of_both<'u>(first: &'u Expr, second: &'u Expr, out: &mut Mentions<'u>) -> Res
 
 /// Adds what a statement mentions.
 #[cycle(bodies)]
-#[tactic(auto, using(crate::proofs::StatementLaws::statement_laws, crate::proofs::StatementLaws::weight_laws))]
+#[tactic(auto, using(crate::proofs::StatementLaws::statement_laws, spl_tree::proofs::StmtWeights::weight_laws))]
 fn of_statement<'u>(statement: &'u Stmt, out: &mut Mentions<'u>) -> Result<(), NoMemory>
     ensures { Adds out.old.items out.new.items (statement_mentions statement.now.what) result }
 {

@@ -26,14 +26,14 @@ step_of (N.Index e) = e.what
 
 abbrev level_weight : ExprKind-F ℕ → ℕ
 level_weight (X.Group e) = suc e.what
-level_weight (X.List es) = 2 + total (λ e. e.what) es
-level_weight (X.Map es) = 2 + total (λ e. e.0.what + e.1.what) es
-level_weight (X.Tuple fs) = 2 + total (λ f. f.value.what) fs
-level_weight (X.Call name es) = 2 + total (λ e. e.what) es
-level_weight (X.Select base ss) = 2 + (base.what + total step_of ss)
-level_weight (X.Unary ps e) = suc e.what
-level_weight (X.Binary op l r) = 1 + (l.what + r.what)
-level_weight (X.Conditional c a b) = 1 + (c.what + (a.what + b.what))
+level_weight (X.List es) = 3 + total (λ e. e.what) es
+level_weight (X.Map es) = 3 + total (λ e. e.0.what + e.1.what) es
+level_weight (X.Tuple fs) = 4 + total (λ f. f.value.what) fs
+level_weight (X.Call name es) = 7 + total (λ e. e.what) es
+level_weight (X.Select base ss) = 4 + (base.what + total step_of ss)
+level_weight (X.Unary ps e) = 2 + e.what
+level_weight (X.Binary op l r) = 4 + (l.what + r.what)
+level_weight (X.Conditional c a b) = 3 + (c.what + (a.what + b.what))
 level_weight _ = 1
 
 abbrev pub weight : ExprKind → ℕ
@@ -70,49 +70,49 @@ at_level k x p = fold_out-ExprKind ℕ level_weight k ∙ ap (λ y. level_weight
 pub group_weight : (e : Expr) → weight (V.Group e) ≡ suc (expr_weight e)
 group_weight e = at_level (V.Group e) (X.Group e) (V.outs-Group e)
 
-pub list_weight : (es : List Expr) → weight (V.List es) ≡ 2 + weights es
+pub list_weight : (es : List Expr) → weight (V.List es) ≡ 3 + weights es
 list_weight es = at_level (V.List es) (X.List es) (V.outs-List es) ∙ along es
   where
-    along : (es : List Expr) → level_weight (map-ExprKind ExprKind ℕ weight (X.List es)) ≡ 2 + weights es
+    along : (es : List Expr) → level_weight (map-ExprKind ExprKind ℕ weight (X.List es)) ≡ 3 + weights es
     along [] = refl
     along (e ∷ es) = let h = along es in omega arith
 
-pub map_weight : (es : List (Expr × Expr)) → weight (V.Map es) ≡ 2 + entry_weights es
+pub map_weight : (es : List (Expr × Expr)) → weight (V.Map es) ≡ 3 + entry_weights es
 map_weight es = at_level (V.Map es) (X.Map es) (V.outs-Map es) ∙ along es
   where
-    along : (es : List (Expr × Expr)) → level_weight (map-ExprKind ExprKind ℕ weight (X.Map es)) ≡ 2 + entry_weights es
+    along : (es : List (Expr × Expr)) → level_weight (map-ExprKind ExprKind ℕ weight (X.Map es)) ≡ 3 + entry_weights es
     along [] = refl
     along (e ∷ es) = let h = along es in omega arith
 
-pub tuple_weight : (fs : List (Field Expr)) → weight (V.Tuple fs) ≡ 2 + field_weights fs
+pub tuple_weight : (fs : List (Field Expr)) → weight (V.Tuple fs) ≡ 4 + field_weights fs
 tuple_weight fs = at_level (V.Tuple fs) (X.Tuple fs) (V.outs-Tuple fs) ∙ along fs
   where
-    along : (fs : List (Field Expr)) → level_weight (map-ExprKind ExprKind ℕ weight (X.Tuple fs)) ≡ 2 + field_weights fs
+    along : (fs : List (Field Expr)) → level_weight (map-ExprKind ExprKind ℕ weight (X.Tuple fs)) ≡ 4 + field_weights fs
     along [] = refl
     along (f ∷ fs) = let h = along fs in omega arith
 
-pub call_weight : (name : List ℕ) (es : List Expr) → weight (V.Call name es) ≡ 2 + weights es
+pub call_weight : (name : List ℕ) (es : List Expr) → weight (V.Call name es) ≡ 7 + weights es
 call_weight name es = at_level (V.Call name es) (X.Call name es) (V.outs-Call name es) ∙ along es
   where
-    along : (es : List Expr) → level_weight (map-ExprKind ExprKind ℕ weight (X.Call name es)) ≡ 2 + weights es
+    along : (es : List Expr) → level_weight (map-ExprKind ExprKind ℕ weight (X.Call name es)) ≡ 7 + weights es
     along [] = refl
     along (e ∷ es) = let h = along es in omega arith
 
-pub select_weight : (base : Expr) (ss : List (Step Expr)) → weight (V.Select base ss) ≡ 2 + (expr_weight base + step_weights ss)
+pub select_weight : (base : Expr) (ss : List (Step Expr)) → weight (V.Select base ss) ≡ 4 + (expr_weight base + step_weights ss)
 select_weight base ss = at_level (V.Select base ss) (X.Select base ss) (V.outs-Select base ss) ∙ along ss
   where
-    along : (ss : List (Step Expr)) → level_weight (map-ExprKind ExprKind ℕ weight (X.Select base ss)) ≡ 2 + (expr_weight base + step_weights ss)
+    along : (ss : List (Step Expr)) → level_weight (map-ExprKind ExprKind ℕ weight (X.Select base ss)) ≡ 4 + (expr_weight base + step_weights ss)
     along [] = refl
     along (N.Member m ∷ ss) = let h = along ss in omega arith
     along (N.Index e ∷ ss) = let h = along ss in omega arith
 
-pub unary_weight : (ps : List Prefix) (e : Expr) → weight (V.Unary ps e) ≡ suc (expr_weight e)
+pub unary_weight : (ps : List Prefix) (e : Expr) → weight (V.Unary ps e) ≡ 2 + expr_weight e
 unary_weight ps e = at_level (V.Unary ps e) (X.Unary ps e) (V.outs-Unary ps e)
 
-pub binary_weight : (op : BinaryOperator) (l r : Expr) → weight (V.Binary op l r) ≡ 1 + (expr_weight l + expr_weight r)
+pub binary_weight : (op : BinaryOperator) (l r : Expr) → weight (V.Binary op l r) ≡ 4 + (expr_weight l + expr_weight r)
 binary_weight op l r = at_level (V.Binary op l r) (X.Binary op l r) (V.outs-Binary op l r)
 
-pub conditional_weight : (c a b : Expr) → weight (V.Conditional c a b) ≡ 1 + (expr_weight c + (expr_weight a + expr_weight b))
+pub conditional_weight : (c a b : Expr) → weight (V.Conditional c a b) ≡ 3 + (expr_weight c + (expr_weight a + expr_weight b))
 conditional_weight c a b = at_level (V.Conditional c a b) (X.Conditional c a b) (V.outs-Conditional c a b)
 
 pub ruleset weight_laws = (group_weight, list_weight, map_weight, tuple_weight, call_weight, select_weight, unary_weight, binary_weight, conditional_weight)

@@ -8,4 +8,5 @@ pub mod WordLaws
 pub mod TokenLaws
 pub mod UnitSpellings
 pub mod ExprWeights
+pub mod StmtWeights
 pub mod StatementWeights

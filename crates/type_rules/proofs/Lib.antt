@@ -3,6 +3,5 @@ mod Loops
 mod Exits
 mod LiteralLaws
 mod CallLaws
-mod Weights
 mod PlacesFound
 mod WantedForms

@@ -32,7 +32,5 @@ pub(crate) fn add_variable(
 pub(crate) fn drop_variables(scope: &mut Scope, count: usize)
     ensures { scope.new ≡ shortened count scope.old }
 {
-    'variables: while scope.vars.len() > count {
-        scope.vars.pop();
-    }
+    scope.vars.truncate(count);
 }

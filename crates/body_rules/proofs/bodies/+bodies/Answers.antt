@@ -15,7 +15,7 @@ use Rattle.body_rules.proofs.BodyRows.{branch, branch_row, branches_row, row_on,
 use Rattle.body_rules.proofs.StatementLeads.{alone_stops, leads_by, leads_on}
 use Rattle.body_rules.proofs.Lengths.{one_more, still, whole}
 use Rattle.body_rules.proofs.Stopping.{branch_stops, other_stops, over_stops, repeated_stops, while_stops}
-use Rattle.body_rules.proofs.Weights.{arm_weight, arm_weights, block_weight, for_weight, if_weight, statement_weight, statement_weights, weight, while_weight}
+use Rattle.spl_tree.proofs.StmtWeights.{arm_weight, arm_weights, block_weight, for_weight, if_weight, statement_weight, statement_weights, weight, while_weight}
 use Rattle.body_rules.proofs.bodies.+bodies.Goals as goal
 use Rattle.language_model.proofs.FoundAnswers.{fails, finds_by, goes, no_front, stops}
 use Rattle.spl_tree.proofs.ExprWeights.{item_below}

@@ -4,7 +4,7 @@ use Rattle.language_model.specs.BodyTypingLaws.{row_stated, arms_stated}
 use Rattle.language_model.specs.Finds.{with_front}
 use Rattle.body_rules.specs.Leads.{shortened}
 use Rattle.body_rules.specs.Settings.{setting_meant}
-use Rattle.body_rules.proofs.Weights.{statement_weight, statement_weights, arm_weights, other_weight}
+use Rattle.spl_tree.proofs.StmtWeights.{statement_weight, statement_weights, arm_weights, other_weight}
 use Rattle.body_rules.proofs.bodies.+bodies.Given as goal
 
 abbrev pub invariant-statements_of-loop-statement : goal.invariant-statements_of-loop-statement

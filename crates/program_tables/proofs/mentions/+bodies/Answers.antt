@@ -1,5 +1,5 @@
 use Rattle.std.proofs.Common.{arith}
-use Rattle.program_tables.proofs.StatementLaws.{statement_weight, arm_weight}
+use Rattle.spl_tree.proofs.StmtWeights.{statement_weight, arm_weight}
 use Rattle.spl_tree.proofs.ExprWeights.{item_below}
 use Rattle.program_tables.proofs.mentions.+bodies.Goals as goal
 

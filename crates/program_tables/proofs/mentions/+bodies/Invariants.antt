@@ -2,7 +2,7 @@ use Rattle.std.proofs.Common.{◌≡◌, ◌+◌, ◌++◌, flat_map, take}
 use Rattle.language_model.specs.Mentions.{block_mentions}
 use Rattle.program_tables.specs.Mentioned.{mentions_seen}
 use Rattle.program_tables.specs.steps.MentionParts.{arm_mentions}
-use Rattle.program_tables.proofs.StatementLaws.{statement_weight, statement_weights, arm_weights, other_weight}
+use Rattle.spl_tree.proofs.StmtWeights.{statement_weight, statement_weights, arm_weights, other_weight}
 use Rattle.program_tables.proofs.mentions.+bodies.Given as goal
 
 abbrev pub invariant-of_statements-loop-statement : goal.invariant-of_statements-loop-statement

@@ -14,7 +14,7 @@ use Rattle.call_rules.specs.Calls.{Asked, Gives}
 use Rattle.call_rules.specs.Operands.{right_for}
 use Rattle.type_rules.proofs.Loops.{arguments_past, index_by, kinds_past, member_by, taken_by, taken_past}
 use Rattle.type_rules.proofs.LiteralLaws.{field_next, field_stops, list_done, list_law, list_next, list_on, list_past, map_done, map_law, map_next, map_on, map_past, tuple_first, tuple_past, value_stops}
-use Rattle.type_rules.proofs.Weights.{weight, expr_weight, weights, entry_weight, entry_weights, field_weight, field_weights, step_weight, step_weights, list_weight, map_weight, tuple_weight, call_weight, select_weight}
+use Rattle.spl_tree.proofs.ExprWeights.{item_below, weight, expr_weight, weights, entry_weight, entry_weights, field_weight, field_weights, step_weight, step_weights, list_weight, map_weight, tuple_weight, call_weight, select_weight}
 use Rattle.type_rules.proofs.rules.+types.Goals.{arguments-then-arguments-test+else-at-arguments, arguments-else-arguments-test, taken-in-Member+in_ok-kind-in-Member, taken-in-Index+in_ok-index_wanted-in-Index+in_ok-typed-in-Index+in_ok-kind-in-Index}
 use Rattle.type_rules.proofs.rules.+types.Goals as goal
 use Rattle.language_model.proofs.FoundAnswers.{fails, finds_by, goes, no_front, same_Ok, stops}
@@ -24,7 +24,6 @@ use Rattle.type_rules.proofs.WantedForms.{by_form, of_form}
 use Rattle.type_rules.proofs.Steps.{seen_refused}
 use Rattle.type_rules.proofs.Exits.{binary_law}
 use Rattle.type_rules.proofs.CallLaws.{built_in_law, function_law}
-use Rattle.spl_tree.proofs.ExprWeights.{item_below}
 
 pub list-loop-element-preserved : goal.list-loop-element-preserved
 list-loop-element-preserved t c =

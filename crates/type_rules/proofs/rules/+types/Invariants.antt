@@ -4,7 +4,7 @@ use Rattle.language_model.specs.Typing.{after, typed, list_typed, wants_list, ma
 use Rattle.language_model.specs.TypingLaws.{parts, entry_parts, field_parts, step_parts}
 use Rattle.language_model.specs.Finds.{with_front}
 use Rattle.type_rules.proofs.LiteralLaws.{list_on, map_on, tuple_on}
-use Rattle.type_rules.proofs.Weights.{expr_weight, weights, entry_weights, field_weights, step_weights}
+use Rattle.spl_tree.proofs.ExprWeights.{expr_weight, weights, entry_weights, field_weights, step_weights}
 use Rattle.type_rules.proofs.rules.+types.Given as goal
 
 abbrev pub invariant-list-loop-element : goal.invariant-list-loop-element

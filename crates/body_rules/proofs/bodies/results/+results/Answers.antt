@@ -3,7 +3,7 @@ use Rattle.std.specs.Prelude.{◌&&◌}
 use Rattle.language_model.specs.BodyTypingLaws.{all_return, kind_returns}
 use Rattle.language_model.proofs.BodyTypingLaws.{arms_return, if_returns}
 use Rattle.body_rules.proofs.Ending.{last_below, returns_last}
-use Rattle.body_rules.proofs.Weights.{arm_weight, arm_weights, block_weight, if_weight, statement_weight, statement_weights, weight}
+use Rattle.spl_tree.proofs.StmtWeights.{arm_weight, arm_weights, block_weight, if_weight, statement_weight, statement_weights, weight}
 use Rattle.body_rules.proofs.bodies.results.+results.Goals as goal
 use Rattle.spl_tree.proofs.ExprWeights.{item_below}
 

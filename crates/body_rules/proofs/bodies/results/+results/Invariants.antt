@@ -1,6 +1,6 @@
 use Rattle.std.proofs.Common.{◌≡◌, ◌+◌, drop}
 use Rattle.language_model.specs.BodyTypingLaws.{all_return}
-use Rattle.body_rules.proofs.Weights.{statement_weight, statement_weights, arm_weights}
+use Rattle.spl_tree.proofs.StmtWeights.{statement_weight, statement_weights, arm_weights}
 use Rattle.body_rules.proofs.bodies.results.+results.Given as goal
 
 abbrev pub invariant-are_results-loop-arm : goal.invariant-are_results-loop-arm
