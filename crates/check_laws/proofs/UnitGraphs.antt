@@ -6,12 +6,12 @@ use Rattle.spl_tree.specs.declared.unit.Composite.{Composite}
 use Rattle.spl_tree.specs.declared.unit.Definition.{Definition}
 use Rattle.language_model.specs.Composites.{composites}
 use Rattle.language_model.specs.Declarations.{first_of}
-use Rattle.language_model.specs.Expansion.{Found, Made, after, expanded_main}
+use Rattle.language_model.specs.Expansion.{Expanded, Made, after, expanded_main}
 use Rattle.language_model.specs.Flat.{IsFlat, expands, files_had, flat_from, graph_of, if_all_taken, no_main, ordered, recursive, twice, with_own_files}
 use Rattle.language_model.specs.Numbering.{expansions_from, ops_from, streams_from}
 use Rattle.language_model.specs.Scopes.{At}
 use Rattle.language_model.specs.Taking.{first_untaken, taken}
-use Rattle.graph_laws.proofs.ExpansionAnswers.{after_gives, same_Ok}
+use Rattle.language_model.proofs.FoundAnswers.{after_gives, same_Ok}
 use Rattle.graph_laws.proofs.Flattening.{none_had}
 
 -- ---- the main composite
@@ -22,7 +22,7 @@ pub record FromMain (unit : List Definition) (names : List (List ℕ)) (g : Grap
   pub there : slice_get (composites unit) main.place ≡ Some main.what
   pub flat : flat_from unit names main ≡ Ok g
 
-pub from_main : (unit : List Definition) (names : List (List ℕ)) (g : Graph) (x : Found Graph) → IsFlat unit names x → x ≡ Ok g → FromMain unit names g
+pub from_main : (unit : List Definition) (names : List (List ℕ)) (g : Graph) (x : Expanded Graph) → IsFlat unit names x → x ≡ Ok g → FromMain unit names g
 from_main unit names g x (twice n declared) e = absurd cc
 from_main unit names g x (no_main declared none) e = absurd cc
 from_main unit names g x (recursive main n declared is r) e = absurd cc

@@ -19,12 +19,12 @@ use Rattle.clause_rules.specs.declared.checking.Found.{Found as Parts}
 use Rattle.clause_rules.specs.steps.Programs.{AreInvoked, found_in}
 
 -- a graph is that from a main composite on
-pub record FromMain (unit : List Definition) (names : List (List ℕ)) (x : expansion.Found Graph) : Type 0 where
+pub record FromMain (unit : List Definition) (names : List (List ℕ)) (x : expansion.Expanded Graph) : Type 0 where
   pub main : At Composite
   pub is_main : IsMain unit main
   pub same : flat_from unit names main ≡ x
 
-from_main : (unit : List Definition) (names : List (List ℕ)) (x : expansion.Found Graph) (g : Graph) → IsFlat unit names x → x ≡ Ok g → FromMain unit names x
+from_main : (unit : List Definition) (names : List (List ℕ)) (x : expansion.Expanded Graph) (g : Graph) → IsFlat unit names x → x ≡ Ok g → FromMain unit names x
 from_main unit names x g (twice n e) is = absurd (no is)
   where
     no : x ≡ Ok g → ⊥

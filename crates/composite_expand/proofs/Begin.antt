@@ -5,7 +5,7 @@ use Rattle.std.proofs.lemmas.Option.{slice_get_within}
 use Rattle.spl_tree.specs.declared.unit.Composite.{Composite}
 use Rattle.spl_tree.specs.declared.unit.Definition.{Definition}
 use Rattle.language_model.specs.Composites.{composites}
-use Rattle.language_model.specs.Expansion.{Made, Found, after, expanded, expanded_graph, expanded_main, main_body}
+use Rattle.language_model.specs.Expansion.{Made, Expanded, after, expanded, expanded_graph, expanded_main, main_body}
 use Rattle.language_model.specs.Scopes.{At}
 use Rattle.composite_expand.specs.declared.walk.Opened.{Opened}
 use Rattle.composite_expand.specs.declared.walk.Walk.{Walk}
@@ -15,7 +15,7 @@ use Rattle.composite_expand.specs.steps.Walks.{IsOn, Starts, IsExpanded}
 use Rattle.composite_expand.proofs.Keeping.{kept_main}
 use Rattle.composite_expand.proofs.Way.{done}
 
-after_ok : {A : Type 0} (x : Found A) → after x (λ m. Ok m) ≡ x
+after_ok : {A : Type 0} (x : Expanded A) → after x (λ m. Ok m) ≡ x
 after_ok (Ok x) = refl
 after_ok (Err r) = refl
 

@@ -11,7 +11,7 @@ use Rattle.language_model.specs.declared.expansion.ExpansionRefusal.TheVariants 
 use Rattle.language_model.specs.declared.expansion.Operation.{Operation}
 use Rattle.language_model.specs.Composites.{composites, composite_named, main_of, named_or_only, only_one, if_main, may_be_main, has_no_ports, is_empty, portless, behind_first}
 use Rattle.language_model.specs.Declarations.{declared_twice, first_of}
-use Rattle.language_model.specs.Expansion.{Made, Found, after}
+use Rattle.language_model.specs.Expansion.{Made, Expanded, after}
 use Rattle.language_model.specs.Flat.{IsFlat, flat_from, ordered, if_all_taken, graph_of, label_at, files_had, if_none_had, with_own_files}
 use Rattle.language_model.specs.Numbering.{ops_from, streams_from, expansions_from}
 use Rattle.language_model.specs.Recursion.{HasNoRecursion, IsRecursive, IsNotRecursive, composite_callers}
@@ -148,7 +148,7 @@ recursive unit names place n once is found =
 
 module _ (unit : List Definition) (names : List (List ℕ)) (place : ℕ) (main : At Composite) (once : declared_twice unit ≡ None) (is : main_of unit ≡ Some place)
     (starts : Starts unit place main) (none : IsNotRecursive unit) where
-  comes_to : (found : Found Graph) → flat_from unit names main ≡ found → IsFlat unit names found
+  comes_to : (found : Expanded Graph) → flat_from unit names main ≡ found → IsFlat unit names found
   comes_to found same = subst (IsFlat unit names) same (IsFlat.expands main once ((is ∙ ap (λ n. Some n) (sym starts.place_is)), starts.there) none)
 
   pub answered : (result : Result Graph ExpandAnswer) → IsAnswer (flat_from unit names main) result → Expands unit names result

@@ -8,15 +8,12 @@ use Rattle.spl_tree.specs.declared.unit.Invocation.{Invocation}
 use Rattle.spl_tree.specs.Grammar.{placed}
 use Rattle.language_model.specs.declared.expansion.ExpansionRefusal.{ExpansionRefusal}
 use Rattle.language_model.specs.declared.expansion.ExpansionRefusal.TheVariants as R
-use Rattle.language_model.specs.Expansion.{Made, Found, Inlined, Opened, Expands, after, expanded, expanded_graph, expanded_invocation, expanded_target, if_grown, if_declared, with_expansion, opened_in, inlined}
+use Rattle.language_model.specs.Expansion.{Made, Expanded, Inlined, Opened, Expands, after, expanded, expanded_graph, expanded_invocation, expanded_target, if_grown, if_declared, with_expansion, opened_in, inlined}
 use Rattle.language_model.specs.Invoking.{Body, target_of, undeclared, fits_head}
 use Rattle.language_model.specs.Declarations.{first_of}
 use Rattle.language_model.specs.Scopes.{At}
+use Rattle.language_model.proofs.FoundAnswers.{after_after}
 use Rattle.composite_expand.specs.steps.Walking.{Frame, frame, rest_of, closed, resumed, Keeps, IsIdle}
-
-after_after : {A B C : Type 0} (x : Found A) (f : A → Found B) (g : B → Found C) → after (after x f) g ≡ after x (λ a. after (f a) g)
-after_after (Ok x) f g = refl
-after_after (Err r) f g = refl
 
 -- a body without further invocations is closed
 pub closes : (depth : ℕ) (unit : List Definition) (f : Frame) (fs : List Frame) (made : Made) → rest_of f ≡ []
@@ -61,9 +58,9 @@ pub opens : (depth : ℕ) (unit : List Definition) (f : Frame) (fs : List Frame)
     → resumed (suc depth) unit (f ∷ fs) made
     ≡ resumed depth unit (frame (opened_in f.opened f.next i c made) 0 made ∷ frame f.opened (suc f.next) f.before ∷ fs) (with_expansion (inlined f.opened f.next c) made)
 opens depth unit f fs made i c here known target fits =
-    let again : Made → Found Made = expanded_graph (expanded (suc depth) unit) unit f.opened (suc f.next) (drop (suc f.next) f.opened.body.composite.what.graph) in
-    let end : Made → Found Made = λ m. resumed (suc (suc depth)) unit fs (closed f fs m) in
-    let inner : Found Made = expanded (suc depth) unit (opened_in f.opened f.next i c made) (with_expansion (inlined f.opened f.next c) made) in
+    let again : Made → Expanded Made = expanded_graph (expanded (suc depth) unit) unit f.opened (suc f.next) (drop (suc f.next) f.opened.body.composite.what.graph) in
+    let end : Made → Expanded Made = λ m. resumed (suc (suc depth)) unit fs (closed f fs m) in
+    let inner : Expanded Made = expanded (suc depth) unit (opened_in f.opened f.next i c made) (with_expansion (inlined f.opened f.next c) made) in
     ap (λ is. after (expanded_graph (expanded (suc depth) unit) unit f.opened f.next is made) end) here
     ∙ ap (λ x. after (after x again) end) (invokes (expanded (suc depth) unit) unit f.opened f.next i made c known target fits)
     ∙ ap (λ x. after x end) (after_after inner (λ m. Ok (if_grown made m)) again)
@@ -95,7 +92,7 @@ idle_body unit depth p number i made d known target fits inner =
     let one : expanded_graph (expanded depth unit) unit p number (i ∷ []) made ≡ Ok made =
     idle unit depth p number (i ∷ []) made (IsIdle.more p.body.composite.what i [] d known target fits inner (IsIdle.nothing p.body.composite.what)) in
     of_one (expanded_invocation (expanded depth unit) unit p number i made) one where
-      of_one : (x : Found Made) → after x (λ m. Ok m) ≡ Ok made → x ≡ Ok made
+      of_one : (x : Expanded Made) → after x (λ m. Ok m) ≡ Ok made → x ≡ Ok made
       of_one (Ok m) is = is
       of_one (Err r) is = is
 

@@ -1,5 +1,5 @@
 -- What an expansion makes of a unit: operators in the order of the text, each set in its body, and no invocation left out.
-use Rattle.std.specs.Prelude.{◌≡◌, ◌+◌, ◌==◌, ◌≤◌, ℕ, zero, suc, List, [], ◌∷◌, ◌++◌, flat_map, length, Option, Some, None, Ok, Err, slice_get, if◌then◌else◌, true, false}
+use Rattle.std.specs.Prelude.{◌≡◌, ◌+◌, ◌==◌, ℕ, zero, suc, List, [], ◌∷◌, ◌++◌, flat_map, length, Some, Ok, Err, slice_get, if◌then◌else◌, true, false}
 use Rattle.std.proofs.Common.{refl, sym, ap, ◌∙◌, subst, arith, eqb-true}
 use Rattle.std.proofs.lemmas.Bool.{eqb-false}
 use Rattle.std.proofs.lemmas.Option.{same_Some, slice_get_within}
@@ -17,13 +17,13 @@ use Rattle.language_model.specs.Expansion.{Made, Inlined, Opened, Expands, after
 use Rattle.language_model.specs.Invoking.{Target, Operator, Body, Nothing, target_of, undeclared, fits_head, is_among, stream_names}
 use Rattle.language_model.specs.Recursion.{HasNoRecursion, calls_among, composite_callers}
 use Rattle.language_model.specs.Scopes.{At}
-use Rattle.graph_laws.proofs.ExpansionAnswers.{after_gives, same_Ok}
+use Rattle.language_model.proofs.FoundAnswers.{after_gives, same_Ok}
 use Rattle.graph_laws.proofs.Inlining.{IsIn, within_is, found, declared_gives}
 use Rattle.graph_laws.specs.Paths.{IsPath}
 use Rattle.graph_laws.proofs.Nesting.{composites_within, invoked_is_call}
 use Rattle.expansion_laws.proofs.Growing.{LiesIn, main_lies, IsReadable, IsWired, wired_main, IsInOrder}
 use Rattle.expansion_laws.proofs.Heads.{declared_none, all_readable, outputs_fit, output_made}
-use Rattle.expansion_laws.proofs.Stepping.{IsReady, IsOpen, open_on, Comes, makes_no_stream, comes_on, IsDone, Adds, adds_none, adds_on, ready_on, adds_operator, operator_comes, operator_grows, new_body, opened, way_in, opened_in_order, opened_open, opened_ready, adds_body, body_comes}
+use Rattle.expansion_laws.proofs.Stepping.{IsReady, IsOpen, open_on, Comes, makes_no_stream, comes_on, IsDone, Adds, adds_none, adds_on, ready_on, adds_operator, operator_comes, operator_grows, opened, way_in, opened_in_order, opened_open, opened_ready, adds_body, body_comes}
 
 abbrev site : ℕ → ℕ → Site
 site k n = record { expansion = k; invocation = n }

@@ -9,7 +9,7 @@ use Rattle.spl_tree.specs.declared.unit.Composite.{Composite}
 use Rattle.spl_tree.specs.declared.unit.Definition.{Definition}
 use Rattle.language_model.specs.Composites.{composites, composite_named, has_no_ports, may_be_main, if_main, only_one, portless, behind_first, named_or_only}
 use Rattle.language_model.specs.Declarations.{declared_twice}
-use Rattle.language_model.specs.Expansion.{Found, Made}
+use Rattle.language_model.specs.Expansion.{Expanded, Made}
 use Rattle.language_model.specs.Flat.{IsFlat, IsMain, flat_from, graph_of, twice, no_main, recursive, expands}
 use Rattle.language_model.specs.Recursion.{HasNoRecursion, composite_callers}
 use Rattle.language_model.specs.Scopes.{At, first_from}
@@ -67,7 +67,7 @@ pub record IsOf (unit : List Definition) (names : List (List ℕ)) (g : Graph) :
   pub is : g ≡ graph_of made (topo_of made)
   pub flat : flat_from unit names main ≡ Ok g
 
-pub of_flat : (unit : List Definition) (names : List (List ℕ)) (g : Graph) (x : Found Graph) → IsFlat unit names x → x ≡ Ok g → IsOf unit names g
+pub of_flat : (unit : List Definition) (names : List (List ℕ)) (g : Graph) (x : Expanded Graph) → IsFlat unit names x → x ≡ Ok g → IsOf unit names g
 of_flat unit names g x (twice n declared) e = absurd cc
 of_flat unit names g x (no_main declared none) e = absurd cc
 of_flat unit names g x (recursive main n declared is r) e = absurd cc

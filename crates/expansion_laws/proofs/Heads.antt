@@ -9,7 +9,7 @@ use Rattle.spl_tree.specs.declared.unit.HeadPort.{HeadPort}
 use Rattle.spl_tree.specs.declared.unit.InputPort.{InputPort}
 use Rattle.spl_tree.specs.declared.unit.Invocation.{Invocation}
 use Rattle.language_model.specs.Declarations.{first_of}
-use Rattle.language_model.specs.Expansion.{Found, Made, if_declared}
+use Rattle.language_model.specs.Expansion.{Expanded, Made, if_declared}
 use Rattle.language_model.specs.Invoking.{target_of, is_nothing, undeclared, is_readable, is_among, stream_names, fits_head}
 use Rattle.expansion_laws.proofs.Growing.{AreReadable, IsReadable}
 use Rattle.spl_value.proofs.Bools.{and_parts}
@@ -33,7 +33,7 @@ module _ (c : Composite) (i : Invocation) (fits : fits_head c i ≡ true) where
 
 -- ---- what is declared
 
-pub declared_none : (o : Option (Placed (List ℕ))) (found : Found Made) (made : Made) → if_declared o found ≡ Ok made → o ≡ None
+pub declared_none : (o : Option (Placed (List ℕ))) (found : Expanded Made) (made : Made) → if_declared o found ≡ Ok made → o ≡ None
 declared_none None found made e = refl
 declared_none (Some n) found made e = absurd cc
 

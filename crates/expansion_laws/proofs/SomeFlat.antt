@@ -1,5 +1,5 @@
 -- A unit has a graph, or a first refusal on the way to it.
-use Rattle.std.specs.Prelude.{◌≡◌, ◌⊎◌, ℕ, suc, ◌+◌, Bool, true, false, if◌then◌else◌, codes, List, [], ◌∷◌, Option, Some, None, Err, slice_get}
+use Rattle.std.specs.Prelude.{◌≡◌, ◌⊎◌, ℕ, ◌+◌, Bool, true, false, if◌then◌else◌, codes, List, [], ◌∷◌, Option, Some, None, Err, slice_get}
 use Rattle.std.proofs.Common.{refl, sym, ap, ◌∙◌, arith, inl, inr}
 use Rattle.std.proofs.lemmas.Option.{same_Some}
 use Rattle.spl_tree.specs.declared.expression.Placed.{Placed}
@@ -10,7 +10,7 @@ use Rattle.language_model.specs.Composites.{composites, composite_named, has_no_
 use Rattle.language_model.specs.Declarations.{declared_twice}
 use Rattle.language_model.specs.Flat.{IsMain, flat_from, twice, no_main, recursive, expands}
 use Rattle.language_model.specs.Recursion.{HasNoRecursion, IsRecursive, in_functions, in_composites, IsNotRecursive, function_callers, composite_callers}
-use Rattle.language_model.specs.Scopes.{At, at_place, first_from}
+use Rattle.language_model.specs.Scopes.{At, first_from}
 use Rattle.language_model.proofs.Standing.{found_first}
 use Rattle.expansion_laws.specs.Laws.{IsFound, FoundLaw}
 use Rattle.expansion_laws.proofs.Reaching.{Recursion, recursion_decided}

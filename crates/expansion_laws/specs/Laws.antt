@@ -6,7 +6,7 @@ use Rattle.spl_tree.specs.declared.graph.Op.{Op}
 use Rattle.spl_tree.specs.declared.unit.Definition.{Definition}
 use Rattle.spl_tree.specs.declared.unit.InputPort.{InputPort}
 use Rattle.spl_tree.specs.declared.unit.Invocation.{Invocation}
-use Rattle.language_model.specs.Expansion.{Found}
+use Rattle.language_model.specs.Expansion.{Expanded}
 use Rattle.language_model.specs.CheckedGraph.{CheckedGraph}
 use Rattle.language_model.specs.Checking.{checked}
 use Rattle.language_model.specs.Flat.{IsFlat}
@@ -47,7 +47,7 @@ OrderLaw = OfFlat (λ unit g. IsTheOrder g g.topo × ((order : List ℕ) → IsT
 
 -- a unit has a graph, or a first refusal on the way to it
 abbrev pub IsFound : List Definition → List (List ℕ) → Type 0
-IsFound unit names = (x : Found Graph) × IsFlat unit names x
+IsFound unit names = (x : Expanded Graph) × IsFlat unit names x
 
 -- so each unit does
 abbrev pub FoundLaw : Type 0

@@ -1,8 +1,8 @@
--- How what the steps of an expansion find goes together.
+-- The operators and expansions of a graph, by their places.
 use Rattle.std.proofs.Common.{ap, arith, refl, ◌∙◌}
 use Rattle.std.specs.Option.{option_map}
-use Rattle.std.specs.Prelude.{Err, List, Ok, Some, [], length, slice_get, suc, zero, ℕ, ◌+◌, ◌∷◌, ◌≡◌}
-use Rattle.language_model.specs.Expansion.{Found, Inlined, Made, after}
+use Rattle.std.specs.Prelude.{List, Some, [], length, slice_get, suc, zero, ℕ, ◌+◌, ◌∷◌, ◌≡◌}
+use Rattle.language_model.specs.Expansion.{Inlined, Made}
 use Rattle.language_model.specs.Numbering.{expansion_of, expansions_from, op_of, ops_from}
 use Rattle.language_model.specs.declared.expansion.Operation.{Operation}
 
@@ -22,10 +22,3 @@ op_at made n (o ∷ ops) (suc m) = let same : suc n + m ≡ n + suc m = omega ar
 pub ops_length : (made : Made) (n : ℕ) (ops : List Operation) → length (ops_from made n ops) ≡ length ops
 ops_length made n [] = refl
 ops_length made n (o ∷ ops) = ap suc (ops_length made (suc n) ops)
-
-pub after_gives : {A B : Type 0} (x : Found A) (f : A → Found B) (b : B) → after x f ≡ Ok b → (a : A) × (x ≡ Ok a) × (f a ≡ Ok b)
-after_gives (Ok a) f b e = (a, refl, e)
-after_gives (Err r) f b e = absurd cc
-
-pub same_Ok : {A : Type 0} {x y : A} → ◌≡◌ {A = Found A} (Ok x) (Ok y) → x ≡ y
-same_Ok e = cc

@@ -21,7 +21,8 @@ use Rattle.language_model.specs.Numbering.{numbers_from, first_stream, op_of, op
 use Rattle.language_model.specs.Scopes.{At, at_place, first_from}
 use Rattle.language_model.specs.Taking.{taken, first_untaken}
 use Rattle.language_model.proofs.Options.{mapped}
-use Rattle.graph_laws.proofs.ExpansionAnswers.{after_gives, op_at}
+use Rattle.graph_laws.proofs.ExpansionAnswers.{op_at}
+use Rattle.language_model.proofs.FoundAnswers.{after_gives}
 use Rattle.spl_value.proofs.Lists.{before_more as in_front}
 use Rattle.std.specs.Str.{bytes_eq}
 use Rattle.spl_tree.specs.declared.graph.Site.{Site}

@@ -29,7 +29,8 @@ use Rattle.language_model.proofs.Options.{mapped}
 use Rattle.graph_laws.proofs.Inlining.{IsIn, Holds, Grows, within_is, found, declared_gives, main_holds}
 use Rattle.graph_laws.specs.Paths.{IsPath}
 use Rattle.graph_laws.proofs.Nesting.{composites_within, invoked_is_call}
-use Rattle.graph_laws.proofs.ExpansionAnswers.{after_gives, expansion_at, same_Ok}
+use Rattle.graph_laws.proofs.ExpansionAnswers.{expansion_at}
+use Rattle.language_model.proofs.FoundAnswers.{after_gives, same_Ok}
 use Rattle.spl_value.proofs.Lists.{append_front, append_last}
 
 -- ---- what stands in what was made

@@ -20,11 +20,11 @@ gives_then Q (Ok x) f k = k x refl
 gives_then Q (Err refusal) f k = tt
 
 -- what was found first, where something was found after it
-pub after_gives : {A B : Type 0} (x : Found A) (f : A → Found B) (b : B) → after x f ≡ Ok b → (a : A) × (x ≡ Ok a) × (f a ≡ Ok b)
+pub after_gives : {A B E : Type 0} (x : Result A E) (f : A → Result B E) (b : B) → after x f ≡ Ok b → (a : A) × (x ≡ Ok a) × (f a ≡ Ok b)
 after_gives (Ok a) f b e = (a, refl, e)
 after_gives (Err r) f b e = absurd cc
 
-pub same_Ok : {A : Type 0} {x y : A} → ◌≡◌ {A = Found A} (Ok x) (Ok y) → x ≡ y
+pub same_Ok : {A E : Type 0} {x y : A} → ◌≡◌ {A = Result A E} (Ok x) (Ok y) → x ≡ y
 same_Ok e = cc
 
 -- nothing came before
@@ -35,7 +35,7 @@ no_front front found is = plain found ∙ ap (λ xs. with_front xs found) (sym i
     plain (Ok xs) = refl
     plain (Err r) = refl
 
-pub after_after : {A B C : Type 0} (o : Found A) (f : A → Found B) (h : B → Found C) → after (after o f) h ≡ after o (λ x. after (f x) h)
+pub after_after : {A B C E : Type 0} (o : Result A E) (f : A → Result B E) (h : B → Result C E) → after (after o f) h ≡ after o (λ x. after (f x) h)
 after_after (Ok x) f h = refl
 after_after (Err r) f h = refl
 

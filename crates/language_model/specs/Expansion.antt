@@ -15,6 +15,7 @@ use Rattle.language_model.specs.declared.expansion.ExpansionRefusal.{ExpansionRe
 use Rattle.language_model.specs.declared.expansion.ExpansionRefusal.TheVariants as R
 use Rattle.language_model.specs.declared.expansion.Operation.{Operation}
 use Rattle.language_model.specs.declared.expansion.Source.{Source}
+pub use Rattle.language_model.specs.After.{after}
 use Rattle.language_model.specs.Composites.{composites}
 use Rattle.language_model.specs.Declarations.{first_of}
 use Rattle.language_model.specs.Invoking.{Target, Operator, Body, Nothing, target_of, undeclared, fits_head, stream_names, input_names}
@@ -34,12 +35,8 @@ pub record Made : Type 0 where
   pub ops : List Operation
   pub expansions : List Inlined
 
-abbrev pub Found : Type 0 → Type 0
-Found A = Result A ExpansionRefusal
-
-abbrev pub after : {A B : Type 0} → Found A → (A → Found B) → Found B
-after (Ok x) f = f x
-after (Err refusal) f = Err refusal
+abbrev pub Expanded : Type 0 → Type 0
+Expanded A = Result A ExpansionRefusal
 
 -- ---- names
 
@@ -125,7 +122,7 @@ is_within ops = nat_le (length ops) 256 && nat_lt (sum_by connections_of ops) (2
 abbrev pub with_operation : Operation → Made → Made
 with_operation op made = record { ops = made.ops ++ op ∷ []; expansions = made.expansions }
 
-abbrev pub if_within : ℕ → Made → Found Made
+abbrev pub if_within : ℕ → Made → Expanded Made
 if_within at made = if is_within made.ops then Ok made else Err (R.TooMany at)
 
 -- ---- composites
@@ -153,9 +150,9 @@ if_grown before made = if length before.ops == length made.ops then before else 
 
 -- how the body at a place is expanded
 abbrev pub Expands : Type 0
-Expands = Opened → Made → Found Made
+Expands = Opened → Made → Expanded Made
 
-abbrev pub expanded_target : Expands → Opened → ℕ → Invocation → Target → Made → Found Made
+abbrev pub expanded_target : Expands → Opened → ℕ → Invocation → Target → Made → Expanded Made
 expanded_target expands p number i (Operator kind) made = if_within i.at (with_operation (operation made.expansions p number i kind) made)
 expanded_target expands p number i (Body c) made =
     if fits_head c.what i
@@ -164,16 +161,16 @@ expanded_target expands p number i (Body c) made =
 expanded_target expands p number i Nothing made = Err (R.Unknown i.operator)
 
 -- what isn't declared is refused first
-abbrev pub if_declared : Option (Placed (List ℕ)) → Found Made → Found Made
+abbrev pub if_declared : Option (Placed (List ℕ)) → Expanded Made → Expanded Made
 if_declared None found = found
 if_declared (Some n) found = Err (R.Unknown n)
 
-abbrev pub expanded_invocation : Expands → List Definition → Opened → ℕ → Invocation → Made → Found Made
+abbrev pub expanded_invocation : Expands → List Definition → Opened → ℕ → Invocation → Made → Expanded Made
 expanded_invocation expands unit p number i made =
     if_declared (first_of (undeclared unit p.body.composite.what i)) (expanded_target expands p number i (target_of unit i.operator.what) made)
 
 -- the invocations of a graph one after another, from a number on
-abbrev pub expanded_graph : Expands → List Definition → Opened → ℕ → List Invocation → Made → Found Made
+abbrev pub expanded_graph : Expands → List Definition → Opened → ℕ → List Invocation → Made → Expanded Made
 expanded_graph expands unit p number [] made = Ok made
 expanded_graph expands unit p number (i ∷ is) made =
     after (expanded_invocation expands unit p number i made) (expanded_graph expands unit p (suc number) is)
@@ -187,7 +184,7 @@ abbrev pub main_body : At Composite → Inlined
 main_body main = record { composite = main; site = None }
 
 -- where no composite reaches itself, they nest no deeper than there are composites
-abbrev pub expanded_main : List Definition → At Composite → Found Made
+abbrev pub expanded_main : List Definition → At Composite → Expanded Made
 expanded_main unit main =
     expanded (length (composites unit)) unit
     (record { number = 0; prefix = []; body = main_body main })

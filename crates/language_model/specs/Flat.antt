@@ -11,7 +11,7 @@ use Rattle.spl_tree.specs.Grammar.{placed}
 use Rattle.language_model.specs.declared.expansion.ExpansionRefusal.TheVariants as R
 use Rattle.language_model.specs.Composites.{composites, main_of}
 use Rattle.language_model.specs.Declarations.{declared_twice, first_of, repeated}
-use Rattle.language_model.specs.Expansion.{Made, Found, after, expanded_main}
+use Rattle.language_model.specs.Expansion.{Made, Expanded, after, expanded_main}
 use Rattle.language_model.specs.Numbering.{ops_from, streams_from, expansions_from}
 use Rattle.language_model.specs.Recursion.{IsRecursive, IsNotRecursive}
 use Rattle.language_model.specs.Scopes.{At}
@@ -34,11 +34,11 @@ graph_of made topo =
     }
 
 -- the first operator that can't be taken is refused
-abbrev pub if_all_taken : Made → List ℕ → Option ℕ → Found Graph
+abbrev pub if_all_taken : Made → List ℕ → Option ℕ → Expanded Graph
 if_all_taken made topo None = Ok (graph_of made topo)
 if_all_taken made topo (Some n) = Err (R.Loop (label_at made n))
 
-abbrev pub ordered : Made → Found Graph
+abbrev pub ordered : Made → Expanded Graph
 ordered made =
     let topo = taken (streams_from 0 made.ops) (ops_from made 0 made.ops) in
     if_all_taken made topo (first_untaken topo 0 (length made.ops))
@@ -49,16 +49,16 @@ ordered made =
 abbrev pub files_had : List Definition → List (List ℕ) → List Expansion → List Op → List OpFile
 files_had unit names expansions ops = repeated (is_had names) (flat_map (op_file unit expansions) ops)
 
-abbrev pub if_none_had : Graph → Option (Placed (List ℕ)) → Found Graph
+abbrev pub if_none_had : Graph → Option (Placed (List ℕ)) → Expanded Graph
 if_none_had g None = Ok g
 if_none_had g (Some file) = Err (R.SameFile file)
 
-abbrev pub with_own_files : List Definition → List (List ℕ) → Graph → Found Graph
+abbrev pub with_own_files : List Definition → List (List ℕ) → Graph → Expanded Graph
 with_own_files unit names g = if_none_had g (first_of (map (λ f. f.file) (files_had unit names g.expansions g.ops)))
 
 -- ---- the whole
 
-abbrev pub flat_from : List Definition → List (List ℕ) → At Composite → Found Graph
+abbrev pub flat_from : List Definition → List (List ℕ) → At Composite → Expanded Graph
 flat_from unit names main = after (expanded_main unit main) (λ made. after (ordered made) (with_own_files unit names))
 
 -- the main composite, where there is one
@@ -67,7 +67,7 @@ IsMain unit main = (main_of unit ≡ Some main.place) × (slice_get (composites 
 
 -- names that are declared twice are refused first, then that there is no main composite, then recursion, and then what the expansion
 -- from the main composite on refuses
-pub data IsFlat (unit : List Definition) (names : List (List ℕ)) : Found Graph → Type 0 where
+pub data IsFlat (unit : List Definition) (names : List (List ℕ)) : Expanded Graph → Type 0 where
   twice : (n : Placed (List ℕ)) → declared_twice unit ≡ Some n → IsFlat unit names (Err (R.Twice n))
   no_main : declared_twice unit ≡ None → main_of unit ≡ None → IsFlat unit names (Err R.NoMain)
   recursive : (main : At Composite) (n : Placed (List ℕ)) → declared_twice unit ≡ None → IsMain unit main → IsRecursive unit n → IsFlat unit names (Err (R.Recursive n))

@@ -11,7 +11,7 @@ use Rattle.spl_tree.specs.declared.unit.Composite.{Composite}
 use Rattle.spl_tree.specs.declared.unit.Definition.{Definition}
 use Rattle.spl_tree.specs.declared.unit.Invocation.{Invocation}
 use Rattle.language_model.specs.Composites.{composites}
-use Rattle.language_model.specs.Expansion.{Found}
+use Rattle.language_model.specs.Expansion.{Expanded}
 use Rattle.language_model.specs.Flat.{IsFlat, flat_from}
 use Rattle.language_model.specs.Invoking.{Operator, Body, target_of}
 use Rattle.language_model.specs.Recursion.{HasNoRecursion, composite_callers}
@@ -20,7 +20,7 @@ use Rattle.language_model.specs.DollarTargets.{invocation_at}
 
 -- a unit has one answer at most
 abbrev pub OneFlatLaw : Type 0
-OneFlatLaw = (unit : List Definition) (names : List (List ℕ)) (x y : Found Graph) → IsFlat unit names x → IsFlat unit names y → x ≡ y
+OneFlatLaw = (unit : List Definition) (names : List (List ℕ)) (x y : Expanded Graph) → IsFlat unit names x → IsFlat unit names y → x ≡ y
 
 -- what holds of the graph of a unit from a main composite on
 abbrev pub OfGraphs : (List Definition → At Composite → Graph → Type 0) → Type 0

@@ -1,6 +1,7 @@
 pub mod steps
 pub mod Kinds
 pub mod Scopes
+pub mod After
 pub mod Typing
 pub mod Finds
 pub mod Outcomes

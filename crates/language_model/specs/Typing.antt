@@ -61,6 +61,7 @@ use Rattle.language_model.specs.declared.scope.Typed.{Typed}
 use Rattle.language_model.specs.declared.scope.CheckError.{CheckError}
 use Rattle.language_model.specs.declared.scope.CheckError.TheVariants as E
 use Rattle.language_model.specs.declared.scope.CheckRefusal.{CheckRefusal}
+pub use Rattle.language_model.specs.After.{after}
 use Rattle.language_model.specs.Scopes.{At, Meant, OfVariable, OfAttribute, OfPort, Nothing, meant, attribute_of, dollar_of, function_of, unresolved_of, variable_of}
 
 -- ---- types, wanted types and refusals
@@ -84,10 +85,6 @@ Wanted = Option SplType
 
 abbrev pub Found : Type 0 → Type 0
 Found A = Result A CheckRefusal
-
-abbrev pub after : {A B : Type 0} → Found A → (A → Found B) → Found B
-after (Ok x) f = f x
-after (Err refusal) f = Err refusal
 
 abbrev pub refused : {A : Type 0} → CheckError → ℕ → Option (List ℕ) → Found A
 refused error at name = Err (record { error = error; at = at; name = name })

@@ -13,7 +13,7 @@ use Rattle.language_model.specs.declared.scope.CheckRefusal.{CheckRefusal}
 use Rattle.language_model.specs.Accepted.{ProgramRefusal, Lexical, Unexpected, TooDeep, Expansion, IsAccepted, no_tokens, too_deep, unexpected, no_graph, checks, refused_check}
 use Rattle.language_model.specs.CheckedGraph.{CheckedGraph}
 use Rattle.language_model.specs.Checking.{checked}
-use Rattle.language_model.specs.Expansion.{Found}
+use Rattle.language_model.specs.Expansion.{Expanded}
 use Rattle.language_model.specs.Flat.{IsFlat}
 use Rattle.language_model.specs.FlatLaws.{OneFlatLaw}
 use Rattle.language_model.specs.Keeping.{Keeps}
@@ -26,13 +26,13 @@ Come = Result CheckedGraph ProgramRefusal
 ---- the result of a program, stage by stage
 
 -- the result of a unit whose graph or refusal is this
-abbrev behind_graph : List Definition → Found Graph → Come
+abbrev behind_graph : List Definition → Expanded Graph → Come
 behind_graph unit (Ok g) = refused_check (checked unit g)
 behind_graph unit (Err refusal) = Err (Expansion refusal)
 
 -- the result of tokens of which this is answered
 abbrev BehindAnswer : List (List ℕ) → Result (List Definition) SyntaxAnswer → Come → Type 0
-BehindAnswer names (Ok unit) x = (found : Found Graph) × IsFlat unit names found × (x ≡ behind_graph unit found)
+BehindAnswer names (Ok unit) x = (found : Expanded Graph) × IsFlat unit names found × (x ≡ behind_graph unit found)
 BehindAnswer names (Err (S.Unexpected at)) x = x ≡ Err (Unexpected at)
 BehindAnswer names (Err (S.TooDeep at)) x = x ≡ Err (TooDeep at)
 BehindAnswer names (Err S.Memory) x = ⊥

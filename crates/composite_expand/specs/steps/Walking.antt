@@ -4,7 +4,7 @@ use Rattle.spl_tree.specs.declared.unit.Composite.{Composite}
 use Rattle.spl_tree.specs.declared.unit.Definition.{Definition}
 use Rattle.spl_tree.specs.declared.unit.Invocation.{Invocation}
 use Rattle.language_model.specs.Declarations.{first_of}
-use Rattle.language_model.specs.Expansion.{Made, Found, Opened, after, expanded, expanded_graph, if_grown, with_expansion}
+use Rattle.language_model.specs.Expansion.{Made, Expanded, Opened, after, expanded, expanded_graph, if_grown, with_expansion}
 use Rattle.language_model.specs.Invoking.{Body, target_of, undeclared, fits_head}
 use Rattle.language_model.specs.Scopes.{At}
 
@@ -27,7 +27,7 @@ closed f [] made = made
 closed f (g ∷ gs) made = if_grown f.before made
 
 -- the result of the bodies on the way, the innermost first, in which others nest at most `depth` deep
-abbrev pub resumed : ℕ → List Definition → List Frame → Made → Found Made
+abbrev pub resumed : ℕ → List Definition → List Frame → Made → Expanded Made
 resumed depth unit [] made = Ok made
 resumed depth unit (f ∷ fs) made =
     after (expanded_graph (expanded depth unit) unit f.opened f.next (rest_of f) made) (λ m. resumed (suc depth) unit fs (closed f fs m))
