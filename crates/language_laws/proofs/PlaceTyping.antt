@@ -4,7 +4,6 @@ use Rattle.std.specs.Option.{option_map_or}
 use Rattle.std.proofs.Common.{refl, sym, ap, subst, ◌∙◌}
 use Rattle.spl_value.specs.declared.types.Named.{Named}
 use Rattle.spl_value.specs.declared.types.SplType.{SplType}
-use Rattle.spl_value.specs.declared.types.SplType.TheVariants as S
 use Rattle.spl_tree.specs.Grammar.{Expr}
 use Rattle.spl_tree.proofs.Induction.{ExprSteps, expr_ind}
 use Rattle.spl_tree.specs.declared.body.Place.{Place}
@@ -31,12 +30,13 @@ use Rattle.language_model.specs.declared.scope.Variable.{Variable}
 use Rattle.language_model.specs.BodyFits as B
 use Rattle.language_model.specs.BodyFits.{PlaceFits}
 use Rattle.language_model.specs.CodeFits as F
-use Rattle.language_model.specs.CodeFits.{CodeFits, SlotFits, StepsLead}
+use Rattle.language_model.specs.CodeFits.{SlotFits, StepsLead}
 use Rattle.language_model.specs.Scopes.{At, at_place, Meant, OfVariable, OfAttribute, OfPort, Nothing, meant, variable_meant, variable_of, attributes_of, attribute_of, port_of}
 use Rattle.language_model.specs.Typing.{Wanted, Found, after, mismatch, as_wanted, same_types, Part, part_typed, meant_typed, steps_typed, selected, select_typed, port_attribute, of_port, of_base, is_mutable, if_mutable, level_form, level_part, part, typed, typing}
 use Rattle.language_model.specs.StatementTyping.{TypedPlace, level_variable, level_place, place_given, place_typing}
 use Rattle.language_model.specs.FitLaws.{DollarsFit}
 use Rattle.language_laws.specs.PlaceLaws.{PlaceTypeLaw, read_code, PlaceReadsLaw}
+use Rattle.language_model.proofs.CodeParts.{Parts, parts}
 use Rattle.language_model.proofs.Standing.{Bears, variable_there}
 use Rattle.language_model.proofs.Wanting.{gives_both, gives_if, Some_thing, gives_some, part_of, part_at}
 use Rattle.language_laws.proofs.Fitting.{Fits, good, good_any}
@@ -161,12 +161,6 @@ rooted = expr_ind (λ e. Rooted (part e)) rooted_steps
 
 -- ---- the place that a code reads
 
--- what the parts of an open code fit, of a name and of what is taken
-abbrev Parts : Scope → Code-F Slot (Code Slot) → SplType → Type 0
-Parts scope (O.Name s) t = SlotFits scope s t
-Parts scope (O.Select x steps) t = (u : SplType) × CodeFits scope x u × StepsLead scope steps u t
-Parts scope _ t = Unit {0}
-
 -- steps from a variable that can be named lead to the type
 abbrev Stands : Scope → Place → SplType → Type 0
 Stands scope place t =
@@ -174,24 +168,6 @@ Stands scope place t =
     × StepsLead scope place.takings v.kind t
 
 module _ (scope : Scope) where
-  of_open : (x : Code Slot) (y : Code-F Slot (Code Slot)) (t : SplType) → out-Code Slot x ≡ y → Parts scope y t → Parts scope (out-Code Slot x) t
-  of_open x y t e h = subst (λ y. Parts scope y t) (sym e) h
-
-  parts : (x : Code Slot) (t : SplType) → CodeFits scope x t → Parts scope (out-Code Slot x) t
-  parts _ _ (F.literal v t h) = of_open (C.Literal v) (O.Literal v) t (C.outs-Literal v) tt
-  parts _ _ (F.name s t h) = of_open (C.Name s) (O.Name s) t (C.outs-Name s) h
-  parts _ _ (F.list xs t h) = of_open (C.List xs) (O.List xs) (S.List t) (C.outs-List xs) tt
-  parts _ _ (F.map xs k t h) = of_open (C.Map xs) (O.Map xs) (S.Map k t) (C.outs-Map xs) tt
-  parts _ _ (F.tuple fs schema h each) = of_open (C.Tuple fs) (O.Tuple fs) (S.Tuple schema) (C.outs-Tuple fs) tt
-  parts _ _ (F.select x steps t u f h) = of_open (C.Select x steps) (O.Select x steps) u (C.outs-Select x steps) (t, f, h)
-  parts _ _ (F.unary ops x t u f gives) = of_open (C.Unary ops x) (O.Unary ops x) u (C.outs-Unary ops x) tt
-  parts _ _ (F.binary op x y t u r f h gives) = of_open (C.Binary op x y) (O.Binary op x y) r (C.outs-Binary op x y) tt
-  parts _ _ (F.conditional c x y t f h i) = of_open (C.Conditional c x y) (O.Conditional c x y) t (C.outs-Conditional c x y) tt
-  parts _ _ (F.built_in call xs ts t h gives) = of_open (C.BuiltIn call xs) (O.BuiltIn call xs) t (C.outs-BuiltIn call xs) tt
-  parts _ _ (F.call i xs f t at result h) = of_open (C.Call i xs) (O.Call i xs) t (C.outs-Call i xs) tt
-  parts _ _ (F.is_marker m h) = of_open (C.IsMarker m) (O.IsMarker m) S.Bool (C.outs-IsMarker m) tt
-  parts _ _ (F.is_not_marker m h) = of_open (C.IsNotMarker m) (O.IsNotMarker m) S.Bool (C.outs-IsNotMarker m) tt
-
   slot_stands : (i : ℕ) (t : SplType) → SlotFits scope (L.Variable i) t → (takings : List (Selector (Code Slot))) (u : SplType)
       → StepsLead scope takings t u → Stands scope (record { variable = i; takings = takings }) u
   slot_stands _ _ (F.variable i v at named) takings u steps = (v, at, named, steps)
@@ -205,7 +181,7 @@ module _ (scope : Scope) where
   level_stands : (x : Code-F Slot (Code Slot)) (t : SplType) (place : Place) → Parts scope x t → level_place x ≡ Some place → Stands scope place t
   level_stands (O.Name (L.Variable i)) t place h e =
       let is : record { variable = i; takings = [] } ≡ place = cc e in subst (λ p. Stands scope p t) is (slot_stands i t h [] t (F.here t))
-  level_stands (O.Select base takings) t place h e = taken_stands (out-Code Slot base) takings h.0 t place (parts base h.0 h.1) h.2 e
+  level_stands (O.Select base takings) t place h e = taken_stands (out-Code Slot base) takings h.0 t place (parts scope base h.0 h.1) h.2 e
   level_stands _ t place h e = absurd cc
 
   stands_fits : (place : Place) (t : SplType) (v : Variable) → Stands scope place t → slice_get scope.vars place.variable ≡ Some v → IsTrue v.mutable

@@ -19,6 +19,7 @@ pub mod Variables
 pub mod Running
 pub mod Returning
 pub mod Calling
+pub mod CodeParts
 pub mod CodeInduction
 pub mod StatementInduction
 mod LastNamed
