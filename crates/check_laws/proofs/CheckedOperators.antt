@@ -1,9 +1,8 @@
 -- An operator that was checked fits its ports, the streams at these, and its clauses.
 use Rattle.std.specs.Prelude.{◌≡◌, ℕ, zero, suc, true, false, List, [], ◌∷◌, map, length, if◌then◌else◌, Option, Some, None, Ok, slice_get}
-use Rattle.std.specs.Option.{option_and_then, option_map, option_map_or}
+use Rattle.std.specs.Option.{option_and_then, option_map_or}
 use Rattle.std.proofs.Common.{refl, sym, ap, ◌∙◌, subst, arith}
 use Rattle.std.proofs.lemmas.Option.{same_Some}
-use Rattle.spl_tree.specs.declared.graph.Expansion.{Expansion}
 use Rattle.spl_tree.specs.declared.graph.Graph.{Graph}
 use Rattle.spl_tree.specs.declared.graph.Op.{Op}
 use Rattle.spl_tree.specs.declared.unit.Composite.{Composite}
@@ -20,11 +19,12 @@ use Rattle.language_model.specs.FlatLaws.{IsInvoked}
 use Rattle.language_model.specs.FunctionTyping.{unit_scope}
 use Rattle.language_model.specs.Keeping.{OperatorFits, PartFits}
 use Rattle.language_model.specs.Parameters.{Tables, table_at}
-use Rattle.language_model.specs.DollarTargets.{composite_of, invocation_at}
+use Rattle.language_model.specs.DollarTargets.{invocation_at}
 use Rattle.language_model.specs.StreamTypes.{Attributes, Body, body_at, outputs_attributes, passed, ports_attributes}
 use Rattle.language_model.specs.Typing.{Found, after, mismatch, refused}
 use Rattle.check_laws.specs.PartsLaw.{PartsLaw}
 use Rattle.language_model.proofs.FoundAnswers.{after_gives, same_Ok}
+use Rattle.check_laws.proofs.ExpansionBodies.{body_of}
 use Rattle.check_laws.proofs.GraphLimits.{HasPlaces}
 use Rattle.check_laws.proofs.StreamSchemas.{EachHas, outputs_have, ports_have}
 
@@ -82,27 +82,12 @@ stands_in unit g tables op part (Some b) at e =
 stands_at : (unit : List Definition) (g : Graph) (tables : Tables) (op : Op) (part : CheckedClauses) → operator_checked unit g tables op ≡ Ok part → StandsAt unit g tables op part
 stands_at unit g tables op part e = stands_in unit g tables op part (body_at unit g op.site.expansion) refl e
 
--- the composite of a body
-abbrev as_body : ℕ → Expansion → Option Composite → Option Body
-as_body number x o = option_map (λ c. record { number = number; expansion = x; composite = c }) o
-
-composite_there : (unit : List Definition) (number : ℕ) (o : Option Expansion) (b : Body) → option_and_then (λ x. as_body number x (composite_of unit x)) o ≡ Some b
-    → option_and_then (composite_of unit) o ≡ Some b.composite
-composite_there unit number None b e = absurd cc
-composite_there unit number (Some x) b e = of_expansion (composite_of unit x) e
-  where
-    of_expansion : (c : Option Composite) → as_body number x c ≡ Some b → c ≡ Some b.composite
-    of_expansion None e = absurd cc
-    of_expansion (Some c) e =
-        let same : ◌≡◌ {A = Body} (record { number = number; expansion = x; composite = c }) b = same_Some _ b e in
-        ap (λ (y : Body). Some y.composite) same
-
 -- the invocation at the site of an operator is the one in its body
 invocation_there : (unit : List Definition) (g : Graph) (op : Op) (b : Body) (i : Invocation) → body_at unit g op.site.expansion ≡ Some b
     → slice_get b.composite.graph op.site.invocation ≡ Some i → invocation_at unit g.expansions op.site ≡ Some i
 invocation_there unit g op b i at_body at_invocation =
     ap (option_and_then (λ (c : Composite). slice_get c.graph op.site.invocation))
-    (composite_there unit op.site.expansion (slice_get g.expansions op.site.expansion) b at_body) ∙ at_invocation
+    (body_of unit g op.site.expansion b at_body).composite ∙ at_invocation
 
 -- ---- ports
 

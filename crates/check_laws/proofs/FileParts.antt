@@ -1,9 +1,8 @@
 -- An operator that was checked has the file that was found of it before, or is of a kind without a file.
-use Rattle.std.specs.Prelude.{◌≡◌, ℕ, zero, suc, Bool, true, false, ◌||◌, List, [], ◌∷◌, ◌++◌, map, flat_map, length, codes, Option, Some, None, Ok, Err, slice_get, if◌then◌else◌}
-use Rattle.std.specs.Option.{option_and_then, option_map, option_map_or}
+use Rattle.std.specs.Prelude.{◌≡◌, ℕ, zero, suc, Bool, true, false, ◌||◌, List, [], ◌∷◌, ◌++◌, map, flat_map, codes, Option, Some, None, Ok, Err, slice_get, if◌then◌else◌}
+use Rattle.std.specs.Option.{option_and_then, option_map_or}
 use Rattle.std.proofs.Common.{refl, sym, ap, ap₂, subst, ◌∙◌}
 use Rattle.std.proofs.lemmas.List.{map-append}
-use Rattle.std.proofs.lemmas.Option.{same_Some}
 use Rattle.spl_tree.specs.declared.graph.Expansion.{Expansion}
 use Rattle.spl_tree.specs.declared.graph.Graph.{Graph}
 use Rattle.spl_tree.specs.declared.graph.Op.{Op}
@@ -17,22 +16,21 @@ use Rattle.spl_tree.specs.declared.unit.OutputAssignments.{OutputAssignments}
 use Rattle.spl_tree.specs.Grammar.{placed}
 use Rattle.language_model.specs.declared.checked.CheckedClauses.{CheckedClauses}
 use Rattle.language_model.specs.declared.checked.CheckedClauses.TheVariants as A
-use Rattle.language_model.specs.declared.checked.Policy.{Policy}
 use Rattle.language_model.specs.declared.kinds.Role.TheVariants as R
 use Rattle.language_model.specs.declared.scope.Port.{Port}
 use Rattle.language_model.specs.declared.scope.Scope.{Scope}
-use Rattle.language_model.specs.Checking.{Checks, aggregated, body_checked, clauses_checked, code_given, config_checked, file_given, first_of, invocation_checked, is_partitioned, joined, logic_checked, operator_checked, operators_checked, operator_scope, output_rows, parameters_checked, part_of, places_given, plain, port_types, ports_checked, ports_of, position_given, rows_checked, site_of, strict_given, surroundings, there, tuple_of, windows_checked}
+use Rattle.language_model.specs.Checking.{Checks, body_checked, clauses_checked, config_checked, file_given, invocation_checked, is_partitioned, logic_checked, operator_checked, operators_checked, operator_scope, output_rows, parameters_checked, part_of, port_types, ports_checked, ports_of, rows_checked, site_of, strict_given, surroundings, there, windows_checked}
 use Rattle.language_model.specs.Keeping as F
 use Rattle.language_model.specs.Keeping.{PartFits}
-use Rattle.language_model.specs.DollarTargets.{composite_of, followed, invocation_at, value_named}
+use Rattle.language_model.specs.DollarTargets.{followed, invocation_at, value_named}
 use Rattle.language_model.specs.Literals.{file_typing, number_literal}
-use Rattle.language_model.specs.LogicTyping.{Surroundings, logic_typing}
-use Rattle.language_model.specs.OutputTyping.{groups_typing, inputs_typing}
+use Rattle.language_model.specs.LogicTyping.{Surroundings}
 use Rattle.language_model.specs.ParameterTyping.{Site, needed, role_of}
 use Rattle.language_model.specs.Parameters.{Tables}
 use Rattle.language_model.specs.SinkFiles.{OpFile, file_of, is_sink, is_source, op_file, text_in}
 use Rattle.language_model.specs.StreamTypes.{Attributes, Body, body_at}
 use Rattle.language_model.specs.Typing.{Found, after, mismatch}
+use Rattle.check_laws.proofs.ExpansionBodies.{IsBodyOf, body_of}
 use Rattle.check_laws.proofs.FileParameters.{HasFile, has_file}
 use Rattle.check_laws.proofs.FollowedTexts.{file_found}
 use Rattle.language_model.proofs.FoundAnswers.{Gives, after_gives, gives_from, gives_then, same_Ok}
@@ -99,36 +97,6 @@ clauses_file op site around clauses found finds =
     gives_then Q (output_rows op.kind clauses.output) _ (λ rows is.
     kind_has_file site clauses found finds op.at op.kind (is_partitioned windows) (record { at = op.at; around = around; windows = windows; given = given }) rows params))))
 
--- ---- where an operator stands
-
-abbrev as_body : ℕ → Expansion → Option Composite → Option Body
-as_body number x o = option_map (λ c. record { number = number; expansion = x; composite = c }) o
-
--- a body is that of the expansion at its number
-record StandsAt (unit : List Definition) (expansions : List Expansion) (number : ℕ) (b : Body) : Type 0 where
-  numbered : b.number ≡ number
-  expansion : slice_get expansions number ≡ Some b.expansion
-  composite : option_and_then (composite_of unit) (slice_get expansions number) ≡ Some b.composite
-
-stands_at : (unit : List Definition) (g : Graph) (number : ℕ) (b : Body) → body_at unit g number ≡ Some b → StandsAt unit g.expansions number b
-stands_at unit g number b e = of_expansion (slice_get g.expansions number) refl e
-  where
-    of_composite : (x : Expansion) → slice_get g.expansions number ≡ Some x → (c : Option Composite) → composite_of unit x ≡ c → as_body number x c ≡ Some b
-        → StandsAt unit g.expansions number b
-    of_composite x there None none e = absurd cc
-    of_composite x there (Some c) own e =
-        let same : ◌≡◌ {A = Body} (record { number = number; expansion = x; composite = c }) b = same_Some _ b e in
-        record {
-          numbered = sym (ap (λ (y : Body). y.number) same);
-          expansion = there ∙ ap (λ (y : Body). Some y.expansion) same;
-          composite = ap (option_and_then (composite_of unit)) there ∙ own ∙ ap (λ (y : Body). Some y.composite) same;
-        }
-
-    of_expansion : (o : Option Expansion) → slice_get g.expansions number ≡ o → option_and_then (λ x. as_body number x (composite_of unit x)) o ≡ Some b
-        → StandsAt unit g.expansions number b
-    of_expansion None there e = absurd cc
-    of_expansion (Some x) there e = of_composite x there (composite_of unit x) refl e
-
 -- ---- operators
 
 -- the part of an operator whose kind has a file has the operator's
@@ -156,7 +124,7 @@ same_file unit expansions op part own fit = by_kind (is_filed op.kind) refl
 
 module _ (unit : List Definition) (g : Graph) (tables : Tables) where
   -- what the checks take as the file of the invocation is the operator's
-  finds_file : (op : Op) (b : Body) (i : Invocation) (ports : List Port) → StandsAt unit g.expansions op.site.expansion b
+  finds_file : (op : Op) (b : Body) (i : Invocation) (ports : List Port) → IsBodyOf unit g.expansions op.site.expansion b
       → slice_get b.composite.graph op.site.invocation ≡ Some i
       → (file : List ℕ) → HasFile (site_of unit g tables b ports) i.clauses.parameters file → file_of unit g.expansions op ≡ Some file
   finds_file op b i ports at there file h =
@@ -169,7 +137,7 @@ module _ (unit : List Definition) (g : Graph) (tables : Tables) where
       ∙ ap (option_and_then text) h.there
       ∙ file_found scope unit g.expansions op.site.expansion b.expansion h.expr file at.expansion typed
 
-  invocation_file : (op : Op) (b : Body) (i : Invocation) → StandsAt unit g.expansions op.site.expansion b → slice_get b.composite.graph op.site.invocation ≡ Some i
+  invocation_file : (op : Op) (b : Body) (i : Invocation) → IsBodyOf unit g.expansions op.site.expansion b → slice_get b.composite.graph op.site.invocation ≡ Some i
       → Gives (OwnFile unit g.expansions op) (invocation_checked unit g tables op b i)
   invocation_file op b i at there =
       let Q : CheckedClauses → Type 0 = OwnFile unit g.expansions op in
@@ -186,7 +154,7 @@ module _ (unit : List Definition) (g : Graph) (tables : Tables) where
       at_invocation : (o : Option Invocation) → slice_get b.composite.graph op.site.invocation ≡ o
           → Gives (OwnFile unit g.expansions op) (option_map_or (invocation_checked unit g tables op b) o (mismatch op.at))
       at_invocation None there = tt
-      at_invocation (Some i) there = invocation_file op b i (stands_at unit g op.site.expansion b at) there
+      at_invocation (Some i) there = invocation_file op b i (body_of unit g op.site.expansion b at) there
 
   operator_file : (op : Op) (part : CheckedClauses) → operator_checked unit g tables op ≡ Ok part → OwnFile unit g.expansions op part
   operator_file op part e =

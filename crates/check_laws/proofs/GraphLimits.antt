@@ -21,10 +21,10 @@ use Rattle.language_model.specs.Numbering.{expansion_of, expansions_from, op_of,
 use Rattle.language_model.specs.Scopes.{At}
 use Rattle.language_model.specs.DollarTargets.{composite_of}
 use Rattle.language_model.specs.StreamTypes.{Body, body_at, name_places}
-use Rattle.check_laws.proofs.GrownBodies.{Holds, Takes, main_holds}
 use Rattle.check_laws.proofs.SourceCounts.{body_of, port_counted, streams_within}
 use Rattle.check_laws.proofs.UnitGraphs.{IsMade}
 use Rattle.graph_laws.proofs.ExpansionAnswers.{expansion_at, op_at, ops_length}
+use Rattle.graph_laws.proofs.Inlining.{Holds, Takes, main_holds}
 use Rattle.spl_value.proofs.Lists.{at_most_sum, before_more as in_front}
 use Rattle.language_model.proofs.Options.{mapped}
 
@@ -110,14 +110,14 @@ has_places_in unit g made o n b i h is there t at_body at_invocation =
     front o.site.expansion (slice_get_within t.earlier o.site.expansion t.body t.in_bodies) ∙ t.in_bodies in
     let body : body_of made o.site.expansion t.body ≡ b =
     same_Some (body_of made o.site.expansion t.body) b
-    (sym (body_there unit g made o.site.expansion t.body is at (h.bodies o.site.expansion t.body at).of_unit) ∙ at_body) in
+    (sym (body_there unit g made o.site.expansion t.body is at (h.bodies o.site.expansion t.body at)) ∙ at_body) in
     let invocation : t.invocation ≡ i =
     same_Some t.invocation i
     (sym t.in_graph ∙ ap (λ (b : Body). slice_get b.composite.graph o.site.invocation) body ∙ at_invocation) in
     let few : connections_of o < 2 ^ 30 =
     (let w = within made.ops h.within in let le = at_most_sum connections_of made.ops n o there in omega (arith, w.connections, le)) in
     let places : HasPlaces (op_of made n o) (body_of made o.site.expansion t.body) t.invocation =
-    port_counted made o t.earlier t.body t.invocation front (λ k e s at_e at_site. (h.bodies k e at_e).behind s at_site) t.in_bodies t.ins few in
+    port_counted made o t.earlier t.body t.invocation front (λ k e s at_e at_site. h.later k e at_e s at_site) t.in_bodies t.ins few in
     subst (λ (c : Body). HasPlaces (op_of made n o) c i) body (subst (HasPlaces (op_of made n o) (body_of made o.site.expansion t.body)) invocation places)
 
 pub has_places : (unit : List Definition) (main : At Composite) (g : Graph) → slice_get (composites unit) main.place ≡ Some main.what → IsMade unit main g
@@ -128,6 +128,6 @@ has_places unit main g there m n op at b i at_body at_invocation =
     let o = of_operation m.made op n (sym (ap (λ l. slice_get l n) m.ops) ∙ at) in
     let site : o.operation.site ≡ op.site = ap (λ (x : Op). x.site) o.is in
     subst (λ (x : Op). HasPlaces x b i) o.is
-    (has_places_in unit g m.made o.operation n b i h m.expansions o.there (h.ops n o.operation o.there)
+    (has_places_in unit g m.made o.operation n b i h m.expansions o.there (h.taken n o.operation o.there)
     (ap (λ (s : Site). body_at unit g s.expansion) site ∙ at_body)
     (ap (λ (s : Site). slice_get b.composite.graph s.invocation) site ∙ at_invocation))

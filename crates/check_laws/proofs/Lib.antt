@@ -2,10 +2,10 @@ mod PlainStates
 mod DollarTables
 pub mod SignedFunctions
 mod UnitGraphs
-mod GrownBodies
 mod SourceCounts
 mod GraphLimits
 mod StreamSchemas
+mod ExpansionBodies
 mod CheckedOperators
 mod KeptGraphs
 mod Accepting

@@ -1,5 +1,5 @@
 -- The sinks of a checked graph have files of their own.
-use Rattle.std.specs.Prelude.{◌≡◌, ℕ, Bool, true, false, ◌&&◌, ◌||◌, List, [], ◌∷◌, ◌++◌, map, flat_map, length, Option, Some, None, Ok, Err, slice_get}
+use Rattle.std.specs.Prelude.{◌≡◌, ℕ, Bool, true, false, ◌&&◌, ◌||◌, List, [], ◌∷◌, ◌++◌, map, flat_map, length, Option, Some, None, Ok, slice_get}
 use Rattle.std.specs.Str.{bytes_eq}
 use Rattle.std.specs.Cmp.Lexicographic.{bytes_decides}
 use Rattle.std.proofs.Common.{refl, sym, ap, subst, ◌∙◌}
@@ -15,8 +15,7 @@ use Rattle.language_model.specs.declared.checked.CheckedClauses.TheVariants as A
 use Rattle.language_model.specs.CheckedGraph.{CheckedGraph}
 use Rattle.language_model.specs.Checking.{checked, each_stream, operators_checked}
 use Rattle.language_model.specs.Declarations.{first_of}
-use Rattle.language_model.specs.Expansion as E
-use Rattle.language_model.specs.Expansion.{Made, expanded_main}
+use Rattle.language_model.specs.Expansion.{Expanded, expanded_main}
 use Rattle.language_model.specs.Flat.{IsFlat, expands, files_had, flat_from, if_none_had, no_main, ordered, recursive, twice, with_own_files}
 use Rattle.language_model.specs.FunctionTyping.{functions_typing}
 use Rattle.language_model.specs.Keeping.{Keeps}
@@ -131,10 +130,6 @@ module _ (names : List (List ℕ)) where
 
 -- ---- graphs
 
-found_after : {A B : Type 0} (x : E.Found A) (f : A → E.Found B) (b : B) → E.after x f ≡ Ok b → (a : A) × (x ≡ Ok a) × (f a ≡ Ok b)
-found_after (Ok a) f b e = (a, refl, e)
-found_after (Err r) f b e = absurd cc
-
 no_place : (fs : List OpFile) (o : Option (Placed (List ℕ))) → first_of (map (λ f. f.file) fs) ≡ o → o ≡ None → fs ≡ []
 no_place [] o e none = refl
 no_place (f ∷ fs) o e none = absurd cc
@@ -148,17 +143,17 @@ none_twice unit names h g e = by_first (first_of (map (λ f. f.file) (files_had 
   where
     by_first : (o : Option (Placed (List ℕ))) → first_of (map (λ f. f.file) (files_had unit names h.expansions h.ops)) ≡ o → if_none_had h o ≡ Ok g → NoneTwice unit names g
     by_first None is e =
-        let same : h ≡ g = (let found : ◌≡◌ {A = E.Found Graph} (Ok h) (Ok g) = e in cc) in
+        let same : h ≡ g = same_Ok e in
         subst (NoneTwice unit names) same record { none = no_place (files_had unit names h.expansions h.ops) None is refl }
     by_first (Some file) is e = absurd cc
 
 flat_none : (unit : List Definition) (names : List (List ℕ)) (main : At Composite) (g : Graph) → flat_from unit names main ≡ Ok g → NoneTwice unit names g
 flat_none unit names main g e =
-    let x = found_after (expanded_main unit main) (λ made. E.after (ordered made) (with_own_files unit names)) g e in
-    let y = found_after (ordered x.0) (with_own_files unit names) g x.2 in
+    let x = after_gives (expanded_main unit main) (λ made. after (ordered made) (with_own_files unit names)) g e in
+    let y = after_gives (ordered x.0) (with_own_files unit names) g x.2 in
     none_twice unit names y.0 g y.2
 
-graph_none : (unit : List Definition) (names : List (List ℕ)) (g : Graph) (x : E.Found Graph) → IsFlat unit names x → x ≡ Ok g → NoneTwice unit names g
+graph_none : (unit : List Definition) (names : List (List ℕ)) (g : Graph) (x : Expanded Graph) → IsFlat unit names x → x ≡ Ok g → NoneTwice unit names g
 graph_none unit names g x (twice n declared) e = absurd cc
 graph_none unit names g x (no_main declared none) e = absurd cc
 graph_none unit names g x (recursive main n declared is r) e = absurd cc

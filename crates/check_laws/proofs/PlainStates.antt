@@ -16,7 +16,7 @@ use Rattle.spl_tree.specs.declared.token.Number.{Number}
 use Rattle.spl_tree.specs.declared.code.Code.{Code}
 use Rattle.spl_tree.specs.declared.code.Code.TheVariants as C
 use Rattle.spl_tree.specs.declared.code.Code.TheOpen as O
-use Rattle.spl_tree.specs.declared.code.Code.TheFolds.{fold_out-Code, map-Code}
+use Rattle.spl_tree.specs.declared.code.Code.TheFolds.{map-Code}
 use Rattle.spl_tree.specs.declared.code.Slot.{Slot}
 use Rattle.spl_tree.specs.declared.code.UnaryCode.{UnaryCode}
 use Rattle.spl_tree.specs.declared.expression.ExprKind.{ExprKind}

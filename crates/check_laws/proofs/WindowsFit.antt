@@ -1,5 +1,5 @@
 -- The windows of an operator fit its ports.
-use Rattle.std.specs.Prelude.{◌≡◌, ◌==◌, ◌+◌, ℕ, suc, pos, nat_le, Bool, true, false, ◌&&◌, IsTrue, List, [], ◌∷◌, Option, Some, None, Ok, slice_get, if◌then◌else◌, codes}
+use Rattle.std.specs.Prelude.{◌≡◌, ◌==◌, ◌+◌, ℕ, suc, pos, nat_le, Bool, false, ◌&&◌, IsTrue, List, [], ◌∷◌, Option, Some, None, Ok, slice_get, if◌then◌else◌, codes}
 use Rattle.std.specs.List.{AllByRecursion, list_any}
 use Rattle.std.specs.Str.{bytes_eq}
 use Rattle.std.specs.Cmp.{first_so, second_so}

@@ -1,12 +1,15 @@
--- Each operator of a graph is that of an invocation in the body of a composite.
-use Rattle.std.specs.Prelude.{◌≡◌, ◌+◌, ◌==◌, ◌⊎◌, ℕ, zero, suc, List, [], ◌∷◌, ◌++◌, length, Option, Some, None, Ok, Err, slice_get, if◌then◌else◌, true, false}
+-- What was expanded: each body is that of a composite, and stands after the one in which it is invoked; each operator is that of
+-- an invocation in a body, and takes what names meant when it was added; and there are not too many.
+use Rattle.std.specs.Prelude.{◌≡◌, ◌+◌, ◌==◌, ◌<◌, ◌⊎◌, ℕ, zero, suc, List, [], ◌∷◌, ◌++◌, length, Option, Some, None, Ok, Err, slice_get, if◌then◌else◌, true, false}
 use Rattle.std.specs.Str.{bytes_eq}
-use Rattle.std.proofs.Common.{refl, sym, ap, ◌∙◌, subst, arith, inl, inr}
-use Rattle.std.proofs.lemmas.List.{length-map}
+use Rattle.std.proofs.Common.{refl, sym, ap, ◌∙◌, subst, arith, inl, inr, append_assoc}
+use Rattle.std.proofs.lemmas.List.{length-map, append-nil}
+use Rattle.std.proofs.lemmas.Option.{slice_get_within}
 use Rattle.spl_tree.specs.declared.expression.Placed.{Placed}
 use Rattle.spl_tree.specs.declared.graph.Expansion.{Expansion}
 use Rattle.spl_tree.specs.declared.graph.Graph.{Graph}
 use Rattle.spl_tree.specs.declared.graph.OpKind.{OpKind}
+use Rattle.spl_tree.specs.declared.graph.Site.{Site}
 use Rattle.spl_tree.specs.declared.unit.Composite.{Composite}
 use Rattle.spl_tree.specs.declared.unit.Definition.{Definition}
 use Rattle.spl_tree.specs.declared.unit.Invocation.{Invocation}
@@ -15,7 +18,7 @@ use Rattle.language_model.specs.declared.expansion.ExpansionRefusal.TheVariants 
 use Rattle.language_model.specs.Composites.{composites, composite_named}
 use Rattle.language_model.specs.Declarations.{first_of}
 use Rattle.language_model.specs.declared.expansion.Operation.{Operation}
-use Rattle.language_model.specs.Expansion.{Made, Found, Inlined, Opened, Expands, after, operation, with_operation, if_within, is_within, inlined, opened_in, with_expansion, if_grown, expanded_target, if_declared, expanded_invocation, expanded_graph, expanded, main_body, expanded_main}
+use Rattle.language_model.specs.Expansion.{Made, Expanded, Inlined, Opened, Expands, after, operation, with_operation, if_within, is_within, inlined, opened_in, with_expansion, if_grown, expanded_target, if_declared, expanded_invocation, expanded_graph, expanded, main_body, expanded_main, ports_of}
 use Rattle.language_model.specs.Flat.{graph_of}
 use Rattle.language_model.specs.FlatLaws.{IsInvoked, OperatorLaw}
 use Rattle.language_model.specs.Kinds.{kind_named}
@@ -26,8 +29,9 @@ use Rattle.graph_laws.proofs.Flattening.{topo_of, made_of, numbers_length}
 use Rattle.language_model.proofs.Options.{mapped}
 use Rattle.language_model.proofs.Standing as F
 use Rattle.language_model.proofs.Standing.{first_stands}
-use Rattle.graph_laws.proofs.ExpansionAnswers.{after_gives, op_at, same_Ok}
-use Rattle.spl_value.proofs.Lists.{before_more as in_front, append_front, append_last}
+use Rattle.graph_laws.proofs.ExpansionAnswers.{op_at}
+use Rattle.language_model.proofs.FoundAnswers.{after_gives, same_Ok}
+use Rattle.spl_value.proofs.Lists.{append_front, append_last}
 
 -- ---- what stands in what was made
 
@@ -46,20 +50,52 @@ pub record Stands (unit : List Definition) (bodies : List Inlined) (o : Operatio
   pub ins : length o.ins ≡ length invocation.inputs
   pub outputs : o.outputs ≡ length invocation.outputs
 
+-- it takes what the names of its invocation meant among the bodies that there were
+pub record Takes (bodies : List Inlined) (o : Operation) : Type 0 where
+  pub earlier : List Inlined
+  pub later : List Inlined
+  pub split : bodies ≡ earlier ++ later
+  pub body : Inlined
+  pub invocation : Invocation
+  pub in_bodies : slice_get earlier o.site.expansion ≡ Some body
+  pub in_graph : slice_get body.composite.what.graph o.site.invocation ≡ Some invocation
+  pub ins : o.ins ≡ ports_of earlier o.site.expansion invocation
+
+-- the body at that place is invoked in one before it
+abbrev pub IsLater : ℕ → Inlined → Type 0
+IsLater k e = (s : Site) → e.site ≡ Some s → s.expansion < k
+
 pub record Holds (unit : List Definition) (made : Made) : Type 0 where
   pub bodies : (k : ℕ) (e : Inlined) → slice_get made.expansions k ≡ Some e → IsIn unit e
+  pub later : (k : ℕ) (e : Inlined) → slice_get made.expansions k ≡ Some e → IsLater k e
   pub ops : (n : ℕ) (o : Operation) → slice_get made.ops n ≡ Some o → Stands unit made.expansions o
+  pub taken : (n : ℕ) (o : Operation) → slice_get made.ops n ≡ Some o → Takes made.expansions o
+  pub within : is_within made.ops ≡ true
 
 -- the bodies are kept
 abbrev pub Grows : List Inlined → List Inlined → Type 0
 Grows xs ys = (k : ℕ) (e : Inlined) → slice_get xs k ≡ Some e → slice_get ys k ≡ Some e
 
--- what stands in a list with one more: in the list, or that one
-in_or_last : {A : Type 0} (xs : List A) (y : A) (i : ℕ) (x : A) → slice_get (xs ++ y ∷ []) i ≡ Some x → (slice_get xs i ≡ Some x) ⊎ (y ≡ x)
-in_or_last [] y zero x e = inr cc
+-- they are kept at the front
+record Begins (xs ys : List Inlined) : Type 0 where
+  pub more : List Inlined
+  pub is : ys ≡ xs ++ more
+
+begins_same : (xs : List Inlined) → Begins xs xs
+begins_same xs = record { more = []; is = sym (append-nil xs) }
+
+begins_on : (xs ys zs : List Inlined) → Begins xs ys → Begins ys zs → Begins xs zs
+begins_on xs ys zs f g = record { more = f.more ++ g.more; is = g.is ∙ ap (λ l. l ++ g.more) f.is ∙ append_assoc xs f.more g.more }
+
+still_there : (xs ys : List Inlined) → Begins xs ys → Grows xs ys
+still_there xs ys b k e at = ap (λ l. slice_get l k) b.is ∙ append_front xs b.more k e at
+
+-- what stands in a list with one more: in the list, or that one at its end
+in_or_last : {A : Type 0} (xs : List A) (y : A) (i : ℕ) (x : A) → slice_get (xs ++ y ∷ []) i ≡ Some x → (slice_get xs i ≡ Some x) ⊎ ((y ≡ x) × (i ≡ length xs))
+in_or_last [] y zero x e = inr (cc, refl)
 in_or_last [] y (suc i) x e = absurd cc
 in_or_last (z ∷ xs) y zero x e = inl e
-in_or_last (z ∷ xs) y (suc i) x e = in_or_last xs y i x e
+in_or_last (z ∷ xs) y (suc i) x e = elim (in_or_last xs y i x e) [ inl old ↦ inl old | inr new ↦ inr (new.0, ap suc new.1) ]
 
 stands_on : (unit : List Definition) (xs ys : List Inlined) (o : Operation) → Grows xs ys → Stands unit xs o → Stands unit ys o
 stands_on unit xs ys o grows s = record {
@@ -73,12 +109,24 @@ stands_on unit xs ys o grows s = record {
   outputs = s.outputs;
 }
 
+takes_on : (xs ys : List Inlined) (o : Operation) → Begins xs ys → Takes xs o → Takes ys o
+takes_on xs ys o b t = record {
+  earlier = t.earlier;
+  later = t.later ++ b.more;
+  split = b.is ∙ ap (λ l. l ++ b.more) t.split ∙ append_assoc t.earlier t.later b.more;
+  body = t.body;
+  invocation = t.invocation;
+  in_bodies = t.in_bodies;
+  in_graph = t.in_graph;
+  ins = t.ins;
+}
+
 -- ---- what one step makes
 
 -- what comes of what was made, where the body that is being expanded stands there
 record Keeps (unit : List Definition) (before next : Made) : Type 0 where
   pub holds : Holds unit next
-  pub grows : Grows before.expansions next.expansions
+  pub begins : Begins before.expansions next.expansions
 
 abbrev StandsIn : Opened → Made → Type 0
 StandsIn p made = slice_get made.expansions p.number ≡ Some p.body
@@ -87,13 +135,16 @@ abbrev KeepsAll : List Definition → Expands → Type 0
 KeepsAll unit expands = (p : Opened) (before next : Made) → Holds unit before → StandsIn p before → expands p before ≡ Ok next → Keeps unit before next
 
 kept : (unit : List Definition) (made : Made) → Holds unit made → Keeps unit made made
-kept unit made h = record { holds = h; grows = λ k e is. is }
+kept unit made h = record { holds = h; begins = begins_same made.expansions }
 
 keeps_on : (unit : List Definition) (x y z : Made) → Keeps unit x y → Keeps unit y z → Keeps unit x z
-keeps_on unit x y z f g = record { holds = g.holds; grows = λ k e is. g.grows k e (f.grows k e is) }
+keeps_on unit x y z f g = record { holds = g.holds; begins = begins_on x.expansions y.expansions z.expansions f.begins g.begins }
 
 pub within_is : (at : ℕ) (made next : Made) → if_within at made ≡ Ok next → made ≡ next
 within_is at made next e = elim (is_within made.ops) as (λ b. (if b then Ok made else Err (R.TooMany at)) ≡ Ok next → made ≡ next) [ true ↦ λ is. cc | false ↦ λ is. absurd cc ] e
+
+within_holds : (at : ℕ) (made next : Made) → if_within at made ≡ Ok next → is_within made.ops ≡ true
+within_holds at made next e = elim (is_within made.ops) as (λ b. (if b then Ok made else Err (R.TooMany at)) ≡ Ok next → b ≡ true) [ true ↦ λ is. refl | false ↦ λ is. absurd cc ] e
 
 module _ (unit : List Definition) (p : Opened) (number : ℕ) (i : Invocation) (before next : Made) (h : Holds unit before) (stands : StandsIn p before)
     (there : slice_get p.body.composite.what.graph number ≡ Some i) where
@@ -109,20 +160,40 @@ module _ (unit : List Definition) (p : Opened) (number : ℕ) (i : Invocation) (
     outputs = refl;
   }
 
-  with_operation_holds : (kind : OpKind) → target_of unit i.operator.what ≡ Operator kind → Holds unit (with_operation (operation before.expansions p number i kind) before)
-  with_operation_holds kind target = record {
+  operator_takes : (kind : OpKind) → Takes before.expansions (operation before.expansions p number i kind)
+  operator_takes kind = record {
+    earlier = before.expansions;
+    later = [];
+    split = sym (append-nil before.expansions);
+    body = p.body;
+    invocation = i;
+    in_bodies = stands;
+    in_graph = there;
+    ins = refl;
+  }
+
+  with_operation_holds : (kind : OpKind) → target_of unit i.operator.what ≡ Operator kind → is_within (with_operation (operation before.expansions p number i kind) before).ops ≡ true
+      → Holds unit (with_operation (operation before.expansions p number i kind) before)
+  with_operation_holds kind target fine = record {
     bodies = h.bodies;
+    later = h.later;
     ops = λ n o is. elim (in_or_last before.ops (operation before.expansions p number i kind) n o is) [
       | inl old ↦ h.ops n o old
-      | inr same ↦ subst (Stands unit before.expansions) same (operator_stands kind target)
+      | inr new ↦ subst (Stands unit before.expansions) new.0 (operator_stands kind target)
     ];
+    taken = λ n o is. elim (in_or_last before.ops (operation before.expansions p number i kind) n o is) [
+      | inl old ↦ h.taken n o old
+      | inr new ↦ subst (Takes before.expansions) new.0 (operator_takes kind)
+    ];
+    within = fine;
   }
 
   keeps_operator : (kind : OpKind) → target_of unit i.operator.what ≡ Operator kind
       → if_within i.at (with_operation (operation before.expansions p number i kind) before) ≡ Ok next → Keeps unit before next
   keeps_operator kind target e =
-      subst (Keeps unit before) (within_is i.at (with_operation (operation before.expansions p number i kind) before) next e)
-      record { holds = with_operation_holds kind target; grows = λ k x is. is }
+      let made = with_operation (operation before.expansions p number i kind) before in
+      subst (Keeps unit before) (within_is i.at made next e)
+      record { holds = with_operation_holds kind target (within_holds i.at made next e); begins = begins_same before.expansions }
 
 -- ---- a composite
 
@@ -142,14 +213,23 @@ found unit name c e =
     let same : c.place ≡ h.0 = omega arith in
     rw same h.2
 
-with_expansion_keeps : (unit : List Definition) (x : Inlined) (made : Made) → Holds unit made → IsIn unit x → Keeps unit made (with_expansion x made)
-with_expansion_keeps unit x made h is = record {
-  holds = record {
-    bodies = λ k e at. elim (in_or_last made.expansions x k e at) [ inl old ↦ h.bodies k e old | inr same ↦ subst (IsIn unit) same is ];
-    ops = λ n o at. stands_on unit made.expansions (made.expansions ++ x ∷ []) o (append_front made.expansions (x ∷ [])) (h.ops n o at);
-  };
-  grows = append_front made.expansions (x ∷ []);
-}
+with_expansion_keeps : (unit : List Definition) (x : Inlined) (made : Made) → Holds unit made → IsIn unit x → IsLater (length made.expansions) x
+    → Keeps unit made (with_expansion x made)
+with_expansion_keeps unit x made h is later =
+    let more : Begins made.expansions (made.expansions ++ x ∷ []) = record { more = x ∷ []; is = refl } in
+    record {
+      holds = record {
+        bodies = λ k e at. elim (in_or_last made.expansions x k e at) [ inl old ↦ h.bodies k e old | inr new ↦ subst (IsIn unit) new.0 is ];
+        later = λ k e at. elim (in_or_last made.expansions x k e at) [
+          | inl old ↦ h.later k e old
+          | inr new ↦ subst (IsLater k) new.0 (subst (λ (n : ℕ). IsLater n x) (sym new.1) later)
+        ];
+        ops = λ n o at. stands_on unit made.expansions (made.expansions ++ x ∷ []) o (append_front made.expansions (x ∷ [])) (h.ops n o at);
+        taken = λ n o at. takes_on made.expansions (made.expansions ++ x ∷ []) o more (h.taken n o at);
+        within = h.within;
+      };
+      begins = more;
+    }
 
 if_grown_keeps : (unit : List Definition) (before m next : Made) → Holds unit before → Keeps unit before m → if_grown before m ≡ next → Keeps unit before next
 if_grown_keeps unit before m next h k e =
@@ -163,13 +243,23 @@ module _ (unit : List Definition) (expands : Expands) (all : KeepsAll unit expan
   abbrev opened : At Composite → Made
   opened c = with_expansion (inlined p number c) before
 
-  abbrev inside : At Composite → Found Made
+  abbrev inside : At Composite → Expanded Made
   inside c = expands (opened_in p number i c before) (opened c)
+
+  inlined_later : (c : At Composite) → IsLater (length before.expansions) (inlined p number c)
+  inlined_later c s e =
+      let own : p.number ≡ s.expansion = ap (λ (o : Option Site). at_site o) e in
+      let lt : p.number < length before.expansions = slice_get_within before.expansions p.number p.body stands in
+      omega arith
+    where
+      at_site : Option Site → ℕ
+      at_site None = 0
+      at_site (Some s) = s.expansion
 
   body_keeps : (c : At Composite) → IsIn unit (inlined p number c) → after (inside c) (λ m. Ok (if_grown before m)) ≡ Ok next → Keeps unit before next
   body_keeps c is e =
       let x = after_gives (inside c) (λ m. Ok (if_grown before m)) next e in
-      let first = with_expansion_keeps unit (inlined p number c) before h is in
+      let first = with_expansion_keeps unit (inlined p number c) before h is (inlined_later c) in
       let rest = all (opened_in p number i c before) (opened c) x.0 first.holds (append_last before.expansions (inlined p number c)) x.1 in
       if_grown_keeps unit before x.0 next h (keeps_on unit before (opened c) x.0 first rest) (same_Ok x.2)
 
@@ -189,7 +279,7 @@ module _ (unit : List Definition) (expands : Expands) (all : KeepsAll unit expan
 
 -- ---- a graph
 
-pub declared_gives : (o : Option (Placed (List ℕ))) (found : Found Made) (made : Made) → if_declared o found ≡ Ok made → found ≡ Ok made
+pub declared_gives : (o : Option (Placed (List ℕ))) (found : Expanded Made) (made : Made) → if_declared o found ≡ Ok made → found ≡ Ok made
 declared_gives None found made e = e
 declared_gives (Some n) found made e = absurd cc
 
@@ -210,7 +300,7 @@ module _ (unit : List Definition) (expands : Expands) (all : KeepsAll unit expan
       let first = keeps_invocation number i before x.0 h stands (sym (ap (slice_get p.body.composite.what.graph) here) ∙ there 0 i refl) x.1 in
       let later = λ (j : ℕ) (k : Invocation) (is_there : slice_get is j ≡ Some k).
       (let same : suc number + j ≡ number + suc j = omega arith in ap (slice_get p.body.composite.what.graph) same ∙ there (suc j) k is_there) in
-      keeps_on unit before x.0 next first (keeps_graph (suc number) is x.0 next first.holds (first.grows p.number p.body stands) later x.2)
+      keeps_on unit before x.0 next first (keeps_graph (suc number) is x.0 next first.holds (still_there before.expansions x.0.expansions first.begins p.number p.body stands) later x.2)
 
 keeps : (unit : List Definition) (depth : ℕ) → KeepsAll unit (expanded depth unit)
 keeps unit zero p before next h stands e = let same : before ≡ next = same_Ok e in subst (Keeps unit before) same (kept unit before h)
@@ -223,11 +313,14 @@ keeps unit (suc depth) p before next h stands e =
 pub main_holds : (unit : List Definition) (main : At Composite) (made : Made) → slice_get (composites unit) main.place ≡ Some main.what → expanded_main unit main ≡ Ok made → Holds unit made
 main_holds unit main made is e =
     (keeps unit _ (record { number = 0; prefix = []; body = main_body main }) (record { ops = []; expansions = main_body main ∷ [] }) made
-    (record { bodies = only; ops = λ n o none. absurd cc }) refl e).holds
+    (record { bodies = only IsInUnit is; later = only IsLater (λ s e. absurd cc); ops = λ n o none. absurd cc; taken = λ n o none. absurd cc; within = refl }) refl e).holds
   where
-    only : (k : ℕ) (x : Inlined) → slice_get (main_body main ∷ []) k ≡ Some x → IsIn unit x
-    only zero x at = let same : main_body main ≡ x = cc in subst (IsIn unit) same is
-    only (suc k) x at = absurd cc
+    IsInUnit : ℕ → Inlined → Type 0
+    IsInUnit k x = IsIn unit x
+
+    only : (P : ℕ → Inlined → Type 0) → P 0 (main_body main) → (k : ℕ) (x : Inlined) → slice_get (main_body main ∷ []) k ≡ Some x → P k x
+    only P h zero x at = let same : main_body main ≡ x = cc in subst (P 0) same h
+    only P h (suc k) x at = absurd cc
 
 expansion_there : (made : Made) (n : ℕ) (es : List Inlined) (k : ℕ) (e : Inlined) → slice_get es k ≡ Some e
     → (x : Expansion) × (slice_get (expansions_from made n es) k ≡ Some x) × (x.composite ≡ e.composite.place)
