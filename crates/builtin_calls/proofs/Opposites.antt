@@ -1,5 +1,5 @@
 -- The numbers of a kind have opposites in 128 bits.
-use Rattle.std.proofs.Common.{◌≡◌, ◌∙◌, ℕ, ◌-◌, ◌^◌, ◌≤◌, IsTrue, ℤ, FitsSigned, to_z, of_z, subst, sym, arith}
+use Rattle.std.proofs.Common.{◌≡◌, ◌∙◌, ℕ, ◌-◌, ◌^◌, ◌≤◌, IsTrue, ℤ, FitsSigned, to_z, of_z, subst, sym}
 use Rattle.std.specs.Prelude.{neg_ℤ}
 use Rattle.std.specs.Int.{w128}
 use Rattle.std.proofs.lemmas.Int.{to_z-of_z}

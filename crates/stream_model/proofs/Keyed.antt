@@ -14,7 +14,7 @@ use Rattle.language_model.specs.Outcomes.{Done, followed, need}
 use Rattle.stream_model.specs.declared.plan.StateKind.TheVariants as K
 use Rattle.stream_model.specs.Stream.{Event, came, is_tuple}
 use Rattle.spl_value.specs.KeyOrder.{same_key}
-use Rattle.stream_model.specs.Operators.{Operator, ports, port_at}
+use Rattle.stream_model.specs.Operators.{Operator, port_at}
 use Rattle.stream_model.specs.PortEvents.{is_waiting, items_of, port_events}
 use Rattle.stream_model.specs.Windows.{contents_of, fired_at, flushes_at_markers, partition_key, tuples_with, window_events}
 use Rattle.stream_model.specs.Bodies.{Makes, at_tuple, most_turns}

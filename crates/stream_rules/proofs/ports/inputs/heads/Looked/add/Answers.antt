@@ -1,5 +1,5 @@
-use Rattle.std.proofs.Common.{◌≡◌, ◌∙◌}
-use Rattle.std.specs.Prelude.{◌==◌, ◌&&◌, ◌||◌}
+use Rattle.std.proofs.Common.{◌∙◌}
+use Rattle.std.specs.Prelude.{◌==◌, ◌&&◌}
 use Rattle.spl_value.proofs.Bools.{or_cond}
 use Rattle.stream_rules.specs.steps.Looked.{has_looked}
 use Rattle.stream_rules.proofs.ports.inputs.heads.Looked.add.Goals as goal
