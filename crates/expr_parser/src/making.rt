@@ -5,7 +5,7 @@ ghost use Rattle.expr_parser.specs.Lines.{binary, conditional, expect, prefixed,
 ghost use Rattle.expr_parser.specs.Rules.{done};
 
 use crate::first::pass;
-use crate::stop::{Read, release, taller};
+use crate::stop::{Read, taller};
 use spl_tree::{BinaryOperator, Expr, ExprKind, Placed, Prefixes, Steps, Symbol, Token};
 use spl_value::Boxed;
 use std::alloc::{AllocError, Global};
@@ -113,7 +113,7 @@ pub(crate) fn closed<'t>(
     match pass(ts, close) {
         Ok(behind) => node(alloc, at, what, height, behind),
         Err(stop) => {
-            release(what);
+            drop(what);
             Err(stop)
         }
     }

@@ -10,7 +10,7 @@ ghost use Rattle.expr_parser.specs.Lines as lines;
 use crate::first::{after, literal, literal_first, name_first, operator_first, pass, pass_name};
 use crate::making;
 use crate::prefixes::prefixes;
-use crate::stop::{Read, Stop, release};
+use crate::stop::{Read, Stop};
 use spl_tree::{
     Entries, Expr, ExprKind, Exprs, Field, Fields, Placed, Prefixes, Step, Symbol, Token,
 };
@@ -258,7 +258,7 @@ fn name_alone(expr: Expr) -> Option<Placed<Name>>
     match what.into_inner() {
         ExprKind::Name(what) => Some(Placed { at, what }),
         other => {
-            release(other);
+            drop(other);
             None
         }
     }

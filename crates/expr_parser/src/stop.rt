@@ -34,9 +34,6 @@ impl<'t> From<NoMemory> for Stop<'t> {
     }
 }
 
-/// Lets go of a value. Where it is dropped in place, each of its variants is.
-pub(crate) fn release<T: Drop>(_: T) {}
-
 /// The highest tree that is made: what goes over trees does so by recursion, and the stack is memory.
 pub(crate) const MOST_HEIGHT: u32 = 1000;
 

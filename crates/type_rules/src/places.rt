@@ -27,13 +27,6 @@ fn variable_read(code: Boxed<Code<Slot>>, takings: Takings) -> Option<Place>
     }
 }
 
-/// Drops what has no place.
-fn nothing<T: Drop>(_: T) -> Option<Place>
-    ensures { result ≡ None }
-{
-    None
-}
-
 /// The place that a code reads, where it is one of a variable.
 fn place_read(alloc: Global, code: Boxed<Code<Slot>>) -> Option<Place>
     ensures { result ≡ level_place (out-Code Slot code) }
@@ -44,7 +37,10 @@ fn place_read(alloc: Global, code: Boxed<Code<Slot>>) -> Option<Place>
             takings: Items::new(alloc),
         }),
         Code::Select(base, takings) => variable_read(base, takings),
-        other => nothing(other),
+        other => {
+            drop(other);
+            None
+        }
     }
 }
 

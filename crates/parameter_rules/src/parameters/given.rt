@@ -45,9 +45,6 @@ fn take_value(given: &mut Items<Given>, name: &[u8]) -> Option<ParameterValue>
     Some(given.remove(at).value)
 }
 
-/// Drops a value.
-fn release(_value: Option<ParameterValue>) {}
-
 /// The code of a condition or an index, by its name. The first parameter of the name leaves the list with
 /// its value, also where that is no code, and the others stay.
 pub fn take_code(given: &mut Items<Given>, name: &[u8]) -> Option<Code<Slot>>
@@ -71,7 +68,7 @@ pub fn take_file(alloc: Global, given: &mut Items<Given>) -> Bytes
     match take_value(given, b"file") {
         Some(ParameterValue::File(bytes)) => bytes,
         other => {
-            release(other);
+            drop(other);
             Items::new(alloc)
         }
     }
@@ -87,7 +84,7 @@ pub fn take_places(alloc: Global, given: &mut Items<Given>, name: &[u8]) -> Plac
     match take_value(given, name) {
         Some(ParameterValue::Places(places)) => places,
         other => {
-            release(other);
+            drop(other);
             Items::new(alloc)
         }
     }

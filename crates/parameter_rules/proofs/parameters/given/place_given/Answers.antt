@@ -5,7 +5,7 @@ use Rattle.std.proofs.Common.{arith, refl, ap, sym, ◌∙◌}
 use Rattle.std.proofs.lemmas.Option.{slice_get_read}
 use Rattle.std.proofs.lemmas.Slice.Eq.{bytes_eq-Decides}
 use Rattle.parameter_rules.proofs.Giving.{given_here}
-use Rattle.parameter_rules.proofs.Taking.{left_here, left_on, left_past}
+use Rattle.parameter_rules.proofs.Taking.{left_here}
 use Rattle.parameter_rules.proofs.parameters.given.place_given.Goals as goal
 
 pub returns-then-eq : goal.returns-then-eq
