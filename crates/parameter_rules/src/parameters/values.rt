@@ -4,6 +4,7 @@ ghost use Rattle.std.specs.Option.{option_copied};
 ghost use Rattle.spl_value.specs.declared.types.SplType.TheViews.{out-SplType};
 ghost use Rattle.language_model.specs.ParameterTyping.{format_of, level_index, one_value, parsing_of, position_of, single_value, value_typing, word_of};
 ghost use Rattle.language_model.specs.Finds.{Finds};
+ghost use Rattle.language_model.specs.Typing.{Found, after, mismatch};
 ghost use Rattle.literal_sites.specs.Sites.{site_seen};
 
 use super::keys::{first_schema, some_keys};
@@ -49,10 +50,23 @@ fn one_value(
     match values {
         [] => Err(mismatch(at)),
         [value] => single_value(alloc, site, role, value),
-        [value, second, ..] => {
-            single_value(alloc, site, role, value)?;
-            Err(mismatch(second.at))
+        [value, second, ..] => not_alone(single_value(alloc, site, role, value), second.at),
+    }
+}
+
+/// A value that another one follows, at that place, which is refused.
+fn not_alone(
+    found: Result<ParameterValue, TypeAnswer>,
+    at: u32,
+) -> Result<ParameterValue, TypeAnswer>
+    ensures { (o : Found ParameterValue) → Finds o found → Finds (after o (λ x. mismatch at)) result }
+{
+    match found {
+        Ok(value) => {
+            drop(value);
+            Err(mismatch(at))
         }
+        Err(answer) => Err(answer),
     }
 }
 
