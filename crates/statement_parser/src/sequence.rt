@@ -1,16 +1,12 @@
 //! Values in a row, and symbols after a value.
 ghost use Rattle.expr_parser.specs.Rules.{done};
 ghost use Rattle.statement_parser.specs.Gives.{Comes, Pushed};
-ghost use Rattle.statement_parser.specs.Lines as lines;
-ghost use Rattle.statement_parser.specs.Lines.{expect};
+ghost use Rattle.statement_parser.specs.Lines.{expect, expression_before, expression_between, name_before};
 
 use expr_parser::{Stop, Taken, pass, pass_name, read_expression};
 use spl_tree::{Expr, Placed, Symbol, Token};
 use spl_value::{Items, Name};
 use std::alloc::Global;
-
-/// Lets go of a value. Where it is dropped in place, each of its variants is.
-pub(crate) fn release<T: Drop>(_: T) {}
 
 /// Pushes the value that is read, and returns the tokens after it.
 pub fn push_taken<'t, T: Drop>(
@@ -34,7 +30,7 @@ pub fn closed<'t, T: Drop>(value: T, close: Symbol, ts: &'t [Token]) -> Taken<'t
 
 /// A name, and the symbol that has to come after it.
 pub fn name_before<'t>(alloc: Global, symbol: Symbol, ts: &'t [Token]) -> Taken<'t, Placed<Name>>
-    ensures { Comes (lines.name_before symbol) ts.now result }
+    ensures { Comes (name_before symbol) ts.now result }
 {
     let (name, behind) = pass_name(alloc, ts)?;
     closed(name, symbol, behind)
@@ -42,7 +38,7 @@ pub fn name_before<'t>(alloc: Global, symbol: Symbol, ts: &'t [Token]) -> Taken<
 
 /// An expression, and the symbol that has to come after it.
 pub fn expression_before<'t>(alloc: Global, symbol: Symbol, ts: &'t [Token]) -> Taken<'t, Expr>
-    ensures { Comes (lines.expression_before symbol) ts.now result }
+    ensures { Comes (expression_before symbol) ts.now result }
 {
     let (value, behind) = read_expression(alloc, ts)?;
     closed(value, symbol, behind)
@@ -55,7 +51,7 @@ pub(crate) fn expression_between<'t>(
     close: Symbol,
     ts: &'t [Token],
 ) -> Taken<'t, Expr>
-    ensures { Comes (lines.expression_between opening close) ts.now result }
+    ensures { Comes (expression_between opening close) ts.now result }
 {
     let behind = pass(ts, opening)?;
     expression_before(alloc, close, behind)

@@ -7,12 +7,13 @@ ghost use Rattle.spl_tree.specs.declared.expression.ExprKind.TheVariants as X;
 ghost use Rattle.spl_tree.specs.declared.statement.StmtKind.TheVariants as Z;
 ghost use Rattle.spl_tree.specs.Grammar.{placed};
 ghost use Rattle.statement_parser.specs.Gives.{Gives, Comes};
-ghost use Rattle.statement_parser.specs.GivesStatements as statements;
+ghost use Rattle.statement_parser.specs.GivesStatements.{ElseBehind, assigned_rule, called_rule, condition, ended_rule as statement_ended_rule, for_head, for_variable, gone_over, named_rule, variable_rule as named_variable_rule};
 ghost use Rattle.statement_parser.specs.Lines as lines;
+ghost use Rattle.statement_parser.specs.Lines.{ended_rule, mutable_rule, returned_rule, simple_rule, submitted_rule, variable_rule};
 
 use crate::declarations::{declared, valued};
 use crate::first::{assignment_first, pass_word, word_first};
-use crate::sequence::{expression_before, expression_between, name_before, release};
+use crate::sequence::{closed, expression_before, expression_between, name_before};
 use crate::types::{read_attribute, read_type};
 use expr_parser::{Stop, Taken, after, name_first, pass, pass_name, read_elements, read_steps};
 use spl_tree::{
@@ -23,7 +24,7 @@ use std::alloc::Global;
 
 /// A condition in parentheses.
 pub(crate) fn condition<'t>(alloc: Global, ts: &'t [Token]) -> Taken<'t, Expr>
-    ensures { Comes statements.condition ts.now result }
+    ensures { Comes condition ts.now result }
 {
     expression_between(alloc, Symbol::LeftParen, Symbol::RightParen, ts)
 }
@@ -31,7 +32,7 @@ pub(crate) fn condition<'t>(alloc: Global, ts: &'t [Token]) -> Taken<'t, Expr>
 /// The tokens after an `else` that comes first, where one can belong to the `if` whose last statement
 /// stands before it: an `else` that could belong to that statement itself was taken with it.
 pub(crate) fn else_first(closed: bool, ts: &[Token]) -> Option<&[Token]>
-    ensures { statements.ElseBehind closed ts.now result }
+    ensures { ElseBehind closed ts.now result }
 {
     if !closed {
         return None;
@@ -42,7 +43,7 @@ pub(crate) fn else_first(closed: bool, ts: &[Token]) -> Option<&[Token]>
 
 /// The variable of a `for` and what it goes over, in parentheses.
 pub(crate) fn for_head<'t>(alloc: Global, ts: &'t [Token]) -> Taken<'t, (Attribute<TypeExpr>, Expr)>
-    ensures { Comes statements.for_head ts.now result }
+    ensures { Comes for_head ts.now result }
 {
     let (variable, behind) = for_variable(alloc, ts)?;
     let (over, behind) = gone_over(alloc, behind)?;
@@ -51,7 +52,7 @@ pub(crate) fn for_head<'t>(alloc: Global, ts: &'t [Token]) -> Taken<'t, (Attribu
 
 /// The opening parenthesis of a `for` and its variable: a type with a name.
 fn for_variable<'t>(alloc: Global, ts: &'t [Token]) -> Taken<'t, Attribute<TypeExpr>>
-    ensures { Comes statements.for_variable ts.now result }
+    ensures { Comes for_variable ts.now result }
 {
     let behind = pass(ts, Symbol::LeftParen)?;
     read_attribute(alloc, behind)
@@ -59,7 +60,7 @@ fn for_variable<'t>(alloc: Global, ts: &'t [Token]) -> Taken<'t, Attribute<TypeE
 
 /// What a `for` goes over, after its variable, and the closing parenthesis.
 fn gone_over<'t>(alloc: Global, ts: &'t [Token]) -> Taken<'t, Expr>
-    ensures { Comes statements.gone_over ts.now result }
+    ensures { Comes gone_over ts.now result }
 {
     let behind = pass_word(ts, Keyword::In)?;
     expression_before(alloc, Symbol::RightParen, behind)
@@ -81,7 +82,7 @@ pub(crate) fn statement_at<'t>(
 
 /// A statement with no statement in it.
 pub(crate) fn simple_statement<'t>(alloc: Global, ts: &'t [Token]) -> Taken<'t, (Stmt, bool)>
-    ensures { Comes lines.simple_rule ts.now result }
+    ensures { Comes simple_rule ts.now result }
 {
     if let Some((word, behind)) = word_first(ts, Keyword::Break) {
         return ended(alloc, word.start, StmtKind::Break, behind);
@@ -103,7 +104,7 @@ pub(crate) fn simple_statement<'t>(alloc: Global, ts: &'t [Token]) -> Taken<'t, 
 
 /// A statement that begins with a name, or else with a type.
 fn named_statement<'t>(alloc: Global, ts: &'t [Token]) -> Taken<'t, (Stmt, bool)>
-    ensures { Comes statements.named_rule ts.now result }
+    ensures { Comes named_rule ts.now result }
 {
     match name_first(ts) {
         Some((token, name, behind)) => {
@@ -115,30 +116,20 @@ fn named_statement<'t>(alloc: Global, ts: &'t [Token]) -> Taken<'t, (Stmt, bool)
     }
 }
 
-/// The `;` of a statement of that kind at a place.
-fn ended<'t>(alloc: Global, at: u32, what: StmtKind, ts: &'t [Token]) -> Taken<'t, (Stmt, bool)>
-    ensures { Comes (lines.ended_rule at what) ts.now result }
+/// The statement of that kind at a place, and its `;`.
+fn statement_ended<'t>(alloc: Global, at: u32, what: StmtKind, ts: &'t [Token]) -> Taken<'t, Stmt>
+    ensures { Comes (statement_ended_rule at what) ts.now result }
 {
-    match pass(ts, Symbol::Semicolon) {
-        Ok(behind) => statement_at(alloc, at, what, true, behind),
-        Err(stop) => {
-            release(what);
-            Err(stop)
-        }
-    }
+    let statement = Placed::boxed(alloc, at, what)?;
+    closed(statement, Symbol::Semicolon, ts)
 }
 
-/// The same, without whether it is closed.
-fn statement_ended<'t>(alloc: Global, at: u32, what: StmtKind, ts: &'t [Token]) -> Taken<'t, Stmt>
-    ensures { Comes (statements.ended_rule at what) ts.now result }
+/// The same, with that it is closed.
+fn ended<'t>(alloc: Global, at: u32, what: StmtKind, ts: &'t [Token]) -> Taken<'t, (Stmt, bool)>
+    ensures { Comes (ended_rule at what) ts.now result }
 {
-    match pass(ts, Symbol::Semicolon) {
-        Ok(behind) => statement_made(alloc, at, what, behind),
-        Err(stop) => {
-            release(what);
-            Err(stop)
-        }
-    }
+    let statement = Placed::boxed(alloc, at, what)?;
+    closed((statement, true), Symbol::Semicolon, ts)
 }
 
 /// The statement of that kind at a place.
@@ -151,7 +142,7 @@ fn statement_made<'t>(alloc: Global, at: u32, what: StmtKind, ts: &'t [Token]) -
 
 /// A `return`, after its word.
 fn returned<'t>(alloc: Global, at: u32, ts: &'t [Token]) -> Taken<'t, (Stmt, bool)>
-    ensures { Comes (lines.returned_rule at) ts.now result }
+    ensures { Comes (returned_rule at) ts.now result }
 {
     if let Some((_, behind)) = after(ts, Symbol::Semicolon) {
         return statement_at(alloc, at, StmtKind::Return(None), true, behind);
@@ -162,7 +153,7 @@ fn returned<'t>(alloc: Global, at: u32, ts: &'t [Token]) -> Taken<'t, (Stmt, boo
 
 /// A `submit`, after its word.
 fn submitted<'t>(alloc: Global, at: u32, ts: &'t [Token]) -> Taken<'t, (Stmt, bool)>
-    ensures { Comes (lines.submitted_rule at) ts.now result }
+    ensures { Comes (submitted_rule at) ts.now result }
 {
     let (value, behind) = expression_between(alloc, Symbol::LeftParen, Symbol::Comma, ts)?;
     let (stream, behind) = name_before(alloc, Symbol::RightParen, behind)?;
@@ -171,7 +162,7 @@ fn submitted<'t>(alloc: Global, at: u32, ts: &'t [Token]) -> Taken<'t, (Stmt, bo
 
 /// A declaration as a statement, after its `mutable`.
 fn mutable_variable<'t>(alloc: Global, at: u32, ts: &'t [Token]) -> Taken<'t, (Stmt, bool)>
-    ensures { Comes (lines.mutable_rule at) ts.now result }
+    ensures { Comes (mutable_rule at) ts.now result }
 {
     let (kind, behind) = read_type(alloc, ts)?;
     let (declaration, behind) = declared(alloc, true, kind, behind)?;
@@ -180,7 +171,7 @@ fn mutable_variable<'t>(alloc: Global, at: u32, ts: &'t [Token]) -> Taken<'t, (S
 
 /// A declaration as a statement, without `mutable`.
 fn variable<'t>(alloc: Global, ts: &'t [Token]) -> Taken<'t, (Stmt, bool)>
-    ensures { Comes lines.variable_rule ts.now result }
+    ensures { Comes variable_rule ts.now result }
 {
     let (kind, behind) = read_type(alloc, ts)?;
     let at = kind.at;
@@ -210,7 +201,7 @@ fn variable_begun<'t>(
     variable: Placed<Name>,
     ts: &'t [Token],
 ) -> Taken<'t, Stmt>
-    ensures { Comes (statements.variable_rule at name variable) ts.now result }
+    ensures { Comes (named_variable_rule at name variable) ts.now result }
 {
     let kind = Placed::boxed(alloc, at, TypeKind::Name(name))?;
     let (declaration, behind) = valued(alloc, false, kind, variable, ts)?;
@@ -219,7 +210,7 @@ fn variable_begun<'t>(
 
 /// A call as a statement, after its parenthesis.
 fn called<'t>(alloc: Global, at: u32, name: Name, ts: &'t [Token]) -> Taken<'t, Stmt>
-    ensures { Comes (statements.called_rule at name) ts.now result }
+    ensures { Comes (called_rule at name) ts.now result }
 {
     let (arguments, behind) = read_elements(alloc, Symbol::RightParen, ts)?;
     let call = Placed::boxed(alloc, at, ExprKind::Call(name, arguments))?;
@@ -236,7 +227,7 @@ fn place<'t>(alloc: Global, at: u32, name: Name, ts: &'t [Token]) -> Taken<'t, E
 
 /// An assignment, after the name of its place.
 fn assigned<'t>(alloc: Global, at: u32, name: Name, ts: &'t [Token]) -> Taken<'t, Stmt>
-    ensures { Comes (statements.assigned_rule at name) ts.now result }
+    ensures { Comes (assigned_rule at name) ts.now result }
 {
     let (place, behind) = place(alloc, at, name, ts)?;
     let Some((operator, behind)) = assignment_first(behind) else {

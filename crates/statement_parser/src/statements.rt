@@ -3,6 +3,7 @@
 ghost use Rattle.std.specs.Prelude.{[]};
 ghost use Rattle.statement_parser.specs.Gives.{Gives, Comes};
 ghost use Rattle.statement_parser.specs.Lines as lines;
+ghost use Rattle.statement_parser.specs.Lines.{braces_rule, for_rule, last_branch_rule, while_rule};
 
 use crate::first::word_first;
 use crate::simple::{condition, else_first, for_head, simple_statement, statement_at};
@@ -82,7 +83,7 @@ fn other<'t>(alloc: Global, depth: u32, ts: &'t [Token]) -> Taken<'t, (Stmt, boo
 /// A block, after its opening brace.
 #[cycle(statements)]
 fn braces<'t>(alloc: Global, depth: u32, at: u32, ts: &'t [Token]) -> Taken<'t, (Stmt, bool)>
-    ensures { Comes (lines.braces_rule at) ts.now result }
+    ensures { Comes (braces_rule at) ts.now result }
 {
     let Some(depth) = depth.checked_sub(1) else {
         return Err(Stop::Memory);
@@ -94,7 +95,7 @@ fn braces<'t>(alloc: Global, depth: u32, at: u32, ts: &'t [Token]) -> Taken<'t, 
 /// A `while`, after its word.
 #[cycle(statements)]
 fn while_loop<'t>(alloc: Global, depth: u32, at: u32, ts: &'t [Token]) -> Taken<'t, (Stmt, bool)>
-    ensures { Comes (lines.while_rule at) ts.now result }
+    ensures { Comes (while_rule at) ts.now result }
 {
     let (condition, behind) = condition(alloc, ts)?;
     let ((body, closed), behind) = nested(alloc, depth, behind)?;
@@ -104,7 +105,7 @@ fn while_loop<'t>(alloc: Global, depth: u32, at: u32, ts: &'t [Token]) -> Taken<
 /// A `for`, after its word.
 #[cycle(statements)]
 fn for_loop<'t>(alloc: Global, depth: u32, at: u32, ts: &'t [Token]) -> Taken<'t, (Stmt, bool)>
-    ensures { Comes (lines.for_rule at) ts.now result }
+    ensures { Comes (for_rule at) ts.now result }
 {
     let ((variable, over), behind) = for_head(alloc, ts)?;
     let ((body, closed), behind) = nested(alloc, depth, behind)?;
@@ -148,7 +149,7 @@ fn last_branch<'t>(
     arms: Items<(Expr, Stmt)>,
     ts: &'t [Token],
 ) -> Taken<'t, (Stmt, bool)>
-    ensures { Comes (lines.last_branch_rule at arms) ts.now result }
+    ensures { Comes (last_branch_rule at arms) ts.now result }
 {
     let Some(depth) = depth.checked_sub(1) else {
         return Err(Stop::Memory);

@@ -4,6 +4,7 @@ ghost use Rattle.expr_parser.specs.Rules.{done};
 ghost use Rattle.spl_tree.specs.Grammar.{placed};
 ghost use Rattle.statement_parser.specs.Gives.{Comes, Gives};
 ghost use Rattle.statement_parser.specs.Lines as lines;
+ghost use Rattle.statement_parser.specs.Lines.{attribute_rule, named_attribute_rule, named_shape_rule, type_before, type_between};
 
 use crate::first::{type_first, word_first};
 use crate::sequence::{closed, push_taken};
@@ -32,7 +33,7 @@ pub fn read_type_between<'t>(
     close: Symbol,
     ts: &'t [Token],
 ) -> Taken<'t, TypeExpr>
-    ensures { Comes (lines.type_between opening close) ts.now result }
+    ensures { Comes (type_between opening close) ts.now result }
 {
     type_between(alloc, MOST_NESTED, opening, close, ts)
 }
@@ -68,7 +69,7 @@ fn type_between<'t>(
     close: Symbol,
     ts: &'t [Token],
 ) -> Taken<'t, TypeExpr>
-    ensures { Comes (lines.type_between opening close) ts.now result }
+    ensures { Comes (type_between opening close) ts.now result }
 {
     let behind = pass(ts, opening)?;
     type_before(alloc, depth, close, behind)
@@ -82,7 +83,7 @@ fn type_before<'t>(
     symbol: Symbol,
     ts: &'t [Token],
 ) -> Taken<'t, TypeExpr>
-    ensures { Comes (lines.type_before symbol) ts.now result }
+    ensures { Comes (type_before symbol) ts.now result }
 {
     let (kind, behind) = type_at(alloc, depth, ts)?;
     closed(kind, symbol, behind)
@@ -143,7 +144,7 @@ fn attributes<'t>(
 /// A type with a name.
 #[cycle(types)]
 fn attribute<'t>(alloc: Global, depth: u32, ts: &'t [Token]) -> Taken<'t, Attribute<TypeExpr>>
-    ensures { Comes lines.attribute_rule ts.now result }
+    ensures { Comes attribute_rule ts.now result }
 {
     let (kind, behind) = type_at(alloc, depth, ts)?;
     named_attribute(alloc, kind, behind)
@@ -155,7 +156,7 @@ fn named_attribute<'t>(
     kind: TypeExpr,
     ts: &'t [Token],
 ) -> Taken<'t, Attribute<TypeExpr>>
-    ensures { Comes (lines.named_attribute_rule kind) ts.now result }
+    ensures { Comes (named_attribute_rule kind) ts.now result }
 {
     let (name, behind) = pass_name(alloc, ts)?;
     Ok((Attribute { kind, name }, behind))
@@ -163,7 +164,7 @@ fn named_attribute<'t>(
 
 /// A type with a name, not within another type.
 pub(crate) fn read_attribute<'t>(alloc: Global, ts: &'t [Token]) -> Taken<'t, Attribute<TypeExpr>>
-    ensures { Comes lines.attribute_rule ts.now result }
+    ensures { Comes attribute_rule ts.now result }
 {
     attribute(alloc, MOST_NESTED, ts)
 }
@@ -222,7 +223,7 @@ fn named_shape<'t>(
     first: Attribute<TypeExpr>,
     ts: &'t [Token],
 ) -> Taken<'t, Shape>
-    ensures { Comes (lines.named_shape_rule at close first) ts.now result }
+    ensures { Comes (named_shape_rule at close first) ts.now result }
 {
     let mut all = Items::new(alloc);
     all.push(first)?;
