@@ -232,14 +232,8 @@ fn marking_of(given: Items<Given>) -> (Option<Code<Slot>>, Option<Position>)
     (take_code(&mut given, b"punctuation"), position)
 }
 
-fn punctor(
-    alloc: Global,
-    around: &Around,
-    scope: &Scope,
-    checks: Checks,
-    clauses: &Clauses,
-) -> Result<CheckedClauses, TypeAnswer>
-    ensures { Finds (punctor (checks_seen around.now scope.now checks) clauses.now) result }
+fn punctor(alloc: Global, checks: Checks, clauses: &Clauses) -> Result<CheckedClauses, TypeAnswer>
+    ensures { (around : Around) (scope : Scope) → Finds (punctor (checks_seen around scope checks) clauses.now) result }
 {
     let (condition, position) = marking_of(checks.given);
     let condition = there(checks.at, condition)?;
@@ -255,14 +249,8 @@ fn punctor(
     )
 }
 
-fn split(
-    alloc: Global,
-    around: &Around,
-    scope: &Scope,
-    checks: Checks,
-    clauses: &Clauses,
-) -> Result<CheckedClauses, TypeAnswer>
-    ensures { Finds (split (checks_seen around.now scope.now checks) clauses.now) result }
+fn split(alloc: Global, checks: Checks, clauses: &Clauses) -> Result<CheckedClauses, TypeAnswer>
+    ensures { (around : Around) (scope : Scope) → Finds (split (checks_seen around scope checks) clauses.now) result }
 {
     let mut given = checks.given;
     let index = there(checks.at, take_code(&mut given, b"index"))?;
@@ -423,8 +411,8 @@ pub(crate) fn part_of(
         OpKind::FileSink => file_sink(alloc, around, scope, checks, clauses),
         OpKind::Filter => filter(alloc, checks, clauses),
         OpKind::Functor => functor(alloc, around, scope, checks, clauses, rows),
-        OpKind::Punctor => punctor(alloc, around, scope, checks, clauses),
-        OpKind::Split => split(alloc, around, scope, checks, clauses),
+        OpKind::Punctor => punctor(alloc, checks, clauses),
+        OpKind::Split => split(alloc, checks, clauses),
         OpKind::Union => union(alloc, around, scope, checks, clauses),
         OpKind::Custom => custom(alloc, around, scope, checks, clauses),
         OpKind::Aggregate => aggregate(alloc, around, scope, checks, clauses, rows),
