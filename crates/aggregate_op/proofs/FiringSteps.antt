@@ -1,5 +1,5 @@
 -- What a tuple fires with, and the tuple that goes into the window.
-use Rattle.std.proofs.Common.{◌≡◌, ◌||◌, ◌++◌, ◌∷◌, ℕ, true, List, map, Option, sym, ap, subst, ◌∙◌}
+use Rattle.std.proofs.Common.{◌≡◌, ◌||◌, ◌++◌, ◌∷◌, ℕ, true, List, map, Option, sym, ap, ◌∙◌}
 use Rattle.std.specs.List.{list_any}
 use Rattle.spl_value.specs.declared.value.Value.{Value}
 use Rattle.spl_tree.specs.declared.body.Function.{Function}
@@ -13,9 +13,8 @@ use Rattle.spl_value.proofs.KeyOrder.{same_key-itself}
 use Rattle.aggregate_op.specs.Arguments.{blank, extended}
 
 -- a key of which a tuple came now has come
-pub come_now : (again key t : List Value) (h : List WindowEvent) → again ≡ key → has_come again (Insert key t ∷ h) ≡ true
-come_now again key t h is =
-    subst (λ k. has_come k (Insert key t ∷ h) ≡ true) (sym is) (ap (λ b. b || list_any (same_key key) (keys_of h)) (same_key-itself key))
+pub come_now : (key t : List Value) (h : List WindowEvent) → has_come key (Insert key t ∷ h) ≡ true
+come_now key t h = ap (λ b. b || list_any (same_key key) (keys_of h)) (same_key-itself key)
 
 -- the tuple with its values is the extended one
 pub extended_is : (functions : List Function) (output : List CollectedAttribute) (t us : List Value) (args : List (Option Value)) (turns : ℕ)

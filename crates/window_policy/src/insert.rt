@@ -80,18 +80,19 @@ impl Window {
 
     /// Inserts a tuple under its key, which is empty where the window isn't partitioned. After a lack of memory
     /// nothing is said of the window.
-    pub fn insert(&mut self, key: Values, tuple: Values) -> Result<Fired, NoMemory>
+    pub fn insert(&mut self, key: &Values, tuple: Values) -> Result<Fired, NoMemory>
         ensures fires { IfOk result (λ f. (rule h : _) → Stands rule self.old h
-            → firing_of f (content_of rule key (Insert key tuple ∷ h)) ≡ tuple_fires rule key tuple h) }
-        ensures stands { IfOk result (λ _. (rule h : _) → Stands rule self.old h → Stands rule self.new (Insert key tuple ∷ h)) }
+            → firing_of f (content_of rule key.now (Insert key.now tuple ∷ h)) ≡ tuple_fires rule key.now tuple h) }
+        ensures stands { IfOk result (λ _. (rule h : _) → Stands rule self.old h → Stands rule self.new (Insert key.now tuple ∷ h)) }
     {
-        if let Some(part) = self.parts.get_mut(&key) {
+        if let Some(part) = self.parts.get_mut(key) {
             let fired = part.add(self.alloc, self.policy.rule, tuple)?;
             return Ok(fired);
         }
         let rule = self.policy.rule;
-        let (part, fired) = begin(self.alloc, &mut self.known, rule, &key, tuple)?;
-        self.parts.insert(key, part)?;
+        let (part, fired) = begin(self.alloc, &mut self.known, rule, key, tuple)?;
+        let own = copy_values(self.alloc, key.as_slice())?;
+        self.parts.insert(own, part)?;
         Ok(fired)
     }
 

@@ -7,7 +7,7 @@
 //! | `?a` | nothing: the key's content is looked at | `[1/2]`, or `none` |
 use crate::rules::{add_values, values_of, window_of};
 use language_model::Tuples;
-use spl_value::{NoMemory, copy_values};
+use spl_value::NoMemory;
 use std::alloc::{AllocError, Global};
 use test_texts::rows::Answers;
 use test_texts::text::Text;
@@ -53,13 +53,12 @@ fn insert(
     tuple: &str,
 ) -> Result<(), NoMemory> {
     let key = values_of(alloc, key)?;
-    let same = copy_values(alloc, key.as_slice())?;
-    match window.insert(key, values_of(alloc, tuple)?)? {
+    match window.insert(&key, values_of(alloc, tuple)?)? {
         Fired::No => text.add("."),
         Fired::Whole(tuples) => add_tuples(text, &tuples),
         Fired::Stays => {
             text.add("*");
-            add_content(text, window.content(&same));
+            add_content(text, window.content(&key));
         }
     }
     Ok(())

@@ -17,7 +17,7 @@ fn fill(alloc: Global, window: &mut Window, tuples: u64) -> Result<(u64, u64), N
     let mut fires = 0u64;
     let mut gone = 0u64;
     for number in 0..tuples {
-        match window.insert(Items::new(alloc), one(alloc, number)?)? {
+        match window.insert(&Items::new(alloc), one(alloc, number)?)? {
             Fired::No => {}
             Fired::Whole(tuples) => {
                 fires = fires.wrapping_add(1);
@@ -97,7 +97,7 @@ fn are_ascending(flushed: &Flushed) -> bool {
 fn insert_keys(alloc: Global, window: &mut Window, keys: u64) -> Result<(), NoMemory> {
     for number in 0..keys {
         let key = number.wrapping_mul(7919).checked_rem(keys).unwrap_or(0);
-        let _ = window.insert(one(alloc, key)?, one(alloc, number)?)?;
+        let _ = window.insert(&one(alloc, key)?, one(alloc, number)?)?;
     }
     Ok(())
 }

@@ -20,7 +20,7 @@ use crate::clauses::Clauses;
 use crate::contents::{give_flushed, give_held, give_tuples};
 use language_model::{Env, Outs, Tuples, WindowRule};
 use port_reacts::{give_first, given_none};
-use spl_value::{Item, Items, NoMemory, Values, copy_values};
+use spl_value::{Item, Items, NoMemory, Values};
 use std::alloc::Global;
 use stream_model::Reply;
 use tuple_groups::key_of;
@@ -112,9 +112,8 @@ fn fire(
         → contents_given clauses.now (fired_contents rule (Insert key tuple) h) ≡ Some outs) }
     ensures stands { IfOk result (λ _. (rule : Rule) (h : List WindowEvent) → Stands rule window.old h → Stands rule window.new (Insert key tuple ∷ h)) }
 {
-    let again = copy_values(alloc, key.as_slice())?;
-    let fired = window.insert(key, tuple)?;
-    let outs = given_fired(alloc, clauses, window, &again, fired)?;
+    let fired = window.insert(&key, tuple)?;
+    let outs = given_fired(alloc, clauses, window, &key, fired)?;
     Ok(outs)
 }
 

@@ -13,7 +13,7 @@ use Rattle.window_policy.proofs.window.Window.insert.Goals as goal
 
 pub returns-in-Some-clause-fires : goal.returns-in-Some-clause-fires
 returns-in-Some-clause-fires c rule h stood =
-    let key = c.args.key in
+    let key = c.args.key.now in
     let ts = tuples_with key (relevant rule h) in
     let kept = kept_at rule _ _ ts (sym c.in-Some.ensures.value) (stood.at key) in
     let next = subst (λ r. Added c.args.tuple ts r c.in-Some.part.now c.add.new.self c.in_ok-fired.fired) stood.by (c.in_ok-fired.ensures ts) kept.0 in
@@ -21,7 +21,7 @@ returns-in-Some-clause-fires c rule h stood =
 
 pub returns-in-Some-clause-stands : goal.returns-in-Some-clause-stands
 returns-in-Some-clause-stands c rule h stood =
-    let key = c.args.key in
+    let key = c.args.key.now in
     let ts = tuples_with key (relevant rule h) in
     let kept = kept_at rule _ _ ts (sym c.in-Some.ensures.value) (stood.at key) in
     let next = subst (λ r. Added c.args.tuple ts r c.in-Some.part.now c.add.new.self c.in_ok-fired.fired) stood.by (c.in_ok-fired.ensures ts) kept.0 in
@@ -36,7 +36,7 @@ returns-in-Some-clause-stands c rule h stood =
 
 pub returns-clause-fires : goal.returns-clause-fires
 returns-clause-fires c rule h stood =
-    let key = c.args.key in
+    let key = c.args.key.now in
     let none = none_at rule _ _ (sym c.in_default.ensures.value) (stood.at key) in
     let made = subst
     (λ r. IsAllowed r → Keeps r c.in_ok-part.part (c.args.tuple ∷ []) × (firing_of c.in_ok-part.fired (held r (c.args.tuple ∷ [])) ≡ fires_behind r c.args.tuple []))
@@ -49,14 +49,15 @@ returns-clause-fires c rule h stood =
 
 pub returns-clause-stands : goal.returns-clause-stands
 returns-clause-stands c rule h stood =
-    let key = c.args.key in
+    let key = c.args.key.now in
     let none = none_at rule _ _ (sym c.in_default.ensures.value) (stood.at key) in
     let made = subst
     (λ r. IsAllowed r → Keeps r c.in_ok-part.part (c.args.tuple ∷ []) × (firing_of c.in_ok-part.fired (held r (c.args.tuple ∷ [])) ≡ fires_behind r c.args.tuple []))
     stood.by c.in_ok-part.ensures.kept stood.allowed in
     let keeps = subst (λ (xs : List (List Value)). Keeps rule c.in_ok-part.part (c.args.tuple ∷ xs)) (sym none) made.0 in
     let updates = λ (q : List Value). c.in_ok-insert.ensures.updates.0 q
-    ∙ ap (λ m. cond (equal_key key q) (Some c.in_ok-part.part) (get equal_key m q)) c.get_mut.follows.holds-at-none in
+    ∙ ap (λ m. cond (equal_key c.in_ok-own.own q) (Some c.in_ok-part.part) (get equal_key m q)) c.get_mut.follows.holds-at-none
+    ∙ ap (λ k. cond (equal_key k q) (Some c.in_ok-part.part) (get equal_key c.args.self.now.parts q)) (c.in_ok-own.ensures ∙ c.as_slice.ensures) in
     let notes = subst (λ r. Notes (flushes_at_markers r) c.args.self.now.known c.begin.new.known key) stood.by c.in_ok-part.ensures.noted in
     record {
       by = stood.by;
