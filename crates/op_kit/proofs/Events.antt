@@ -1,17 +1,12 @@
 -- The events of an operator by its ports: what may come there, what is replied, and what the operator stands for then.
-use Rattle.std.proofs.Common.{◌≡◌, ◌<◌, ◌≤◌, ◌+◌, ◌&&◌, ◌||◌, ◌==◌, ◌++◌, ℕ, Bool, true, false, not, if◌then◌else◌, IsTrue, List, [], ◌∷◌, length, is_none, slice_get, Option, Some, None, refl, sym, ap, subst, ◌∙◌, arith}
+use Rattle.std.proofs.Common.{◌≡◌, ◌<◌, ◌≤◌, ◌+◌, ◌&&◌, ◌||◌, ◌==◌, ◌++◌, ℕ, Bool, true, false, not, if◌then◌else◌, IsTrue, List, [], ◌∷◌, length, is_none, slice_get, Some, None, refl, sym, ap, subst, ◌∙◌, arith}
 use Rattle.std.specs.List.{list_all}
 use Rattle.std.proofs.lemmas.Bool.{lt-ltb, ne_eqb}
 use Rattle.spl_value.proofs.Lists.{get_below, get_within}
 use Rattle.spl_value.specs.declared.item.Item.{Item}
 use Rattle.spl_value.specs.declared.item.Item.TheVariants as I
-use Rattle.spl_tree.specs.declared.code.Code.{Code}
-use Rattle.spl_tree.specs.declared.code.Slot.{Slot}
-use Rattle.language_model.specs.declared.checked.Handlers.{Handlers}
 use Rattle.language_model.specs.declared.checked.CheckedClauses.{CheckedClauses}
 use Rattle.language_model.specs.declared.checked.CheckedClauses.TheVariants as A
-use Rattle.language_model.specs.declared.checked.Policy.{Policy}
-use Rattle.language_model.specs.declared.checked.Position.{Position}
 use Rattle.op_kit.specs.Kinds.{is_held}
 use Rattle.std.proofs.lemmas.Grind.{common_steps}
 use Rattle.spl_tree.specs.declared.graph.Op.{Op}

@@ -1,6 +1,6 @@
 -- The operators of a checked graph, made one after the other.
 use Prim.Native.Nat.{zero, suc}
-use Rattle.std.proofs.Common.{◌≡◌, ◌∙◌, ◌<◌, ◌≤◌, ◌+◌, ◌||◌, ◌++◌, ℕ, Bool, true, false, List, [], ◌∷◌, length, refl, sym, ap, subst, arith, inl, inr, slice_get, Option, Some, None, IsTrue}
+use Rattle.std.proofs.Common.{◌≡◌, ◌∙◌, ◌+◌, ◌++◌, ℕ, Bool, true, false, List, [], ◌∷◌, length, refl, sym, ap, subst, arith, inl, inr, slice_get, Option, Some, None, IsTrue}
 use Rattle.std.proofs.lemmas.List.{length_push}
 use Rattle.spl_value.proofs.Lists.{append_cases, get_below, get_within}
 use Rattle.language_model.specs.declared.checked.CheckedClauses.{CheckedClauses}

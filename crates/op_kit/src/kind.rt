@@ -8,17 +8,17 @@ use join_op::Join;
 use relational_ops::{Filter, Functor, Punctor, Split};
 use union_op::Union;
 
-/// An operator of one of the kinds. A kind more is a variant here, with its line in each call. One in a box
-/// keeps the type of all from being too large.
+/// An operator of one of the kinds, in a box: else the layout of all kinds would be part of each proof about one
+/// of them. A kind more is a variant here, with its line in each call.
 #[derive(Drop)]
 pub(crate) enum Kind<'c> {
-    Sink(Sink<'c>),
-    Filter(Filter<'c>),
-    Functor(Functor<'c>),
-    Punctor(Punctor<'c>),
-    Split(Split<'c>),
-    Union(Union<'c>),
-    Custom(Custom<'c>),
+    Sink(Box<Sink<'c>>),
+    Filter(Box<Filter<'c>>),
+    Functor(Box<Functor<'c>>),
+    Punctor(Box<Punctor<'c>>),
+    Split(Box<Split<'c>>),
+    Union(Box<Union<'c>>),
+    Custom(Box<Custom<'c>>),
     Aggregate(Box<Aggregate<'c>>),
     Join(Box<Join<'c>>),
 }

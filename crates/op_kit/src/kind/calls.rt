@@ -1,11 +1,6 @@
 //! The calls of operators by their kinds.
-ghost use Rattle.std.specs.Prelude.{◌≡◌, ◌<◌, ℕ, List, [], IfOk, IsTrue, Option, Some, length, slice_get};
-ghost use Rattle.spl_tree.specs.declared.code.Code.{Code};
-ghost use Rattle.spl_tree.specs.declared.code.Slot.{Slot};
+ghost use Rattle.std.specs.Prelude.{◌≡◌, ◌<◌, [], IfOk, IsTrue, Ok, Some, length, slice_get};
 ghost use Rattle.language_model.specs.declared.checked.CheckedClauses.{CheckedClauses};
-ghost use Rattle.language_model.specs.declared.checked.CheckedClauses.TheVariants as A;
-ghost use Rattle.language_model.specs.declared.checked.CollectedAttribute.{CollectedAttribute};
-ghost use Rattle.language_model.specs.declared.checked.Policy.{Policy};
 ghost use Rattle.stream_model.specs.CheckedMeaning.{graph_of};
 ghost use Rattle.stream_model.specs.Operators.{Operator};
 ghost use Rattle.stream_model.specs.Stream.{Event};
@@ -27,25 +22,25 @@ use union_op::Union;
 
 impl<'c> OnPort for Kind<'c> {
     ghost spec = { λ kind. elim kind as (λ k. Operator) [
-      | K.Sink s ↦ ⟦<Sink<'c> as OnPort>⟧.spec s
-      | K.Filter s ↦ ⟦<Filter<'c> as OnPort>⟧.spec s
-      | K.Functor s ↦ ⟦<Functor<'c> as OnPort>⟧.spec s
-      | K.Punctor s ↦ ⟦<Punctor<'c> as OnPort>⟧.spec s
-      | K.Split s ↦ ⟦<Split<'c> as OnPort>⟧.spec s
-      | K.Union s ↦ ⟦<Union<'c> as OnPort>⟧.spec s
-      | K.Custom s ↦ ⟦<Custom<'c> as OnPort>⟧.spec s
+      | K.Sink s ↦ ⟦<Sink<'c> as OnPort>⟧.spec s.value
+      | K.Filter s ↦ ⟦<Filter<'c> as OnPort>⟧.spec s.value
+      | K.Functor s ↦ ⟦<Functor<'c> as OnPort>⟧.spec s.value
+      | K.Punctor s ↦ ⟦<Punctor<'c> as OnPort>⟧.spec s.value
+      | K.Split s ↦ ⟦<Split<'c> as OnPort>⟧.spec s.value
+      | K.Union s ↦ ⟦<Union<'c> as OnPort>⟧.spec s.value
+      | K.Custom s ↦ ⟦<Custom<'c> as OnPort>⟧.spec s.value
       | K.Aggregate s ↦ ⟦<Aggregate<'c> as OnPort>⟧.spec s.value
       | K.Join s ↦ ⟦<Join<'c> as OnPort>⟧.spec s.value
     ] };
 
     ghost stands = { λ kind h. elim kind as (λ k. Type 0) [
-      | K.Sink s ↦ ⟦<Sink<'c> as OnPort>⟧.stands s h
-      | K.Filter s ↦ ⟦<Filter<'c> as OnPort>⟧.stands s h
-      | K.Functor s ↦ ⟦<Functor<'c> as OnPort>⟧.stands s h
-      | K.Punctor s ↦ ⟦<Punctor<'c> as OnPort>⟧.stands s h
-      | K.Split s ↦ ⟦<Split<'c> as OnPort>⟧.stands s h
-      | K.Union s ↦ ⟦<Union<'c> as OnPort>⟧.stands s h
-      | K.Custom s ↦ ⟦<Custom<'c> as OnPort>⟧.stands s h
+      | K.Sink s ↦ ⟦<Sink<'c> as OnPort>⟧.stands s.value h
+      | K.Filter s ↦ ⟦<Filter<'c> as OnPort>⟧.stands s.value h
+      | K.Functor s ↦ ⟦<Functor<'c> as OnPort>⟧.stands s.value h
+      | K.Punctor s ↦ ⟦<Punctor<'c> as OnPort>⟧.stands s.value h
+      | K.Split s ↦ ⟦<Split<'c> as OnPort>⟧.stands s.value h
+      | K.Union s ↦ ⟦<Union<'c> as OnPort>⟧.stands s.value h
+      | K.Custom s ↦ ⟦<Custom<'c> as OnPort>⟧.stands s.value h
       | K.Aggregate s ↦ ⟦<Aggregate<'c> as OnPort>⟧.stands s.value h
       | K.Join s ↦ ⟦<Join<'c> as OnPort>⟧.stands s.value h
     ] };
@@ -65,32 +60,11 @@ impl<'c> OnPort for Kind<'c> {
     }
 }
 
-/// The Join with this number, in a box. There is one.
-fn join_of<'c>(alloc: Global, checked: &'c Checked, op: u32) -> Result<Box<Join<'c>>, NoMemory>
-    requires there { op < length checked.now.graph.ops }
-    requires kind { (left right : Policy) × (condition : Option (Code Slot)) × (output : Code Slot)
-        × (slice_get checked.now.parts op ≡ Some (A.Join left right condition output)) }
-    ensures is { IfOk result (λ join. slice_get (graph_of checked.now).ops op ≡ Some (⟦<Join<'c> as OnPort>⟧.spec join.value)) }
-    ensures begins { IfOk result (λ join. ⟦<Join<'c> as OnPort>⟧.stands join.value []) }
+/// What is made, in a box.
+fn boxed<T: Drop>(alloc: Global, made: Result<T, NoMemory>) -> Result<Box<T>, NoMemory>
+    ensures { IfOk result (λ b. made ≡ Ok b.value) }
 {
-    let join = Join::new(alloc, checked, op)?;
-    Ok(Box::new(alloc, join)?)
-}
-
-/// The Aggregate with this number, in a box. There is one.
-fn aggregate_of<'c>(
-    alloc: Global,
-    checked: &'c Checked,
-    op: u32,
-) -> Result<Box<Aggregate<'c>>, NoMemory>
-    requires there { op < length checked.now.graph.ops }
-    requires kind { (window : Policy) × (partition group : List ℕ) × (output : List CollectedAttribute)
-        × (slice_get checked.now.parts op ≡ Some (A.Aggregate window partition group output)) }
-    ensures is { IfOk result (λ aggregate. slice_get (graph_of checked.now).ops op ≡ Some (⟦<Aggregate<'c> as OnPort>⟧.spec aggregate.value)) }
-    ensures begins { IfOk result (λ aggregate. ⟦<Aggregate<'c> as OnPort>⟧.stands aggregate.value []) }
-{
-    let aggregate = Aggregate::new(alloc, checked, op)?;
-    Ok(Box::new(alloc, aggregate)?)
+    Ok(Box::new(alloc, made?)?)
 }
 
 impl<'c> Kind<'c> {
@@ -105,17 +79,34 @@ impl<'c> Kind<'c> {
             unreachable!()
         };
         match part {
-            CheckedClauses::FileSink { .. } => Ok(Kind::Sink(Sink::new(alloc, checked, op))),
-            CheckedClauses::Filter { .. } => Ok(Kind::Filter(Filter::new(alloc, checked, op)?)),
-            CheckedClauses::Functor { .. } => Ok(Kind::Functor(Functor::new(alloc, checked, op)?)),
-            CheckedClauses::Punctor { .. } => Ok(Kind::Punctor(Punctor::new(alloc, checked, op)?)),
-            CheckedClauses::Split { .. } => Ok(Kind::Split(Split::new(alloc, checked, op)?)),
-            CheckedClauses::Union { .. } => Ok(Kind::Union(Union::new(alloc, checked, op)?)),
-            CheckedClauses::Custom { .. } => Ok(Kind::Custom(Custom::new(alloc, checked, op)?)),
-            CheckedClauses::Aggregate { .. } => Ok(Kind::Aggregate(aggregate_of(
-                alloc, checked, op,
-            )?)),
-            CheckedClauses::Join { .. } => Ok(Kind::Join(join_of(alloc, checked, op)?)),
+            CheckedClauses::FileSink { .. } => {
+                let made = Ok(Sink::new(alloc, checked, op));
+                Ok(Kind::Sink(boxed(alloc, made)?))
+            }
+            CheckedClauses::Filter { .. } => {
+                Ok(Kind::Filter(boxed(alloc, Filter::new(alloc, checked, op))?))
+            }
+            CheckedClauses::Functor { .. } => {
+                Ok(Kind::Functor(boxed(alloc, Functor::new(alloc, checked, op))?))
+            }
+            CheckedClauses::Punctor { .. } => {
+                Ok(Kind::Punctor(boxed(alloc, Punctor::new(alloc, checked, op))?))
+            }
+            CheckedClauses::Split { .. } => {
+                Ok(Kind::Split(boxed(alloc, Split::new(alloc, checked, op))?))
+            }
+            CheckedClauses::Union { .. } => {
+                Ok(Kind::Union(boxed(alloc, Union::new(alloc, checked, op))?))
+            }
+            CheckedClauses::Custom { .. } => {
+                Ok(Kind::Custom(boxed(alloc, Custom::new(alloc, checked, op))?))
+            }
+            CheckedClauses::Aggregate { .. } => {
+                Ok(Kind::Aggregate(boxed(alloc, Aggregate::new(alloc, checked, op))?))
+            }
+            CheckedClauses::Join { .. } => {
+                Ok(Kind::Join(boxed(alloc, Join::new(alloc, checked, op))?))
+            }
             CheckedClauses::FileSource { .. } => unreachable!(),
         }
     }

@@ -1,4 +1,4 @@
-use Rattle.std.proofs.Common.{rules, arith, ◌≡◌, ◌<◌, ◌++◌, ◌∷◌, [], length}
+use Rattle.std.proofs.Common.{rules, arith, ◌≡◌, ◌++◌, ◌∷◌, [], length}
 use Rattle.language_model.specs.Keeping.{Keeps}
 use Rattle.op_kit.specs.contracts.operator.calls.OperatorReact.TheImpl as kit
 use Rattle.op_kit.proofs.Making.{all_made, one_more}
