@@ -1,9 +1,7 @@
 -- What an item leaves in a window and in the environment of pairs.
-use Rattle.std.specs.Prelude.{⊤, List, [], ◌∷◌}
+use Rattle.std.specs.Prelude.{List, [], ◌∷◌}
 use Rattle.spl_value.specs.declared.item.Item.{Item}
 use Rattle.spl_value.specs.declared.item.Item.TheVariants as I
-use Rattle.stream_model.specs.declared.reply.Reply.{Reply}
-use Rattle.stream_model.specs.declared.reply.Reply.TheVariants as R
 use Rattle.stream_model.specs.Windows.{WindowEvent, Insert, Mark}
 
 -- an item comes into a window with one key

@@ -43,7 +43,7 @@ fn on_tuple(
     match match_window(alloc, clauses, env, side, other) {
         Ok(outs) => {
             let tuple = swap_own(env, side, Items::new(alloc));
-            match own.insert(Items::new(alloc), tuple) {
+            match own.insert(&Items::new(alloc), tuple) {
                 Ok(_) => Reply::Out(outs),
                 Err(_) => Reply::Memory,
             }
