@@ -109,15 +109,25 @@ fn least_or_greatest(alloc: Global, call: &str, a: &Value, b: &Value) -> Evaluat
     }
 }
 
-// `min` or `max` of two integers or of two texts.
+// `min` or `max` of two integers.
+fn of_integers(alloc: Global, call: &str, a: &str, b: &str) -> Evaluated {
+    let pair = ordered_integers(number(a), number(b));
+    least_or_greatest(alloc, call, &pair.0, &pair.1)
+}
+
+// `min` or `max` of two texts.
+fn of_texts(alloc: Global, call: &str, a: &str, b: &str) -> Result<Evaluated, NoMemory> {
+    let pair = ordered_texts(alloc, a, b)?;
+    Ok(least_or_greatest(alloc, call, &pair.0, &pair.1))
+}
+
 fn of_ordered(alloc: Global, call: &str, kind: &str, words: &str) -> Result<Evaluated, NoMemory> {
     let (a, b) = sides(words, ",");
     if kind == "integers" {
-        let pair = ordered_integers(number(a), number(b));
-        return Ok(least_or_greatest(alloc, call, &pair.0, &pair.1));
+        Ok(of_integers(alloc, call, a, b))
+    } else {
+        of_texts(alloc, call, a, b)
     }
-    let pair = ordered_texts(alloc, a, b)?;
-    Ok(least_or_greatest(alloc, call, &pair.0, &pair.1))
 }
 
 fn part(alloc: Global, whole: &Value, from: &str, count: &str) -> Evaluated
@@ -128,19 +138,25 @@ fn part(alloc: Global, whole: &Value, from: &str, count: &str) -> Evaluated
     substring(alloc, whole, &from, &count)
 }
 
-// A call on a text, and on a place and a count in it.
-fn of_text(alloc: Global, call: &str, words: &str) -> Result<Evaluated, NoMemory> {
-    let (bytes, rest) = if call == "length" {
-        (words, "")
-    } else {
-        sides(words, ",")
-    };
+fn length_of(alloc: Global, bytes: &str) -> Result<Evaluated, NoMemory> {
+    let whole = text(alloc, bytes)?;
+    Ok(length(&whole))
+}
+
+fn part_of(alloc: Global, words: &str) -> Result<Evaluated, NoMemory> {
+    let (bytes, rest) = sides(words, ",");
     let (from, count) = sides(rest, ",");
     let whole = text(alloc, bytes)?;
-    if call == "length" {
-        return Ok(length(&whole));
-    }
     Ok(part(alloc, &whole, from, count))
+}
+
+// A call on a text, and on a place and a count in it.
+fn of_text(alloc: Global, call: &str, words: &str) -> Result<Evaluated, NoMemory> {
+    if call == "length" {
+        length_of(alloc, words)
+    } else {
+        part_of(alloc, words)
+    }
 }
 
 fn of_map(alloc: Global, call: &str, key: &str, words: &str) -> Result<Evaluated, NoMemory> {

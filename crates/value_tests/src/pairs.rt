@@ -43,6 +43,20 @@ fn found(alloc: Global, value: Option<&Value>) -> Result<String, NoMemory> {
     Ok(text.finish()?)
 }
 
+// The value at the key.
+fn find(alloc: Global, key: Value, pairs: Pairs) -> Result<String, NoMemory>
+    requires { IsTrue (are_pairs pairs) }
+{
+    found(alloc, pairs.find(&key))
+}
+
+// Whether the key is there.
+fn contains(alloc: Global, key: Value, pairs: Pairs) -> Result<String, NoMemory>
+    requires { IsTrue (are_pairs pairs) }
+{
+    shown(alloc, &Value::Bool(pairs.contains_key(&key)))
+}
+
 // The pairs with 7 at the key.
 fn put(alloc: Global, key: Value, pairs: Pairs) -> Result<String, NoMemory>
     requires { IsTrue (are_pairs pairs) }
@@ -53,11 +67,11 @@ fn put(alloc: Global, key: Value, pairs: Pairs) -> Result<String, NoMemory>
 }
 
 // The pairs with 7 written at the place that the key lends, if it lends one.
-fn written(alloc: Global, key: &Value, pairs: Pairs) -> Result<String, NoMemory>
+fn written(alloc: Global, key: Value, pairs: Pairs) -> Result<String, NoMemory>
     requires { IsTrue (are_pairs pairs) }
 {
     let mut pairs = pairs;
-    let Some(place) = pairs.find_mut(key) else {
+    let Some(place) = pairs.find_mut(&key) else {
         return Ok("none".to_string(alloc)?);
     };
     *place = Value::Int(7);
@@ -65,11 +79,11 @@ fn written(alloc: Global, key: &Value, pairs: Pairs) -> Result<String, NoMemory>
 }
 
 // The value that the key had, and the pairs without it.
-fn removed(alloc: Global, key: &Value, pairs: Pairs) -> Result<String, NoMemory>
+fn removed(alloc: Global, key: Value, pairs: Pairs) -> Result<String, NoMemory>
     requires { IsTrue (are_pairs pairs) }
 {
     let mut pairs = pairs;
-    let value = pairs.remove_key(key);
+    let value = pairs.remove_key(&key);
     let mut text = Text::new(alloc);
     add_optional(&mut text, value.as_ref());
     text.add(" of ");
@@ -78,16 +92,22 @@ fn removed(alloc: Global, key: &Value, pairs: Pairs) -> Result<String, NoMemory>
 }
 
 // The result of a call on a key and pairs.
-fn called(alloc: Global, call: &str, key: Value, words: &str) -> Result<String, NoMemory> {
-    let pairs = pairs_of(alloc, words)?;
+fn of_pairs(alloc: Global, call: &str, key: Value, pairs: Pairs) -> Result<String, NoMemory>
+    requires { IsTrue (are_pairs pairs) }
+{
     match call {
-        "find" => found(alloc, pairs.find(&key)),
-        "contains" => shown(alloc, &Value::Bool(pairs.contains_key(&key))),
+        "find" => find(alloc, key, pairs),
+        "contains" => contains(alloc, key, pairs),
         "put" => put(alloc, key, pairs),
-        "write" => written(alloc, &key, pairs),
-        "remove" => removed(alloc, &key, pairs),
+        "write" => written(alloc, key, pairs),
+        "remove" => removed(alloc, key, pairs),
         _ => shown(alloc, &Value::Map(pairs)),
     }
+}
+
+fn called(alloc: Global, call: &str, key: Value, words: &str) -> Result<String, NoMemory> {
+    let pairs = pairs_of(alloc, words)?;
+    of_pairs(alloc, call, key, pairs)
 }
 
 // Calls on a key and pairs.
@@ -172,15 +192,21 @@ fn even_keys(alloc: Global) -> Result<Pairs, NoMemory>
     Ok(pairs)
 }
 
+// Whether twice a number has the number as its value, and the next key isn't there.
+fn is_found(pairs: &Pairs, number: u32) -> bool
+    requires { IsTrue (are_pairs pairs.now) }
+{
+    let number = i128::from(number);
+    let found = pairs.find(&Value::Int(2 * number));
+    found == Some(&Value::Int(number)) && !pairs.contains_key(&Value::Int(2 * number + 1))
+}
+
 #[test]
 fn each_of_a_thousand_keys_is_found(rt: HostRuntime) -> Result<(), Fail> {
     let pairs = even_keys(rt.alloc())?;
     assert_eq!(rt; pairs.len(), 1000);
-    for i in 0..1000u32 {
-        let key = i128::from(i);
-        let found = pairs.find(&Value::Int(2 * key));
-        assert!(rt; found == Some(&Value::Int(key)));
-        assert!(rt; !pairs.contains_key(&Value::Int(2 * key + 1)));
+    for number in 0..1000u32 {
+        assert!(rt; is_found(&pairs, number));
     }
     Ok(())
 }
