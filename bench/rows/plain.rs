@@ -1,5 +1,5 @@
 // The limit: rows read into a list of values that is used again, and written, by a plain loop.
-// Usage: plain SHAPE IN OUT, as crates/row_speed. It takes no quotes, and stops at a bad row.
+// Usage: plain SHAPE IN OUT, as crates/speed with the word rows. It takes no quotes, and stops at a bad row.
 use std::fs::File;
 use std::io::{BufRead, BufReader, BufWriter, Write};
 

@@ -1,5 +1,5 @@
 // The same as plain.rs, with integers read and written by hand.
-// Usage: tight SHAPE IN OUT, as crates/row_speed. It takes no quotes, and stops at a bad row.
+// Usage: tight SHAPE IN OUT, as crates/speed with the word rows. It takes no quotes, and stops at a bad row.
 use std::fs::File;
 use std::io::{BufRead, BufReader, BufWriter, Write};
 

@@ -21,7 +21,7 @@ use Rattle.language_model.specs.declared.env.Env.{Env}
 use Rattle.language_model.specs.CodeFits as F
 use Rattle.language_model.specs.CodeFits.{CodeFits, OneEach, SlotFits}
 use Rattle.language_model.specs.WorldFits.{Fits, EnvFits}
-use Rattle.eval_speed.specs.Samples.{above, both_above, swapped, attribute, numbers, row, scope, price, size, pair}
+use Rattle.speed.specs.Samples.{above, both_above, swapped, attribute, numbers, row, scope, price, size, pair}
 
 tuple_fits : IsTrue (fits (S.Tuple pair) (V.Tuple numbers))
 tuple_fits = fits_tuple pair numbers ∙ (λ i. fits_int K.I64 (pos 700) i && (fits_int K.I64 (pos 3) i && true))

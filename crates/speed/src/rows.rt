@@ -1,9 +1,5 @@
-//! Reads the rows of a file, and writes them to another.
-//!
-//! Usage: `row_speed SHAPE IN OUT`, where SHAPE has a letter for each column: `i` for int64, `t` for
-//! rstring and `b` for boolean. It prints how many rows it copied. Without words it does nothing.
-#![tactic(auto)]
-
+//! Reads the rows of a file, and writes them to another. The words are SHAPE, IN and OUT, where SHAPE has a letter
+//! for each column: `i` for int64, `t` for rstring and `b` for boolean. How many rows were copied is printed.
 ghost use Rattle.std.specs.Prelude.{◌≡◌, ◌∷◌, [], true, false, IfOk};
 ghost use Rattle.language_model.specs.Checking.{has_text_form};
 ghost use Rattle.row_reader.specs.Reading.{is_over};
@@ -13,7 +9,7 @@ use row_reader::Rows;
 use row_writer::RowWriter;
 use spl_value::{Attribute, IntKind, Item, Items, Name, NoMemory, Schema, SplType};
 use std::alloc::Global;
-use std::{env, io};
+use std::io;
 
 // The most bytes of a file.
 const LIMIT: u64 = 0x100_0000_0000;
@@ -101,17 +97,20 @@ fn copy_file<H: Shelf>(
     }
 }
 
-fn main(rt: HostRuntime) -> io::Result<()> {
+fn copy_named(rt: &HostRuntime, shape: &str, from: &str, to: &str) -> io::Result<()> {
     let alloc = rt.alloc();
-    let words: Vec<String> = env::args(&rt)?.collect(alloc)?;
-    if words.len() < 4 {
-        return Ok(());
-    }
-    let from = Items::from_slice(alloc, words[2].as_bytes())?;
-    let to = Items::from_slice(alloc, words[3].as_bytes())?;
+    let from = Items::from_slice(alloc, from.as_bytes())?;
+    let to = Items::from_slice(alloc, to.as_bytes())?;
     let mut shelf = FileShelf::new(rt.clone()?, alloc);
-    match copy_file(alloc, &mut shelf, words[1].as_bytes(), &from, &to) {
+    match copy_file(alloc, &mut shelf, shape.as_bytes(), &from, &to) {
         Some(copied) => println!(rt; "{copied} rows"),
         None => println!(rt; "failed"),
+    }
+}
+
+pub(crate) fn measured(rt: &HostRuntime, words: &[String]) -> io::Result<()> {
+    match words {
+        [shape, from, to] => copy_named(rt, shape.as_str(), from.as_str(), to.as_str()),
+        _ => Ok(()),
     }
 }

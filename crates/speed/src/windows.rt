@@ -1,7 +1,5 @@
-//! How long insertions into windows take.
-//!
-//! Usage: `window_speed KIND SIZE KEYS`. 1,000,000 tuples of two numbers come under KEYS keys in turn, or
-//! under the empty key where KEYS is 0. KIND is
+//! How long insertions into windows take: 1,000,000 tuples of two numbers come under KEYS keys in turn, or
+//! under the empty key where KEYS is 0. The words are KIND, SIZE and KEYS, and KIND is
 //!
 //! - `none`: the tuples and keys are made and dropped;
 //! - `count`: they come into a sliding window of SIZE tuples;
@@ -10,17 +8,15 @@
 //! - `mixed`: the same, where every second number is a little lower;
 //! - `punct`: into a window that markers flush, which come after every SIZE tuples.
 //!
-//! It prints the nanoseconds of a tuple. Without words it does nothing.
-#![tactic(auto)]
-
+//! The nanoseconds of a tuple are printed.
 ghost use Rattle.std.specs.Prelude.{◌<◌, IfSome};
 ghost use Rattle.window_policy.specs.Answers.{IsAllowed};
 
 use language_model::{Policy, WindowRule};
 use spl_value::{Items, NoMemory, Value, Values};
 use std::alloc::Global;
+use std::io;
 use std::time::Instant;
-use std::{env, io};
 use window_policy::Window;
 
 const TUPLES: u64 = 1_000_000;
@@ -83,7 +79,7 @@ fn insert_one(
 ) -> Result<(), NoMemory> {
     let key = key_of(alloc, number, keys)?;
     let tuple = tuple_of(alloc, number, is_mixed)?;
-    let _ = window.insert(key, tuple)?;
+    let _ = window.insert(&key, tuple)?;
     Ok(())
 }
 
@@ -132,14 +128,10 @@ fn measure(rt: &HostRuntime, kind: &str, size: u64, keys: u64) -> io::Result<()>
     }
 }
 
-fn main(rt: HostRuntime) -> io::Result<()> {
-    let mut words = Vec::new(rt.alloc());
-    for word in env::args(&rt)? {
-        words.push(word)?;
-    }
-    match words.as_slice() {
-        [_, kind, size, keys] => match (size.parse::<u64>(), keys.parse::<u64>()) {
-            (Ok(size), Ok(keys)) => measure(&rt, kind.as_str(), size, keys),
+pub(crate) fn measured(rt: &HostRuntime, words: &[String]) -> io::Result<()> {
+    match words {
+        [kind, size, keys] => match (size.parse::<u64>(), keys.parse::<u64>()) {
+            (Ok(size), Ok(keys)) => measure(rt, kind.as_str(), size, keys),
             _ => Ok(()),
         },
         _ => Ok(()),

@@ -1,6 +1,4 @@
-//! How long evaluations take.
-//!
-//! Usage: `eval_speed KIND`. 10,000,000 evaluations on a tuple of a price and a size, both of 64 bits. KIND is
+//! How long evaluations take: 10,000,000 on a tuple of a price and a size, both of 64 bits. The word is
 //!
 //! - `value`: `price > 500l` is evaluated to a value;
 //! - `truth`: whether `price > 500l` holds;
@@ -8,54 +6,53 @@
 //! - `tuple`: the tuple `size, price` is evaluated to a value;
 //! - `reused`: it is made in the room of the one before.
 //!
-//! It prints the nanoseconds of an evaluation. Without a word it does nothing.
-#![tactic(auto)]
-
+//! The nanoseconds of an evaluation are printed.
 ghost use Rattle.std.specs.Prelude.{◌≡◌, IfOk, [], ◌∷◌};
 ghost use Rattle.spl_value.specs.declared.types.SplType.TheVariants as T;
 ghost use Rattle.language_model.specs.WorldFits.{Fits};
-ghost use Rattle.eval_speed.specs.Samples.{above, both_above, swapped, row, pair};
+ghost use Rattle.speed.specs.Samples.{above, both_above, swapped, row, pair};
 
 use expr_eval::{Env, Made, Truth, eval, holds, tuple_into};
 use spl_tree::{BinaryCode, Code, Functions, OrderOperator, Slot};
 use spl_value::{Boxed, Evaluated, Items, NoMemory, Value};
 use std::alloc::Global;
+use std::io;
 use std::time::Instant;
-use std::{env, io};
 
 const TIMES: u32 = 10_000_000;
 
 fn attribute(attribute: u32) -> Code<Slot>
-    ensures { result ≡ Rattle.eval_speed.specs.Samples.attribute attribute }
+    ensures { result ≡ Rattle.speed.specs.Samples.attribute attribute }
 {
     Code::Name(Slot::Attribute { port: 0, attribute })
 }
 
 // Whether an attribute is above a number.
-fn above(alloc: Global, place: u32, number: i128) -> Result<Code<Slot>, NoMemory>
+fn above(alloc: Global, place: u32, number: i128) -> Result<Boxed<Code<Slot>>, NoMemory>
     ensures { IfOk result (λ c. c ≡ above place number) }
 {
     let left = Boxed::new(alloc, attribute(place))?;
     let right = Boxed::new(alloc, Code::Literal(Value::Int(number)))?;
-    Ok(Code::Binary(BinaryCode::Order(OrderOperator::Greater), left, right))
+    let greater = BinaryCode::Order(OrderOperator::Greater);
+    Ok(Boxed::new(alloc, Code::Binary(greater, left, right))?)
 }
 
-fn both_above(alloc: Global) -> Result<Code<Slot>, NoMemory>
+fn both_above(alloc: Global) -> Result<Boxed<Code<Slot>>, NoMemory>
     ensures { IfOk result (λ c. c ≡ both_above) }
 {
-    let left = Boxed::new(alloc, above(alloc, 0, 500)?)?;
-    let right = Boxed::new(alloc, above(alloc, 1, 2)?)?;
-    Ok(Code::Binary(BinaryCode::And, left, right))
+    let left = above(alloc, 0, 500)?;
+    let right = above(alloc, 1, 2)?;
+    Ok(Boxed::new(alloc, Code::Binary(BinaryCode::And, left, right))?)
 }
 
 // The tuple of both attributes, the second one first.
-fn swapped(alloc: Global) -> Result<Code<Slot>, NoMemory>
+fn swapped(alloc: Global) -> Result<Boxed<Code<Slot>>, NoMemory>
     ensures { IfOk result (λ c. c ≡ swapped) }
 {
     let mut fields = Items::new(alloc);
     fields.push((0, attribute(1)))?;
     fields.push((1, attribute(0)))?;
-    Ok(Code::Tuple(fields))
+    Ok(Boxed::new(alloc, Code::Tuple(fields))?)
 }
 
 fn env_of(alloc: Global) -> Result<Env, NoMemory>
@@ -138,38 +135,43 @@ fn value(alloc: Global, functions: &Functions, env: &Env) -> Result<u32, NoMemor
     requires none { functions.now ≡ [] }
     requires row { env.now ≡ row }
 {
-    Ok(values(alloc, functions, &above(alloc, 0, 500)?, env))
+    let code = above(alloc, 0, 500)?;
+    Ok(values(alloc, functions, code.get(), env))
 }
 
 fn truth(alloc: Global, functions: &Functions, env: &Env) -> Result<u32, NoMemory>
     requires none { functions.now ≡ [] }
     requires row { env.now ≡ row }
 {
-    Ok(truths(alloc, functions, &above(alloc, 0, 500)?, env))
+    let code = above(alloc, 0, 500)?;
+    Ok(truths(alloc, functions, code.get(), env))
 }
 
 fn both(alloc: Global, functions: &Functions, env: &Env) -> Result<u32, NoMemory>
     requires none { functions.now ≡ [] }
     requires row { env.now ≡ row }
 {
-    Ok(truths(alloc, functions, &both_above(alloc)?, env))
+    let code = both_above(alloc)?;
+    Ok(truths(alloc, functions, code.get(), env))
 }
 
 fn tuple(alloc: Global, functions: &Functions, env: &Env) -> Result<u32, NoMemory>
     requires none { functions.now ≡ [] }
     requires row { env.now ≡ row }
 {
-    Ok(tuples(alloc, functions, &swapped(alloc)?, env))
+    let code = swapped(alloc)?;
+    Ok(tuples(alloc, functions, code.get(), env))
 }
 
 fn tuple_reused(alloc: Global, functions: &Functions, env: &Env) -> Result<u32, NoMemory>
     requires none { functions.now ≡ [] }
     requires row { env.now ≡ row }
 {
-    Ok(reused(alloc, functions, &swapped(alloc)?, env))
+    let code = swapped(alloc)?;
+    Ok(reused(alloc, functions, code.get(), env))
 }
 
-fn evaluations(alloc: Global, kind: &str) -> Result<u32, NoMemory> {
+fn evaluated(alloc: Global, kind: &str) -> Result<u32, NoMemory> {
     let env = env_of(alloc)?;
     let functions = Items::new(alloc);
     match kind {
@@ -184,7 +186,7 @@ fn evaluations(alloc: Global, kind: &str) -> Result<u32, NoMemory> {
 
 fn measure(rt: &HostRuntime, kind: &str) -> io::Result<()> {
     let start = Instant::now(rt)?;
-    let done = evaluations(rt.alloc(), kind);
+    let done = evaluated(rt.alloc(), kind);
     let nanos = start.elapsed(rt)?.as_nanos() / TIMES as u128;
     match done {
         Ok(count) => println!(rt; "{kind}: {nanos} ns, {count} times"),
@@ -192,13 +194,9 @@ fn measure(rt: &HostRuntime, kind: &str) -> io::Result<()> {
     }
 }
 
-fn main(rt: HostRuntime) -> io::Result<()> {
-    let mut words = Vec::new(rt.alloc());
-    for word in env::args(&rt)? {
-        words.push(word)?;
-    }
-    match words.as_slice() {
-        [_, kind] => measure(&rt, kind.as_str()),
+pub(crate) fn measured(rt: &HostRuntime, words: &[String]) -> io::Result<()> {
+    match words {
+        [kind] => measure(rt, kind.as_str()),
         _ => Ok(()),
     }
 }
