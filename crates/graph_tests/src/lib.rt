@@ -1,13 +1,19 @@
-//! Texts of programs against their graphs or their first refusals, worked out by hand from the language.
+//! Texts of programs against their graphs, what the rules of clauses find out about them, what analyses say of
+//! them, and runs of their operators, or against their first refusals: all worked out by hand from the language.
 #![tactic(auto)]
 
 #[cfg(test)]
-mod answer;
+mod analyses;
+#[cfg(test)]
+mod clauses;
+mod copying;
 #[cfg(test)]
 mod graphs;
 #[cfg(test)]
-mod large;
+mod reading;
 #[cfg(test)]
-mod refusals;
-#[cfg(test)]
-mod shells;
+mod records;
+mod writer;
+
+pub use copying::copied;
+pub use writer::Writer;

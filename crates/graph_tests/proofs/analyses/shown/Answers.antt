@@ -1,8 +1,8 @@
 use Rattle.std.proofs.Common.{ap, arith, length, subst, ◌<◌}
 use Rattle.language_model.specs.CheckedGraph.{CheckedGraph}
 use Rattle.language_model.specs.Keeping.{Keeps}
-use Rattle.analysis_tests.proofs.Numbers.{are_numbers}
-use Rattle.analysis_tests.proofs.answer.shown.Goals as goal
+use Rattle.graph_tests.proofs.Numbers.{are_numbers}
+use Rattle.graph_tests.proofs.analyses.shown.Goals as goal
 
 pub chain_text-requires : goal.chain_text-requires
 chain_text-requires c =

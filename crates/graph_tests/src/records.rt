@@ -1,15 +1,10 @@
 //! Runs in the order of a record.
-ghost use Rattle.std.specs.Prelude.{◌≤◌, length};
-
-use clause_rules::check;
-use composite_expand::expand;
+use crate::reading::checked_of;
 use language_model::Checked;
 use list_engine::{Order, Run, RunAnswer};
 use memory_files::MemoryShelf;
 use op_kit::run_graph;
 use source_rows::{Sources, read_sources};
-use spl_lexer::lex;
-use spl_tree::{Tokens, Unit};
 use spl_value::{Inputs, Item, Items, Name, NoMemory, Value};
 use std::alloc::{AllocError, Global};
 use std::test::Fail;
@@ -18,7 +13,6 @@ use test_texts::rows::{Answers, expect};
 use test_texts::spelled::spelled_out;
 use test_texts::text::Text;
 use test_texts::words::{bytes, number};
-use unit_parser::parse_unit;
 
 /// Two sources, with a Union that a sink reads, and with a sink that reads them by itself. These two have the
 /// numbers 2 and 4.
@@ -62,33 +56,10 @@ struct Recorded;
 
 impl Answers for Recorded {
     fn answer(&self, alloc: Global, text: &str) -> Result<String, AllocError> {
-        let Ok(tokens) = lex(alloc, PROGRAM.as_bytes()) else {
-            return "no tokens".to_string(alloc);
-        };
-        if tokens.list.len() > 1_048_576 {
-            return "too many tokens".to_string(alloc);
+        match checked_of(alloc, PROGRAM.as_bytes()) {
+            Ok(checked) => from_files(alloc, &checked, text),
+            Err(wanting) => wanting.to_string(alloc),
         }
-        parsed(alloc, &tokens, text)
-    }
-}
-
-fn parsed(alloc: Global, tokens: &Tokens, row: &str) -> Result<String, AllocError>
-    requires { length tokens.now.list ≤ 1048576 }
-{
-    match parse_unit(alloc, tokens) {
-        Ok(unit) => expanded(alloc, &unit, row),
-        Err(_) => "no tree".to_string(alloc),
-    }
-}
-
-fn expanded(alloc: Global, unit: &Unit, row: &str) -> Result<String, AllocError> {
-    let names = Items::new(alloc);
-    let Ok(graph) = expand(alloc, unit, &names) else {
-        return "no graph".to_string(alloc);
-    };
-    match check(alloc, unit, graph) {
-        Ok(checked) => from_files(alloc, &checked, row),
-        Err(_) => "refused".to_string(alloc),
     }
 }
 

@@ -1,30 +1,33 @@
-//! What the analyses say of programs.
-ghost use Rattle.std.specs.Prelude.{◌≡◌, ◌<◌, ◌≤◌, length, IfOk};
+//! What the analyses say of programs: of operators, of chains, and the plans.
+ghost use Rattle.std.specs.Prelude.{◌≡◌, ◌<◌, length, IfOk};
 ghost use Rattle.stream_model.specs.CheckedMeaning.{graph_of};
 ghost use Rattle.stream_model.specs.Meaning.{Graph};
 ghost use Rattle.attribute_flow.specs.Chains.{AreNumbers};
-ghost use Rattle.analysis_tests.specs.Below.{AreBelow};
+ghost use Rattle.graph_tests.specs.Below.{AreBelow};
 
-use crate::plans::plan_text;
-use crate::shells::SHELLS;
+mod chains;
+mod operators;
+mod plan_texts;
+mod plans;
+mod shells;
+
+use crate::analyses::plan_texts::plan_text;
+use crate::analyses::shells::SHELLS;
+use crate::reading::checked_of;
 use attribute_flow::{source_of, trace};
-use clause_rules::check;
-use composite_expand::expand;
 use language_model::Checked;
 use selectivity_rules::gives;
-use spl_lexer::lex;
-use spl_tree::{Tokens, Unit};
 use spl_value::{Ids, Items};
 use state_analysis::state_of;
 use std::alloc::{AllocError, Global};
+use std::test::Fail;
 use stream_model::{Gives, StateKind};
-use test_texts::rows::Answers;
+use test_texts::rows::{Answers, expect, expect_spread};
 use test_texts::shells::program;
-use unit_parser::parse_unit;
 
 /// What is asked of a program.
 #[derive(Clone, Copy)]
-pub(crate) enum Asked {
+enum Asked {
     /// The class, the state and the sources of its last operator: `One; Keyed 0 2; 0 -`.
     Operator,
     /// The sources along the chain of its operators but the first: `0 -`.
@@ -140,32 +143,25 @@ fn shown(alloc: Global, checked: &Checked, asked: Asked) -> Result<String, Alloc
     }
 }
 
-fn expanded(alloc: Global, unit: &Unit, asked: Asked) -> Result<String, AllocError> {
-    let names = Items::new(alloc);
-    let Ok(graph) = expand(alloc, unit, &names) else {
-        return "no graph".to_string(alloc);
-    };
-    match check(alloc, unit, graph) {
-        Ok(checked) => shown(alloc, &checked, asked),
-        Err(_) => "refused".to_string(alloc),
-    }
-}
-
-fn parsed(alloc: Global, tokens: &Tokens, asked: Asked) -> Result<String, AllocError>
-    requires { length tokens.now.list ≤ 1048576 }
-{
-    match parse_unit(alloc, tokens) {
-        Ok(unit) => expanded(alloc, &unit, asked),
-        Err(_) => "no tree".to_string(alloc),
-    }
-}
-
 fn answered(alloc: Global, program: &[u8], asked: Asked) -> Result<String, AllocError> {
-    let Ok(tokens) = lex(alloc, program) else {
-        return "no tokens".to_string(alloc);
-    };
-    if tokens.list.len() > 1_048_576 {
-        return "too many tokens".to_string(alloc);
+    match checked_of(alloc, program) {
+        Ok(checked) => shown(alloc, &checked, asked),
+        Err(wanting) => wanting.to_string(alloc),
     }
-    parsed(alloc, &tokens, asked)
+}
+
+#[test]
+fn operators_keep_copy_and_cause_what_their_clauses_say(rt: HostRuntime) -> Result<(), Fail> {
+    let alloc = rt.alloc();
+    expect(alloc, &Asked::Operator, &[operators::ROWS])?;
+    expect(alloc, &Asked::Chain, &[chains::ROWS])?;
+    Ok(())
+}
+
+#[test]
+fn regions_are_those_that_the_rules_determine(rt: HostRuntime) -> Result<(), Fail> {
+    let alloc = rt.alloc();
+    expect(alloc, &Asked::Plan, &[plans::ROWS])?;
+    expect_spread(alloc, &Asked::Plan, plans::LONG)?;
+    Ok(())
 }

@@ -5,7 +5,7 @@ ghost use Rattle.stream_model.specs.examples.CheckedGraphs.{texts};
 ghost use Rattle.stream_model.specs.CheckedMeaning.{graph_of};
 ghost use Rattle.stream_model.specs.Meaning.{Graph};
 ghost use Rattle.list_engine.specs.Runs.{SinksGiven, meant};
-ghost use Rattle.engine_tests.specs.Copying.{copying};
+ghost use Rattle.graph_tests.specs.Copying.{copying};
 
 use crate::writer::Writer;
 use language_model::Checked;

@@ -12,7 +12,7 @@ pub struct Writer {
 
 impl React for Writer {
     ghost use Rattle.std.specs.Prelude.{⊤};
-    ghost use Rattle.engine_tests.specs.Copying.{writer};
+    ghost use Rattle.graph_tests.specs.Copying.{writer};
 
     ghost spec = { λ w. writer };
 

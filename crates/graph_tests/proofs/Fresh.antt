@@ -3,7 +3,7 @@ use Rattle.std.proofs.Common.{◌≡◌, ℕ, zero, suc, Bool, true, false, [], 
 use Rattle.std.specs.Prelude.{⊤}
 use Rattle.stream_model.specs.Operators.{Operator}
 use Rattle.list_engine.specs.Runs.{AreOperators, is_source}
-use Rattle.engine_tests.specs.Copying.{copying_graph, writer}
+use Rattle.graph_tests.specs.Copying.{copying_graph, writer}
 
 pub fresh : {S : Type 0} → (s : S) → AreOperators {S = S} (λ x. writer) (λ x h. ⊤) copying_graph (None ∷ Some s ∷ [])
 fresh {S = S} s = record { count = refl; sources = sources; others = others }

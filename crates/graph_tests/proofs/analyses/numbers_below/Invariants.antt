@@ -1,5 +1,5 @@
-use Rattle.analysis_tests.specs.Below.{AreBelow}
-use Rattle.analysis_tests.proofs.answer.numbers_below.Given as goal
+use Rattle.graph_tests.specs.Below.{AreBelow}
+use Rattle.graph_tests.proofs.analyses.numbers_below.Given as goal
 
 abbrev pub invariant-loop-number : goal.invariant-loop-number
 invariant-loop-number l = AreBelow l.count l.numbers.items

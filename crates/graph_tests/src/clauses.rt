@@ -1,23 +1,36 @@
-//! What is answered to texts of programs.
-ghost use Rattle.std.specs.Prelude.{◌≤◌, length};
+//! What the rules of types and clauses find out about programs, or their first refusals.
+mod bodies;
+mod bytes;
+mod dollars;
+mod logic;
+mod operators;
+mod orders;
+mod outputs;
+mod parameters;
+mod parts;
+mod shells;
+mod types;
+mod values;
+mod windows;
+mod worked;
 
-use crate::shells::SHELLS;
+use crate::clauses::shells::SHELLS;
+use crate::reading::unit_of;
 use clause_rules::{CheckAnswer, check};
 use composite_expand::expand;
 use graph_texts::checked::{parts_text, schemas_text};
 use language_model::Checked;
-use spl_lexer::lex;
-use spl_tree::{Tokens, Unit};
+use spl_tree::Unit;
 use spl_value::Items;
 use std::alloc::{AllocError, Global};
+use std::test::Fail;
 use test_texts::refusals::check_refusal;
-use test_texts::rows::Answers;
+use test_texts::rows::{Answers, expect};
 use test_texts::shells::program;
-use unit_parser::parse_unit;
 
 /// What is asked of a program that is accepted.
 #[derive(Clone, Copy)]
-pub(crate) enum Asked {
+enum Asked {
     /// How many operators and streams it has: `ok 3 operators 2 streams`.
     Counts,
     /// What is kept of each operator.
@@ -27,7 +40,7 @@ pub(crate) enum Asked {
 }
 
 /// A program in which each character means the byte of its number.
-pub(crate) struct Bytes;
+struct Characters;
 
 impl Answers for Asked {
     fn answer(&self, alloc: Global, text: &str) -> Result<String, AllocError> {
@@ -36,7 +49,7 @@ impl Answers for Asked {
     }
 }
 
-impl Answers for Bytes {
+impl Answers for Characters {
     fn answer(&self, alloc: Global, text: &str) -> Result<String, AllocError> {
         let mut program = Vec::new(alloc);
         for character in text.chars() {
@@ -80,21 +93,59 @@ fn expanded(alloc: Global, unit: &Unit, asked: Asked) -> Result<String, AllocErr
     }
 }
 
-fn parsed(alloc: Global, tokens: &Tokens, asked: Asked) -> Result<String, AllocError>
-    requires { length tokens.now.list ≤ 1048576 }
-{
-    match parse_unit(alloc, tokens) {
+fn answered(alloc: Global, program: &[u8], asked: Asked) -> Result<String, AllocError> {
+    match unit_of(alloc, program) {
         Ok(unit) => expanded(alloc, &unit, asked),
-        Err(_) => "no tree".to_string(alloc),
+        Err(wanting) => wanting.to_string(alloc),
     }
 }
 
-fn answered(alloc: Global, program: &[u8], asked: Asked) -> Result<String, AllocError> {
-    let Ok(tokens) = lex(alloc, program) else {
-        return "no tokens".to_string(alloc);
-    };
-    if tokens.list.len() > 1_048_576 {
-        return "too many tokens".to_string(alloc);
-    }
-    parsed(alloc, &tokens, asked)
+#[test]
+fn bodies_are_accepted_or_have_their_first_refusals(rt: HostRuntime) -> Result<(), Fail> {
+    let rows = [bodies::ROWS, logic::ROWS, dollars::ROWS];
+    expect(rt.alloc(), &Asked::Counts, &rows)?;
+    Ok(())
+}
+
+#[test]
+fn operators_are_accepted_or_have_their_first_refusals(rt: HostRuntime) -> Result<(), Fail> {
+    let rows = [
+        operators::ROWS,
+        outputs::ROWS,
+        parameters::ROWS,
+        windows::ROWS,
+    ];
+    expect(rt.alloc(), &Asked::Counts, &rows)?;
+    Ok(())
+}
+
+#[test]
+fn programs_are_accepted_or_have_their_first_refusals(rt: HostRuntime) -> Result<(), Fail> {
+    let rows = [orders::ROWS, types::ROWS, values::ROWS, worked::ROWS];
+    expect(rt.alloc(), &Asked::Counts, &rows)?;
+    Ok(())
+}
+
+#[test]
+fn programs_of_all_bytes_are_accepted_or_refused(rt: HostRuntime) -> Result<(), Fail> {
+    expect(rt.alloc(), &Characters, &[bytes::ROWS])?;
+    Ok(())
+}
+
+#[test]
+fn operators_keep_what_their_clauses_say(rt: HostRuntime) -> Result<(), Fail> {
+    expect(rt.alloc(), &Asked::Parts, &[parts::CLAUSES])?;
+    Ok(())
+}
+
+#[test]
+fn streams_have_their_attributes(rt: HostRuntime) -> Result<(), Fail> {
+    expect(rt.alloc(), &Asked::Types, &[parts::TYPES])?;
+    Ok(())
+}
+
+#[test]
+fn types_are_bounded_in_depth_and_parts(rt: HostRuntime) -> Result<(), Fail> {
+    expect(rt.alloc(), &Asked::Counts, &[types::BOUNDS])?;
+    Ok(())
 }

@@ -8,7 +8,7 @@ use Rattle.stream_model.specs.CheckedMeaning.{graph_of}
 use Rattle.stream_model.specs.Meaning.{Graph}
 use Rattle.stream_model.proofs.CheckedOperators.{operators_length}
 use Rattle.attribute_flow.specs.Chains.{AreNumbers}
-use Rattle.analysis_tests.specs.Below.{AreBelow}
+use Rattle.graph_tests.specs.Below.{AreBelow}
 
 pub one_more : (count m : ℕ) (ns : List ℕ) → AreBelow count ns → m < count → AreBelow count (ns ++ m ∷ [])
 one_more count m ns below lt i n at = elim (append_cases ns m i n at) [

@@ -3,10 +3,10 @@ use Rattle.std.specs.Prelude.{⊤}
 use Rattle.stream_model.specs.CheckedMeaning.{graph_of}
 use Rattle.stream_model.specs.Meaning.{Graph}
 use Rattle.list_engine.specs.Runs.{AreOperators}
-use Rattle.engine_tests.specs.declared.writer.Writer.{Writer}
-use Rattle.engine_tests.specs.Copying.{copying_graph, writer}
-use Rattle.engine_tests.proofs.Fresh.{fresh}
-use Rattle.engine_tests.proofs.copying.copied.Goals as goal
+use Rattle.graph_tests.specs.declared.writer.Writer.{Writer}
+use Rattle.graph_tests.specs.Copying.{copying_graph, writer}
+use Rattle.graph_tests.proofs.Fresh.{fresh}
+use Rattle.graph_tests.proofs.copying.copied.Goals as goal
 
 pub run_lists-requires-clause-operators : goal.run_lists-requires-clause-operators
 run_lists-requires-clause-operators c = λ g e.
