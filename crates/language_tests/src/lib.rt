@@ -1,8 +1,22 @@
-//! Texts of expressions and statements against what they are by the rules of the language, worked out by
-//! hand.
+//! Texts of expressions, statements and bodies against what they are and what they give by the rules of the
+//! language, worked out by hand.
 #![tactic(auto)]
 
+#[cfg(test)]
+mod bodies;
+#[cfg(test)]
+mod chains;
+#[cfg(test)]
+mod context;
+#[cfg(test)]
+mod reading;
+#[cfg(test)]
+mod scopes;
 #[cfg(test)]
 mod statements;
 #[cfg(test)]
 mod types;
+#[cfg(test)]
+mod unanswered;
+#[cfg(test)]
+mod values;

@@ -3,7 +3,10 @@ ghost use Rattle.std.specs.Prelude.{◌≤◌, length};
 
 mod tables;
 
+use crate::reading::{expr_from, tokens_of};
+use crate::scopes::{scope_in, scope_of};
 use crate::types::scoped;
+use crate::unanswered::{Unanswered, finish};
 use expr_parser::parse_expr;
 use graph_texts::statements::add_statement;
 use language_model::Scope;
@@ -11,9 +14,6 @@ use spl_tree::{BinaryOperator, Body, Expr, Marker, Statement, Symbol, Token, Tok
 use spl_value::Items;
 use std::alloc::{AllocError, Global};
 use std::test::Fail;
-use test_scopes::reading::{expr_from, tokens_of};
-use test_scopes::scopes::{scope_in, scope_of};
-use test_scopes::unanswered::{Unanswered, finish};
 use test_texts::rows::{Answers, Untrue, expect};
 use test_texts::text::Text;
 use type_rules::{assignment_of, call_of, compound_of};

@@ -6,15 +6,15 @@ mod names;
 mod operators;
 pub(crate) mod scoped;
 
+use crate::reading::expr_of;
+use crate::scopes::{scope_in, scope_of, type_named};
+use crate::unanswered::{Unanswered, finish};
 use graph_texts::codes::add_code;
 use language_model::{Scope, Typed};
 use spl_tree::{Expr, Marker};
 use spl_value::{Items, NoMemory, SplType, copy_type, default_of, same_type};
 use std::alloc::{AllocError, Global};
 use std::test::Fail;
-use test_scopes::reading::expr_of;
-use test_scopes::scopes::{scope_in, scope_of, type_named};
-use test_scopes::unanswered::{Unanswered, finish};
 use test_texts::rows::{Answers, Untrue, expect, no_others, row_of};
 use test_texts::text::Text;
 use test_texts::types::add_type;

@@ -20,14 +20,14 @@ fn first_type(alloc: Global, unit: &Unit) -> Result<SplType, Unanswered> {
 }
 
 /// The type of a text.
-pub fn type_named(alloc: Global, text: &str) -> Result<SplType, Unanswered> {
+pub(crate) fn type_named(alloc: Global, text: &str) -> Result<SplType, Unanswered> {
     let text = format!(in alloc; "type Wanted = {text};")?;
     let unit = unit_of(alloc, text.as_str())?;
     first_type(alloc, &unit)
 }
 
 /// The scope of a unit with its variables, and its ports unless a marker came.
-pub fn scope_of(alloc: Global, text: &str, came: Option<Marker>) -> Result<Scope, Unanswered> {
+pub(crate) fn scope_of(alloc: Global, text: &str, came: Option<Marker>) -> Result<Scope, Unanswered> {
     let unit = unit_of(alloc, text)?;
     let context = Context::new(alloc, &unit, &unit, came)?;
     Ok(context.scope)
@@ -95,7 +95,7 @@ fn add_parameters(alloc: Global, scope: &mut Scope, unit: &Unit) -> Result<(), U
 
 /// The scope of a unit where a tuple came, with the `$` parameters of the composite with which another
 /// unit begins, and with the functions of that unit whose types aren't any.
-pub fn scope_in(alloc: Global, text: &str, composite: &str) -> Result<Scope, Unanswered> {
+pub(crate) fn scope_in(alloc: Global, text: &str, composite: &str) -> Result<Scope, Unanswered> {
     let unit = unit_of(alloc, composite)?;
     let mut scope = scope_of(alloc, text, None)?;
     add_parameters(alloc, &mut scope, &unit)?;

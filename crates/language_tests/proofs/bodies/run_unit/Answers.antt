@@ -1,5 +1,5 @@
-use Rattle.evaluation_tests.proofs.Runs.{handler_is_fit}
-use Rattle.evaluation_tests.proofs.bodies.run_unit.Goals as goal
+use Rattle.language_tests.proofs.Runs.{handler_is_fit}
+use Rattle.language_tests.proofs.bodies.run_unit.Goals as goal
 
 pub run-requires : goal.run-requires
 run-requires c =

@@ -13,7 +13,7 @@ use Rattle.language_model.specs.BodyLaws.{BodyFitLaw}
 use Rattle.language_model.specs.BodyTyping.{Setting, body_typing}
 use Rattle.language_model.specs.FitLaws.{DollarsFit}
 use Rattle.expr_eval.specs.Running.{BodyIsFit}
-use Rattle.test_scopes.specs.Contexts.{Holds}
+use Rattle.language_tests.specs.Contexts.{Holds}
 
 -- the code of a body fits where no `$` parameters are
 pub body_fits : BodyFitLaw → DollarsFit [] → (purpose : Purpose) (setting : Setting) (scope : Scope) (ss : List Stmt) (row : List Statement) → setting.purpose ≡ purpose

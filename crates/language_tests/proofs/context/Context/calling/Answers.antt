@@ -1,5 +1,5 @@
-use Rattle.test_scopes.proofs.Steps.{unit_holds}
-use Rattle.test_scopes.proofs.context.Context.calling.Goals as goal
+use Rattle.language_tests.proofs.Steps.{unit_holds}
+use Rattle.language_tests.proofs.context.Context.calling.Goals as goal
 
 pub returns : goal.returns
 returns c =

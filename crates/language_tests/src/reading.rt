@@ -9,7 +9,7 @@ use std::alloc::Global;
 use unit_parser::parse_unit;
 
 /// The tokens of a text.
-pub fn tokens_of(alloc: Global, text: &str) -> Result<Tokens, Unanswered>
+pub(crate) fn tokens_of(alloc: Global, text: &str) -> Result<Tokens, Unanswered>
     ensures { IfOk result (λ tokens. length tokens.list ≤ 1048576) }
 {
     let Ok(tokens) = lex(alloc, text.as_bytes()) else {
@@ -22,7 +22,7 @@ pub fn tokens_of(alloc: Global, text: &str) -> Result<Tokens, Unanswered>
 }
 
 /// The expression that the tokens are from one of them on.
-pub fn expr_from(alloc: Global, tokens: &Tokens, from: u32) -> Result<Expr, Unanswered>
+pub(crate) fn expr_from(alloc: Global, tokens: &Tokens, from: u32) -> Result<Expr, Unanswered>
     requires few { length tokens.now.list ≤ 1048576 }
     requires within { from ≤ length tokens.now.list }
 {
@@ -36,13 +36,13 @@ pub fn expr_from(alloc: Global, tokens: &Tokens, from: u32) -> Result<Expr, Unan
 }
 
 /// The expression that a whole text is.
-pub fn expr_of(alloc: Global, text: &str) -> Result<Expr, Unanswered> {
+pub(crate) fn expr_of(alloc: Global, text: &str) -> Result<Expr, Unanswered> {
     let tokens = tokens_of(alloc, text)?;
     expr_from(alloc, &tokens, 0)
 }
 
 /// The unit that a text is.
-pub fn unit_of(alloc: Global, text: &str) -> Result<Unit, Unanswered> {
+pub(crate) fn unit_of(alloc: Global, text: &str) -> Result<Unit, Unanswered> {
     let tokens = tokens_of(alloc, text)?;
     match parse_unit(alloc, &tokens) {
         Ok(unit) => Ok(unit),
@@ -52,7 +52,7 @@ pub fn unit_of(alloc: Global, text: &str) -> Result<Unit, Unanswered> {
 }
 
 /// The statements of the function with that name, or none where the unit has no such function.
-pub fn body_named<'u>(unit: &'u Unit, name: &str) -> &'u [Stmt] {
+pub(crate) fn body_named<'u>(unit: &'u Unit, name: &str) -> &'u [Stmt] {
     for definition in unit.as_slice() {
         if let Definition::Function(function) = definition {
             if function.name.what.as_slice() == name.as_bytes() {

@@ -64,7 +64,7 @@ fn add_unanswered(text: &mut Text, why: &Unanswered) {
 }
 
 /// The answer to a row, or why there is none.
-pub fn finish(out: Text, outcome: Result<(), Unanswered>) -> Result<String, AllocError> {
+pub(crate) fn finish(out: Text, outcome: Result<(), Unanswered>) -> Result<String, AllocError> {
     let mut out = out;
     if let Err(why) = outcome {
         add_unanswered(&mut out, &why);

@@ -1,5 +1,5 @@
-use Rattle.test_scopes.proofs.Steps.{with_variable}
-use Rattle.test_scopes.proofs.context.Context.add_variable.Goals as goal
+use Rattle.language_tests.proofs.Steps.{with_variable}
+use Rattle.language_tests.proofs.context.Context.add_variable.Goals as goal
 
 pub returns : goal.returns
 returns c =

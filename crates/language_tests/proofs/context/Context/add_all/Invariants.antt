@@ -1,5 +1,5 @@
-use Rattle.test_scopes.specs.Contexts.{Holds}
-use Rattle.test_scopes.proofs.context.Context.add_all.Given as goal
+use Rattle.language_tests.specs.Contexts.{Holds}
+use Rattle.language_tests.proofs.context.Context.add_all.Given as goal
 
 abbrev pub invariant-loop-one : goal.invariant-loop-one
 invariant-loop-one l = Holds l.self.scope l.self.env l.self.functions

@@ -3,10 +3,14 @@ ghost use Rattle.std.specs.Prelude.{◌≡◌, false, [], map, IfOk};
 ghost use Rattle.language_model.specs.declared.scope.Port.{Port};
 ghost use Rattle.language_model.specs.BodyFits.{OfHandler, RowFits};
 ghost use Rattle.expr_eval.specs.Running.{BodyIsFit};
-ghost use Rattle.test_scopes.specs.Contexts.{Holds};
+ghost use Rattle.language_tests.specs.Contexts.{Holds};
 
 mod tables;
 
+use crate::context::Context;
+use crate::reading::{body_named, unit_of};
+use crate::scopes::scope_of;
+use crate::unanswered::{Unanswered, finish};
 use crate::values::with_turns;
 use body_rules::{BodyPurpose, BodySetting, body_of, functions_of};
 use expr_eval::{Ran, run_body};
@@ -16,10 +20,6 @@ use spl_tree::{Body, Functions, Unit};
 use spl_value::{Item, Items, Value};
 use std::alloc::{AllocError, Global};
 use std::test::Fail;
-use test_scopes::context::Context;
-use test_scopes::reading::{body_named, unit_of};
-use test_scopes::scopes::scope_of;
-use test_scopes::unanswered::{Unanswered, finish};
 use test_texts::rows::{Answers, expect};
 use test_texts::text::Text;
 use test_texts::values::add_value;

@@ -2,8 +2,8 @@ use Rattle.std.proofs.Common.{IsTrue}
 use Rattle.spl_value.specs.declared.types.SplType.TheVariants as S
 use Rattle.spl_value.specs.declared.value.Value.TheVariants as V
 use Rattle.spl_value.specs.Values.{fits}
-use Rattle.test_scopes.proofs.Steps.{with_port}
-use Rattle.test_scopes.proofs.context.Context.add_port.Goals as goal
+use Rattle.language_tests.proofs.Steps.{with_port}
+use Rattle.language_tests.proofs.context.Context.add_port.Goals as goal
 
 pub returns : goal.returns
 returns c =

@@ -1,6 +1,6 @@
 use Rattle.std.proofs.Common.{refl}
-use Rattle.evaluation_tests.proofs.Runs.{body_fits}
-use Rattle.evaluation_tests.proofs.bodies.body_code.Goals as goal
+use Rattle.language_tests.proofs.Runs.{body_fits}
+use Rattle.language_tests.proofs.bodies.body_code.Goals as goal
 
 pub returns-clause-fits : goal.returns-clause-fits
 returns-clause-fits c =

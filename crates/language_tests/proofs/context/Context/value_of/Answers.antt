@@ -1,6 +1,6 @@
 use Rattle.language_model.specs.CodeFits.{CodeFits}
-use Rattle.test_scopes.proofs.Steps.{value_fits}
-use Rattle.test_scopes.proofs.context.Context.value_of.Goals as goal
+use Rattle.language_tests.proofs.Steps.{value_fits}
+use Rattle.language_tests.proofs.context.Context.value_of.Goals as goal
 
 pub returns-in-Value : goal.returns-in-Value
 returns-in-Value c =

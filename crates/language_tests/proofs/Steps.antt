@@ -26,7 +26,7 @@ use Rattle.language_model.specs.Outcomes.{Done}
 use Rattle.language_model.specs.ValueLaws.{NeverStuckLaw}
 use Rattle.language_model.specs.WorldFits.{FunctionsFit, Fits, ComesTo}
 use Rattle.check_laws.proofs.SignedFunctions.{functions_fit}
-use Rattle.test_scopes.specs.Contexts.{Holds}
+use Rattle.language_tests.specs.Contexts.{Holds}
 
 -- ---- lists that grow side by side
 

@@ -3,7 +3,7 @@
 ghost use Rattle.std.specs.Prelude.{IsTrue, IfOk, OnOk};
 ghost use Rattle.spl_value.specs.Values.{fits};
 ghost use Rattle.language_model.specs.CodeFits.{CodeFits};
-ghost use Rattle.test_scopes.specs.Contexts.{Holds};
+ghost use Rattle.language_tests.specs.Contexts.{Holds};
 
 use crate::reading::body_named;
 use crate::unanswered::Unanswered;
@@ -79,7 +79,7 @@ impl Context {
     }
 
     /// The value of an expression, and of the turns those that are left.
-    pub fn value_of(
+    pub(crate) fn value_of(
         &self,
         alloc: Global,
         expr: &Expr,
@@ -233,7 +233,7 @@ impl Context {
 
     /// A context with the functions of a unit, and what another one declares: its variables, and its ports
     /// unless a marker came.
-    pub fn new(
+    pub(crate) fn new(
         alloc: Global,
         functions: &Unit,
         declared: &Unit,

@@ -1,14 +1,14 @@
 //! Texts of expressions against their results.
-ghost use Rattle.test_scopes.specs.Contexts.{Holds};
+ghost use Rattle.language_tests.specs.Contexts.{Holds};
 
 mod tables;
 
+use crate::context::{Context, TURNS};
+use crate::reading::{expr_of, unit_of};
+use crate::unanswered::{Unanswered, finish};
 use spl_tree::{Expr, Marker, Unit};
 use std::alloc::{AllocError, Global};
 use std::test::Fail;
-use test_scopes::context::{Context, TURNS};
-use test_scopes::reading::{expr_of, unit_of};
-use test_scopes::unanswered::{Unanswered, finish};
 use test_texts::rows::{Answers, expect};
 use test_texts::text::Text;
 use test_texts::values::add_value;
