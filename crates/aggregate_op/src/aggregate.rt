@@ -10,11 +10,21 @@ use window_policy::Window;
 /// An Aggregate: it gives a tuple for each group of a content with which its window fires, by ascending key.
 /// The arguments of its assignments are evaluated when a tuple comes. A window marker follows each content of
 /// a window that tumbles, and those of a window that slides are passed.
-#[derive(Drop)]
 pub struct Aggregate<'c> {
     pub(crate) alloc: Global,
     pub(crate) clauses: Clauses<'c>,
     pub(crate) window: Window,
     /// It has no tuple between events.
     pub(crate) env: Env,
+}
+
+impl<'c> Drop for Aggregate<'c> {
+    fn drop(self) {
+        let Aggregate {
+            alloc: _,
+            clauses: _,
+            window: _,
+            env: _,
+        } = self;
+    }
 }

@@ -20,7 +20,6 @@ use std::alloc::Global;
 use written_types::{TypeScope, TypeTable};
 
 /// A unit with its expansions, in which names are looked up. It is made once for all operators.
-#[derive(Drop)]
 pub struct Sites<'a> {
     pub unit: &'a Unit,
     pub expansions: &'a [Expansion],
@@ -35,6 +34,19 @@ pub struct Sites<'a> {
     ghost all: { map (λ b. b.composite.now) bodies.items ≡ composites unit.now } by { same_composites _ _ },
     ghost unit_defined: { unit_types ≡ type_definitions unit.now },
     ghost unit_named: { HoldsNames unit_names (type_names_of (type_definitions unit.now)) },
+}
+
+impl<'a> Drop for Sites<'a> {
+    fn drop(self) {
+        let Sites {
+            unit: _,
+            expansions: _,
+            table: _,
+            bodies: _,
+            unit_types: _,
+            unit_names: _,
+        } = self;
+    }
 }
 
 impl<'a> Sites<'a> {

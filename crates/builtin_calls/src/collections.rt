@@ -33,7 +33,7 @@ pub fn append_m(list: Value, value: Value) -> Evaluated
     requires { FitListAndElement list value }
     ensures { Answers result (append_of list value) }
 {
-    let Value::List(mut values) = list else {
+    let Some(mut values) = list.into_list() else {
         unreachable!()
     };
     match values.push(value) {
@@ -47,7 +47,7 @@ pub fn remove_m(map: Value, key: &Value) -> Evaluated
     requires { FitMapAndKey map key.now }
     ensures { Exactly result (remove_of map key.now) }
 {
-    let Value::Map(mut pairs) = map else {
+    let Some(mut pairs) = map.into_map() else {
         unreachable!()
     };
     pairs.remove_key(key);
@@ -55,19 +55,14 @@ pub fn remove_m(map: Value, key: &Value) -> Evaluated
 }
 
 /// `clearM`: the list or the map with nothing in it.
-pub fn clear_m(of: Value) -> Evaluated
+pub fn clear_m(mut of: Value) -> Evaluated
     requires { FitsCollection of }
     ensures { Exactly result (clear_of of) }
 {
-    match of {
-        Value::List(mut values) => {
-            values.clear();
-            Evaluated::Value(Value::List(values))
-        }
-        Value::Map(mut pairs) => {
-            pairs.clear();
-            Evaluated::Value(Value::Map(pairs))
-        }
+    match &mut of {
+        Value::List(values) => values.clear(),
+        Value::Map(pairs) => pairs.clear(),
         _ => unreachable!(),
     }
+    Evaluated::Value(of)
 }

@@ -74,13 +74,22 @@ fn scope_of<'u>(alloc: Global, composite: &'u Composite) -> Result<Scope<'u>, No
 }
 
 /// The composites of a unit.
-#[derive(Drop)]
 pub struct Composites<'u> {
     pub unit: &'u Unit,
     scopes: Vec<Scope<'u>>,
     names: Names<'u>,
     ghost scopes_stand: { map (λ s. s.composite.now) scopes.items ≡ composites unit.now } by { same_composites _ _ },
     ghost names_stand: { HoldsNames names (composite_names unit.now) },
+}
+
+impl<'u> Drop for Composites<'u> {
+    fn drop(self) {
+        let Composites {
+            unit: _,
+            scopes: _,
+            names: _,
+        } = self;
+    }
 }
 
 impl<'u> Composites<'u> {

@@ -4,7 +4,6 @@ mod calls;
 use spl_value::Items;
 
 /// The connections of an operator's input ports, with a count of those that haven't ended.
-#[derive(Drop)]
 pub struct Connections {
     /// The port of each input.
     pub ports: Items<u32>,
@@ -12,6 +11,16 @@ pub struct Connections {
     pub open: Items<usize>,
     /// How many are open in all.
     pub left: usize,
+}
+
+impl Drop for Connections {
+    fn drop(self) {
+        let Connections {
+            ports: _,
+            open: _,
+            left: _,
+        } = self;
+    }
 }
 
 /// What the end of a connection ends besides.

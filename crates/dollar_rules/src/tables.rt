@@ -78,18 +78,12 @@ fn each_scope(
     Ok(scopes)
 }
 
-fn dollars_of(scope: Scope) -> Items<Dollar>
-    ensures { result ≡ scope.dollars }
-{
-    scope.dollars
-}
-
 fn tables(alloc: Global, scopes: Vec<Scope>) -> Result<Items<Items<Dollar>>, NoMemory>
     ensures { IfOk result (λ tables. tables ≡ tables_of scopes.items) }
 {
     let mut tables = Items::new(alloc);
     for scope in scopes {
-        tables.push(dollars_of(scope))?;
+        tables.push(scope.into_dollars())?;
     }
     Ok(tables)
 }

@@ -254,14 +254,9 @@ fn name_alone(expr: Expr) -> Option<Placed<Name>>
     ensures { MatchOption result ((n : List ℕ) → expr.what ≢ X.Name n)
         (λ name. expr ≡ placed name.at (X.Name name.what)) }
 {
-    let Placed { at, what } = expr;
-    match what.into_inner() {
-        ExprKind::Name(what) => Some(Placed { at, what }),
-        other => {
-            drop(other);
-            None
-        }
-    }
+    let (at, what) = expr.into_parts();
+    let what = what.into_inner().into_name()?;
+    Some(Placed { at, what })
 }
 
 /// A map or a tuple, after the opening brace.

@@ -17,11 +17,16 @@ use std::rt::Files;
 use std::{fs, str};
 
 /// A feed over an open file. It tells what is left where the file says so, and the system's files don't.
-#[derive(Drop)]
 pub struct FileFeed<F> {
     file: F,
     faults: u64,
     ghost counted: { faults < 2 ^ 64 },
+}
+
+impl<F: Drop> Drop for FileFeed<F> {
+    fn drop(self) {
+        let FileFeed { file: _, faults: _ } = self;
+    }
 }
 
 impl<F: Read> Feed for FileFeed<F> {
@@ -48,7 +53,6 @@ const BUFFER: usize = 65536;
 /// A pour over an open file. It gathers bytes, and writes them out where its buffer is full and
 /// where the shelf finishes it. A write that fails leaves the bytes that were not written in the
 /// buffer, so that none is lost and none is written twice.
-#[derive(Drop)]
 pub struct FilePour<F> {
     file: F,
     buffer: Vec<u8>,
@@ -57,6 +61,17 @@ pub struct FilePour<F> {
     faults: u64,
     ghost within: { written ≤ length buffer.items },
     ghost counted: { faults < 2 ^ 64 },
+}
+
+impl<F: Drop> Drop for FilePour<F> {
+    fn drop(self) {
+        let FilePour {
+            file: _,
+            buffer: _,
+            written: _,
+            faults: _,
+        } = self;
+    }
 }
 
 // Writes until all is written, a write fails, or one takes nothing. Answers how many were written.

@@ -5,11 +5,19 @@ use crate::{Pour, PourAnswer};
 use std::io::Write;
 
 /// A pour over a writer. Each write is the writer's own, so a writer that gathers is flushed by its owner.
-#[derive(Drop)]
 pub struct StdoutPour<W> {
     writer: W,
     faults: u64,
     ghost counted: { faults < 2 ^ 64 },
+}
+
+impl<W: Drop> Drop for StdoutPour<W> {
+    fn drop(self) {
+        let StdoutPour {
+            writer: _,
+            faults: _,
+        } = self;
+    }
 }
 
 impl<W: Write> StdoutPour<W> {

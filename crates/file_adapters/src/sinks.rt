@@ -16,10 +16,15 @@ use spl_value::{Item, Items, Name, NoMemory};
 use std::alloc::Global;
 
 /// A sink to be written: its file, and the place of what it writes among the streams that are given.
-#[derive(Drop)]
 pub struct Sink {
     pub file: Name,
     pub stream: u32,
+}
+
+impl Drop for Sink {
+    fn drop(self) {
+        let Sink { file: _, stream: _ } = self;
+    }
 }
 
 /// How the writing of sinks ended. `Done` has the number of rows of each, in order.

@@ -2,8 +2,13 @@
 use spl_value::{Bytes, Name};
 
 /// A file and the text that it is to hold.
-#[derive(Drop)]
 pub struct TextFile {
     pub file: Name,
     pub text: Bytes,
+}
+
+impl Drop for TextFile {
+    fn drop(self) {
+        let TextFile { file: _, text: _ } = self;
+    }
 }

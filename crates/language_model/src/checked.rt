@@ -85,18 +85,35 @@ pub struct CollectorCall {
 }
 
 /// An output attribute of an Aggregate, by its place, and what it gets. `Count` has no argument.
-#[derive(Drop)]
 pub struct CollectedAttribute {
     pub attribute: u32,
     pub collector: Collector,
     pub argument: Option<Code<Slot>>,
 }
 
+impl Drop for CollectedAttribute {
+    fn drop(self) {
+        let CollectedAttribute {
+            attribute: _,
+            collector: _,
+            argument: _,
+        } = self;
+    }
+}
+
 /// A variable of the state of a Custom, and its first value.
-#[derive(Drop)]
 pub struct StateVariable {
     pub variable: Variable,
     pub first: Code<Slot>,
+}
+
+impl Drop for StateVariable {
+    fn drop(self) {
+        let StateVariable {
+            variable: _,
+            first: _,
+        } = self;
+    }
 }
 
 /// A handler of a Custom: the event, the input port by its number, and what is done.
@@ -109,16 +126,24 @@ pub struct Handled {
 
 /// What a Custom does on tuples and on markers, by its input ports. The first variables of each body are
 /// those of the state. The one port that a body on tuples sees, as port 0, is its own.
-#[derive(Drop)]
 pub struct Handlers {
     pub state: Items<StateVariable>,
     pub on_tuple: Items<Option<Body>>,
     pub on_punct: Items<Option<Body>>,
 }
 
+impl Drop for Handlers {
+    fn drop(self) {
+        let Handlers {
+            state: _,
+            on_tuple: _,
+            on_punct: _,
+        } = self;
+    }
+}
+
 /// The clauses of an operator with their codes. The output of a Functor or a Join is the code of a
 /// tuple, whose fields stand in the order in which they are evaluated.
-#[derive(Drop)]
 pub enum CheckedClauses {
     FileSource {
         file: Bytes,
@@ -160,6 +185,39 @@ pub enum CheckedClauses {
         condition: Option<Code<Slot>>,
         output: Code<Slot>,
     },
+}
+
+impl Drop for CheckedClauses {
+    fn drop(self) {
+        match self {
+            CheckedClauses::FileSource { file: _, strict: _ } => {}
+            CheckedClauses::FileSink { file: _ } => {}
+            CheckedClauses::Filter { condition: _ } => {}
+            CheckedClauses::Functor {
+                condition: _,
+                output: _,
+            } => {}
+            CheckedClauses::Punctor {
+                condition: _,
+                position: _,
+            } => {}
+            CheckedClauses::Split { index: _ } => {}
+            CheckedClauses::Union { places: _ } => {}
+            CheckedClauses::Custom { handlers: _ } => {}
+            CheckedClauses::Aggregate {
+                window: _,
+                partition: _,
+                group: _,
+                output: _,
+            } => {}
+            CheckedClauses::Join {
+                left: _,
+                right: _,
+                condition: _,
+                output: _,
+            } => {}
+        }
+    }
 }
 
 /// The attributes of an operator's input and output ports.

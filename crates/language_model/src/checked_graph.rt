@@ -8,7 +8,6 @@ use std::marker::Model;
 ///
 /// Contracts see it as a `CheckedGraph`, and its invariant is `Keeps`: the graph has an order and stays
 /// within the limits, the functions fit, and so do the ports, the types and the clauses of each operator.
-#[derive(Drop)]
 pub struct Checked {
     pub graph: Graph,
     /// The attributes of each stream.
@@ -17,6 +16,17 @@ pub struct Checked {
     pub functions: Functions,
     /// The clauses of each operator, in the operators' order.
     pub parts: Items<CheckedClauses>,
+}
+
+impl Drop for Checked {
+    fn drop(self) {
+        let Checked {
+            graph: _,
+            schemas: _,
+            functions: _,
+            parts: _,
+        } = self;
+    }
 }
 
 impl Model for Checked {

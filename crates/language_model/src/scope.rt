@@ -3,7 +3,6 @@ use spl_tree::{Code, Slot};
 use spl_value::{Boxed, Items, Name, Schema, SplType};
 
 /// A variable that can be named.
-#[derive(Drop)]
 pub struct Variable {
     pub name: Name,
     pub kind: SplType,
@@ -11,41 +10,77 @@ pub struct Variable {
     pub mutable: bool,
 }
 
+impl Drop for Variable {
+    fn drop(self) {
+        let Variable {
+            name: _,
+            kind: _,
+            mutable: _,
+        } = self;
+    }
+}
+
 /// A port whose tuple can be named, with its attributes.
-#[derive(Drop)]
 pub struct Port {
     pub name: Name,
     pub schema: Schema,
 }
 
+impl Drop for Port {
+    fn drop(self) {
+        let Port { name: _, schema: _ } = self;
+    }
+}
+
 /// A function that can be called: the types of its parameters, and of its result where it has one.
-#[derive(Drop)]
 pub struct Signature {
     pub name: Name,
     pub parameters: Items<SplType>,
     pub result: Option<SplType>,
 }
 
+impl Drop for Signature {
+    fn drop(self) {
+        let Signature {
+            name: _,
+            parameters: _,
+            result: _,
+        } = self;
+    }
+}
+
 /// A function whose types aren't any. A call of it is refused as they are.
-#[derive(Drop)]
 pub struct Unresolved {
     pub name: Name,
     pub refusal: CheckRefusal,
 }
 
+impl Drop for Unresolved {
+    fn drop(self) {
+        let Unresolved {
+            name: _,
+            refusal: _,
+        } = self;
+    }
+}
+
 /// A `$` parameter of the composite in whose body an expression stands: what it means there, or the
 /// refusal of that, which comes where the parameter is used.
-#[derive(Drop)]
 pub struct Dollar {
     /// Without the `$`.
     pub name: Name,
     pub found: Result<Typed, CheckRefusal>,
 }
 
+impl Drop for Dollar {
+    fn drop(self) {
+        let Dollar { name: _, found: _ } = self;
+    }
+}
+
 /// What an expression may name. Variables stand in the order of their declarations, those of the
 /// state before local ones; of several with one name the last is meant. Of functions and of `$`
 /// parameters the first is.
-#[derive(Drop)]
 pub struct Scope {
     pub vars: Items<Variable>,
     pub ports: Items<Port>,
@@ -55,6 +90,38 @@ pub struct Scope {
     pub dollars: Items<Dollar>,
     /// Whether the expression stands where a marker has come, so that it may ask which.
     pub punct: bool,
+}
+
+impl Drop for Scope {
+    fn drop(self) {
+        let Scope {
+            vars: _,
+            ports: _,
+            functions: _,
+            unresolved: _,
+            dollars: _,
+            punct: _,
+        } = self;
+    }
+}
+
+impl Scope {
+    ghost use Rattle.std.specs.Prelude.{◌≡◌};
+
+    /// The `$` parameters alone.
+    pub fn into_dollars(self) -> Items<Dollar>
+        ensures { result ≡ self.dollars }
+    {
+        let Scope {
+            vars: _,
+            ports: _,
+            functions: _,
+            unresolved: _,
+            dollars,
+            punct: _,
+        } = self;
+        dollars
+    }
 }
 
 /// The type and the code of an expression, each in a box: both become parts of greater ones.

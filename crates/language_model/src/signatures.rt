@@ -6,11 +6,16 @@ use std::collections::HashMap;
 use std::marker::Model;
 
 /// Functions in the order in which they were added, each found by its name without a look at the others.
-#[derive(Drop)]
 pub struct Signatures {
     list: Items<Signature>,
     /// The first place of each name.
     places: HashMap<Name, u32>,
+}
+
+impl Drop for Signatures {
+    fn drop(self) {
+        let Signatures { list: _, places: _ } = self;
+    }
 }
 
 impl Model for Signatures {

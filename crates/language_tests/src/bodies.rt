@@ -19,6 +19,7 @@ use language_model::{Env, Output, Outs, Port, Scope};
 use spl_tree::{Body, Functions, Unit};
 use spl_value::{Item, Items, Value};
 use std::alloc::{AllocError, Global};
+use std::mem::replace;
 use std::test::Fail;
 use test_texts::rows::{Answers, expect};
 use test_texts::text::Text;
@@ -155,7 +156,8 @@ fn run_unit(
 
 impl Bodies {
     fn new(alloc: Global) -> Result<Bodies, Unanswered> {
-        let outputs = scope_of(alloc, tables::OUTPUTS, None)?.ports;
+        let mut scope = scope_of(alloc, tables::OUTPUTS, None)?;
+        let outputs = replace(&mut scope.ports, Items::new(alloc));
         let functions = unit_of(alloc, tables::FUNCTIONS)?;
         Ok(Bodies { functions, outputs })
     }

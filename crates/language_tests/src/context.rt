@@ -122,10 +122,10 @@ impl Context {
         ensures { OnOk result (Holds self.new.scope self.new.env self.new.functions) }
     {
         let Valued { kind, value } = valued;
-        let SplType::Tuple(schema) = kind else {
+        let Some(schema) = kind.into_schema() else {
             return Err(Unanswered::Unread("no tuple"));
         };
-        let Value::Tuple(tuple) = value else {
+        let Some(tuple) = value.into_tuple() else {
             return Err(Unanswered::Unread("no tuple"));
         };
         self.scope.ports.push(Port { name, schema })?;

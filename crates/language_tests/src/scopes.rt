@@ -7,6 +7,7 @@ use language_model::{CheckError, CheckRefusal, Dollar, Scope, TypeAnswer, Typed}
 use spl_tree::{CompositeParameter, Definition, Marker, Unit};
 use spl_value::{Items, SplType};
 use std::alloc::Global;
+use std::mem::replace;
 use type_rules::type_of;
 use written_types::{TypeScope, TypeTable, shape_of, type_of_written};
 
@@ -27,7 +28,11 @@ pub(crate) fn type_named(alloc: Global, text: &str) -> Result<SplType, Unanswere
 }
 
 /// The scope of a unit with its variables, and its ports unless a marker came.
-pub(crate) fn scope_of(alloc: Global, text: &str, came: Option<Marker>) -> Result<Scope, Unanswered> {
+pub(crate) fn scope_of(
+    alloc: Global,
+    text: &str,
+    came: Option<Marker>,
+) -> Result<Scope, Unanswered> {
     let unit = unit_of(alloc, text)?;
     let context = Context::new(alloc, &unit, &unit, came)?;
     Ok(context.scope)
@@ -87,9 +92,9 @@ fn add_parameters(alloc: Global, scope: &mut Scope, unit: &Unit) -> Result<(), U
     let Some(Definition::Composite(composite)) = unit.get(0) else {
         return Err(Unanswered::Unread("no composite"));
     };
-    let own = scope_of_unit(alloc, unit)?;
+    let mut own = scope_of_unit(alloc, unit)?;
     scope.dollars = dollars(alloc, unit, &own, composite.parameters.as_slice())?;
-    scope.unresolved = own.unresolved;
+    scope.unresolved = replace(&mut own.unresolved, Items::new(alloc));
     Ok(())
 }
 

@@ -120,7 +120,7 @@ pub fn state_in(
     let dollars = replace(&mut scope.dollars, Items::new(alloc));
     let constants = constant_scope(alloc, dollars);
     let state = state_of(alloc, types, &constants, declarations);
-    scope.dollars = constants.dollars;
+    scope.dollars = constants.into_dollars();
     state
 }
 

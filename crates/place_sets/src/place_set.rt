@@ -6,12 +6,20 @@ use spl_value::NoMemory;
 use std::alloc::Global;
 
 /// Places below a bound, each at most once, in the order in which they came.
-#[derive(Drop)]
 pub struct PlaceSet {
     /// For each number below the bound, whether it is in the set.
     pub marks: Vec<bool>,
     /// Those of the set, in the order in which they came.
     pub places: Vec<u32>,
+}
+
+impl Drop for PlaceSet {
+    fn drop(self) {
+        let PlaceSet {
+            marks: _,
+            places: _,
+        } = self;
+    }
 }
 
 impl PlaceSet {

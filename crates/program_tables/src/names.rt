@@ -10,11 +10,19 @@ use std::alloc::Global;
 use std::collections::HashMap;
 
 /// The first place of each name of a list, from 0.
-#[derive(Drop)]
 pub struct Names<'n> {
     /// How many names there are.
     pub count: u32,
     places: HashMap<&'n [u8], u32>,
+}
+
+impl<'n> Drop for Names<'n> {
+    fn drop(self) {
+        let Names {
+            count: _,
+            places: _,
+        } = self;
+    }
 }
 
 impl<'n> Names<'n> {

@@ -11,13 +11,22 @@ use spl_value::NoMemory;
 use std::alloc::Global;
 
 /// A unit with its expansions, in which sites are looked up.
-#[derive(Drop)]
 pub struct SiteTable<'a> {
     pub unit: &'a Unit,
     /// The composites of the unit, by their places.
     bodies: Vec<&'a Composite>,
     pub expansions: &'a [Expansion],
     ghost all: { map (λ c. c.now) bodies.items ≡ composites unit.now },
+}
+
+impl<'a> Drop for SiteTable<'a> {
+    fn drop(self) {
+        let SiteTable {
+            unit: _,
+            bodies: _,
+            expansions: _,
+        } = self;
+    }
 }
 
 impl<'a> SiteTable<'a> {

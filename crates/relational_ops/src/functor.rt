@@ -20,11 +20,21 @@ pub(crate) struct Clauses<'c> {
 
 /// A Functor: it makes a tuple of each for which its condition holds, or of all where it has none, and
 /// passes window markers.
-#[derive(Drop)]
 pub struct Functor<'c> {
     pub(crate) alloc: Global,
     pub(crate) at: CheckedOperator<'c>,
     pub(crate) clauses: Clauses<'c>,
     /// It has no tuple between events.
     pub(crate) env: Env,
+}
+
+impl<'c> Drop for Functor<'c> {
+    fn drop(self) {
+        let Functor {
+            alloc: _,
+            at: _,
+            clauses: _,
+            env: _,
+        } = self;
+    }
 }

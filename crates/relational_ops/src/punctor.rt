@@ -8,7 +8,6 @@ use std::alloc::Global;
 
 /// A Punctor: it passes tuples and window markers, and adds a window marker before or after each tuple
 /// for which its condition holds.
-#[derive(Drop)]
 pub struct Punctor<'c> {
     pub(crate) alloc: Global,
     pub(crate) at: CheckedOperator<'c>,
@@ -16,4 +15,16 @@ pub struct Punctor<'c> {
     pub(crate) position: Position,
     /// It has no tuple between events.
     pub(crate) env: Env,
+}
+
+impl<'c> Drop for Punctor<'c> {
+    fn drop(self) {
+        let Punctor {
+            alloc: _,
+            at: _,
+            condition: _,
+            position: _,
+            env: _,
+        } = self;
+    }
 }

@@ -7,7 +7,7 @@ ghost use Rattle.row_reader.specs.declared.columns.Column.TheVariants as C;
 ghost use Rattle.row_reader.specs.steps.Adding.{Added};
 ghost use Rattle.row_reader.specs.Columns.{type_of};
 
-use spl_value::{Attribute, IntKind, Items, NoMemory, SplType, Value, Values, read_integer};
+use spl_value::{Attribute, Bytes, IntKind, Items, NoMemory, SplType, Value, Values, read_integer};
 use std::alloc::Global;
 
 /// The type of an attribute that a row can hold.
@@ -80,7 +80,7 @@ impl Spare {
     /// Takes the room of a tuple's texts, of `most` at most. The list is empty after it, unless memory runs out.
     pub(crate) fn take_texts(&mut self, values: &mut Values, most: usize) {
         for _ in 0..values.len() {
-            if let Some(Value::Text(text)) = values.pop() {
+            if let Some(text) = popped_text(values) {
                 if self.texts.len() < most {
                     let Ok(()) = self.texts.push(text.into_vec()) else {
                         return;
@@ -89,6 +89,11 @@ impl Spare {
             }
         }
     }
+}
+
+// The text that the last value is, taken out with it.
+fn popped_text(values: &mut Values) -> Option<Bytes> {
+    values.pop()?.into_text()
 }
 
 fn add_text(values: &mut Values, spare: &mut Spare, field: &[u8]) -> Result<bool, NoMemory>

@@ -19,12 +19,21 @@ pub enum Given {
 }
 
 /// The columns of a file, and room for what its lines give.
-#[derive(Drop)]
 pub struct Lines {
     pub columns: Vec<Column>,
     pub spare: Spare,
     // A field in quotes.
     pub field: Vec<u8>,
+}
+
+impl Drop for Lines {
+    fn drop(self) {
+        let Lines {
+            columns: _,
+            spare: _,
+            field: _,
+        } = self;
+    }
 }
 
 /// Adds the values of a line's fields, where it is split at its commas where it stands.

@@ -37,7 +37,6 @@ pub enum Stage {
 
 /// The rows of a source's file as its stream: a tuple for each row, and after the last one a window
 /// marker and the final marker, or a fault in their place.
-#[derive(Drop)]
 pub struct Rows {
     lines: Lines,
     op: u32,
@@ -59,6 +58,24 @@ pub struct Rows {
     ghost held: { length carry.items + (filled - at) ≤ left + 8192 },
     ghost counted: { line + left ≤ 2 ^ 40 + 1 },
     ghost unbroken: { list_any (λ b. b == 10) carry.items ≡ false },
+}
+
+impl Drop for Rows {
+    fn drop(self) {
+        let Rows {
+            lines: _,
+            op: _,
+            strict: _,
+            limit: _,
+            piece: _,
+            at: _,
+            filled: _,
+            carry: _,
+            line: _,
+            left: _,
+            stage: _,
+        } = self;
+    }
 }
 
 /// The fault of a line that is too long.

@@ -14,9 +14,14 @@ use spl_value::{Item, NoMemory, Values};
 use std::alloc::Global;
 
 /// A writer of rows. It keeps one row's text.
-#[derive(Drop)]
 pub struct RowWriter {
     row: Vec<u8>,
+}
+
+impl Drop for RowWriter {
+    fn drop(self) {
+        let RowWriter { row: _ } = self;
+    }
 }
 
 impl RowWriter {

@@ -77,7 +77,9 @@ fn values(alloc: Global, functions: &Functions, code: &Code<Slot>, env: &Env) ->
     let mut true_ones = 0u32;
     for _ in 0..TIMES {
         let mut turns = 1_000_000;
-        if let Evaluated::Value(Value::Bool(true)) = eval(alloc, functions, code, env, &mut turns) {
+        if let Evaluated::Value(Value::Bool(true)) = &eval(
+            alloc, functions, code, env, &mut turns,
+        ) {
             true_ones = true_ones.wrapping_add(1);
         }
     }

@@ -37,10 +37,11 @@ fn refused(code: Code, at: u32) -> CompileAnswer
 fn refused_name(error: ExpansionError, name: Placed<Name>) -> CompileAnswer
     ensures { result ≡ Refused (named_refusal error name) }
 {
+    let (at, name) = name.into_parts();
     CompileAnswer::Refused(Refusal {
         code: Code::Expansion(error),
-        at: name.at,
-        name: Some(name.what),
+        at,
+        name: Some(name),
     })
 }
 

@@ -10,6 +10,7 @@ pub mod StatementGrammar
 pub mod UnitGrammar
 pub mod Fronts
 pub mod Units
+pub mod Selections
 pub mod Ranges
 pub mod Laws
 pub mod TokenLaws

@@ -2,11 +2,19 @@ use crate::code::{Code, Selector, Slot};
 use spl_value::{Items, SplType};
 
 /// What is changed: a variable, or what is taken of it in turn.
-#[derive(Drop)]
 pub struct Place {
     /// The variable's place in the scope, from 0.
     pub variable: u32,
     pub takings: Items<Selector<Code<Slot>>>,
+}
+
+impl Drop for Place {
+    fn drop(self) {
+        let Place {
+            variable: _,
+            takings: _,
+        } = self;
+    }
 }
 
 /// How a place is changed.
@@ -24,7 +32,6 @@ pub enum Change<C> {
 }
 
 /// A typed statement.
-#[derive(Drop)]
 pub enum Statement {
     Block(Body),
     /// A new variable with its first value. Its place is after those of all other variables. It ends
@@ -55,16 +62,45 @@ pub enum Statement {
     SubmitWindow(u32),
 }
 
+impl Drop for Statement {
+    fn drop(self) {
+        match self {
+            Statement::Block(_) => {}
+            Statement::Declare(_) => {}
+            Statement::Change(_, _) => {}
+            Statement::Evaluate(_) => {}
+            Statement::Call(_, _) => {}
+            Statement::If(_, _) => {}
+            Statement::While(_, _) => {}
+            Statement::For(_, _) => {}
+            Statement::Break => {}
+            Statement::Continue => {}
+            Statement::Return(_) => {}
+            Statement::Submit(_, _) => {}
+            Statement::SubmitWindow(_) => {}
+        }
+    }
+}
+
 /// Statements one after another, as between the braces of a block, or one without braces.
 pub type Body = Items<Statement>;
 
 /// A function of the program: the types of its parameters, that of its result where it has one, and
 /// its body. The first variables of the body are the parameters, in their order.
-#[derive(Drop)]
 pub struct Function {
     pub parameters: Items<SplType>,
     pub result: Option<SplType>,
     pub body: Body,
+}
+
+impl Drop for Function {
+    fn drop(self) {
+        let Function {
+            parameters: _,
+            result: _,
+            body: _,
+        } = self;
+    }
 }
 
 /// The functions of a program. The code of a call has the function's place here.

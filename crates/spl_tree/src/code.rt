@@ -3,7 +3,6 @@ use spl_value::{Boxed, IntKind, Items, Value};
 /// A typed expression. Each name in it is a place in the expression's scope, and each operator and
 /// call whose result depends on its operands' type has that type. Parentheses are gone. `N` is how
 /// names are given.
-#[derive(Drop)]
 pub enum Code<N> {
     /// A number, a boolean or a text; or the default of a variable's type.
     Literal(Value),
@@ -31,6 +30,42 @@ pub enum Code<N> {
     IsNotMarker(Marker),
 }
 
+impl<N: Drop> Drop for Code<N> {
+    fn drop(self) {
+        match self {
+            Code::Literal(_) => {}
+            Code::Name(_) => {}
+            Code::List(_) => {}
+            Code::Map(_) => {}
+            Code::Tuple(_) => {}
+            Code::Select(_, _) => {}
+            Code::Unary(_, _) => {}
+            Code::Binary(_, _, _) => {}
+            Code::Conditional(_, _, _) => {}
+            Code::BuiltIn(_, _) => {}
+            Code::Call(_, _) => {}
+            Code::IsMarker(_) => {}
+            Code::IsNotMarker(_) => {}
+        }
+    }
+}
+
+impl<N: Drop> Code<N> {
+    ghost use Rattle.std.specs.Prelude.{◌≡◌};
+    ghost use Rattle.spl_tree.specs.declared.code.Code.TheViews.{out-Code};
+    ghost use Rattle.spl_tree.specs.Selections.{selection};
+
+    /// What members, elements or values are taken of, with these in turn, where it takes any.
+    pub fn into_selection(self) -> Option<(Boxed<Code<N>>, Items<Selector<Code<N>>>)>
+        ensures { result ≡ selection (out-Code N self) }
+    {
+        match self {
+            Code::Select(base, selectors) => Some((base, selectors)),
+            _ => None,
+        }
+    }
+}
+
 /// What a name means in a scope, by places from 0.
 #[derive(Clone, Copy)]
 pub enum Slot {
@@ -43,7 +78,6 @@ pub enum Slot {
 }
 
 /// What is taken of a value.
-#[derive(Drop)]
 pub enum Selector<C> {
     /// The attribute of a tuple at that place, from 0.
     Member(u32),
@@ -51,6 +85,16 @@ pub enum Selector<C> {
     Element(C),
     /// The value of a map at a key.
     AtKey(C),
+}
+
+impl<C: Drop> Drop for Selector<C> {
+    fn drop(self) {
+        match self {
+            Selector::Member(_) => {}
+            Selector::Element(_) => {}
+            Selector::AtKey(_) => {}
+        }
+    }
 }
 
 /// An operator in front of its operand.

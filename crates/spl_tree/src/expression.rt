@@ -3,10 +3,28 @@ use spl_value::{Boxed, Bytes, IntKind, Items, Name};
 use std::alloc::{AllocError, Global};
 
 /// Something, with the place of its first byte in the program.
-#[derive(Drop)]
 pub struct Placed<T> {
     pub at: u32,
     pub what: T,
+}
+
+impl<T: Drop> Drop for Placed<T> {
+    fn drop(self) {
+        let Placed { at: _, what: _ } = self;
+    }
+}
+
+impl<T> Placed<T> {
+    ghost use Rattle.std.specs.Prelude.{◌≡◌};
+
+    /// The place, and what stands there.
+    pub fn into_parts(self) -> (u32, T)
+        ensures at { result.0 ≡ self.at }
+        ensures what { result.1 ≡ self.what }
+    {
+        let Placed { at, what } = self;
+        (at, what)
+    }
 }
 
 impl<T: Drop> Placed<Boxed<T>> {
@@ -38,7 +56,6 @@ pub type Prefixes = Items<Prefix>;
 pub type Steps = Items<Step<Expr>>;
 
 /// What an expression is.
-#[derive(Drop)]
 pub enum ExprKind {
     Name(Name),
     /// A `$` parameter of a composite. The name is without the `$`.
@@ -62,20 +79,69 @@ pub enum ExprKind {
     Conditional(Expr, Expr, Expr),
 }
 
+impl Drop for ExprKind {
+    fn drop(self) {
+        match self {
+            ExprKind::Name(_) => {}
+            ExprKind::Dollar(_) => {}
+            ExprKind::Number(_) => {}
+            ExprKind::Text(_) => {}
+            ExprKind::Bool(_) => {}
+            ExprKind::Group(_) => {}
+            ExprKind::List(_) => {}
+            ExprKind::Map(_) => {}
+            ExprKind::Tuple(_) => {}
+            ExprKind::Call(_, _) => {}
+            ExprKind::Select(_, _) => {}
+            ExprKind::Unary(_, _) => {}
+            ExprKind::Binary(_, _, _) => {}
+            ExprKind::Conditional(_, _, _) => {}
+        }
+    }
+}
+
+impl ExprKind {
+    ghost use Rattle.std.specs.Prelude.{◌≡◌, ◌≢◌, ℕ, List, MatchOption};
+    ghost use Rattle.spl_tree.specs.declared.expression.ExprKind.TheVariants as X;
+
+    /// The name that this is, where it is one.
+    pub fn into_name(self) -> Option<Name>
+        ensures { MatchOption result ((name : List ℕ) → self ≢ X.Name name) (λ name. self ≡ X.Name name) }
+    {
+        match self {
+            ExprKind::Name(name) => Some(name),
+            _ => None,
+        }
+    }
+}
+
 /// A field of a tuple literal: its name, and the expression of its value.
-#[derive(Drop)]
 pub struct Field<E> {
     pub name: Placed<Name>,
     pub value: E,
 }
 
+impl<E: Drop> Drop for Field<E> {
+    fn drop(self) {
+        let Field { name: _, value: _ } = self;
+    }
+}
+
 /// A step after a primary expression.
-#[derive(Drop)]
 pub enum Step<E> {
     /// `.name`: the place is that of the name.
     Member(Placed<Name>),
     /// `[index]`
     Index(E),
+}
+
+impl<E: Drop> Drop for Step<E> {
+    fn drop(self) {
+        match self {
+            Step::Member(_) => {}
+            Step::Index(_) => {}
+        }
+    }
 }
 
 /// A prefix operator or a cast, at its first token.

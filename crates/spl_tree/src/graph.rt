@@ -2,7 +2,6 @@ use spl_value::{Ids, Items, Name};
 
 /// What remains of a program once each composite is replaced by its body: operators, and the streams
 /// between them.
-#[derive(Drop)]
 pub struct Graph {
     /// In order of declaration: those of a composite stand where it is invoked.
     pub ops: Items<Op>,
@@ -16,8 +15,18 @@ pub struct Graph {
     pub topo: Ids,
 }
 
+impl Drop for Graph {
+    fn drop(self) {
+        let Graph {
+            ops: _,
+            streams: _,
+            expansions: _,
+            topo: _,
+        } = self;
+    }
+}
+
 /// An operator. Its clauses are those of its invocation.
-#[derive(Drop)]
 pub struct Op {
     /// Its alias or else its first output stream. Within the expansion of an invocation that is named
     /// N, it is N, a dot and that.
@@ -29,6 +38,19 @@ pub struct Op {
     pub site: Site,
     /// The place of its invocation in the program.
     pub at: u32,
+}
+
+impl Drop for Op {
+    fn drop(self) {
+        let Op {
+            name: _,
+            kind: _,
+            ins: _,
+            outs: _,
+            site: _,
+            at: _,
+        } = self;
+    }
 }
 
 /// The kinds of operator that the language has.
@@ -64,7 +86,6 @@ pub struct Site {
 
 /// The body of a composite, put where it is invoked. What the names in the body mean, `$` parameters too,
 /// is found by the composite and by the invocation there.
-#[derive(Drop)]
 pub struct Expansion {
     /// The composite's place among those of the unit.
     pub composite: u32,
@@ -73,6 +94,17 @@ pub struct Expansion {
     /// The streams that the names of its graph mean, by their order in the text.
     pub streams: Ids,
     pub inputs: Items<InputStreams>,
+}
+
+impl Drop for Expansion {
+    fn drop(self) {
+        let Expansion {
+            composite: _,
+            site: _,
+            streams: _,
+            inputs: _,
+        } = self;
+    }
 }
 
 /// The streams that an input of a composite's head takes.

@@ -5,7 +5,6 @@ use spl_value::{Boxed, IntKind, Items, Name};
 pub type TypeExpr = Placed<Boxed<TypeKind>>;
 
 /// What a written type is.
-#[derive(Drop)]
 pub enum TypeKind {
     Boolean,
     Rstring,
@@ -23,12 +22,32 @@ pub enum TypeKind {
     Tuple(Items<Attribute<TypeExpr>>),
 }
 
+impl Drop for TypeKind {
+    fn drop(self) {
+        match self {
+            TypeKind::Boolean => {}
+            TypeKind::Rstring => {}
+            TypeKind::Int(_) => {}
+            TypeKind::LeftOut(_) => {}
+            TypeKind::Name(_) => {}
+            TypeKind::List(_) => {}
+            TypeKind::Map(_, _) => {}
+            TypeKind::Tuple(_) => {}
+        }
+    }
+}
+
 /// A type, and the name of what is of it: an attribute, a parameter of a function, or the variable of
 /// a `for`.
-#[derive(Drop)]
 pub struct Attribute<T> {
     pub kind: T,
     pub name: Placed<Name>,
+}
+
+impl<T: Drop> Drop for Attribute<T> {
+    fn drop(self) {
+        let Attribute { kind: _, name: _ } = self;
+    }
 }
 
 pub type Attributes = Items<Attribute<TypeExpr>>;
@@ -36,9 +55,17 @@ pub type Attributes = Items<Attribute<TypeExpr>>;
 /// What stands between `stream<` and `>`, or after the name of a new type; at its first token.
 pub type Shape = Placed<ShapeKind>;
 
-#[derive(Drop)]
 pub enum ShapeKind {
     Type(TypeExpr),
     /// `type name, ..`: one attribute or more, as within `tuple<` and `>`.
     Attributes(Attributes),
+}
+
+impl Drop for ShapeKind {
+    fn drop(self) {
+        match self {
+            ShapeKind::Type(_) => {}
+            ShapeKind::Attributes(_) => {}
+        }
+    }
 }

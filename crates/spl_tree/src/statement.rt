@@ -8,7 +8,6 @@ pub type Stmt = Placed<Boxed<StmtKind>>;
 pub type Block = Items<Stmt>;
 
 /// What a written statement is.
-#[derive(Drop)]
 pub enum StmtKind {
     Block(Items<Stmt>),
     Declare(Declaration),
@@ -30,11 +29,39 @@ pub enum StmtKind {
     Submit(Expr, Placed<Name>),
 }
 
+impl Drop for StmtKind {
+    fn drop(self) {
+        match self {
+            StmtKind::Block(_) => {}
+            StmtKind::Declare(_) => {}
+            StmtKind::Assign(_, _, _) => {}
+            StmtKind::Call(_) => {}
+            StmtKind::If(_, _) => {}
+            StmtKind::While(_, _) => {}
+            StmtKind::For(_, _, _) => {}
+            StmtKind::Break => {}
+            StmtKind::Continue => {}
+            StmtKind::Return(_) => {}
+            StmtKind::Submit(_, _) => {}
+        }
+    }
+}
+
 /// `mutable type name = value;`, where `mutable` and the value may be absent.
-#[derive(Drop)]
 pub struct Declaration {
     pub mutable: bool,
     pub kind: TypeExpr,
     pub name: Placed<Name>,
     pub value: Option<Expr>,
+}
+
+impl Drop for Declaration {
+    fn drop(self) {
+        let Declaration {
+            mutable: _,
+            kind: _,
+            name: _,
+            value: _,
+        } = self;
+    }
 }

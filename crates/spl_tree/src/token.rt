@@ -12,7 +12,6 @@ pub struct Number {
 }
 
 /// What a token is.
-#[derive(Drop)]
 pub enum TokenKind {
     /// A word that isn't reserved.
     Word(Name),
@@ -25,22 +24,49 @@ pub enum TokenKind {
     Symbol(Symbol),
 }
 
+impl Drop for TokenKind {
+    fn drop(self) {
+        match self {
+            TokenKind::Word(_) => {}
+            TokenKind::Dollar(_) => {}
+            TokenKind::Number(_) => {}
+            TokenKind::Text(_) => {}
+            TokenKind::Keyword(_) => {}
+            TokenKind::Symbol(_) => {}
+        }
+    }
+}
+
 /// A token, with the place of its first byte and the place after its last.
-#[derive(Drop)]
 pub struct Token {
     pub kind: TokenKind,
     pub start: u32,
     pub end: u32,
 }
 
+impl Drop for Token {
+    fn drop(self) {
+        let Token {
+            kind: _,
+            start: _,
+            end: _,
+        } = self;
+    }
+}
+
 /// Tokens in the order of their places.
 pub type TokenList = Items<Token>;
 
 /// The tokens of a program, and the number of its bytes, which is the place of its end.
-#[derive(Drop)]
 pub struct Tokens {
     pub list: TokenList,
     pub length: u32,
+}
+
+impl Drop for Tokens {
+    fn drop(self) {
+        let Tokens { list: _, length: _ } = self;
+    }
 }
 
 /// Why bytes are no tokens.

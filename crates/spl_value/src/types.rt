@@ -1,4 +1,4 @@
-ghost use Rattle.std.specs.Prelude.{◌≡◌, ◌↔◌, IsTrue, IfOk, Ok};
+ghost use Rattle.std.specs.Prelude.{◌≡◌, ◌≢◌, ◌↔◌, IsTrue, IfOk, List, MatchOption, Ok};
 
 use crate::{Boxed, Items, NoMemory};
 use std::alloc::Global;
@@ -17,7 +17,7 @@ pub enum IntKind {
 }
 
 /// A type of the language. `Text` is `rstring`.
-#[derive(PartialEq, Eq, Drop)]
+#[derive(PartialEq, Eq)]
 pub enum SplType {
     Int(IntKind),
     Bool,
@@ -25,6 +25,35 @@ pub enum SplType {
     List(Boxed<SplType>),
     Map(Boxed<SplType>, Boxed<SplType>),
     Tuple(Schema),
+}
+
+impl Drop for SplType {
+    fn drop(self) {
+        match self {
+            SplType::Int(_) => {}
+            SplType::Bool => {}
+            SplType::Text => {}
+            SplType::List(_) => {}
+            SplType::Map(_, _) => {}
+            SplType::Tuple(_) => {}
+        }
+    }
+}
+
+impl SplType {
+    ghost use Rattle.spl_value.specs.declared.types.Named.{Named};
+    ghost use Rattle.spl_value.specs.declared.types.SplType.{SplType};
+    ghost use Rattle.spl_value.specs.declared.types.SplType.TheVariants as S;
+
+    /// The attributes of a tuple type; no other type has any.
+    pub fn into_schema(self) -> Option<Schema>
+        ensures { MatchOption result ((schema : List (Named SplType)) → self ≢ S.Tuple schema) (λ schema. self ≡ S.Tuple schema) }
+    {
+        match self {
+            SplType::Tuple(schema) => Some(schema),
+            _ => None,
+        }
+    }
 }
 
 /// A name, and what it is given.

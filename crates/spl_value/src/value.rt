@@ -1,10 +1,10 @@
-ghost use Rattle.std.specs.Prelude.{◌≡◌, IfOk};
+ghost use Rattle.std.specs.Prelude.{◌≡◌, ◌≢◌, ℕ, List, IfOk, MatchOption};
 
 use crate::{Bytes, Items, NoMemory, Reserved};
 use std::alloc::Global;
 
 /// A value of the language. An integer stands as its number, whatever its kind.
-#[derive(PartialEq, Eq, PartialOrd, Ord, Hash, Drop)]
+#[derive(PartialEq, Eq, PartialOrd, Ord, Hash)]
 pub enum Value {
     Int(i128),
     Bool(bool),
@@ -12,6 +12,64 @@ pub enum Value {
     List(Values),
     Map(Pairs),
     Tuple(Values),
+}
+
+impl Drop for Value {
+    fn drop(self) {
+        match self {
+            Value::Int(_) => {}
+            Value::Bool(_) => {}
+            Value::Text(_) => {}
+            Value::List(_) => {}
+            Value::Map(_) => {}
+            Value::Tuple(_) => {}
+        }
+    }
+}
+
+impl Value {
+    ghost use Rattle.spl_value.specs.declared.value.Value.{Value};
+    ghost use Rattle.spl_value.specs.declared.value.Value.TheVariants as V;
+
+    /// The bytes of a text; nothing else has any.
+    pub fn into_text(self) -> Option<Bytes>
+        ensures { MatchOption result ((bytes : List ℕ) → self ≢ V.Text bytes) (λ bytes. self ≡ V.Text bytes) }
+    {
+        match self {
+            Value::Text(bytes) => Some(bytes),
+            _ => None,
+        }
+    }
+
+    /// The elements of a list; nothing else has any.
+    pub fn into_list(self) -> Option<Values>
+        ensures { MatchOption result ((values : List Value) → self ≢ V.List values) (λ values. self ≡ V.List values) }
+    {
+        match self {
+            Value::List(values) => Some(values),
+            _ => None,
+        }
+    }
+
+    /// The pairs of a map; nothing else has any.
+    pub fn into_map(self) -> Option<Pairs>
+        ensures { MatchOption result ((pairs : List (Value × Value)) → self ≢ V.Map pairs) (λ pairs. self ≡ V.Map pairs) }
+    {
+        match self {
+            Value::Map(pairs) => Some(pairs),
+            _ => None,
+        }
+    }
+
+    /// The attributes' values of a tuple; nothing else has any.
+    pub fn into_tuple(self) -> Option<Values>
+        ensures { MatchOption result ((values : List Value) → self ≢ V.Tuple values) (λ values. self ≡ V.Tuple values) }
+    {
+        match self {
+            Value::Tuple(values) => Some(values),
+            _ => None,
+        }
+    }
 }
 
 /// The elements of a list, or the attributes' values of a tuple, in their order.

@@ -30,7 +30,6 @@ pub enum Merge {
 }
 
 /// A chain of operators that runs in replicas.
-#[derive(Drop)]
 pub struct Region {
     /// Their numbers, in the order of the chain.
     pub ops: Ids,
@@ -38,6 +37,16 @@ pub struct Region {
     /// schema. A region without one sends its items round robin.
     pub key: Places,
     pub merge: Merge,
+}
+
+impl Drop for Region {
+    fn drop(self) {
+        let Region {
+            ops: _,
+            key: _,
+            merge: _,
+        } = self;
+    }
 }
 
 /// The regions of a graph, in topological order.

@@ -1,19 +1,29 @@
 use spl_value::{Inputs, Items};
 
 /// The input numbers of an operator's events, in their order.
-#[derive(Drop)]
 pub struct ArrivalList {
     pub op: u32,
     pub inputs: Inputs,
+}
+
+impl Drop for ArrivalList {
+    fn drop(self) {
+        let ArrivalList { op: _, inputs: _ } = self;
+    }
 }
 
 pub type ArrivalLists = Items<ArrivalList>;
 
 /// The arrival record of a run: a list for each operator with several connections, in the order of
 /// the operators.
-#[derive(Drop)]
 pub struct Arrivals {
     pub lists: ArrivalLists,
+}
+
+impl Drop for Arrivals {
+    fn drop(self) {
+        let Arrivals { lists: _ } = self;
+    }
 }
 
 /// How many items a splitter sent to a channel of a region.

@@ -21,21 +21,26 @@ use std::alloc::Global;
 use written_types::{narrow, shape_of};
 
 /// The attributes of each stream of a graph, or its refusal. It is made once for all operators.
-#[derive(Drop)]
 pub struct StreamTable {
     /// Whether each leads back to itself by its shape.
     back: Vec<bool>,
     found: Vec<Result<Schema, CheckRefusal>>,
 }
 
+impl Drop for StreamTable {
+    fn drop(self) {
+        let StreamTable { back: _, found: _ } = self;
+    }
+}
+
 /// The attributes of a type at a place, which has to be a tuple.
 fn attributes_of_tuple(kind: SplType, at: u32) -> Result<Schema, TypeAnswer>
     ensures { Finds (level_attributes at (out-SplType kind)) result }
 {
-    match kind {
-        SplType::Tuple(schema) => Ok(schema),
-        _ => Err(mismatch(at)),
-    }
+    let Some(schema) = kind.into_schema() else {
+        return Err(mismatch(at));
+    };
+    Ok(schema)
 }
 
 /// The attributes of a shape that is no name of a stream.

@@ -31,17 +31,14 @@ fn variable_read(code: Boxed<Code<Slot>>, takings: Takings) -> Option<Place>
 fn place_read(alloc: Global, code: Boxed<Code<Slot>>) -> Option<Place>
     ensures { result ≡ level_place (out-Code Slot code) }
 {
-    match code.into_inner() {
-        Code::Name(Slot::Variable(variable)) => Some(Place {
-            variable,
+    if let Code::Name(Slot::Variable(variable)) = code.get() {
+        return Some(Place {
+            variable: *variable,
             takings: Items::new(alloc),
-        }),
-        Code::Select(base, takings) => variable_read(base, takings),
-        other => {
-            drop(other);
-            None
-        }
+        });
     }
+    let (base, takings) = code.into_inner().into_selection()?;
+    variable_read(base, takings)
 }
 
 /// The place that a typed expression reads, with the type of what it holds. It has to be one of a

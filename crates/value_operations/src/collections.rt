@@ -26,11 +26,16 @@ fn own_elements(alloc: Global, value: Value) -> Result<Values, AllocError>
     requires { level_elements (out-Value value) ≡ None → ⊥ }
     ensures { IfOk result (λ vs. level_elements (out-Value value) ≡ Some vs) }
 {
-    match value {
-        Value::List(values) => Ok(values),
-        Value::Map(pairs) => keys(alloc, pairs),
-        _ => unreachable!(),
+    if let Value::List(_) = &value {
+        let Some(values) = value.into_list() else {
+            unreachable!()
+        };
+        return Ok(values);
     }
+    let Some(pairs) = value.into_map() else {
+        unreachable!()
+    };
+    keys(alloc, pairs)
 }
 
 fn copied_elements(alloc: Global, value: &Value) -> Result<Values, NoMemory>
@@ -75,10 +80,10 @@ pub fn tuple_values(value: Value) -> Values
     requires { level_tuple (out-Value value) ≡ None → ⊥ }
     ensures { level_tuple (out-Value value) ≡ Some result }
 {
-    match value {
-        Value::Tuple(values) => values,
-        _ => unreachable!(),
-    }
+    let Some(values) = value.into_tuple() else {
+        unreachable!()
+    };
+    values
 }
 
 /// The values of a tuple, where an evaluation gave one.

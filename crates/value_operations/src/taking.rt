@@ -22,7 +22,7 @@ pub fn member(tuple: Held<'_>, place: u32) -> Held<'_>
 {
     match tuple {
         Held::Own(value) => {
-            let Value::Tuple(mut values) = value else {
+            let Some(mut values) = value.into_tuple() else {
                 unreachable!()
             };
             Held::Own(values.remove(place as usize))
@@ -49,7 +49,7 @@ fn element<'e>(list: Held<'e>, index: &Value) -> Result<Held<'e>, Stop>
     };
     match list {
         Held::Own(value) => {
-            let Value::List(values) = value else {
+            let Some(values) = value.into_list() else {
                 unreachable!()
             };
             match taken_out(values, at) {
@@ -111,7 +111,7 @@ fn at_key<'e>(map: Held<'e>, key: &Value) -> Result<Held<'e>, Stop>
 {
     match map {
         Held::Own(value) => {
-            let Value::Map(mut pairs) = value else {
+            let Some(mut pairs) = value.into_map() else {
                 unreachable!()
             };
             match pairs.remove_key(key) {

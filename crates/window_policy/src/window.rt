@@ -5,7 +5,6 @@ use spl_value::Values;
 use std::alloc::Global;
 
 /// The windows of an input port, one for each key. What is held for a key is found by its hash.
-#[derive(Drop)]
 pub struct Window {
     pub(crate) alloc: Global,
     pub(crate) policy: Policy,
@@ -13,4 +12,15 @@ pub struct Window {
     pub(crate) parts: IndexMap<Values, Part>,
     /// Where window markers flush, each key that came.
     pub(crate) known: IndexSet<Values>,
+}
+
+impl Drop for Window {
+    fn drop(self) {
+        let Window {
+            alloc: _,
+            policy: _,
+            parts: _,
+            known: _,
+        } = self;
+    }
 }

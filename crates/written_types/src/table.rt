@@ -16,11 +16,19 @@ use std::alloc::Global;
 use std::marker::Model;
 
 /// The definitions of types of a unit or of a composite. What names mean among them is looked up.
-#[derive(Drop)]
 pub struct TypeTable<'u> {
     definitions: Definitions<'u>,
     /// Whether each leads back to itself.
     circular: Vec<bool>,
+}
+
+impl<'u> Drop for TypeTable<'u> {
+    fn drop(self) {
+        let TypeTable {
+            definitions: _,
+            circular: _,
+        } = self;
+    }
 }
 
 impl<'u> Model for TypeTable<'u> {

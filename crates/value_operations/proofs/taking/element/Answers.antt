@@ -10,10 +10,10 @@ pub returns-in_default-try_from : goal.returns-in_default-try_from
 returns-in_default-try_from c =
     element_below (held c.args.list) c.args.index.now c.in-Int.index c.requires c.in-Int.is c.in_default-try_from.ensures
 
+pub unreachable-requires-in_default-into_list : goal.unreachable-requires-in_default-into_list
+unreachable-requires-in_default-into_list c =
+    not_list (held c.args.list) c.args.index.now c.requires (λ vs e. c.in_default-into_list.ensures vs (sym (ap held c.in-Own.is) ∙ e))
+
 pub unreachable-requires-in_default-value : goal.unreachable-requires-in_default-value
 unreachable-requires-in_default-value c =
-    not_list (held c.args.list) c.args.index.now c.requires (λ vs e. c.in_default-value.not-List vs (sym (ap held c.in-Own.is) ∙ e))
-
-pub unreachable-requires-in_default-value-2 : goal.unreachable-requires-in_default-value-2
-unreachable-requires-in_default-value-2 c =
-    not_list (held c.args.list) c.args.index.now c.requires (λ vs e. c.in_default-value-2.not-List vs (sym (ap held c.in-Lent.is) ∙ e))
+    not_list (held c.args.list) c.args.index.now c.requires (λ vs e. c.in_default-value.not-List vs (sym (ap held c.in-Lent.is) ∙ e))

@@ -6,10 +6,10 @@ use Rattle.value_operations.proofs.Parts.{not_tuple, member_within, member_is}
 use Rattle.value_operations.proofs.taking.member.Goals as goal
 
 pub unreachable-requires : goal.unreachable-requires
-unreachable-requires c = not_tuple c.args.place (held c.args.tuple) c.requires (λ vs e. c.in_default.not-Tuple vs (sym (ap held c.in-Own.is) ∙ e))
+unreachable-requires c = not_tuple c.args.place (held c.args.tuple) c.requires (λ vs e. c.in_default.ensures vs (sym (ap held c.in-Own.is) ∙ e))
 
 pub remove-requires : goal.remove-requires
-remove-requires c = member_within c.args.place (held c.args.tuple) c.in-Tuple.values c.requires (ap held c.in-Own.is ∙ c.in-Tuple.is)
+remove-requires c = member_within c.args.place (held c.args.tuple) c.in-Some.values c.requires (ap held c.in-Own.is ∙ c.in-Some.ensures)
 
 pub unreachable-requires-in_default-value : goal.unreachable-requires-in_default-value
 unreachable-requires-in_default-value c =
@@ -18,12 +18,12 @@ unreachable-requires-in_default-value c =
 pub bounds-as_slice-place : goal.bounds-as_slice-place
 bounds-as_slice-place c =
     member_within c.args.place (held c.args.tuple) c.as_slice.result.now c.requires
-    (ap held c.in-Lent.is ∙ c.in-Tuple-value.is ∙ ap V.Tuple (sym c.as_slice.ensures))
+    (ap held c.in-Lent.is ∙ c.in-Tuple.is ∙ ap V.Tuple (sym c.as_slice.ensures))
 
-pub returns-in-Tuple-value : goal.returns-in-Tuple-value
-returns-in-Tuple-value c =
+pub returns-in-Tuple : goal.returns-in-Tuple
+returns-in-Tuple c =
     let vs = c.as_slice.result.now in
-    let is = ap held c.in-Lent.is ∙ c.in-Tuple-value.is ∙ ap V.Tuple (sym c.as_slice.ensures) in
+    let is = ap held c.in-Lent.is ∙ c.in-Tuple.is ∙ ap V.Tuple (sym c.as_slice.ensures) in
     member_is c.args.place (held c.args.tuple) c.index-as_slice-place.result vs is
     (slice_get_read vs (length vs) c.args.place c.index-as_slice-place.result refl
     (member_within c.args.place (held c.args.tuple) vs c.requires is) c.index-as_slice-place.is)

@@ -39,7 +39,7 @@ returns-in-Ok-insert-clause-stands c rule h stood =
     let is = c.in-Ok.ensures.env [] ∙ pair_there c.args.side c.args.env.now c.swap_own.new.env c.args.tuple [] c.requires.ready c.swap_own.ensures.now in
     let there : Some c.swap_own-tuple.result ≡ Some c.args.tuple = sym c.swap_own-tuple.ensures.before ∙ own_there c.args.side c.match_window.new.env c.args.tuple is in
     let tuple : c.swap_own-tuple.result ≡ c.args.tuple = cc in
-    subst (λ e. Stands rule c.insert-in-Ok.new.self (e ∷ h)) (λ i. Insert (c.new-in-Ok.ensures i) (tuple i)) (c.in-Ok-insert.ensures.stands rule h stood)
+    subst (λ e. Stands rule c.insert.new.self (e ∷ h)) (λ i. Insert (c.new-in-Ok.ensures i) (tuple i)) (c.in-Ok-insert.ensures.stands rule h stood)
 
 pub returns-in-Ok-insert-clause-ready : goal.returns-in-Ok-insert-clause-ready
 returns-in-Ok-insert-clause-ready c =
