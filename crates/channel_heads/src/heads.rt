@@ -8,13 +8,24 @@ use std::marker::Model;
 
 /// The heads of a merger's channels, with each channel's bound, which is the number of its last item or pulse.
 /// Once a final marker or a fault was given, or `Cut` was taken, there are no heads any more.
-#[derive(Drop)]
 pub struct Heads {
     heads: Vec<Option<(u64, Item)>>,
     bounds: Vec<u64>,
     done: Vec<bool>,
     over: bool,
     cut: bool,
+}
+
+impl Drop for Heads {
+    fn drop(self) {
+        let Heads {
+            heads: _,
+            bounds: _,
+            done: _,
+            over: _,
+            cut: _,
+        } = self;
+    }
 }
 
 impl Model for Heads {

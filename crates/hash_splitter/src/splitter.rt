@@ -13,13 +13,24 @@ const PULSE_EVERY: u64 = 16;
 ///
 /// Contracts see it as a `Splitting`: what it was made of, how many items were sent, and after how many of
 /// them the last pulse was given.
-#[derive(Drop)]
 pub struct Splitter {
     width: u32,
     routing: Routing,
     pulses: bool,
     sent: u64,
     pulsed: u64,
+}
+
+impl Drop for Splitter {
+    fn drop(self) {
+        let Splitter {
+            width: _,
+            routing: _,
+            pulses: _,
+            sent: _,
+            pulsed: _,
+        } = self;
+    }
 }
 
 impl Model for Splitter {

@@ -12,10 +12,15 @@ use std::alloc::Global;
 use std::marker::Model;
 
 /// Merges channels whose items have the numbers 0, 1, .. between them.
-#[derive(Drop)]
 pub struct NumberMerger {
     heads: Heads,
     next: u128,
+}
+
+impl Drop for NumberMerger {
+    fn drop(self) {
+        let NumberMerger { heads: _, next: _ } = self;
+    }
 }
 
 impl Model for NumberMerger {

@@ -12,10 +12,15 @@ use std::alloc::Global;
 use std::marker::Model;
 
 /// Merges channels of which each gives one item in its turn.
-#[derive(Drop)]
 pub struct TurnMerger {
     heads: Heads,
     turn: usize,
+}
+
+impl Drop for TurnMerger {
+    fn drop(self) {
+        let TurnMerger { heads: _, turn: _ } = self;
+    }
 }
 
 impl Model for TurnMerger {

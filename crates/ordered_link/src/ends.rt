@@ -9,12 +9,21 @@ use spl_value::{Items, Packet};
 pub mod calls;
 
 /// A bounded queue of packets. One pass sends and one takes.
-#[derive(Drop)]
 pub struct Link {
     queue: Line,
     capacity: u32,
     wear: u64,
     ghost sized: { ruled_capacity queue ≡ capacity },
+}
+
+impl Drop for Link {
+    fn drop(self) {
+        let Link {
+            queue: _,
+            capacity: _,
+            wear: _,
+        } = self;
+    }
 }
 
 /// The sender's end of a link. Contracts see by it what its calls have sent.

@@ -12,9 +12,14 @@ use std::alloc::Global;
 use std::marker::Model;
 
 /// Merges channels on which numbers may be missing and may come again, and pulses tell how far a channel is.
-#[derive(Drop)]
 pub struct PulseMerger {
     heads: Heads,
+}
+
+impl Drop for PulseMerger {
+    fn drop(self) {
+        let PulseMerger { heads: _ } = self;
+    }
 }
 
 impl Model for PulseMerger {
