@@ -6,7 +6,6 @@ ghost use Rattle.feed_pour.specs.Counts.{Counted};
 use spl_value::Items;
 
 /// The calls of a feed, a pour or a shelf in memory.
-#[derive(Drop)]
 pub struct Calls {
     /// The numbers of the calls that are to fail.
     pub failing: Items<u64>,
@@ -15,6 +14,16 @@ pub struct Calls {
     /// How many calls failed, up to 2^64 - 1.
     pub faults: u64,
     ghost counted: { faults < 2 ^ 64 },
+}
+
+impl Drop for Calls {
+    fn drop(self) {
+        let Calls {
+            failing: _,
+            made: _,
+            faults: _,
+        } = self;
+    }
 }
 
 fn is_named(number: u64, failing: &[u64]) -> bool

@@ -14,13 +14,22 @@ use spl_value::{Bytes, Items};
 use std::alloc::Global;
 
 /// A feed of bytes in memory. Each read places as many bytes as fit.
-#[derive(Drop)]
 pub struct MemoryFeed {
     bytes: Bytes,
     at: usize,
     /// Its reads so far, and those that are to fail.
     pub calls: Calls,
     ghost within: { at ≤ length bytes },
+}
+
+impl Drop for MemoryFeed {
+    fn drop(self) {
+        let MemoryFeed {
+            bytes: _,
+            at: _,
+            calls: _,
+        } = self;
+    }
 }
 
 impl MemoryFeed {
@@ -82,11 +91,19 @@ impl Feed for MemoryFeed {
 }
 
 /// A pour into memory. A write takes all of its bytes, or none of them.
-#[derive(Drop)]
 pub struct MemoryPour {
     poured: Vec<u8>,
     /// Its writes so far, and those that are to fail.
     pub calls: Calls,
+}
+
+impl Drop for MemoryPour {
+    fn drop(self) {
+        let MemoryPour {
+            poured: _,
+            calls: _,
+        } = self;
+    }
 }
 
 impl MemoryPour {

@@ -20,7 +20,6 @@ use std::alloc::Global;
 
 /// Files in memory, and the numbers of the calls that are to fail: of the reads and the writes of
 /// each name, and of the shelf's own calls `open_in`, `create` and `finish` together.
-#[derive(Drop)]
 pub struct MemoryShelf {
     alloc: Global,
     tallies: Vec<Entry<Tallies>>,
@@ -30,6 +29,20 @@ pub struct MemoryShelf {
     calls: Calls,
     // How many feeds and pours are lent, up to 2^64 - 1.
     lent: u64,
+}
+
+impl Drop for MemoryShelf {
+    fn drop(self) {
+        let MemoryShelf {
+            alloc: _,
+            tallies: _,
+            files: _,
+            failing_reads: _,
+            failing_writes: _,
+            calls: _,
+            lent: _,
+        } = self;
+    }
 }
 
 fn bytes_under(

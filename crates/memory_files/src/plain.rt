@@ -24,11 +24,16 @@ pub fn place(bytes: &[u8], at: usize, into: &mut [u8]) -> usize
 }
 
 /// A feed of bytes in memory. Each read places as many bytes as fit, and none fails.
-#[derive(Drop)]
 pub struct PlainFeed {
     bytes: Bytes,
     at: usize,
     ghost within: { at ≤ length bytes },
+}
+
+impl Drop for PlainFeed {
+    fn drop(self) {
+        let PlainFeed { bytes: _, at: _ } = self;
+    }
 }
 
 impl PlainFeed {
@@ -67,9 +72,14 @@ impl Feed for PlainFeed {
 }
 
 /// A pour into memory. A write takes all of its bytes, and none fails.
-#[derive(Drop)]
 pub struct PlainPour {
     poured: Vec<u8>,
+}
+
+impl Drop for PlainPour {
+    fn drop(self) {
+        let PlainPour { poured: _ } = self;
+    }
 }
 
 impl PlainPour {
@@ -87,6 +97,14 @@ impl PlainPour {
         ensures { ⟦<PlainPour as Pour>⟧.poured self.now ≡ Some result.now }
     {
         self.poured.as_slice()
+    }
+
+    /// The bytes that were poured, as a list. It takes no memory.
+    pub fn into_bytes(self) -> Bytes
+        ensures { ⟦<PlainPour as Pour>⟧.poured self ≡ Some result }
+    {
+        let PlainPour { poured } = self;
+        Items::from_vec(poured)
     }
 }
 
@@ -114,12 +132,21 @@ impl Pour for PlainPour {
 }
 
 /// Files in memory. No call fails, so that all counts are 0, but memory may run out.
-#[derive(Drop)]
 pub struct PlainShelf {
     alloc: Global,
     files: Vec<Entry<Bytes>>,
     // How many feeds and pours are lent, up to 2^64 - 1.
     lent: u64,
+}
+
+impl Drop for PlainShelf {
+    fn drop(self) {
+        let PlainShelf {
+            alloc: _,
+            files: _,
+            lent: _,
+        } = self;
+    }
 }
 
 impl PlainShelf {
@@ -223,8 +250,7 @@ impl Shelf for PlainShelf {
 
     fn finish(&mut self, name: &Name, out: PlainPour) -> Result<(), Failed> {
         self.lent = self.lent.saturating_sub(1);
-        let PlainPour { poured } = out;
-        let _ = put(self.alloc, &mut self.files, name, Items::from_vec(poured));
+        let _ = put(self.alloc, &mut self.files, name, out.into_bytes());
         Ok(())
     }
 }
