@@ -13,11 +13,19 @@ pub trait Answers {
 }
 
 /// Why tables aren't as they say.
-#[derive(Drop)]
 pub enum Untrue {
     /// These rows have other answers.
     Others(String),
     Memory,
+}
+
+impl Drop for Untrue {
+    fn drop(self) {
+        match self {
+            Untrue::Others(_) => {}
+            Untrue::Memory => {}
+        }
+    }
 }
 
 impl From<AllocError> for Untrue {

@@ -3,11 +3,20 @@ use std::alloc::{AllocError, Global};
 
 /// A text that grows, and whether it shows where in the program things stand. Once memory runs out,
 /// nothing more is added.
-#[derive(Drop)]
 pub struct Text {
     text: String,
     places: bool,
     outcome: Result<(), AllocError>,
+}
+
+impl Drop for Text {
+    fn drop(self) {
+        let Text {
+            text: _,
+            places: _,
+            outcome: _,
+        } = self;
+    }
 }
 
 impl Text {
@@ -75,7 +84,11 @@ impl Text {
 
     /// The text, if there was memory for all of it.
     pub fn finish(self) -> Result<String, AllocError> {
-        let Text { text, outcome, .. } = self;
+        let Text {
+            text,
+            places: _,
+            outcome,
+        } = self;
         outcome?;
         Ok(text)
     }
