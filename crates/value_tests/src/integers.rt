@@ -4,6 +4,7 @@ use spl_value::{IntKind, NoMemory, add_integer, is_of_kind, read_integer, read_n
 use std::alloc::{AllocError, Global};
 use std::test::Fail;
 use test_texts::rows::{Answers, expect};
+use test_texts::text::Text;
 use test_texts::types::integer_kind;
 use test_texts::words::cut;
 
@@ -25,11 +26,9 @@ fn natural(alloc: Global, digits: &[u8]) -> Result<String, AllocError> {
 fn added(alloc: Global, number: i128) -> Result<String, NoMemory> {
     let mut text = b"n=".to_vec(alloc)?;
     add_integer(&mut text, number)?;
-    let mut shown = String::new(alloc);
-    for byte in &text {
-        shown.push(char::from(*byte))?;
-    }
-    Ok(shown)
+    let mut shown = Text::new(alloc);
+    shown.add_bytes(text.as_slice());
+    Ok(shown.finish()?)
 }
 
 fn of_kind(alloc: Global, call: &str, kind: IntKind, text: &str) -> Result<String, AllocError> {

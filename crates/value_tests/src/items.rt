@@ -1,6 +1,8 @@
 //! Copies, lists and boxes.
-use crate::words::value_of;
-use spl_value::{Boxed, Fault, FaultKind, Item, Items, NoMemory, Values, copy_item, copy_values};
+use crate::words::values_of;
+use spl_value::{
+    Boxed, Fault, FaultKind, Item, Items, NoMemory, Value, Values, copy_item, copy_values,
+};
 use std::alloc::{AllocError, Global};
 use std::test::Fail;
 use test_texts::rows::{Answers, expect};
@@ -9,15 +11,14 @@ use test_texts::values::fault;
 use test_texts::words::{cut, number};
 
 // A value of each kind.
-const VALUES: &str = "integer -7; boolean true; text 97; list 1 2; map 1:0; tuple 3";
-
-fn values(alloc: Global) -> Result<Values, AllocError> {
-    let mut values = Items::new(alloc);
-    for words in VALUES.split("; ") {
-        values.push(value_of(alloc, words)?)?;
-    }
-    Ok(values)
-}
+const VALUES: &str = r#"
+integer -7
+boolean true
+text 97
+list 1 2
+map 1:0
+tuple 3
+"#;
 
 fn items(alloc: Global, values: Values) -> Result<Items<Item>, AllocError> {
     let mut items = Items::new(alloc);
@@ -60,14 +61,22 @@ fn are_same(items: &[Item], others: &[Item]) -> bool {
     items.len() == others.len()
 }
 
-// Whether copies of values and of items equal them.
-fn are_copied(alloc: Global) -> Result<bool, NoMemory> {
-    let values = values(alloc)?;
-    let copied = copy_values(alloc, values.as_slice())?;
-    let are_copied = copied.as_slice() == values.as_slice();
+fn are_values_copied(alloc: Global, values: &[Value]) -> Result<bool, NoMemory> {
+    let copied = copy_values(alloc, values)?;
+    Ok(copied.as_slice() == values)
+}
+
+fn are_items_copied(alloc: Global, values: Values) -> Result<bool, NoMemory> {
     let items = items(alloc, values)?;
     let copied = copied_items(alloc, &items)?;
-    Ok(are_copied && are_same(copied.as_slice(), items.as_slice()))
+    Ok(are_same(copied.as_slice(), items.as_slice()))
+}
+
+// Whether copies of values and of items equal them.
+fn are_copied(alloc: Global) -> Result<bool, NoMemory> {
+    let values = values_of(alloc, VALUES)?;
+    let are_copied = are_values_copied(alloc, values.as_slice())?;
+    Ok(are_items_copied(alloc, values)? && are_copied)
 }
 
 // A list of 11, 21 and 30.
@@ -88,23 +97,37 @@ fn add_item(text: &mut Text, item: Option<&u32>) {
     }
 }
 
-// What a list of three has at the places 1 and 3, what is removed at 1, the last one of it and two more,
-// and the others.
-fn changed(alloc: Global, items: Items<u32>) -> Result<String, AllocError> {
-    let mut items = items;
-    let mut text = Text::new(alloc);
-    text.add("has");
-    add_item(&mut text, items.get(1));
-    add_item(&mut text, items.get(3));
+// Adds what a list of three has at the places 1 and 3, and what is removed at 1.
+fn add_removed(text: &mut Text, items: &mut Items<u32>) {
+    add_item(text, items.get(1));
+    add_item(text, items.get(3));
     if items.len() == 3 {
         text.add_place(" ", items.remove(1));
     }
-    items.append(Items::from_slice(alloc, &[40, 50])?)?;
-    add_item(&mut text, items.pop().as_ref());
+}
+
+fn append(items: &mut Items<u32>, more: Result<Items<u32>, AllocError>) -> Result<(), AllocError> {
+    items.append(more?)
+}
+
+// Adds the last item, and the others.
+fn add_last(text: &mut Text, mut items: Items<u32>) {
+    add_item(text, items.pop().as_ref());
     text.add(" of");
     for item in items.into_vec().as_slice() {
         text.add_place(" ", *item);
     }
+}
+
+// What a list of three has at the places 1 and 3, what is removed at 1, the last one of it and two more,
+// and the others.
+fn changed(alloc: Global, items: Result<Items<u32>, AllocError>) -> Result<String, AllocError> {
+    let mut items = items?;
+    let mut text = Text::new(alloc);
+    text.add("has");
+    add_removed(&mut text, &mut items);
+    append(&mut items, Items::from_slice(alloc, &[40, 50]))?;
+    add_last(&mut text, items);
     text.finish()
 }
 
@@ -129,6 +152,10 @@ fn boxed(alloc: Global, value: u32) -> Result<String, AllocError> {
     format!(in alloc; "{seen} {}", boxed.into_inner())
 }
 
+fn shown(alloc: Global, is_so: Result<bool, AllocError>) -> Result<String, AllocError> {
+    format!(in alloc; "{}", is_so?)
+}
+
 // Calls on lists and boxes.
 struct Calls;
 
@@ -136,11 +163,11 @@ impl Answers for Calls {
     fn answer(&self, alloc: Global, text: &str) -> Result<String, AllocError> {
         let (call, rest) = cut(text);
         match call {
-            "changed" => changed(alloc, made(alloc)?),
+            "changed" => changed(alloc, made(alloc)),
             "boxed" => boxed(alloc, number(rest)),
-            "cleared" => format!(in alloc; "{}", is_cleared(alloc, number(rest))?),
-            "room" => format!(in alloc; "{}", has_room(alloc, number(rest))?),
-            _ => format!(in alloc; "{}", are_copied(alloc).map_err(|_| AllocError)?),
+            "cleared" => shown(alloc, is_cleared(alloc, number(rest))),
+            "room" => shown(alloc, has_room(alloc, number(rest))),
+            _ => shown(alloc, are_copied(alloc).map_err(|_| AllocError)),
         }
     }
 }

@@ -38,6 +38,13 @@ fn is_hashed_as(alloc: Global, value: &str, bytes: &[u8]) -> Result<String, Allo
     format!(in alloc; "{}", hash == fnv(bytes))
 }
 
+// Whether the value in front of ` as ` has the hash of the bytes behind it.
+fn same(alloc: Global, text: &str) -> Result<String, AllocError> {
+    let (value, bytes) = text.split_once(" as ").unwrap_or((text, ""));
+    let bytes = bytes_of(alloc, bytes)?;
+    is_hashed_as(alloc, value, bytes.as_slice())
+}
+
 // The hash of bytes, the channel that a text goes to, of a number of them, and whether a value is hashed as
 // bytes.
 struct Hashes;
@@ -51,11 +58,7 @@ impl Answers for Hashes {
                 let (width, text) = cut(rest);
                 channel(alloc, width.parse::<u64>().unwrap_or(0), text)
             }
-            _ => {
-                let (value, bytes) = rest.split_once(" as ").unwrap_or((rest, ""));
-                let bytes = bytes_of(alloc, bytes)?;
-                is_hashed_as(alloc, value, bytes.as_slice())
-            }
+            _ => same(alloc, rest),
         }
     }
 }

@@ -1,5 +1,5 @@
 //! The order of values, and the laws.
-use crate::words::value_of;
+use crate::words::values_of;
 use builtin_calls::{calls_law, values_law};
 use spl_value::{
     Items, NoMemory, Value, Values, copy_value, default_law, key_law, key_on_literals, order,
@@ -39,16 +39,6 @@ tuple 0 3
 tuple 1 2
 "#;
 
-fn ascending(alloc: Global) -> Result<Values, AllocError> {
-    let mut values = Items::new(alloc);
-    for line in ASCENDING.lines() {
-        if !line.is_empty() {
-            values.push(value_of(alloc, line)?)?;
-        }
-    }
-    Ok(values)
-}
-
 fn list_of(alloc: Global, value: Value) -> Result<Value, AllocError> {
     let mut list = Items::new(alloc);
     list.push(value)?;
@@ -79,34 +69,49 @@ fn are_ordered(alloc: Global, a: &Value, b: &Value, wanted: Ordering) -> Result<
     Ok(order(a, &copied) == wanted && same(a, &copied) == wanted.is_eq())
 }
 
-// The pairs of places whose values aren't ordered as the places.
-fn disorder(alloc: Global, values: &Values) -> Result<String, NoMemory> {
-    let mut text = String::new(alloc);
-    if values.is_empty() {
-        text.push_str("no values")?;
-    }
-    for (i, a) in values.as_slice().iter().enumerate() {
-        for (j, b) in values.as_slice().iter().enumerate() {
-            if !are_ordered(alloc, a, b, i.cmp(&j))? {
-                write!(text, "{i} and {j}; ")?;
-            }
+// Adds the places where values aren't ordered with that at one place as the places are.
+fn add_disorder(
+    alloc: Global,
+    text: &mut String,
+    values: &[Value],
+    i: usize,
+    a: &Value,
+) -> Result<(), NoMemory> {
+    for (j, b) in values.iter().enumerate() {
+        if !are_ordered(alloc, a, b, i.cmp(&j))? {
+            write!(text, "{i} and {j}; ")?;
         }
+    }
+    Ok(())
+}
+
+// The pairs of places whose values aren't ordered as the places.
+fn disorder(alloc: Global, values: &[Value]) -> Result<String, NoMemory> {
+    if values.is_empty() {
+        return Ok("no values".to_string(alloc)?);
+    }
+    let mut text = String::new(alloc);
+    for (i, a) in values.iter().enumerate() {
+        add_disorder(alloc, &mut text, values, i, a)?;
     }
     Ok(text)
 }
 
-#[test]
-fn values_have_an_order_and_are_the_same_where_they_tie(rt: HostRuntime) -> Result<(), Fail> {
-    let values = ascending(rt.alloc())?;
-    no_others(disorder(rt.alloc(), &values)?)?;
+// Whether values are ordered as their places.
+fn expect_order(alloc: Global, values: Result<Values, AllocError>) -> Result<(), Fail> {
+    let values = values?;
+    no_others(disorder(alloc, values.as_slice())?)?;
     Ok(())
 }
 
 #[test]
+fn values_have_an_order_and_are_the_same_where_they_tie(rt: HostRuntime) -> Result<(), Fail> {
+    expect_order(rt.alloc(), values_of(rt.alloc(), ASCENDING))
+}
+
+#[test]
 fn deep_values_are_copied_and_compared(rt: HostRuntime) -> Result<(), Fail> {
-    let values = deep(rt.alloc())?;
-    no_others(disorder(rt.alloc(), &values)?)?;
-    Ok(())
+    expect_order(rt.alloc(), deep(rt.alloc()))
 }
 
 #[test]

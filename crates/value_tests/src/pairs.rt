@@ -201,12 +201,21 @@ fn is_found(pairs: &Pairs, number: u32) -> bool
     found == Some(&Value::Int(number)) && !pairs.contains_key(&Value::Int(2 * number + 1))
 }
 
+// Whether each number below 1,000 is found so.
+fn are_found(pairs: &Pairs) -> bool
+    requires { IsTrue (are_pairs pairs.now) }
+{
+    for number in 0..1000u32 {
+        if !is_found(pairs, number) {
+            return false;
+        }
+    }
+    true
+}
+
 #[test]
 fn each_of_a_thousand_keys_is_found(rt: HostRuntime) -> Result<(), Fail> {
     let pairs = even_keys(rt.alloc())?;
-    assert_eq!(rt; pairs.len(), 1000);
-    for number in 0..1000u32 {
-        assert!(rt; is_found(&pairs, number));
-    }
+    assert!(rt; pairs.len() == 1000 && are_found(&pairs));
     Ok(())
 }

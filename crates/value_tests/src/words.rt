@@ -36,16 +36,46 @@ fn map(alloc: Global, words: &str) -> Result<Value, AllocError> {
     Ok(Value::Map(pairs))
 }
 
-/// The value of words: `integer 5`, `boolean true`, `text 97 0` by the numbers of its bytes, `list 1 2`,
-/// `map 1:5 2:0`, or `tuple 1 2`.
-pub(crate) fn value_of(alloc: Global, words: &str) -> Result<Value, AllocError> {
+// A text with the bytes whose numbers these words are.
+fn text(alloc: Global, words: &str) -> Result<Value, AllocError> {
+    Ok(Value::Text(Items::from_vec(bytes_of(alloc, words)?)))
+}
+
+// A tuple or a list of the numbers of these words.
+fn sequence(alloc: Global, words: &str, is_tuple: bool) -> Result<Value, AllocError> {
+    let values = integers(alloc, words)?;
+    Ok(if is_tuple {
+        Value::Tuple(values)
+    } else {
+        Value::List(values)
+    })
+}
+
+// The value of words: `integer 5`, `boolean true`, `text 97 0` by the numbers of its bytes, `list 1 2`,
+// `map 1:5 2:0`, or `tuple 1 2`.
+fn value_of(alloc: Global, words: &str) -> Result<Value, AllocError> {
     let (kind, words) = cut(words);
     match kind {
         "boolean" => Ok(Value::Bool(words == "true")),
-        "text" => Ok(Value::Text(Items::from_vec(bytes_of(alloc, words)?))),
-        "list" => Ok(Value::List(integers(alloc, words)?)),
-        "tuple" => Ok(Value::Tuple(integers(alloc, words)?)),
+        "text" => text(alloc, words),
+        "list" => sequence(alloc, words, false),
+        "tuple" => sequence(alloc, words, true),
         "map" => map(alloc, words),
         _ => Ok(Value::Int(number(words))),
     }
+}
+
+fn add_value(values: &mut Values, value: Result<Value, AllocError>) -> Result<(), AllocError> {
+    values.push(value?)
+}
+
+/// The values of lines, without the empty ones.
+pub(crate) fn values_of(alloc: Global, lines: &str) -> Result<Values, AllocError> {
+    let mut values = Items::new(alloc);
+    for line in lines.lines() {
+        if !line.is_empty() {
+            add_value(&mut values, value_of(alloc, line))?;
+        }
+    }
+    Ok(values)
 }
