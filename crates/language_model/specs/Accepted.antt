@@ -1,10 +1,10 @@
 -- The result of reading and checking a program: its checked graph, or its first refusal, with its place.
-use Rattle.std.specs.Prelude.{◌≡◌, ℕ, List, Result, Ok, Err}
+use Rattle.std.specs.Prelude.{ℕ, List, Result, Ok, Err}
 use Rattle.spl_tree.specs.declared.graph.Graph.{Graph}
 use Rattle.spl_tree.specs.declared.token.LexicalError.{LexicalError}
 use Rattle.spl_tree.specs.declared.token.Tokens.{Tokens}
 use Rattle.spl_tree.specs.declared.unit.Definition.{Definition}
-use Rattle.spl_tree.specs.Tokens.{tokens}
+use Rattle.spl_tree.specs.Tokens.{IsLexed}
 use Rattle.spl_tree.specs.Units.{IsTooDeepAt, IsUnexpectedAt, IsUnit}
 use Rattle.language_model.specs.declared.expansion.ExpansionRefusal.{ExpansionRefusal}
 use Rattle.language_model.specs.declared.scope.CheckRefusal.{CheckRefusal}
@@ -27,10 +27,10 @@ refused_check (Err refusal) = Err (Check refusal)
 
 -- the bytes of a program, where sinks may not have the files of these names, give a checked graph or a refusal
 pub data IsAccepted (bytes : List ℕ) (names : List (List ℕ)) : Result CheckedGraph ProgramRefusal → Type 0 where
-  no_tokens : (error : LexicalError) (at : ℕ) → tokens bytes ≡ Err (error, at) → IsAccepted bytes names (Err (Lexical error at))
-  too_deep : (ts : Tokens) (at : ℕ) → tokens bytes ≡ Ok ts → IsTooDeepAt ts 0 at → IsAccepted bytes names (Err (TooDeep at))
-  unexpected : (ts : Tokens) (at : ℕ) → tokens bytes ≡ Ok ts → IsUnexpectedAt ts at → IsAccepted bytes names (Err (Unexpected at))
-  no_graph : (ts : Tokens) (unit : List Definition) (refusal : ExpansionRefusal) → tokens bytes ≡ Ok ts → IsUnit ts unit
+  no_tokens : (error : LexicalError) (at : ℕ) → IsLexed bytes (Err (error, at)) → IsAccepted bytes names (Err (Lexical error at))
+  too_deep : (ts : Tokens) (at : ℕ) → IsLexed bytes (Ok ts) → IsTooDeepAt ts 0 at → IsAccepted bytes names (Err (TooDeep at))
+  unexpected : (ts : Tokens) (at : ℕ) → IsLexed bytes (Ok ts) → IsUnexpectedAt ts at → IsAccepted bytes names (Err (Unexpected at))
+  no_graph : (ts : Tokens) (unit : List Definition) (refusal : ExpansionRefusal) → IsLexed bytes (Ok ts) → IsUnit ts unit
       → IsFlat unit names (Err refusal) → IsAccepted bytes names (Err (Expansion refusal))
-  checks : (ts : Tokens) (unit : List Definition) (g : Graph) → tokens bytes ≡ Ok ts → IsUnit ts unit
+  checks : (ts : Tokens) (unit : List Definition) (g : Graph) → IsLexed bytes (Ok ts) → IsUnit ts unit
       → IsFlat unit names (Ok g) → IsAccepted bytes names (refused_check (checked unit g))

@@ -4,6 +4,7 @@ use Rattle.std.proofs.Common.{refl, sym, ap, ◌∙◌, subst, inl, inr}
 use Rattle.spl_tree.specs.declared.graph.Graph.{Graph}
 use Rattle.spl_tree.specs.declared.token.Tokens.{Tokens}
 use Rattle.spl_tree.specs.declared.unit.Definition.{Definition}
+use Rattle.spl_tree.specs.Laws.{LexedLaw}
 use Rattle.spl_tree.specs.Tokens.{tokens}
 use Rattle.spl_tree.specs.Tokens as lexical
 use Rattle.expr_parser.specs.declared.answer.SyntaxAnswer.{SyntaxAnswer}
@@ -42,12 +43,12 @@ abbrev BehindTokens : List (List ℕ) → Result Tokens lexical.Refusal → Come
 BehindTokens names (Ok ts) x = (answer : Result (List Definition) SyntaxAnswer) × ParsesUnit ts answer × BehindAnswer names answer x
 BehindTokens names (Err refusal) x = x ≡ Err (Lexical refusal.0 refusal.1)
 
-by_stages : (bytes : List ℕ) (names : List (List ℕ)) (x : Come) → IsAccepted bytes names x → BehindTokens names (tokens bytes) x
-by_stages bytes names x (no_tokens error at is) = subst (λ r. BehindTokens names r (Err (Lexical error at))) (sym is) refl
-by_stages bytes names x (too_deep ts at is deep) = subst (λ r. BehindTokens names r (Err (TooDeep at))) (sym is) (Err (S.TooDeep at), deep, refl)
-by_stages bytes names x (unexpected ts at is refused) = subst (λ r. BehindTokens names r (Err (Unexpected at))) (sym is) (Err (S.Unexpected at), refused, refl)
-by_stages bytes names x (no_graph ts unit refusal is spells flat) = subst (λ r. BehindTokens names r (Err (Expansion refusal))) (sym is) (Ok unit, spells, (Err refusal, flat, refl))
-by_stages bytes names x (checks ts unit g is spells flat) = subst (λ r. BehindTokens names r (refused_check (checked unit g))) (sym is) (Ok unit, spells, (Ok g, flat, refl))
+by_stages : LexedLaw → (bytes : List ℕ) (names : List (List ℕ)) (x : Come) → IsAccepted bytes names x → BehindTokens names (tokens bytes) x
+by_stages lexed bytes names x (no_tokens error at is) = subst (λ r. BehindTokens names r (Err (Lexical error at))) (sym ((lexed bytes (Err (error, at))).0 is)) refl
+by_stages lexed bytes names x (too_deep ts at is deep) = subst (λ r. BehindTokens names r (Err (TooDeep at))) (sym ((lexed bytes (Ok ts)).0 is)) (Err (S.TooDeep at), deep, refl)
+by_stages lexed bytes names x (unexpected ts at is refused) = subst (λ r. BehindTokens names r (Err (Unexpected at))) (sym ((lexed bytes (Ok ts)).0 is)) (Err (S.Unexpected at), refused, refl)
+by_stages lexed bytes names x (no_graph ts unit refusal is spells flat) = subst (λ r. BehindTokens names r (Err (Expansion refusal))) (sym ((lexed bytes (Ok ts)).0 is)) (Ok unit, spells, (Err refusal, flat, refl))
+by_stages lexed bytes names x (checks ts unit g is spells flat) = subst (λ r. BehindTokens names r (refused_check (checked unit g))) (sym ((lexed bytes (Ok ts)).0 is)) (Ok unit, spells, (Ok g, flat, refl))
 
 -- ---- one thing
 
@@ -71,8 +72,9 @@ one_come answers flats names (Ok ts) x y (a, parses, h) (b, parses', h') = elim 
 ]
 one_come answers flats names (Err refusal) x y is is' = is ∙ sym is'
 
-pub one_accepted : OneAnswerLaw → OneFlatLaw → OneAcceptedLaw
-one_accepted answers flats bytes names x y h k = one_come answers flats names (tokens bytes) x y (by_stages bytes names x h) (by_stages bytes names y k)
+pub one_accepted : LexedLaw → OneAnswerLaw → OneFlatLaw → OneAcceptedLaw
+one_accepted lexed answers flats bytes names x y h k =
+    one_come answers flats names (tokens bytes) x y (by_stages lexed bytes names x h) (by_stages lexed bytes names y k)
 
 -- ---- what is kept
 

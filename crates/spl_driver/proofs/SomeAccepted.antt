@@ -1,12 +1,11 @@
 -- Each program has a result, and a program that is too long is refused.
-use Rattle.std.specs.Prelude.{◌≡◌, ◌<◌, ℕ, Bool, if◌then◌else◌, List, length, Result, Ok, Err}
-use Rattle.std.proofs.Common.{refl, ap}
-use Rattle.std.proofs.lemmas.Bool.{lt-ltb}
+use Rattle.std.specs.Prelude.{ℕ, List, Result, Ok, Err}
+use Rattle.std.proofs.Common.{refl}
 use Rattle.spl_tree.specs.declared.token.LexicalError.TheVariants as L
-use Rattle.spl_tree.specs.declared.token.TheConstants.{MOST_BYTES}
 use Rattle.spl_tree.specs.declared.token.Tokens.{Tokens}
 use Rattle.spl_tree.specs.declared.unit.Definition.{Definition}
-use Rattle.spl_tree.specs.Tokens.{tokens, with_length, tokens_from}
+use Rattle.spl_tree.specs.Laws.{LexedLaw}
+use Rattle.spl_tree.specs.Tokens.{IsLexed, tokens}
 use Rattle.spl_tree.specs.Tokens as lexical
 use Rattle.spl_tree.specs.Units.{IsUnit}
 use Rattle.language_model.specs.Accepted.{ProgramRefusal, Lexical, TooDeep, Unexpected, Expansion, IsAccepted, no_tokens, too_deep, unexpected, no_graph, checks, refused_check}
@@ -20,27 +19,22 @@ use Rattle.spl_driver.specs.AcceptedLaws.{SomeAcceptedLaw, TooLongLaw}
 abbrev HasResult : List ℕ → List (List ℕ) → Type 0
 HasResult bytes names = (x : Result CheckedGraph ProgramRefusal) × IsAccepted bytes names x
 
-pub some_accepted : SomeAnswerLaw → FoundLaw → SomeAcceptedLaw
-some_accepted answered found bytes names = by_tokens (tokens bytes) refl
+pub some_accepted : LexedLaw → SomeAnswerLaw → FoundLaw → SomeAcceptedLaw
+some_accepted lexed answered found bytes names = by_tokens (tokens bytes) ((lexed bytes (tokens bytes)).1 refl)
   where
-    by_graph : (ts : Tokens) (unit : List Definition) → tokens bytes ≡ Ok ts → IsUnit ts unit → IsFound unit names → HasResult bytes names
+    by_graph : (ts : Tokens) (unit : List Definition) → IsLexed bytes (Ok ts) → IsUnit ts unit → IsFound unit names → HasResult bytes names
     by_graph ts unit is spelled (Ok g, flat) = (refused_check (checked unit g), checks ts unit g is spelled flat)
     by_graph ts unit is spelled (Err refusal, flat) = (Err (Expansion refusal), no_graph ts unit refusal is spelled flat)
 
-    by_answer : (ts : Tokens) → tokens bytes ≡ Ok ts → IsAnswered ts → HasResult bytes names
+    by_answer : (ts : Tokens) → IsLexed bytes (Ok ts) → IsAnswered ts → HasResult bytes names
     by_answer ts is (Ok unit, spelled, some) = by_graph ts unit is spelled (found unit names)
     by_answer ts is (Err (A.Unexpected at), refused, some) = (Err (Unexpected at), unexpected ts at is refused)
     by_answer ts is (Err (A.TooDeep at), deep, some) = (Err (TooDeep at), too_deep ts at is deep)
     by_answer ts is (Err A.Memory, said, some) = absurd (some refl)
 
-    by_tokens : (r : Result Tokens lexical.Refusal) → tokens bytes ≡ r → HasResult bytes names
+    by_tokens : (r : Result Tokens lexical.Refusal) → IsLexed bytes r → HasResult bytes names
     by_tokens (Err refusal) is = (Err (Lexical refusal.0 refusal.1), no_tokens refusal.0 refusal.1 is)
     by_tokens (Ok ts) is = by_answer ts is (answered ts)
 
-long_refused : (bytes : List ℕ) → 1048576 < length bytes → tokens bytes ≡ Err (L.TooLong, 1048576)
-unfolding tokens
-long_refused bytes long =
-    ap (λ (b : Bool). if b then Err (L.TooLong, MOST_BYTES) else with_length (length bytes) (tokens_from 0 0 bytes)) (lt-ltb MOST_BYTES (length bytes) long)
-
 pub too_long : TooLongLaw
-too_long bytes names long = no_tokens L.TooLong 1048576 (long_refused bytes long)
+too_long bytes names long = no_tokens L.TooLong 1048576 (lexical.too_long long)

@@ -5,7 +5,8 @@ use Rattle.std.proofs.Common.{refl, sym, subst}
 use Rattle.spl_tree.specs.declared.graph.Graph.{Graph}
 use Rattle.spl_tree.specs.declared.token.Tokens.{Tokens}
 use Rattle.spl_tree.specs.declared.unit.Definition.{Definition}
-use Rattle.spl_tree.specs.Tokens.{tokens}
+use Rattle.spl_tree.specs.Laws.{LexedLaw}
+use Rattle.spl_tree.specs.Tokens.{IsLexed, tokens}
 use Rattle.spl_tree.specs.Units.{IsUnit}
 use Rattle.spl_lexer.specs.declared.answer.LexAnswer.{LexAnswer}
 use Rattle.spl_lexer.specs.declared.answer.LexAnswer.TheVariants as L
@@ -40,15 +41,18 @@ same_answer : (bytes : List ℕ) (names : List (List ℕ)) (r : Answered) (answe
 same_answer bytes names (Ok c) answer is h = absurd is
 same_answer bytes names (Err a) answer is h = subst (λ x. IsCompiled bytes names (Err x)) (sym is) h
 
-module _ (bytes : List ℕ) (names : List (List ℕ)) where
+module _ (law : LexedLaw) (bytes : List ℕ) (names : List (List ℕ)) where
   by_lexer : (answer : LexAnswer) → Refuses answer (tokens bytes) → IsCompiled bytes names (Err (lexing_answer answer))
-  by_lexer (L.Refused error at) is = (Lexical error at, no_tokens error at is, refl)
+  by_lexer (L.Refused error at) is = (Lexical error at, no_tokens error at ((law bytes (Err (error, at))).1 is), refl)
   by_lexer L.Memory is = tt
 
   pub lexed : (r : Answered) (answer : LexAnswer) → Refuses answer (tokens bytes) → Is r (lexing_answer answer) → IsCompiled bytes names r
   lexed r answer refuses is = same_answer bytes names r (lexing_answer answer) is (by_lexer answer refuses)
 
-  module _ (ts : Tokens) (has : tokens bytes ≡ Ok ts) where
+  module _ (ts : Tokens) (are : tokens bytes ≡ Ok ts) where
+    has : IsLexed bytes (Ok ts)
+    has = (law bytes (Ok ts)).1 are
+
     by_parser : (answer : SyntaxAnswer) → ParsesUnit ts (Err answer) → IsCompiled bytes names (Err (parsing_answer answer))
     by_parser (S.Unexpected at) is = (Unexpected at, unexpected ts at has is, refl)
     by_parser (S.TooDeep at) is = (TooDeep at, too_deep ts at has is, refl)

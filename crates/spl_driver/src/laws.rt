@@ -7,6 +7,7 @@ use arrival_format::format_law;
 use check_laws::keeps_law;
 use expansion_laws::found_law;
 use graph_laws::flat_law;
+use spl_tree::tokens_law;
 use unit_parser::units_law;
 
 /// The result of a program is a checked graph or a refusal, and that alone. One that is too long is
@@ -17,6 +18,7 @@ pub fn accepted_law()
     ensures too_long { TooLongLaw }
     ensures kept { KeptLaw }
 {
+    tokens_law();
     units_law();
     flat_law();
     found_law();

@@ -6,6 +6,7 @@ pub mod Induction
 pub mod WeightLaws
 pub mod WordLaws
 pub mod TokenLaws
+pub mod LexedLaws
 pub mod UnitSpellings
 pub mod ExprWeights
 pub mod StmtWeights

@@ -1,5 +1,5 @@
 -- What tokens and weights are, in other words than their definitions.
-use Rattle.std.specs.Prelude.{◌≡◌, ℕ, ◌+◌, ◌-◌, ◌<◌, ◌≤◌, ◌==◌, ◌&&◌, ◌||◌, IsTrue, true, false, not, List, [], ◌∷◌, ◌++◌, length, take, drop, All, Some, None, Ok}
+use Rattle.std.specs.Prelude.{◌≡◌, ◌↔◌, ℕ, ◌+◌, ◌-◌, ◌<◌, ◌≤◌, ◌==◌, ◌&&◌, ◌||◌, IsTrue, true, false, not, List, [], ◌∷◌, ◌++◌, length, take, drop, All, Some, None, Result, Ok}
 use Rattle.std.specs.List.{list_all}
 use Rattle.spl_value.specs.Decimal.{is_digit}
 use Rattle.spl_tree.specs.declared.keyword.Keyword.{Keyword}
@@ -10,10 +10,14 @@ use Rattle.spl_tree.specs.declared.token.Tokens.{Tokens}
 use Rattle.spl_tree.specs.declared.token.TheConstants.{MOST_BYTES}
 use Rattle.spl_tree.specs.Bytes.{is_blank, is_word_byte, begins}
 use Rattle.spl_tree.specs.Words.{symbol_text, symbol_of, keyword_word, keyword_of}
-use Rattle.spl_tree.specs.Tokens.{is_formed, kind_of, tokens}
+use Rattle.spl_tree.specs.Tokens.{Refusal, is_formed, kind_of, IsLexed, tokens}
 use Rattle.spl_tree.specs.Grammar.{Expr, Spells}
 use Rattle.spl_tree.specs.Ranges.{in_range}
 use Rattle.spl_tree.specs.Weights.{weights, most_weight, too_deep_at}
+
+-- what is computed of a program is what it has
+abbrev pub LexedLaw : Type 0
+LexedLaw = (bytes : List ℕ) (r : Result Tokens Refusal) → IsLexed bytes r ↔ (tokens bytes ≡ r)
 
 -- bytes that separate tokens, by what follows them: a blank, a comment up to the end of its line,
 -- and a comment up to the first `*/`

@@ -1,6 +1,6 @@
 -- What stands at the front of some bytes reaches no further than they do.
-use Rattle.std.proofs.Common.{ℕ, ◌-◌, ◌<◌, ◌≤◌}
-use Rattle.spl_tree.specs.Tokens.{Front, Take, Pass, Refuse, front}
+use Rattle.std.proofs.Common.{ℕ, ◌<◌, ◌≤◌}
+use Rattle.spl_tree.specs.Tokens.{Front, Take, Pass, Refuse}
 
 -- What stands at the front
 

@@ -1,5 +1,5 @@
 -- The tokens of bytes: at each place the longest front that has the form of a token is taken.
-use Rattle.std.specs.Prelude.{ℕ, zero, suc, ◌+◌, ◌-◌, ◌==◌, ◌&&◌, nat_lt, Bool, false, not, List, [], ◌∷◌, ◌++◌, length, take, drop, fold, Option, Some, None, option_map, is_some, Result, Ok, Err, if◌then◌else◌}
+use Rattle.std.specs.Prelude.{◌≡◌, ◌<◌, ◌≤◌, ℕ, zero, suc, ◌+◌, ◌-◌, ◌==◌, ◌&&◌, nat_lt, Bool, false, not, List, [], ◌∷◌, ◌++◌, length, take, drop, fold, Option, Some, None, option_map, is_some, Result, Ok, Err, if◌then◌else◌}
 use Rattle.std.specs.List.{list_all, take_while, prefix_len}
 use Rattle.spl_value.specs.declared.types.IntKind.{IntKind}
 use Rattle.spl_value.specs.declared.types.IntKind.TheVariants.{I8, I16, I32, I64, U8, U16, U32, U64}
@@ -157,7 +157,7 @@ longest_front (suc n) bs = if is_formed (take (suc n) bs) then suc n else longes
 pub data Front : Type 0 where
   -- a token of this number of bytes
   Take : TokenKind → ℕ → Front
-  -- this number of bytes that separate tokens
+  -- a gap of this number of bytes
   Pass : ℕ → Front
   -- nothing that may stand there: why, and at which byte from here
   Refuse : LexicalError → ℕ → Front
@@ -165,7 +165,7 @@ pub data Front : Type 0 where
 -- what stands at the front where the first n bytes have the form of a token: the token, or why not
 abbrev pub as_front : ℕ → Result TokenKind Refusal → Front
 as_front n (Ok k) = Take k n
-as_front n (Err refusal) = Refuse refusal.0 refusal.1
+as_front n (Err r) = Refuse r.0 r.1
 
 -- after a number no letter, digit or `_` may stand
 abbrev pub is_run_on : List ℕ → ℕ → Bool
@@ -195,12 +195,29 @@ front (b ∷ bs) =
 
 -- The tokens
 
+-- bytes that begin at a place are these tokens, and then end or are refused: none are left, or a gap, a token or a refusal stands at their front
+pub data Lexes : (at : ℕ) → List ℕ → List Token → Option Refusal → Type 0 where
+  done : (at : ℕ) → Lexes at [] [] None
+  gap : (at n : ℕ) (bs : List ℕ) (ts : List Token) (stop : Option Refusal) → front bs ≡ Pass n → Lexes (at + n) (drop n bs) ts stop
+      → Lexes at bs ts stop
+  token : (at n : ℕ) (k : TokenKind) (bs : List ℕ) (ts : List Token) (stop : Option Refusal) → front bs ≡ Take k n
+      → Lexes (at + n) (drop n bs) ts stop → Lexes at bs (record { kind = k; start = at; end = at + n } ∷ ts) stop
+  refusal : (at i : ℕ) (e : LexicalError) (bs : List ℕ) → front bs ≡ Refuse e i → Lexes at bs [] (Some (e, at + i))
+
+-- the tokens of a program, or its first refusal; that it is too long is looked at before all others
+pub data IsLexed (bytes : List ℕ) : Result Tokens Refusal → Type 0 where
+  too_long : MOST_BYTES < length bytes → IsLexed bytes (Err (E.TooLong, MOST_BYTES))
+  whole : (ts : List Token) → length bytes ≤ MOST_BYTES → Lexes 0 bytes ts None → IsLexed bytes (Ok (record { list = ts; length = length bytes }))
+  refused : (ts : List Token) (r : Refusal) → length bytes ≤ MOST_BYTES → Lexes 0 bytes ts (Some r) → IsLexed bytes (Err r)
+
+-- The same, computed
+
 abbrev pub Lexed : Type 0
 Lexed = Result (List Token) Refusal
 
 abbrev pub with_front : List Token → Lexed → Lexed
 with_front ts (Ok us) = Ok (ts ++ us)
-with_front ts (Err refusal) = Err refusal
+with_front ts (Err r) = Err r
 
 -- by what stands at a place, where go n gives the tokens after n bytes
 abbrev pub by_front : Front → (at : ℕ) → (go : ℕ → Lexed) → Lexed
@@ -216,9 +233,9 @@ tokens_from (suc passed) at (b ∷ bs) = tokens_from passed (at + 1) bs
 
 abbrev pub with_length : (length : ℕ) → Lexed → Result Tokens Refusal
 with_length n (Ok ts) = Ok (record { list = ts; length = n })
-with_length n (Err refusal) = Err refusal
+with_length n (Err r) = Err r
 
--- the tokens of a program, or its first refusal; that it is too long is looked at before all others
+-- the result of a program (`IsLexed`)
 unfoldable pub tokens : List ℕ → Result Tokens Refusal
 tokens bytes =
     if nat_lt MOST_BYTES (length bytes) then Err (E.TooLong, MOST_BYTES)

@@ -5,16 +5,17 @@ ghost use Rattle.spl_tree.specs.declared.keyword.Keyword.TheVariants as K;
 ghost use Rattle.spl_tree.specs.declared.symbol.Symbol.TheVariants as S;
 ghost use Rattle.spl_tree.specs.declared.token.LexicalError.TheVariants as E;
 ghost use Rattle.spl_tree.specs.declared.token.TokenKind.TheVariants as T;
-ghost use Rattle.spl_tree.specs.Laws.{CutLaw, OneCutLaw, RiseLaw, OwnBytesLaw, SymbolsLaw, KeywordsLaw, WeightsLaw, ShallowLaw, RangesLaw};
+ghost use Rattle.spl_tree.specs.Laws.{LexedLaw, CutLaw, OneCutLaw, RiseLaw, OwnBytesLaw, SymbolsLaw, KeywordsLaw, WeightsLaw, ShallowLaw, RangesLaw};
 ghost use Rattle.spl_tree.specs.Tokens.{tokens};
 ghost use Rattle.spl_tree.specs.examples.Units.{type_of_two, nearest_else, alias_alone};
 ghost use Rattle.spl_tree.specs.UnitGrammar.{SpellsUnit};
 ghost use Rattle.spl_tree.specs.Weights.{weights};
 
-/// The tokens of a program cut its bytes, with blanks and comments between them, each the longest
+/// A program has the tokens or the refusal that are computed of it, and no others. Its tokens cut its bytes, with blanks and comments between them, each the longest
 /// that could stand there, and no other tokens do. They stand one after another within the
 /// program, and the bytes of a token alone are that token.
 pub fn tokens_law()
+    ensures lexed { LexedLaw }
     ensures cut { CutLaw }
     ensures one { OneCutLaw }
     ensures rise { RiseLaw }
