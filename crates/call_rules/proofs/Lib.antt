@@ -1,5 +1,5 @@
 pub mod Changing
-mod Emptiness
+mod Asking
 mod Wanting
 mod Prefixes
 mod CallNames

@@ -13,6 +13,7 @@ use Rattle.spl_tree.specs.declared.code.Code.TheVariants as C
 use Rattle.spl_tree.specs.declared.code.Slot.{Slot}
 use Rattle.language_model.specs.declared.scope.Scope.{Scope}
 use Rattle.language_model.specs.declared.scope.Typed.{Typed}
+use Rattle.language_model.specs.Readings.{root_of}
 use Rattle.language_model.specs.Typing.{Found, OnFirst, Part, Wanted, after, argument_count, if_mutable, int32, level_changed, level_first, mismatch, typed, wrong_call}
 
 -- what a call gives, unless it changes its first argument, and the types that the other arguments have to have
@@ -28,7 +29,7 @@ value_asked at (Some on) = Ok (Some (on.0, on.1), on.2)
 
 abbrev pub change_asked : ℕ → Scope → Placed Part → Option (List SplType) → Found (List SplType)
 change_asked at scope e None = wrong_call at
-change_asked at scope e (Some ts) = if_mutable at scope e e.what.form.root (Ok ts)
+change_asked at scope e (Some ts) = if_mutable at scope e (root_of e.what.0) (Ok ts)
 
 abbrev pub asked_by_change : Found (List SplType) → Found Asked
 asked_by_change found = after found (λ ts. Ok (None, ts))

@@ -5,7 +5,8 @@ ghost use Rattle.spl_value.specs.declared.types.SplType.TheViews.{out-SplType};
 ghost use Rattle.spl_tree.specs.declared.code.BuiltIn.TheVariants as Q;
 ghost use Rattle.spl_tree.specs.declared.code.CallName.TheVariants as A;
 ghost use Rattle.spl_tree.specs.declared.code.Code.TheVariants as C;
-ghost use Rattle.language_model.specs.Typing.{call_of, argument_count, int32, level_first, level_changed, is_mutable, if_mutable, part, typed};
+ghost use Rattle.language_model.specs.Readings.{root_of};
+ghost use Rattle.language_model.specs.Typing.{call_of, argument_count, int32, level_first, level_changed, is_mutable, if_mutable, typed};
 ghost use Rattle.language_model.specs.TypingLaws.{parted, parts};
 ghost use Rattle.language_model.specs.Finds.{Finds, FindsBy};
 ghost use Rattle.call_rules.specs.CallNames.{changing, computing, looking};
@@ -207,7 +208,7 @@ fn is_mutable(scope: &Scope, name: &[u8]) -> bool
 /// What is changed has to be a place, and its variable one that may be changed. The change begins at
 /// `at`, where what is no place is refused.
 pub fn may_change(scope: &Scope, at: u32, expr: &Expr) -> Result<(), TypeAnswer>
-    ensures { Finds (if_mutable at scope.now (parted expr.now) (part expr.now.what).form.root (Ok tt)) result }
+    ensures { Finds (if_mutable at scope.now (parted expr.now) (root_of expr.now.what) (Ok tt)) result }
 {
     let Some(name) = root_name(expr) else {
         return Err(wrong_call(at));

@@ -2,8 +2,8 @@
 ghost use Rattle.std.specs.Prelude.{◌≡◌, Ok};
 ghost use Rattle.std.specs.Option.{option_copied};
 ghost use Rattle.spl_value.specs.declared.types.SplType.TheVariants as S;
-ghost use Rattle.language_model.specs.Typing.{part, marker_of, marker_in, marker_asked, typed};
-ghost use Rattle.language_model.specs.TypingLaws.{step_parts};
+ghost use Rattle.language_model.specs.Readings.{asks_punct, marker_in, marker_of, named_marker, root_of};
+ghost use Rattle.language_model.specs.Typing.{marker_asked, typed};
 ghost use Rattle.language_model.specs.Finds.{Finds};
 
 use language_model::{TypeAnswer, Typed};
@@ -12,9 +12,8 @@ use spl_value::{Boxed, Name, SplType};
 use std::alloc::Global;
 
 /// The name that the expression is, or of which it takes members and elements, in no parentheses.
-#[tactic(auto, using(language_model::proofs::TypingLaws::form_laws))]
 pub(crate) fn root_name(expr: &Expr) -> Option<&Name>
-    ensures { option_copied result ≡ (part expr.now.what).form.root }
+    ensures { option_copied result ≡ root_of expr.now.what }
 {
     match expr.what.get() {
         ExprKind::Name(name) => Some(name),
@@ -23,10 +22,9 @@ pub(crate) fn root_name(expr: &Expr) -> Option<&Name>
     }
 }
 
-/// Whether the expression is `currentPunct()`.
-#[tactic(auto, using(language_model::proofs::TypingLaws::form_laws))]
+/// Whether the expression is `currentPunct()`, in parentheses or not.
 pub fn asks(expr: &Expr) -> bool
-    ensures { result ≡ (part expr.now.what).form.asks }
+    ensures { result ≡ asks_punct expr.now.what }
 {
     match expr.what.get() {
         ExprKind::Group(inner) => asks(inner),
@@ -51,7 +49,7 @@ fn marker_named(name: &[u8]) -> Option<Marker>
 
 /// The marker that the one member of a name is.
 fn member_marker(base: Option<&Name>, steps: &[Step<Expr>]) -> Option<Marker>
-    ensures { result ≡ marker_in (option_copied base.entry) (step_parts steps.now) }
+    ensures { result ≡ marker_in (option_copied base.entry) steps.now }
 {
     match (base, steps) {
         (Some(name), [Step::Member(member)]) if name.as_slice() == b"Sys".as_slice() => {
@@ -61,10 +59,10 @@ fn member_marker(base: Option<&Name>, steps: &[Step<Expr>]) -> Option<Marker>
     }
 }
 
-/// The marker that the expression is: `Sys.WindowMarker` or `Sys.FinalMarker`.
-#[tactic(auto, using(language_model::proofs::TypingLaws::form_laws))]
+/// `Sys.WindowMarker` or `Sys.FinalMarker`, where the expression is one, in parentheses or not.
+#[tactic(auto, using(language_model::proofs::ReadingLaws::marker_laws))]
 pub fn marker(expr: &Expr) -> Option<Marker>
-    ensures { result ≡ (part expr.now.what).form.marker }
+    ensures { result ≡ named_marker expr.now.what }
 {
     match expr.what.get() {
         ExprKind::Group(inner) => marker(inner),

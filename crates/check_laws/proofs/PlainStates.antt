@@ -42,9 +42,9 @@ use Rattle.language_model.specs.LogicTyping.{is_minus, is_minus_prefix, is_negat
 use Rattle.language_model.specs.Parameters.{constant_scope}
 use Rattle.language_model.specs.Scopes.{At, attribute_of, dollar_of}
 use Rattle.language_model.specs.TypeNames.{Types, type_meant}
-use Rattle.language_model.specs.Typing.{Wanted, Found, Part, Wants, Anything, This, Another, after, are_distinct, as_wanted, dollar_typed, elements_typed, entries_typed, field_typed, fields_typed, gives_each, level_prefix, list_typed, map_typed, mismatch, number_typed, own_fields, part, part_typed, prefix_typed, prefixes_at, prefixes_typed, refused, same_types, tuple_typed, typed, typing, unary_typed, wants_list, wants_map, wants_tuple}
+use Rattle.language_model.specs.Typing.{Wanted, Found, Part, Wants, Anything, This, Another, after, are_distinct, as_wanted, dollar_typed, elements_typed, entries_typed, field_typed, fields_typed, gives_each, level_prefix, list_typed, map_typed, mismatch, number_typed, own_fields, part_typed, prefix_typed, prefixes_at, prefixes_typed, refused, same_types, tuple_typed, typed, typing, unary_typed, wants_list, wants_map, wants_tuple}
 use Rattle.language_model.proofs.TypingLaws as Y
-use Rattle.language_model.specs.TypingLaws.{parted, parts, entry_parts, field_parts}
+use Rattle.language_model.specs.TypingLaws.{parted, parts, entry_parts, field_parts, part}
 use Rattle.check_laws.proofs.Accepting.{gives_if, none_at}
 use Rattle.language_model.proofs.PlainCodes.{plain_at}
 use Rattle.language_model.proofs.FoundAnswers.{Gives, gives_after, gives_from, gives_then}
@@ -276,7 +276,7 @@ module _ (given : List Dollar) where
   scope = constant_scope given
 
   abbrev IsSound : ExprKind → Type 0
-  IsSound e = passes given e ≡ true → (at : ℕ) (wanted : Wanted) → Gives Plain ((part e).found at scope wanted)
+  IsSound e = passes given e ≡ true → (at : ℕ) (wanted : Wanted) → Gives Plain ((part e).1 at scope wanted)
 
   good_parts : (es : List Expr) → AllByRecursion (OfExpr IsSound) es → list_all (is_state_value given) es ≡ true → AllByRecursion (Good scope) (parts es)
   good_parts [] h is = tt

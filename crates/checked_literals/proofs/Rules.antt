@@ -16,9 +16,10 @@ use Rattle.spl_tree.specs.declared.statement.StmtKind.TheVariants as M
 use Rattle.spl_tree.specs.declared.statement.StmtKind.TheFolds.{fold_out-StmtKind}
 use Rattle.language_model.specs.Mentions.{At, level_mentions}
 use Rattle.language_model.proofs.BodyTypingLaws.{stated_laws}
+use Rattle.language_model.proofs.ReadingLaws.{marker_laws}
 use Rattle.language_model.proofs.SameTypes.{same_is}
 use Rattle.language_model.proofs.TypeNameLaws.{name_laws, type_laws}
-use Rattle.language_model.proofs.TypingLaws.{form_laws, typing_laws}
+use Rattle.language_model.proofs.TypingLaws.{typing_laws}
 
 -- ---- what a form is
 
@@ -40,4 +41,4 @@ mentions_out e at = ap (λ f. f at) (fold_out-ExprKind At level_mentions e)
 
 pub ruleset fold_laws = (fold_out-Code, fold_out-ExprKind, fold_out-TypeKind, fold_out-StmtKind, mentions_out)
 
-pub ruleset computing = (value_type_laws, expression_laws, written_type_laws, statement_laws, code_laws, fold_laws, form_laws, typing_laws, type_laws, name_laws, stated_laws, default_laws, same_is)
+pub ruleset computing = (value_type_laws, expression_laws, written_type_laws, statement_laws, code_laws, fold_laws, marker_laws, typing_laws, type_laws, name_laws, stated_laws, default_laws, same_is)

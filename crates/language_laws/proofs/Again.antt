@@ -22,8 +22,8 @@ use Rattle.spl_tree.proofs.Induction.{ExprSteps, OfExpr, OfEntry, OfField, expr_
 use Rattle.language_model.specs.declared.scope.Scope.{Scope}
 use Rattle.language_model.specs.declared.scope.Typed.{Typed}
 use Rattle.language_model.specs.Scopes.{at_place, first_from, attribute_of}
-use Rattle.language_model.specs.Typing.{Wanted, Found, after, mismatch, as_wanted, typed, Part, part_typed, Anything, level_element, level_pair, level_schema, elements_typed, list_typed, wants_list, entries_typed, map_typed, wants_map, are_distinct, gives_each, field_typed, fields_typed, own_fields, tuple_typed, wants_tuple, conditional_typed, level_typed, part}
-use Rattle.language_model.specs.TypingLaws.{parted, parts, entry_parts, field_parts, step_parts}
+use Rattle.language_model.specs.Typing.{Wanted, Found, after, mismatch, as_wanted, typed, Part, part_typed, Anything, level_element, level_pair, level_schema, elements_typed, list_typed, wants_list, entries_typed, map_typed, wants_map, are_distinct, gives_each, field_typed, fields_typed, own_fields, tuple_typed, wants_tuple, conditional_typed, level_typed}
+use Rattle.language_model.specs.TypingLaws.{parted, parts, entry_parts, field_parts, step_parts, part}
 use Rattle.language_model.proofs.FoundAnswers.{after_gives}
 use Rattle.language_model.proofs.TypingLaws as L
 use Rattle.language_model.proofs.TypingLaws.{same_types_law}
@@ -38,7 +38,7 @@ abbrev ok : {A : Type 0} → A → Found A
 ok x = Ok x
 
 abbrev Again : Part → Type 0
-Again p = (at : ℕ) (scope : Scope) (t : Typed) → p.found at scope None ≡ Ok t → p.found at scope (Some t.kind) ≡ Ok t
+Again p = (at : ℕ) (scope : Scope) (t : Typed) → p.1 at scope None ≡ Ok t → p.1 at scope (Some t.kind) ≡ Ok t
 
 -- where a type is compared with the wanted one at the end
 held : (at : ℕ) (r : Found Typed) (t : Typed) → after r (as_wanted at None) ≡ Ok t → after r (as_wanted at (Some t.kind)) ≡ Ok t
@@ -191,7 +191,7 @@ conditional_again scope c a b h t e =
 -- ---- expressions
 
 -- an expression is what its form is
-by_level : (k : ExprKind) (x : ExprKind-F Part) → ((at : ℕ) (scope : Scope) (wanted : Wanted) → (part k).found at scope wanted ≡ level_typed x at scope wanted)
+by_level : (k : ExprKind) (x : ExprKind-F Part) → ((at : ℕ) (scope : Scope) (wanted : Wanted) → (part k).1 at scope wanted ≡ level_typed x at scope wanted)
     → ((at : ℕ) (scope : Scope) (t : Typed) → level_typed x at scope None ≡ Ok t → level_typed x at scope (Some t.kind) ≡ Ok t) → Again (part k)
 by_level k x is again at scope t e = is at scope (Some t.kind) ∙ again at scope t (sym (is at scope None) ∙ e)
 

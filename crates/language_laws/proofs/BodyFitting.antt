@@ -34,10 +34,11 @@ use Rattle.language_model.specs.CodeFits as F
 use Rattle.language_model.specs.CodeFits.{CodeFits}
 use Rattle.language_model.specs.FitLaws.{DollarsFit}
 use Rattle.language_laws.specs.PlaceLaws.{FitsAnywhere}
+use Rattle.language_model.specs.Readings.{named_marker}
 use Rattle.language_model.specs.Scopes.{At, first_from}
 use Rattle.language_model.specs.StatementTyping.{assignment_typing, compound_typing, call_typing}
 use Rattle.language_model.specs.TypeNames.{type_meant}
-use Rattle.language_model.specs.Typing.{Found, after, mismatch, part, typing}
+use Rattle.language_model.specs.Typing.{Found, after, mismatch, typing}
 use Rattle.language_laws.proofs.Fitting.{Fits, FitsAt, good, good_any, good_at}
 use Rattle.language_model.proofs.SameTypes.{equal_from_same}
 use Rattle.language_laws.proofs.StatementTypes.{assignment_type_law, compound_type_law, call_type_law}
@@ -204,7 +205,7 @@ module _ (outputs : List (List (Named SplType))) (inside : Bool) (scope : Scope)
 
   submitted_fits : (port : ℕ) (schema : List (Named SplType)) → slice_get outputs port ≡ Some schema → Gives InHandler (submitted scope port schema e)
   submitted_fits port schema there =
-      gives_if InHandler (is_window (part e.what).form.marker) _ _ (λ holds. G.submit_window inside scope port schema there)
+      gives_if InHandler (is_window (named_marker e.what)) _ _ (λ holds. G.submit_window inside scope port schema there)
       (gives_after (FitsAt scope (S.Tuple schema)) InHandler (typing scope e (Some (S.Tuple schema))) _ (wanted_fits scope fine e (S.Tuple schema)) (λ x h.
       G.submit inside scope port x.code schema there h))
 

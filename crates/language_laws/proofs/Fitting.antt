@@ -52,8 +52,10 @@ use Rattle.language_model.specs.declared.scope.Scope.{Scope}
 use Rattle.language_model.specs.declared.scope.Signature.{Signature}
 use Rattle.language_model.specs.declared.scope.Typed.{Typed}
 use Rattle.language_model.specs.declared.scope.Variable.{Variable}
+use Rattle.language_model.specs.Readings.{asks_punct, name_of, named_marker}
 use Rattle.language_model.specs.Scopes.{At, Meant, OfVariable, OfAttribute, OfPort, Nothing, PortAttribute, meant, variable_meant, variable_of, attributes_of, port_of, attribute_of, function_of, unresolved_of, dollar_of}
-use Rattle.language_model.specs.Typing.{Wanted, Found, after, mismatch, typed, as_wanted, number_typed, same_types, Part, part_typed, meant_typed, dollar_typed, Wants, Anything, This, Another, wants_list, wants_map, wants_tuple, elements_typed, list_typed, entries_typed, map_typed, are_distinct, gives_each, field_typed, fields_typed, own_fields, tuple_typed, level_index, member_typed, level_step, steps_typed, selected, select_typed, port_attribute, of_port, of_base, level_prefix, prefix_typed, prefixes_at, prefixes_typed, unary_typed, integer_operator, order_operator, on_integers, ordering_of, or_else, level_operator, operands_typed, level_in, binary_typed, marker_asked, binary_or_marker, branch_wanted, conditional_typed, arguments_typed, value_given, function_typed, call_of, int32, OnFirst, level_first, first_typed, argument_count, fixed_typed, no_value, arguments_of, built_in_typed, call_typed, level_part, part, typing}
+use Rattle.language_model.specs.Typing.{Wanted, Found, after, mismatch, typed, as_wanted, number_typed, same_types, Part, part_typed, meant_typed, dollar_typed, Wants, Anything, This, Another, wants_list, wants_map, wants_tuple, elements_typed, list_typed, entries_typed, map_typed, are_distinct, gives_each, field_typed, fields_typed, own_fields, tuple_typed, level_index, member_typed, level_step, steps_typed, selected, select_typed, port_attribute, of_port, of_base, level_prefix, prefix_typed, prefixes_at, prefixes_typed, unary_typed, integer_operator, order_operator, on_integers, ordering_of, or_else, level_operator, operands_typed, level_in, binary_typed, marker_asked, binary_or_marker, branch_wanted, conditional_typed, arguments_typed, value_given, function_typed, call_of, int32, OnFirst, level_first, first_typed, argument_count, fixed_typed, no_value, arguments_of, built_in_typed, call_typed, level_typed, typing}
+use Rattle.language_model.specs.TypingLaws.{TypingAt, part}
 use Rattle.language_model.specs.CodeFits as F
 use Rattle.language_model.specs.CodeFits.{CodeFits, SlotFits, ElementsFit, PairsFit, FieldsFit, ArgumentsFit, StepsLead, UnaryGives, UnariesGive, BinaryGives, BuiltInGives}
 use Rattle.language_model.specs.FitLaws.{DollarsFit, FitLaw}
@@ -72,11 +74,11 @@ abbrev pub FitsAt : Scope → SplType → Typed → Type 0
 FitsAt scope u t = CodeFits scope t.code u
 
 -- what is known of a part
-abbrev pub Sound : Scope → Part → Type 0
-Sound scope p = (at : ℕ) (wanted : Wanted) → Gives (Fits scope) (p.found at scope wanted)
+abbrev pub Sound : Scope → TypingAt → Type 0
+Sound scope f = (at : ℕ) (wanted : Wanted) → Gives (Fits scope) (f at scope wanted)
 
 abbrev pub Good : Scope → Placed Part → Type 0
-Good scope e = Keeps e.what × Sound scope e.what
+Good scope e = Keeps e.what.1 × Sound scope e.what.1
 
 pub good_any : (scope : Scope) (e : Placed Part) → Good scope e → (wanted : Wanted) → Gives (Fits scope) (part_typed e scope wanted)
 good_any scope e h wanted = h.1 e.at wanted
@@ -549,11 +551,11 @@ call_fits at scope name es None h = function_fits at scope name es (function_of 
 
 module _ (scope : Scope) (fine : DollarsFit scope.dollars) where
   -- what is known of the parts of an expression, as its parts
-  good_part : (e : Expr) → Sound scope (part e.what) → Good scope (part_of e)
+  good_part : (e : Expr) → Sound scope (part e.what).1 → Good scope (part_of e)
   good_part e h = (keeps e.what, h)
 
   abbrev IsSound : ExprKind → Type 0
-  IsSound e = Sound scope (part e)
+  IsSound e = Sound scope (part e).1
 
   good_parts : (es : List Expr) → AllByRecursion (OfExpr IsSound) es → AllByRecursion (Good scope) (map part_of es)
   good_parts [] h = tt
@@ -592,15 +594,15 @@ module _ (scope : Scope) (fine : DollarsFit scope.dollars) where
       gives_if (Fits scope) (nat_lt n.value (top n.kind)) _ _ (λ below.
       F.literal (V.Int (pos n.value)) (S.Int n.kind) (fits_int n.kind (pos n.value) ∙ below)) tt
 
-  select_sound : (e : Expr) (ss : List (Step Expr)) → IsSound e.what → AllByRecursion (OfStep IsSound) ss → Sound scope (level_part (map-ExprKind ExprKind Part part (X.Select e ss)))
+  select_sound : (e : Expr) (ss : List (Step Expr)) → IsSound e.what → AllByRecursion (OfStep IsSound) ss → Sound scope (level_typed (map-ExprKind ExprKind Part part (X.Select e ss)))
   select_sound e ss h g at wanted =
-      let name = (part_of e).what.form.name in
+      let name = name_of e.what in
       after_fits at scope wanted (of_base name (part_of e) scope _) (of_base_fits name (part_of e) scope _ (good_part e h) (good_steps _ (λ m. refl) (λ i. refl) ss g))
 
-  binary_sound : (op : BinaryOperator) (l r : Expr) → IsSound l.what → IsSound r.what → Sound scope (level_part (map-ExprKind ExprKind Part part (X.Binary op l r)))
+  binary_sound : (op : BinaryOperator) (l r : Expr) → IsSound l.what → IsSound r.what → Sound scope (level_typed (map-ExprKind ExprKind Part part (X.Binary op l r)))
   binary_sound op l r h g at wanted =
-      let asks = (part_of l).what.form.asks in
-      let marker = (part_of r).what.form.marker in
+      let asks = asks_punct l.what in
+      let marker = named_marker r.what in
       let asked = marker_asked (scope.punct && asks) op marker in
       after_fits at scope wanted (binary_or_marker asked scope op (part_of l) (part_of r))
       (binary_or_marker_fits asked scope op (part_of l) (part_of r) (asks_fits scope (scope.punct && asks) op marker (λ yes. first_so scope.punct asks yes)) (good_part l h) (good_part r g))
@@ -631,7 +633,7 @@ module _ (scope : Scope) (fine : DollarsFit scope.dollars) where
         conditional_fits scope wanted (part_of c) (part_of a) (part_of b) (good_part c f) (good_part a g) (good_part b h));
   }
 
-  sound : (e : ExprKind) → Sound scope (part e)
+  sound : (e : ExprKind) → Sound scope (part e).1
   sound = expr_ind IsSound fit_steps
 
   -- an expression, as a part of another or of a statement

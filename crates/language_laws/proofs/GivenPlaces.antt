@@ -11,17 +11,20 @@ use Rattle.spl_tree.specs.declared.code.Slot.{Slot}
 use Rattle.spl_tree.specs.declared.code.Slot.TheVariants as L
 use Rattle.spl_tree.specs.declared.code.Selector.{Selector}
 use Rattle.spl_tree.specs.declared.expression.ExprKind.TheVariants as E
+use Rattle.spl_tree.specs.declared.expression.ExprKind.TheOpen as X
 use Rattle.spl_tree.specs.declared.expression.Placed.{Placed}
 use Rattle.spl_tree.specs.declared.expression.Step.{Step}
 use Rattle.language_model.specs.declared.scope.Scope.{Scope}
 use Rattle.language_model.specs.declared.scope.Typed.{Typed}
 use Rattle.language_model.specs.declared.scope.CheckError.TheVariants as N
 use Rattle.language_model.specs.declared.scope.Variable.{Variable}
+use Rattle.language_model.specs.Readings.{level_name, level_root, root_of}
 use Rattle.language_model.specs.Scopes.{At, OfVariable, meant, variable_meant, variable_of, attributes_of, port_of}
-use Rattle.language_model.specs.Typing.{Found, after, as_wanted, refused, Part, meant_typed, steps_typed, selected, select_typed, of_port, of_base, is_mutable, if_mutable, part, typed, typing}
+use Rattle.language_model.specs.Typing.{Found, after, as_wanted, refused, Part, meant_typed, steps_typed, selected, select_typed, of_port, of_base, is_mutable, if_mutable, typed, typing}
+use Rattle.language_model.proofs.ReadingLaws.{fold_at}
 use Rattle.language_model.proofs.TypingLaws as W
-use Rattle.language_model.specs.TypingLaws.{step_parts}
-use Rattle.language_model.specs.StatementTyping.{TypedPlace, as_part, level_variable, level_place, place_given, place_typing}
+use Rattle.language_model.specs.TypingLaws.{parted, step_parts}
+use Rattle.language_model.specs.StatementTyping.{TypedPlace, level_variable, level_place, place_given, place_typing}
 use Rattle.language_laws.specs.PlaceLaws as P
 use Rattle.language_laws.specs.PlaceLaws.{read_code, IsPlace, NamePlaceLaw, PlaceGivenLaw, PlaceRefusedLaw}
 use Rattle.language_model.proofs.Wanting.{Some_thing, gives_some, part_of}
@@ -60,7 +63,7 @@ module _ (scope : Scope) (name : List ℕ) (v : At Variable) (is : variable_of s
   taken_is at base steps =
       let whole = placed base (E.Name name) in
       W.select_typed whole steps at scope None
-      ∙ ap (λ o. after (of_base o (part_of whole) scope (step_parts steps)) (as_wanted at None)) (ap (λ f. f.name) (W.name_form name))
+      ∙ ap (λ o. after (of_base o (part_of whole) scope (step_parts steps)) (as_wanted at None)) (fold_at level_name (E.Name name) (X.Name name) (E.outs-Name name))
       ∙ ap (λ m. after (of_port m (part_of whole) scope (step_parts steps)) (as_wanted at None)) variable_is
       ∙ ap (λ r. after (after r (λ x. select_typed base scope x (step_parts steps))) (as_wanted at None)) (name_is base)
 
@@ -70,9 +73,11 @@ module _ (scope : Scope) (name : List ℕ) (v : At Variable) (is : variable_of s
       subst (Gives HasPlace) (sym (taken_is at base steps))
       (gives_after HasPlace HasPlace (select_typed base scope (typed v.what.kind (C.Name (L.Variable v.place))) (step_parts steps)) _ (select_has base (step_parts steps)) (λ t h. h))
 
-root_is : (name : List ℕ) (e : Expr) → IsPlace name e → (part e.what).form.root ≡ Some name
-root_is name _ (P.whole at) = ap (λ f. f.root) (W.name_form name)
-root_is name _ (P.taken at base steps) = ap (λ f. f.root) (W.select_form (placed base (E.Name name)) steps) ∙ ap (λ f. f.root) (W.name_form name)
+root_is : (name : List ℕ) (e : Expr) → IsPlace name e → root_of e.what ≡ Some name
+root_is name _ (P.whole at) = fold_at level_root (E.Name name) (X.Name name) (E.outs-Name name)
+root_is name _ (P.taken at base steps) =
+    fold_at level_root (E.Select (placed base (E.Name name)) steps) (X.Select (placed base (E.Name name)) steps) (E.outs-Select (placed base (E.Name name)) steps)
+    ∙ fold_at level_root (E.Name name) (X.Name name) (E.outs-Name name)
 
 module _ (scope : Scope) (name : List ℕ) (e : Expr) (t : Typed) (is : IsPlace name e) (found : typing scope e None ≡ Ok t) where
   abbrev given : Found TypedPlace
@@ -81,8 +86,8 @@ module _ (scope : Scope) (name : List ℕ) (e : Expr) (t : Typed) (is : IsPlace 
   -- where a place has a type, it is given or refused by its variable
   by_variable : place_typing scope e ≡ (if is_mutable scope name then given else refused N.NotMutable e.at None)
   by_variable =
-      ap (λ r. after r (λ t. if_mutable e.at scope (as_part e) (part e.what).form.root (place_given e.at t.kind (level_place (out-Code Slot t.code))))) found
-      ∙ ap (λ root. if_mutable e.at scope (as_part e) root given) (root_is name e is)
+      ap (λ r. after r (λ t. if_mutable e.at scope (parted e) (root_of e.what) (place_given e.at t.kind (level_place (out-Code Slot t.code))))) found
+      ∙ ap (λ root. if_mutable e.at scope (parted e) root given) (root_is name e is)
 
 pub place_given_law : PlaceGivenLaw
 place_given_law scope name e t is may found =

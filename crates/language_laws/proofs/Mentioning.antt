@@ -44,9 +44,11 @@ use Rattle.language_model.specs.declared.scope.Signature.{Signature}
 use Rattle.language_model.specs.declared.scope.Typed.{Typed}
 use Rattle.language_model.specs.DollarLaws.{with_dollars, MentionedLaw, UnusedLaw}
 use Rattle.language_model.specs.Mentions.{At, Mentions, dollars, part_mentions, step_mentions, level_mentions}
+use Rattle.language_model.specs.Readings.{asks_punct, name_of, named_marker, root_of}
 use Rattle.language_model.specs.Scopes as Y
 use Rattle.language_model.specs.Scopes.{Meant, OfVariable, OfAttribute, OfPort, Nothing, at_place, first_from, meant, attribute_of, function_of, dollar_of}
-use Rattle.language_model.specs.Typing.{Wanted, Found, after, as_wanted, mismatch, refused, wrong_call, typed, Part, part_typed, dollar_typed, Wants, Anything, This, Another, wants_list, wants_map, wants_tuple, elements_typed, list_typed, entries_typed, map_typed, are_distinct, gives_each, field_typed, fields_typed, own_fields, tuple_typed, level_index, level_step, steps_typed, selected, select_typed, port_attribute, of_port, of_base, prefixes_typed, unary_typed, level_operator, operands_typed, level_in, binary_typed, marker_asked, binary_or_marker, branch_wanted, conditional_typed, arguments_typed, value_given, function_typed, call_of, int32, OnFirst, level_first, first_typed, level_changed, is_mutable, if_mutable, changed_typed, argument_count, fixed_typed, no_value, arguments_of, built_in_typed, call_typed, level_typed, part}
+use Rattle.language_model.specs.Typing.{Wanted, Found, after, as_wanted, mismatch, refused, wrong_call, typed, Part, part_typed, dollar_typed, Wants, Anything, This, Another, wants_list, wants_map, wants_tuple, elements_typed, list_typed, entries_typed, map_typed, are_distinct, gives_each, field_typed, fields_typed, own_fields, tuple_typed, level_index, level_step, steps_typed, selected, select_typed, port_attribute, of_port, of_base, prefixes_typed, unary_typed, level_operator, operands_typed, level_in, binary_typed, marker_asked, binary_or_marker, branch_wanted, conditional_typed, arguments_typed, value_given, function_typed, call_of, int32, OnFirst, level_first, first_typed, level_changed, is_mutable, if_mutable, changed_typed, argument_count, fixed_typed, no_value, arguments_of, built_in_typed, call_typed, level_typed}
+use Rattle.language_model.specs.TypingLaws.{TypingAt, part}
 use Rattle.language_model.proofs.Wanting.{part_of, part_at}
 
 -- ---- the names that are mentioned
@@ -223,7 +225,7 @@ module _ (scope : Scope) (given others : List Dollar) where
       → changed_typed at one e es o ≡ changed_typed at other e es o
   changed_alike at e es None h = refl
   changed_alike at e es (Some types) h =
-      mutable_alike at e e.what.form.root (arguments_typed one types es) (arguments_typed other types es) (arguments_alike types es h)
+      mutable_alike at e (root_of e.what.0) (arguments_typed one types es) (arguments_typed other types es) (arguments_alike types es h)
 
   -- a call that changes its first argument
   changing_alike : (at : ℕ) (call : CallName) (e : Placed Part) (es : List (Placed Part)) → Alike e → AllByRecursion Alike es
@@ -268,16 +270,16 @@ module _ (scope : Scope) (given others : List Dollar) where
   agree_second ms ns h name c = h name (subst (λ xs. Contains xs name) (sym (names_append ms ns)) (Contains-append_right (names ms) (names ns) name c))
 
   abbrev IsAlike : ExprKind → Type 0
-  IsAlike e = (at : ℕ) → Agree (mentions e at) → (wanted : Wanted) → (part e).found at one wanted ≡ (part e).found at other wanted
+  IsAlike e = (at : ℕ) → Agree (mentions e at) → (wanted : Wanted) → (part e).1 at one wanted ≡ (part e).1 at other wanted
 
   alike_at : (e : ExprKind) (x : ExprKind-F ExprKind) → out-ExprKind e ≡ x
       → ((at : ℕ) → Agree (level_mentions (map-ExprKind ExprKind At mentions x) at) → (wanted : Wanted)
       → level_typed (map-ExprKind ExprKind Part part x) at one wanted ≡ level_typed (map-ExprKind ExprKind Part part x) at other wanted)
       → IsAlike e
   alike_at e x out h at agree wanted =
-      ap (λ (p : Part). p.found at one wanted) (sym (part_at e x out))
+      ap (λ (f : TypingAt). f at one wanted) (sym (part_at e x out))
       ∙ h at (subst (λ (m : At). Agree (m at)) (mentions_at e x out) agree) wanted
-      ∙ ap (λ (p : Part). p.found at other wanted) (part_at e x out)
+      ∙ ap (λ (f : TypingAt). f at other wanted) (part_at e x out)
 
   alike_part : (e : Expr) → IsAlike e.what → Agree (mentions e.what e.at) → Alike (part_of e)
   alike_part e h agree = h e.at agree
@@ -354,13 +356,13 @@ module _ (scope : Scope) (given others : List Dollar) where
         called_alike at wanted _ _ (call_alike at n (map part_of es) (call_of n) (alike_parts es h agree)));
     select = λ e ss h g. alike_at (E.Select e ss) (X.Select e ss) (E.outs-Select e ss) (λ at agree wanted.
         let here = mentions e.what e.at in
-        called_alike at wanted _ _ (of_base_alike (part_of e).what.form.name (part_of e) _ (alike_part e h (agree_first here _ agree))
+        called_alike at wanted _ _ (of_base_alike (name_of e.what) (part_of e) _ (alike_part e h (agree_first here _ agree))
         (alike_steps _ _ (λ m. refl) (λ i. refl) (λ i. refl) ss g (agree_second here _ agree))));
     unary = λ ps e h. alike_at (E.Unary ps e) (X.Unary ps e) (E.outs-Unary ps e) (λ at agree wanted. called_alike at wanted _ _ (unary_alike ps (part_of e) (alike_part e h agree)));
     binary = λ op l r h g. alike_at (E.Binary op l r) (X.Binary op l r) (E.outs-Binary op l r) (λ at agree wanted.
         let left = mentions l.what l.at in
         let right = mentions r.what r.at in
-        let asked = marker_asked (scope.punct && (part l.what).form.asks) op (part r.what).form.marker in
+        let asked = marker_asked (scope.punct && asks_punct l.what) op (named_marker r.what) in
         called_alike at wanted _ _
         (binary_or_marker_alike asked op (part_of l) (part_of r) (alike_part l h (agree_first left right agree)) (alike_part r g (agree_second left right agree))));
     conditional = λ c a b f g h. alike_at (E.Conditional c a b) (X.Conditional c a b) (E.outs-Conditional c a b) (λ at agree wanted.

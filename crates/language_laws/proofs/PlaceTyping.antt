@@ -31,12 +31,15 @@ use Rattle.language_model.specs.BodyFits as B
 use Rattle.language_model.specs.BodyFits.{PlaceFits}
 use Rattle.language_model.specs.CodeFits as F
 use Rattle.language_model.specs.CodeFits.{SlotFits, StepsLead}
+use Rattle.language_model.specs.Readings.{level_root, name_of, root_of}
 use Rattle.language_model.specs.Scopes.{At, at_place, Meant, OfVariable, OfAttribute, OfPort, Nothing, meant, variable_meant, variable_of, attributes_of, attribute_of, port_of}
-use Rattle.language_model.specs.Typing.{Wanted, Found, after, mismatch, as_wanted, same_types, Part, part_typed, meant_typed, steps_typed, selected, select_typed, port_attribute, of_port, of_base, is_mutable, if_mutable, level_form, level_part, part, typed, typing}
+use Rattle.language_model.specs.Typing.{Wanted, Found, after, mismatch, as_wanted, same_types, Part, part_typed, meant_typed, steps_typed, selected, select_typed, port_attribute, of_port, of_base, is_mutable, if_mutable, level_typed, typed, typing}
+use Rattle.language_model.specs.TypingLaws.{TypingAt, part}
 use Rattle.language_model.specs.StatementTyping.{TypedPlace, level_variable, level_place, place_given, place_typing}
 use Rattle.language_model.specs.FitLaws.{DollarsFit}
 use Rattle.language_laws.specs.PlaceLaws.{PlaceTypeLaw, read_code, PlaceReadsLaw}
 use Rattle.language_model.proofs.CodeParts.{Parts, parts}
+use Rattle.language_model.proofs.ReadingLaws.{fold_at}
 use Rattle.language_model.proofs.Standing.{Bears, variable_there}
 use Rattle.language_model.proofs.Wanting.{gives_both, gives_if, Some_thing, gives_some, part_of, part_at}
 use Rattle.language_laws.proofs.Fitting.{Fits, good, good_any}
@@ -120,44 +123,53 @@ of_base_reads (Some name) base scope i ss h = of_port_reads (meant scope name) b
 of_base_reads None base scope i ss h = of_part_reads base scope i ss h
 
 -- where the root name is one of a variable, the code reads no place of another one
-abbrev Rooted : Part → Type 0
-Rooted p = (at : ℕ) (scope : Scope) (wanted : Wanted) (name : List ℕ) (v : At Variable) → p.form.root ≡ Some name → variable_of scope name ≡ Some v
-    → Gives (ReadsIn v.place) (p.found at scope wanted)
+abbrev Rooted : Option (List ℕ) → TypingAt → Type 0
+Rooted root f = (at : ℕ) (scope : Scope) (wanted : Wanted) (name : List ℕ) (v : At Variable) → root ≡ Some name → variable_of scope name ≡ Some v
+    → Gives (ReadsIn v.place) (f at scope wanted)
 
-unrooted : (e : ExprKind) (x : ExprKind-F ExprKind) → out-ExprKind e ≡ x → (level_form (map-ExprKind ExprKind Part part x)).root ≡ None → Rooted (part e)
-unrooted e x out none = subst Rooted (part_at e x out) (λ at scope wanted name v root is. absurd cc)
+abbrev IsRooted : ExprKind → Type 0
+IsRooted e = Rooted (root_of e) (part e).1
 
-name_rooted : (n : List ℕ) → Rooted (level_part (X.Name n))
+by_level : (e : ExprKind) (x : ExprKind-F ExprKind) → out-ExprKind e ≡ x
+    → Rooted (level_root (map-ExprKind ExprKind (Option (List ℕ)) root_of x)) (level_typed (map-ExprKind ExprKind Part part x)) → IsRooted e
+by_level e x out h =
+    subst (λ root. Rooted root (part e).1) (sym (fold_at level_root e x out))
+    (subst (Rooted (level_root (map-ExprKind ExprKind (Option (List ℕ)) root_of x))) (part_at e x out) h)
+
+unrooted : (e : ExprKind) → root_of e ≡ None → IsRooted e
+unrooted e none at scope wanted name v root is = absurd cc
+
+name_rooted : (n : List ℕ) → Rooted (Some n) (level_typed (X.Name n))
 name_rooted n at scope wanted name v root is =
     let same : n ≡ name = cc root in
     let variable : meant scope n ≡ OfVariable v = ap (λ o. variable_meant o (attributes_of scope n) (port_of scope n)) (ap (variable_of scope) same ∙ is) in
     after_keeps (ReadsIn v.place) at wanted (meant_typed at n (meant scope n)) (subst (λ m. Gives (ReadsIn v.place) (meant_typed at n m)) (sym variable) (name_reads v.place))
 
-select_rooted : (base : Placed Part) (ss : List (Step (Placed Part))) → Rooted base.what → Rooted (level_part (X.Select base ss))
+select_rooted : (base : Placed Part) (ss : List (Step (Placed Part))) → Rooted (root_of base.what.0) base.what.1 → Rooted (root_of base.what.0) (level_typed (X.Select base ss))
 select_rooted base ss h at scope wanted name v root is =
-    after_keeps (ReadsIn v.place) at wanted (of_base base.what.form.name base scope ss)
-    (of_base_reads base.what.form.name base scope v.place ss (h base.at scope None name v root is))
+    after_keeps (ReadsIn v.place) at wanted (of_base (name_of base.what.0) base scope ss)
+    (of_base_reads (name_of base.what.0) base scope v.place ss (h base.at scope None name v root is))
 
-rooted_steps : ExprSteps (λ e. Rooted (part e))
+rooted_steps : ExprSteps IsRooted
 rooted_steps = record {
-  name = λ n. subst Rooted (part_at (E.Name n) (X.Name n) (E.outs-Name n)) (name_rooted n);
-  dollar = λ n. unrooted (E.Dollar n) (X.Dollar n) (E.outs-Dollar n) refl;
-  number = λ n. unrooted (E.Number n) (X.Number n) (E.outs-Number n) refl;
-  text = λ bytes. unrooted (E.Text bytes) (X.Text bytes) (E.outs-Text bytes) refl;
-  bool = λ b. unrooted (E.Bool b) (X.Bool b) (E.outs-Bool b) refl;
-  group = λ e h. unrooted (E.Group e) (X.Group e) (E.outs-Group e) refl;
-  list = λ es h. unrooted (E.List es) (X.List es) (E.outs-List es) refl;
-  map_of = λ es h. unrooted (E.Map es) (X.Map es) (E.outs-Map es) refl;
-  tuple = λ fs h. unrooted (E.Tuple fs) (X.Tuple fs) (E.outs-Tuple fs) refl;
-  call = λ n es h. unrooted (E.Call n es) (X.Call n es) (E.outs-Call n es) refl;
-  select = λ e ss h g. subst Rooted (part_at (E.Select e ss) (X.Select e ss) (E.outs-Select e ss)) (select_rooted (part_of e) _ h);
-  unary = λ ps e h. unrooted (E.Unary ps e) (X.Unary ps e) (E.outs-Unary ps e) refl;
-  binary = λ op l r h g. unrooted (E.Binary op l r) (X.Binary op l r) (E.outs-Binary op l r) refl;
-  conditional = λ c a b f g h. unrooted (E.Conditional c a b) (X.Conditional c a b) (E.outs-Conditional c a b) refl;
+  name = λ n. by_level (E.Name n) (X.Name n) (E.outs-Name n) (name_rooted n);
+  dollar = λ n. unrooted (E.Dollar n) (fold_at level_root (E.Dollar n) (X.Dollar n) (E.outs-Dollar n));
+  number = λ n. unrooted (E.Number n) (fold_at level_root (E.Number n) (X.Number n) (E.outs-Number n));
+  text = λ bytes. unrooted (E.Text bytes) (fold_at level_root (E.Text bytes) (X.Text bytes) (E.outs-Text bytes));
+  bool = λ b. unrooted (E.Bool b) (fold_at level_root (E.Bool b) (X.Bool b) (E.outs-Bool b));
+  group = λ e h. unrooted (E.Group e) (fold_at level_root (E.Group e) (X.Group e) (E.outs-Group e));
+  list = λ es h. unrooted (E.List es) (fold_at level_root (E.List es) (X.List es) (E.outs-List es));
+  map_of = λ es h. unrooted (E.Map es) (fold_at level_root (E.Map es) (X.Map es) (E.outs-Map es));
+  tuple = λ fs h. unrooted (E.Tuple fs) (fold_at level_root (E.Tuple fs) (X.Tuple fs) (E.outs-Tuple fs));
+  call = λ n es h. unrooted (E.Call n es) (fold_at level_root (E.Call n es) (X.Call n es) (E.outs-Call n es));
+  select = λ e ss h g. by_level (E.Select e ss) (X.Select e ss) (E.outs-Select e ss) (select_rooted (part_of e) _ h);
+  unary = λ ps e h. unrooted (E.Unary ps e) (fold_at level_root (E.Unary ps e) (X.Unary ps e) (E.outs-Unary ps e));
+  binary = λ op l r h g. unrooted (E.Binary op l r) (fold_at level_root (E.Binary op l r) (X.Binary op l r) (E.outs-Binary op l r));
+  conditional = λ c a b f g h. unrooted (E.Conditional c a b) (fold_at level_root (E.Conditional c a b) (X.Conditional c a b) (E.outs-Conditional c a b));
 }
 
-rooted : (e : ExprKind) → Rooted (part e)
-rooted = expr_ind (λ e. Rooted (part e)) rooted_steps
+rooted : (e : ExprKind) → IsRooted e
+rooted = expr_ind IsRooted rooted_steps
 
 -- ---- the place that a code reads
 
@@ -214,16 +226,16 @@ root_found : (scope : Scope) (root : Option (List ℕ)) (r : Found Typed)
 root_found scope root (Ok t) h = h
 root_found scope root (Err refusal) h = tt
 
-part_root : (e : Expr) (scope : Scope) → Gives (OfRoot scope (part e.what).form.root) (typing scope e None)
-part_root e scope = root_found scope (part e.what).form.root (typing scope e None) (λ name v root is. rooted e.what e.at scope None name v root is)
+part_root : (e : Expr) (scope : Scope) → Gives (OfRoot scope (root_of e.what)) (typing scope e None)
+part_root e scope = root_found scope (root_of e.what) (typing scope e None) (λ name v root is. rooted e.what e.at scope None name v root is)
 
 -- the code fits, and where it reads a place that is one of the root name
 abbrev pub Rests : Scope → Option (List ℕ) → Typed → Type 0
 Rests scope root t = Fits scope t × OfRoot scope root t
 
-pub part_rests : (e : Expr) (scope : Scope) → DollarsFit scope.dollars → Gives (Rests scope (part e.what).form.root) (typing scope e None)
+pub part_rests : (e : Expr) (scope : Scope) → DollarsFit scope.dollars → Gives (Rests scope (root_of e.what)) (typing scope e None)
 part_rests e scope fine =
-    gives_both (Fits scope) (OfRoot scope (part e.what).form.root) (typing scope e None) (good_any scope (part_of e) (good scope fine e) None) (part_root e scope)
+    gives_both (Fits scope) (OfRoot scope (root_of e.what)) (typing scope e None) (good_any scope (part_of e) (good scope fine e) None) (part_root e scope)
 
 -- the place of what a typed expression reads
 pub record PlaceOf (t : Typed) (p : TypedPlace) : Type 0 where
@@ -269,9 +281,9 @@ gives_known (Err refusal) = tt
 -- the place is what the expression reads, and one of a variable that may be changed
 pub record PlaceIn (scope : Scope) (e : Expr) (p : TypedPlace) : Type 0 where
   pub reads : typing scope e None ≡ Ok (typed p.kind (read_code p.place))
-  pub may : MayChange scope (part e.what).form.root
+  pub may : MayChange scope (root_of e.what)
 
-place_in : (scope : Scope) (e : Expr) (t : Typed) (p : TypedPlace) → typing scope e None ≡ Ok t → MayChange scope (part e.what).form.root → PlaceOf t p
+place_in : (scope : Scope) (e : Expr) (t : Typed) (p : TypedPlace) → typing scope e None ≡ Ok t → MayChange scope (root_of e.what) → PlaceOf t p
     → PlaceIn scope e p
 place_in scope e t p is may of = record {
   reads = is ∙ (λ i. Ok (typed (of.kind i) (of.code i)));
@@ -280,7 +292,7 @@ place_in scope e t p is may of = record {
 
 pub gives_place : (scope : Scope) (e : Expr) → Gives (PlaceIn scope e) (place_typing scope e)
 gives_place scope e =
-    let root = (part e.what).form.root in
+    let root = root_of e.what in
     gives_after (λ t. (typing scope e None ≡ Ok t) × OfRoot scope root t) (PlaceIn scope e) (typing scope e None) _
     (gives_both (λ t. typing scope e None ≡ Ok t) (OfRoot scope root) (typing scope e None) (gives_known (typing scope e None)) (part_root e scope)) (λ t known.
     gives_if_mutable (PlaceIn scope e) e.at scope (part_of e) root _ (λ may.
@@ -290,7 +302,7 @@ gives_place scope e =
 -- it fits, where what `$` parameters mean does
 pub place_fits : (scope : Scope) → DollarsFit scope.dollars → (e : Expr) → Gives (λ p. PlaceFits scope p.place p.kind) (place_typing scope e)
 place_fits scope fine e =
-    let root = (part e.what).form.root in
+    let root = root_of e.what in
     gives_after (Rests scope root) (λ p. PlaceFits scope p.place p.kind) (typing scope e None) _ (part_rests e scope fine) (λ t rests.
     gives_if_mutable (λ p. PlaceFits scope p.place p.kind) e.at scope (part_of e) root _ (λ may.
     gives_on (λ p. PlaceOf t p × FitsPlace scope t.kind p) (λ p. PlaceFits scope p.place p.kind) (place_given e.at t.kind (level_place (out-Code Slot t.code)))

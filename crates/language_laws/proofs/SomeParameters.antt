@@ -2,18 +2,18 @@
 use Rattle.std.specs.Prelude.{◌≡◌, pos, Bool, true, false, [], ◌∷◌, if◌then◌else◌, codes, Option, Some, None, Ok, Err}
 use Rattle.std.specs.Option.{option_map}
 use Rattle.std.specs.Str.{bytes_eq}
-use Rattle.std.proofs.Common.{sym, ap, ap₂, subst, ◌∙◌}
+use Rattle.std.proofs.Common.{ap, ap₂, subst, ◌∙◌}
 use Rattle.spl_value.specs.declared.types.IntKind.TheVariants.{I32}
 use Rattle.spl_value.specs.declared.types.SplType.TheVariants as S
+use Rattle.spl_value.specs.declared.types.SplType.TheViews.{out-SplType}
 use Rattle.spl_value.specs.declared.value.Value.TheVariants as V
 use Rattle.spl_value.proofs.FitsLaws.{fits_int}
-use Rattle.spl_tree.specs.Grammar.{placed}
+use Rattle.spl_tree.specs.Grammar.{Expr, placed}
 use Rattle.spl_tree.specs.declared.code.Code.TheVariants as C
 use Rattle.spl_tree.specs.declared.code.BinaryCode.TheVariants as D
 use Rattle.spl_tree.specs.declared.code.IntegerOperator.TheVariants as I
 use Rattle.spl_tree.specs.declared.expression.BinaryOperator.TheVariants as B
 use Rattle.spl_tree.specs.declared.expression.ExprKind.TheVariants as E
-use Rattle.spl_tree.specs.declared.expression.ExprKind.TheOpen as X
 use Rattle.spl_tree.specs.declared.token.Number.{Number}
 use Rattle.language_model.specs.declared.scope.CheckError.TheVariants as N
 use Rattle.language_model.specs.declared.scope.CheckRefusal.{CheckRefusal}
@@ -24,10 +24,10 @@ use Rattle.language_model.specs.CodeFits.{CodeFits}
 use Rattle.language_model.specs.FitLaws.{no_names, DollarsFit}
 use Rattle.language_model.specs.Scopes.{at_place}
 use Rattle.language_laws.specs.examples.SomeParameters.{five, parameter, with_parameters, one_more}
-use Rattle.language_model.specs.Typing.{Found, after, as_wanted, mismatch, typed, same_types, level_same, level_operator, operands_typed, Part, level_part, typing}
+use Rattle.language_model.specs.Typing.{Found, after, as_wanted, mismatch, typed, same_types, level_same, level_operator, operands_typed, typing}
+use Rattle.language_model.specs.TypingLaws.{parted}
 use Rattle.language_model.proofs.TypingLaws as W
 use Rattle.language_model.proofs.SameTypes.{same_is}
-use Rattle.language_model.proofs.Wanting.{part_at}
 
 -- ---- what it means fits
 
@@ -49,28 +49,23 @@ five_stands name t is = by_cases (bytes_eq (codes "n") name) is
 abbrev number_one : Number
 number_one = record { kind = I32; value = 1 }
 
-abbrev sum_typed : Part → Part → Found Typed
-sum_typed p q = (level_part (X.Binary B.Add (placed 0 p) (placed 5 q))).found 0 (with_parameters (parameter (Ok five) ∷ [])) None
-
 pub one_type : same_types (S.Int I32) (S.Int I32) ≡ true
 one_type = same_is (S.Int I32) (S.Int I32) ∙ ap₂ (level_same same_types) (S.outs-Int I32) (S.outs-Int I32)
-
-operands : sum_typed (level_part (X.Dollar (codes "n"))) (level_part (X.Number number_one))
-    ≡ Ok (record { kind = S.Int I32; code = C.Binary (D.Integers I.Add I32) (C.Literal (V.Int (pos 5))) (C.Literal (V.Int (pos 1))) })
-operands =
-    let scope = with_parameters (parameter (Ok five) ∷ []) in
-    let right = typed (S.Int I32) (C.Literal (V.Int (pos 1))) in
-    ap (λ o. after (operands_typed scope five (placed 0 (level_part (X.Dollar (codes "n")))) (placed 5 (level_part (X.Number number_one))) (level_operator B.Add o)) (as_wanted 0 None)) (S.outs-Int I32)
-    ∙ ap (λ b. after (after (if b then Ok right else mismatch 5) (λ y. Ok (typed (S.Int I32) (C.Binary (D.Integers I.Add I32) five.code y.code)))) (as_wanted 0 None)) one_type
 
 pub sum_has_type : typing (with_parameters (parameter (Ok five) ∷ [])) one_more None
     ≡ Ok (record { kind = S.Int I32; code = C.Binary (D.Integers I.Add I32) (C.Literal (V.Int (pos 5))) (C.Literal (V.Int (pos 1))) })
 sum_has_type =
-    let left = placed 0 (E.Dollar (codes "n")) in
-    let right = placed 5 (E.Number number_one) in
-    ap (λ (p : Part). p.found 0 (with_parameters (parameter (Ok five) ∷ [])) None) (sym (part_at (E.Binary B.Add left right) (X.Binary B.Add left right) (E.outs-Binary B.Add left right)))
-    ∙ ap₂ sum_typed (sym (part_at (E.Dollar (codes "n")) (X.Dollar (codes "n")) (E.outs-Dollar (codes "n")))) (sym (part_at (E.Number number_one) (X.Number number_one) (E.outs-Number number_one)))
-    ∙ operands
+    let scope = with_parameters (parameter (Ok five) ∷ []) in
+    let left : Expr = placed 0 (E.Dollar (codes "n")) in
+    let right : Expr = placed 5 (E.Number number_one) in
+    let number = typed (S.Int I32) (C.Literal (V.Int (pos 1))) in
+    let with_left : Found Typed → Found Typed = λ r. after (after r (λ x. operands_typed scope x (parted left) (parted right) (level_operator B.Add (out-SplType x.kind)))) (as_wanted 0 None) in
+    let with_right : Found Typed → Found Typed = λ r. after (after r (λ y. Ok (typed (S.Int I32) (C.Binary (D.Integers I.Add I32) five.code y.code)))) (as_wanted 0 None) in
+    W.binary_typed B.Add left right 0 scope None
+    ∙ ap with_left (W.dollar_typed (codes "n") 0 scope None)
+    ∙ ap (λ o. after (operands_typed scope five (parted left) (parted right) (level_operator B.Add o)) (as_wanted 0 None)) (S.outs-Int I32)
+    ∙ ap with_right (W.number_typed number_one 5 scope (Some (S.Int I32)))
+    ∙ ap (λ b. with_right (if b then Ok number else mismatch 5)) one_type
 
 pub other_is_unknown : typing (with_parameters (parameter (Ok five) ∷ [])) (placed 7 (E.Dollar (codes "m"))) None
     ≡ Err (record { error = N.Unknown; at = 7; name = Some (codes "m") })

@@ -35,9 +35,10 @@ use Rattle.language_model.specs.declared.scope.CheckRefusal.{CheckRefusal}
 use Rattle.language_model.specs.declared.scope.Scope.{Scope}
 use Rattle.language_model.specs.declared.scope.Signature.{Signature}
 use Rattle.language_model.specs.declared.scope.Typed.{Typed}
+use Rattle.language_model.specs.Readings.{name_of, root_of}
 use Rattle.language_model.specs.Scopes.{At, Meant, OfVariable, OfAttribute, OfPort, Nothing, meant, attribute_of, dollar_of, function_of, unresolved_of}
-use Rattle.language_model.specs.Typing.{Wanted, Found, after, mismatch, as_wanted, same_types, Part, part_typed, meant_typed, dollar_typed, number_typed, Wants, Anything, This, Another, elements_typed, list_typed, wants_list, entries_typed, map_typed, wants_map, are_distinct, gives_each, field_typed, fields_typed, own_fields, tuple_typed, wants_tuple, level_index, member_typed, level_step, steps_typed, select_typed, port_attribute, of_port, of_base, prefix_typed, prefixes_at, prefixes_typed, level_prefix, unary_typed, operands_typed, level_operator, level_in, binary_typed, binary_or_marker, branch_wanted, conditional_typed, arguments_typed, value_given, not_callable, function_typed, call_of, OnFirst, level_first, first_typed, level_changed, is_mutable, if_mutable, changed_typed, argument_count, int32, no_value, arguments_of, call_typed, level_typed, part}
-use Rattle.language_model.specs.TypingLaws.{parted, parts, entry_parts, field_parts, step_part, step_parts}
+use Rattle.language_model.specs.Typing.{Wanted, Found, after, mismatch, as_wanted, same_types, Part, part_typed, meant_typed, dollar_typed, number_typed, Wants, Anything, This, Another, elements_typed, list_typed, wants_list, entries_typed, map_typed, wants_map, are_distinct, gives_each, field_typed, fields_typed, own_fields, tuple_typed, wants_tuple, level_index, member_typed, level_step, steps_typed, select_typed, port_attribute, of_port, of_base, prefix_typed, prefixes_at, prefixes_typed, level_prefix, unary_typed, operands_typed, level_operator, level_in, binary_typed, binary_or_marker, branch_wanted, conditional_typed, arguments_typed, value_given, not_callable, function_typed, call_of, OnFirst, level_first, first_typed, level_changed, is_mutable, if_mutable, changed_typed, argument_count, int32, no_value, arguments_of, call_typed, level_typed}
+use Rattle.language_model.specs.TypingLaws.{parted, parts, entry_parts, field_parts, step_part, step_parts, part}
 use Rattle.language_model.proofs.TypingLaws as L
 use Rattle.language_laws.specs.Places.{Inside, inside, step_places, level_places, kind_places, places, IsAmong, IsHandedOn, of_dollar, of_function, PlaceLaw}
 
@@ -256,7 +257,7 @@ module _ (scope : Scope) (Q : ℕ → Type 0) where
 
   changed_fine : (at : ℕ) (e : Placed Part) (es : List (Placed Part)) (o : Option (List SplType)) → Q at → Good e → AllByRecursion Good es → Fine (changed_typed at scope e es o)
   changed_fine at e es None q g h = inl q
-  changed_fine at e es (Some types) q g h = mutable_fine at e e.what.form.root (arguments_typed scope types es) q g (arguments_fine types es h)
+  changed_fine at e es (Some types) q g h = mutable_fine at e (root_of e.what.0) (arguments_typed scope types es) q g (arguments_fine types es h)
 
   no_value_fine : (at : ℕ) (found : Found (List (Code Slot))) → Q at → Fine found → Fine (no_value at found)
   no_value_fine at found q h = fine_after found _ h (λ xs. inl q)
@@ -304,7 +305,7 @@ stands_on scope P Q on (Err r) h = elim h [ inl at ↦ inl (on r.at at) | inr ha
 
 -- the refusals of an expression stand at its places
 abbrev Keeps : ExprKind → Type 0
-Keeps k = (at : ℕ) (scope : Scope) (wanted : Wanted) → Fine scope (IsAmong (at ∷ kind_places k)) ((part k).found at scope wanted)
+Keeps k = (at : ℕ) (scope : Scope) (wanted : Wanted) → Fine scope (IsAmong (at ∷ kind_places k)) ((part k).1 at scope wanted)
 
 good : (scope : Scope) (Q : ℕ → Type 0) (e : Expr) → Keeps e.what → ((n : ℕ) → IsAmong (places e) n → Q n) → Good scope Q (parted e)
 good scope Q e h on = record { at = on e.at (inl refl); fine = λ wanted. stands_on scope (IsAmong (places e)) Q on (part_typed (parted e) scope wanted) (h e.at scope wanted) }
@@ -381,10 +382,10 @@ unfolding steps_in
 steps_mapped base ss = ap (λ z. places base ++ z) (each_step base ss)
 
 -- an expression whose places are these
-by_places : (k : ExprKind) (ps : List ℕ) (x : ExprKind-F Part) → kind_places k ≡ ps → ((at : ℕ) (scope : Scope) (wanted : Wanted) → (part k).found at scope wanted ≡ level_typed x at scope wanted)
+by_places : (k : ExprKind) (ps : List ℕ) (x : ExprKind-F Part) → kind_places k ≡ ps → ((at : ℕ) (scope : Scope) (wanted : Wanted) → (part k).1 at scope wanted ≡ level_typed x at scope wanted)
     → ((at : ℕ) (scope : Scope) (wanted : Wanted) → Fine scope (IsAmong (at ∷ ps)) (level_typed x at scope wanted)) → Keeps k
 by_places k ps x are is fine at scope wanted =
-    subst (λ (z : List ℕ). Fine scope (IsAmong (at ∷ z)) ((part k).found at scope wanted)) (sym are) (subst (Fine scope (IsAmong (at ∷ ps))) (sym (is at scope wanted)) (fine at scope wanted))
+    subst (λ (z : List ℕ). Fine scope (IsAmong (at ∷ z)) ((part k).1 at scope wanted)) (sym are) (subst (Fine scope (IsAmong (at ∷ ps))) (sym (is at scope wanted)) (fine at scope wanted))
 
 here : (at : ℕ) (ps : List ℕ) → IsAmong (at ∷ ps) at
 here at ps = inl refl
@@ -407,7 +408,7 @@ keeps_steps = record {
       held_fine scope (IsAmong (at ∷ exprs_places es)) at wanted _ (here at (exprs_places es)) (called_fine scope (IsAmong (at ∷ exprs_places es)) at n (parts es) (call_of n) (here at (exprs_places es)) (all_good scope (IsAmong (at ∷ exprs_places es)) es h (λ m among. inr among))));
   select = λ e ss h g. by_places (E.Select e ss) (places e ++ steps_places ss) (X.Select (parted e) (step_parts ss)) (kind_at (E.Select e ss) (X.Select e ss) (E.outs-Select e ss) ∙ steps_mapped e ss) (L.select_typed e ss) (λ at scope wanted.
       held_fine scope (IsAmong (at ∷ (places e ++ steps_places ss))) at wanted _ (here at (places e ++ steps_places ss))
-      (of_base_fine scope (IsAmong (at ∷ (places e ++ steps_places ss))) (parted e).what.form.name (parted e) (step_parts ss)
+      (of_base_fine scope (IsAmong (at ∷ (places e ++ steps_places ss))) (name_of e.what) (parted e) (step_parts ss)
       (good scope (IsAmong (at ∷ (places e ++ steps_places ss))) e h (λ n among. inr (among_left (places e) (steps_places ss) n among)))
       (steps_good scope (IsAmong (at ∷ (places e ++ steps_places ss))) ss g (λ n among. inr (among_right (places e) (steps_places ss) n among)))));
   unary = λ ps e h. by_places (E.Unary ps e) (map (λ p. p.at) ps ++ places e) (X.Unary ps (parted e)) (kind_at (E.Unary ps e) (X.Unary ps e) (E.outs-Unary ps e)) (L.unary_typed ps e) (λ at scope wanted.

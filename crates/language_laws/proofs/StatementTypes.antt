@@ -34,9 +34,11 @@ use Rattle.language_model.specs.BodyFits.{PlaceFits}
 use Rattle.language_model.specs.CodeFits as F
 use Rattle.language_model.specs.CodeFits.{CodeFits, ArgumentsFit}
 use Rattle.language_model.specs.FitLaws.{DollarsFit}
+use Rattle.language_model.specs.Readings.{root_of}
 use Rattle.language_model.specs.Scopes.{At, function_of, unresolved_of}
-use Rattle.language_model.specs.Typing.{Found, after, as_wanted, same_types, mismatch, wrong_call, Part, part_typed, OnFirst, level_first, first_typed, fixed_typed, no_value, level_operator, operands_typed, arguments_typed, int32, level_changed, changed_typed, argument_count, arguments_of, built_in_typed, call_of, part, typing}
-use Rattle.language_model.specs.StatementTyping.{as_part, level_place, place_given, place_typing, assignment_typing, compound_typing, change_made, change_typing, built_in_statement, function_statement, call_statement, level_call, call_typing}
+use Rattle.language_model.specs.Typing.{Found, after, as_wanted, same_types, mismatch, wrong_call, Part, part_typed, OnFirst, level_first, first_typed, fixed_typed, no_value, level_operator, operands_typed, arguments_typed, int32, level_changed, changed_typed, argument_count, arguments_of, built_in_typed, call_of, typing}
+use Rattle.language_model.specs.TypingLaws.{parted}
+use Rattle.language_model.specs.StatementTyping.{level_place, place_given, place_typing, assignment_typing, compound_typing, change_made, change_typing, built_in_statement, function_statement, call_statement, level_call, call_typing}
 use Rattle.language_laws.specs.PlaceLaws.{FitsAnywhere, AssignmentTypeLaw, CompoundTypeLaw, CallTypeLaw}
 use Rattle.language_model.proofs.SameTypes.{equal_from_same}
 use Rattle.language_model.proofs.Standing.{Bears, function_there}
@@ -67,7 +69,7 @@ compound_fits : (scope : Scope) → DollarsFit scope.dollars → (op : BinaryOpe
 compound_fits scope fine op e right =
     gives_after (λ p. PlaceFits scope p.place p.kind) (FitsAnywhere scope) (place_typing scope e) _ (place_fits scope fine e) (λ x fit.
     gives_after (Fits scope) (FitsAnywhere scope) (typing scope e None) _ (good_any scope (part_of e) (good scope fine e) None) (λ t g.
-    gives_after (Fits scope) (FitsAnywhere scope) (operands_typed scope t (as_part e) (as_part right) (level_operator op (out-SplType t.kind))) _
+    gives_after (Fits scope) (FitsAnywhere scope) (operands_typed scope t (parted e) (parted right) (level_operator op (out-SplType t.kind))) _
     (operands_fit scope t (part_of e) (part_of right) (level_operator op (out-SplType t.kind)) g (good scope fine right) (operator_fits op t.kind (out-SplType t.kind) refl)) (λ y h.
     gives_after (FitsAt scope x.kind) (FitsAnywhere scope) (as_wanted e.at (Some x.kind) y) _ (as_wanted_at e.at scope x.kind y h) (λ z i.
     put_fits scope x.place z.code x.kind fit i))))
@@ -97,13 +99,13 @@ record Changing (scope : Scope) (root : Option (List ℕ)) (call : CallName) (y 
   may : MayChange scope root
 
 changing : (at : ℕ) (scope : Scope) (e : Placed Part) (es : List (Placed Part)) (call : CallName) (y : SplType-F SplType) (o : Option (List SplType)) → level_changed call y ≡ o
-    → length (e ∷ es) ≡ argument_count call → AllByRecursion (Good scope) es → Gives (Changing scope e.what.form.root call y) (changed_typed at scope e es o)
+    → length (e ∷ es) ≡ argument_count call → AllByRecursion (Good scope) es → Gives (Changing scope (root_of e.what.0) call y) (changed_typed at scope e es o)
 changing at scope e es call y None is long h = tt
 changing at scope e es call y (Some types) is long h =
     let count : argument_count call ≡ suc (length types) = changed_count call y types is in
     let both : length (e ∷ es) ≡ suc (length types) = long ∙ count in
-    gives_if_mutable (Changing scope e.what.form.root call y) at scope e e.what.form.root (arguments_typed scope types es) (λ may.
-    gives_on (λ xs. ArgumentsFit scope xs types) (Changing scope e.what.form.root call y) (arguments_typed scope types es)
+    gives_if_mutable (Changing scope (root_of e.what.0) call y) at scope e (root_of e.what.0) (arguments_typed scope types es) (λ may.
+    gives_on (λ xs. ArgumentsFit scope xs types) (Changing scope (root_of e.what.0) call y) (arguments_typed scope types es)
     (arguments_fit scope types es (omega (arith, both)) h) (λ xs fit. record { types = types; is = is; fit = fit; may = may }))
 
 append_fits : (at : ℕ) (scope : Scope) (place : Place) (t : SplType) (xs : List (Code Slot)) → PlaceFits scope place (S.List t) → ArgumentsFit scope xs (t ∷ [])
@@ -133,27 +135,27 @@ change_made_fits at scope A.ClearM place t (T.Map k u) types xs e is fit f =
     clear_fits at scope place (S.Map k u) xs (subst (PlaceFits scope place) (rolled t (T.Map k u) (S.Map k u) e (S.rolls-Map k u)) f) (G.clears_map k u)
 change_made_fits at scope _ place t _ types xs e is fit f = absurd cc
 
-change_fits : (at : ℕ) (scope : Scope) → DollarsFit scope.dollars → (call : CallName) (e : Expr) (es : List Expr) → length (map as_part (e ∷ es)) ≡ argument_count call
-    → Gives (FitsAnywhere scope) (change_typing at scope call (map as_part (e ∷ es)))
+change_fits : (at : ℕ) (scope : Scope) → DollarsFit scope.dollars → (call : CallName) (e : Expr) (es : List Expr) → length (map parted (e ∷ es)) ≡ argument_count call
+    → Gives (FitsAnywhere scope) (change_typing at scope call (map parted (e ∷ es)))
 change_fits at scope fine call e es long =
-    let root = (part e.what).form.root in
-    let others = map as_part es in
-    gives_after (Rests scope root) (FitsAnywhere scope) (part_typed (as_part e) scope None) _ (part_rests e scope fine) (λ x rests.
-    gives_after (Changing scope root call (out-SplType x.kind)) (FitsAnywhere scope) (changed_typed at scope (as_part e) others (level_changed call (out-SplType x.kind))) _
-    (changing at scope (as_part e) others call (out-SplType x.kind) (level_changed call (out-SplType x.kind)) refl long (all_good scope fine es)) (λ xs c.
+    let root = root_of e.what in
+    let others = map parted es in
+    gives_after (Rests scope root) (FitsAnywhere scope) (part_typed (parted e) scope None) _ (part_rests e scope fine) (λ x rests.
+    gives_after (Changing scope root call (out-SplType x.kind)) (FitsAnywhere scope) (changed_typed at scope (parted e) others (level_changed call (out-SplType x.kind))) _
+    (changing at scope (parted e) others call (out-SplType x.kind) (level_changed call (out-SplType x.kind)) refl long (all_good scope fine es)) (λ xs c.
     gives_after (FitsPlace scope x.kind) (FitsAnywhere scope) (place_given e.at x.kind (level_place (out-Code Slot x.code))) _ (given_fits e.at scope root x rests.1 c.may rests.0) (λ p fit.
     change_made_fits at scope call p.place x.kind (out-SplType x.kind) c.types xs refl c.is c.fit fit)))
 
-change_or_wrong : (at : ℕ) (scope : Scope) → DollarsFit scope.dollars → (call : CallName) (es : List Expr) → length (map as_part es) ≡ argument_count call
-    → Gives (FitsAnywhere scope) (change_typing at scope call (map as_part es))
+change_or_wrong : (at : ℕ) (scope : Scope) → DollarsFit scope.dollars → (call : CallName) (es : List Expr) → length (map parted es) ≡ argument_count call
+    → Gives (FitsAnywhere scope) (change_typing at scope call (map parted es))
 change_or_wrong at scope fine call [] long = tt
 change_or_wrong at scope fine call (e ∷ es) long = change_fits at scope fine call e es long
 
 counted_fits : (at : ℕ) (scope : Scope) → DollarsFit scope.dollars → (call : CallName) (es : List Expr)
-    → Gives (FitsAnywhere scope) (if length (map as_part es) == argument_count call then change_typing at scope call (map as_part es) else wrong_call at)
+    → Gives (FitsAnywhere scope) (if length (map parted es) == argument_count call then change_typing at scope call (map parted es) else wrong_call at)
 counted_fits at scope fine call es =
-    gives_if (FitsAnywhere scope) (length (map as_part es) == argument_count call) _ _ (λ same.
-    change_or_wrong at scope fine call es (eqb-true (length (map as_part es)) (argument_count call) same)) tt
+    gives_if (FitsAnywhere scope) (length (map parted es) == argument_count call) _ _ (λ same.
+    change_or_wrong at scope fine call es (eqb-true (length (map parted es)) (argument_count call) same)) tt
 
 -- ---- calls that give a value
 
@@ -206,11 +208,11 @@ value_fits at scope call es h =
     evaluate_fits scope t both.0 both.1)
 
 built_in_statement_fits : (at : ℕ) (scope : Scope) → DollarsFit scope.dollars → (call : CallName) (es : List Expr)
-    → Gives (FitsAnywhere scope) (built_in_statement at scope call (map as_part es))
+    → Gives (FitsAnywhere scope) (built_in_statement at scope call (map parted es))
 built_in_statement_fits at scope fine A.AppendM es = counted_fits at scope fine A.AppendM es
 built_in_statement_fits at scope fine A.RemoveM es = counted_fits at scope fine A.RemoveM es
 built_in_statement_fits at scope fine A.ClearM es = counted_fits at scope fine A.ClearM es
-built_in_statement_fits at scope fine call es = value_fits at scope call (map as_part es) (all_good scope fine es)
+built_in_statement_fits at scope fine call es = value_fits at scope call (map parted es) (all_good scope fine es)
 
 -- ---- calls of functions
 
@@ -224,10 +226,10 @@ function_statement_fits at scope name es (Some f) h g =
     (λ xs i purpose l. G.call l scope f.place xs f.what h.0 i)) tt
 
 call_statement_fits : (at : ℕ) (scope : Scope) → DollarsFit scope.dollars → (name : List ℕ) (es : List Expr) (o : Option CallName)
-    → Gives (FitsAnywhere scope) (call_statement at scope name (map as_part es) o)
+    → Gives (FitsAnywhere scope) (call_statement at scope name (map parted es) o)
 call_statement_fits at scope fine name es (Some call) = built_in_statement_fits at scope fine call es
 call_statement_fits at scope fine name es None =
-    function_statement_fits at scope name (map as_part es) (function_of scope name) (function_there scope name) (all_good scope fine es)
+    function_statement_fits at scope name (map parted es) (function_of scope name) (function_there scope name) (all_good scope fine es)
 
 level_call_fits : (at : ℕ) (scope : Scope) → DollarsFit scope.dollars → (x : ExprKind-F ExprKind) → Gives (FitsAnywhere scope) (level_call at scope x)
 level_call_fits at scope fine (X.Call name es) = call_statement_fits at scope fine name es (call_of name)

@@ -1,12 +1,14 @@
 -- The type and the code of a comparison of two ports' attributes, and that code over names.
-use Rattle.std.specs.Prelude.{◌≡◌, ℕ, List, [], ◌∷◌, if◌then◌else◌, codes, None, Ok}
-use Rattle.std.proofs.Common.{sym, ap, ap₂, ◌∙◌}
+use Rattle.std.specs.Prelude.{◌≡◌, List, [], ◌∷◌, if◌then◌else◌, codes, Some, None, Ok}
+use Rattle.std.proofs.Common.{ap, ap₂, ◌∙◌}
 use Rattle.spl_value.specs.declared.types.IntKind.TheVariants.{I32}
 use Rattle.spl_value.specs.declared.types.SplType.TheVariants as S
-use Rattle.spl_tree.specs.Grammar.{placed}
+use Rattle.spl_value.specs.declared.types.SplType.TheViews.{out-SplType}
+use Rattle.spl_tree.specs.Grammar.{Expr, placed}
 use Rattle.spl_tree.specs.declared.expression.BinaryOperator.TheVariants as B
 use Rattle.spl_tree.specs.declared.expression.ExprKind.TheVariants as E
 use Rattle.spl_tree.specs.declared.expression.ExprKind.TheOpen as X
+use Rattle.spl_tree.specs.declared.expression.Step.{Step}
 use Rattle.spl_tree.specs.declared.expression.Step.TheVariants as N
 use Rattle.spl_tree.specs.declared.code.Code.{Code}
 use Rattle.spl_tree.specs.declared.code.Code.TheVariants as C
@@ -18,10 +20,13 @@ use Rattle.spl_tree.specs.declared.code.Slot.TheVariants as L
 use Rattle.language_model.specs.declared.scope.Scope.{Scope}
 use Rattle.language_model.specs.declared.scope.Typed.{Typed}
 use Rattle.language_laws.specs.examples.TwoPorts.{two_ports, comparison}
-use Rattle.language_model.specs.Typing.{Found, after, as_wanted, mismatch, typed, level_operator, operands_typed, Part, level_part, part, typing}
+use Rattle.language_model.specs.Readings.{level_name}
+use Rattle.language_model.specs.Typing.{Found, after, as_wanted, mismatch, typed, of_base, level_operator, operands_typed, typing}
+use Rattle.language_model.specs.TypingLaws.{parted, step_parts}
 use Rattle.language_model.specs.Written.{Of, written, renamed}
 use Rattle.language_laws.proofs.Renaming.{renamed_at}
-use Rattle.language_model.proofs.Wanting.{part_at}
+use Rattle.language_model.proofs.ReadingLaws.{fold_at}
+use Rattle.language_model.proofs.TypingLaws as W
 use Rattle.language_laws.proofs.SomeParameters.{one_type}
 
 abbrev ports : Scope
@@ -32,38 +37,22 @@ compared = C.Binary (D.Order Less) (C.Name (L.Attribute 0 0)) (C.Name (L.Attribu
 
 -- ---- its type
 
-abbrev name_part : List ℕ → Part
-name_part name = level_part (X.Name name)
-
-abbrev attribute_part : Part → Part
-attribute_part port = level_part (X.Select (placed 0 port) (N.Member (placed 2 (codes "k")) ∷ []))
-
-abbrev comparison_typed : Part → Part → Found Typed
-comparison_typed p q = (level_part (X.Binary B.Less (placed 0 p) (placed 6 q))).found 0 ports None
-
-named_part : (name : List ℕ) → part (E.Name name) ≡ name_part name
-named_part name = sym (part_at (E.Name name) (X.Name name) (E.outs-Name name))
-
-attribute_typed : part (E.Select (placed 0 (E.Name (codes "A"))) (N.Member (placed 2 (codes "k")) ∷ [])) ≡ attribute_part (name_part (codes "A"))
-attribute_typed =
-    let steps = N.Member (placed 2 (codes "k")) ∷ [] in
-    let base = placed 0 (E.Name (codes "A")) in
-    sym (part_at (E.Select base steps) (X.Select base steps) (E.outs-Select base steps)) ∙ ap attribute_part (named_part (codes "A"))
-
-operands : comparison_typed (attribute_part (name_part (codes "A"))) (name_part (codes "m")) ≡ Ok (record { kind = S.Bool; code = compared })
-operands =
-    let number = typed (S.Int I32) (C.Name (L.Attribute 0 0)) in
-    let right = typed (S.Int I32) (C.Name (L.Attribute 1 1)) in
-    ap (λ o. after (operands_typed ports number (placed 0 (attribute_part (name_part (codes "A")))) (placed 6 (name_part (codes "m"))) (level_operator B.Less o)) (as_wanted 0 None)) (S.outs-Int I32)
-    ∙ ap (λ b. after (after (if b then Ok right else mismatch 6) (λ y. Ok (typed S.Bool (C.Binary (D.Order Less) number.code y.code)))) (as_wanted 0 None)) one_type
-
 pub comparison_has_type : typing ports comparison None ≡ Ok (record { kind = S.Bool; code = compared })
 comparison_has_type =
-    let left = placed 0 (E.Select (placed 0 (E.Name (codes "A"))) (N.Member (placed 2 (codes "k")) ∷ [])) in
-    let right = placed 6 (E.Name (codes "m")) in
-    ap (λ (p : Part). p.found 0 ports None) (sym (part_at (E.Binary B.Less left right) (X.Binary B.Less left right) (E.outs-Binary B.Less left right)))
-    ∙ ap₂ comparison_typed attribute_typed (named_part (codes "m"))
-    ∙ operands
+    let base : Expr = placed 0 (E.Name (codes "A")) in
+    let steps : List (Step Expr) = N.Member (placed 2 (codes "k")) ∷ [] in
+    let left : Expr = placed 0 (E.Select base steps) in
+    let right : Expr = placed 6 (E.Name (codes "m")) in
+    let number = typed (S.Int I32) (C.Name (L.Attribute 0 0)) in
+    let other = typed (S.Int I32) (C.Name (L.Attribute 1 1)) in
+    let with_left : Found Typed → Found Typed = λ r. after (after r (λ x. operands_typed ports x (parted left) (parted right) (level_operator B.Less (out-SplType x.kind)))) (as_wanted 0 None) in
+    let with_right : Found Typed → Found Typed = λ r. after (after r (λ y. Ok (typed S.Bool (C.Binary (D.Order Less) number.code y.code)))) (as_wanted 0 None) in
+    W.binary_typed B.Less left right 0 ports None
+    ∙ ap with_left (W.select_typed base steps 0 ports None)
+    ∙ ap (λ name. with_left (after (of_base name (parted base) ports (step_parts steps)) (as_wanted 0 None))) (fold_at level_name (E.Name (codes "A")) (X.Name (codes "A")) (E.outs-Name (codes "A")))
+    ∙ ap (λ o. after (operands_typed ports number (parted left) (parted right) (level_operator B.Less o)) (as_wanted 0 None)) (S.outs-Int I32)
+    ∙ ap with_right (W.name_typed (codes "m") 6 ports (Some (S.Int I32)))
+    ∙ ap (λ b. with_right (if b then Ok other else mismatch 6)) one_type
 
 -- ---- its names
 

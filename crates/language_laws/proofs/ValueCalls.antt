@@ -15,8 +15,9 @@ use Rattle.language_model.specs.declared.scope.Signature.{Signature}
 use Rattle.language_model.specs.declared.scope.Typed.{Typed}
 use Rattle.language_model.specs.Scopes.{At, function_of, unresolved_of}
 use Rattle.language_model.specs.Typing.{Found, after, as_wanted, mismatch, wrong_call, Part, arguments_typed, value_given, function_typed, no_value, argument_count, arguments_of, built_in_typed, call_of, call_typed}
+use Rattle.language_model.specs.TypingLaws.{parted}
 use Rattle.language_model.proofs.TypingLaws as W
-use Rattle.language_model.specs.StatementTyping.{as_part, built_in_statement, function_statement, call_statement}
+use Rattle.language_model.specs.StatementTyping.{built_in_statement, function_statement, call_statement}
 use Rattle.language_laws.specs.PlaceLaws as P
 use Rattle.language_laws.specs.PlaceLaws.{IsCallOf, ValueCallLaw}
 use Rattle.language_model.proofs.Wanting.{gives_if, gives_no_call, Some_thing, gives_some}
@@ -82,7 +83,7 @@ as_it_is at (Err refusal) = refl
 
 pub value_call_law : ValueCallLaw
 value_call_law scope at name es t found =
-    let is : call_typed at scope name (map as_part es) (call_of name) ≡ Ok t =
-    sym (W.call_typed name es at scope None ∙ as_it_is at (call_typed at scope name (map as_part es) (call_of name))) ∙ found in
-    let may = gives_from _ (call_typed at scope name (map as_part es) (call_of name)) t (call_may at scope name (map as_part es) (call_of name)) is in
+    let is : call_typed at scope name (map parted es) (call_of name) ≡ Ok t =
+    sym (W.call_typed name es at scope None ∙ as_it_is at (call_typed at scope name (map parted es) (call_of name))) ∙ found in
+    let may = gives_from _ (call_typed at scope name (map parted es) (call_of name)) t (call_may at scope name (map parted es) (call_of name)) is in
     (may.0, called_is at scope name es ∙ may.1, may.2)

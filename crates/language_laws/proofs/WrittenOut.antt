@@ -16,7 +16,8 @@ use Rattle.spl_tree.specs.declared.expression.ExprKind.TheViews.{out-ExprKind}
 use Rattle.spl_tree.specs.declared.expression.ExprKind.TheFolds.{fold_out-ExprKind, map-ExprKind}
 use Rattle.language_model.specs.declared.scope.Scope.{Scope}
 use Rattle.language_model.specs.declared.scope.Typed.{Typed}
-use Rattle.language_model.specs.Typing.{Found, after, as_wanted, Part, level_operator, operands_typed, binary_typed, marker_asked, binary_or_marker, level_form, level_part, part, typing}
+use Rattle.language_model.specs.Readings.{asks_punct, level_asks, level_root, named_marker, root_of}
+use Rattle.language_model.specs.Typing.{Found, after, as_wanted, level_operator, operands_typed, binary_typed, marker_asked, binary_or_marker, typing}
 use Rattle.language_model.proofs.TypingLaws as W
 use Rattle.language_model.specs.StatementTyping.{TypedPlace, place_typing}
 use Rattle.language_laws.specs.PlaceLaws.{written_out, CompoundLaw}
@@ -29,15 +30,14 @@ after_same P (Ok x) f g h same = same x h
 after_same P (Err refusal) f g h same = refl
 
 -- an expression with a root name doesn't ask for the marker
-level_asks : (x : ExprKind-F Part) (name : List ℕ) → (level_form x).root ≡ Some name → (level_form x).asks ≡ false
-level_asks (X.Name n) name root = refl
-level_asks (X.Select base ss) name root = refl
-level_asks _ name root = absurd cc
+root_alone : (x : ExprKind-F ExprKind) (name : List ℕ) → level_root (map-ExprKind ExprKind (Option (List ℕ)) root_of x) ≡ Some name
+    → level_asks (map-ExprKind ExprKind Bool asks_punct x) ≡ false
+root_alone (X.Name n) name root = refl
+root_alone (X.Select base ss) name root = refl
+root_alone _ name root = absurd cc
 
-part_asks : (e : ExprKind) (name : List ℕ) → (part e).form.root ≡ Some name → (part e).form.asks ≡ false
-part_asks e name root =
-    let is : part e ≡ level_part (map-ExprKind ExprKind Part part (out-ExprKind e)) = fold_out-ExprKind Part level_part e in
-    ap (λ (p : Part). p.form.asks) is ∙ level_asks (map-ExprKind ExprKind Part part (out-ExprKind e)) name (sym (ap (λ (p : Part). p.form.root) is) ∙ root)
+root_asks : (e : ExprKind) (name : List ℕ) → root_of e ≡ Some name → asks_punct e ≡ false
+root_asks e name root = fold_out-ExprKind Bool level_asks e ∙ root_alone (out-ExprKind e) name (sym (fold_out-ExprKind (Option (List ℕ)) level_root e) ∙ root)
 
 -- an operator other than `in` on its operands
 between_operands : (scope : Scope) (op : BinaryOperator) (e right : Expr) → op ≢ B.In
@@ -50,13 +50,13 @@ not_asked : (punct asks : Bool) (op : BinaryOperator) (m : Option Marker) → as
 not_asked true asks op m none = rw none refl
 not_asked false asks op m none = refl
 
-written_typing : (scope : Scope) (op : BinaryOperator) (e right : Expr) (x : TypedPlace) → op ≢ B.In → (part e.what).form.asks ≡ false
+written_typing : (scope : Scope) (op : BinaryOperator) (e right : Expr) (x : TypedPlace) → op ≢ B.In → asks_punct e.what ≡ false
     → typing scope (written_out op e right) (Some x.kind)
     ≡ after (after (typing scope e None) (λ t. operands_typed scope t (part_of e) (part_of right) (level_operator op (out-SplType t.kind)))) (as_wanted e.at (Some x.kind))
 written_typing scope op e right x other none =
     W.binary_typed op e right e.at scope (Some x.kind)
     ∙ ap (λ asked. after (binary_or_marker asked scope op (part_of e) (part_of right)) (as_wanted e.at (Some x.kind)))
-    (not_asked scope.punct (part e.what).form.asks op (part right.what).form.marker none)
+    (not_asked scope.punct (asks_punct e.what) op (named_marker right.what) none)
     ∙ ap (λ r. after r (as_wanted e.at (Some x.kind))) (between_operands scope op e right other)
 
 pub compound_law : CompoundLaw
@@ -64,6 +64,6 @@ compound_law scope op e right other =
     after_same (PlaceIn scope e) (place_typing scope e) _ _ (gives_place scope e) (λ x of.
     let operands : Typed → Found Typed = λ t. operands_typed scope t (part_of e) (part_of right) (level_operator op (out-SplType t.kind)) in
     let change : Typed → Found Statement = λ t. Ok (Y.Change x.place (H.Put t.code)) in
-    sym (ap (λ r. after r change) (written_typing scope op e right x other (part_asks e.what of.may.0 of.may.1))
+    sym (ap (λ r. after r change) (written_typing scope op e right x other (root_asks e.what of.may.0 of.may.1))
     ∙ after_after (after (typing scope e None) operands) (as_wanted e.at (Some x.kind)) change
     ∙ after_after (typing scope e None) operands (λ y. after (as_wanted e.at (Some x.kind) y) change)))

@@ -3,6 +3,7 @@ pub mod FoundAnswers
 pub mod DefinedTypes
 pub mod Standing
 pub mod TypeInduction
+pub mod ReadingLaws
 pub mod TypingLaws
 pub mod BodyTypingLaws
 pub mod TypeNameLaws

@@ -29,154 +29,66 @@ use Rattle.spl_tree.specs.declared.expression.ExprKind.TheVariants as V
 use Rattle.spl_tree.specs.declared.expression.ExprKind.TheOpen as X
 use Rattle.spl_tree.specs.declared.expression.ExprKind.TheOpen.{ExprKind-F}
 use Rattle.spl_tree.specs.declared.expression.ExprKind.TheViews.{out-ExprKind}
-use Rattle.spl_tree.specs.declared.expression.ExprKind.TheFolds.{fold_out-ExprKind, map-ExprKind}
+use Rattle.spl_tree.specs.declared.expression.ExprKind.TheFolds.{map-ExprKind}
 use Rattle.language_model.specs.declared.scope.Scope.{Scope}
-use Rattle.language_model.specs.Typing.{level_same, same_types, Wanted, Part, level_form, level_typed, level_part, part}
-use Rattle.language_model.specs.TypingLaws.{entry_parts, field_parts, parted, parts, step_parts}
+use Rattle.language_model.specs.Typing.{level_same, same_types, Wanted, Part, level_typed}
+use Rattle.language_model.specs.TypingLaws.{entry_parts, field_parts, parted, parts, step_parts, part}
+use Rattle.language_model.proofs.ReadingLaws.{para_at, steps_of}
 use Rattle.language_model.proofs.SameTypes.{equal_from_same, same_is, int_same, bool_same, text_same}
 use Rattle.spl_value.proofs.Bools.{both_true}
 
 -- ---- one equation for each form of expression
 
-part_at_level : (k : ExprKind) (x : ExprKind-F ExprKind) → out-ExprKind k ≡ x → part k ≡ level_part (map-ExprKind ExprKind Part part x)
-part_at_level k x e = fold_out-ExprKind Part level_part k ∙ ap (λ y. level_part (map-ExprKind ExprKind Part part y)) e
-
-abbrev pub steps_of : {A : Type 0} → ExprKind-F A → List (Step (Placed A))
-steps_of (X.Select base ss) = ss
-steps_of _ = []
+pub typed_at : (k : ExprKind) (x : ExprKind-F ExprKind) → out-ExprKind k ≡ x → (part k).1 ≡ level_typed (map-ExprKind ExprKind Part part x)
+typed_at k x e = para_at level_typed k x e
 
 steps_mapped : (base : Expr) (ss : List (Step Expr)) → steps_of (map-ExprKind ExprKind Part part (X.Select base ss)) ≡ step_parts ss
 steps_mapped base [] = refl
 steps_mapped base (N.Member m ∷ ss) = ap (λ ys. N.Member m ∷ ys) (steps_mapped base ss)
 steps_mapped base (N.Index e ∷ ss) = ap (λ ys. N.Index (parted e) ∷ ys) (steps_mapped base ss)
 
-part_of_name : (name : List ℕ) → part (V.Name name) ≡ level_part (X.Name name)
-part_of_name name = part_at_level (V.Name name) (X.Name name) (V.outs-Name name)
+pub name_typed : (name : List ℕ) (at : ℕ) (scope : Scope) (wanted : Wanted) → (part (V.Name name)).1 at scope wanted ≡ level_typed (X.Name name) at scope wanted
+name_typed name at scope wanted = ap (λ f. f at scope wanted) (typed_at (V.Name name) (X.Name name) (V.outs-Name name))
 
-pub name_form : (name : List ℕ) → (part (V.Name name)).form ≡ level_form (X.Name name)
-name_form name = ap (λ p. p.form) (part_of_name name)
+pub dollar_typed : (name : List ℕ) (at : ℕ) (scope : Scope) (wanted : Wanted) → (part (V.Dollar name)).1 at scope wanted ≡ level_typed (X.Dollar name) at scope wanted
+dollar_typed name at scope wanted = ap (λ f. f at scope wanted) (typed_at (V.Dollar name) (X.Dollar name) (V.outs-Dollar name))
 
-pub name_typed : (name : List ℕ) (at : ℕ) (scope : Scope) (wanted : Wanted) → (part (V.Name name)).found at scope wanted ≡ level_typed (X.Name name) at scope wanted
-name_typed name at scope wanted = ap (λ p. p.found at scope wanted) (part_of_name name)
+pub number_typed : (n : Number) (at : ℕ) (scope : Scope) (wanted : Wanted) → (part (V.Number n)).1 at scope wanted ≡ level_typed (X.Number n) at scope wanted
+number_typed n at scope wanted = ap (λ f. f at scope wanted) (typed_at (V.Number n) (X.Number n) (V.outs-Number n))
 
-part_of_dollar : (name : List ℕ) → part (V.Dollar name) ≡ level_part (X.Dollar name)
-part_of_dollar name = part_at_level (V.Dollar name) (X.Dollar name) (V.outs-Dollar name)
+pub text_typed : (bytes : List ℕ) (at : ℕ) (scope : Scope) (wanted : Wanted) → (part (V.Text bytes)).1 at scope wanted ≡ level_typed (X.Text bytes) at scope wanted
+text_typed bytes at scope wanted = ap (λ f. f at scope wanted) (typed_at (V.Text bytes) (X.Text bytes) (V.outs-Text bytes))
 
-pub dollar_form : (name : List ℕ) → (part (V.Dollar name)).form ≡ level_form (X.Dollar name)
-dollar_form name = ap (λ p. p.form) (part_of_dollar name)
+pub bool_typed : (b : Bool) (at : ℕ) (scope : Scope) (wanted : Wanted) → (part (V.Bool b)).1 at scope wanted ≡ level_typed (X.Bool b) at scope wanted
+bool_typed b at scope wanted = ap (λ f. f at scope wanted) (typed_at (V.Bool b) (X.Bool b) (V.outs-Bool b))
 
-pub dollar_typed : (name : List ℕ) (at : ℕ) (scope : Scope) (wanted : Wanted) → (part (V.Dollar name)).found at scope wanted ≡ level_typed (X.Dollar name) at scope wanted
-dollar_typed name at scope wanted = ap (λ p. p.found at scope wanted) (part_of_dollar name)
+pub group_typed : (e : Expr) (at : ℕ) (scope : Scope) (wanted : Wanted) → (part (V.Group e)).1 at scope wanted ≡ level_typed (X.Group (parted e)) at scope wanted
+group_typed e at scope wanted = ap (λ f. f at scope wanted) (typed_at (V.Group e) (X.Group e) (V.outs-Group e))
 
-part_of_number : (n : Number) → part (V.Number n) ≡ level_part (X.Number n)
-part_of_number n = part_at_level (V.Number n) (X.Number n) (V.outs-Number n)
+pub list_typed : (es : List Expr) (at : ℕ) (scope : Scope) (wanted : Wanted) → (part (V.List es)).1 at scope wanted ≡ level_typed (X.List (parts es)) at scope wanted
+list_typed es at scope wanted = ap (λ f. f at scope wanted) (typed_at (V.List es) (X.List es) (V.outs-List es))
 
-pub number_form : (n : Number) → (part (V.Number n)).form ≡ level_form (X.Number n)
-number_form n = ap (λ p. p.form) (part_of_number n)
+pub map_typed : (es : List (Expr × Expr)) (at : ℕ) (scope : Scope) (wanted : Wanted) → (part (V.Map es)).1 at scope wanted ≡ level_typed (X.Map (entry_parts es)) at scope wanted
+map_typed es at scope wanted = ap (λ f. f at scope wanted) (typed_at (V.Map es) (X.Map es) (V.outs-Map es))
 
-pub number_typed : (n : Number) (at : ℕ) (scope : Scope) (wanted : Wanted) → (part (V.Number n)).found at scope wanted ≡ level_typed (X.Number n) at scope wanted
-number_typed n at scope wanted = ap (λ p. p.found at scope wanted) (part_of_number n)
+pub tuple_typed : (fs : List (Field Expr)) (at : ℕ) (scope : Scope) (wanted : Wanted) → (part (V.Tuple fs)).1 at scope wanted ≡ level_typed (X.Tuple (field_parts fs)) at scope wanted
+tuple_typed fs at scope wanted = ap (λ f. f at scope wanted) (typed_at (V.Tuple fs) (X.Tuple fs) (V.outs-Tuple fs))
 
-part_of_text : (bytes : List ℕ) → part (V.Text bytes) ≡ level_part (X.Text bytes)
-part_of_text bytes = part_at_level (V.Text bytes) (X.Text bytes) (V.outs-Text bytes)
+pub call_typed : (name : List ℕ) (es : List Expr) (at : ℕ) (scope : Scope) (wanted : Wanted) → (part (V.Call name es)).1 at scope wanted ≡ level_typed (X.Call name (parts es)) at scope wanted
+call_typed name es at scope wanted = ap (λ f. f at scope wanted) (typed_at (V.Call name es) (X.Call name es) (V.outs-Call name es))
 
-pub text_form : (bytes : List ℕ) → (part (V.Text bytes)).form ≡ level_form (X.Text bytes)
-text_form bytes = ap (λ p. p.form) (part_of_text bytes)
+pub select_typed : (base : Expr) (ss : List (Step Expr)) (at : ℕ) (scope : Scope) (wanted : Wanted) → (part (V.Select base ss)).1 at scope wanted ≡ level_typed (X.Select (parted base) (step_parts ss)) at scope wanted
+select_typed base ss at scope wanted =
+    ap (λ f. f at scope wanted) (typed_at (V.Select base ss) (X.Select base ss) (V.outs-Select base ss) ∙ ap (λ ys. level_typed (X.Select (parted base) ys)) (steps_mapped base ss))
 
-pub text_typed : (bytes : List ℕ) (at : ℕ) (scope : Scope) (wanted : Wanted) → (part (V.Text bytes)).found at scope wanted ≡ level_typed (X.Text bytes) at scope wanted
-text_typed bytes at scope wanted = ap (λ p. p.found at scope wanted) (part_of_text bytes)
+pub unary_typed : (ps : List (Placed PrefixOperator)) (e : Expr) (at : ℕ) (scope : Scope) (wanted : Wanted) → (part (V.Unary ps e)).1 at scope wanted ≡ level_typed (X.Unary ps (parted e)) at scope wanted
+unary_typed ps e at scope wanted = ap (λ f. f at scope wanted) (typed_at (V.Unary ps e) (X.Unary ps e) (V.outs-Unary ps e))
 
-part_of_bool : (b : Bool) → part (V.Bool b) ≡ level_part (X.Bool b)
-part_of_bool b = part_at_level (V.Bool b) (X.Bool b) (V.outs-Bool b)
+pub binary_typed : (op : BinaryOperator) (l r : Expr) (at : ℕ) (scope : Scope) (wanted : Wanted) → (part (V.Binary op l r)).1 at scope wanted ≡ level_typed (X.Binary op (parted l) (parted r)) at scope wanted
+binary_typed op l r at scope wanted = ap (λ f. f at scope wanted) (typed_at (V.Binary op l r) (X.Binary op l r) (V.outs-Binary op l r))
 
-pub bool_form : (b : Bool) → (part (V.Bool b)).form ≡ level_form (X.Bool b)
-bool_form b = ap (λ p. p.form) (part_of_bool b)
-
-pub bool_typed : (b : Bool) (at : ℕ) (scope : Scope) (wanted : Wanted) → (part (V.Bool b)).found at scope wanted ≡ level_typed (X.Bool b) at scope wanted
-bool_typed b at scope wanted = ap (λ p. p.found at scope wanted) (part_of_bool b)
-
-part_of_group : (e : Expr) → part (V.Group e) ≡ level_part (X.Group (parted e))
-part_of_group e = part_at_level (V.Group e) (X.Group e) (V.outs-Group e)
-
-pub group_form : (e : Expr) → (part (V.Group e)).form ≡ level_form (X.Group (parted e))
-group_form e = ap (λ p. p.form) (part_of_group e)
-
-pub group_typed : (e : Expr) (at : ℕ) (scope : Scope) (wanted : Wanted) → (part (V.Group e)).found at scope wanted ≡ level_typed (X.Group (parted e)) at scope wanted
-group_typed e at scope wanted = ap (λ p. p.found at scope wanted) (part_of_group e)
-
-part_of_list : (es : List Expr) → part (V.List es) ≡ level_part (X.List (parts es))
-part_of_list es = part_at_level (V.List es) (X.List es) (V.outs-List es)
-
-pub list_form : (es : List Expr) → (part (V.List es)).form ≡ level_form (X.List (parts es))
-list_form es = ap (λ p. p.form) (part_of_list es)
-
-pub list_typed : (es : List Expr) (at : ℕ) (scope : Scope) (wanted : Wanted) → (part (V.List es)).found at scope wanted ≡ level_typed (X.List (parts es)) at scope wanted
-list_typed es at scope wanted = ap (λ p. p.found at scope wanted) (part_of_list es)
-
-part_of_map : (es : List (Expr × Expr)) → part (V.Map es) ≡ level_part (X.Map (entry_parts es))
-part_of_map es = part_at_level (V.Map es) (X.Map es) (V.outs-Map es)
-
-pub map_form : (es : List (Expr × Expr)) → (part (V.Map es)).form ≡ level_form (X.Map (entry_parts es))
-map_form es = ap (λ p. p.form) (part_of_map es)
-
-pub map_typed : (es : List (Expr × Expr)) (at : ℕ) (scope : Scope) (wanted : Wanted) → (part (V.Map es)).found at scope wanted ≡ level_typed (X.Map (entry_parts es)) at scope wanted
-map_typed es at scope wanted = ap (λ p. p.found at scope wanted) (part_of_map es)
-
-part_of_tuple : (fs : List (Field Expr)) → part (V.Tuple fs) ≡ level_part (X.Tuple (field_parts fs))
-part_of_tuple fs = part_at_level (V.Tuple fs) (X.Tuple fs) (V.outs-Tuple fs)
-
-pub tuple_form : (fs : List (Field Expr)) → (part (V.Tuple fs)).form ≡ level_form (X.Tuple (field_parts fs))
-tuple_form fs = ap (λ p. p.form) (part_of_tuple fs)
-
-pub tuple_typed : (fs : List (Field Expr)) (at : ℕ) (scope : Scope) (wanted : Wanted) → (part (V.Tuple fs)).found at scope wanted ≡ level_typed (X.Tuple (field_parts fs)) at scope wanted
-tuple_typed fs at scope wanted = ap (λ p. p.found at scope wanted) (part_of_tuple fs)
-
-part_of_call : (name : List ℕ) (es : List Expr) → part (V.Call name es) ≡ level_part (X.Call name (parts es))
-part_of_call name es = part_at_level (V.Call name es) (X.Call name es) (V.outs-Call name es)
-
-pub call_form : (name : List ℕ) (es : List Expr) → (part (V.Call name es)).form ≡ level_form (X.Call name (parts es))
-call_form name es = ap (λ p. p.form) (part_of_call name es)
-
-pub call_typed : (name : List ℕ) (es : List Expr) (at : ℕ) (scope : Scope) (wanted : Wanted) → (part (V.Call name es)).found at scope wanted ≡ level_typed (X.Call name (parts es)) at scope wanted
-call_typed name es at scope wanted = ap (λ p. p.found at scope wanted) (part_of_call name es)
-
-part_of_select : (base : Expr) (ss : List (Step Expr)) → part (V.Select base ss) ≡ level_part (X.Select (parted base) (step_parts ss))
-part_of_select base ss = part_at_level (V.Select base ss) (X.Select base ss) (V.outs-Select base ss) ∙ ap (λ ys. level_part (X.Select (parted base) ys)) (steps_mapped base ss)
-
-pub select_form : (base : Expr) (ss : List (Step Expr)) → (part (V.Select base ss)).form ≡ level_form (X.Select (parted base) (step_parts ss))
-select_form base ss = ap (λ p. p.form) (part_of_select base ss)
-
-pub select_typed : (base : Expr) (ss : List (Step Expr)) (at : ℕ) (scope : Scope) (wanted : Wanted) → (part (V.Select base ss)).found at scope wanted ≡ level_typed (X.Select (parted base) (step_parts ss)) at scope wanted
-select_typed base ss at scope wanted = ap (λ p. p.found at scope wanted) (part_of_select base ss)
-
-part_of_unary : (ps : List (Placed PrefixOperator)) (e : Expr) → part (V.Unary ps e) ≡ level_part (X.Unary ps (parted e))
-part_of_unary ps e = part_at_level (V.Unary ps e) (X.Unary ps e) (V.outs-Unary ps e)
-
-pub unary_form : (ps : List (Placed PrefixOperator)) (e : Expr) → (part (V.Unary ps e)).form ≡ level_form (X.Unary ps (parted e))
-unary_form ps e = ap (λ p. p.form) (part_of_unary ps e)
-
-pub unary_typed : (ps : List (Placed PrefixOperator)) (e : Expr) (at : ℕ) (scope : Scope) (wanted : Wanted) → (part (V.Unary ps e)).found at scope wanted ≡ level_typed (X.Unary ps (parted e)) at scope wanted
-unary_typed ps e at scope wanted = ap (λ p. p.found at scope wanted) (part_of_unary ps e)
-
-part_of_binary : (op : BinaryOperator) (l r : Expr) → part (V.Binary op l r) ≡ level_part (X.Binary op (parted l) (parted r))
-part_of_binary op l r = part_at_level (V.Binary op l r) (X.Binary op l r) (V.outs-Binary op l r)
-
-pub binary_form : (op : BinaryOperator) (l r : Expr) → (part (V.Binary op l r)).form ≡ level_form (X.Binary op (parted l) (parted r))
-binary_form op l r = ap (λ p. p.form) (part_of_binary op l r)
-
-pub binary_typed : (op : BinaryOperator) (l r : Expr) (at : ℕ) (scope : Scope) (wanted : Wanted) → (part (V.Binary op l r)).found at scope wanted ≡ level_typed (X.Binary op (parted l) (parted r)) at scope wanted
-binary_typed op l r at scope wanted = ap (λ p. p.found at scope wanted) (part_of_binary op l r)
-
-part_of_conditional : (c a b : Expr) → part (V.Conditional c a b) ≡ level_part (X.Conditional (parted c) (parted a) (parted b))
-part_of_conditional c a b = part_at_level (V.Conditional c a b) (X.Conditional c a b) (V.outs-Conditional c a b)
-
-pub conditional_form : (c a b : Expr) → (part (V.Conditional c a b)).form ≡ level_form (X.Conditional (parted c) (parted a) (parted b))
-conditional_form c a b = ap (λ p. p.form) (part_of_conditional c a b)
-
-pub conditional_typed : (c a b : Expr) (at : ℕ) (scope : Scope) (wanted : Wanted) → (part (V.Conditional c a b)).found at scope wanted ≡ level_typed (X.Conditional (parted c) (parted a) (parted b)) at scope wanted
-conditional_typed c a b at scope wanted = ap (λ p. p.found at scope wanted) (part_of_conditional c a b)
-
-pub ruleset form_laws = (name_form, dollar_form, number_form, text_form, bool_form, group_form, list_form, map_form, tuple_form, call_form, select_form, unary_form, binary_form, conditional_form)
+pub conditional_typed : (c a b : Expr) (at : ℕ) (scope : Scope) (wanted : Wanted) → (part (V.Conditional c a b)).1 at scope wanted ≡ level_typed (X.Conditional (parted c) (parted a) (parted b)) at scope wanted
+conditional_typed c a b at scope wanted = ap (λ f. f at scope wanted) (typed_at (V.Conditional c a b) (X.Conditional c a b) (V.outs-Conditional c a b))
 
 pub ruleset typing_laws = (name_typed, dollar_typed, number_typed, text_typed, bool_typed, group_typed, list_typed, map_typed, tuple_typed, call_typed, select_typed, unary_typed, binary_typed, conditional_typed)
 

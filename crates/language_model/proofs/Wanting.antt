@@ -14,15 +14,17 @@ use Rattle.spl_tree.specs.declared.expression.ExprKind.TheVariants as E
 use Rattle.spl_tree.specs.declared.expression.ExprKind.TheOpen as X
 use Rattle.spl_tree.specs.declared.expression.ExprKind.TheOpen.{ExprKind-F}
 use Rattle.spl_tree.specs.declared.expression.ExprKind.TheViews.{out-ExprKind}
-use Rattle.spl_tree.specs.declared.expression.ExprKind.TheFolds.{fold_out-ExprKind, map-ExprKind}
+use Rattle.spl_tree.specs.declared.expression.ExprKind.TheFolds.{map-ExprKind}
 use Rattle.spl_tree.specs.Grammar.{Expr}
 use Rattle.spl_tree.proofs.Induction.{ExprSteps, expr_ind}
 use Rattle.language_model.specs.declared.scope.CheckRefusal.{CheckRefusal}
 use Rattle.language_model.specs.declared.scope.Scope.{Scope}
 use Rattle.language_model.specs.declared.scope.Typed.{Typed}
-use Rattle.language_model.specs.Typing.{Wanted, Found, after, mismatch, as_wanted, same_types, Part, part_typed, Wants, Anything, This, Another, level_element, wants_list, level_pair, wants_map, level_schema, wants_tuple, elements_typed, list_typed, entries_typed, map_typed, are_distinct, gives_each, fields_typed, own_fields, tuple_typed, not_callable, branch_wanted, conditional_typed, level_part, part, typing}
+use Rattle.language_model.specs.Typing.{Wanted, Found, after, mismatch, as_wanted, same_types, Part, part_typed, Wants, Anything, This, Another, level_element, wants_list, level_pair, wants_map, level_schema, wants_tuple, elements_typed, list_typed, entries_typed, map_typed, are_distinct, gives_each, fields_typed, own_fields, tuple_typed, not_callable, branch_wanted, conditional_typed, level_typed, typing}
+use Rattle.language_model.specs.TypingLaws.{TypingAt, part}
 use Rattle.language_model.specs.FitLaws.{WantedLaw}
 use Rattle.language_model.proofs.SameTypes.{equal_from_same}
+use Rattle.language_model.proofs.TypingLaws.{typed_at}
 use Rattle.language_model.proofs.FoundAnswers.{Gives, gives_after, gives_from}
 
 pub gives_both : {A : Type 0} (P Q : A → Type 0) (r : Found A) → Gives P r → Gives Q r → Gives (λ x. P x × Q x) r
@@ -143,24 +145,24 @@ tuple_meets at scope wanted Anything fs h =
 -- ---- expressions
 
 -- a part has the type that its place wants
-abbrev pub Keeps : Part → Type 0
-Keeps p = (at : ℕ) (scope : Scope) (wanted : Wanted) → Gives (MeetsIn wanted) (p.found at scope wanted)
+abbrev pub Keeps : TypingAt → Type 0
+Keeps f = (at : ℕ) (scope : Scope) (wanted : Wanted) → Gives (MeetsIn wanted) (f at scope wanted)
 
 -- its type is that of its first branch
-conditional_meets : (scope : Scope) (wanted : Wanted) (c a b : Placed Part) → Keeps a.what → Gives (MeetsIn wanted) (conditional_typed scope wanted c a b)
+conditional_meets : (scope : Scope) (wanted : Wanted) (c a b : Placed Part) → Keeps a.what.1 → Gives (MeetsIn wanted) (conditional_typed scope wanted c a b)
 conditional_meets scope wanted c a b h =
     gives_last wanted (part_typed c scope (Some S.Bool)) _ (λ x.
     gives_after (MeetsIn wanted) (MeetsIn wanted) (part_typed a scope wanted) _ (h a.at scope wanted) (λ y meets.
     gives_last wanted (part_typed b scope (branch_wanted wanted y.kind)) _ (λ z. meets)))
 
-pub part_at : (e : ExprKind) (x : ExprKind-F ExprKind) → out-ExprKind e ≡ x → level_part (map-ExprKind ExprKind Part part x) ≡ part e
-part_at e x out = sym (fold_out-ExprKind Part level_part e ∙ ap (λ y. level_part (map-ExprKind ExprKind Part part y)) out)
+pub part_at : (e : ExprKind) (x : ExprKind-F ExprKind) → out-ExprKind e ≡ x → level_typed (map-ExprKind ExprKind Part part x) ≡ (part e).1
+part_at e x out = sym (typed_at e x out)
 
 -- an expression as a part of another
 abbrev pub part_of : Expr → Placed Part
 part_of e = record { at = e.at; what = part e.what }
 
-keeps_steps : ExprSteps (λ e. Keeps (part e))
+keeps_steps : ExprSteps (λ e. Keeps (part e).1)
 keeps_steps = record {
   name = λ n. subst Keeps (part_at (E.Name n) (X.Name n) (E.outs-Name n)) (λ at scope wanted. after_as_wanted at wanted _);
   dollar = λ n. subst Keeps (part_at (E.Dollar n) (X.Dollar n) (E.outs-Dollar n)) (λ at scope wanted. after_as_wanted at wanted _);
@@ -178,8 +180,8 @@ keeps_steps = record {
   conditional = λ c a b f h g. subst Keeps (part_at (E.Conditional c a b) (X.Conditional c a b) (E.outs-Conditional c a b)) (λ at scope wanted. conditional_meets scope wanted (part_of c) (part_of a) (part_of b) h);
 }
 
-pub keeps : (e : ExprKind) → Keeps (part e)
-keeps = expr_ind (λ e. Keeps (part e)) keeps_steps
+pub keeps : (e : ExprKind) → Keeps (part e).1
+keeps = expr_ind (λ e. Keeps (part e).1) keeps_steps
 
 pub wanted_law : WantedLaw
 wanted_law scope e u t found = gives_from (MeetsIn (Some u)) (typing scope e (Some u)) t (keeps e.what e.at scope (Some u)) found

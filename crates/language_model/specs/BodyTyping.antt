@@ -30,10 +30,11 @@ use Rattle.spl_tree.specs.TypeGrammar.{TypeExpr}
 use Rattle.language_model.specs.declared.scope.Scope.{Scope}
 use Rattle.language_model.specs.declared.scope.Variable.{Variable}
 use Rattle.language_model.specs.BodyFits.{Purpose, OfFunction, OfHandler, with_variable}
+use Rattle.language_model.specs.Readings.{named_marker}
 use Rattle.language_model.specs.Scopes.{At, first_from}
 use Rattle.language_model.specs.StatementTyping.{assignment_typing, compound_typing, call_typing}
 use Rattle.language_model.specs.TypeNames.{Types, type_meant}
-use Rattle.language_model.specs.Typing.{Found, after, mismatch, part, same_types, typing, unknown, wrong_call}
+use Rattle.language_model.specs.Typing.{Found, after, mismatch, same_types, typing, unknown, wrong_call}
 
 -- where a body stands: what the names of types mean, what it is the body of, and the names of the output ports to which it may submit
 pub record Setting : Type 0 where
@@ -128,7 +129,7 @@ is_window _ = false
 -- `Sys.WindowMarker`, in parentheses or not, or a tuple of the port's attributes
 abbrev pub submitted : Scope → ℕ → List (Named SplType) → Expr → Found Statement
 submitted scope port schema e =
-    if is_window (part e.what).form.marker then Ok (T.SubmitWindow port)
+    if is_window (named_marker e.what) then Ok (T.SubmitWindow port)
     else after (typing scope e (Some (S.Tuple schema))) (λ x. Ok (T.Submit port x.code))
 
 abbrev pub submitted_on : Scope → Expr → ℕ → Option (List (Named SplType)) → Placed (List ℕ) → Found Statement

@@ -2,6 +2,7 @@ pub mod steps
 pub mod Kinds
 pub mod Scopes
 pub mod After
+pub mod Readings
 pub mod Typing
 pub mod Finds
 pub mod Outcomes

@@ -26,11 +26,9 @@ use Rattle.spl_tree.specs.declared.expression.Placed.{Placed}
 use Rattle.language_model.specs.declared.scope.Scope.{Scope}
 use Rattle.language_model.specs.declared.scope.Signature.{Signature}
 use Rattle.language_model.specs.declared.scope.CheckError.TheVariants as E
+use Rattle.language_model.specs.Readings.{root_of}
 use Rattle.language_model.specs.Scopes.{At, function_of, unresolved_of}
-use Rattle.language_model.specs.Typing.{Part, Found, after, as_wanted, refused, not_callable, wrong_call, part, part_typed, if_mutable, changed_typed, level_changed, argument_count, arguments_typed, built_in_typed, call_of, level_operator, operands_typed, typing}
-
-abbrev pub as_part : Expr → Placed Part
-as_part e = record { at = e.at; what = part e.what }
+use Rattle.language_model.specs.Typing.{Part, Found, after, as_wanted, refused, not_callable, wrong_call, parted, part_typed, if_mutable, changed_typed, level_changed, argument_count, arguments_typed, built_in_typed, call_of, level_operator, operands_typed, typing}
 
 -- ---- places
 
@@ -56,7 +54,7 @@ place_given at t (Some place) = Ok (record { place = place; kind = t })
 -- an expression that reads a place: a variable that may be changed, or what is taken of one in turn
 abbrev pub place_typing : Scope → Expr → Found TypedPlace
 place_typing scope e =
-    after (typing scope e None) (λ t. if_mutable e.at scope (as_part e) (part e.what).form.root (place_given e.at t.kind (level_place (out-Code Slot t.code))))
+    after (typing scope e None) (λ t. if_mutable e.at scope (parted e) (root_of e.what) (place_given e.at t.kind (level_place (out-Code Slot t.code))))
 
 -- ---- assignments
 
@@ -69,7 +67,7 @@ assignment_typing scope e right =
 abbrev pub compound_typing : Scope → BinaryOperator → Expr → Expr → Found Statement
 compound_typing scope op e right =
     after (place_typing scope e) (λ x. after (typing scope e None) (λ t.
-    after (operands_typed scope t (as_part e) (as_part right) (level_operator op (out-SplType t.kind))) (λ y.
+    after (operands_typed scope t (parted e) (parted right) (level_operator op (out-SplType t.kind))) (λ y.
     after (as_wanted e.at (Some x.kind) y) (λ z. Ok (T.Change x.place (H.Put z.code))))))
 
 -- ---- calls
@@ -105,7 +103,7 @@ call_statement at scope name es (Some call) = built_in_statement at scope call e
 call_statement at scope name es None = function_statement at scope name es (function_of scope name)
 
 abbrev pub level_call : ℕ → Scope → ExprKind-F ExprKind → Found Statement
-level_call at scope (X.Call name es) = call_statement at scope name (map as_part es) (call_of name)
+level_call at scope (X.Call name es) = call_statement at scope name (map parted es) (call_of name)
 level_call at scope _ = wrong_call at
 
 -- a call as a statement

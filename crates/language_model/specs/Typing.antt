@@ -33,7 +33,7 @@ use Rattle.spl_tree.specs.declared.expression.BinaryOperator.TheVariants as B
 use Rattle.spl_tree.specs.declared.expression.ExprKind.{ExprKind}
 use Rattle.spl_tree.specs.declared.expression.ExprKind.TheOpen as X
 use Rattle.spl_tree.specs.declared.expression.ExprKind.TheOpen.{ExprKind-F}
-use Rattle.spl_tree.specs.declared.expression.ExprKind.TheFolds.{fold-ExprKind}
+use Rattle.spl_tree.specs.declared.expression.ExprKind.TheFolds.{para-ExprKind}
 use Rattle.spl_tree.specs.declared.code.Code.{Code}
 use Rattle.spl_tree.specs.declared.code.Code.TheVariants as C
 use Rattle.spl_tree.specs.declared.code.Slot.{Slot}
@@ -54,7 +54,6 @@ use Rattle.spl_tree.specs.declared.code.CallName.{CallName}
 use Rattle.spl_tree.specs.declared.code.CallName.TheVariants as A
 use Rattle.std.specs.Option.{option_map_or}
 use Rattle.spl_tree.specs.declared.code.Marker.{Marker}
-use Rattle.spl_tree.specs.declared.code.Marker.TheVariants as M
 use Rattle.language_model.specs.declared.scope.Scope.{Scope}
 use Rattle.language_model.specs.declared.scope.Signature.{Signature}
 use Rattle.language_model.specs.declared.scope.Typed.{Typed}
@@ -62,6 +61,7 @@ use Rattle.language_model.specs.declared.scope.CheckError.{CheckError}
 use Rattle.language_model.specs.declared.scope.CheckError.TheVariants as E
 use Rattle.language_model.specs.declared.scope.CheckRefusal.{CheckRefusal}
 pub use Rattle.language_model.specs.After.{after}
+use Rattle.language_model.specs.Readings.{asks_punct, name_of, named_marker, root_of}
 use Rattle.language_model.specs.Scopes.{At, Meant, OfVariable, OfAttribute, OfPort, Nothing, meant, attribute_of, dollar_of, function_of, unresolved_of, variable_of}
 
 -- ---- types, wanted types and refusals
@@ -108,27 +108,12 @@ as_wanted at (Some u) t = if same_types t.kind u then Ok t else mismatch at
 
 -- ---- expressions as parts of others
 
--- what the expressions around it see of an expression's form
-pub record Form : Type 0 where
-  -- the name that it is, in parentheses or not
-  pub name : Option (List ℕ)
-  -- the name that it is, or of which it takes members and elements, in no parentheses: what may be changed
-  pub root : Option (List ℕ)
-  -- it is `currentPunct()`
-  pub asks : Bool
-  -- it is `Sys.WindowMarker` or `Sys.FinalMarker`
-  pub marker : Option Marker
-
-abbrev pub no_form : Form
-no_form = record { name = None; root = None; asks = false; marker = None }
-
--- an expression: its form, and its type and code at its place
-pub record Part : Type 0 where
-  pub form : Form
-  pub found : (at : ℕ) → Scope → Wanted → Found Typed
+-- an expression inside another one: itself, and the type and code that it has at a place in a scope, under what is wanted there
+abbrev pub Part : Type 0
+Part = ExprKind × (ℕ → Scope → Wanted → Found Typed)
 
 abbrev pub part_typed : Placed Part → Scope → Wanted → Found Typed
-part_typed e scope wanted = e.what.found e.at scope wanted
+part_typed e scope wanted = e.what.1 e.at scope wanted
 
 -- ---- names
 
@@ -476,7 +461,7 @@ if_mutable at scope e (Some name) found = if is_mutable scope name then found el
 
 abbrev pub changed_typed : ℕ → Scope → Placed Part → List (Placed Part) → Option (List SplType) → Found (List (Code Slot))
 changed_typed at scope e es None = wrong_call at
-changed_typed at scope e es (Some types) = if_mutable at scope e e.what.form.root (arguments_typed scope types es)
+changed_typed at scope e es (Some types) = if_mutable at scope e (root_of e.what.0) (arguments_typed scope types es)
 
 -- how many arguments a call has
 abbrev pub argument_count : CallName → ℕ
@@ -518,26 +503,8 @@ call_typed at scope name es None = function_typed at scope name es (function_of 
 
 -- ---- expressions
 
--- the marker that a member of `Sys` is
-abbrev pub marker_of : List ℕ → Option Marker
-marker_of name = if bytes_eq name (codes "WindowMarker") then Some M.Window else if bytes_eq name (codes "FinalMarker") then Some M.Final else None
-
-abbrev pub marker_in : Option (List ℕ) → List (Step (Placed Part)) → Option Marker
-marker_in (Some base) (N.Member m ∷ []) = if bytes_eq base (codes "Sys") then marker_of m.what else None
-marker_in _ _ = None
-
-abbrev pub is_nil : {A : Type 0} → List A → Bool
-is_nil [] = true
-is_nil (x ∷ xs) = false
-
-abbrev pub level_form : ExprKind-F Part → Form
-level_form (X.Name name) = record { name = Some name; root = Some name; asks = false; marker = None }
-level_form (X.Group e) = record { name = e.what.form.name; root = None; asks = e.what.form.asks; marker = e.what.form.marker }
-level_form (X.Call name es) = record { name = None; root = None; asks = bytes_eq name (codes "currentPunct") && is_nil es; marker = None }
-level_form (X.Select base steps) = record { name = None; root = base.what.form.root; asks = false; marker = marker_in base.what.form.root steps }
-level_form _ = no_form
-
-abbrev pub level_typed : ExprKind-F Part → (at : ℕ) → Scope → Wanted → Found Typed
+-- an expression by its parts, each of which stands before its own type and code
+abbrev pub level_typed : ExprKind-F Part → ℕ → Scope → Wanted → Found Typed
 level_typed (X.Name name) at scope wanted = after (meant_typed at name (meant scope name)) (as_wanted at wanted)
 level_typed (X.Dollar name) at scope wanted = after (dollar_typed at name (dollar_of scope.dollars name)) (as_wanted at wanted)
 level_typed (X.Number n) at scope wanted = after (number_typed at n) (as_wanted at wanted)
@@ -548,18 +515,16 @@ level_typed (X.List es) at scope wanted = list_typed at scope (wants_list wanted
 level_typed (X.Map es) at scope wanted = map_typed at scope (wants_map wanted) es
 level_typed (X.Tuple fs) at scope wanted = tuple_typed at scope (wants_tuple wanted) fs
 level_typed (X.Call name es) at scope wanted = after (call_typed at scope name es (call_of name)) (as_wanted at wanted)
-level_typed (X.Select base steps) at scope wanted = after (of_base base.what.form.name base scope steps) (as_wanted at wanted)
+level_typed (X.Select base steps) at scope wanted = after (of_base (name_of base.what.0) base scope steps) (as_wanted at wanted)
 level_typed (X.Unary ps e) at scope wanted = after (unary_typed scope ps e) (as_wanted at wanted)
 level_typed (X.Binary op left right) at scope wanted =
-    after (binary_or_marker (marker_asked (scope.punct && left.what.form.asks) op right.what.form.marker) scope op left right) (as_wanted at wanted)
+    after (binary_or_marker (marker_asked (scope.punct && asks_punct left.what.0) op (named_marker right.what.0)) scope op left right) (as_wanted at wanted)
 level_typed (X.Conditional c a b) at scope wanted = conditional_typed scope wanted c a b
 
-abbrev pub level_part : ExprKind-F Part → Part
-level_part e = record { form = level_form e; found = level_typed e }
-
-abbrev pub part : ExprKind → Part
-part = fold-ExprKind Part level_part
+-- an expression inside another one, as its part
+abbrev pub parted : Expr → Placed Part
+parted e = record { at = e.at; what = (e.what, para-ExprKind _ level_typed e.what) }
 
 -- the type and the code of an expression in a scope, under the type that its place wants, or its first refusal
 abbrev pub typing : Scope → Expr → Wanted → Found Typed
-typing scope e wanted = (part e.what).found e.at scope wanted
+typing scope e wanted = part_typed (parted e) scope wanted

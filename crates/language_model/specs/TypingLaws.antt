@@ -1,17 +1,26 @@
 -- Expressions inside others, as parts with their places.
-use Rattle.std.specs.Prelude.{List, map}
+use Rattle.std.specs.Prelude.{ℕ, List, map}
 use Rattle.spl_tree.specs.Grammar.{Expr}
 use Rattle.spl_tree.specs.declared.expression.Placed.{Placed}
 use Rattle.spl_tree.specs.declared.expression.Field.{Field}
+use Rattle.spl_tree.specs.declared.expression.ExprKind.{ExprKind}
+use Rattle.spl_tree.specs.declared.expression.ExprKind.TheFolds.{para-ExprKind}
 use Rattle.spl_tree.specs.declared.expression.Step.{Step}
 use Rattle.spl_tree.specs.declared.expression.Step.TheVariants as N
-use Rattle.language_model.specs.Typing.{Part, part}
+use Rattle.language_model.specs.declared.scope.Scope.{Scope}
+use Rattle.language_model.specs.declared.scope.Typed.{Typed}
+pub use Rattle.language_model.specs.Typing.{parted}
+use Rattle.language_model.specs.Typing.{Found, Part, Wanted, level_typed}
 
 -- ---- parts
 
--- an expression inside another one, as its part
-abbrev pub parted : Expr → Placed Part
-parted e = record { at = e.at; what = part e.what }
+-- the type and code of an expression at a place in a scope, under what is wanted there
+abbrev pub TypingAt : Type 0
+TypingAt = ℕ → Scope → Wanted → Found Typed
+
+-- an expression, as a part of another one
+abbrev pub part : ExprKind → Part
+part e = (e, para-ExprKind TypingAt level_typed e)
 
 abbrev pub parts : List Expr → List (Placed Part)
 parts es = map parted es

@@ -8,13 +8,14 @@ use Rattle.spl_tree.specs.declared.expression.Step.TheVariants as N
 use Rattle.language_model.specs.declared.scope.Port.{Port}
 use Rattle.language_model.specs.declared.scope.Scope.{Scope}
 use Rattle.language_model.specs.declared.scope.Typed.{Typed}
+use Rattle.language_model.specs.Readings.{name_of}
 use Rattle.language_model.specs.Scopes.{attribute_of}
-use Rattle.language_model.specs.Typing.{Found, after, part, typing, select_typed, of_base, port_attribute}
+use Rattle.language_model.specs.Typing.{Found, after, typing, select_typed, of_base, port_attribute}
 use Rattle.language_model.specs.TypingLaws.{parted, step_parts}
 
 -- what is taken of an expression in turn
 abbrev pub of_steps : Scope → Expr → List (Step Expr) → Found Typed
-of_steps scope base steps = of_base (part base.what).form.name (parted base) scope (step_parts steps)
+of_steps scope base steps = of_base (name_of base.what) (parted base) scope (step_parts steps)
 
 -- the first step is a member of a port that is named, and what it gives is that attribute; else what is taken is taken of
 -- the expression

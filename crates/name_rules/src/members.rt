@@ -2,7 +2,8 @@
 ghost use Rattle.std.specs.Prelude.{◌≡◌};
 ghost use Rattle.std.specs.Option.{option_copied};
 ghost use Rattle.language_model.specs.Scopes.{attribute_of};
-ghost use Rattle.language_model.specs.Typing.{part, port_attribute};
+ghost use Rattle.language_model.specs.Readings.{name_of};
+ghost use Rattle.language_model.specs.Typing.{port_attribute};
 ghost use Rattle.language_model.specs.Finds.{Finds};
 ghost use Rattle.name_rules.specs.Members.{MemberOfPort};
 
@@ -13,9 +14,8 @@ use spl_value::Name;
 use std::alloc::Global;
 
 /// The name that the expression is, in parentheses or not.
-#[tactic(auto, using(language_model::proofs::TypingLaws::form_laws))]
 fn own_name(expr: &Expr) -> Option<&Name>
-    ensures { option_copied result ≡ (part expr.now.what).form.name }
+    ensures { option_copied result ≡ name_of expr.now.what }
 {
     match expr.what.get() {
         ExprKind::Name(name) => Some(name),

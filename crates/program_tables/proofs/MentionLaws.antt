@@ -13,7 +13,7 @@ use Rattle.spl_tree.specs.declared.expression.ExprKind.TheFolds.{fold-ExprKind, 
 use Rattle.spl_tree.specs.Grammar.{Expr, Prefix, placed}
 use Rattle.language_model.specs.Mentions.{Mentions, At, Called, Dollar, level_mentions, expr_mentions}
 use Rattle.language_model.specs.Mentions as D
-use Rattle.language_model.proofs.TypingLaws.{steps_of}
+use Rattle.language_model.proofs.ReadingLaws.{steps_of}
 use Rattle.program_tables.specs.steps.MentionParts.{entry_mentions, field_mentions, step_mentions}
 
 abbrev pub mentions : ExprKind → ℕ → Mentions

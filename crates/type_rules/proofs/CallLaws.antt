@@ -20,6 +20,7 @@ use Rattle.language_model.specs.declared.scope.Scope.{Scope}
 use Rattle.language_model.specs.declared.scope.Signature.{Signature}
 use Rattle.language_model.specs.declared.scope.Typed.{Typed}
 use Rattle.language_model.specs.Scopes.{At, unresolved_of}
+use Rattle.language_model.specs.Readings.{root_of}
 use Rattle.language_model.specs.StatementTyping.{change_typing, function_statement}
 use Rattle.language_model.specs.Typing.{Found, OnFirst, Part, after, argument_count, arguments_typed, built_in_typed, changed_typed, first_typed, function_typed, if_mutable, int32, is_mutable, level_changed, level_first, mismatch, not_callable, part_typed, refused, typed, value_given, wrong_call}
 use Rattle.call_rules.specs.Calls.{Asked, asked, asked_by_change, change_asked, first_for, given, row_for, value_asked}
@@ -58,7 +59,7 @@ module _ (at : ℕ) (scope : Scope) (e : Placed Part) (es : List (Placed Part)) 
   by_change : (code : Code Slot) (o : Option (List SplType))
       → after (changed_typed at scope e es o) (λ xs. mismatch at) ≡ after (asked_by_change (change_asked at scope e o)) (with_others at scope code es)
   by_change code None = refl
-  by_change code (Some ts) = by_root code ts e.what.form.root
+  by_change code (Some ts) = by_root code ts (root_of e.what.0)
 
   changes : (call : CallName)
       → after (after (part_typed e scope None) (λ x. changed_typed at scope e es (level_changed call (out-SplType x.kind)))) (λ xs. mismatch at)
@@ -117,7 +118,7 @@ built_in_law at scope A.CurrentPunct [] = refl
 pub changed_law : (at : ℕ) (scope : Scope) (e : Placed Part) (es : List (Placed Part)) (o : Option (List SplType))
     → changed_typed at scope e es o ≡ after (change_asked at scope e o) (λ ts. arguments_typed scope ts es)
 changed_law at scope e es None = refl
-changed_law at scope e es (Some ts) = by_name e.what.form.root
+changed_law at scope e es (Some ts) = by_name (root_of e.what.0)
   where
     mutable : (b : Bool)
         → (if b then arguments_typed scope ts es else refused E.NotMutable e.at None)

@@ -4,7 +4,8 @@ ghost use Rattle.std.specs.Prelude.{List, None, Ok, ◌&&◌};
 ghost use Rattle.std.specs.Option.{option_copied};
 ghost use Rattle.spl_value.specs.declared.types.SplType.TheVariants as S;
 ghost use Rattle.spl_tree.specs.declared.code.Code.TheVariants as C;
-ghost use Rattle.language_model.specs.Typing.{Found, after, conditional_typed, value_given, typing, typed, part, list_typed, wants_list, map_typed, wants_map, tuple_typed, wants_tuple, select_typed, of_base, binary_or_marker, marker_asked, arguments_typed, built_in_typed, call_typed, call_of};
+ghost use Rattle.language_model.specs.Readings.{asks_punct, name_of, named_marker};
+ghost use Rattle.language_model.specs.Typing.{Found, after, conditional_typed, value_given, typing, typed, list_typed, wants_list, map_typed, wants_map, tuple_typed, wants_tuple, select_typed, of_base, binary_or_marker, marker_asked, arguments_typed, built_in_typed, call_typed, call_of};
 ghost use Rattle.language_model.specs.TypingLaws.{parted, parts, entry_parts, field_parts, step_parts};
 ghost use Rattle.language_model.specs.declared.scope.Typed.{Typed};
 ghost use Rattle.spl_tree.specs.declared.code.Code.{Code};
@@ -222,7 +223,7 @@ fn selection(
     base: &Expr,
     steps: &[Step<Expr>],
 ) -> Result<Typed, TypeAnswer>
-    ensures { Finds (of_base (part base.now.what).form.name (parted base.now) scope.now (step_parts steps.now)) result }
+    ensures { Finds (of_base (name_of base.now.what) (parted base.now) scope.now (step_parts steps.now)) result }
 {
     if let Some((place, port, member, rest)) = port_member(scope, base, steps) {
         let typed = of_port(alloc, place, port, member)?;
@@ -240,7 +241,7 @@ fn marker_tested(
     left: &Expr,
     right: &Expr,
 ) -> Result<Option<Boxed<Code<Slot>>>, TypeAnswer>
-    ensures { Finds (Ok (marker_asked (scope.now.punct && (part left.now.what).form.asks) operator (part right.now.what).form.marker)) result }
+    ensures { Finds (Ok (marker_asked (scope.now.punct && asks_punct left.now.what) operator (named_marker right.now.what))) result }
 {
     let asks = scope.punct && asks(left);
     marker_test(alloc, asks, operator, marker(right))
@@ -255,7 +256,7 @@ fn operation(
     left: &Expr,
     right: &Expr,
 ) -> Result<Typed, TypeAnswer>
-    ensures { Finds (binary_or_marker (marker_asked (scope.now.punct && (part left.now.what).form.asks) operator (part right.now.what).form.marker) scope.now operator (parted left.now) (parted right.now)) result }
+    ensures { Finds (binary_or_marker (marker_asked (scope.now.punct && asks_punct left.now.what) operator (named_marker right.now.what)) scope.now operator (parted left.now) (parted right.now)) result }
 {
     if let Some(code) = marker_tested(alloc, scope, operator, left, right)? {
         return truth(alloc, code);
