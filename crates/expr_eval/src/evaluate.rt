@@ -3,7 +3,7 @@ ghost use Rattle.std.specs.Prelude.{◌≡◌, ◌∷◌, []};
 ghost use Rattle.spl_value.specs.declared.types.SplType.TheVariants as T;
 ghost use Rattle.spl_tree.specs.declared.code.Code.TheVariants as C;
 ghost use Rattle.language_model.specs.Outcomes.{Done, followed, need, settled};
-ghost use Rattle.language_model.specs.Operators.{built_in_of};
+ghost use Rattle.language_model.specs.BuiltInCalls.{built_in_of};
 ghost use Rattle.language_model.specs.Evaluation.{code_value, world_of, binary, taken, map_of, tuple_of};
 ghost use Rattle.language_model.specs.Functions.{calls_of, value};
 ghost use Rattle.language_model.specs.EvaluationLaws.{values_of, field_values, taking_meaning, truth_value};

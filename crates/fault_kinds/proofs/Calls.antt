@@ -1,5 +1,5 @@
 -- The results of the operators of expressions, the built-in calls and changes of places.
-use Rattle.std.specs.Prelude.{◌≡◌, ℕ, zero, suc, ℤ, pos, negsuc, int_div, int_rem, nat_lt, Bool, true, false, if◌then◌else◌, List, [], ◌∷◌, length, take, drop, Option, None, Some, slice_get}
+use Rattle.std.specs.Prelude.{◌≡◌, ℕ, zero, suc, ℤ, pos, negsuc, int_div, int_rem, nat_lt, Bool, true, false, if◌then◌else◌, List, [], ◌∷◌, map, length, take, drop, Option, None, Some, slice_get}
 use Rattle.std.proofs.Common.{refl}
 use Rattle.spl_value.specs.declared.item.FaultKind.{FaultKind}
 use Rattle.spl_value.specs.declared.item.FaultKind.TheVariants as X
@@ -9,7 +9,7 @@ use Rattle.spl_value.specs.declared.value.Value.TheVariants as V
 use Rattle.spl_value.specs.declared.value.Value.TheOpen as O
 use Rattle.spl_value.specs.declared.value.Value.TheOpen.{Value-F}
 use Rattle.spl_value.specs.declared.value.Value.TheViews.{out-Value}
-use Rattle.spl_value.specs.Calls.{CallOutcome, Gives, Faults, Unfit, are_alike, length_at, size_at, has_at, append_at, remove_at, clear_at, abs_at, if_alike, lesser, greater, part_of, substring_at}
+use Rattle.spl_value.specs.Calls.{CallOutcome, Gives, Faults, Unfit, are_alike}
 use Rattle.spl_value.specs.Order.{value_cmp}
 use Rattle.spl_value.specs.Pairs.{pairs_get}
 use Rattle.spl_tree.specs.declared.body.Change.{Change}
@@ -25,8 +25,9 @@ use Rattle.spl_tree.specs.declared.code.Selector.{Selector}
 use Rattle.spl_tree.specs.declared.code.Selector.TheVariants as K
 use Rattle.spl_tree.specs.declared.code.UnaryCode.{UnaryCode}
 use Rattle.spl_tree.specs.declared.code.UnaryCode.TheVariants as U
+use Rattle.language_model.specs.BuiltInCalls.{level_call, built_in_of, level_place_call}
 use Rattle.language_model.specs.Changes.{passed_on, step_of, level_changed, changed, change_of}
-use Rattle.language_model.specs.Operators.{divided, on_integers, level_integers, boolean, in_order, ordered, level_join, level_in_list, level_in_map, binary_of, level_unary, unary_of, built_in_of, found, given, level_member, element_at, level_element, level_at_key}
+use Rattle.language_model.specs.Operators.{divided, on_integers, level_integers, boolean, in_order, ordered, level_join, level_in_list, level_in_map, binary_of, level_unary, unary_of, found, given, level_member, element_at, level_element, level_at_key}
 use Rattle.fault_kinds.specs.Kinds.{is_evaluation_kind}
 use Rattle.fault_kinds.proofs.Outcomes.{OwnCall}
 
@@ -97,43 +98,23 @@ own_unary op v = own_level_unary op (out-Value v)
 
 -- ---- calls
 
-own_length : (v : Value-F Value) → OwnCall (length_at v)
-own_length (O.Text bytes) = tt
-own_length _ = tt
-
-own_size : (v : Value-F Value) → OwnCall (size_at v)
-own_size (O.List values) = tt
-own_size (O.Map pairs) = tt
-own_size _ = tt
-
-own_has : (v : Value-F Value) (key : Value) → OwnCall (has_at v key)
-own_has (O.Map pairs) key = tt
-own_has _ key = tt
-
-own_abs : (kind : IntKind) (v : Value-F Value) → OwnCall (abs_at kind v)
-own_abs kind (O.Int n) = tt
-own_abs kind _ = tt
-
-own_alike : (a b v : Value) → OwnCall (if_alike a b v)
-own_alike a b v = own_if (are_alike (out-Value a) (out-Value b)) (Gives v) Unfit tt tt
-
-own_part : (bytes : List ℕ) (from count : ℤ) → OwnCall (part_of bytes from count)
-own_part bytes (pos from) (pos count) = own_if (nat_lt (length bytes) from) (Faults X.Index) (Gives (V.Text (take count (drop from bytes)))) refl tt
-own_part bytes _ _ = refl
-
-own_substring : (s from count : Value-F Value) → OwnCall (substring_at s from count)
-own_substring (O.Text bytes) (O.Int from) (O.Int count) = own_part bytes from count
-own_substring _ _ _ = tt
+own_call : (call : BuiltIn) (forms : List (Value-F Value)) → OwnCall (level_call call forms)
+own_call Q.Length (O.Text bytes ∷ []) = tt
+own_call Q.Size (O.List vs ∷ []) = tt
+own_call Q.Size (O.Map ps ∷ []) = tt
+own_call Q.Has (O.Map ps ∷ key ∷ []) = tt
+own_call (Q.Abs kind) (O.Int n ∷ []) = tt
+own_call Q.Min (O.Int m ∷ O.Int n ∷ []) = tt
+own_call Q.Min (O.Text xs ∷ O.Text ys ∷ []) = tt
+own_call Q.Max (O.Int m ∷ O.Int n ∷ []) = tt
+own_call Q.Max (O.Text xs ∷ O.Text ys ∷ []) = tt
+own_call Q.Substring (O.Text bytes ∷ O.Int (pos from) ∷ O.Int (pos count) ∷ []) =
+    own_if (nat_lt (length bytes) from) (Faults X.Index) (Gives (V.Text (take count (drop from bytes)))) refl tt
+own_call Q.Substring (O.Text bytes ∷ O.Int from ∷ O.Int count ∷ []) = refl
+own_call _ _ = tt
 
 pub own_built_in : (call : BuiltIn) (vs : List Value) → OwnCall (built_in_of call vs)
-own_built_in Q.Length (v ∷ []) = own_length (out-Value v)
-own_built_in Q.Size (v ∷ []) = own_size (out-Value v)
-own_built_in Q.Has (v ∷ w ∷ []) = own_has (out-Value v) w
-own_built_in (Q.Abs k) (v ∷ []) = own_abs k (out-Value v)
-own_built_in Q.Min (v ∷ w ∷ []) = own_alike v w (lesser v w)
-own_built_in Q.Max (v ∷ w ∷ []) = own_alike v w (greater v w)
-own_built_in Q.Substring (v ∷ w ∷ x ∷ []) = own_substring (out-Value v) (out-Value w) (out-Value x)
-own_built_in _ _ = tt
+own_built_in call vs = own_call call (map out-Value vs)
 
 -- ---- members, elements and values at keys
 
@@ -188,24 +169,16 @@ own_changed [] change h old = h old
 own_changed (t ∷ ts) change h None = refl
 own_changed (t ∷ ts) change h (Some v) = own_level_changed t (changed ts change) (own_changed ts change h) (out-Value v)
 
-own_append : (list : Value-F Value) (v : Value) → OwnCall (append_at list v)
-own_append (O.List values) v = tt
-own_append _ v = tt
-
-own_remove : (map : Value-F Value) (k : Value) → OwnCall (remove_at map k)
-own_remove (O.Map pairs) k = tt
-own_remove _ k = tt
-
-own_clear : (v : Value-F Value) → OwnCall (clear_at v)
-own_clear (O.List values) = tt
-own_clear (O.Map pairs) = tt
-own_clear _ = tt
+own_place_call : (call : Change Value) (old : Value-F Value) → OwnCall (level_place_call call old)
+own_place_call (H.Append v) (O.List vs) = tt
+own_place_call (H.Remove key) (O.Map ps) = tt
+own_place_call H.Clear (O.List vs) = tt
+own_place_call H.Clear (O.Map ps) = tt
+own_place_call _ _ = tt
 
 pub own_change : (change : Change Value) (old : Option Value) → OwnCall (change_of change old)
 own_change (H.Put v) old = tt
 own_change (H.Append v) None = refl
 own_change (H.Remove k) None = refl
 own_change H.Clear None = refl
-own_change (H.Append v) (Some old) = own_append (out-Value old) v
-own_change (H.Remove k) (Some old) = own_remove (out-Value old) k
-own_change H.Clear (Some old) = own_clear (out-Value old)
+own_change call (Some old) = own_place_call call (out-Value old)

@@ -22,7 +22,8 @@ use Rattle.spl_tree.specs.declared.code.Selector.{Selector}
 use Rattle.spl_tree.specs.declared.code.Selector.TheVariants as K
 use Rattle.language_model.specs.Changes.{passed_on, step_of, level_index, level_changed, changed, change_of}
 use Rattle.language_model.specs.Operators.{level_member, level_element}
-use Rattle.language_model.proofs.Operating.{settles_by, settles_given, level_list, level_tuple, member_settles, element_settles, at_key_settles}
+use Rattle.language_model.proofs.BuiltInCalls.{append_called, remove_called, clear_called}
+use Rattle.language_model.proofs.Operating.{settles_by, settles_as, level_list, level_tuple, member_settles, element_settles, at_key_settles}
 use Rattle.language_model.proofs.Yielding.{OfType, Settles}
 
 -- ---- lists with another value at a place
@@ -64,13 +65,13 @@ pub data ChangeGives : Change Value → SplType → Type 0 where
 change_settles : (change : Change Value) (t : SplType) → ChangeGives change t → (old : Option Value) → Held t old → Settles t (change_of change old)
 change_settles _ _ (puts v t f) old h = f
 change_settles _ _ (appends v t f) None h = tt
-change_settles _ _ (appends v t f) (Some old) h = settles_given (S.List t) (append_of old v) (append_law t old v h f)
+change_settles _ _ (appends v t f) (Some old) h = settles_as (S.List t) (change_of (H.Append v) (Some old)) (append_of old v) (append_called old v) (append_law t old v h f)
 change_settles _ _ (removes v k t f) None h = tt
-change_settles _ _ (removes v k t f) (Some old) h = settles_given (S.Map k t) (remove_of old v) (remove_law k t old v h f)
+change_settles _ _ (removes v k t f) (Some old) h = settles_as (S.Map k t) (change_of (H.Remove v) (Some old)) (remove_of old v) (remove_called old v) (remove_law k t old v h f)
 change_settles _ _ (clears_list t) None h = tt
-change_settles _ _ (clears_list t) (Some old) h = settles_given (S.List t) (clear_of old) (clear_law (S.List t) old (inl (t, refl)) h)
+change_settles _ _ (clears_list t) (Some old) h = settles_as (S.List t) (change_of H.Clear (Some old)) (clear_of old) (clear_called old) (clear_law (S.List t) old (inl (t, refl)) h)
 change_settles _ _ (clears_map k t) None h = tt
-change_settles _ _ (clears_map k t) (Some old) h = settles_given (S.Map k t) (clear_of old) (clear_law (S.Map k t) old (inr (k, t, refl)) h)
+change_settles _ _ (clears_map k t) (Some old) h = settles_as (S.Map k t) (change_of H.Clear (Some old)) (clear_of old) (clear_called old) (clear_law (S.Map k t) old (inr (k, t, refl)) h)
 
 -- ---- steps
 

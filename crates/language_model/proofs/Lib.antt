@@ -12,6 +12,7 @@ pub mod Wanting
 pub mod Counting
 pub mod Places
 pub mod Yielding
+pub mod BuiltInCalls
 pub mod Operating
 pub mod Filling
 pub mod Changing

@@ -34,16 +34,22 @@ use Rattle.spl_tree.specs.declared.code.BuiltIn.{BuiltIn}
 use Rattle.spl_tree.specs.declared.code.BuiltIn.TheVariants as Q
 use Rattle.language_model.specs.CodeFits as F
 use Rattle.language_model.specs.CodeFits.{UnaryGives, BuiltInGives}
-use Rattle.language_model.specs.Operators.{integer, divided, bits_of, on_bits, on_integers, level_integers, boolean, in_order, ordered, is_equal, level_join, level_in_list, level_in_map, binary_of, bool_text, level_unary, unary_of, built_in_of, found, given, level_member, element_at, level_element, level_at_key, level_truth, truth_of}
+use Rattle.language_model.specs.BuiltInCalls.{built_in_of}
+use Rattle.language_model.specs.Operators.{integer, divided, bits_of, on_bits, on_integers, level_integers, boolean, in_order, ordered, is_equal, level_join, level_in_list, level_in_map, binary_of, bool_text, level_unary, unary_of, found, given, level_member, element_at, level_element, level_at_key, level_truth, truth_of}
+use Rattle.language_model.proofs.BuiltInCalls.{length_called, size_called, has_called, abs_called, min_called, max_called, substring_called}
 use Rattle.language_model.proofs.Yielding.{IsThere, AnyAnswer, OfType, Settles}
 
 pub settles_by : (t : SplType) (called other : CallOutcome) → called ≡ other → Settles t other → Settles t called
 settles_by t called other e h = subst (Settles t) (sym e) h
 
-pub settles_given : (t : SplType) (called : CallOutcome) → GivesOf t called → Settles t called
+settles_given : (t : SplType) (called : CallOutcome) → GivesOf t called → Settles t called
 settles_given t (Gives v) h = h
 settles_given t (Faults kind) h = absurd h
 settles_given t Unfit h = absurd h
+
+-- a call that gives what another one gives
+pub settles_as : (t : SplType) (called other : CallOutcome) → called ≡ other → GivesOf t other → Settles t called
+settles_as t called other e h = settles_by t called other e (settles_given t other h)
 
 settles_or_index : (t : SplType) (called : CallOutcome) → GivesOrIndex t called → Settles t called
 settles_or_index t (Gives v) h = h
@@ -219,29 +225,30 @@ on_three call t u r s f vs h =
 
 -- of two values of a type that is ordered
 min_settles : (t : SplType) → IsOrdered t → (vs : List Value) → OfTypes (t ∷ t ∷ []) vs → Settles t (built_in_of Q.Min vs)
-min_settles t o = on_two Q.Min t t t (λ v w f g. settles_given t (min_of v w) (min_law t v w o f g))
+min_settles t o = on_two Q.Min t t t (λ v w f g. settles_as t (built_in_of Q.Min (v ∷ w ∷ [])) (min_of v w) (min_called v w) (min_law t v w o f g))
 
 max_settles : (t : SplType) → IsOrdered t → (vs : List Value) → OfTypes (t ∷ t ∷ []) vs → Settles t (built_in_of Q.Max vs)
-max_settles t o = on_two Q.Max t t t (λ v w f g. settles_given t (max_of v w) (max_law t v w o f g))
+max_settles t o = on_two Q.Max t t t (λ v w f g. settles_as t (built_in_of Q.Max (v ∷ w ∷ [])) (max_of v w) (max_called v w) (max_law t v w o f g))
 
 pub built_in_settles : (call : BuiltIn) (ts : List SplType) (t : SplType) → BuiltInGives call ts t → (vs : List Value) → OfTypes ts vs → Settles t (built_in_of call vs)
 built_in_settles _ _ _ F.text_length vs h =
-    on_one Q.Length S.Text (S.Int I32) (λ v f. settles_given (S.Int I32) (length_of v) (length_law v f)) vs h
+    on_one Q.Length S.Text (S.Int I32) (λ v f. settles_as (S.Int I32) (built_in_of Q.Length (v ∷ [])) (length_of v) (length_called v) (length_law v f)) vs h
 built_in_settles _ _ _ (F.list_size t) vs h =
-    on_one Q.Size (S.List t) (S.Int I32) (λ v f. settles_given (S.Int I32) (size_of v) (size_law v (S.List t, inl (t, refl), f))) vs h
+    on_one Q.Size (S.List t) (S.Int I32) (λ v f. settles_as (S.Int I32) (built_in_of Q.Size (v ∷ [])) (size_of v) (size_called v) (size_law v (S.List t, inl (t, refl), f))) vs h
 built_in_settles _ _ _ (F.map_size k t) vs h =
-    on_one Q.Size (S.Map k t) (S.Int I32) (λ v f. settles_given (S.Int I32) (size_of v) (size_law v (S.Map k t, inr (k, t, refl), f))) vs h
+    on_one Q.Size (S.Map k t) (S.Int I32) (λ v f. settles_as (S.Int I32) (built_in_of Q.Size (v ∷ [])) (size_of v) (size_called v) (size_law v (S.Map k t, inr (k, t, refl), f))) vs h
 built_in_settles _ _ _ (F.has k t) vs h =
-    on_two Q.Has (S.Map k t) k S.Bool (λ v w f g. settles_given S.Bool (has_key v w) (has_law v w (k, t, f, g))) vs h
+    on_two Q.Has (S.Map k t) k S.Bool (λ v w f g. settles_as S.Bool (built_in_of Q.Has (v ∷ w ∷ [])) (has_key v w) (has_called v w) (has_law v w (k, t, f, g))) vs h
 built_in_settles _ _ _ (F.abs k) vs h =
-    on_one (Q.Abs k) (S.Int k) (S.Int k) (λ v f. settles_given (S.Int k) (abs_of k v) (abs_law k v f)) vs h
+    on_one (Q.Abs k) (S.Int k) (S.Int k) (λ v f. settles_as (S.Int k) (built_in_of (Q.Abs k) (v ∷ [])) (abs_of k v) (abs_called k v) (abs_law k v f)) vs h
 built_in_settles _ _ _ (F.min_integer k) vs h = min_settles (S.Int k) (inl (k, refl)) vs h
 built_in_settles _ _ _ F.min_text vs h = min_settles S.Text (inr refl) vs h
 built_in_settles _ _ _ (F.max_integer k) vs h = max_settles (S.Int k) (inl (k, refl)) vs h
 built_in_settles _ _ _ F.max_text vs h = max_settles S.Text (inr refl) vs h
 built_in_settles _ _ _ F.substring vs h =
     on_three Q.Substring S.Text (S.Int I32) (S.Int I32) S.Text
-    (λ v w x f g i. settles_or_index S.Text (substring_of v w x) (substring_law v w x f g i)) vs h
+    (λ v w x f g i.
+    settles_by S.Text (built_in_of Q.Substring (v ∷ w ∷ x ∷ [])) (substring_of v w x) (substring_called v w x) (settles_or_index S.Text (substring_of v w x) (substring_law v w x f g i))) vs h
 
 -- ---- what is taken of a value
 

@@ -6,12 +6,13 @@ use Rattle.spl_value.specs.declared.value.Value.TheVariants as V
 use Rattle.spl_value.specs.declared.value.Value.TheOpen as O
 use Rattle.spl_value.specs.declared.value.Value.TheOpen.{Value-F}
 use Rattle.spl_value.specs.declared.value.Value.TheViews.{out-Value}
-use Rattle.spl_value.specs.Calls.{CallOutcome, Gives, Faults, Unfit, append_of, remove_of, clear_of}
+use Rattle.spl_value.specs.Calls.{CallOutcome, Gives, Faults, Unfit}
 use Rattle.spl_value.specs.Pairs.{pairs_get, pairs_put}
 use Rattle.spl_tree.specs.declared.body.Change.{Change}
 use Rattle.spl_tree.specs.declared.body.Change.TheVariants as H
 use Rattle.spl_tree.specs.declared.code.Selector.{Selector}
 use Rattle.spl_tree.specs.declared.code.Selector.TheVariants as K
+use Rattle.language_model.specs.BuiltInCalls.{level_place_call}
 use Rattle.language_model.specs.Operators.{given, level_member, level_element, level_at_key}
 
 -- a value that is given is passed on
@@ -51,7 +52,5 @@ changed (t ∷ ts) change (Some v) = level_changed t (changed ts change) (out-Va
 -- what a change makes of what a place holds. Only an assignment makes something of nothing
 abbrev pub change_of : Change Value → Option Value → CallOutcome
 change_of (H.Put v) old = Gives v
-change_of change None = Faults F.NoKey
-change_of (H.Append v) (Some old) = append_of old v
-change_of (H.Remove k) (Some old) = remove_of old k
-change_of H.Clear (Some old) = clear_of old
+change_of call None = Faults F.NoKey
+change_of call (Some old) = level_place_call call (out-Value old)

@@ -23,7 +23,8 @@ use Rattle.spl_tree.specs.declared.code.Marker.{Marker}
 use Rattle.spl_tree.specs.declared.code.Marker.TheVariants as M
 use Rattle.language_model.specs.declared.env.Env.{Env}
 use Rattle.language_model.specs.Outcomes.{Outcome, Done, followed, need, settled, enter}
-use Rattle.language_model.specs.Operators.{binary_of, unary_of, built_in_of, level_member, level_element, level_at_key, truth_of}
+use Rattle.language_model.specs.BuiltInCalls.{built_in_of}
+use Rattle.language_model.specs.Operators.{binary_of, unary_of, level_member, level_element, level_at_key, truth_of}
 
 -- ---- where an expression is evaluated
 

@@ -7,6 +7,7 @@ pub mod Typing
 pub mod Finds
 pub mod Outcomes
 pub mod Operators
+pub mod BuiltInCalls
 pub mod Evaluation
 pub mod EvaluationLaws
 pub mod Changes

@@ -1,5 +1,5 @@
 -- The results of the operators of expressions on values, and what is taken of a value.
-use Rattle.std.specs.Prelude.{ℕ, zero, ℤ, pos, negsuc, nat_abs, ◌+ℤ◌, ◌-ℤ◌, ◌*ℤ◌, neg_ℤ, int_div, int_rem, Bool, true, false, not, if◌then◌else◌, List, [], ◌∷◌, ◌++◌, codes, Option, None, Some, slice_get}
+use Rattle.std.specs.Prelude.{ℕ, zero, ℤ, pos, negsuc, nat_abs, ◌+ℤ◌, ◌-ℤ◌, ◌*ℤ◌, neg_ℤ, int_div, int_rem, Bool, true, false, not, if◌then◌else◌, List, ◌++◌, codes, Option, None, Some, slice_get}
 use Rattle.std.specs.List.{list_any}
 use Rattle.std.specs.Int.{int_rem_euclid}
 use Rattle.std.specs.Int.Bits.{bit_and, bit_or, bit_xor}
@@ -15,7 +15,7 @@ use Rattle.spl_value.specs.declared.value.Value.TheVariants as V
 use Rattle.spl_value.specs.declared.value.Value.TheOpen as O
 use Rattle.spl_value.specs.declared.value.Value.TheOpen.{Value-F}
 use Rattle.spl_value.specs.declared.value.Value.TheViews.{out-Value}
-use Rattle.spl_value.specs.Calls.{CallOutcome, Gives, Faults, Unfit, are_alike, length_of, size_of, has_key, abs_of, min_of, max_of, substring_of}
+use Rattle.spl_value.specs.Calls.{CallOutcome, Gives, Faults, Unfit, are_alike}
 use Rattle.spl_value.specs.Order.{value_cmp}
 use Rattle.spl_value.specs.Pairs.{pairs_get, pairs_contain}
 use Rattle.spl_value.specs.Values.{modulus}
@@ -28,8 +28,6 @@ use Rattle.spl_tree.specs.declared.code.IntegerOperator.{IntegerOperator}
 use Rattle.spl_tree.specs.declared.code.IntegerOperator.TheVariants as I
 use Rattle.spl_tree.specs.declared.code.OrderOperator.{OrderOperator}
 use Rattle.spl_tree.specs.declared.code.OrderOperator.TheVariants as P
-use Rattle.spl_tree.specs.declared.code.BuiltIn.{BuiltIn}
-use Rattle.spl_tree.specs.declared.code.BuiltIn.TheVariants as Q
 
 -- ---- integers
 
@@ -130,18 +128,6 @@ level_unary _ _ = Unfit
 
 abbrev pub unary_of : UnaryCode → Value → CallOutcome
 unary_of op v = level_unary op (out-Value v)
-
--- ---- calls
-
-abbrev pub built_in_of : BuiltIn → List Value → CallOutcome
-built_in_of Q.Length (v ∷ []) = length_of v
-built_in_of Q.Size (v ∷ []) = size_of v
-built_in_of Q.Has (v ∷ w ∷ []) = has_key v w
-built_in_of (Q.Abs k) (v ∷ []) = abs_of k v
-built_in_of Q.Min (v ∷ w ∷ []) = min_of v w
-built_in_of Q.Max (v ∷ w ∷ []) = max_of v w
-built_in_of Q.Substring (v ∷ w ∷ x ∷ []) = substring_of v w x
-built_in_of _ _ = Unfit
 
 -- ---- members, elements and values at keys
 

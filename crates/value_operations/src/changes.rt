@@ -1,7 +1,7 @@
 //! Changes within values, where they stand.
 ghost use Rattle.std.specs.Prelude.{◌≡◌, ◌∷◌, [], Err, IsTrue, None, Some};
 ghost use Rattle.spl_value.specs.declared.value.Value.TheVariants as V;
-ghost use Rattle.spl_value.specs.Calls.{FitsCollection, Gives, clear_of};
+ghost use Rattle.spl_value.specs.Calls.{FitsCollection, Gives};
 ghost use Rattle.spl_value.specs.Pairs.{are_pairs, pairs_put};
 ghost use Rattle.language_model.specs.Changes.{changed, change_of, passed_on};
 ghost use Rattle.spl_tree.specs.declared.body.Change.TheVariants as H;
@@ -188,7 +188,7 @@ fn remove(map: &mut Value, key: Value)
 /// Takes everything out of a list or a map.
 fn clear(value: &mut Value)
     requires { FitsCollection value.old }
-    ensures { clear_of value.old ≡ Gives value.new }
+    ensures { change_of H.Clear (Some value.old) ≡ Gives value.new }
 {
     match value {
         Value::List(values) => values.clear(),
