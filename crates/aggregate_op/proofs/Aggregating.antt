@@ -58,7 +58,7 @@ use Rattle.aggregate_op.specs.declared.clauses.Clauses.{Clauses}
 use Rattle.port_reacts.specs.Evaluation.{idle}
 use Rattle.aggregate_op.specs.Arguments.{ArgumentFits, ArgumentsFit, blank}
 use Rattle.aggregate_op.specs.Standing.{AggregateStands, came_into, operator_of}
-use Rattle.aggregate_op.specs.steps.Firing.{MayCome, behind, item_makes, key_of_tuple, tuple_behind, tuple_event}
+use Rattle.aggregate_op.specs.steps.Firing.{MayCome, events_after, item_makes, key_of_tuple, tuple_behind, tuple_event}
 use Rattle.aggregate_op.specs.steps.Giving.{contents_given}
 use Rattle.port_reacts.proofs.Answering.{both_out, where_out}
 use Rattle.aggregate_op.proofs.Ties.{IsRight, contents_are}
@@ -306,7 +306,7 @@ module _ (clauses : Clauses) (fit : IsFitting (operator_of clauses))
 -- ---- events
 
 behind_is : (clauses : Clauses) (x : Item) (items : List Item)
-    → behind clauses x (mapped (tuple_behind clauses) (window_events (key_of_tuple clauses) items)) ≡ mapped (tuple_behind clauses) (window_events (key_of_tuple clauses) (x ∷ items))
+    → events_after clauses x (mapped (tuple_behind clauses) (window_events (key_of_tuple clauses) items)) ≡ mapped (tuple_behind clauses) (window_events (key_of_tuple clauses) (x ∷ items))
 behind_is clauses (I.Tuple t) items = refl
 behind_is clauses I.Window items = refl
 behind_is clauses I.Final items = refl
@@ -351,7 +351,7 @@ module _ (clauses : Clauses) (w : Window) (env : Env) (h : List Event) (port : �
   first_port = let one : length it.types.ins ≡ 1 = ap length (own clauses may.fitting stood.are stood.width).takes in omega (arith, may.has.0)
 
   pub stands_there : (new : Window) (now : Env) (reply : Reply) → ItemReplies reply → IsTaken reply
-      → WhereOut reply ((rule : WindowRule) (k : List WindowEvent) → Stands rule w k → Stands rule new (behind clauses x k)) → WhereOut reply (now ≡ idle)
+      → WhereOut reply ((rule : WindowRule) (k : List WindowEvent) → Stands rule w k → Stands rule new (events_after clauses x k)) → WhereOut reply (now ≡ idle)
       → AggregateStands clauses new now (came port x ∷ h)
   stands_there new now reply k taken moves ready = record {
     are = stood.are;
@@ -360,7 +360,7 @@ module _ (clauses : Clauses) (w : Window) (env : Env) (h : List Event) (port : �
     no_tuple = λ goes. where_out it h port x reply _ (replies_there reply k) taken goes ready;
   }
     where
-      behind_so : ((rule : WindowRule) (k : List WindowEvent) → Stands rule w k → Stands rule new (behind clauses x k)) → Stands clauses.window.now.rule new (came_into clauses (came port x ∷ h))
+      behind_so : ((rule : WindowRule) (k : List WindowEvent) → Stands rule w k → Stands rule new (events_after clauses x k)) → Stands clauses.window.now.rule new (came_into clauses (came port x ∷ h))
       behind_so move =
           subst (λ p. Stands clauses.window.now.rule new (came_into clauses (came p x ∷ h))) (sym first_port)
           (subst (Stands clauses.window.now.rule new) (behind_is clauses x (items_of 0 h)) (move clauses.window.now.rule (came_into clauses h) (stood.window may.goes_on)))

@@ -5,7 +5,7 @@ ghost use Rattle.spl_tree.specs.declared.code.Code.TheVariants as C;
 ghost use Rattle.spl_tree.specs.declared.code.Slot.{Slot};
 
 use crate::lists::{
-    Codes, EntryCodes, FieldCodes, Takings, push_code, push_element, push_entry, push_field,
+    Codes, EntryCodes, FieldCodes, Selectors, push_code, push_element, push_entry, push_field,
     push_key,
 };
 use spl_tree::{BinaryCode, BuiltIn, Code, Selector, Slot, UnaryCode};
@@ -56,7 +56,7 @@ fn call(
 fn select(
     alloc: Global,
     base: Boxed<Code<Slot>>,
-    takings: Takings,
+    takings: Selectors,
 ) -> Result<Boxed<Code<Slot>>, NoMemory>
     ensures { IfOk result (λ code. code ≡ C.Select base takings) }
 {
@@ -234,7 +234,7 @@ fn copy_fields(alloc: Global, fields: &[(u32, Code<Slot>)]) -> Result<FieldCodes
 }
 
 #[cycle(copy)]
-fn copy_takings(alloc: Global, takings: &[Selector<Code<Slot>>]) -> Result<Takings, NoMemory>
+fn copy_takings(alloc: Global, takings: &[Selector<Code<Slot>>]) -> Result<Selectors, NoMemory>
     ensures { IfOk result (λ copy. copy ≡ takings.now) }
 {
     let mut copied = Items::new(alloc);

@@ -6,6 +6,6 @@ mod lists;
 
 pub use copying::{boxed_copy, copy_code};
 pub use lists::{
-    Codes, EntryCodes, FieldCodes, Takings, push_code, push_element, push_entry, push_field,
+    Codes, EntryCodes, FieldCodes, Selectors, push_code, push_element, push_entry, push_field,
     push_key,
 };

@@ -16,7 +16,7 @@ pub type EntryCodes = Items<(Code<Slot>, Code<Slot>)>;
 pub type FieldCodes = Items<(u32, Code<Slot>)>;
 
 /// What is taken in turn.
-pub type Takings = Items<Selector<Code<Slot>>>;
+pub type Selectors = Items<Selector<Code<Slot>>>;
 
 /// Adds a code to others.
 pub fn push_code(codes: &mut Codes, code: Boxed<Code<Slot>>) -> Result<(), AllocError>
@@ -48,14 +48,14 @@ pub fn push_field(
 }
 
 /// Adds what stands in a list at an index.
-pub fn push_element(takings: &mut Takings, index: Boxed<Code<Slot>>) -> Result<(), AllocError>
+pub fn push_element(takings: &mut Selectors, index: Boxed<Code<Slot>>) -> Result<(), AllocError>
     ensures { OnOk result (takings.new ≡ takings.old ++ K.Element index ∷ []) }
 {
     takings.push(Selector::Element(index.into_inner()))
 }
 
 /// Adds what stands in a map at a key.
-pub fn push_key(takings: &mut Takings, key: Boxed<Code<Slot>>) -> Result<(), AllocError>
+pub fn push_key(takings: &mut Selectors, key: Boxed<Code<Slot>>) -> Result<(), AllocError>
     ensures { OnOk result (takings.new ≡ takings.old ++ K.AtKey key ∷ []) }
 {
     takings.push(Selector::AtKey(key.into_inner()))

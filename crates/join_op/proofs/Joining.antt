@@ -47,7 +47,7 @@ use Rattle.join_op.specs.Fitting.{PairFits}
 use Rattle.join_op.specs.Pairs.{IsReady, pair_env}
 use Rattle.join_op.specs.Sides.{JoinStands, SidesStand}
 use Rattle.join_op.specs.steps.Matching.{MayMatch, matched, operator_of}
-use Rattle.join_op.specs.steps.Standing.{behind}
+use Rattle.join_op.specs.steps.Standing.{events_after}
 use Rattle.port_reacts.proofs.Answering.{both_out, where_out}
 use Rattle.spl_value.proofs.Lists.{all_at}
 use Rattle.stream_model.proofs.JoinFits.{Has, two_came, came_has}
@@ -159,14 +159,14 @@ module _ (op : Operator) (fit : IsFitting op) (left right : Policy) (condition :
 no_key : (policy : Policy) (t : List Value) → partition_key policy [] t ≡ []
 no_key policy t = elim (policy.partitioned) as (λ b. (if b then key_of t [] else []) ≡ []) [ true ↦ refl | false ↦ refl ]
 
-window_behind : (policy : Policy) (x : Item) (items : List Item) → behind x (window_events (partition_key policy []) items) ≡ window_events (partition_key policy []) (x ∷ items)
+window_behind : (policy : Policy) (x : Item) (items : List Item) → events_after x (window_events (partition_key policy []) items) ≡ window_events (partition_key policy []) (x ∷ items)
 window_behind policy (I.Tuple t) items = ap (λ k. Insert k t ∷ window_events (partition_key policy []) items) (sym (no_key policy t))
 window_behind policy I.Window items = refl
 window_behind policy I.Final items = refl
 window_behind policy (I.Bad f) items = refl
 
 abbrev Behind : Window → Window → Item → Type 0
-Behind old new x = (rule : WindowRule) (h : List WindowEvent) → Stands rule old h → Stands rule new (behind x h)
+Behind old new x = (rule : WindowRule) (h : List WindowEvent) → Stands rule old h → Stands rule new (events_after x h)
 
 pub left_behind : (left right : Policy) (l r new : Window) (env now : Env) (h : List Event) (port : ℕ) (x : Item) → port ≡ 0 → SidesStand left right l r env h
     → Behind l new x → IsReady now → SidesStand left right new r now (came port x ∷ h)

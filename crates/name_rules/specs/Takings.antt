@@ -29,10 +29,10 @@ index_taken base at x (T.Map k t) = Ok (K.AtKey x.code, t)
 index_taken base at x _ = mismatch base
 
 -- it comes after what was taken before, and its type is answered
-abbrev pub behind : List (Selector (Code Slot)) → Found Taken → Found (List (Selector (Code Slot)) × SplType)
-behind old found = after found (λ x. Ok (old ++ x.0 ∷ [], x.1))
+abbrev pub with_taken_last : List (Selector (Code Slot)) → Found Taken → Found (List (Selector (Code Slot)) × SplType)
+with_taken_last old found = after found (λ x. Ok (old ++ x.0 ∷ [], x.1))
 
 abbrev pub Takes : Found Taken → List (Selector (Code Slot)) → List (Selector (Code Slot)) → Result SplType TypeAnswer → Type 0
-Takes found old new (Ok t) = behind old found ≡ Ok (new, t)
+Takes found old new (Ok t) = with_taken_last old found ≡ Ok (new, t)
 Takes found old new (Err (Refused refusal)) = found ≡ Err refusal
 Takes found old new (Err Memory) = Unit {0}

@@ -11,7 +11,7 @@ ghost use Rattle.name_rules.specs.Takings.{Takes, member_taken, index_taken};
 
 use crate::boxing::boxed;
 use crate::wanted::{index_typed, schema_of};
-use code_copies::{Takings, boxed_copy, push_element, push_key};
+use code_copies::{Selectors, boxed_copy, push_element, push_key};
 use language_model::{TypeAnswer, Typed, attribute_named, mismatch, narrow, unknown};
 use spl_tree::{Code, Number, Placed, Selector, Slot};
 use spl_value::{Attribute, Boxed, Bytes, Items, Name, SplType, Value, is_of_kind};
@@ -50,7 +50,7 @@ pub fn take_member(
     base: u32,
     kind: Boxed<SplType>,
     member: &Placed<Name>,
-    takings: &mut Takings,
+    takings: &mut Selectors,
 ) -> Result<Boxed<SplType>, TypeAnswer>
     ensures { Takes (member_taken base (out-SplType kind) member.now.at member.now.what) takings.old takings.new result }
 {
@@ -69,7 +69,7 @@ fn take_attribute(
     alloc: Global,
     place: usize,
     found: &Attribute,
-    takings: &mut Takings,
+    takings: &mut Selectors,
 ) -> Result<Boxed<SplType>, TypeAnswer>
     ensures { Takes (Ok (K.Member place, found.now.kind)) takings.old takings.new result }
 {
@@ -86,7 +86,7 @@ pub fn take_index(
     kind: Boxed<SplType>,
     at: u32,
     index: Typed,
-    takings: &mut Takings,
+    takings: &mut Selectors,
 ) -> Result<Boxed<SplType>, TypeAnswer>
     ensures { Takes (index_taken base at index (out-SplType kind)) takings.old takings.new result }
 {
@@ -103,7 +103,7 @@ fn take_element(
     at: u32,
     element: &SplType,
     index: Typed,
-    takings: &mut Takings,
+    takings: &mut Selectors,
 ) -> Result<Boxed<SplType>, TypeAnswer>
     ensures { Takes (after (level_index at index.code (out-SplType index.kind)) (λ code. Ok (K.Element code, element.now))) takings.old takings.new result }
 {
@@ -118,7 +118,7 @@ fn take_value(
     alloc: Global,
     value: &SplType,
     key: Typed,
-    takings: &mut Takings,
+    takings: &mut Selectors,
 ) -> Result<Boxed<SplType>, TypeAnswer>
     ensures { Takes (Ok (K.AtKey key.code, value.now)) takings.old takings.new result }
 {
@@ -133,7 +133,7 @@ pub fn select(
     alloc: Global,
     kind: Boxed<SplType>,
     base: Boxed<Code<Slot>>,
-    takings: Takings,
+    takings: Selectors,
 ) -> Result<Typed, TypeAnswer>
     ensures { Finds (Ok (typed kind (selected base takings))) result }
 {

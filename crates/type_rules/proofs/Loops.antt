@@ -20,7 +20,7 @@ use Rattle.language_model.specs.TypingLaws.{parts, step_part, step_parts}
 use Rattle.language_model.specs.declared.answer.TypeAnswer.{TypeAnswer}
 use Rattle.language_model.specs.Finds.{Finds, with_front}
 use Rattle.name_rules.specs.Wanted.{index_for}
-use Rattle.name_rules.specs.Takings.{Taken, behind, index_taken, member_taken}
+use Rattle.name_rules.specs.Takings.{Taken, with_taken_last, index_taken, member_taken}
 use Rattle.language_model.proofs.FoundAnswers.{after_after, finds_by, stops}
 use Rattle.spl_value.proofs.Lists.{drop_at}
 
@@ -52,12 +52,12 @@ module _ (scope : Scope) where
           ∙ (λ j. after (steps_typed base scope given (step_parts (drop (i + 1) ss))) (λ xs. Ok (typed xs.1 (selected code (sym (append_assoc takings (t ∷ []) xs.0) j)))))
           ∙ ap (taken_from base code given (drop (i + 1) ss)) (sym z)
 
-      with_taken : (found : Found Taken) (given : SplType) (zs : List (Selector (Code Slot))) → level_step base scope (out-SplType kind) (step_part s) ≡ found → behind takings found ≡ Ok (zs, given)
+      with_taken : (found : Found Taken) (given : SplType) (zs : List (Selector (Code Slot))) → level_step base scope (out-SplType kind) (step_part s) ≡ found → with_taken_last takings found ≡ Ok (zs, given)
           → taken_from base code kind (drop i ss) takings ≡ taken_from base code given (drop (i + 1) ss) zs
       with_taken (Ok x) given zs l z = let both = ap (λ o. found_or o (zs, given)) z in taken_on x.0 given zs (l ∙ ap (λ p. Ok (x.0, p.1)) both) (sym (ap (λ p. p.0) both))
       with_taken (Err r) given zs l z = absurd cc
 
-      pub taken_by : (given : SplType) (zs : List (Selector (Code Slot))) → behind takings (level_step base scope (out-SplType kind) (step_part s)) ≡ Ok (zs, given)
+      pub taken_by : (given : SplType) (zs : List (Selector (Code Slot))) → with_taken_last takings (level_step base scope (out-SplType kind) (step_part s)) ≡ Ok (zs, given)
           → taken_from base code kind (drop i ss) takings ≡ taken_from base code given (drop (i + 1) ss) zs
       taken_by given zs z = with_taken (level_step base scope (out-SplType kind) (step_part s)) given zs refl z
 
@@ -113,21 +113,21 @@ index_step base scope T.Text e = refl
 
 -- a member that is taken after others
 pub member_by : (base : ℕ) (scope : Scope) (k t : SplType) (s : Step Expr) (m : Placed (List ℕ)) (old new zs : List (Selector (Code Slot))) (u given : SplType) → s ≡ N.Member m → k ≡ t
-    → behind old (member_taken base (out-SplType k) m.at m.what) ≡ Ok (new, u) → zs ≡ new → given ≡ u → behind old (level_step base scope (out-SplType t) (step_part s)) ≡ Ok (zs, given)
+    → with_taken_last old (member_taken base (out-SplType k) m.at m.what) ≡ Ok (new, u) → zs ≡ new → given ≡ u → with_taken_last old (level_step base scope (out-SplType t) (step_part s)) ≡ Ok (zs, given)
 member_by base scope k t s m old new zs u given is same taken n g =
-    ap (λ s. behind old (level_step base scope (out-SplType t) (step_part s))) is
-    ∙ ap (behind old) (member_step base scope (out-SplType t) m)
-    ∙ ap (λ k. behind old (member_taken base (out-SplType k) m.at m.what)) (sym same)
+    ap (λ s. with_taken_last old (level_step base scope (out-SplType t) (step_part s))) is
+    ∙ ap (with_taken_last old) (member_step base scope (out-SplType t) m)
+    ∙ ap (λ k. with_taken_last old (member_taken base (out-SplType k) m.at m.what)) (sym same)
     ∙ taken ∙ (λ i. Ok (sym n i, sym g i))
 
 -- what is taken by an index after others
 pub index_by : (base : ℕ) (scope : Scope) (k j t : SplType) (s : Step Expr) (e : Expr) (w : Option SplType) (x : Typed) (old new zs : List (Selector (Code Slot))) (u given : SplType) → s ≡ N.Index e → k ≡ t → j ≡ t
     → index_for base (out-SplType k) ≡ Ok w → typing scope e w ≡ Ok x
-    → behind old (index_taken base e.at x (out-SplType j)) ≡ Ok (new, u) → zs ≡ new → given ≡ u → behind old (level_step base scope (out-SplType t) (step_part s)) ≡ Ok (zs, given)
+    → with_taken_last old (index_taken base e.at x (out-SplType j)) ≡ Ok (new, u) → zs ≡ new → given ≡ u → with_taken_last old (level_step base scope (out-SplType t) (step_part s)) ≡ Ok (zs, given)
 index_by base scope k j t s e w x old new zs u given is first second wanted found taken n g =
-    ap (λ s. behind old (level_step base scope (out-SplType t) (step_part s))) is
-    ∙ ap (behind old) (index_step base scope (out-SplType t) e)
-    ∙ ap (λ o. behind old (after o (λ w. after (typing scope e w) (λ x. index_taken base e.at x (out-SplType t))))) (ap (λ k. index_for base (out-SplType k)) (sym first) ∙ wanted)
-    ∙ ap (λ o. behind old (after o (λ x. index_taken base e.at x (out-SplType t)))) found
-    ∙ ap (λ k. behind old (index_taken base e.at x (out-SplType k))) (sym second)
+    ap (λ s. with_taken_last old (level_step base scope (out-SplType t) (step_part s))) is
+    ∙ ap (with_taken_last old) (index_step base scope (out-SplType t) e)
+    ∙ ap (λ o. with_taken_last old (after o (λ w. after (typing scope e w) (λ x. index_taken base e.at x (out-SplType t))))) (ap (λ k. index_for base (out-SplType k)) (sym first) ∙ wanted)
+    ∙ ap (λ o. with_taken_last old (after o (λ x. index_taken base e.at x (out-SplType t)))) found
+    ∙ ap (λ k. with_taken_last old (index_taken base e.at x (out-SplType k))) (sym second)
     ∙ taken ∙ (λ i. Ok (sym n i, sym g i))

@@ -8,14 +8,14 @@ ghost use Rattle.type_rules.specs.Places.{with_kind};
 
 use crate::rules::type_of;
 use call_rules::{may_change, not_mutable};
-use code_copies::Takings;
+use code_copies::Selectors;
 use language_model::{Scope, TypeAnswer, Typed};
 use spl_tree::{Code, Expr, Place, Slot};
 use spl_value::{Boxed, Items, SplType};
 use std::alloc::Global;
 
 /// The variable that a code reads, and what is taken of it in turn.
-fn variable_read(code: Boxed<Code<Slot>>, takings: Takings) -> Option<Place>
+fn variable_read(code: Boxed<Code<Slot>>, takings: Selectors) -> Option<Place>
     ensures { result ≡ level_variable takings (out-Code Slot code) }
 {
     match code.get() {

@@ -60,8 +60,8 @@ MayCome clauses w I.Final = ⊤
 MayCome clauses w (I.Bad f) = ⊤
 
 -- what is in the window after an item
-abbrev pub behind : Clauses → Item → List WindowEvent → List WindowEvent
-behind clauses (I.Tuple t) h = tuple_event clauses t ∷ h
-behind clauses I.Window h = Mark ∷ h
-behind clauses I.Final h = h
-behind clauses (I.Bad f) h = h
+abbrev pub events_after : Clauses → Item → List WindowEvent → List WindowEvent
+events_after clauses (I.Tuple t) h = tuple_event clauses t ∷ h
+events_after clauses I.Window h = Mark ∷ h
+events_after clauses I.Final h = h
+events_after clauses (I.Bad f) h = h

@@ -12,7 +12,7 @@ ghost use Rattle.port_reacts.specs.Bodies.{RepliesTo, RepliesToItem};
 ghost use Rattle.port_reacts.specs.Evaluation.{idle};
 ghost use Rattle.aggregate_op.specs.Arguments.{ArgumentsFit, extended as extended_by};
 ghost use Rattle.port_reacts.specs.PortReplies.{WhereOut};
-ghost use Rattle.aggregate_op.specs.steps.Firing.{EventGives, MayCome, TupleGives, behind, event_makes, item_makes, key_of_tuple, tuple_makes};
+ghost use Rattle.aggregate_op.specs.steps.Firing.{EventGives, MayCome, TupleGives, events_after, event_makes, item_makes, key_of_tuple, tuple_makes};
 ghost use Rattle.aggregate_op.specs.steps.Giving.{contents_given};
 
 use crate::arguments::extended;
@@ -197,7 +197,7 @@ pub(crate) fn on_item(
     requires may { MayCome clauses.now window.old item }
     ensures replies { (rule : Rule) (h : List WindowEvent) → Stands rule window.old h
         → RepliesToItem clauses.now.at.number (length clauses.now.at.op.now.outs) (answer (item_makes clauses.now rule h item)) item result }
-    ensures stands { WhereOut result ((rule : Rule) (h : List WindowEvent) → Stands rule window.old h → Stands rule window.new (behind clauses.now item h)) }
+    ensures stands { WhereOut result ((rule : Rule) (h : List WindowEvent) → Stands rule window.old h → Stands rule window.new (events_after clauses.now item h)) }
     ensures idle { WhereOut result (env.new ≡ idle) }
 {
     match item {

@@ -5,8 +5,8 @@ use Rattle.spl_value.specs.declared.item.Item.TheVariants as I
 use Rattle.stream_model.specs.Windows.{WindowEvent, Insert, Mark}
 
 -- an item comes into a window with one key
-abbrev pub behind : Item → List WindowEvent → List WindowEvent
-behind (I.Tuple t) h = Insert [] t ∷ h
-behind I.Window h = Mark ∷ h
-behind I.Final h = h
-behind (I.Bad f) h = h
+abbrev pub events_after : Item → List WindowEvent → List WindowEvent
+events_after (I.Tuple t) h = Insert [] t ∷ h
+events_after I.Window h = Mark ∷ h
+events_after I.Final h = h
+events_after (I.Bad f) h = h

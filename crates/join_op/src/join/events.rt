@@ -9,7 +9,7 @@ ghost use Rattle.port_reacts.specs.Bodies.{GoesOn, RepliesTo, RepliesToItem};
 ghost use Rattle.join_op.specs.Pairs.{IsReady, pair_env};
 ghost use Rattle.join_op.specs.steps.Matching.{ClausesFit, MayMatch, matched};
 ghost use Rattle.port_reacts.specs.PortReplies.{WhereOut};
-ghost use Rattle.join_op.specs.steps.Standing.{behind};
+ghost use Rattle.join_op.specs.steps.Standing.{events_after};
 
 use crate::clauses::Clauses;
 use crate::matching::match_window;
@@ -78,7 +78,7 @@ pub(crate) fn on_item(
     ensures replies { (rule : WindowRule) (h : List WindowEvent) → Stands rule other.now h
         → RepliesToItem clauses.now.at.number (length clauses.now.at.op.now.outs)
         (answer (by_item (λ t. matched clauses.now (map (pair_env side t) (content rule [] h))) [] item)) item result }
-    ensures stands { WhereOut result ((rule : WindowRule) (h : List WindowEvent) → Stands rule own.old h → Stands rule own.new (behind item h)) }
+    ensures stands { WhereOut result ((rule : WindowRule) (h : List WindowEvent) → Stands rule own.old h → Stands rule own.new (events_after item h)) }
     ensures ready { WhereOut result (IsReady env.new) }
 {
     match item {
